@@ -1,0 +1,15 @@
+-- Counts of faults, as each object of the outside has one.
+use Rattle.std.specs.Prelude.{ℕ, ◌+◌, ◌-◌, ◌^◌, ◌≤◌, min, Result, OnErr}
+
+-- the last value of a count, at which it stays
+abbrev pub last_count : ℕ
+last_count = 18446744073709551615
+
+-- A count rose, or stands at its last value.
+abbrev pub HasRisen : ℕ → ℕ → Type 0
+HasRisen before now = min (before + 1) last_count ≤ now
+
+-- A count of faults never falls, and a failure is answered only where it rose.
+pub record CountsFaults {T E : Type 0} (before now : ℕ) (result : Result T E) : Type 0 where
+  pub never_falls : before ≤ now
+  pub risen : OnErr result (HasRisen before now)
