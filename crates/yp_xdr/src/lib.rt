@@ -1,13 +1,14 @@
-// A library with one function.
+//! XDR values in bytes (RFC 4506): each value has one spelling, and what was written is read again.
+//!
+//! Writing stands on the clauses of [`put_u32`], [`put_i32`] and [`put_opaque`], reading on those of [`Cursor`], and
+//! what joins the two on the laws of [`laws`].
 #![tactic(auto)]
 
-ghost use Rattle.std.specs.Prelude.{◌≡◌};
-ghost use Rattle.yp_xdr.specs.Echo.{echo_of};
+mod cursor;
+mod fault;
+mod padding;
+mod put;
 
-// The `ensures` clause is the contract: what `echo` returns is `echo_of` of its argument, a definition
-// in `specs/Echo.antt`, which a caller's clause can cite too.
-pub fn echo(x: usize) -> usize
-    ensures { result ≡ echo_of x }
-{
-    x
-}
+pub use cursor::Cursor;
+pub use fault::{NoRoom, XdrFault};
+pub use put::{put_i32, put_opaque, put_u32};

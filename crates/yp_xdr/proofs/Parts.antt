@@ -1,0 +1,36 @@
+-- One write after another is one write.
+use Rattle.std.proofs.Common.{◌≡◌, ℕ, ◌+◌, ◌-◌, ◌<◌, ◌≤◌, List, [], ◌∷◌, ◌++◌, length, take, drop, Result, Ok, Err, refl, sym, ap, ◌∙◌, append_assoc, arith, rules}
+use Rattle.std.proofs.lemmas.List.{length-append, length-take, length-drop, take_at}
+use Rattle.std.proofs.lemmas.Slice.{drop-append-drop}
+use Rattle.yp_xdr.specs.declared.fault.NoRoom.{NoRoom}
+use Rattle.yp_xdr.specs.Writing.{written, Writes}
+
+-- a write keeps the length
+pub length-written : (buf : List ℕ) (at : ℕ) (bytes : List ℕ) → at + length bytes ≤ length buf → length (written buf at bytes) ≡ length buf
+length-written buf at bytes fits =
+    omega (arith, length-append (take at buf ++ bytes) (drop (at + length bytes) buf), length-append (take at buf) bytes, length-take at buf, length-drop (at + length bytes) buf)
+
+-- a write and then another behind it
+pub written-written : (buf : List ℕ) (at : ℕ) (one other : List ℕ) → at ≤ length buf → written (written buf at one) (at + length one) other ≡ written buf at (one ++ other)
+written-written buf at one other fits =
+    let front : length (take at buf ++ one) ≡ at + length one = omega (arith, length-append (take at buf) one, length-take at buf) in
+    let first : take (at + length one) (written buf at one) ≡ take at buf ++ one = take_at (take at buf ++ one) (drop (at + length one) buf) (at + length one) front in
+    let behind : drop (at + length one + length other) (written buf at one) ≡ drop (at + length one + length other) buf = drop-append-drop (at + length one) buf (take at buf ++ one) (at + length one + length other) (omega arith) front in
+    let place : at + length one + length other ≡ at + length (one ++ other) = omega (arith, length-append one other) in
+    rw (first, behind, place, append_assoc (take at buf) one other) refl
+
+-- two writes that fit are one that fits
+pub writes_then : (one other : List ℕ) (at mid : ℕ) (result : Result ℕ NoRoom) (old half new : List ℕ)
+    → at + length one + length other ≤ length old → Writes one at (Ok mid) old half → Writes other mid result half new → Writes (one ++ other) at result old new
+writes_then one other at mid (Ok end) old half new room first second =
+    let len = length-append one other in
+    let kept : length half ≡ length old = rw first.bytes_there (length-written old at one (omega arith)) in
+    record {
+      place = (omega (arith, first.place.0, second.place.0), omega (arith, second.place.1));
+      bytes_there = second.bytes_there ∙ rw (first.bytes_there, first.place.0) (written-written old at one other (omega arith));
+      no_room = tt;
+      unchanged = tt;
+    }
+writes_then one other at mid (Err fault) old half new room first second =
+    let kept : length half ≡ length old = rw first.bytes_there (length-written old at one (omega arith)) in
+    absurd (omega (arith, second.no_room, first.place.0))

@@ -1,0 +1,6 @@
+-- What a cursor has left to read.
+use Rattle.yp_xdr.specs.declared.cursor.Cursor.{Cursor}
+use Rattle.yp_xdr.specs.Reading.{Unread}
+
+abbrev pub unread : Cursor → Unread
+unread cursor = record { at = cursor.at; bytes = cursor.rest.now }

@@ -1,0 +1,86 @@
+-- What a reader answers: the value that the next bytes spell, or the fault of the first item that is refused.
+use Rattle.std.specs.Prelude.{◌≡◌, ℕ, ◌+◌, ◌<◌, ℤ, List, ◌++◌, length, take, drop, Option, Some, None, Result, Ok, Err, not, nat_lt, ◌==◌, if◌then◌else◌, position, slice_index}
+use Rattle.std.specs.Int.{w32, from_be_bytes, cast_signed}
+use Rattle.yp_xdr.specs.declared.fault.XdrFault.{XdrFault}
+use Rattle.yp_xdr.specs.declared.fault.XdrFault.TheVariants.{Short, TooLong, Pad}
+use Rattle.yp_xdr.specs.Kind.{Kind, U32, I32, Opaque, Sequence, Value}
+use Rattle.yp_xdr.specs.Spelling.{padding_len, Spells}
+
+-- what is left to read: the place of its first byte, and its bytes
+pub record Unread : Type 0 where
+  pub at : ℕ
+  pub bytes : List ℕ
+
+-- what is left n bytes further on
+abbrev pub past : ℕ → Unread → Unread
+past n left = record { at = left.at + n; bytes = drop n left.bytes }
+
+infixl 10 ◌>>=◌
+abbrev pub ◌>>=◌ : {A B : Type 0} → Result A XdrFault → (A → Result B XdrFault) → Result B XdrFault
+(Ok x) >>= f = f x
+(Err fault) >>= f = Err fault
+
+-- a word of four bytes
+unfoldable pub word_at : Unread → Result (ℕ × Unread) XdrFault
+word_at left =
+    if nat_lt (length left.bytes) 4
+    then Err (Short left.at)
+    else Ok (from_be_bytes w32 (take 4 left.bytes), past 4 left)
+
+-- the place of the first byte that isn't zero
+abbrev pub first_nonzero : List ℕ → Option ℕ
+first_nonzero bytes = position (λ byte. not (byte == 0)) bytes
+
+-- n bytes and their padding, where the place of a padding byte that isn't zero is known
+abbrev pub padded : ℕ → Unread → Option ℕ → Result (List ℕ × Unread) XdrFault
+padded n left None = Ok (take n left.bytes, past (n + padding_len n) left)
+padded n left (Some place) = Err (Pad (left.at + n + place))
+
+-- n bytes and their padding, of an item that began at start
+unfoldable pub content_at : ℕ → ℕ → Unread → Result (List ℕ × Unread) XdrFault
+content_at start n left =
+    if nat_lt (length left.bytes) (n + padding_len n)
+    then Err (Short start)
+    else padded n left (first_nonzero (take (padding_len n) (drop n left.bytes)))
+
+-- opaque bytes behind their length
+unfoldable pub opaque_at : ℕ → Unread → Result (List ℕ × Unread) XdrFault
+opaque_at max left = do
+  len ← word_at left
+  if nat_lt max len.0 then Err (TooLong left.at len.0) else content_at left.at len.0 len.1
+
+-- the value that the next bytes spell, and what is left behind it; or the fault of the first item that is refused
+abbrev pub reading : (kind : Kind) → Unread → Result (Value kind × Unread) XdrFault
+reading U32 left = word_at left
+reading I32 left = do
+  word ← word_at left
+  Ok (cast_signed w32 word.0, word.1)
+reading (Opaque max) left = opaque_at max left
+reading (Sequence first second) left = do
+  one ← reading first left
+  other ← reading second one.1
+  Ok ((one.0, other.0), other.1)
+
+-- The answer of a reader, seen by view, is what is expected: it has moved to what is left, or not moved at all.
+abbrev pub ReadsAs : {X V : Type 0} → Result (V × Unread) XdrFault → (X → V) → Result X XdrFault → Unread → Unread → Type 0
+ReadsAs expected view (Ok x) old new = expected ≡ Ok (view x, new)
+ReadsAs expected view (Err fault) old new = (expected ≡ Err fault) × (new ≡ old)
+
+-- A reader of the kind answers what reading gives.
+abbrev pub Reads : {X : Type 0} (kind : Kind) → (X → Value kind) → Result X XdrFault → Unread → Unread → Type 0
+Reads kind view result old new = ReadsAs (reading kind old) view result old new
+
+-- the next bytes spell the value, and the new rest is what is left behind them
+pub record BeginsWith (kind : Kind) (value : Value kind) (old new : Unread) : Type 0 where
+  pub front : List ℕ
+  pub spells : Spells kind value front
+  pub parts : old.bytes ≡ front ++ new.bytes
+  pub place : new.at ≡ old.at + length front
+
+-- no value of the kind is spelled by a front of the bytes
+abbrev pub BeginsWithNone : Kind → List ℕ → Type 0
+BeginsWithNone kind bytes = (value : Value kind) (front rest : List ℕ) → Spells kind value front → bytes ≡ front ++ rest → ⊥
+
+-- each is a byte
+abbrev pub IsBytes : List ℕ → Type 0
+IsBytes bytes = (i : ℕ) → slice_index bytes i < 256

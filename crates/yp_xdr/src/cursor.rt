@@ -1,0 +1,105 @@
+//! Values read from bytes.
+
+ghost use Rattle.std.specs.Prelude.{◌≡◌, ◌+◌, ◌^◌, ◌<◌, length, IfOk, OnErr};
+
+use crate::fault::XdrFault;
+use crate::padding::{first_nonzero, padding_of};
+
+/// A place in bytes, from which values are read in turn. After a refusal it hasn't moved.
+#[derive(Clone, Copy, Debug)]
+pub struct Cursor<'a> {
+    rest: &'a [u8],
+    at: usize,
+    ghost in_range: { at + length rest.now < 2 ^ 64 },
+}
+
+impl<'a> Cursor<'a> {
+    ghost use Rattle.yp_xdr.specs.Kind.{U32, I32, Opaque};
+    ghost use Rattle.yp_xdr.specs.Reading.{Unread, word_at, content_at, ReadsAs, Reads, BeginsWith, BeginsWithNone};
+    ghost use Rattle.yp_xdr.specs.Cursor.{unread};
+
+    /// A cursor at the first of the bytes.
+    pub fn new(bytes: &'a [u8]) -> Cursor<'a>
+        ensures { unread result ≡ record { at = 0; bytes = bytes.now } }
+    {
+        Cursor { rest: bytes, at: 0 }
+    }
+
+    /// The place of the next byte, counted from the first.
+    pub fn at(&self) -> usize
+        ensures { result ≡ (unread self.now).at }
+    {
+        self.at
+    }
+
+    /// Reads an unsigned integer (RFC 4506 section 4.2).
+    #[tactic(auto, unfolding(crate::specs::Reading::word_at))]
+    pub fn u32(&mut self) -> Result<u32, XdrFault>
+        ensures { Reads U32 (λ n. n) result (unread self.old) (unread self.new) }
+    {
+        match self.rest.split_first_chunk::<4>() {
+            None => Err(XdrFault::Short { at: self.at }),
+            Some((word, rest)) => {
+                let value = u32::from_be_bytes(*word);
+                *self = Cursor {
+                    rest,
+                    at: self.at + 4,
+                };
+                Ok(value)
+            }
+        }
+    }
+
+    /// Reads a signed integer in two's complement (RFC 4506 section 4.1).
+    pub fn i32(&mut self) -> Result<i32, XdrFault>
+        ensures { Reads I32 (λ z. z) result (unread self.old) (unread self.new) }
+    {
+        Ok(self.u32()?.cast_signed())
+    }
+
+    /// Reads opaque bytes, at most `max` of them (RFC 4506 section 4.10).
+    #[tactic(auto, unfolding(crate::specs::Reading::opaque_at))]
+    pub fn opaque(&mut self, max: u32) -> Result<&'a [u8], XdrFault>
+        ensures { Reads (Opaque max) (λ s. s.now) result (unread self.old) (unread self.new) }
+    {
+        let mut ahead = *self;
+        let len = ahead.u32()?;
+        if len > max {
+            return Err(XdrFault::TooLong { at: self.at, len });
+        }
+        let bytes = ahead.content(self.at, len as usize)?;
+        *self = ahead;
+        Ok(bytes)
+    }
+
+    /// Reads a string of any bytes, at most `max` of them (RFC 4506 section 4.11).
+    pub fn string(&mut self, max: u32) -> Result<&'a [u8], XdrFault>
+        ensures { Reads (Opaque max) (λ s. s.now) result (unread self.old) (unread self.new) }
+    {
+        self.opaque(max)
+    }
+
+    /// Reads `len` bytes and their padding, of an item that began at `start`.
+    #[tactic(auto, unfolding(crate::specs::Reading::content_at))]
+    fn content(&mut self, start: usize, len: usize) -> Result<&'a [u8], XdrFault>
+        requires { len < 2 ^ 32 }
+        ensures { ReadsAs (content_at start len (unread self.old)) (λ s. s.now) result (unread self.old) (unread self.new) }
+    {
+        let padding = padding_of(len);
+        if self.rest.len() < len + padding {
+            return Err(XdrFault::Short { at: start });
+        }
+        let (bytes, rest) = self.rest.split_at(len);
+        let (zeros, rest) = rest.split_at(padding);
+        if let Some(place) = first_nonzero(zeros) {
+            return Err(XdrFault::Pad {
+                at: self.at + len + place,
+            });
+        }
+        *self = Cursor {
+            rest,
+            at: self.at + len + padding,
+        };
+        Ok(bytes)
+    }
+}
