@@ -31,5 +31,5 @@ HasTaken-more before now after piece rest k h within more = record {
   count = h.count + k;
   within = let e : length rest ≡ length piece - h.count = rw h.left (length-drop h.count piece) in omega arith;
   left = rw h.left (drop-drop k h.count piece);
-  appended = rw take-add (Appends-trans _ _ _ _ _ h.appended (rw h.left at more))
+  appended = rw take-add (Appends-trans _ _ _ _ _ h.appended (rw h.left at more));
 }

@@ -6,7 +6,7 @@ use Rattle.yp_io.proofs.stream.write_all.Given as goal
 abbrev pub invariant-loop-rest : goal.invariant-loop-rest
 invariant-loop-rest g l = record {
   taken : HasTaken (g.K.Sink.output l.fn.sink) (g.K.Sink.output l.sink) l.piece l.rest;
-  never_fell : g.K.Sink.faults l.fn.sink ≤ g.K.Sink.faults l.sink
+  never_fell : g.K.Sink.faults l.fn.sink ≤ g.K.Sink.faults l.sink;
 }
 
 abbrev pub decreases-loop-rest : goal.decreases-loop-rest
