@@ -6,6 +6,7 @@
 
 mod cursor;
 mod fault;
+pub mod laws;
 mod padding;
 mod put;
 
