@@ -34,6 +34,10 @@ IsBytes-behind bytes front rest parts h i =
     let P : ℕ → Type 0 = λ byte. byte < 256 in
     subst P (ap (λ (xs : List ℕ). get_or xs (length front + i) 0) parts ∙ get_or-append-add front rest i 0) (h (length front + i))
 
+-- what is behind the first n bytes is bytes
+pub IsBytes-from_drop : (n : ℕ) (bytes rest : List ℕ) → rest ≡ drop n bytes → IsBytes bytes → IsBytes rest
+IsBytes-from_drop n bytes rest e = IsBytes-behind bytes (take n bytes) rest (sym (take-append-drop n bytes) ∙ ap (λ (xs : List ℕ). take n bytes ++ xs) (sym e))
+
 -- two answers of one step are one
 pub ok_is : {A : Type 0} (x y : A) (one other : Result A XdrFault) → one ≡ other → one ≡ Ok x → other ≡ Ok y → x ≡ y
 ok_is x y one other same e f = cc

@@ -12,4 +12,4 @@ mod put;
 
 pub use cursor::Cursor;
 pub use fault::{NoRoom, XdrFault};
-pub use put::{put_i32, put_opaque, put_u32};
+pub use put::{opaque_len, put_i32, put_opaque, put_u32};

@@ -35,11 +35,20 @@ pub fn put_opaque(buf: &mut [u8], at: usize, bytes: &[u8]) -> Result<usize, NoRo
     requires len { length bytes.now < 2 ^ 32 }
     ensures { Writes (spelling (Opaque (length bytes.now)) bytes.now) at result buf.old buf.new }
 {
-    if buf.len() - at < WORD + bytes.len() + padding_of(bytes.len()) {
+    if buf.len() - at < opaque_len(bytes) {
         return Err(NoRoom);
     }
     let content = put_u32(buf, at, bytes.len() as u32)?;
     put_content(buf, content, bytes)
+}
+
+/// How many bytes [`put_opaque`] writes for these bytes.
+pub fn opaque_len(bytes: &[u8]) -> usize
+    requires { length bytes.now < 2 ^ 32 }
+    ensures value { result ≡ length (spelling (Opaque (length bytes.now)) bytes.now) }
+    ensures bound { result < length bytes.now + 8 }
+{
+    WORD + bytes.len() + padding_of(bytes.len())
 }
 
 /// Writes bytes padded with zeros at `at`, and answers the place after them.
