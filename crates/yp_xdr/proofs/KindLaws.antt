@@ -9,7 +9,7 @@ use borrow.Author.Gap.{read_sfits}
 use Rattle.yp_xdr.specs.declared.fault.XdrFault.{XdrFault}
 use Rattle.yp_xdr.specs.declared.fault.XdrFault.TheVariants.{TooLong}
 use Rattle.yp_xdr.specs.Kind.{Kind, U32, I32, Opaque, Sequence, Value}
-use Rattle.yp_xdr.specs.Spelling.{word, padding_len, padding, spelling, Fits, Spells}
+use Rattle.yp_xdr.specs.Spelling.{word, padding_len, padding, opaque, spelling, Fits, Spells}
 use Rattle.yp_xdr.specs.Reading.{Unread, ◌>>=◌, word_at, content_at, opaque_at, reading, BeginsWith, BeginsWithNone, IsBytes}
 use Rattle.yp_xdr.specs.Laws.{OneSpelling, NoSpellingBeginsAnother, WrittenIsReadAgain, ReadIsSpelled, RefusedIsNotSpelled}
 use Rattle.yp_xdr.proofs.Words.{bind_ok, guard_ok, ok_is, IsBytes-behind, word_takes, word_again}
@@ -27,7 +27,7 @@ cast_unsigned_below z fits = omega (arith, ints)
 -- opaque bytes that were written are read again
 opaque_again : (max at : ℕ) (content rest : List ℕ) → Fits (Opaque max) content
     → opaque_at max (record { at = at; bytes = spelling (Opaque max) content ++ rest }) ≡ Ok (content, record { at = at + length (spelling (Opaque max) content); bytes = rest })
-unfolding opaque_at
+unfolding opaque_at opaque
 opaque_again max at content rest fits =
     let n = length content in
     let behind = content ++ padding n ++ rest in
@@ -83,6 +83,7 @@ begins_signed n old new one =
 
 -- a length and padded content of that length spell the content
 begins_opaque : (max n : ℕ) (old mid new : Unread) (content : List ℕ) → n ≤ max → BeginsWith U32 n old mid → ContentTaken n mid content new → BeginsWith (Opaque max) content old new
+unfolding opaque
 begins_opaque max n old mid new content le one taken =
     let below : n < 2 ^ 32 = one.spells.fits in
     let len : length content ≡ n = taken.len in

@@ -1,4 +1,5 @@
 use Rattle.std.proofs.Common.{rules, arith, ◌≡◌, ◌+◌, ◌^◌, ◌<◌, length, IfOk, OnErr, ℕ, List, ◌++◌, slice_index}
+use Rattle.yp_xdr.specs.declared.fault.XdrFault.TheVariants.{TooLong}
 use Rattle.yp_xdr.specs.Kind.{Opaque}
 use Rattle.yp_xdr.specs.Reading.{Unread, opaque_at, Reads, BeginsWith, BeginsWithNone, IsBytes}
 use Rattle.yp_xdr.specs.Cursor.{unread}
@@ -9,6 +10,10 @@ use Rattle.yp_xdr.proofs.cursor.Cursor.opaque.Goals as goal
 pub returns-in_err-len-clause-refused : goal.returns-in_err-len-clause-refused
 unfolding opaque_at
 returns-in_err-len-clause-refused c = refused (Opaque c.args.max) (λ s. s.now) _ (unread c.args.self.now) (unread c.args.self.now) (search rules)
+
+pub returns-then-len-max-clause-refused : goal.returns-then-len-max-clause-refused
+unfolding opaque_at
+returns-then-len-max-clause-refused c = refused_is_not_spelled (Opaque c.args.max) (unread c.args.self.now) (TooLong c.args.self.now.at c.in_ok-len.len) (search rules)
 
 pub returns-in_err-bytes-clause-refused : goal.returns-in_err-bytes-clause-refused
 unfolding opaque_at
