@@ -1,6 +1,7 @@
 //! ONC RPC version 2 over a stream (RFC 5531): records in fragments, and the heads of calls and replies.
 #![tactic(auto)]
 
+pub mod laws;
 mod record;
 
 pub use record::RecordFault;

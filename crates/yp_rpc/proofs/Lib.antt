@@ -1,0 +1,4 @@
+pub mod CutHead
+pub mod CutPieces
+pub mod CutKinds
+pub mod CutOne
