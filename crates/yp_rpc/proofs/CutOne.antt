@@ -19,5 +19,5 @@ cut_one limit stream (message ∷ messages) [] rest rest' small (bytes, more, wh
     absurd (rest_is_not_whole limit message bytes more small whole (subst (IsRest limit) (sym other.0 ∙ begins) other.1))
 cut_one limit stream (message ∷ messages) (other ∷ others) rest rest' small (bytes, more, whole, begins, cut) (bytes', more', whole', begins', cut') =
     let first = whole_one limit message other bytes bytes' more more' small whole whole' (sym begins ∙ begins') in
-    let then = cut_one limit more messages others rest rest' small cut (rw first.1 cut') in
-    (cc (first.0, then.0), then.1)
+    let later = cut_one limit more messages others rest rest' small cut (rw first.1 cut') in
+    (cc (first.0, later.0), later.1)

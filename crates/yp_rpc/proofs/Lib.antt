@@ -2,3 +2,5 @@ pub mod CutHead
 pub mod CutPieces
 pub mod CutKinds
 pub mod CutOne
+pub mod CutNext
+pub mod CutExists
