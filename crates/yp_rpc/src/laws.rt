@@ -21,7 +21,8 @@ pub fn cut_exists()
 /// What is left behind the records is nothing, a torn record, or one that is too long, and never two of these. So one
 /// whose head names too much is too long even where its bytes are not all there.
 pub fn rest_is_one_kind()
-    ensures torn_is_not_long { (limit : ℕ) (rest : List ℕ) → limit < 2 ^ 31 → IsTorn limit rest → IsLong limit rest → ⊥ }
+    ensures torn_is_not_long { (limit : ℕ) (rest : List ℕ)
+        → limit < 2 ^ 31 → IsTorn limit rest → IsLong limit rest → ⊥ }
     ensures torn_is_some { (limit : ℕ) (rest : List ℕ) → IsTorn limit rest → rest ≢ [] }
     ensures long_is_some { (limit : ℕ) (rest : List ℕ) → IsLong limit rest → rest ≢ [] }
 {}
