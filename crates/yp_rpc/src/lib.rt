@@ -4,6 +4,7 @@
 #![tactic(auto)]
 
 mod call;
+pub mod laws;
 pub mod protocol;
 mod record;
 mod reply;
