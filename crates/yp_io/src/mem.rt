@@ -2,7 +2,7 @@ ghost use Rattle.std.specs.Prelude.{◌≡◌, ◌<◌, ◌≤◌, ◌↔◌, []
 ghost use Rattle.std.specs.Io.KnownBytes.{Keeps, ReadConsumes, WriteAppends};
 ghost use Rattle.yp_io.specs.Counts.{CountsFaults, next_count, faults_after};
 
-use crate::stream::{Failed, Pair, Sink, Source};
+use crate::stream::{Failed, Pair, Sink, Source, count_fault};
 use std::alloc::Global;
 use std::marker::Model;
 
@@ -36,17 +36,9 @@ impl Plan {
         let number = self.calls;
         self.calls = number.saturating_add(1);
         if self.failing.contains(&number) {
-            return Err(self.fault());
+            return Err(count_fault(&mut self.faults));
         }
         Ok(())
-    }
-
-    // Counts a fault.
-    fn fault(&mut self) -> Failed
-        ensures { self.new ≡ record self.old { faults = next_count self.old.faults } }
-    {
-        self.faults = self.faults.saturating_add(1);
-        Failed
     }
 }
 
@@ -190,7 +182,7 @@ impl Sink for MemSink {
         let count = self.piece.min(piece.len());
         match self.bytes.extend_from_slice(&piece[..count]) {
             Ok(()) => Ok(count),
-            Err(_) => Err(self.plan.fault()),
+            Err(_) => Err(count_fault(&mut self.plan.faults)),
         }
     }
 
