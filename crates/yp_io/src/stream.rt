@@ -19,7 +19,8 @@ pub struct Peer {
 
 /// Raises a count of faults, which stays at 2^64 - 1, and gives what the call that failed answers.
 pub fn count_fault(faults: &mut u64) -> Failed
-    ensures { faults.new ≡ next_count faults.old }
+    ensures raised { faults.new ≡ next_count faults.old }
+    ensures never_falls { faults.old ≤ faults.new }
 {
     *faults = faults.saturating_add(1);
     Failed
