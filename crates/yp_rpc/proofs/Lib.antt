@@ -5,3 +5,4 @@ pub mod CutKinds
 pub mod CutOne
 pub mod CutNext
 pub mod CutExists
+pub mod Inside

@@ -1,5 +1,5 @@
 -- What a record is heard as, by RFC 5531 section 9.
-use Rattle.std.specs.Prelude.{ℕ, List, Result, Ok, Err, ◌==◌, if◌then◌else◌}
+use Rattle.std.specs.Prelude.{ℕ, ◌≤◌, List, length, Result, Ok, Err, ◌==◌, if◌then◌else◌}
 use Rattle.yp_xdr.specs.declared.fault.XdrFault.{XdrFault}
 use Rattle.yp_xdr.specs.Kind.{Kind, U32, Opaque, Sequence, Value}
 use Rattle.yp_xdr.specs.Reading.{Unread, reading}
@@ -41,3 +41,9 @@ heard_front (Err fault) = Noise
 -- nothing more is read. A call whose head can't be read is noise too.
 abbrev pub heard : List ℕ → Heard
 heard message = heard_front (reading front_kind (record { at = 0; bytes = message }))
+
+-- the arguments of a call begin inside the message, or at its end
+abbrev pub IsInside : List ℕ → Heard → Type 0
+IsInside message (Call call) = call.body ≤ length message
+IsInside message (WrongRpc xid) = Unit {0}
+IsInside message Noise = Unit {0}

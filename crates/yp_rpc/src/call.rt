@@ -3,7 +3,7 @@
 ghost use Rattle.std.specs.Prelude.{◌≡◌};
 ghost use Rattle.yp_xdr.specs.Reading.{Reads};
 ghost use Rattle.yp_xdr.specs.Cursor.{unread};
-ghost use Rattle.yp_rpc.specs.Call.{front_kind, auth_kind, procedure_kind, heard};
+ghost use Rattle.yp_rpc.specs.Call.{front_kind, auth_kind, procedure_kind, heard, IsInside};
 
 use crate::protocol::{AUTH_MAX, CALL, RPC_VERSION};
 use yp_xdr::{Cursor, XdrFault};
@@ -107,7 +107,8 @@ fn read_procedure<'a>(cursor: &mut Cursor<'a>) -> Result<Procedure<'a>, XdrFault
 
 /// What a record is heard as. It takes the bytes of the record without the heads of its fragments.
 pub fn read_call(bytes: &[u8]) -> Heard
-    ensures { result ≡ heard bytes.now }
+    ensures heard { result ≡ heard bytes.now }
+    ensures body { IsInside bytes.now result }
 {
     let mut cursor = Cursor::new(bytes);
     let Ok(front) = read_front(&mut cursor) else {

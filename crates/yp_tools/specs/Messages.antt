@@ -3,7 +3,8 @@ use Rattle.std.specs.Prelude.{ℕ, ℤ, pos, negsuc, List}
 use Rattle.yp_xdr.specs.Kind.{Kind, I32, Opaque, Sequence, Value}
 use Rattle.yp_tools.specs.declared.messages.YpStat.{YpStat}
 use Rattle.yp_tools.specs.declared.messages.YpStat.TheVariants.{True, Nomap, Nodom, Nokey, Badargs}
-use Rattle.yp_tools.specs.declared.words.TheConstants.{NAME_MAX, KEY_MAX, VALUE_MAX}
+use Rattle.yp_tools.specs.declared.messages.ReqKey.{ReqKey}
+use Rattle.yp_tools.specs.declared.protocol.TheConstants.{NAME_MAX, KEY_MAX, VALUE_MAX}
 
 -- the number of a status
 abbrev pub stat_number : YpStat → ℤ
@@ -16,6 +17,9 @@ stat_number Badargs = negsuc 6
 -- a domain, a map and a key
 abbrev pub req_key : Kind
 req_key = Sequence (Opaque NAME_MAX) (Sequence (Opaque NAME_MAX) (Opaque KEY_MAX))
+
+abbrev pub req_key_view : ReqKey → Value req_key
+req_key_view asked = (asked.domain.now, (asked.map.now, asked.key.now))
 
 -- a status and a value
 abbrev pub resp_val : Kind

@@ -1,5 +1,5 @@
 -- The reply to one record.
-use Rattle.std.specs.Prelude.{ℕ, Bool, not, ◌&&◌, ◌||◌, ◌==◌, if◌then◌else◌, List, [], ◌∷◌, ◌++◌, length, drop, Option, Some, None, Result, Ok, Err}
+use Rattle.std.specs.Prelude.{ℕ, Bool, not, ◌&&◌, ◌||◌, ◌==◌, if◌then◌else◌, List, [], ◌∷◌, ◌++◌, length, drop, map, Option, Some, None, Result, Ok, Err}
 use Rattle.std.specs.Str.{bytes_eq}
 use Rattle.yp_xdr.specs.declared.fault.XdrFault.{XdrFault}
 use Rattle.yp_xdr.specs.Kind.{Value}
@@ -15,7 +15,9 @@ use Rattle.yp_rpc.specs.Call.{heard}
 use Rattle.yp_rpc.specs.Reply.{reply_head}
 use Rattle.yp_tools.specs.declared.messages.YpStat.{YpStat}
 use Rattle.yp_tools.specs.declared.messages.YpStat.TheVariants.{True, Nomap, Nodom, Nokey, Badargs}
-use Rattle.yp_tools.specs.declared.answer.TheConstants.{YPPROG, YPVERS, NULL, MATCH}
+use Rattle.yp_tools.specs.declared.answer.Service.{Service}
+use Rattle.yp_tools.specs.declared.protocol.TheConstants.{YPPROG, YPVERS, NULL, MATCH}
+use Rattle.yp_tools.specs.Words.{row_view}
 use Rattle.yp_tools.specs.Messages.{req_key, resp_val, resp_val_of}
 
 -- one map in its domain, with its rows in order
@@ -23,6 +25,9 @@ pub record Served : Type 0 where
   pub domain : List ℕ
   pub map : List ℕ
   pub rows : List (List ℕ × List ℕ)
+
+abbrev pub served : Service → Served
+served service = record { domain = service.store.now.domain.items; map = service.store.now.map.items; rows = map row_view service.rows.now }
 
 -- the value of the first row with this key
 abbrev pub value_of : List ℕ → List (List ℕ × List ℕ) → Option (List ℕ)

@@ -4,13 +4,13 @@ use Rattle.std.specs.List.{list_all, before_first, after_first}
 use Rattle.std.specs.Str.{bytes_eq}
 use Rattle.std.specs.declared.string.String.{String}
 use Rattle.std.specs.declared.alloc.Global.{Global}
-use Rattle.yp_tools.specs.declared.words.MapName.{MapName}
-use Rattle.yp_tools.specs.declared.words.KeyValue.{KeyValue}
-use Rattle.yp_tools.specs.declared.words.Command.{Command}
-use Rattle.yp_tools.specs.declared.words.Command.TheVariants as command
+use Rattle.yp_tools.specs.declared.command.MapName.{MapName}
+use Rattle.yp_tools.specs.declared.command.KeyValue.{KeyValue}
+use Rattle.yp_tools.specs.declared.command.Command.{Command}
+use Rattle.yp_tools.specs.declared.command.Command.TheVariants as command
 use Rattle.yp_tools.specs.declared.words.ParseFault.{ParseFault}
 use Rattle.yp_tools.specs.declared.words.ParseFault.TheVariants.{Usage, NoMemory}
-use Rattle.yp_tools.specs.declared.words.TheConstants.{NAME_MAX, KEY_MAX, VALUE_MAX}
+use Rattle.yp_tools.specs.declared.protocol.TheConstants.{NAME_MAX, KEY_MAX, VALUE_MAX}
 
 -- ---- the forms of words
 

@@ -2,7 +2,10 @@
 #![tactic(auto)]
 
 mod answer;
+mod command;
 mod messages;
+mod protocol;
 mod words;
 
-pub use words::{Command, KeyValue, MapName, ParseFault, parse};
+pub use command::{Command, KeyValue, MapName};
+pub use words::{ParseFault, parse};

@@ -5,10 +5,11 @@ ghost use Rattle.yp_xdr.specs.Spelling.{spelling};
 ghost use Rattle.yp_xdr.specs.Reading.{Reads};
 ghost use Rattle.yp_xdr.specs.Writing.{Writes};
 ghost use Rattle.yp_xdr.specs.Cursor.{unread};
-ghost use Rattle.yp_tools.specs.Messages.{stat_number, req_key, resp_val, resp_val_of};
+ghost use Rattle.yp_tools.specs.declared.protocol.TheConstants.{VALUE_MAX};
+ghost use Rattle.yp_tools.specs.Messages.{stat_number, req_key, req_key_view, resp_val, resp_val_of};
 
-use crate::words::{KEY_MAX, NAME_MAX};
-use yp_xdr::{Cursor, NoRoom, XdrFault, put_i32, put_opaque};
+use crate::protocol::{KEY_MAX, NAME_MAX};
+use yp_xdr::{Cursor, NoRoom, XdrFault, opaque_len, put_i32, put_opaque};
 
 /// How a look-up went (`ypstat`).
 #[derive(Clone, Copy, Debug, PartialEq, Eq)]
@@ -51,7 +52,7 @@ pub struct ReqKey<'a> {
 impl<'a> ReqKey<'a> {
     /// Reads the three fields in order.
     pub fn read(cursor: &mut Cursor<'a>) -> Result<ReqKey<'a>, XdrFault>
-        ensures { Reads req_key (λ m. (m.domain.now, (m.map.now, m.key.now))) result (unread cursor.old) (unread cursor.new) }
+        ensures { Reads req_key req_key_view result (unread cursor.old) (unread cursor.new) }
     {
         let mut ahead = *cursor;
         let domain = ahead.string(NAME_MAX as u32)?;
@@ -76,7 +77,7 @@ impl RespVal<'_> {
         requires val { length self.now.val.now ≤ VALUE_MAX }
         ensures { Writes (spelling resp_val (resp_val_of self.now.stat self.now.val.now)) at result buf.old buf.new }
     {
-        if buf.len() - at < 8 + self.val.len().next_multiple_of(4) {
+        if buf.len() - at < 4 + opaque_len(self.val) {
             return Err(NoRoom);
         }
         let at = put_i32(buf, at, self.stat.number())?;

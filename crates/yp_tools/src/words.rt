@@ -4,37 +4,9 @@ ghost use Rattle.std.specs.Prelude.{◌≡◌, ◌+◌, ◌≤◌, ◌<◌, Some
 ghost use Rattle.std.specs.List.{list_all};
 ghost use Rattle.yp_tools.specs.Words.{is_name_byte, is_name, is_store, is_row, Row, once, fits_to, further_fitting, Once, command_of, meaning, row_of, row_view, before, after, texts, IsUsage};
 
+use crate::command::{Command, KeyValue, MapName};
+use crate::protocol::{KEY_MAX, NAME_MAX, VALUE_MAX};
 use std::alloc::{AllocError, Global};
-
-/// The most bytes of a domain's, a map's, a master's or a host's name.
-pub const NAME_MAX: usize = 64;
-
-/// The most bytes of a key.
-pub const KEY_MAX: usize = 1024;
-
-/// The most bytes of a value.
-pub const VALUE_MAX: usize = 1024;
-
-/// A map, in the domain that it belongs to.
-#[derive(Debug, Drop)]
-pub struct MapName {
-    pub domain: Vec<u8>,
-    pub map: Vec<u8>,
-}
-
-/// A row that the words give.
-#[derive(Debug, Drop)]
-pub struct KeyValue {
-    pub key: Vec<u8>,
-    pub value: Vec<u8>,
-}
-
-/// What the words of the command line ask for.
-#[derive(Debug, Drop)]
-pub enum Command {
-    /// Answers the calls of the input on one map of these rows.
-    Once { store: MapName, rows: Vec<KeyValue> },
-}
 
 /// Why the words are no command.
 #[derive(Clone, Copy, Debug, PartialEq, Eq)]
