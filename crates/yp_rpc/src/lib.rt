@@ -3,4 +3,4 @@
 
 mod record;
 
-pub use record::RecordFault;
+pub use record::{RecordFault, RecordWriter};
