@@ -45,8 +45,8 @@ pub record Fragments (limit : ℕ) (message bytes : List ℕ) : Type 0 where
 -- less than a fragment: a part of its head, or a head and a part of the bytes that it names
 abbrev pub IsPart : ℕ → List (List ℕ) → List ℕ → Type 0
 IsPart limit pieces tail =
-  (length tail < 4)
-  ⊎ ((last : Bool) × (len : ℕ) × (body : List ℕ) × (tail ≡ head last len ++ body) × (length body < len) × (len < 2 ^ 31) × (length (joined pieces) + len ≤ limit))
+    (length tail < 4)
+    ⊎ ((last : Bool) × (len : ℕ) × (body : List ℕ) × (tail ≡ head last len ++ body) × (length body < len) × (len < 2 ^ 31) × (length (joined pieces) + len ≤ limit))
 
 -- a rest that ends inside its first record
 pub record IsTorn (limit : ℕ) (rest : List ℕ) : Type 0 where
@@ -79,15 +79,15 @@ IsRest limit rest = (rest ≡ []) ⊎ IsTorn limit rest ⊎ IsLong limit rest
 abbrev pub Cut : ℕ → List ℕ → List (List ℕ) → List ℕ → Type 0
 Cut limit stream [] rest = (stream ≡ rest) × IsRest limit rest
 Cut limit stream (message ∷ messages) rest =
-  (bytes more : List ℕ) × Fragments limit message bytes × (stream ≡ bytes ++ more) × Cut limit more messages rest
+    (bytes more : List ℕ) × Fragments limit message bytes × (stream ≡ bytes ++ more) × Cut limit more messages rest
 
 -- what is sent of a record: fragments of FRAGMENT_MAX bytes, and the last with what is left
 unfoldable pub sent_within : ℕ → List ℕ → List ℕ
 sent_within zero message = fragment true message
 sent_within (suc turns) message =
-  if nat_le (length message) FRAGMENT_MAX
-  then fragment true message
-  else fragment false (take FRAGMENT_MAX message) ++ sent_within turns (drop FRAGMENT_MAX message)
+    if nat_le (length message) FRAGMENT_MAX
+    then fragment true message
+    else fragment false (take FRAGMENT_MAX message) ++ sent_within turns (drop FRAGMENT_MAX message)
 
 abbrev pub sent : List ℕ → List ℕ
 sent message = sent_within (length message) message
@@ -113,5 +113,5 @@ IsEmpty old new = Consumes old new [] × IsAtEnd new
 abbrev pub HasNoFragment : ℕ → ℕ → ℕ → Option (List ℕ) → Option (List ℕ) → ℕ → ℕ → RecordFault → Type 0
 HasNoFragment room empty place old new before now (Torn at) = (at ≡ place) × (tail : List ℕ) × (0 < length tail) × IsPart room [] tail × Consumes old new tail × IsAtEnd new
 HasNoFragment room empty place old new before now (TooLong at) =
-  (at ≡ place) × (last : Bool) × (len : ℕ) × (len < 2 ^ 31) × ((room < len) ⊎ ((len ≡ 0) × (EMPTY_MAX ≤ empty))) × Consumes old new (head last len)
+    (at ≡ place) × (last : Bool) × (len : ℕ) × (len < 2 ^ 31) × ((room < len) ⊎ ((len ≡ 0) × (EMPTY_MAX ≤ empty))) × Consumes old new (head last len)
 HasNoFragment room empty place old new before now ReadFault = HasRisen before now

@@ -3,4 +3,4 @@
 
 mod record;
 
-pub use record::{RecordFault, RecordWriter};
+pub use record::{RecordFault, RecordReader, RecordWriter};

@@ -6,9 +6,9 @@ ghost use Rattle.yp_rpc.specs.declared.record.RecordFault.TheVariants.{ReadFault
 mod reader;
 mod writer;
 
-pub use writer::RecordWriter;
-
+pub use reader::RecordReader;
 use thiserror::Error;
+pub use writer::RecordWriter;
 use yp_io::Failed;
 
 // The bytes of a fragment's head.

@@ -3,9 +3,10 @@
 ghost use Rattle.std.specs.Prelude.{◌≡◌, ℕ, zero, ◌+◌, ◌^◌, ◌<◌, ◌≤◌, List, [], length, take, Some, None, IfOk, IfErr, IfSome, IfNone, OnErr, ◌⊎◌};
 ghost use Rattle.std.specs.Io.KnownBytes.{Consumes, IsAtEnd};
 ghost use Rattle.yp_io.specs.Counts.{CountsFaults};
-ghost use Rattle.yp_rpc.specs.Records.{head, fragment, IsEmpty, HasNoFragment};
+ghost use Rattle.yp_rpc.specs.Records.{head, fragment, IsEmpty, TakesRecord, HasCause, HasNoFragment};
 
 use crate::record::{EMPTY_MAX, HEAD, RecordFault};
+use std::marker::Model;
 use yp_io::{Failed, Source};
 
 // The bit of a head that marks a record's last fragment.
@@ -16,6 +17,65 @@ const LAST: u32 = 0x8000_0000;
 struct Fragment {
     last: bool,
     len: usize,
+}
+
+// A record that was read: how many bytes it has, and the place behind it.
+#[derive(Clone, Copy)]
+struct Record {
+    len: usize,
+    end: u64,
+}
+
+/// Reads one record after another. It is seen as its place in the stream: how many bytes were taken as whole records,
+/// or 2^64 - 1 where there were more.
+#[derive(Debug, Drop)]
+pub struct RecordReader {
+    place: u64,
+}
+
+impl Model for RecordReader {
+    ghost use Rattle.std.specs.Prelude.{ℕ};
+
+    ghost Value = { ℕ };
+
+    ghost view = { λ r. r.place };
+}
+
+impl RecordReader {
+    /// A reader at the start of a stream.
+    pub fn new() -> RecordReader
+        ensures { result ≡ 0 }
+    {
+        RecordReader { place: 0 }
+    }
+
+    /// Reads the next record to the front of `buf`, and answers its length, or none where input ended before its first
+    /// byte. `Torn` comes where input ended later than that, `TooLong` where the heads name more than `buf` holds or
+    /// a 1,025th empty fragment, of which no byte behind the head is read, and `ReadFault` where the source failed.
+    /// After an error the place is still that of the record, and the source may have gone on from there.
+    pub fn next<S: Source>(
+        &mut self,
+        source: &mut S,
+        buf: &mut [u8],
+    ) -> Result<Option<usize>, RecordFault>
+        // a record: so many bytes at the front of `buf`
+        ensures within { IfOk result (λ found. IfSome found (λ n. n ≤ length buf.new)) }
+        ensures taken { IfOk result (λ found. IfSome found (λ n.
+            TakesRecord (length buf.new) (take n buf.new) (S.input source.old) (S.input source.new) self.old self.new)) }
+        // none: input had ended before a record's first byte
+        ensures none { IfOk result (λ found. IfNone found
+            (IsAtEnd (S.input source.old) × IsAtEnd (S.input source.new) × (self.new ≡ self.old))) }
+        ensures cause { IfErr result (λ fault. HasCause (length buf.new) self.old
+            (S.input source.old) (S.input source.new) (S.faults source.old) (S.faults source.new) fault) }
+        ensures stays { OnErr result (self.new ≡ self.old) }
+        ensures counted { S.faults source.old ≤ S.faults source.new }
+    {
+        let Some(record) = read_record(source, buf, self.place)? else {
+            return Ok(None);
+        };
+        self.place = record.end;
+        Ok(Some(record.len))
+    }
 }
 
 // Reads until `buf` is full or input ends, and answers how many bytes were read.
@@ -92,4 +152,35 @@ fn read_fragment<S: Source>(
         return Err(RecordFault::Torn { at: place });
     }
     Ok(Some(fragment))
+}
+
+// Reads a record that begins at `place` to the front of `buf`, or answers none where input has ended.
+fn read_record<S: Source>(
+    source: &mut S,
+    buf: &mut [u8],
+    place: u64,
+) -> Result<Option<Record>, RecordFault>
+    ensures within { IfOk result (λ found. IfSome found (λ r. r.len ≤ length buf.new)) }
+    ensures taken { IfOk result (λ found. IfSome found (λ r. TakesRecord (length buf.new) (take r.len buf.new) (S.input source.old) (S.input source.new) place r.end)) }
+    ensures none { IfOk result (λ found. IfNone found (IsEmpty (S.input source.old) (S.input source.new))) }
+    ensures cause { IfErr result (λ fault. HasCause (length buf.new) place (S.input source.old) (S.input source.new) (S.faults source.old) (S.faults source.new) fault) }
+    ensures counted { S.faults source.old ≤ S.faults source.new }
+{
+    let mut len = 0;
+    let mut empty = 0;
+    let mut end = place;
+    'fragments: loop {
+        let Some(fragment) = read_fragment(source, &mut buf[len..], empty, place)? else {
+            if len == 0 && empty == 0 {
+                return Ok(None);
+            }
+            return Err(RecordFault::Torn { at: place });
+        };
+        len += fragment.len;
+        empty += usize::from(fragment.len == 0);
+        end = end.saturating_add((HEAD + fragment.len) as u64);
+        if fragment.last {
+            return Ok(Some(Record { len, end }));
+        }
+    }
 }

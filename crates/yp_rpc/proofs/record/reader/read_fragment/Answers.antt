@@ -17,5 +17,5 @@ returns-then-branch-fragment-clause-cause g c =
     let part : length c.fill.new.buf ≡ length (take len room) = c.fill.auto.buf in
     let whole : length (take len room) ≡ len = length-take-le len room c.if-fragment-room.false in
     torn_body c.in-Some.fragment.last len c.in_ok-fill.field-0 _ c.args.empty c.args.place c.fill.new.buf _ _ _
-      found.short (omega (arith, length-append c.fill.new.buf (drop len room), length-drop len room)) c.if-branch-fragment.true c.in_ok-fill.ensures.within
-      found.head c.in_ok-fill.ensures.bytes (c.in_ok-fill.ensures.end (omega arith))
+    found.short (omega (arith, length-append c.fill.new.buf (drop len room), length-drop len room)) c.if-branch-fragment.true c.in_ok-fill.ensures.within
+    found.head c.in_ok-fill.ensures.bytes (c.in_ok-fill.ensures.end (omega arith))
