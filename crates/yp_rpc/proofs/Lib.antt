@@ -6,3 +6,5 @@ pub mod CutOne
 pub mod CutNext
 pub mod CutExists
 pub mod Inside
+pub mod Stream
+pub mod Fragments

@@ -104,3 +104,14 @@ abbrev pub HasCause : ℕ → ℕ → Option (List ℕ) → Option (List ℕ) �
 HasCause limit place old new before now (Torn at) = (at ≡ place) × (rest : List ℕ) × IsTorn limit rest × Consumes old new rest × IsAtEnd new
 HasCause limit place old new before now (TooLong at) = (at ≡ place) × (front : List ℕ) × IsTooLong limit front × Consumes old new front
 HasCause limit place old new before now ReadFault = HasRisen before now
+
+-- Nothing was left, and nothing was taken.
+abbrev pub IsEmpty : Option (List ℕ) → Option (List ℕ) → Type 0
+IsEmpty old new = Consumes old new [] × IsAtEnd new
+
+-- Why there is no whole fragment, of a record that began at the place, has some room left and holds so many empty fragments.
+abbrev pub HasNoFragment : ℕ → ℕ → ℕ → Option (List ℕ) → Option (List ℕ) → ℕ → ℕ → RecordFault → Type 0
+HasNoFragment room empty place old new before now (Torn at) = (at ≡ place) × (tail : List ℕ) × (0 < length tail) × IsPart room [] tail × Consumes old new tail × IsAtEnd new
+HasNoFragment room empty place old new before now (TooLong at) =
+    (at ≡ place) × (last : Bool) × (len : ℕ) × (len < 2 ^ 31) × ((room < len) ⊎ ((len ≡ 0) × (EMPTY_MAX ≤ empty))) × Consumes old new (head last len)
+HasNoFragment room empty place old new before now ReadFault = HasRisen before now

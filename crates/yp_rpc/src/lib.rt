@@ -10,5 +10,5 @@ mod record;
 mod reply;
 
 pub use call::{CallHead, Heard, read_call};
-pub use record::RecordFault;
+pub use record::{RecordFault, RecordReader, RecordWriter};
 pub use reply::{ReplyHead, write_reply};

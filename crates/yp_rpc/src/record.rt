@@ -1,6 +1,18 @@
 //! Records in a stream (RFC 5531 section 11).
 
+ghost use Rattle.std.specs.Prelude.{◌≡◌};
+ghost use Rattle.yp_rpc.specs.declared.record.RecordFault.TheVariants.{ReadFault};
+
+mod reader;
+mod writer;
+
+pub use reader::RecordReader;
 use thiserror::Error;
+pub use writer::RecordWriter;
+use yp_io::Failed;
+
+// The bytes of a fragment's head.
+const HEAD: usize = 4;
 
 /// The most bytes of a fragment that is written.
 pub const FRAGMENT_MAX: usize = 8192;
@@ -23,4 +35,12 @@ pub enum RecordFault {
     /// The source failed.
     #[error("read fault")]
     ReadFault,
+}
+
+impl From<Failed> for RecordFault {
+    ghost from_gives = { λ _ fault. fault ≡ ReadFault };
+
+    fn from(_failed: Failed) -> RecordFault {
+        RecordFault::ReadFault
+    }
 }
