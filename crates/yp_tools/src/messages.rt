@@ -1,6 +1,6 @@
 //! The messages of MATCH (yp.x).
 
-ghost use Rattle.std.specs.Prelude.{◌≡◌, ◌≤◌, length};
+ghost use Rattle.std.specs.Prelude.{◌≡◌, ◌+◌, ◌≤◌, length, IsOk};
 ghost use Rattle.yp_xdr.specs.Spelling.{spelling};
 ghost use Rattle.yp_xdr.specs.Reading.{Reads};
 ghost use Rattle.yp_xdr.specs.Writing.{Writes};
@@ -75,7 +75,8 @@ impl RespVal<'_> {
     pub fn write(&self, buf: &mut [u8], at: usize) -> Result<usize, NoRoom>
         requires place { at ≤ length buf.old }
         requires val { length self.now.val.now ≤ VALUE_MAX }
-        ensures { Writes (spelling resp_val (resp_val_of self.now.stat self.now.val.now)) at result buf.old buf.new }
+        ensures written { Writes (spelling resp_val (resp_val_of self.now.stat self.now.val.now)) at result buf.old buf.new }
+        ensures room { at + VALUE_MAX + 12 ≤ length buf.old → IsOk result }
     {
         if buf.len() - at < 4 + opaque_len(self.val) {
             return Err(NoRoom);

@@ -1,6 +1,6 @@
 //! The words of the command line.
 
-ghost use Rattle.std.specs.Prelude.{◌≡◌, ◌+◌, ◌≤◌, ◌<◌, Some, Ok, IfOk, IfErr, length, map};
+ghost use Rattle.std.specs.Prelude.{◌≡◌, ◌+◌, ◌≤◌, ◌<◌, IsTrue, Some, Ok, IfOk, IfErr, length, map};
 ghost use Rattle.std.specs.List.{list_all};
 ghost use Rattle.yp_tools.specs.Words.{is_name_byte, is_name, is_store, is_row, Row, once, fits_to, further_fitting, Once, command_of, meaning, row_of, row_view, before, after, texts, IsUsage};
 
@@ -113,6 +113,7 @@ fn store_of(alloc: Global, word: &str) -> Result<MapName, AllocError>
 }
 
 fn row_of(alloc: Global, word: &str) -> Result<KeyValue, AllocError>
+    requires { IsTrue (is_row word.now) }
     ensures { IfOk result (λ row. row_view row ≡ row_of word.now) }
 {
     let (key, value) = cut_at(word, '=');
@@ -123,6 +124,7 @@ fn row_of(alloc: Global, word: &str) -> Result<KeyValue, AllocError>
 }
 
 fn rows_of(alloc: Global, words: &[String]) -> Result<Vec<KeyValue>, AllocError>
+    requires { further_fitting (Some Row) (texts words.now) ≡ length words.now }
     ensures { IfOk result (λ rows. map row_view rows.items ≡ map row_of (texts words.now)) }
 {
     let mut rows = Vec::new(alloc);
@@ -133,6 +135,7 @@ fn rows_of(alloc: Global, words: &[String]) -> Result<Vec<KeyValue>, AllocError>
 }
 
 fn once_of(alloc: Global, store: &str, rows: &[String]) -> Result<Command, AllocError>
+    requires { further_fitting (Some Row) (texts rows.now) ≡ length rows.now }
     ensures { IfOk result (λ command. meaning command ≡ Once (before 47 store.now) (after 47 store.now) (map row_of (texts rows.now))) }
 {
     Ok(Command::Once {

@@ -9,8 +9,8 @@ use Rattle.yp_tools.specs.Messages.{resp_val, stat_number}
 use Rattle.yp_tools.proofs.Stats.{stat_kept}
 use Rattle.yp_tools.proofs.messages.RespVal.write.Goals as goal
 
-pub returns : goal.returns
-returns c =
+pub returns-clause-written : goal.returns-clause-written
+returns-clause-written c =
     let stat : ℤ = cast_signed w32 (cast_unsigned w32 c.number.result) in
     let message : ℤ → Type 0 = λ z. Writes (spelling resp_val (z, c.args.self.now.val.now)) c.args.at c.put_opaque.result c.args.buf.now c.put_opaque.new.buf in
     let same : stat ≡ stat_number c.args.self.now.stat = ap (λ (z : ℤ). cast_signed w32 (cast_unsigned w32 z)) c.number.ensures ∙ stat_kept c.args.self.now.stat in
