@@ -67,7 +67,7 @@ content_takes start n old new content e =
     let padding_there : zeros ≡ padding n = zeros_from_none zeros p.0 ∙ ap (λ (k : ℕ). replicate k 0) pad_len in
     let behind : drop pad (drop n old.bytes) ≡ drop (n + pad) old.bytes = drop-drop pad n old.bytes in
     let parts : old.bytes ≡ take n old.bytes ++ padding n ++ drop (n + pad) old.bytes =
-        sym (take-append-drop n old.bytes) ∙ ap (λ (xs : List ℕ). take n old.bytes ++ xs) (sym (take-append-drop pad (drop n old.bytes)) ∙ rw (padding_there, behind) refl) ∙ sym (append_assoc (take n old.bytes) (padding n) (drop (n + pad) old.bytes)) in
+    sym (take-append-drop n old.bytes) ∙ ap (λ (xs : List ℕ). take n old.bytes ++ xs) (sym (take-append-drop pad (drop n old.bytes)) ∙ rw (padding_there, behind) refl) ∙ sym (append_assoc (take n old.bytes) (padding n) (drop (n + pad) old.bytes)) in
     subst (λ (y : List ℕ × Unread). ContentTaken n old y.0 y.1) p.1 (record { len = len; parts = parts; place = refl })
 
 -- content that was written is read again

@@ -135,5 +135,5 @@ read_is_spelled (Sequence first second) old new value are_bytes e =
 pub refused_is_not_spelled : RefusedIsNotSpelled
 refused_is_not_spelled kind old fault e value front rest spells parts =
     let read : reading kind old ≡ Ok (value, record { at = old.at + length front; bytes = rest }) =
-        ap (λ (xs : List ℕ). reading kind (record { at = old.at; bytes = xs })) parts ∙ written_is_read_again kind value front rest old.at spells in
+    ap (λ (xs : List ℕ). reading kind (record { at = old.at; bytes = xs })) parts ∙ written_is_read_again kind value front rest old.at spells in
     cc
