@@ -1,10 +1,9 @@
 -- Padded content that is read is what was written, and what was written is read again.
-use Rattle.std.proofs.Common.{◌≡◌, ℕ, suc, zero, ◌+◌, ◌^◌, ◌<◌, ◌≤◌, Bool, true, false, cond, eqb, ltb, not, List, [], ◌∷◌, ◌++◌, length, take, drop, replicate, Option, Some, None, Result, Ok, Err, refl, sym, ap, subst, ◌∙◌, append_assoc, arith}
+use Rattle.std.proofs.Common.{◌≡◌, ℕ, suc, zero, ◌+◌, ◌≤◌, Bool, true, false, cond, eqb, ltb, not, List, [], ◌∷◌, ◌++◌, length, take, drop, replicate, Option, Some, None, Ok, refl, sym, ap, subst, ◌∙◌, append_assoc, arith}
 use Rattle.std.specs.List.{position_or_len}
 use Rattle.std.proofs.lemmas.Bool.{ltb-false, le-ltb, ne_eqb}
 use Rattle.std.proofs.lemmas.List.{take_at, drop_at, take-append-drop, length-append, length-take, length-drop, length-replicate, drop-drop}
 use Rattle.std.proofs.lemmas.List.Folds.{prefix_len-replicate}
-use Rattle.yp_xdr.specs.declared.fault.XdrFault.{XdrFault}
 use Rattle.yp_xdr.specs.declared.fault.XdrFault.TheVariants.{Short}
 use Rattle.yp_xdr.specs.Spelling.{padding_len, padding}
 use Rattle.yp_xdr.specs.Reading.{Unread, past, first_nonzero, padded, content_at}
