@@ -1,10 +1,9 @@
 -- Padded content that is read is what was written, and what was written is read again.
-use Rattle.std.proofs.Common.{◌≡◌, ℕ, suc, zero, ◌+◌, ◌^◌, ◌<◌, ◌≤◌, Bool, true, false, cond, eqb, ltb, not, List, [], ◌∷◌, ◌++◌, length, take, drop, replicate, Option, Some, None, Result, Ok, Err, refl, sym, ap, subst, ◌∙◌, append_assoc, arith}
+use Rattle.std.proofs.Common.{◌≡◌, ℕ, suc, zero, ◌+◌, ◌≤◌, Bool, true, false, cond, eqb, ltb, not, List, [], ◌∷◌, ◌++◌, length, take, drop, replicate, Option, Some, None, Ok, refl, sym, ap, subst, ◌∙◌, append_assoc, arith}
 use Rattle.std.specs.List.{position_or_len}
 use Rattle.std.proofs.lemmas.Bool.{ltb-false, le-ltb, ne_eqb}
 use Rattle.std.proofs.lemmas.List.{take_at, drop_at, take-append-drop, length-append, length-take, length-drop, length-replicate, drop-drop}
 use Rattle.std.proofs.lemmas.List.Folds.{prefix_len-replicate}
-use Rattle.yp_xdr.specs.declared.fault.XdrFault.{XdrFault}
 use Rattle.yp_xdr.specs.declared.fault.XdrFault.TheVariants.{Short}
 use Rattle.yp_xdr.specs.Spelling.{padding_len, padding}
 use Rattle.yp_xdr.specs.Reading.{Unread, past, first_nonzero, padded, content_at}
@@ -67,7 +66,7 @@ content_takes start n old new content e =
     let padding_there : zeros ≡ padding n = zeros_from_none zeros p.0 ∙ ap (λ (k : ℕ). replicate k 0) pad_len in
     let behind : drop pad (drop n old.bytes) ≡ drop (n + pad) old.bytes = drop-drop pad n old.bytes in
     let parts : old.bytes ≡ take n old.bytes ++ padding n ++ drop (n + pad) old.bytes =
-        sym (take-append-drop n old.bytes) ∙ ap (λ (xs : List ℕ). take n old.bytes ++ xs) (sym (take-append-drop pad (drop n old.bytes)) ∙ rw (padding_there, behind) refl) ∙ sym (append_assoc (take n old.bytes) (padding n) (drop (n + pad) old.bytes)) in
+    sym (take-append-drop n old.bytes) ∙ ap (λ (xs : List ℕ). take n old.bytes ++ xs) (sym (take-append-drop pad (drop n old.bytes)) ∙ rw (padding_there, behind) refl) ∙ sym (append_assoc (take n old.bytes) (padding n) (drop (n + pad) old.bytes)) in
     subst (λ (y : List ℕ × Unread). ContentTaken n old y.0 y.1) p.1 (record { len = len; parts = parts; place = refl })
 
 -- content that was written is read again

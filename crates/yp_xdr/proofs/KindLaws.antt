@@ -1,16 +1,15 @@
 -- What joins writing and reading, by induction on the kind.
-use Rattle.std.proofs.Common.{◌≡◌, ℕ, ◌+◌, ◌^◌, ◌<◌, ◌≤◌, Bool, false, cond, ltb, ℤ, List, [], ◌++◌, length, take, drop, Result, Ok, Err, refl, sym, ap, subst, ◌∙◌, append_assoc, arith}
+use Rattle.std.proofs.Common.{◌≡◌, ℕ, ◌+◌, ◌^◌, ◌<◌, ◌≤◌, false, cond, ltb, ℤ, List, [], ◌++◌, length, Ok, Err, refl, sym, ap, subst, ◌∙◌, append_assoc, arith}
 use Rattle.std.specs.Prelude.{FitsSigned}
 use Rattle.std.specs.Int.{w32, cast_signed, cast_unsigned}
 use Rattle.std.proofs.lemmas.Bool.{ltb-false, le-ltb}
 use Rattle.std.proofs.lemmas.Int.{ints, to_z-of_z, of_z-to_z}
 use Rattle.std.proofs.lemmas.List.{append-nil, length-append, length-replicate}
 use borrow.Author.Gap.{read_sfits}
-use Rattle.yp_xdr.specs.declared.fault.XdrFault.{XdrFault}
 use Rattle.yp_xdr.specs.declared.fault.XdrFault.TheVariants.{TooLong}
 use Rattle.yp_xdr.specs.Kind.{Kind, U32, I32, Opaque, Sequence, Value}
-use Rattle.yp_xdr.specs.Spelling.{word, padding_len, padding, opaque, spelling, Fits, Spells}
-use Rattle.yp_xdr.specs.Reading.{Unread, ◌>>=◌, word_at, content_at, opaque_at, reading, BeginsWith, BeginsWithNone, IsBytes}
+use Rattle.yp_xdr.specs.Spelling.{word, padding_len, padding, opaque, spelling, Fits}
+use Rattle.yp_xdr.specs.Reading.{Unread, ◌>>=◌, word_at, content_at, opaque_at, reading, BeginsWith, IsBytes}
 use Rattle.yp_xdr.specs.Laws.{OneSpelling, NoSpellingBeginsAnother, WrittenIsReadAgain, ReadIsSpelled, RefusedIsNotSpelled}
 use Rattle.yp_xdr.proofs.Words.{bind_ok, guard_ok, ok_is, IsBytes-behind, word_takes, word_again}
 use Rattle.yp_xdr.proofs.Content.{ContentTaken, content_takes, content_again}
@@ -135,5 +134,5 @@ read_is_spelled (Sequence first second) old new value are_bytes e =
 pub refused_is_not_spelled : RefusedIsNotSpelled
 refused_is_not_spelled kind old fault e value front rest spells parts =
     let read : reading kind old ≡ Ok (value, record { at = old.at + length front; bytes = rest }) =
-        ap (λ (xs : List ℕ). reading kind (record { at = old.at; bytes = xs })) parts ∙ written_is_read_again kind value front rest old.at spells in
+    ap (λ (xs : List ℕ). reading kind (record { at = old.at; bytes = xs })) parts ∙ written_is_read_again kind value front rest old.at spells in
     cc

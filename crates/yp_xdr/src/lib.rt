@@ -13,3 +13,6 @@ mod put;
 pub use cursor::Cursor;
 pub use fault::{NoRoom, XdrFault};
 pub use put::{opaque_len, put_i32, put_opaque, put_u32};
+
+#[cfg(test)]
+mod tests;

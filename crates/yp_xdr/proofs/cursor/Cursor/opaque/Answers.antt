@@ -1,10 +1,10 @@
-use Rattle.std.proofs.Common.{rules, arith, ◌≡◌, ◌+◌, ◌^◌, ◌<◌, length, IfOk, OnErr, ℕ, List, ◌++◌, slice_index}
+use Rattle.std.proofs.Common.{rules}
 use Rattle.yp_xdr.specs.declared.fault.XdrFault.TheVariants.{TooLong}
 use Rattle.yp_xdr.specs.Kind.{Opaque}
-use Rattle.yp_xdr.specs.Reading.{Unread, opaque_at, Reads, BeginsWith, BeginsWithNone, IsBytes}
+use Rattle.yp_xdr.specs.Reading.{opaque_at}
 use Rattle.yp_xdr.specs.Cursor.{unread}
 use Rattle.yp_xdr.proofs.KindLaws.{read_is_spelled, refused_is_not_spelled}
-use Rattle.yp_xdr.proofs.Readers.{spelled, refused}
+use Rattle.yp_xdr.proofs.Readers.{refused}
 use Rattle.yp_xdr.proofs.cursor.Cursor.opaque.Goals as goal
 
 pub returns-in_err-len-clause-refused : goal.returns-in_err-len-clause-refused

@@ -1,6 +1,6 @@
-use Rattle.std.proofs.Common.{rules, arith, ◌≡◌, ◌+◌, ◌^◌, ◌<◌, length, IfOk, OnErr, ℕ, List, ◌++◌, slice_index}
+use Rattle.std.proofs.Common.{rules}
 use Rattle.yp_xdr.specs.Kind.{U32}
-use Rattle.yp_xdr.specs.Reading.{Unread, word_at, Reads, BeginsWith, BeginsWithNone, IsBytes}
+use Rattle.yp_xdr.specs.Reading.{word_at}
 use Rattle.yp_xdr.specs.Cursor.{unread}
 use Rattle.yp_xdr.proofs.Words.{IsBytes-from_drop}
 use Rattle.yp_xdr.proofs.KindLaws.{read_is_spelled}
