@@ -1,3 +1,6 @@
+pub mod Served
 pub mod Words
 pub mod Messages
 pub mod Reply
+pub mod Run
+pub mod Status

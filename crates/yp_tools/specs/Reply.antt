@@ -17,14 +17,9 @@ use Rattle.yp_tools.specs.declared.messages.YpStat.{YpStat}
 use Rattle.yp_tools.specs.declared.messages.YpStat.TheVariants.{True, Nomap, Nodom, Nokey, Badargs}
 use Rattle.yp_tools.specs.declared.answer.Service.{Service}
 use Rattle.yp_tools.specs.declared.protocol.TheConstants.{YPPROG, YPVERS, NULL, MATCH}
+use Rattle.yp_tools.specs.Served.{Served}
 use Rattle.yp_tools.specs.Words.{row_view}
 use Rattle.yp_tools.specs.Messages.{req_key, resp_val, resp_val_of}
-
--- one map in its domain, with its rows in order
-pub record Served : Type 0 where
-  pub domain : List ℕ
-  pub map : List ℕ
-  pub rows : List (List ℕ × List ℕ)
 
 abbrev pub served : Service → Served
 served service = record { domain = service.store.now.domain.items; map = service.store.now.map.items; rows = map row_view service.rows.now }

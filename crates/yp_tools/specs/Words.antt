@@ -1,9 +1,10 @@
 -- The command line: sentences made of words.
-use Rattle.std.specs.Prelude.{◌≡◌, ℕ, ◌+◌, ◌*◌, ◌≤◌, ◌<◌, Bool, true, false, not, ◌&&◌, nat_lt, nat_le, ◌==◌, max, if◌then◌else◌, List, [], ◌∷◌, length, drop, map, fold, slice_index_or, Option, Some, None, Result, Ok, Err, codes, string_bytes}
+use Rattle.std.specs.Prelude.{◌≡◌, ℕ, ◌+◌, ◌*◌, ◌≤◌, ◌<◌, Bool, true, false, not, ◌&&◌, nat_lt, nat_le, ◌==◌, max, if◌then◌else◌, List, [], ◌∷◌, length, drop, map, fold, slice_index_or, Option, Some, None, Result, Ok, Err, IsOk, codes, string_bytes}
 use Rattle.std.specs.List.{list_all, before_first, after_first}
 use Rattle.std.specs.Str.{bytes_eq}
 use Rattle.std.specs.declared.string.String.{String}
 use Rattle.std.specs.declared.alloc.Global.{Global}
+use Rattle.yp_tools.specs.Served.{Served}
 use Rattle.yp_tools.specs.declared.command.MapName.{MapName}
 use Rattle.yp_tools.specs.declared.command.KeyValue.{KeyValue}
 use Rattle.yp_tools.specs.declared.command.Command.{Command}
@@ -89,13 +90,17 @@ wrong_word words = fold max 0 (map (fits_to words) sentences)
 
 -- a command, with bytes in place of vectors
 pub data Meaning : Type 0 where
-  Once : (domain map : List ℕ) (rows : List (List ℕ × List ℕ)) → Meaning
+  Once : (served : Served) → Meaning
 
 abbrev pub row_of : List ℕ → List ℕ × List ℕ
 row_of word = (before 61 word, after 61 word)
 
+-- the store and the rows, each of a word
+abbrev pub served_by : List ℕ → List (List ℕ) → Served
+served_by store rows = record { domain = before 47 store; map = after 47 store; rows = map row_of rows }
+
 abbrev pub once_of : List (List ℕ) → Meaning
-once_of words = let store = slice_index_or words 1 [] in Once (before 47 store) (after 47 store) (map row_of (drop 2 words))
+once_of words = Once (served_by (slice_index_or words 1 []) (drop 2 words))
 
 -- the command that the words are, or the number of the word that is wrong
 abbrev pub command_of : List (List ℕ) → Result Meaning ℕ
@@ -105,13 +110,13 @@ abbrev pub row_view : KeyValue → List ℕ × List ℕ
 row_view row = (row.key.items, row.value.items)
 
 abbrev pub meaning : Command → Meaning
-meaning (command.Once store rows) = Once store.domain.items store.map.items (map row_view rows.items)
+meaning (command.Once store rows) = Once (record { domain = store.domain.items; map = store.map.items; rows = map row_view rows.items })
 
 -- the bytes of each word
 abbrev pub texts : List (String Global) → List (List ℕ)
 texts words = map string_bytes words
 
--- The fault names the word that is wrong; running out of memory has no cause.
+-- The fault names the word that is wrong. Memory runs out only where no word is.
 abbrev pub IsUsage : Result Meaning ℕ → ParseFault → Type 0
 IsUsage expected (Usage word) = expected ≡ Err word
-IsUsage expected NoMemory = Unit {0}
+IsUsage expected NoMemory = IsOk expected

@@ -5,7 +5,10 @@ mod answer;
 mod command;
 mod messages;
 mod protocol;
+mod session;
+mod status;
 mod words;
 
 pub use command::{Command, KeyValue, MapName};
+pub use status::Status;
 pub use words::{ParseFault, parse};

@@ -23,3 +23,6 @@ pub const KEY_MAX: usize = 1024;
 
 /// The most bytes of a value.
 pub const VALUE_MAX: usize = 1024;
+
+/// The most calls of one session.
+pub const CALLS_MAX: usize = 1_000_000_000;

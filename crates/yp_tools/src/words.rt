@@ -2,7 +2,7 @@
 
 ghost use Rattle.std.specs.Prelude.{◌≡◌, ◌+◌, ◌≤◌, ◌<◌, IsTrue, Some, Ok, IfOk, IfErr, length, map};
 ghost use Rattle.std.specs.List.{list_all};
-ghost use Rattle.yp_tools.specs.Words.{is_name_byte, is_name, is_store, is_row, Row, once, fits_to, further_fitting, Once, command_of, meaning, row_of, row_view, before, after, texts, IsUsage};
+ghost use Rattle.yp_tools.specs.Words.{is_name_byte, is_name, is_store, is_row, Row, once, fits_to, further_fitting, Once, served_by, command_of, meaning, row_of, row_view, before, after, texts, IsUsage};
 
 use crate::command::{Command, KeyValue, MapName};
 use crate::protocol::{KEY_MAX, NAME_MAX, VALUE_MAX};
@@ -136,7 +136,7 @@ fn rows_of(alloc: Global, words: &[String]) -> Result<Vec<KeyValue>, AllocError>
 
 fn once_of(alloc: Global, store: &str, rows: &[String]) -> Result<Command, AllocError>
     requires { further_fitting (Some Row) (texts rows.now) ≡ length rows.now }
-    ensures { IfOk result (λ command. meaning command ≡ Once (before 47 store.now) (after 47 store.now) (map row_of (texts rows.now))) }
+    ensures { IfOk result (λ command. meaning command ≡ Once (served_by store.now (texts rows.now))) }
 {
     Ok(Command::Once {
         store: store_of(alloc, store)?,

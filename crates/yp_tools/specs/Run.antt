@@ -1,0 +1,62 @@
+-- The run of a session: each record is answered, and then the next is read.
+use Rattle.std.specs.Prelude.{◌≡◌, ℕ, ◌+◌, ◌-◌, ◌<◌, List, [], ◌∷◌, ◌++◌, length, take, min, Option, Some, None}
+use Rattle.std.specs.List.{flat_map}
+use Rattle.std.specs.Io.KnownBytes.{Keeps, Appends, Consumes, IsAtEnd}
+use Rattle.yp_io.specs.Counts.{HasRisen, last_count}
+use Rattle.yp_rpc.specs.Records.{Fragments, IsTorn, IsTooLong, TakesRecord, sent}
+use Rattle.yp_tools.specs.declared.protocol.TheConstants.{CALL_MAX, CALLS_MAX}
+use Rattle.yp_tools.specs.declared.session.End.{End}
+use Rattle.yp_tools.specs.declared.session.End.TheVariants.{Clean, Torn, TooLong, ReadFault, WriteFault, Enough}
+use Rattle.yp_tools.specs.Served.{Served}
+use Rattle.yp_tools.specs.Reply.{reply}
+
+-- what is sent for a reply, and nothing for silence
+abbrev pub sent_reply : Option (List ℕ) → List ℕ
+sent_reply None = []
+sent_reply (Some message) = sent message
+
+-- what is sent for records, in their order
+abbrev pub answers : Served → List (List ℕ) → List ℕ
+answers served messages = flat_map (λ message. sent_reply (reply served message)) messages
+
+-- what the source has left, and the place up to which records were read
+pub record Feed : Type 0 where
+  pub input : Option (List ℕ)
+  pub place : ℕ
+
+-- records were read one after the other
+abbrev pub Reads : List (List ℕ) → Feed → Feed → Type 0
+Reads [] old new = Keeps old.input new.input × (new.place ≡ old.place)
+Reads (message ∷ messages) old new =
+  (mid : Feed) × TakesRecord CALL_MAX message old.input mid.input old.place mid.place × Reads messages mid new
+
+-- Why a session ended, between or inside its records, with what the sink has taken. Counts are before and after.
+pub record Counts : Type 0 where
+  pub reads : ℕ
+  pub writes : ℕ
+
+-- what is left where the session ended, and how many records were read
+abbrev pub EndsAt : End → ℕ → Feed → Feed → Counts → Counts → Type 0
+EndsAt Clean count mid new before after = IsAtEnd mid.input × IsAtEnd new.input × (count < CALLS_MAX)
+EndsAt (Torn at) count mid new before after = (at ≡ mid.place) × (rest : List ℕ) × IsTorn CALL_MAX rest × Consumes mid.input new.input rest × IsAtEnd new.input
+EndsAt (TooLong at) count mid new before after = (at ≡ mid.place) × (front : List ℕ) × IsTooLong CALL_MAX front × Consumes mid.input new.input front
+EndsAt ReadFault count mid new before after = HasRisen before.reads after.reads
+EndsAt WriteFault count mid new before after = HasRisen before.writes after.writes
+EndsAt Enough count mid new before after = count ≡ CALLS_MAX
+
+-- the sink has taken all answers, or a prefix of them where it failed
+abbrev pub Answers : End → Option (List ℕ) → Option (List ℕ) → List ℕ → Type 0
+Answers WriteFault old new bytes = (n : ℕ) × Appends old new (take n bytes)
+Answers Clean old new bytes = Appends old new bytes
+Answers (Torn at) old new bytes = Appends old new bytes
+Answers (TooLong at) old new bytes = Appends old new bytes
+Answers ReadFault old new bytes = Appends old new bytes
+Answers Enough old new bytes = Appends old new bytes
+
+-- a session over records, each answered before the next was read
+pub record Runs (served : Served) (end : End) (old new : Feed) (output output' : Option (List ℕ)) (before after : Counts) : Type 0 where
+  pub messages : List (List ℕ)
+  pub mid : Feed
+  pub read : Reads messages old mid
+  pub answered : Answers end output output' (answers served messages)
+  pub ended : EndsAt end (length messages) mid new before after
