@@ -8,3 +8,4 @@ pub mod CutExists
 pub mod Inside
 pub mod Stream
 pub mod Fragments
+pub mod Sending

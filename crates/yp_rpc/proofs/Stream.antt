@@ -1,6 +1,6 @@
 -- Lemmas on bytes that are read into a buffer, one part after another.
 use Rattle.std.proofs.Common.{◌≡◌, ℕ, ◌+◌, ◌-◌, ◌≤◌, List, ◌++◌, length, take, drop, refl, ◌∙◌, arith}
-use Rattle.std.proofs.lemmas.List.{take-append-le, length-take-le, length-append, length-drop, take_rest}
+use Rattle.std.proofs.lemmas.List.{take-append-le, length-take-le, length-append, length-drop, take_rest, take_at, drop-append-le, drop-take}
 use Rattle.std.proofs.Math.Seq.{take-append-add}
 use borrow.Rule.Slice.PartMut.{put_mid, post_of}
 
@@ -18,11 +18,22 @@ pub within-behind : (a k n : ℕ) (xs ys : List ℕ) → a ≤ length xs → n �
 within-behind a k n xs ys within fits =
     omega (arith, length-append (take a xs) (ys ++ post_of a k xs), length-append ys (post_of a k xs), length-take-le a xs within)
 
--- that write keeps the length
+-- a write of as many bytes keeps the length
+pub length-write : (a k : ℕ) (xs ys : List ℕ) → a + k ≤ length xs → length ys ≡ k → length (put_mid a k xs ys) ≡ length xs
+length-write a k xs ys within same =
+    omega (arith, length-append (take a xs) (ys ++ post_of a k xs), length-append ys (post_of a k xs), length-take-le a xs (omega arith), length-drop k (drop a xs), length-drop a xs)
+
+-- so does one of all that is behind a place
 pub length-behind : (a : ℕ) (xs ys : List ℕ) → a ≤ length xs → length ys ≡ length xs - a → length (put_mid a (length xs - a) xs ys) ≡ length xs
-length-behind a xs ys within same =
-    omega (arith, length-append (take a xs) (ys ++ post_of a (length xs - a) xs), length-append ys (post_of a (length xs - a) xs), length-take-le a xs within, length-drop (length xs - a) (drop a xs), length-drop a xs)
+length-behind a xs ys within same = length-write a (length xs - a) xs ys (omega arith) same
 
 -- what is behind a place in a buffer has the length that is left there
 pub length-room : (a : ℕ) (xs ys : List ℕ) → length ys ≡ length (take (length xs - a) (drop a xs)) → length ys ≡ length xs - a
 length-room a xs ys same = same ∙ rw (take_rest, length-drop) refl
+
+-- bytes that are put behind those that wait, which begin at the place h
+pub waiting-put : (h n k count : ℕ) (xs ys : List ℕ) → h + n ≤ length xs → length ys ≡ count → take (n + count) (drop h (put_mid (h + n) k xs ys)) ≡ take n (drop h xs) ++ ys
+waiting-put h n k count xs ys within len =
+    let front : length (take (h + n) xs) ≡ h + n = length-take-le (h + n) xs within in
+    let waits : length (take n (drop h xs)) ≡ n = length-take-le n (drop h xs) (omega (arith, length-drop h xs)) in
+    rw (drop-append-le h (take (h + n) xs) (ys ++ post_of (h + n) k xs) (omega arith), drop-take h n xs, take-past (take n (drop h xs)) (ys ++ post_of (h + n) k xs) n count waits, take_at ys (post_of (h + n) k xs) count len) refl

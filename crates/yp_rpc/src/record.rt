@@ -3,6 +3,7 @@
 ghost use Rattle.std.specs.Prelude.{◌≡◌};
 ghost use Rattle.yp_rpc.specs.declared.record.RecordFault.TheVariants.{ReadFault};
 
+mod head;
 mod reader;
 mod writer;
 
@@ -10,9 +11,6 @@ pub use reader::RecordReader;
 use thiserror::Error;
 pub use writer::RecordWriter;
 use yp_io::Failed;
-
-// The bytes of a fragment's head.
-const HEAD: usize = 4;
 
 /// The most bytes of a fragment that is written.
 pub const FRAGMENT_MAX: usize = 8192;

@@ -1,23 +1,14 @@
 //! Records read from a stream.
 
-ghost use Rattle.std.specs.Prelude.{◌≡◌, ℕ, zero, ◌+◌, ◌^◌, ◌<◌, ◌≤◌, List, [], length, take, Some, None, IfOk, IfErr, IfSome, IfNone, OnErr, ◌⊎◌};
+ghost use Rattle.std.specs.Prelude.{◌≡◌, ℕ, zero, ◌^◌, ◌<◌, ◌≤◌, List, [], length, take, Some, None, IfOk, IfErr, IfSome, IfNone, OnErr};
 ghost use Rattle.std.specs.Io.KnownBytes.{Consumes, IsAtEnd};
 ghost use Rattle.yp_io.specs.Counts.{CountsFaults};
 ghost use Rattle.yp_rpc.specs.Records.{head, fragment, IsEmpty, TakesRecord, HasCause, HasNoFragment};
 
-use crate::record::{EMPTY_MAX, HEAD, RecordFault};
+use crate::record::head::{HEAD, Head};
+use crate::record::{EMPTY_MAX, RecordFault};
 use std::marker::Model;
 use yp_io::{Failed, Source};
-
-// The bit of a head that marks a record's last fragment.
-const LAST: u32 = 0x8000_0000;
-
-// What a fragment's head says.
-#[derive(Clone, Copy)]
-struct Fragment {
-    last: bool,
-    len: usize,
-}
 
 // A record that was read: how many bytes it has, and the place behind it.
 #[derive(Clone, Copy)]
@@ -97,20 +88,8 @@ fn fill<S: Source>(source: &mut S, buf: &mut [u8]) -> Result<usize, Failed>
     Ok(filled)
 }
 
-// What the bytes of a head say.
-fn head_of(bytes: [u8; HEAD]) -> Fragment
-    ensures spelled { head result.last result.len ≡ bytes }
-    ensures short { result.len < 2 ^ 31 }
-{
-    let word = u32::from_be_bytes(bytes);
-    Fragment {
-        last: word >= LAST,
-        len: (word % LAST) as usize,
-    }
-}
-
 // Reads a head, or answers none where input has ended. `place` is where the record began.
-fn read_head<S: Source>(source: &mut S, place: u64) -> Result<Option<Fragment>, RecordFault>
+fn read_head<S: Source>(source: &mut S, place: u64) -> Result<Option<Head>, RecordFault>
     ensures head { IfOk result (λ found. IfSome found (λ f. Consumes (S.input source.old) (S.input source.new) (head f.last f.len))) }
     ensures short { IfOk result (λ found. IfSome found (λ f. f.len < 2 ^ 31)) }
     ensures none { IfOk result (λ found. IfNone found (IsEmpty (S.input source.old) (S.input source.new))) }
@@ -121,7 +100,7 @@ fn read_head<S: Source>(source: &mut S, place: u64) -> Result<Option<Fragment>, 
     let mut bytes = [0; HEAD];
     match fill(source, &mut bytes)? {
         0 => Ok(None),
-        HEAD => Ok(Some(head_of(bytes))),
+        HEAD => Ok(Some(Head::from_bytes(bytes))),
         _ => Err(RecordFault::Torn { at: place }),
     }
 }
@@ -133,7 +112,7 @@ fn read_fragment<S: Source>(
     room: &mut [u8],
     empty: usize,
     place: u64,
-) -> Result<Option<Fragment>, RecordFault>
+) -> Result<Option<Head>, RecordFault>
     ensures within { IfOk result (λ found. IfSome found (λ f. f.len ≤ length room.new)) }
     ensures short { IfOk result (λ found. IfSome found (λ f. f.len < 2 ^ 31)) }
     ensures few { IfOk result (λ found. IfSome found (λ f. f.len ≡ 0 → empty < EMPTY_MAX)) }
