@@ -5,6 +5,10 @@ use Rattle.std.specs.Io.KnownBytes.{Keeps, Appends, Consumes, IsAtEnd}
 use Rattle.yp_io.specs.Counts.{HasRisen, last_count}
 use Rattle.yp_rpc.specs.Records.{Fragments, IsTorn, IsTooLong, TakesRecord, sent}
 use Rattle.yp_tools.specs.declared.protocol.TheConstants.{CALL_MAX, CALLS_MAX}
+use Rattle.yp_rpc.specs.declared.record.RecordFault.{RecordFault}
+use Rattle.yp_rpc.specs.declared.record.RecordFault.TheVariants as faults
+use Rattle.yp_tools.specs.declared.session.Step.{Step}
+use Rattle.yp_tools.specs.declared.session.Step.TheVariants.{Answered, Ended}
 use Rattle.yp_tools.specs.declared.session.End.{End}
 use Rattle.yp_tools.specs.declared.session.End.TheVariants.{Clean, Torn, TooLong, ReadFault, WriteFault, Enough}
 use Rattle.yp_tools.specs.Served.{Served}
@@ -30,7 +34,7 @@ Reads [] old new = Keeps old.input new.input × (new.place ≡ old.place)
 Reads (message ∷ messages) old new =
   (mid : Feed) × TakesRecord CALL_MAX message old.input mid.input old.place mid.place × Reads messages mid new
 
--- Why a session ended, between or inside its records, with what the sink has taken. Counts are before and after.
+-- how often the source and the sink have failed
 pub record Counts : Type 0 where
   pub reads : ℕ
   pub writes : ℕ
@@ -60,3 +64,26 @@ pub record Runs (served : Served) (end : End) (old new : Feed) (output output' :
   pub read : Reads messages old mid
   pub answered : Answers end output output' (answers served messages)
   pub ended : EndsAt end (length messages) mid new before after
+
+-- the end that a fault of a record is
+abbrev pub end_of : RecordFault → End
+end_of (faults.Torn at) = Torn at
+end_of (faults.TooLong at) = TooLong at
+end_of faults.ReadFault = ReadFault
+
+-- a record was read, and this was made of its answer
+pub record IsAnswered (served : Served) (old new : Feed) (P : List ℕ → Type 0) : Type 0 where
+  pub message : List ℕ
+  pub taken : TakesRecord CALL_MAX message old.input new.input old.place new.place
+  pub done : P (sent_reply (reply served message))
+
+-- What a step does: it answers a record, or ends before one, or in an answer that the sink didn't take whole.
+abbrev pub Does : Served → Step → Feed → Feed → Option (List ℕ) → Option (List ℕ) → Counts → Counts → Type 0
+Does served Answered old new output output' before after = IsAnswered served old new (λ bytes. Appends output output' bytes)
+Does served (Ended WriteFault) old new output output' before after =
+  IsAnswered served old new (λ bytes. (n : ℕ) × Appends output output' (take n bytes)) × HasRisen before.writes after.writes
+Does served (Ended Clean) old new output output' before after = Keeps output output' × EndsAt Clean 0 old new before after
+Does served (Ended (Torn at)) old new output output' before after = Keeps output output' × EndsAt (Torn at) 0 old new before after
+Does served (Ended (TooLong at)) old new output output' before after = Keeps output output' × EndsAt (TooLong at) 0 old new before after
+Does served (Ended ReadFault) old new output output' before after = Keeps output output' × EndsAt ReadFault 0 old new before after
+Does served (Ended Enough) old new output output' before after = ⊥
