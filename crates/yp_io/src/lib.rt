@@ -7,9 +7,8 @@
 
 mod mem;
 mod stream;
+#[cfg(test)]
+mod tests;
 
 pub use mem::{MemSink, MemSource, MemWire};
-pub use stream::{Failed, NoMemory, Pair, Peer, Sink, Source, write_all};
-
-
-
+pub use stream::{Failed, NoMemory, Pair, Peer, Sink, Source, count_fault, write_all};

@@ -1,10 +1,46 @@
-ghost use Rattle.std.specs.Prelude.{◌≡◌, ◌+◌, ◌<◌, ◌≤◌, ◌↔◌, ◌++◌, [], min, length, take, drop, Some, Contains, IsErr, IfOk, OnOk, OnErr};
-ghost use Rattle.std.specs.Io.KnownBytes.{Keeps, Appends, ReadConsumes, WriteAppends};
-ghost use Rattle.yp_io.specs.Counts.{CountsFaults, last_count};
+ghost use Rattle.std.specs.Prelude.{◌≡◌, ◌<◌, ◌≤◌, ◌↔◌, [], min, length, drop, Some, Contains, IsErr, IfOk, MatchResult};
+ghost use Rattle.std.specs.Io.KnownBytes.{Keeps, ReadConsumes, WriteAppends};
+ghost use Rattle.yp_io.specs.Counts.{CountsFaults, next_count, faults_after};
 
-use crate::stream::{Failed, Pair, Sink, Source};
+use crate::stream::{Failed, Pair, Sink, Source, count_fault};
 use std::alloc::Global;
 use std::marker::Model;
+
+// Which calls of a form in memory fail, and how many calls and faults there were.
+#[derive(Debug, Drop)]
+struct Plan {
+    failing: Vec<u64>,
+    calls: u64,
+    faults: u64,
+}
+
+impl Plan {
+    fn new(failing: Vec<u64>) -> Plan
+        ensures { result ≡ record { failing = failing; calls = 0; faults = 0 } }
+    {
+        Plan {
+            failing,
+            calls: 0,
+            faults: 0,
+        }
+    }
+
+    // Counts a call, which fails where its number is listed.
+    fn start_call(&mut self) -> Result<(), Failed>
+        ensures fails { IsErr result ↔ Contains self.old.failing.items self.old.calls }
+        ensures counts { self.new ≡ record self.old {
+          calls = next_count self.old.calls;
+          faults = faults_after self.old.faults result;
+        } }
+    {
+        let number = self.calls;
+        self.calls = number.saturating_add(1);
+        if self.failing.contains(&number) {
+            return Err(count_fault(&mut self.faults));
+        }
+        Ok(())
+    }
+}
 
 /// A source in memory, which tells its input.
 #[derive(Debug, Drop)]
@@ -12,9 +48,7 @@ pub struct MemSource {
     bytes: Vec<u8>,
     at: usize,
     piece: usize,
-    failing: Vec<u64>,
-    calls: u64,
-    faults: u64,
+    plan: Plan,
 }
 
 impl Model for MemSource {
@@ -23,7 +57,13 @@ impl Model for MemSource {
 
     ghost Value = { Feed };
 
-    ghost view = { λ s. record { input = drop s.at s.bytes.items; piece = s.piece; failing = s.failing.items; calls = s.calls; faults = s.faults } };
+    ghost view = { λ s. record {
+      input = drop s.at s.bytes.items;
+      piece = s.piece;
+      failing = s.plan.failing.items;
+      calls = s.plan.calls;
+      faults = s.plan.faults;
+    } };
 
     ghost invariant = { λ s. (s.at ≤ length s.bytes.items) × (0 < s.piece) };
 }
@@ -38,9 +78,7 @@ impl MemSource {
             bytes,
             at: 0,
             piece,
-            failing,
-            calls: 0,
-            faults: 0,
+            plan: Plan::new(failing),
         }
     }
 }
@@ -50,13 +88,22 @@ impl Source for MemSource {
 
     ghost faults = { λ s. s.faults };
 
-    fn read(&mut self, buf: &mut [u8]) -> Result<usize, Failed> {
-        let number = self.calls;
-        self.calls = self.calls.saturating_add(1);
-        if self.failing.contains(&number) {
-            self.faults = self.faults.saturating_add(1);
-            return Err(Failed);
-        }
+    fn read(&mut self, buf: &mut [u8]) -> Result<usize, Failed>
+        ensures within { IfOk result (λ n. n ≤ length buf.new) }
+        ensures bytes { ReadConsumes (Some self.old.input) (Some self.new.input) result buf.new }
+        ensures cause { CountsFaults self.old.faults self.new.faults result }
+        ensures fails { IsErr result ↔ Contains self.old.failing self.old.calls }
+        ensures count { IfOk result
+            (λ n. n ≡ min (min self.old.piece (length buf.old)) (length self.old.input)) }
+        ensures beyond { MatchResult result
+            (λ n. drop n buf.new ≡ drop n buf.old) (λ _. buf.new ≡ buf.old) }
+        ensures others { self.new ≡ record self.old {
+          input = self.new.input;
+          calls = next_count self.old.calls;
+          faults = faults_after self.old.faults result;
+        } }
+    {
+        self.plan.start_call()?;
         let left = &self.bytes[self.at..];
         let count = self.piece.min(buf.len()).min(left.len());
         buf[..count].copy_from_slice(&left[..count]);
@@ -70,9 +117,7 @@ impl Source for MemSource {
 pub struct MemSink {
     bytes: Vec<u8>,
     piece: usize,
-    failing: Vec<u64>,
-    calls: u64,
-    faults: u64,
+    plan: Plan,
 }
 
 impl Model for MemSink {
@@ -81,7 +126,13 @@ impl Model for MemSink {
 
     ghost Value = { Drain };
 
-    ghost view = { λ k. record { output = k.bytes.items; piece = k.piece; failing = k.failing.items; calls = k.calls; faults = k.faults } };
+    ghost view = { λ k. record {
+      output = k.bytes.items;
+      piece = k.piece;
+      failing = k.plan.failing.items;
+      calls = k.plan.calls;
+      faults = k.plan.faults;
+    } };
 
     ghost invariant = { λ k. 0 < k.piece };
 }
@@ -95,9 +146,7 @@ impl MemSink {
         MemSink {
             bytes: Vec::new(alloc),
             piece,
-            failing,
-            calls: 0,
-            faults: 0,
+            plan: Plan::new(failing),
         }
     }
 
@@ -107,12 +156,6 @@ impl MemSink {
     {
         &self.bytes
     }
-
-    fn fails(&mut self) -> bool {
-        let number = self.calls;
-        self.calls = self.calls.saturating_add(1);
-        self.failing.contains(&number)
-    }
 }
 
 impl Sink for MemSink {
@@ -120,25 +163,39 @@ impl Sink for MemSink {
 
     ghost faults = { λ k. k.faults };
 
-    fn write(&mut self, piece: &[u8]) -> Result<usize, Failed> {
-        let number = self.calls;
-        self.calls = self.calls.saturating_add(1);
+    /// A write also fails where memory has run out.
+    fn write(&mut self, piece: &[u8]) -> Result<usize, Failed>
+        requires { 0 < length piece.now }
+        ensures some { IfOk result (λ n. 0 < n) }
+        ensures within { IfOk result (λ n. n ≤ length piece.now) }
+        ensures bytes { WriteAppends (Some self.old.output) (Some self.new.output) result piece.now }
+        ensures cause { CountsFaults self.old.faults self.new.faults result }
+        ensures fails { Contains self.old.failing self.old.calls → IsErr result }
+        ensures count { IfOk result (λ n. n ≡ min self.old.piece (length piece.now)) }
+        ensures others { self.new ≡ record self.old {
+          output = self.new.output;
+          calls = next_count self.old.calls;
+          faults = faults_after self.old.faults result;
+        } }
+    {
+        self.plan.start_call()?;
         let count = self.piece.min(piece.len());
-        if self.failing.contains(&number) || self.bytes.extend_from_slice(&piece[..count]).is_err() {
-            self.faults = self.faults.saturating_add(1);
-            return Err(Failed);
+        match self.bytes.extend_from_slice(&piece[..count]) {
+            Ok(()) => Ok(count),
+            Err(_) => Err(count_fault(&mut self.plan.faults)),
         }
-        Ok(count)
     }
 
-    fn flush(&mut self) -> Result<(), Failed> {
-        let number = self.calls;
-        self.calls = self.calls.saturating_add(1);
-        if self.failing.contains(&number) {
-            self.faults = self.faults.saturating_add(1);
-            return Err(Failed);
-        }
-        Ok(())
+    fn flush(&mut self) -> Result<(), Failed>
+        ensures bytes { Keeps (Some self.old.output) (Some self.new.output) }
+        ensures cause { CountsFaults self.old.faults self.new.faults result }
+        ensures fails { IsErr result ↔ Contains self.old.failing self.old.calls }
+        ensures others { self.new ≡ record self.old {
+          calls = next_count self.old.calls;
+          faults = faults_after self.old.faults result;
+        } }
+    {
+        self.plan.start_call()
     }
 }
 

@@ -1,13 +1,14 @@
-// A library with one function.
+//! ONC RPC version 2 over a stream (RFC 5531): records in fragments, and the heads of calls and replies.
+//!
+//! What a record is heard as stands on [`read_call`], and how a reply begins on [`write_reply`].
 #![tactic(auto)]
 
-ghost use Rattle.std.specs.Prelude.{◌≡◌};
-ghost use Rattle.yp_rpc.specs.Echo.{echo_of};
+mod call;
+pub mod laws;
+pub mod protocol;
+mod record;
+mod reply;
 
-// The `ensures` clause is the contract: what `echo` returns is `echo_of` of its argument, a definition
-// in `specs/Echo.antt`, which a caller's clause can cite too.
-pub fn echo(x: usize) -> usize
-    ensures { result ≡ echo_of x }
-{
-    x
-}
+pub use call::{CallHead, Heard, read_call};
+pub use record::{RecordFault, RecordReader, RecordWriter};
+pub use reply::{ReplyHead, write_reply};
