@@ -14,6 +14,7 @@ use Rattle.yp_xdr.specs.Laws.{OneSpelling, NoSpellingBeginsAnother, WrittenIsRea
 use Rattle.yp_xdr.proofs.Words.{bind_ok, guard_ok, ok_is, IsBytes-behind, word_takes, word_again}
 use Rattle.yp_xdr.proofs.Content.{ContentTaken, content_takes, content_again}
 
+-- two spellings of a value are the one that the definition gives
 pub one_spelling : OneSpelling
 one_spelling kind value a b one other = one.spelled ∙ sym other.spelled
 
@@ -50,6 +51,7 @@ again (Sequence first second) value at rest fits =
     let end : at + length a + length b ≡ at + length (a ++ b) = omega (arith, length-append a b) in
     rw (split, again first value.0 at (b ++ rest) fits.0, again second value.1 (at + length a) rest fits.1) (ap (λ (k : ℕ). Ok (value, record { at = k; bytes = rest })) end)
 
+-- any bytes that spell a value are its spelling
 pub written_is_read_again : WrittenIsReadAgain
 written_is_read_again kind value bytes rest at spells =
     let P : List ℕ → Type 0 = λ xs. reading kind (record { at = at; bytes = xs ++ rest }) ≡ Ok (value, record { at = at + length xs; bytes = rest }) in
@@ -57,6 +59,7 @@ written_is_read_again kind value bytes rest at spells =
 
 -- ---- no spelling begins another
 
+-- both values are what reading the longer spelling gives
 pub no_spelling_begins_another : NoSpellingBeginsAnother
 no_spelling_begins_another kind v w a b rest one other same =
     let same_bytes : b ++ [] ≡ a ++ rest = append-nil b ∙ sym same in
@@ -114,6 +117,7 @@ opaque_takes max old new content are_bytes e =
     let g = guard_ok (ltb max b.0.0) (TooLong old.at b.0.0) (content_at old.at b.0.0 b.0.1) (content, new) b.2 in
     begins_opaque max b.0.0 old b.0.1 new content (ltb-false _ _ g.0) (word_takes old b.0.1 b.0.0 are_bytes b.1) (content_takes old.at b.0.0 b.0.1 new content g.1)
 
+-- each kind reads its parts in turn, and their spellings join
 pub read_is_spelled : ReadIsSpelled
 read_is_spelled U32 old new value are_bytes e = word_takes old new value are_bytes e
 read_is_spelled I32 old new value are_bytes e =
@@ -131,6 +135,7 @@ read_is_spelled (Sequence first second) old new value are_bytes e =
 
 -- ---- what is refused is not spelled
 
+-- a value that a front spelled would have been read
 pub refused_is_not_spelled : RefusedIsNotSpelled
 refused_is_not_spelled kind old fault e value front rest spells parts =
     let read : reading kind old ≡ Ok (value, record { at = old.at + length front; bytes = rest }) =
