@@ -1,3 +1,4 @@
 pub mod Sentences
 pub mod Stats
 pub mod Sending
+pub mod Running

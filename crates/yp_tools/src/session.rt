@@ -76,8 +76,9 @@ impl Session {
     {
         let mut reader = RecordReader::new();
         for _ in 0..CALLS_MAX {
-            if let Step::Ended(end) = self.step(&mut reader, service, source, sink) {
-                return end;
+            match self.step(&mut reader, service, source, sink) {
+                Step::Answered => {}
+                Step::Ended(end) => return end,
             }
         }
         End::Enough
