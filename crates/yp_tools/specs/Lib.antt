@@ -4,3 +4,4 @@ pub mod Messages
 pub mod Reply
 pub mod Run
 pub mod Status
+pub mod Once
