@@ -81,8 +81,8 @@ SoFar-more served count old mid new a b c so_far step = record {
 later : (end : End) (count : ℕ) (mid new : Feed) (before between after : Counts) → count < CALLS_MAX → before.reads ≤ between.reads → before.writes ≤ between.writes
     → EndsAt end 0 mid new between after → EndsAt end count mid new before after
 later Clean count mid new before between after few r w h = (h.0, h.1, few)
-later (Torn at) count mid new before between after few r w h = h
-later (TooLong at) count mid new before between after few r w h = h
+later (Torn at) count mid new before between after few r w h = (h.0, h.1, h.2, h.3, h.4, few)
+later (TooLong at) count mid new before between after few r w h = (h.0, h.1, h.2, h.3, few)
 later ReadFault count mid new before between after few r w h = omega (arith, h)
 later WriteFault count mid new before between after few r w h = omega (arith, h)
 later Enough count mid new before between after few r w h = absurd (omega (arith, h))

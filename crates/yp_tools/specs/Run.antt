@@ -42,8 +42,8 @@ pub record Counts : Type 0 where
 -- what is left where the session ended, and how many records were read
 abbrev pub EndsAt : End → ℕ → Feed → Feed → Counts → Counts → Type 0
 EndsAt Clean count mid new before after = IsAtEnd mid.input × IsAtEnd new.input × (count < CALLS_MAX)
-EndsAt (Torn at) count mid new before after = (at ≡ mid.place) × (rest : List ℕ) × IsTorn CALL_MAX rest × Consumes mid.input new.input rest × IsAtEnd new.input
-EndsAt (TooLong at) count mid new before after = (at ≡ mid.place) × (front : List ℕ) × IsTooLong CALL_MAX front × Consumes mid.input new.input front
+EndsAt (Torn at) count mid new before after = (at ≡ mid.place) × (rest : List ℕ) × IsTorn CALL_MAX rest × Consumes mid.input new.input rest × IsAtEnd new.input × (count < CALLS_MAX)
+EndsAt (TooLong at) count mid new before after = (at ≡ mid.place) × (front : List ℕ) × IsTooLong CALL_MAX front × Consumes mid.input new.input front × (count < CALLS_MAX)
 EndsAt ReadFault count mid new before after = HasRisen before.reads after.reads
 EndsAt WriteFault count mid new before after = HasRisen before.writes after.writes
 EndsAt Enough count mid new before after = count ≡ CALLS_MAX
