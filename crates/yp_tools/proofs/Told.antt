@@ -118,3 +118,36 @@ serves_told served ends.WriteFault stream input' output output' place before aft
 serves_told served ends.Enough stream input' output output' place before after h =
     let t = told h.messages (record { input = Some stream; place = 0 }) h.mid stream refl (omega arith) h.read in
     record { messages = h.messages; rest = t.rest; begins = t.begins; done = (h.ended, h.answered) }
+
+-- whichever way it ran, where its input is told
+pub ran_told : (served : Served) (status : Status) (input input' output output' : Option (List ℕ)) (before after : Counts)
+    → Ran served status input input' output output' before after → IfSome input (λ stream. Serves served status stream output output')
+ran_told served status None input' output output' before after h = tt
+ran_told served status (Some stream) input' output output' before after (inl h) =
+    let P : Status → Type 0 = λ s. Serves served s stream output output' in
+    subst P (sym h.0) h.2
+ran_told served status (Some stream) input' output output' before after (inr h) =
+    let P : Status → Type 0 = λ s. Serves served s stream output output' in
+    subst P (sym h.2) (serves_told served h.0 stream input' output output' h.1 before after h.3)
+
+-- ---- whole records
+
+-- whole records are all answered, where nothing failed and memory sufficed
+pub all_answered : (served : Served) (status : Status) (stream : List ℕ) (messages : List (List ℕ)) (output output' : Option (List ℕ)) → Serves served status stream output output'
+    → Cut CALL_MAX stream messages [] → length messages < CALLS_MAX → (status ≡ ReadFault → ⊥) → (status ≡ WriteFault → ⊥) → (status ≡ Done) ⊎ (status ≡ NoMemory)
+all_answered served Done stream messages output output' h cut few reads writes = inl refl
+all_answered served NoMemory stream messages output output' h cut few reads writes = inr refl
+all_answered served (Usage word) stream messages output output' h cut few reads writes = absurd h
+all_answered served ReadFault stream messages output output' h cut few reads writes = absurd (reads refl)
+all_answered served WriteFault stream messages output output' h cut few reads writes = absurd (writes refl)
+all_answered served Enough stream messages output output' h cut few reads writes =
+    absurd (omega (arith, begins_few messages h.messages stream h.rest h.begins cut, h.done.0))
+all_answered served (Torn at) stream messages output output' h cut few reads writes =
+    absurd (torn_is_some CALL_MAX h.0 h.2 (sym (cut_one CALL_MAX stream messages h.1.messages [] h.0 (omega arith) cut h.1.cut).1))
+all_answered served (TooLong at) stream messages output output' h cut few reads writes =
+    absurd (long_is_some CALL_MAX h.0 h.2 (sym (cut_one CALL_MAX stream messages h.1.messages [] h.0 (omega arith) cut h.1.cut).1))
+
+-- what holds of a told value
+pub at_some : (o : Option (List ℕ)) (x : List ℕ) (P : List ℕ → Type 0) → o ≡ Some x → IfSome o P → P x
+at_some None x P e h = absurd cc
+at_some (Some y) x P e h = let same : y ≡ x = cc in subst P same h

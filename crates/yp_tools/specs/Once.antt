@@ -9,6 +9,7 @@ use Rattle.yp_tools.specs.declared.session.End.TheVariants as ends
 use Rattle.yp_tools.specs.declared.status.Status.{Status}
 use Rattle.yp_tools.specs.declared.status.Status.TheVariants.{Done, Usage, ReadFault, WriteFault, Torn, TooLong, NoMemory, Enough}
 use Rattle.yp_tools.specs.Served.{Served}
+use Rattle.yp_tools.specs.Words.{Meaning, Once}
 use Rattle.yp_tools.specs.Run.{Feed, Counts, Runs, answers}
 
 -- the status of a session that ended so
@@ -60,3 +61,6 @@ abbrev pub Ran : Served → Status → Option (List ℕ) → Option (List ℕ) �
 Ran served status input input' output output' before after =
   ((status ≡ NoMemory) × Keeps input input' × Keeps output output')
   ⊎ ((end : End) × (place : ℕ) × (status ≡ status_of end) × Runs served end (record { input = input; place = 0 }) (record { input = input'; place = place }) output output' before after)
+
+abbrev pub RanCommand : Meaning → Status → Option (List ℕ) → Option (List ℕ) → Option (List ℕ) → Option (List ℕ) → Counts → Counts → Type 0
+RanCommand (Once served) status input input' output output' before after = Ran served status input input' output output' before after

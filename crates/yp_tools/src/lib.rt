@@ -4,13 +4,13 @@
 mod answer;
 mod command;
 mod messages;
+mod program;
 mod protocol;
-mod run;
 mod session;
 mod status;
 mod words;
 
 pub use command::{Command, KeyValue, MapName};
-pub use run::Outside;
+pub use program::{Outside, run};
 pub use status::Status;
 pub use words::{ParseFault, parse};
