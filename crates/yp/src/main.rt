@@ -1,25 +1,29 @@
-//! Copies standard input to standard output.
+//! The program: its words, and the standard streams.
 #![tactic(auto)]
 
-use streams::{BlockReader, DirectWriter};
-use yp_io::{Failed, Sink, Source, write_all};
+use std::process::ExitCode;
+use streams::{BlockReader, DirectWriter, StandardStream};
+use words::words;
+use yp_tools::{Outside, Status, run, tell};
 
 mod streams;
+mod words;
 
-fn copy<S: Source, K: Sink>(source: &mut S, sink: &mut K) -> Result<(), Failed> {
-    let mut buf = [0; 4096];
-    for _ in 0..u64::MAX {
-        let count = source.read(&mut buf)?;
-        if count == 0 {
-            break;
-        }
-        write_all(sink, &buf[..count])?;
-    }
-    sink.flush()
-}
-
-fn main(rt: HostRuntime) -> Result<(), Failed> {
-    let mut source = BlockReader::new(rt.alloc(), rt.stdin()).map_err(|_| Failed)?;
-    let mut sink = DirectWriter::new(rt.stdout());
-    copy(&mut source, &mut sink)
+fn main(rt: HostRuntime) -> ExitCode {
+    let mut notes = DirectWriter::new(StandardStream::Error(rt.stderr()));
+    let (Ok(words), Ok(input)) = (
+        words(&rt, rt.alloc()),
+        BlockReader::new(rt.alloc(), rt.stdin()),
+    ) else {
+        tell(&mut notes, Status::NoMemory);
+        return ExitCode::from(Status::NoMemory.code());
+    };
+    let output = DirectWriter::new(StandardStream::Output(rt.stdout()));
+    let outside = Outside {
+        input,
+        output,
+        notes,
+    };
+    let (status, _outside) = run(rt.alloc(), &words, outside);
+    ExitCode::from(status.code())
 }

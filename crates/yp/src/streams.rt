@@ -1,13 +1,13 @@
 //! The standard streams as a source and as sinks.
 ghost use Rattle.std.specs.Prelude.{◌≡◌, ◌≢◌, ◌<◌, ◌≤◌, length, IfOk, IfErr, OnErr};
-ghost use Rattle.std.specs.Io.{ReadsAtMost};
+ghost use Rattle.std.specs.Io.{ReadsAtMost, WritesAtMost};
 ghost use Rattle.std.specs.Io.KnownBytes.{Keeps, ReadConsumes, WriteAppends};
 ghost use Rattle.std.specs.Io.Buffered.{reader_remaining};
 ghost use Rattle.std.specs.IoError.{error_kind};
 
 use std::alloc::Global;
 use std::io;
-use std::io::{BufReader, ErrorKind, Read, Write};
+use std::io::{BufReader, ErrorKind, Read, Stderr, Stdout, Write};
 use yp_io::{Failed, NoMemory, Sink, Source, count_fault};
 
 // How many bytes one system call asks for.
@@ -61,8 +61,22 @@ fn read_uninterrupted<R: Read>(reader: &mut R, buf: &mut [u8]) -> io::Result<usi
     Err(ErrorKind::TimedOut.into())
 }
 
-/// A writer as a sink. Each write is one write of the writer, with no buffer between. One that a signal interrupts
-/// fails.
+// One write, tried again where a signal interrupted it.
+fn write_uninterrupted<W: Write>(writer: &mut W, piece: &[u8]) -> io::Result<usize>
+    ensures within { WritesAtMost result piece.now }
+    ensures bytes { WriteAppends (W.contents writer.old) (W.contents writer.new) result piece.now }
+    ensures retried { IfErr result (λ e. error_kind e ≢ ErrorKind.Interrupted) }
+{
+    for _ in 0..u64::MAX {
+        match writer.write(piece) {
+            Err(error) if error.kind() == ErrorKind::Interrupted => {}
+            answer => return answer,
+        }
+    }
+    Err(ErrorKind::TimedOut.into())
+}
+
+/// A writer as a sink. Each write is one write of the writer, with no buffer between.
 #[derive(Drop)]
 pub struct DirectWriter<W> {
     writer: W,
@@ -85,7 +99,7 @@ impl<W: Write> Sink for DirectWriter<W> {
 
     // A write that takes nothing fails, as it does in std's `write_all`.
     fn write(&mut self, piece: &[u8]) -> Result<usize, Failed> {
-        match self.writer.write(piece) {
+        match write_uninterrupted(&mut self.writer, piece) {
             Ok(count) if count > 0 => Ok(count),
             _ => Err(count_fault(&mut self.faults)),
         }
@@ -95,6 +109,29 @@ impl<W: Write> Sink for DirectWriter<W> {
         match self.writer.flush() {
             Ok(()) => Ok(()),
             Err(_) => Err(count_fault(&mut self.faults)),
+        }
+    }
+}
+
+/// Standard output or standard error.
+#[derive(Drop)]
+pub enum StandardStream {
+    Output(Stdout),
+    Error(Stderr),
+}
+
+impl Write for StandardStream {
+    fn write(&mut self, buf: &[u8]) -> io::Result<usize> {
+        match self {
+            StandardStream::Output(stream) => stream.write(buf),
+            StandardStream::Error(stream) => stream.write(buf),
+        }
+    }
+
+    fn flush(&mut self) -> io::Result<()> {
+        match self {
+            StandardStream::Output(stream) => stream.flush(),
+            StandardStream::Error(stream) => stream.flush(),
         }
     }
 }

@@ -25,7 +25,7 @@ status_of ends.Enough = Enough
 abbrev pub Begins : List ℕ → List (List ℕ) → List ℕ → Type 0
 Begins stream [] rest = stream ≡ rest
 Begins stream (message ∷ messages) rest =
-  (bytes more : List ℕ) × Fragments CALL_MAX message bytes × (stream ≡ bytes ++ more) × Begins more messages rest
+    (bytes more : List ℕ) × Fragments CALL_MAX message bytes × (stream ≡ bytes ++ more) × Begins more messages rest
 
 -- the place of the rest in the stream
 abbrev pub place_of : List ℕ → List ℕ → ℕ
@@ -59,8 +59,8 @@ Serves served (Usage word) stream output output' = ⊥
 -- A session ran, or there was no memory for it and nothing was read or written.
 abbrev pub Ran : Served → Status → Option (List ℕ) → Option (List ℕ) → Option (List ℕ) → Option (List ℕ) → Counts → Counts → Type 0
 Ran served status input input' output output' before after =
-  ((status ≡ NoMemory) × Keeps input input' × Keeps output output')
-  ⊎ ((end : End) × (place : ℕ) × (status ≡ status_of end) × Runs served end (record { input = input; place = 0 }) (record { input = input'; place = place }) output output' before after)
+    ((status ≡ NoMemory) × Keeps input input' × Keeps output output')
+    ⊎ ((end : End) × (place : ℕ) × (status ≡ status_of end) × Runs served end (record { input = input; place = 0 }) (record { input = input'; place = place }) output output' before after)
 
 abbrev pub RanCommand : Meaning → Status → Option (List ℕ) → Option (List ℕ) → Option (List ℕ) → Option (List ℕ) → Counts → Counts → Type 0
 RanCommand (Once served) status input input' output output' before after = Ran served status input input' output output' before after

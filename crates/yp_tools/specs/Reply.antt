@@ -37,33 +37,33 @@ looked_up (Some value) = (True, value)
 -- what MATCH gives: the first refusal of the domain and the map, or what the key has
 abbrev pub matched : Served → Value req_key → YpStat × List ℕ
 matched served asked =
-  if length asked.0 == 0 || length asked.1.0 == 0 then (Badargs, [])
-  else (if not (bytes_eq asked.0 served.domain) then (Nodom, [])
-  else (if not (bytes_eq asked.1.0 served.map) then (Nomap, [])
-  else looked_up (value_of asked.1.1 served.rows)))
+    if length asked.0 == 0 || length asked.1.0 == 0 then (Badargs, [])
+    else (if not (bytes_eq asked.0 served.domain) then (Nodom, [])
+    else (if not (bytes_eq asked.1.0 served.map) then (Nomap, [])
+    else looked_up (value_of asked.1.1 served.rows)))
 
 -- why a call isn't let to its procedure, the first reason that applies
 abbrev pub refusal : CallHead → Option ReplyHead
 refusal call =
-  if not (call.flavor == AUTH_NONE) && not (call.flavor == AUTH_SYS) then Some (AuthError AUTH_REJECTEDCRED)
-  else (if not (call.prog == YPPROG) then Some ProgUnavail
-  else (if not (call.vers == YPVERS) then Some (ProgMismatch YPVERS YPVERS)
-  else (if not (call.procedure == NULL) && not (call.procedure == MATCH) then Some ProcUnavail
-  else None)))
+    if not (call.flavor == AUTH_NONE) && not (call.flavor == AUTH_SYS) then Some (AuthError AUTH_REJECTEDCRED)
+    else (if not (call.prog == YPPROG) then Some ProgUnavail
+    else (if not (call.vers == YPVERS) then Some (ProgMismatch YPVERS YPVERS)
+    else (if not (call.procedure == NULL) && not (call.procedure == MATCH) then Some ProcUnavail
+    else None)))
 
 -- the reply to MATCH, whose arguments were read so
 abbrev pub match_reply : Served → ℕ → Result (Value req_key × Unread) XdrFault → List ℕ
 match_reply served xid (Ok read) =
-  let found = matched served read.0 in reply_head xid Success ++ spelling resp_val (resp_val_of found.0 found.1)
+    let found = matched served read.0 in reply_head xid Success ++ spelling resp_val (resp_val_of found.0 found.1)
 match_reply served xid (Err fault) = reply_head xid GarbageArgs
 
 -- the reply to a call with these arguments, which other bytes may follow
 abbrev pub call_reply : Served → CallHead → List ℕ → Option ReplyHead → List ℕ
 call_reply served call arguments (Some head) = reply_head call.xid head
 call_reply served call arguments None =
-  if call.procedure == NULL
-  then reply_head call.xid Success
-  else match_reply served call.xid (reading req_key (record { at = 0; bytes = arguments }))
+    if call.procedure == NULL
+    then reply_head call.xid Success
+    else match_reply served call.xid (reading req_key (record { at = 0; bytes = arguments }))
 
 abbrev pub heard_reply : Served → List ℕ → Heard → Option (List ℕ)
 heard_reply served message Noise = None

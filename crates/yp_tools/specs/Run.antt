@@ -32,7 +32,7 @@ pub record Feed : Type 0 where
 abbrev pub Reads : List (List ℕ) → Feed → Feed → Type 0
 Reads [] old new = Keeps old.input new.input × (new.place ≡ old.place)
 Reads (message ∷ messages) old new =
-  (mid : Feed) × TakesRecord CALL_MAX message old.input mid.input old.place mid.place × Reads messages mid new
+    (mid : Feed) × TakesRecord CALL_MAX message old.input mid.input old.place mid.place × Reads messages mid new
 
 -- how often the source and the sink have failed
 pub record Counts : Type 0 where
@@ -81,7 +81,7 @@ pub record IsAnswered (served : Served) (old new : Feed) (P : List ℕ → Type 
 abbrev pub Does : Served → Step → Feed → Feed → Option (List ℕ) → Option (List ℕ) → Counts → Counts → Type 0
 Does served Answered old new output output' before after = IsAnswered served old new (λ bytes. Appends output output' bytes)
 Does served (Ended WriteFault) old new output output' before after =
-  IsAnswered served old new (λ bytes. (n : ℕ) × Appends output output' (take n bytes)) × HasRisen before.writes after.writes
+    IsAnswered served old new (λ bytes. (n : ℕ) × Appends output output' (take n bytes)) × HasRisen before.writes after.writes
 Does served (Ended Clean) old new output output' before after = Keeps output output' × EndsAt Clean 0 old new before after
 Does served (Ended (Torn at)) old new output output' before after = Keeps output output' × EndsAt (Torn at) 0 old new before after
 Does served (Ended (TooLong at)) old new output output' before after = Keeps output output' × EndsAt (TooLong at) 0 old new before after

@@ -37,7 +37,7 @@ is_store word = is_name (before 47 word) && is_name (after 47 word)
 -- a row: a key, which isn't empty, and its value behind the first equals sign
 abbrev pub is_row : List ℕ → Bool
 is_row word =
-  nat_lt (length (before 61 word)) (length word) && nat_le 1 (length (before 61 word)) && nat_le (length (before 61 word)) KEY_MAX && nat_le (length (after 61 word)) VALUE_MAX
+    nat_lt (length (before 61 word)) (length word) && nat_le 1 (length (before 61 word)) && nat_le (length (before 61 word)) KEY_MAX && nat_le (length (after 61 word)) VALUE_MAX
 
 pub data Form : Type 0 where
   -- this very word

@@ -10,9 +10,9 @@ ghost use Rattle.yp_tools.specs.declared.protocol.TheConstants.{VALUE_MAX, CALL_
 ghost use Rattle.yp_tools.specs.Messages.{req_key, req_key_view};
 ghost use Rattle.yp_tools.specs.Reply.{served, value_of, matched, refusal, call_reply, match_reply, reply};
 
-use crate::protocol::{MATCH, NULL, YPPROG, YPVERS};
-use crate::messages::{ReqKey, RespVal, YpStat};
 use crate::command::{KeyValue, MapName};
+use crate::messages::{ReqKey, RespVal, YpStat};
+use crate::protocol::{MATCH, NULL, YPPROG, YPVERS};
 use yp_rpc::protocol::{AUTH_NONE, AUTH_REJECTEDCRED, AUTH_SYS, RPC_VERSION};
 use yp_rpc::{CallHead, Heard, ReplyHead, read_call, write_reply};
 use yp_xdr::{Cursor, NoRoom};

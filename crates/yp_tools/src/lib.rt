@@ -11,6 +11,6 @@ mod status;
 mod words;
 
 pub use command::{Command, KeyValue, MapName};
-pub use program::{Outside, run};
+pub use program::{Outside, run, tell};
 pub use status::Status;
 pub use words::{ParseFault, parse};

@@ -104,7 +104,7 @@ fn run_words<S: Source, K: Sink>(
 }
 
 /// Tells a status in one line, if it has one. A failed write is dropped.
-fn tell<K: Sink>(notes: &mut K, status: Status)
+pub fn tell<K: Sink>(notes: &mut K, status: Status)
     ensures { ¬ HasRisen (K.faults notes.old) (K.faults notes.new) → Appends (K.output notes.old) (K.output notes.new) (note status) }
 {
     let _ = write_all(notes, status.note().as_bytes());

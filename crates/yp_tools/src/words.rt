@@ -24,10 +24,7 @@ fn is_name(word: &str) -> bool
     ensures { result ≡ is_name word.now }
 {
     let bytes = word.as_bytes();
-    !bytes.is_empty()
-        && bytes.len() <= NAME_MAX
-        && bytes[0] != b'.'
-        && are_name_bytes(bytes)
+    !bytes.is_empty() && bytes.len() <= NAME_MAX && bytes[0] != b'.' && are_name_bytes(bytes)
 }
 
 fn are_name_bytes(bytes: &[u8]) -> bool

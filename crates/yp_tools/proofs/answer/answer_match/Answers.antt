@@ -19,7 +19,7 @@ returns-in-Ok-write c =
     let found = c.matched-found in
     let written : Result (Value req_key × Unread) XdrFault → Type 0 = λ read. Writes (match_reply service c.args.xid read) 0 (Ok c.in-Ok-write.end) c.args.buf.now c.write.new.buf in
     let read : reading req_key (record { at = 0; bytes = c.args.arguments.now }) ≡ Ok (req_key_view c.in-Ok.asked, record { at = c.read.new.cursor.at; bytes = c.read.new.cursor.rest.now }) =
-        sym (ap (reading req_key) c.new-cursor.ensures) ∙ c.in-Ok.ensures in
+    sym (ap (reading req_key) c.new-cursor.ensures) ∙ c.in-Ok.ensures in
     let asked = req_key_view c.in-Ok.asked in
     let head = reply_head c.args.xid Success in
     let with_stat : YpStat → Type 0 = λ stat. Writes (head ++ spelling resp_val (resp_val_of stat found.result.val.now)) 0 (Ok c.in-Ok-write.end) c.args.buf.now c.write.new.buf in
@@ -28,6 +28,6 @@ returns-in-Ok-write c =
     let fits = c.in-Ok-write.ensures.written.place in
     let room : 0 + length (head ++ body) ≤ length c.args.buf.now = omega (arith, length-append head body, fits.0, fits.1, c.put_head-at.ensures.head.place.0) in
     subst written (sym read)
-        (subst with_val found.ensures.val
-        (subst with_stat found.ensures.stat
-        (writes_then {one = head} {other = body} room c.put_head-at.ensures.head (λ _. c.in-Ok-write.ensures.written))))
+    (subst with_val found.ensures.val
+    (subst with_stat found.ensures.stat
+    (writes_then {one = head} {other = body} room c.put_head-at.ensures.head (λ _. c.in-Ok-write.ensures.written))))

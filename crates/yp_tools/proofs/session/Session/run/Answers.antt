@@ -13,12 +13,15 @@ returns-in-Ended g c =
     let step = c.step.new in
     let so_far = c.loop.invariant in
     record {
-      runs = (step.reader, Runs-ended (served c.args.service.now) c.in-Ended.end c.loop.counter (record { input = input c.args.source.now; place = 0 })
-        (record { input = input c.loop.source; place = c.loop.reader }) (record { input = input step.source; place = step.reader })
-        (output c.args.sink.now) (output c.loop.sink) (output step.sink)
-        (record { reads = reads c.args.source.now; writes = writes c.args.sink.now }) (record { reads = reads c.loop.source; writes = writes c.loop.sink })
-        (record { reads = reads step.source; writes = writes step.sink })
-        so_far.so_far c.loop-test.true so_far.reads so_far.writes c.in-Ended.ensures.does);
+      runs = (
+        step.reader,
+        Runs-ended (served c.args.service.now) c.in-Ended.end c.loop.counter (record { input = input c.args.source.now; place = 0 })
+            (record { input = input c.loop.source; place = c.loop.reader }) (record { input = input step.source; place = step.reader })
+            (output c.args.sink.now) (output c.loop.sink) (output step.sink)
+            (record { reads = reads c.args.source.now; writes = writes c.args.sink.now }) (record { reads = reads c.loop.source; writes = writes c.loop.sink })
+            (record { reads = reads step.source; writes = writes step.sink })
+            so_far.so_far c.loop-test.true so_far.reads so_far.writes c.in-Ended.ensures.does,
+      );
     }
 
 pub loop-preserved : goal.loop-preserved
@@ -29,8 +32,8 @@ loop-preserved g c =
     let so_far = c.loop.invariant in
     record {
       so_far = SoFar-more (served c.args.service.now) c.loop.counter (record { input = input c.args.source.now; place = 0 })
-        (record { input = input c.loop.source; place = c.loop.reader }) (record { input = input step.source; place = step.reader })
-        (output c.args.sink.now) (output c.loop.sink) (output step.sink) so_far.so_far c.in-Answered.ensures.does;
+          (record { input = input c.loop.source; place = c.loop.reader }) (record { input = input step.source; place = step.reader })
+          (output c.args.sink.now) (output c.loop.sink) (output step.sink) so_far.so_far c.in-Answered.ensures.does;
       reads = omega (arith, so_far.reads, c.in-Answered.ensures.reads);
       writes = omega (arith, so_far.writes, c.in-Answered.ensures.writes);
     }
