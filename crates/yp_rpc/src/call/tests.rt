@@ -86,15 +86,12 @@ fn credentials_and_verifiers(rt: HostRuntime) -> Result<(), Fail> {
         // The arguments stand behind the verifier and its padding.
         (&[0, 0, 1, 8, 0x0102_0304, 0x0506_0708], null_call(0, 48)),
         (&[0, 0, 9, 5, 0x0102_0304, 0x0500_0000, 7], null_call(0, 48)),
-        (
-            &[2, 3, 0x6c61_6200, 9, 1, 0x6c00_0000, 7],
-            null_call(2, 48),
-        ),
+        (&[2, 3, 0x6c61_6200, 9, 1, 0x6c00_0000, 7], null_call(2, 48)),
     ];
     for (words, heard) in cases {
         let mut bytes = bytes_of(rt.alloc(), &[u32::MAX, 0, 2, 100_004, 1, 0])?;
         bytes.extend_from_slice(&bytes_of(rt.alloc(), words)?)?;
-        assert_eq!(rt; read_call(&bytes), heard);
+        assert_eq!(rt; read_call(&bytes), heard, "of {words:?}");
     }
     Ok(())
 }
@@ -113,9 +110,9 @@ fn at_the_limit_of_a_body(rt: HostRuntime) -> Result<(), Fail> {
         let mut bytes = bytes_of(rt.alloc(), &[u32::MAX, 0, 2, 100_004, 1, 0])?;
         bytes.extend_from_slice(&bytes_of(rt.alloc(), flavors)?)?;
         bytes.extend_from_slice(&len.to_be_bytes())?;
-        // More zeros than any of these bodies with a verifier behind it needs.
+        // Zeros, enough for 401 bytes with their padding and for a verifier behind them.
         bytes.extend_from_slice(&[0; 800])?;
-        assert_eq!(rt; read_call(&bytes), heard, "a body of {len}");
+        assert_eq!(rt; read_call(&bytes), heard, "with a body of {len}");
     }
     Ok(())
 }
@@ -136,9 +133,9 @@ fn other_versions_of_rpc(rt: HostRuntime) -> Result<(), Fail> {
     ];
     for (words, heard) in cases {
         let mut bytes = bytes_of(rt.alloc(), words)?;
-        assert_eq!(rt; read_call(&bytes), heard);
+        assert_eq!(rt; read_call(&bytes), heard, "of {words:?}");
         bytes.push(0xff)?;
-        assert_eq!(rt; read_call(&bytes), heard);
+        assert_eq!(rt; read_call(&bytes), heard, "of {words:?} and a byte");
     }
     Ok(())
 }
@@ -148,7 +145,7 @@ fn noise(rt: HostRuntime) -> Result<(), Fail> {
     let cases: [&[u32]; 14] = [
         &[],
         &[1, 0],
-        // Replies, and messages of another type.
+        // Replies, and messages that are neither calls nor replies.
         &[1, 1, 2, 100_004, 2, 3, 0, 0, 0, 0],
         &[1, 1, 3],
         &[1, 1, 0, 0, 0, 0],
@@ -164,9 +161,9 @@ fn noise(rt: HostRuntime) -> Result<(), Fail> {
         &[1, 0, 2, 100_004, 2, 3, 1, 1, 0x6c01_0000, 0, 0],
         &[1, 0, 2, 100_004, 2, 3, 0, 0, 1, 2, 0x6c61_0100],
     ];
-    for (case, words) in cases.iter().enumerate() {
+    for words in cases {
         let bytes = bytes_of(rt.alloc(), words)?;
-        assert_eq!(rt; read_call(&bytes), Heard::Noise, "in case {case}");
+        assert_eq!(rt; read_call(&bytes), Heard::Noise, "of {words:?}");
     }
     Ok(())
 }
