@@ -6,15 +6,14 @@ use Rattle.yp_xdr.specs.Reading.{Unread, reading}
 use Rattle.yp_rpc.specs.declared.call.CallHead.{CallHead}
 use Rattle.yp_rpc.specs.declared.call.Heard.{Heard}
 use Rattle.yp_rpc.specs.declared.call.Heard.TheVariants.{Call, WrongRpc, Noise}
-use Rattle.yp_rpc.specs.declared.protocol.TheConstants.{CALL, RPC_VERSION, AUTH_MAX}
 
 -- the transaction's number, the type of the message, and the version of RPC
 abbrev pub front_kind : Kind
 front_kind = Sequence U32 (Sequence U32 U32)
 
--- a credential or a verifier: its flavor and its body
+-- a credential or a verifier: its flavor and its body of at most 400 bytes
 abbrev pub auth_kind : Kind
-auth_kind = Sequence U32 (Opaque AUTH_MAX)
+auth_kind = Sequence U32 (Opaque 400)
 
 -- the program, its version, the procedure, the credential and the verifier
 abbrev pub procedure_kind : Kind
@@ -30,10 +29,11 @@ abbrev pub heard_procedure : ℕ → Result (Value procedure_kind × Unread) Xdr
 heard_procedure xid (Ok read) = Call (call_head xid read.0 read.1)
 heard_procedure xid (Err fault) = Noise
 
+-- a message whose type is 0, CALL, and whose version of RPC is 2
 abbrev pub heard_front : Result (Value front_kind × Unread) XdrFault → Heard
 heard_front (Ok read) =
-    if read.0.1.0 == CALL
-    then (if read.0.1.1 == RPC_VERSION then heard_procedure read.0.0 (reading procedure_kind read.1) else WrongRpc read.0.0)
+    if read.0.1.0 == 0
+    then (if read.0.1.1 == 2 then heard_procedure read.0.0 (reading procedure_kind read.1) else WrongRpc read.0.0)
     else Noise
 heard_front (Err fault) = Noise
 

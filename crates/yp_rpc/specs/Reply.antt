@@ -4,25 +4,25 @@ use Rattle.std.specs.List.{flat_map}
 use Rattle.yp_xdr.specs.Spelling.{word}
 use Rattle.yp_rpc.specs.declared.reply.ReplyHead.{ReplyHead}
 use Rattle.yp_rpc.specs.declared.reply.ReplyHead.TheVariants.{Success, ProgUnavail, ProgMismatch, ProcUnavail, GarbageArgs, SystemErr, RpcMismatch, AuthError}
-use Rattle.yp_rpc.specs.declared.protocol.TheConstants.{REPLY, MSG_ACCEPTED, MSG_DENIED, AUTH_NONE, SUCCESS, PROG_UNAVAIL, PROG_MISMATCH, PROC_UNAVAIL, GARBAGE_ARGS, SYSTEM_ERR, RPC_MISMATCH, AUTH_ERROR}
 
--- an accepted call: a verifier without a body stands before the status
+-- an accepted call, MSG_ACCEPTED: the verifier AUTH_NONE without a body stands before accept_stat
 abbrev pub accepted : ℕ → ℕ → List ℕ
-accepted xid stat = xid ∷ REPLY ∷ MSG_ACCEPTED ∷ AUTH_NONE ∷ 0 ∷ stat ∷ []
+accepted xid stat = xid ∷ 1 ∷ 0 ∷ 0 ∷ 0 ∷ stat ∷ []
 
--- a denied call
+-- a denied call, MSG_DENIED: reject_stat follows
 abbrev pub denied : ℕ → ℕ → List ℕ
-denied xid stat = xid ∷ REPLY ∷ MSG_DENIED ∷ stat ∷ []
+denied xid stat = xid ∷ 1 ∷ 1 ∷ stat ∷ []
 
+-- the words of each head, with the numbers of accept_stat and reject_stat
 abbrev pub reply_words : ℕ → ReplyHead → List ℕ
-reply_words xid Success = accepted xid SUCCESS
-reply_words xid ProgUnavail = accepted xid PROG_UNAVAIL
-reply_words xid (ProgMismatch low high) = accepted xid PROG_MISMATCH ++ low ∷ high ∷ []
-reply_words xid ProcUnavail = accepted xid PROC_UNAVAIL
-reply_words xid GarbageArgs = accepted xid GARBAGE_ARGS
-reply_words xid SystemErr = accepted xid SYSTEM_ERR
-reply_words xid (RpcMismatch low high) = denied xid RPC_MISMATCH ++ low ∷ high ∷ []
-reply_words xid (AuthError stat) = denied xid AUTH_ERROR ++ stat ∷ []
+reply_words xid Success = accepted xid 0
+reply_words xid ProgUnavail = accepted xid 1
+reply_words xid (ProgMismatch low high) = accepted xid 2 ++ low ∷ high ∷ []
+reply_words xid ProcUnavail = accepted xid 3
+reply_words xid GarbageArgs = accepted xid 4
+reply_words xid SystemErr = accepted xid 5
+reply_words xid (RpcMismatch low high) = denied xid 0 ++ low ∷ high ∷ []
+reply_words xid (AuthError stat) = denied xid 1 ++ stat ∷ []
 
 -- words, one behind the other
 abbrev pub words : List ℕ → List ℕ

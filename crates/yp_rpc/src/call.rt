@@ -132,3 +132,6 @@ pub fn read_call(bytes: &[u8]) -> Heard
         }),
     }
 }
+
+#[cfg(test)]
+mod tests;

@@ -85,3 +85,6 @@ fn put_words(buf: &mut [u8], numbers: &[u32]) -> Result<usize, NoRoom>
     }
     Ok(at)
 }
+
+#[cfg(test)]
+mod tests;
