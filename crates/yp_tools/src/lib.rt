@@ -14,3 +14,6 @@ pub use command::{Command, KeyValue, MapName};
 pub use program::{Outside, run, tell};
 pub use status::Status;
 pub use words::{ParseFault, parse};
+
+#[cfg(test)]
+mod tests;
