@@ -21,14 +21,15 @@ pub struct RecordWriter {
 }
 
 impl Model for RecordWriter {
-    ghost use Rattle.std.specs.Prelude.{◌≡◌, ℕ, ◌≤◌, List, length, take, drop};
+    ghost use Rattle.std.specs.Prelude.{◌≡◌, ℕ, ◌+◌, ◌≤◌, List, length, take, drop};
     ghost use Rattle.yp_rpc.specs.declared.record.TheConstants.{FRAGMENT_MAX};
+    ghost use Rattle.yp_rpc.specs.declared.record.head.TheConstants.{HEAD};
 
     ghost Value = { List ℕ };
 
-    ghost view = { λ w. take w.len (drop 4 w.bytes.items) };
+    ghost view = { λ w. take w.len (drop HEAD w.bytes.items) };
 
-    ghost invariant = { λ w. (length w.bytes.items ≡ 8196) × (w.len ≤ FRAGMENT_MAX) };
+    ghost invariant = { λ w. (length w.bytes.items ≡ HEAD + FRAGMENT_MAX) × (w.len ≤ FRAGMENT_MAX) };
 }
 
 impl RecordWriter {
@@ -125,11 +126,11 @@ fn write_fragment<K: Sink>(
     len: usize,
     last: bool,
 ) -> Result<(), Failed>
-    requires room { 4 + len ≤ length bytes.old }
+    requires room { HEAD + len ≤ length bytes.old }
     requires short { len ≤ FRAGMENT_MAX }
-    ensures sent { OnOk result (Appends (K.output sink.old) (K.output sink.new) (fragment last (take len (drop 4 bytes.old)))) }
-    ensures prefix { OnErr result ((n : ℕ) × (n ≤ length (fragment last (take len (drop 4 bytes.old))))
-        × Appends (K.output sink.old) (K.output sink.new) (take n (fragment last (take len (drop 4 bytes.old))))) }
+    ensures sent { OnOk result (Appends (K.output sink.old) (K.output sink.new) (fragment last (take len (drop HEAD bytes.old)))) }
+    ensures prefix { OnErr result ((n : ℕ) × (n ≤ length (fragment last (take len (drop HEAD bytes.old))))
+        × Appends (K.output sink.old) (K.output sink.new) (take n (fragment last (take len (drop HEAD bytes.old))))) }
     ensures cause { CountsFaults (K.faults sink.old) (K.faults sink.new) result }
 {
     bytes[..HEAD].copy_from_slice(&Head { last, len }.to_bytes());
