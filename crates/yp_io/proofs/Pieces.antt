@@ -1,7 +1,6 @@
 -- Lemmas on pieces of a list that are read or written one after another.
-use Rattle.std.proofs.Common.{◌≡◌, ℕ, ◌+◌, ◌-◌, ◌<◌, ◌≤◌, List, [], ◌++◌, Option, length, take, drop, min, subst, sym, arith, length-append, length-drop, drop-drop, take-append-drop, length-take-le, refl, ◌∙◌}
-use Rattle.std.proofs.lemmas.Grind.{common_steps}
-use Rattle.std.proofs.lemmas.List.{take_at, drop_all, take_rest, drop-take, take-take, length-take}
+use Rattle.std.proofs.Common.{◌≡◌, ℕ, ◌+◌, ◌-◌, ◌≤◌, List, ◌++◌, Option, length, take, drop, sym, arith, length-drop, drop-drop, take-append-drop, length-take-le, refl, ◌∙◌}
+use Rattle.std.proofs.lemmas.List.{take_at, drop-take, take-take}
 use Rattle.std.proofs.KnownBytes.{Appends-trans}
 use Rattle.std.specs.Io.KnownBytes.{Appends}
 

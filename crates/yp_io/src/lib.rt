@@ -11,4 +11,4 @@ mod stream;
 mod tests;
 
 pub use mem::{MemSink, MemSource, MemWire};
-pub use stream::{Failed, NoMemory, Pair, Peer, Sink, Source, write_all};
+pub use stream::{Failed, NoMemory, Pair, Peer, Sink, Source, count_fault, write_all};

@@ -2,7 +2,7 @@ ghost use Rattle.std.specs.Prelude.{◌≡◌, ◌<◌, ◌≤◌, ◌↔◌, []
 ghost use Rattle.std.specs.Io.KnownBytes.{Keeps, ReadConsumes, WriteAppends};
 ghost use Rattle.yp_io.specs.Counts.{CountsFaults, next_count, faults_after};
 
-use crate::stream::{Failed, Pair, Sink, Source};
+use crate::stream::{Failed, Pair, Sink, Source, count_fault};
 use std::alloc::Global;
 use std::marker::Model;
 
@@ -28,22 +28,17 @@ impl Plan {
     // Counts a call, which fails where its number is listed.
     fn start_call(&mut self) -> Result<(), Failed>
         ensures fails { IsErr result ↔ Contains self.old.failing.items self.old.calls }
-        ensures counts { self.new ≡ record self.old { calls = next_count self.old.calls; faults = faults_after self.old.faults result } }
+        ensures counts { self.new ≡ record self.old {
+          calls = next_count self.old.calls;
+          faults = faults_after self.old.faults result;
+        } }
     {
         let number = self.calls;
         self.calls = number.saturating_add(1);
         if self.failing.contains(&number) {
-            return Err(self.fault());
+            return Err(count_fault(&mut self.faults));
         }
         Ok(())
-    }
-
-    // Counts a fault.
-    fn fault(&mut self) -> Failed
-        ensures { self.new ≡ record self.old { faults = next_count self.old.faults } }
-    {
-        self.faults = self.faults.saturating_add(1);
-        Failed
     }
 }
 
@@ -62,7 +57,13 @@ impl Model for MemSource {
 
     ghost Value = { Feed };
 
-    ghost view = { λ s. record { input = drop s.at s.bytes.items; piece = s.piece; failing = s.plan.failing.items; calls = s.plan.calls; faults = s.plan.faults } };
+    ghost view = { λ s. record {
+      input = drop s.at s.bytes.items;
+      piece = s.piece;
+      failing = s.plan.failing.items;
+      calls = s.plan.calls;
+      faults = s.plan.faults;
+    } };
 
     ghost invariant = { λ s. (s.at ≤ length s.bytes.items) × (0 < s.piece) };
 }
@@ -92,9 +93,15 @@ impl Source for MemSource {
         ensures bytes { ReadConsumes (Some self.old.input) (Some self.new.input) result buf.new }
         ensures cause { CountsFaults self.old.faults self.new.faults result }
         ensures fails { IsErr result ↔ Contains self.old.failing self.old.calls }
-        ensures count { IfOk result (λ n. n ≡ min (min self.old.piece (length buf.old)) (length self.old.input)) }
-        ensures beyond { MatchResult result (λ n. drop n buf.new ≡ drop n buf.old) (λ _. buf.new ≡ buf.old) }
-        ensures state { self.new ≡ record self.old { input = self.new.input; calls = next_count self.old.calls; faults = faults_after self.old.faults result } }
+        ensures count { IfOk result
+            (λ n. n ≡ min (min self.old.piece (length buf.old)) (length self.old.input)) }
+        ensures beyond { MatchResult result
+            (λ n. drop n buf.new ≡ drop n buf.old) (λ _. buf.new ≡ buf.old) }
+        ensures others { self.new ≡ record self.old {
+          input = self.new.input;
+          calls = next_count self.old.calls;
+          faults = faults_after self.old.faults result;
+        } }
     {
         self.plan.start_call()?;
         let left = &self.bytes[self.at..];
@@ -119,7 +126,13 @@ impl Model for MemSink {
 
     ghost Value = { Drain };
 
-    ghost view = { λ k. record { output = k.bytes.items; piece = k.piece; failing = k.plan.failing.items; calls = k.plan.calls; faults = k.plan.faults } };
+    ghost view = { λ k. record {
+      output = k.bytes.items;
+      piece = k.piece;
+      failing = k.plan.failing.items;
+      calls = k.plan.calls;
+      faults = k.plan.faults;
+    } };
 
     ghost invariant = { λ k. 0 < k.piece };
 }
@@ -159,13 +172,17 @@ impl Sink for MemSink {
         ensures cause { CountsFaults self.old.faults self.new.faults result }
         ensures fails { Contains self.old.failing self.old.calls → IsErr result }
         ensures count { IfOk result (λ n. n ≡ min self.old.piece (length piece.now)) }
-        ensures state { self.new ≡ record self.old { output = self.new.output; calls = next_count self.old.calls; faults = faults_after self.old.faults result } }
+        ensures others { self.new ≡ record self.old {
+          output = self.new.output;
+          calls = next_count self.old.calls;
+          faults = faults_after self.old.faults result;
+        } }
     {
         self.plan.start_call()?;
         let count = self.piece.min(piece.len());
         match self.bytes.extend_from_slice(&piece[..count]) {
             Ok(()) => Ok(count),
-            Err(_) => Err(self.plan.fault()),
+            Err(_) => Err(count_fault(&mut self.plan.faults)),
         }
     }
 
@@ -173,7 +190,10 @@ impl Sink for MemSink {
         ensures bytes { Keeps (Some self.old.output) (Some self.new.output) }
         ensures cause { CountsFaults self.old.faults self.new.faults result }
         ensures fails { IsErr result ↔ Contains self.old.failing self.old.calls }
-        ensures state { self.new ≡ record self.old { calls = next_count self.old.calls; faults = faults_after self.old.faults result } }
+        ensures others { self.new ≡ record self.old {
+          calls = next_count self.old.calls;
+          faults = faults_after self.old.faults result;
+        } }
     {
         self.plan.start_call()
     }

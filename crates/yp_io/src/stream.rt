@@ -1,6 +1,6 @@
-ghost use Rattle.std.specs.Prelude.{ℕ, ◌<◌, ◌≤◌, List, length, take, Option, IfOk, OnOk, OnErr};
+ghost use Rattle.std.specs.Prelude.{◌≡◌, ℕ, ◌<◌, ◌≤◌, List, length, take, Option, IfOk, OnOk, OnErr};
 ghost use Rattle.std.specs.Io.KnownBytes.{Keeps, Appends, ReadConsumes, WriteAppends};
-ghost use Rattle.yp_io.specs.Counts.{CountsFaults};
+ghost use Rattle.yp_io.specs.Counts.{CountsFaults, next_count};
 
 /// An object of the outside failed. Its count of faults rose in that call.
 #[derive(Clone, Copy, Debug, PartialEq, Eq)]
@@ -15,6 +15,15 @@ pub struct NoMemory;
 pub struct Peer {
     pub addr: [u8; 4],
     pub port: u16,
+}
+
+/// Raises a count of faults, which stays at 2^64 - 1, and gives what the call that failed answers.
+pub fn count_fault(faults: &mut u64) -> Failed
+    ensures raised { faults.new ≡ next_count faults.old }
+    ensures never_falls { faults.old ≤ faults.new }
+{
+    *faults = faults.saturating_add(1);
+    Failed
 }
 
 /// Where bytes come from.

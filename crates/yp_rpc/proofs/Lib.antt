@@ -1,3 +1,11 @@
+pub mod Words
+pub mod CutHead
+pub mod CutPieces
+pub mod CutKinds
+pub mod CutOne
+pub mod CutNext
+pub mod CutExists
+pub mod Inside
 pub mod Stream
 pub mod Fragments
 pub mod Sending

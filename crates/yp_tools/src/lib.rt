@@ -1,13 +1,16 @@
-// A library with one function.
+//! The commands of Pinthou, and the one call that does all that the program does.
 #![tactic(auto)]
 
-ghost use Rattle.std.specs.Prelude.{◌≡◌};
-ghost use Rattle.yp_tools.specs.Echo.{echo_of};
+mod answer;
+mod command;
+mod messages;
+mod protocol;
+mod run;
+mod session;
+mod status;
+mod words;
 
-// The `ensures` clause is the contract: what `echo` returns is `echo_of` of its argument, a definition
-// in `specs/Echo.antt`, which a caller's clause can cite too.
-pub fn echo(x: usize) -> usize
-    ensures { result ≡ echo_of x }
-{
-    x
-}
+pub use command::{Command, KeyValue, MapName};
+pub use run::Outside;
+pub use status::Status;
+pub use words::{ParseFault, parse};

@@ -1,5 +1,5 @@
 -- One write after another is one write.
-use Rattle.std.proofs.Common.{◌≡◌, ℕ, ◌+◌, ◌-◌, ◌<◌, ◌≤◌, List, [], ◌∷◌, ◌++◌, length, take, drop, Result, Ok, Err, refl, sym, ap, ◌∙◌, append_assoc, arith, rules}
+use Rattle.std.proofs.Common.{◌≡◌, ℕ, ◌+◌, ◌≤◌, List, ◌++◌, length, take, drop, Result, Ok, Err, refl, ◌∙◌, append_assoc, arith}
 use Rattle.std.proofs.lemmas.List.{length-append, length-take, length-drop, take_at}
 use Rattle.std.proofs.lemmas.Slice.{drop-append-drop}
 use Rattle.yp_xdr.specs.declared.fault.NoRoom.{NoRoom}
@@ -19,18 +19,26 @@ written-written buf at one other fits =
     let place : at + length one + length other ≡ at + length (one ++ other) = omega (arith, length-append one other) in
     rw (first, behind, place, append_assoc (take at buf) one other) refl
 
--- two writes that fit are one that fits
-pub writes_then : (one other : List ℕ) (at mid : ℕ) (result : Result ℕ NoRoom) (old half new : List ℕ)
-    → at + length one + length other ≤ length old → Writes one at (Ok mid) old half → Writes other mid result half new → Writes (one ++ other) at result old new
-writes_then one other at mid (Ok end) old half new room first second =
+-- two writes, of which the second fits behind the first
+both : (one other : List ℕ) (at mid : ℕ) (result : Result ℕ NoRoom) (old half new : List ℕ)
+    → at + length (one ++ other) ≤ length old → Writes one at (Ok mid) old half → Writes other mid result half new → Writes (one ++ other) at result old new
+both one other at mid (Ok end) old half new room first second =
     let len = length-append one other in
-    let kept : length half ≡ length old = rw first.bytes_there (length-written old at one (omega arith)) in
     record {
-      place = (omega (arith, first.place.0, second.place.0), omega (arith, second.place.1));
+      place = (omega (arith, first.place.0, second.place.0), omega (arith, first.place.0, second.place.0));
       bytes_there = second.bytes_there ∙ rw (first.bytes_there, first.place.0) (written-written old at one other (omega arith));
       no_room = tt;
       unchanged = tt;
     }
-writes_then one other at mid (Err fault) old half new room first second =
+both one other at mid (Err fault) old half new room first second =
+    let len = length-append one other in
     let kept : length half ≡ length old = rw first.bytes_there (length-written old at one (omega arith)) in
     absurd (omega (arith, second.no_room, first.place.0))
+
+-- Two writes that fit are one that fits; the second may rest on the room that the first left.
+pub writes_then : {one other : List ℕ} {at mid : ℕ} {result : Result ℕ NoRoom} {old half new : List ℕ}
+    → at + length (one ++ other) ≤ length old → Writes one at (Ok mid) old half → (mid + length other ≤ length half → Writes other mid result half new) → Writes (one ++ other) at result old new
+writes_then {one = one} {other = other} {at = at} {mid = mid} {result = result} {old = old} {half = half} {new = new} room first second =
+    let len = length-append one other in
+    let kept : length half ≡ length old = rw first.bytes_there (length-written old at one (omega arith)) in
+    both one other at mid result old half new room first (second (omega (arith, first.place.0)))

@@ -1,5 +1,5 @@
 -- How each value is spelled in bytes, by RFC 4506 sections 3 and 4.
-use Rattle.std.specs.Prelude.{◌≡◌, ℕ, ◌+◌, ◌-◌, ◌%◌, ◌^◌, ◌<◌, ◌≤◌, ℤ, List, ◌++◌, length, replicate, FitsSigned}
+use Rattle.std.specs.Prelude.{◌≡◌, ℕ, ◌-◌, ◌%◌, ◌^◌, ◌<◌, ◌≤◌, List, ◌++◌, length, replicate, FitsSigned}
 use Rattle.std.specs.Int.{w32, to_be_bytes, cast_unsigned}
 use Rattle.yp_xdr.specs.Kind.{Kind, U32, I32, Opaque, Sequence, Value}
 
@@ -15,6 +15,10 @@ padding_len n = (4 - n % 4) % 4
 abbrev pub padding : ℕ → List ℕ
 padding n = replicate (padding_len n) 0
 
+-- opaque bytes behind their length, and padded
+unfoldable pub opaque : List ℕ → List ℕ
+opaque content = word (length content) ++ content ++ padding (length content)
+
 -- the values that a kind has
 abbrev pub Fits : (kind : Kind) → Value kind → Type 0
 Fits U32 n = n < 2 ^ 32
@@ -26,7 +30,7 @@ Fits (Sequence first second) value = Fits first value.0 × Fits second value.1
 abbrev pub spelling : (kind : Kind) → Value kind → List ℕ
 spelling U32 n = word n
 spelling I32 z = word (cast_unsigned w32 z)
-spelling (Opaque max) content = word (length content) ++ content ++ padding (length content)
+spelling (Opaque max) content = opaque content
 spelling (Sequence first second) value = spelling first value.0 ++ spelling second value.1
 
 -- these bytes are the spelling of a value that the kind has

@@ -1,6 +1,7 @@
 //! Values read from bytes.
 
 ghost use Rattle.std.specs.Prelude.{◌≡◌, ◌+◌, ◌^◌, ◌<◌, length, IfOk, OnErr};
+ghost use Rattle.yp_xdr.specs.Reading.{IsBytes};
 
 use crate::fault::XdrFault;
 use crate::padding::{first_nonzero, padding_of};
@@ -11,6 +12,7 @@ pub struct Cursor<'a> {
     rest: &'a [u8],
     at: usize,
     ghost in_range: { at + length rest.now < 2 ^ 64 },
+    ghost are_bytes: { IsBytes rest.now },
 }
 
 impl<'a> Cursor<'a> {
@@ -35,7 +37,9 @@ impl<'a> Cursor<'a> {
     /// Reads an unsigned integer (RFC 4506 section 4.2).
     #[tactic(auto, unfolding(crate::specs::Reading::word_at))]
     pub fn u32(&mut self) -> Result<u32, XdrFault>
-        ensures { Reads U32 (λ n. n) result (unread self.old) (unread self.new) }
+        ensures read { Reads U32 (λ n. n) result (unread self.old) (unread self.new) }
+        ensures spelled { IfOk result (λ n. BeginsWith U32 n (unread self.old) (unread self.new)) }
+        ensures refused { OnErr result (BeginsWithNone U32 (unread self.old).bytes) }
     {
         match self.rest.split_first_chunk::<4>() {
             None => Err(XdrFault::Short { at: self.at }),
@@ -52,7 +56,9 @@ impl<'a> Cursor<'a> {
 
     /// Reads a signed integer in two's complement (RFC 4506 section 4.1).
     pub fn i32(&mut self) -> Result<i32, XdrFault>
-        ensures { Reads I32 (λ z. z) result (unread self.old) (unread self.new) }
+        ensures read { Reads I32 (λ z. z) result (unread self.old) (unread self.new) }
+        ensures spelled { IfOk result (λ z. BeginsWith I32 z (unread self.old) (unread self.new)) }
+        ensures refused { OnErr result (BeginsWithNone I32 (unread self.old).bytes) }
     {
         Ok(self.u32()?.cast_signed())
     }
@@ -60,7 +66,9 @@ impl<'a> Cursor<'a> {
     /// Reads opaque bytes, at most `max` of them (RFC 4506 section 4.10).
     #[tactic(auto, unfolding(crate::specs::Reading::opaque_at))]
     pub fn opaque(&mut self, max: u32) -> Result<&'a [u8], XdrFault>
-        ensures { Reads (Opaque max) (λ s. s.now) result (unread self.old) (unread self.new) }
+        ensures read { Reads (Opaque max) (λ s. s.now) result (unread self.old) (unread self.new) }
+        ensures spelled { IfOk result (λ s. BeginsWith (Opaque max) s.now (unread self.old) (unread self.new)) }
+        ensures refused { OnErr result (BeginsWithNone (Opaque max) (unread self.old).bytes) }
     {
         let mut ahead = *self;
         let len = ahead.u32()?;
@@ -74,7 +82,9 @@ impl<'a> Cursor<'a> {
 
     /// Reads a string of any bytes, at most `max` of them (RFC 4506 section 4.11).
     pub fn string(&mut self, max: u32) -> Result<&'a [u8], XdrFault>
-        ensures { Reads (Opaque max) (λ s. s.now) result (unread self.old) (unread self.new) }
+        ensures read { Reads (Opaque max) (λ s. s.now) result (unread self.old) (unread self.new) }
+        ensures spelled { IfOk result (λ s. BeginsWith (Opaque max) s.now (unread self.old) (unread self.new)) }
+        ensures refused { OnErr result (BeginsWithNone (Opaque max) (unread self.old).bytes) }
     {
         self.opaque(max)
     }

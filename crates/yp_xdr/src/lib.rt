@@ -6,9 +6,13 @@
 
 mod cursor;
 mod fault;
+pub mod laws;
 mod padding;
 mod put;
 
 pub use cursor::Cursor;
 pub use fault::{NoRoom, XdrFault};
-pub use put::{put_i32, put_opaque, put_u32};
+pub use put::{opaque_len, put_i32, put_opaque, put_u32};
+
+#[cfg(test)]
+mod tests;

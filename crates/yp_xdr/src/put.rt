@@ -30,16 +30,27 @@ pub fn put_i32(buf: &mut [u8], at: usize, value: i32) -> Result<usize, NoRoom>
 
 /// Writes bytes behind their length and padded with zeros at `at`, and answers the place after them
 /// (RFC 4506 sections 4.10 and 4.11).
+#[tactic(auto, unfolding(crate::specs::Spelling::opaque))]
 pub fn put_opaque(buf: &mut [u8], at: usize, bytes: &[u8]) -> Result<usize, NoRoom>
     requires place { at ≤ length buf.old }
     requires len { length bytes.now < 2 ^ 32 }
     ensures { Writes (spelling (Opaque (length bytes.now)) bytes.now) at result buf.old buf.new }
 {
-    if buf.len() - at < WORD + bytes.len() + padding_of(bytes.len()) {
+    if buf.len() - at < opaque_len(bytes) {
         return Err(NoRoom);
     }
     let content = put_u32(buf, at, bytes.len() as u32)?;
     put_content(buf, content, bytes)
+}
+
+/// How many bytes [`put_opaque`] writes for these bytes.
+#[tactic(auto, unfolding(crate::specs::Spelling::opaque))]
+pub fn opaque_len(bytes: &[u8]) -> usize
+    requires { length bytes.now < 2 ^ 32 }
+    ensures value { result ≡ length (spelling (Opaque (length bytes.now)) bytes.now) }
+    ensures bound { result < length bytes.now + 8 }
+{
+    WORD + bytes.len() + padding_of(bytes.len())
 }
 
 /// Writes bytes padded with zeros at `at`, and answers the place after them.

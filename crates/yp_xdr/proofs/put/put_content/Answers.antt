@@ -1,4 +1,4 @@
-use Rattle.std.proofs.Common.{◌≡◌, ◌++◌, length, arith, ◌∙◌, take, ℕ, replicate}
+use Rattle.std.proofs.Common.{◌≡◌, length, arith, ◌∙◌, take, replicate}
 use Rattle.std.proofs.lemmas.List.{length-append, length-replicate, take-replicate}
 use Rattle.yp_xdr.specs.Spelling.{padding, padding_len}
 use Rattle.yp_xdr.proofs.Parts.{written-written}

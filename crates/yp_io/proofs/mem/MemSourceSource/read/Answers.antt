@@ -1,4 +1,4 @@
-use Rattle.std.proofs.Common.{◌≡◌, ◌+◌, ◌<◌, ◌≤◌, length, drop, take, min, arith, length-append, length-drop}
+use Rattle.std.proofs.Common.{◌≡◌, ◌+◌, ◌≤◌, length, drop, take, min, arith, length-append, length-drop}
 use Rattle.std.proofs.lemmas.List.{take_rest, drop_all}
 use Rattle.yp_io.proofs.Pieces.{front_then_rest}
 use Rattle.yp_io.proofs.mem.MemSourceSource.read.Goals as goal
@@ -11,6 +11,6 @@ returns-clause-bytes c =
     let least : count ≡ min c.min.result (length (drop at bytes)) = rw (c.deref.ensures.value, take_rest) at c.min-count.ensures in
     let within : count ≤ length (drop at bytes) = omega arith in
     let copied : c.copy_from_slice.new.self ≡ take count (drop at bytes) = rw (c.deref.ensures.value, take_rest) at c.copy_from_slice.ensures.after in (
-      rw (← c.self.view_is) (front_then_rest bytes c.copy_from_slice.new.self (drop count c.args.buf.now) at count within copied),
+      rw (← c.self.view_is) (front_then_rest bytes c.copy_from_slice.new.self _ at count within copied),
       λ none room. drop_all (at + count) bytes (omega (arith, length-append c.copy_from_slice.new.self (drop count c.args.buf.now), length-drop count c.args.buf.now, length-drop at bytes, c.copy_from_slice.ensures.len)),
     )

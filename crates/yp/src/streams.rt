@@ -1,0 +1,186 @@
+//! The standard streams as a source and as sinks.
+ghost use Rattle.std.specs.Prelude.{◌≡◌, ◌≢◌, ◌<◌, ◌≤◌, length, IfOk, IfErr, OnErr};
+ghost use Rattle.std.specs.Io.{ReadsAtMost};
+ghost use Rattle.std.specs.Io.KnownBytes.{Keeps, ReadConsumes, WriteAppends};
+ghost use Rattle.std.specs.Io.Buffered.{reader_remaining};
+ghost use Rattle.std.specs.IoError.{error_kind};
+
+use std::alloc::Global;
+use std::io;
+use std::io::{BufReader, ErrorKind, Read, Write};
+use yp_io::{Failed, NoMemory, Sink, Source, count_fault};
+
+// How many bytes one system call asks for.
+const BLOCK: usize = 65_536;
+
+/// A reader as a source. Each read of the reader asks for 64 KiB or more, which is handed out in pieces.
+#[derive(Drop)]
+pub struct BlockReader<R: Read + Drop> {
+    reader: BufReader<R>,
+    faults: u64,
+}
+
+impl<R: Read + Drop> BlockReader<R> {
+    /// `NoMemory` is the only failure: nothing is read yet.
+    pub fn new(alloc: Global, reader: R) -> Result<BlockReader<R>, NoMemory>
+        ensures input { IfOk result (λ s. ⟦<BlockReader<R> as Source>⟧.input s ≡ R.remaining reader) }
+        ensures faults { IfOk result (λ s. ⟦<BlockReader<R> as Source>⟧.faults s ≡ 0) }
+    {
+        match BufReader::with_capacity(alloc, BLOCK, reader) {
+            Ok(reader) => Ok(BlockReader { reader, faults: 0 }),
+            Err(_) => Err(NoMemory),
+        }
+    }
+}
+
+impl<R: Read + Drop> Source for BlockReader<R> {
+    ghost input = { λ s. reader_remaining R.remaining s.reader };
+
+    ghost faults = { λ s. s.faults };
+
+    fn read(&mut self, buf: &mut [u8]) -> Result<usize, Failed> {
+        match read_uninterrupted(&mut self.reader, buf) {
+            Ok(count) => Ok(count),
+            Err(_) => Err(count_fault(&mut self.faults)),
+        }
+    }
+}
+
+// One read, tried again where a signal interrupted it.
+fn read_uninterrupted<R: Read>(reader: &mut R, buf: &mut [u8]) -> io::Result<usize>
+    ensures within { ReadsAtMost result buf.new }
+    ensures bytes { ReadConsumes (R.remaining reader.old) (R.remaining reader.new) result buf.new }
+    ensures retried { IfErr result (λ e. error_kind e ≢ ErrorKind.Interrupted) }
+{
+    for _ in 0..u64::MAX {
+        match reader.read(buf) {
+            Err(error) if error.kind() == ErrorKind::Interrupted => {}
+            answer => return answer,
+        }
+    }
+    Err(ErrorKind::TimedOut.into())
+}
+
+/// A writer as a sink. Each write is one write of the writer, with no buffer between. One that a signal interrupts
+/// fails.
+#[derive(Drop)]
+pub struct DirectWriter<W> {
+    writer: W,
+    faults: u64,
+}
+
+impl<W: Write> DirectWriter<W> {
+    pub fn new(writer: W) -> DirectWriter<W>
+        ensures output { ⟦<DirectWriter<W> as Sink>⟧.output result ≡ W.contents writer }
+        ensures faults { ⟦<DirectWriter<W> as Sink>⟧.faults result ≡ 0 }
+    {
+        DirectWriter { writer, faults: 0 }
+    }
+}
+
+impl<W: Write> Sink for DirectWriter<W> {
+    ghost output = { λ s. W.contents s.writer };
+
+    ghost faults = { λ s. s.faults };
+
+    // A write that takes nothing fails, as it does in std's `write_all`.
+    fn write(&mut self, piece: &[u8]) -> Result<usize, Failed> {
+        match self.writer.write(piece) {
+            Ok(count) if count > 0 => Ok(count),
+            _ => Err(count_fault(&mut self.faults)),
+        }
+    }
+
+    fn flush(&mut self) -> Result<(), Failed> {
+        match self.writer.flush() {
+            Ok(()) => Ok(()),
+            Err(_) => Err(count_fault(&mut self.faults)),
+        }
+    }
+}
+
+#[cfg(test)]
+mod tests {
+    use super::*;
+    use std::test::Fail;
+
+    // A stream whose calls answer in turn, and then with no bytes.
+    #[derive(Drop)]
+    struct Script {
+        answers: Vec<Result<usize, ErrorKind>>,
+        calls: usize,
+    }
+
+    impl Script {
+        fn answer(&mut self, most: usize) -> io::Result<usize>
+            ensures { IfOk result (λ n. n ≤ most) }
+        {
+            let number = self.calls;
+            self.calls = number.saturating_add(1);
+            match self.answers.get(number) {
+                Some(Ok(count)) => Ok(most.min(*count)),
+                Some(Err(kind)) => Err((*kind).into()),
+                None => Ok(0),
+            }
+        }
+    }
+
+    impl Read for Script {
+        fn read(&mut self, buf: &mut [u8]) -> io::Result<usize> {
+            self.answer(buf.len())
+        }
+    }
+
+    impl Write for Script {
+        fn write(&mut self, buf: &[u8]) -> io::Result<usize> {
+            self.answer(buf.len())
+        }
+
+        fn flush(&mut self) -> io::Result<()> {
+            self.answer(0)?;
+            Ok(())
+        }
+    }
+
+    #[test]
+    fn reads(rt: HostRuntime) -> Result<(), Fail> {
+        let script = Script {
+            answers: vec![in rt.alloc();
+                Err(ErrorKind::Interrupted),
+                Ok(3),
+                Err(ErrorKind::PermissionDenied),
+                Ok(1),
+            ]?,
+            calls: 0,
+        };
+        let mut source = BlockReader::new(rt.alloc(), script)?;
+        for (call, answer) in [Ok(2), Ok(1), Err(Failed), Ok(1), Ok(0)].iter().enumerate() {
+            assert_eq!(rt; source.read(&mut [0; 2]), *answer, "at call {call}");
+        }
+        assert_eq!(rt; source.faults, 1);
+        Ok(())
+    }
+
+    #[test]
+    fn writes(rt: HostRuntime) -> Result<(), Fail> {
+        let script = Script {
+            answers: vec![in rt.alloc();
+                Ok(3),
+                Ok(0),
+                Err(ErrorKind::BrokenPipe),
+                Ok(9),
+                Ok(0),
+                Err(ErrorKind::StorageFull),
+            ]?,
+            calls: 0,
+        };
+        let mut sink = DirectWriter::new(script);
+        for (call, answer) in [Ok(3), Err(Failed), Err(Failed), Ok(4)].iter().enumerate() {
+            assert_eq!(rt; sink.write(b"text"), *answer, "at call {call}");
+        }
+        assert_eq!(rt; sink.flush(), Ok(()));
+        assert_eq!(rt; sink.flush(), Err(Failed));
+        assert_eq!(rt; sink.faults, 3);
+        Ok(())
+    }
+}

@@ -1,0 +1,5 @@
+pub mod Sentences
+pub mod Stats
+pub mod Sending
+pub mod Running
+pub mod Told

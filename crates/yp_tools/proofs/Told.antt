@@ -1,0 +1,120 @@
+-- What a session did, where its input is told.
+use Rattle.std.proofs.Common.{◌≡◌, ◌≢◌, ℕ, suc, ◌+◌, ◌-◌, ◌^◌, ◌<◌, ◌≤◌, List, [], ◌∷◌, ◌++◌, length, take, min, Option, Some, None, refl, sym, ap, ◌∙◌, subst, arith, inl, inr, ◌⊎◌}
+use Rattle.std.specs.Prelude.{IfSome}
+use Rattle.std.specs.Io.KnownBytes.{Keeps, Appends, Consumes, IsAtEnd}
+use Rattle.std.proofs.lemmas.List.{append-nil, length-append}
+use Rattle.yp_io.specs.Counts.{last_count, HasRisen}
+use Rattle.yp_rpc.specs.Records.{Fragments, Cut, IsRest, IsTorn, IsTooLong, IsLong, TakesRecord}
+use Rattle.yp_rpc.proofs.CutKinds.{whole_one, whole_is_some, torn_is_some, long_is_some}
+use Rattle.yp_rpc.proofs.CutOne.{cut_one, rest_is_not_whole}
+use Rattle.yp_tools.specs.declared.protocol.TheConstants.{CALL_MAX, CALLS_MAX}
+use Rattle.yp_tools.specs.declared.session.End.{End}
+use Rattle.yp_tools.specs.declared.session.End.TheVariants as ends
+use Rattle.yp_tools.specs.declared.status.Status.{Status}
+use Rattle.yp_tools.specs.declared.status.Status.TheVariants.{Done, Usage, ReadFault, WriteFault, Torn, TooLong, NoMemory, Enough}
+use Rattle.yp_tools.specs.Served.{Served}
+use Rattle.yp_tools.specs.Run.{Feed, Counts, Reads, Runs, answers}
+use Rattle.yp_tools.specs.Once.{Begins, AnswersUpTo, AnswersSome, Serves, Ran, status_of, place_of}
+
+-- ---- told bytes
+
+-- bytes that were consumed of told ones
+taken : (a b : Option (List ℕ)) (stream bytes : List ℕ) → a ≡ Some stream → Consumes a b bytes → (rest : List ℕ) × (b ≡ Some rest) × (stream ≡ bytes ++ rest)
+taken None b stream bytes e h = absurd cc
+taken (Some xs) None stream bytes e h = absurd h
+taken (Some xs) (Some ys) stream bytes e h = let same : xs ≡ stream = cc in (ys, refl, sym same ∙ h)
+
+-- bytes that were kept
+kept : (a b : Option (List ℕ)) (stream : List ℕ) → a ≡ Some stream → Keeps a b → b ≡ Some stream
+kept None b stream e h = absurd cc
+kept (Some xs) None stream e h = absurd h
+kept (Some xs) (Some ys) stream e h = let same : xs ≡ stream = cc in ap (λ (zs : List ℕ). Some zs) (h ∙ same)
+
+-- told bytes at their end
+ended : (a : Option (List ℕ)) (rest : List ℕ) → a ≡ Some rest → IsAtEnd a → rest ≡ []
+ended None rest e h = absurd cc
+ended (Some xs) rest e h = let same : xs ≡ rest = cc in sym same ∙ h
+
+-- ---- the records that were read
+
+-- the records and what is left, with the place
+pub record ToldReads (messages : List (List ℕ)) (stream : List ℕ) (start : ℕ) (now : Feed) : Type 0 where
+  pub rest : List ℕ
+  pub left : now.input ≡ Some rest
+  pub begins : Begins stream messages rest
+  pub few : length rest ≤ length stream
+  pub place : now.place ≡ min (start + (length stream - length rest)) last_count
+
+told : (messages : List (List ℕ)) (old new : Feed) (stream : List ℕ) → old.input ≡ Some stream → old.place ≤ last_count → Reads messages old new → ToldReads messages stream old.place new
+told [] old new stream e within h = record {
+  rest = stream;
+  left = kept old.input new.input stream e h.0;
+  begins = refl;
+  few = omega arith;
+  place = omega (arith, h.1);
+}
+told (message ∷ messages) old new stream e within h =
+    let step = h.1 in
+    let a = taken old.input h.0.input stream step.bytes e step.taken in
+    let b = told messages h.0 new a.0 a.1 (omega (arith, step.counted)) h.2 in
+    let len : length stream ≡ length step.bytes + length a.0 = ap length a.2 ∙ length-append step.bytes a.0 in
+    record {
+      rest = b.rest;
+      left = b.left;
+      begins = (step.bytes, a.0, record { pieces = step.fragments.pieces; last = step.fragments.last; whole = step.fragments.whole; spelled = step.fragments.spelled; within = step.fragments.within; short = step.fragments.short }, a.2, b.begins);
+      few = omega (arith, b.few);
+      place = omega (arith, b.place, b.few, step.counted);
+    }
+
+-- records and a rest are a cut
+cut_from : (messages : List (List ℕ)) (stream rest : List ℕ) → Begins stream messages rest → IsRest CALL_MAX rest → Cut CALL_MAX stream messages rest
+cut_from [] stream rest h end = (h, end)
+cut_from (message ∷ messages) stream rest h end = (h.0, h.1, h.2, h.3, cut_from messages h.1 rest h.4 end)
+
+-- no more records were read than the whole stream has
+begins_few : (messages others : List (List ℕ)) (stream rest : List ℕ) → Begins stream others rest → Cut CALL_MAX stream messages [] → length others ≤ length messages
+begins_few messages [] stream rest h cut = omega arith
+begins_few [] (other ∷ others) stream rest h cut =
+    let none : h.0 ++ h.1 ≡ [] = sym h.3 ∙ cut.0 in
+    absurd (whole_is_some CALL_MAX other h.0 h.1 h.2 none)
+begins_few (message ∷ messages) (other ∷ others) stream rest h cut =
+    let same = whole_one CALL_MAX other message h.0 cut.0 h.1 cut.1 (omega arith) h.2 cut.2 (sym h.3 ∙ cut.3) in
+    let more : Cut CALL_MAX h.1 messages [] = rw same.1 cut.4 in
+    omega (arith, begins_few messages others h.1 rest h.4 more)
+
+-- ---- each status
+
+-- the place of a rest, counted from the front
+place_is : (stream rest : List ℕ) (place : ℕ) → place ≡ min (0 + (length stream - length rest)) last_count → place ≡ place_of stream rest
+place_is stream rest place h = omega (arith, h)
+
+pub serves_told : (served : Served) (end : End) (stream : List ℕ) (input' output output' : Option (List ℕ)) (place : ℕ) (before after : Counts)
+    → Runs served end (record { input = Some stream; place = 0 }) (record { input = input'; place = place }) output output' before after → Serves served (status_of end) stream output output'
+serves_told served ends.Clean stream input' output output' place before after h =
+    let t = told h.messages (record { input = Some stream; place = 0 }) h.mid stream refl (omega arith) h.read in
+    let none : t.rest ≡ [] = ended h.mid.input t.rest t.left h.ended.0 in
+    let begins : Begins stream h.messages [] = rw none at t.begins in
+    record { messages = h.messages; cut = cut_from h.messages stream [] begins (inl refl); few = h.ended.2; answered = h.answered }
+serves_told served (ends.Torn at) stream input' output output' place before after h =
+    let t = told h.messages (record { input = Some stream; place = 0 }) h.mid stream refl (omega arith) h.read in
+    let e = h.ended in
+    let behind = taken h.mid.input input' t.rest e.1 t.left e.3 in
+    let none : behind.0 ≡ [] = ended input' behind.0 behind.1 e.4 in
+    let same : e.1 ≡ t.rest = sym (append-nil e.1) ∙ ap (λ (xs : List ℕ). e.1 ++ xs) (sym none) ∙ sym behind.2 in
+    let torn : IsTorn CALL_MAX t.rest = subst (IsTorn CALL_MAX) same e.2 in
+    (t.rest, record { messages = h.messages; cut = cut_from h.messages stream t.rest t.begins (inr (inl torn)); few = e.5; answered = h.answered }, torn, e.0 ∙ place_is stream t.rest h.mid.place t.place)
+serves_told served (ends.TooLong at) stream input' output output' place before after h =
+    let t = told h.messages (record { input = Some stream; place = 0 }) h.mid stream refl (omega arith) h.read in
+    let e = h.ended in
+    let behind = taken h.mid.input input' t.rest e.1 t.left e.3 in
+    let long : IsLong CALL_MAX t.rest = (e.1, behind.0, e.2, behind.2) in
+    (t.rest, record { messages = h.messages; cut = cut_from h.messages stream t.rest t.begins (inr (inr long)); few = e.4; answered = h.answered }, long, e.0 ∙ place_is stream t.rest h.mid.place t.place)
+serves_told served ends.ReadFault stream input' output output' place before after h =
+    let t = told h.messages (record { input = Some stream; place = 0 }) h.mid stream refl (omega arith) h.read in
+    record { messages = h.messages; rest = t.rest; begins = t.begins; done = h.answered }
+serves_told served ends.WriteFault stream input' output output' place before after h =
+    let t = told h.messages (record { input = Some stream; place = 0 }) h.mid stream refl (omega arith) h.read in
+    record { messages = h.messages; rest = t.rest; begins = t.begins; done = h.answered }
+serves_told served ends.Enough stream input' output output' place before after h =
+    let t = told h.messages (record { input = Some stream; place = 0 }) h.mid stream refl (omega arith) h.read in
+    record { messages = h.messages; rest = t.rest; begins = t.begins; done = (h.ended, h.answered) }

@@ -1,0 +1,62 @@
+-- What the program does with an input that is told.
+use Rattle.std.specs.Prelude.{◌≡◌, ℕ, ◌-◌, ◌<◌, List, [], ◌∷◌, ◌++◌, length, take, min, Option, ◌⊎◌}
+use Rattle.std.specs.Io.KnownBytes.{Keeps, Appends}
+use Rattle.yp_io.specs.Counts.{last_count}
+use Rattle.yp_rpc.specs.Records.{Fragments, Cut, IsTorn, IsLong}
+use Rattle.yp_tools.specs.declared.protocol.TheConstants.{CALL_MAX, CALLS_MAX}
+use Rattle.yp_tools.specs.declared.session.End.{End}
+use Rattle.yp_tools.specs.declared.session.End.TheVariants as ends
+use Rattle.yp_tools.specs.declared.status.Status.{Status}
+use Rattle.yp_tools.specs.declared.status.Status.TheVariants.{Done, Usage, ReadFault, WriteFault, Torn, TooLong, NoMemory, Enough}
+use Rattle.yp_tools.specs.Served.{Served}
+use Rattle.yp_tools.specs.Run.{Feed, Counts, Runs, answers}
+
+-- the status of a session that ended so
+abbrev pub status_of : End → Status
+status_of ends.Clean = Done
+status_of (ends.Torn at) = Torn at
+status_of (ends.TooLong at) = TooLong at
+status_of ends.ReadFault = ReadFault
+status_of ends.WriteFault = WriteFault
+status_of ends.Enough = Enough
+
+-- the stream begins with one spelling of each of these records, and the rest is behind them
+abbrev pub Begins : List ℕ → List (List ℕ) → List ℕ → Type 0
+Begins stream [] rest = stream ≡ rest
+Begins stream (message ∷ messages) rest =
+  (bytes more : List ℕ) × Fragments CALL_MAX message bytes × (stream ≡ bytes ++ more) × Begins more messages rest
+
+-- the place of the rest in the stream
+abbrev pub place_of : List ℕ → List ℕ → ℕ
+place_of stream rest = min (length stream - length rest) last_count
+
+-- the records of a stream were answered up to its rest
+pub record AnswersUpTo (served : Served) (stream rest : List ℕ) (output output' : Option (List ℕ)) : Type 0 where
+  pub messages : List (List ℕ)
+  pub cut : Cut CALL_MAX stream messages rest
+  pub few : length messages < CALLS_MAX
+  pub answered : Appends output output' (answers served messages)
+
+-- records at the front of a stream were read, and of their answers this was sent
+pub record AnswersSome (stream : List ℕ) (P : List (List ℕ) → Type 0) : Type 0 where
+  pub messages : List (List ℕ)
+  pub rest : List ℕ
+  pub begins : Begins stream messages rest
+  pub done : P messages
+
+-- What is done with an input, for each status. All records before the rest are answered; a failed sink took a prefix.
+abbrev pub Serves : Served → Status → List ℕ → Option (List ℕ) → Option (List ℕ) → Type 0
+Serves served Done stream output output' = AnswersUpTo served stream [] output output'
+Serves served (Torn at) stream output output' = (rest : List ℕ) × AnswersUpTo served stream rest output output' × IsTorn CALL_MAX rest × (at ≡ place_of stream rest)
+Serves served (TooLong at) stream output output' = (rest : List ℕ) × AnswersUpTo served stream rest output output' × IsLong CALL_MAX rest × (at ≡ place_of stream rest)
+Serves served ReadFault stream output output' = AnswersSome stream (λ messages. Appends output output' (answers served messages))
+Serves served WriteFault stream output output' = AnswersSome stream (λ messages. (n : ℕ) × Appends output output' (take n (answers served messages)))
+Serves served Enough stream output output' = AnswersSome stream (λ messages. (length messages ≡ CALLS_MAX) × Appends output output' (answers served messages))
+Serves served NoMemory stream output output' = Keeps output output'
+Serves served (Usage word) stream output output' = ⊥
+
+-- A session ran, or there was no memory for it and nothing was read or written.
+abbrev pub Ran : Served → Status → Option (List ℕ) → Option (List ℕ) → Option (List ℕ) → Option (List ℕ) → Counts → Counts → Type 0
+Ran served status input input' output output' before after =
+  ((status ≡ NoMemory) × Keeps input input' × Keeps output output')
+  ⊎ ((end : End) × (place : ℕ) × (status ≡ status_of end) × Runs served end (record { input = input; place = 0 }) (record { input = input'; place = place }) output output' before after)

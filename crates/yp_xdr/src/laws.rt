@@ -1,0 +1,28 @@
+//! What joins writing and reading, for values of every kind. Each law is the contract of a function that does nothing.
+
+ghost use Rattle.yp_xdr.specs.Laws.{OneSpelling, NoSpellingBeginsAnother, WrittenIsReadAgain, ReadIsSpelled, RefusedIsNotSpelled};
+
+/// A value has one spelling.
+pub fn one_spelling()
+    ensures { OneSpelling }
+{}
+
+/// No spelling begins another one, so a value ends where its spelling does.
+pub fn no_spelling_begins_another()
+    ensures { NoSpellingBeginsAnother }
+{}
+
+/// The spelling of a value is read again as that value, whatever is behind it.
+pub fn written_is_read_again()
+    ensures { WrittenIsReadAgain }
+{}
+
+/// What is read is spelled by the bytes that the reader passed.
+pub fn read_is_spelled()
+    ensures { ReadIsSpelled }
+{}
+
+/// Where reading is refused, the bytes begin with no spelling of the kind.
+pub fn refused_is_not_spelled()
+    ensures { RefusedIsNotSpelled }
+{}
