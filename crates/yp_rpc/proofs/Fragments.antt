@@ -1,16 +1,17 @@
 -- Lemmas on the fragments of a record, one after another.
-use Rattle.std.proofs.Common.{◌≡◌, ◌≢◌, ℕ, ◌+◌, ◌^◌, ◌<◌, ◌≤◌, Bool, true, false, cond, ◌==◌, List, [], ◌∷◌, ◌++◌, Option, None, Some, length, take, min, refl, sym, ap, ◌∙◌, arith, inl, inr, zero-add, eq-eqb, ⊎_elim}
+use Rattle.std.proofs.Common.{◌≡◌, ◌≢◌, ℕ, ◌+◌, ◌-◌, ◌^◌, ◌<◌, ◌≤◌, Bool, true, false, ◌==◌, List, [], ◌∷◌, ◌++◌, Option, length, take, min, refl, sym, ap, ◌∙◌, arith, inl, inr, eq-eqb}
 use Rattle.std.proofs.lemmas.List.{length-append, length-take-le, append-nil}
 use Rattle.std.proofs.lemmas.List.Concat.{flat_map-append}
-use Rattle.std.proofs.lemmas.List.Sums.{sum_by-append}
-use Rattle.std.proofs.lemmas.Bool.{cases_Bool, eqb-true}
-use Rattle.std.proofs.KnownBytes.{Consumes-nil, Consumes-trans}
+use Rattle.std.proofs.lemmas.Bool.{ne_eqb}
+use Rattle.std.proofs.KnownBytes.{Consumes-trans}
 use Rattle.std.specs.Io.KnownBytes.{Consumes, IsAtEnd}
 use mir.Val.{bool_byte}
 use Rattle.yp_io.specs.Counts.{last_count}
 use Rattle.yp_rpc.specs.declared.record.RecordFault.{RecordFault}
 use Rattle.yp_rpc.specs.declared.record.RecordFault.TheVariants.{Torn, TooLong, ReadFault}
 use Rattle.yp_rpc.specs.declared.record.TheConstants.{EMPTY_MAX}
+use Rattle.yp_rpc.proofs.Stream.{take-behind, ReadsBehind, read_behind, length-room, length-read_behind}
+use Rattle.yp_rpc.proofs.CutPieces.{blank, blank_is, empties-cons, empties-append, length-joined, length-joined_push}
 use Rattle.yp_rpc.specs.Records.{head, fragment, begun, joined, empties, AreWithin, IsPart, IsEmpty, TakesRecord, HasCause, HasNoFragment}
 
 -- input ended behind the head of a fragment
@@ -26,49 +27,52 @@ pub length-fragment : (last : Bool) (piece : List ℕ) → length (fragment last
 length-fragment last piece = length-append (head last (length piece)) piece
 
 -- one piece more behind the joined ones
-pub joined-push : (pieces : List (List ℕ)) (piece : List ℕ) → joined (pieces ++ piece ∷ []) ≡ joined pieces ++ piece
+joined-push : (pieces : List (List ℕ)) (piece : List ℕ) → joined (pieces ++ piece ∷ []) ≡ joined pieces ++ piece
 joined-push pieces piece = flat_map-append (λ (p : List ℕ). p) pieces (piece ∷ []) ∙ ap (λ (bytes : List ℕ). joined pieces ++ bytes) (append-nil piece)
 
 -- one fragment more behind the begun ones
-pub begun-push : (pieces : List (List ℕ)) (piece : List ℕ) → begun (pieces ++ piece ∷ []) ≡ begun pieces ++ fragment false piece
+begun-push : (pieces : List (List ℕ)) (piece : List ℕ) → begun (pieces ++ piece ∷ []) ≡ begun pieces ++ fragment false piece
 begun-push pieces piece = flat_map-append (fragment false) pieces (piece ∷ []) ∙ ap (λ (bytes : List ℕ). begun pieces ++ bytes) (append-nil (fragment false piece))
 
--- one piece more among the counted ones
-pub empties-push : (pieces : List (List ℕ)) (piece : List ℕ) → empties (pieces ++ piece ∷ []) ≡ empties pieces + cond (length piece == 0) 1 0
-empties-push pieces piece = sum_by-append (λ (p : List ℕ). cond (length p == 0) 1 0) pieces (piece ∷ []) ∙ ap (λ (n : ℕ). empties pieces + n) (zero-add (cond (length piece == 0) 1 0))
+-- the code counts an empty piece as 1, and another as 0
+pub bool_byte-blank : (piece : List ℕ) (len : ℕ) → length piece ≡ len → bool_byte (len == 0) ≡ blank piece
+bool_byte-blank piece len same =
+    elim (blank_is piece) [
+      | inl none ↦ ap bool_byte (eq-eqb len 0 (omega arith)) ∙ sym none.1
+      | inr some ↦ ap bool_byte (ne_eqb len 0 (λ none. omega arith)) ∙ sym some.1
+    ]
 
--- begun fragments with no byte and no empty one are none
-pub none_begun : (pieces : List (List ℕ)) → length (joined pieces) ≡ 0 → empties pieces ≡ 0 → pieces ≡ []
+-- where there is no byte and no empty piece there is no piece
+none_begun : (pieces : List (List ℕ)) → length (joined pieces) ≡ 0 → empties pieces ≡ 0 → pieces ≡ []
 none_begun [] few none = refl
 none_begun (piece ∷ pieces) few none =
-    let count : empties (piece ∷ pieces) ≡ cond (length piece == 0) 1 0 + empties pieces = sum_by-append (λ (p : List ℕ). cond (length p == 0) 1 0) (piece ∷ []) pieces ∙ ap (λ (n : ℕ). n + empties pieces) (zero-add (cond (length piece == 0) 1 0)) in
-    let bytes : length (piece ++ joined pieces) ≡ 0 = few in
-    let no_byte : length piece ≡ 0 = omega (arith, length-append piece (joined pieces)) in
-    let one : (length piece == 0) ≡ true = eq-eqb (length piece) 0 no_byte in
-    let total : cond (length piece == 0) 1 0 + empties pieces ≡ 0 = sym count ∙ none in
-    let some : 1 + empties pieces ≡ 0 = rw one at total in
-    absurd (omega arith)
+    elim (blank_is piece) [
+      | inl empty ↦ absurd (omega (arith, empty.1, empties-cons piece pieces, none))
+      | inr some ↦ absurd (omega (arith, some.0, length-joined piece pieces, few))
+    ]
 
--- a test as a number, as the code counts it
-pub bool_byte-cond : (test : Bool) → bool_byte test ≡ cond test 1 0
-bool_byte-cond true = refl
-bool_byte-cond false = refl
-
--- the count of empty pieces stays within its limit
-pub count_within : (len count most : ℕ) → count ≤ most → (len ≡ 0 → count < most) → count + cond (len == 0) 1 0 ≤ most
-count_within len count most within few = ⊎_elim (λ (is_empty : (len == 0) ≡ true). rw is_empty (omega (arith, few (eqb-true len 0 is_empty)))) (λ (some : (len == 0) ≡ false). rw some (omega arith)) (cases_Bool (len == 0))
-
--- where no byte was begun there is no piece
+-- where no fragment has begun there is no piece
 no_byte_begun : (pieces : List (List ℕ)) → length (begun pieces) ≡ 0 → pieces ≡ []
 no_byte_begun [] none = refl
 no_byte_begun (piece ∷ pieces) none = absurd (omega (arith, length-append (fragment false piece) (begun pieces), length-fragment false piece))
 
+-- a begun record with a byte or an empty fragment is some bytes
+some_begun : (pieces : List (List ℕ)) (tail : List ℕ) → 0 < length (joined pieces) + empties pieces → begun pieces ++ tail ≢ []
+some_begun pieces tail some none =
+    let nothing : pieces ≡ [] = no_byte_begun pieces (omega (arith, length-append (begun pieces) tail, ap length none)) in
+    let bytes : length (joined pieces) ≡ 0 = ap (λ (ps : List (List ℕ)). length (joined ps)) nothing in
+    let count : empties pieces ≡ 0 = ap empties nothing in
+    omega arith
+
 -- one piece more is within the limit
-pub AreWithin-push : (limit : ℕ) (pieces : List (List ℕ)) (piece : List ℕ) → AreWithin limit pieces → length (joined pieces) + length piece ≤ limit → (length piece ≡ 0 → empties pieces < EMPTY_MAX)
+AreWithin-push : (limit : ℕ) (pieces : List (List ℕ)) (piece : List ℕ) → AreWithin limit pieces → length (joined pieces) + length piece ≤ limit → (length piece ≡ 0 → empties pieces < EMPTY_MAX)
     → AreWithin limit (pieces ++ piece ∷ [])
 AreWithin-push limit pieces piece within fits few = record {
-  len = rw (joined-push pieces piece) (omega (arith, length-append (joined pieces) piece));
-  empty = rw (empties-push pieces piece) (count_within (length piece) (empties pieces) EMPTY_MAX within.empty few);
+  len = omega (arith, length-joined_push pieces piece);
+  empty = elim (blank_is piece) [
+    | inl none ↦ omega (arith, few none.0, none.1, empties-append pieces (piece ∷ []))
+    | inr some ↦ omega (arith, within.empty, some.1, empties-append pieces (piece ∷ []))
+  ];
 }
 
 -- How far a record has come: the bytes so far, how many fragments were empty, and the place behind them.
@@ -80,39 +84,28 @@ pub record HasBegun (limit : ℕ) (old now : Option (List ℕ)) (front : List �
   pub counted : empties pieces ≡ empty
   pub passed : end ≡ min (place + length (begun pieces)) last_count
 
--- nothing is read
-pub HasBegun-none : (limit place : ℕ) (old : Option (List ℕ)) → place ≤ last_count → HasBegun limit old old [] 0 place place
-HasBegun-none limit place old small = record {
-  pieces = [];
-  taken = Consumes-nil old;
-  filled = refl;
-  within = record { len = omega arith; empty = omega arith };
-  counted = refl;
-  passed = omega arith;
-}
-
 -- one fragment more, which isn't the last
-pub HasBegun-more : (limit limit' empty empty' place end end' : ℕ) (old now new : Option (List ℕ)) (front piece : List ℕ) → HasBegun limit old now front empty place end
+HasBegun-push : (limit empty empty' place end end' : ℕ) (old now new : Option (List ℕ)) (front piece : List ℕ) → HasBegun limit old now front empty place end
     → Consumes now new (fragment false piece) → length front + length piece ≤ limit → (length piece ≡ 0 → empty < EMPTY_MAX)
-    → empty' ≡ empty + cond (length piece == 0) 1 0 → end' ≡ min (end + (4 + length piece)) last_count → limit' ≡ limit → HasBegun limit' old new (front ++ piece) empty' place end'
-HasBegun-more limit limit' empty empty' place end end' old now new front piece h taken fits few counted passed same =
+    → empty' ≡ empty + blank piece → end' ≡ min (end + (4 + length piece)) last_count → HasBegun limit old new (front ++ piece) empty' place end'
+HasBegun-push limit empty empty' place end end' old now new front piece h taken fits few counted passed =
     let so_far : length (joined h.pieces) ≡ length front = ap length h.filled in
-    rw same (record {
+    record {
       pieces = h.pieces ++ piece ∷ [];
       taken = rw (begun-push h.pieces piece) (Consumes-trans old now new _ _ h.taken taken);
       filled = rw (joined-push h.pieces piece, h.filled) refl;
       within = AreWithin-push limit h.pieces piece h.within (omega arith) (λ none. omega (arith, few none, h.counted));
-      counted = empties-push h.pieces piece ∙ ap (λ (n : ℕ). n + cond (length piece == 0) 1 0) h.counted ∙ sym counted;
+      counted = empties-append h.pieces (piece ∷ []) ∙ ap (λ (n : ℕ). n + blank piece) h.counted ∙ sym counted;
       passed = rw (begun-push h.pieces piece) (omega (arith, h.passed, length-append (begun h.pieces) (fragment false piece), length-fragment false piece));
-    })
+    }
 
 -- the last fragment
-pub TakesRecord-last : (limit limit' empty place end end' : ℕ) (old now new : Option (List ℕ)) (front piece : List ℕ) → HasBegun limit old now front empty place end
+TakesRecord-push : (limit empty place end end' : ℕ) (old now new : Option (List ℕ)) (front piece : List ℕ) → HasBegun limit old now front empty place end
     → Consumes now new (fragment true piece) → length front + length piece ≤ limit → (length piece ≡ 0 → empty < EMPTY_MAX) → length piece < 2 ^ 31
-    → end' ≡ min (end + (4 + length piece)) last_count → limit' ≡ limit → TakesRecord limit' (front ++ piece) old new place end'
-TakesRecord-last limit limit' empty place end end' old now new front piece h taken fits few short passed same =
+    → end' ≡ min (end + (4 + length piece)) last_count → TakesRecord limit (front ++ piece) old new place end'
+TakesRecord-push limit empty place end end' old now new front piece h taken fits few short passed =
     let so_far : length (joined h.pieces) ≡ length front = ap length h.filled in
-    rw same (record {
+    record {
       bytes = begun h.pieces ++ fragment true piece;
       fragments = record {
         pieces = h.pieces;
@@ -124,32 +117,31 @@ TakesRecord-last limit limit' empty place end end' old now new front piece h tak
       };
       taken = Consumes-trans old now new _ _ h.taken taken;
       counted = omega (arith, h.passed, length-append (begun h.pieces) (fragment true piece), length-fragment true piece);
-    })
+    }
 
 -- what is within the room behind the pieces is within the limit
 IsPart-behind : (limit room : ℕ) (pieces : List (List ℕ)) (tail : List ℕ) → length (joined pieces) + room ≤ limit → IsPart room [] tail → IsPart limit pieces tail
-IsPart-behind limit room pieces tail fits part = elim part [ inl few ↦ inl few | inr h ↦ inr (h.0, h.1, h.2, h.3, h.4, h.5, omega (arith, h.6)) ]
+IsPart-behind limit room pieces tail fits (inl few) = inl few
+IsPart-behind limit room pieces tail fits (inr h) = inr (h.0, h.1, h.2, h.3, h.4, h.5, omega (arith, h.6))
 
 -- Why a record has no next fragment is why there is no record.
-pub HasCause-behind : (limit limit' room empty place end before now after : ℕ) (old mid new : Option (List ℕ)) (front : List ℕ) (fault : RecordFault) → HasBegun limit old mid front empty place end
-    → length front + room ≡ limit → before ≤ now → HasNoFragment room empty place mid new now after fault → limit' ≡ limit → HasCause limit' place old new before after fault
-HasCause-behind limit limit' room empty place end before now after old mid new front (Torn at) h fits rose cause same =
+HasCause-behind : (limit room empty place end before now after : ℕ) (old mid new : Option (List ℕ)) (front : List ℕ) (fault : RecordFault) → HasBegun limit old mid front empty place end
+    → length front + room ≡ limit → before ≤ now → HasNoFragment room empty place mid new now after fault → HasCause limit place old new before after fault
+HasCause-behind limit room empty place end before now after old mid new front (Torn at) h fits rose cause =
     let so_far : length (joined h.pieces) ≡ length front = ap length h.filled in
     let tail = cause.1 in
-    let some : begun h.pieces ++ tail ≢ [] = λ none. absurd (omega (arith, length-append (begun h.pieces) tail, ap length none, cause.2)) in
-    rw same (
+    let some : begun h.pieces ++ tail ≢ [] = λ none. absurd (omega (arith, length-append (begun h.pieces) tail, ap length none, cause.2)) in (
       cause.0,
       begun h.pieces ++ tail,
       record { pieces = h.pieces; tail = tail; begins = refl; some = some; within = h.within; part = IsPart-behind limit room h.pieces tail (omega arith) cause.3 },
       Consumes-trans old mid new _ _ h.taken cause.4,
       cause.5,
     )
-HasCause-behind limit limit' room empty place end before now after old mid new front (TooLong at) h fits rose cause same =
+HasCause-behind limit room empty place end before now after old mid new front (TooLong at) h fits rose cause =
     let so_far : length (joined h.pieces) ≡ length front = ap length h.filled in
     let most : empties h.pieces ≤ EMPTY_MAX = h.within.empty in
     let last = cause.1 in
-    let len = cause.2 in
-    rw same (
+    let len = cause.2 in (
       cause.0,
       begun h.pieces ++ head last len,
       record {
@@ -163,18 +155,16 @@ HasCause-behind limit limit' room empty place end before now after old mid new f
       },
       Consumes-trans old mid new _ _ h.taken cause.5,
     )
-HasCause-behind limit limit' room empty place end before now after old mid new front ReadFault h fits rose cause same = omega arith
+HasCause-behind limit room empty place end before now after old mid new front ReadFault h fits rose cause = omega arith
 
 -- input ended behind some whole fragments
-pub torn_between : (limit limit' empty place end : ℕ) (old now new : Option (List ℕ)) (front : List ℕ) → HasBegun limit old now front empty place end → 0 < length front + empty → IsEmpty now new → limit' ≡ limit
-    → HasCause limit' place old new 0 0 (Torn place)
-torn_between limit limit' empty place end old now new front h some none same =
-    let so_far : length (joined h.pieces) ≡ length front = ap length h.filled in
-    let first : begun h.pieces ++ [] ≢ [] = λ e. (let nothing = no_byte_begun h.pieces (omega (arith, length-append (begun h.pieces) [], ap length e)) in let bytes : length (joined h.pieces) ≡ 0 = rw nothing refl in let count : empties h.pieces ≡ 0 = rw nothing refl in omega (arith, h.counted)) in
-    rw same (
+torn_between : (limit empty place end : ℕ) (old now new : Option (List ℕ)) (front : List ℕ) → HasBegun limit old now front empty place end → 0 < length front + empty → IsEmpty now new
+    → HasCause limit place old new 0 0 (Torn place)
+torn_between limit empty place end old now new front h some none =
+    let so_far : length (joined h.pieces) ≡ length front = ap length h.filled in (
       refl,
       begun h.pieces ++ [],
-      record { pieces = h.pieces; tail = []; begins = refl; some = first; within = h.within; part = inl (omega arith) },
+      record { pieces = h.pieces; tail = []; begins = refl; some = some_begun h.pieces [] (omega (arith, h.counted)); within = h.within; part = inl (omega arith) },
       Consumes-trans old now new _ _ h.taken none.0,
       none.1,
     )
@@ -186,8 +176,43 @@ none_at_all limit place end old now new front h none empty =
     let taken : Consumes old now [] = rw nothing at h.taken in
     (Consumes-trans old now new [] [] taken empty.0, empty.1)
 
--- input that ended with nothing taken was at its end
-pub IsEmpty-before : (old new : Option (List ℕ)) → IsEmpty old new → IsAtEnd old
-IsEmpty-before None new h = tt
-IsEmpty-before (Some xs) None h = absurd h.0
-IsEmpty-before (Some xs) (Some ys) h = h.0 ∙ h.1
+-- How far a record has come in a buffer, of which its bytes are the first len.
+abbrev pub HasFilled : Option (List ℕ) → Option (List ℕ) → List ℕ → ℕ → ℕ → ℕ → ℕ → Type 0
+HasFilled old now buf len empty place end = HasBegun (length buf) old now (take len buf) empty place end
+
+-- one fragment more was read behind them, which isn't the last
+pub HasFilled-more : (buf room : List ℕ) (len n empty empty' place end end' : ℕ) (old now new : Option (List ℕ)) → ReadsBehind len buf room → n ≤ length room
+    → HasFilled old now buf len empty place end → Consumes now new (fragment false (take n room)) → (n ≡ 0 → empty < EMPTY_MAX) → empty' ≡ empty + bool_byte (n == 0) → end' ≡ min (end + (4 + n)) last_count
+    → HasFilled old new (read_behind len buf room) (len + n) empty' place end'
+HasFilled-more buf room len n empty empty' place end end' old now new behind fits h taken few counted passed =
+    let front : length (take len buf) ≡ len = length-take-le len buf behind.within in
+    let piece : length (take n room) ≡ n = length-take-le n room fits in
+    let left = length-room len buf room behind in
+    rw (length-read_behind len buf room behind, take-behind len (length buf - len) n buf room behind.within fits)
+    (HasBegun-push (length buf) empty empty' place end end' old now new (take len buf) (take n room) h taken (omega (arith, behind.within)) (λ none. few (sym piece ∙ none)) (rw (← bool_byte-blank (take n room) n piece) counted) (omega arith))
+
+-- the last fragment was read behind them
+pub TakesRecord-last : (buf room : List ℕ) (len n empty place end end' : ℕ) (old now new : Option (List ℕ)) → ReadsBehind len buf room → n ≤ length room
+    → HasFilled old now buf len empty place end → Consumes now new (fragment true (take n room)) → (n ≡ 0 → empty < EMPTY_MAX) → n < 2 ^ 31 → end' ≡ min (end + (4 + n)) last_count
+    → TakesRecord (length (read_behind len buf room)) (take (len + n) (read_behind len buf room)) old new place end'
+TakesRecord-last buf room len n empty place end end' old now new behind fits h taken few short passed =
+    let front : length (take len buf) ≡ len = length-take-le len buf behind.within in
+    let piece : length (take n room) ≡ n = length-take-le n room fits in
+    let left = length-room len buf room behind in
+    rw (length-read_behind len buf room behind, take-behind len (length buf - len) n buf room behind.within fits)
+    (TakesRecord-push (length buf) empty place end end' old now new (take len buf) (take n room) h taken (omega (arith, behind.within)) (λ none. few (sym piece ∙ none)) (omega arith) (omega arith))
+
+-- no fragment was read behind them
+pub HasCause-more : (buf room : List ℕ) (len empty place end before now after : ℕ) (old mid new : Option (List ℕ)) (fault : RecordFault) → ReadsBehind len buf room
+    → HasFilled old mid buf len empty place end → before ≤ now → HasNoFragment (length room) empty place mid new now after fault → HasCause (length (read_behind len buf room)) place old new before after fault
+HasCause-more buf room len empty place end before now after old mid new fault behind h rose cause =
+    let front : length (take len buf) ≡ len = length-take-le len buf behind.within in
+    let left = length-room len buf room behind in
+    rw (length-read_behind len buf room behind) (HasCause-behind (length buf) (length room) empty place end before now after old mid new (take len buf) fault h (omega (arith, behind.within)) rose cause)
+
+-- input ended behind them
+pub HasCause-end : (buf room : List ℕ) (len empty place end : ℕ) (old now new : Option (List ℕ)) → ReadsBehind len buf room
+    → HasFilled old now buf len empty place end → 0 < len + empty → IsEmpty now new → HasCause (length (read_behind len buf room)) place old new 0 0 (Torn place)
+HasCause-end buf room len empty place end old now new behind h some none =
+    let front : length (take len buf) ≡ len = length-take-le len buf behind.within in
+    rw (length-read_behind len buf room behind) (torn_between (length buf) empty place end old now new (take len buf) h (omega arith) none)

@@ -3,7 +3,7 @@ use Rattle.std.proofs.Common.{◌≡◌, ℕ, zero, suc, ◌+◌, ◌<◌, ◌�
 use Rattle.std.proofs.lemmas.List.{length-append, length-drop, take_all, take_at, drop_at, length-take-le, take-append-le, take-append-drop, append_assoc}
 use Rattle.std.proofs.lemmas.Bool.{cases_lt, le-leb, lt-leb, eqb-false}
 use Rattle.std.proofs.Math.Seq.{take-append-add}
-use Rattle.std.proofs.KnownBytes.{Appends-nil, Appends-trans, Appends-kept}
+use Rattle.std.proofs.KnownBytes.{Appends-trans, Appends-kept}
 use Rattle.std.specs.Io.KnownBytes.{Appends, Keeps}
 use Rattle.yp_rpc.specs.declared.record.TheConstants.{FRAGMENT_MAX}
 use Rattle.yp_rpc.specs.Records.{fragment, sent_within, sent}
@@ -51,15 +51,6 @@ pub record HasPut (before now : Option (List ℕ)) (whole waiting rest : List �
   pub taken : Appends before now out
   pub same : (more : List ℕ) → sent (whole ++ more) ≡ out ++ sent (waiting ++ (rest ++ more))
   pub some : 0 < length whole → 0 < length (waiting ++ rest)
-
--- nothing was put yet
-pub HasPut-none : (now : Option (List ℕ)) (waiting rest : List ℕ) → HasPut now now (waiting ++ rest) waiting rest
-HasPut-none now waiting rest = record {
-  out = [];
-  taken = Appends-nil now;
-  same = λ more. ap sent (append_assoc waiting rest more);
-  some = λ some. some;
-}
 
 -- a list that was cut is the same list
 regroup : (room rest more : List ℕ) (count : ℕ) → room ++ take count rest ++ (drop count rest ++ more) ≡ room ++ (rest ++ more)

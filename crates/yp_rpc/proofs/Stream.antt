@@ -23,13 +23,24 @@ pub length-write : (a k : ℕ) (xs ys : List ℕ) → a + k ≤ length xs → le
 length-write a k xs ys within same =
     omega (arith, length-append (take a xs) (ys ++ post_of a k xs), length-append ys (post_of a k xs), length-take-le a xs (omega arith), length-drop k (drop a xs), length-drop a xs)
 
--- so does one of all that is behind a place
-pub length-behind : (a : ℕ) (xs ys : List ℕ) → a ≤ length xs → length ys ≡ length xs - a → length (put_mid a (length xs - a) xs ys) ≡ length xs
-length-behind a xs ys within same = length-write a (length xs - a) xs ys (omega arith) same
+-- A read went to what is behind the first n bytes of a buffer, and left this there.
+pub record ReadsBehind (n : ℕ) (buf room : List ℕ) : Type 0 where
+  pub within : n ≤ length buf
+  pub as_long : length room ≡ length (take (length buf - n) (drop n buf))
 
--- what is behind a place in a buffer has the length that is left there
-pub length-room : (a : ℕ) (xs ys : List ℕ) → length ys ≡ length (take (length xs - a) (drop a xs)) → length ys ≡ length xs - a
-length-room a xs ys same = same ∙ rw (take_rest, length-drop) refl
+-- the buffer after that read
+abbrev pub read_behind : ℕ → List ℕ → List ℕ → List ℕ
+read_behind n buf room = put_mid n (length buf - n) buf room
+
+-- what is left behind those bytes
+pub length-room : (n : ℕ) (buf room : List ℕ) → ReadsBehind n buf room → length room ≡ length buf - n
+length-room n buf room h = h.as_long ∙ rw (take_rest, length-drop) refl
+
+-- the buffer has its length yet
+pub length-read_behind : (n : ℕ) (buf room : List ℕ) → ReadsBehind n buf room → length (read_behind n buf room) ≡ length buf
+length-read_behind n buf room h =
+    let within : n ≤ length buf = h.within in
+    length-write n (length buf - n) buf room (omega arith) (length-room n buf room h)
 
 -- bytes that are put behind those that wait, which begin at the place h
 pub waiting-put : (h n k count : ℕ) (xs ys : List ℕ) → h + n ≤ length xs → length ys ≡ count → take (n + count) (drop h (put_mid (h + n) k xs ys)) ≡ take n (drop h xs) ++ ys

@@ -5,6 +5,8 @@ ghost use Rattle.yp_rpc.specs.declared.record.RecordFault.TheVariants.{ReadFault
 
 mod head;
 mod reader;
+#[cfg(test)]
+mod tests;
 mod writer;
 
 pub use reader::RecordReader;

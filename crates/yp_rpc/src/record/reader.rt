@@ -49,15 +49,17 @@ impl RecordReader {
         source: &mut S,
         buf: &mut [u8],
     ) -> Result<Option<usize>, RecordFault>
-        // a record: so many bytes at the front of `buf`
+        // a record: `n` bytes at the front of `buf`
         ensures within { IfOk result (λ found. IfSome found (λ n. n ≤ length buf.new)) }
         ensures taken { IfOk result (λ found. IfSome found (λ n.
-            TakesRecord (length buf.new) (take n buf.new) (S.input source.old) (S.input source.new) self.old self.new)) }
+            TakesRecord (length buf.new) (take n buf.new)
+            (S.input source.old) (S.input source.new) self.old self.new)) }
         // none: input had ended before a record's first byte
         ensures none { IfOk result (λ found. IfNone found
             (IsAtEnd (S.input source.old) × IsAtEnd (S.input source.new) × (self.new ≡ self.old))) }
         ensures cause { IfErr result (λ fault. HasCause (length buf.new) self.old
-            (S.input source.old) (S.input source.new) (S.faults source.old) (S.faults source.new) fault) }
+            (S.input source.old) (S.input source.new)
+            (S.faults source.old) (S.faults source.new) fault) }
         ensures stays { OnErr result (self.new ≡ self.old) }
         ensures counted { S.faults source.old ≤ S.faults source.new }
     {
@@ -72,9 +74,12 @@ impl RecordReader {
 // Reads until `buf` is full or input ends, and answers how many bytes were read.
 fn fill<S: Source>(source: &mut S, buf: &mut [u8]) -> Result<usize, Failed>
     ensures within { IfOk result (λ n. n ≤ length buf.new) }
-    ensures bytes { IfOk result (λ n. Consumes (S.input source.old) (S.input source.new) (take n buf.new)) }
+    ensures bytes { IfOk result (λ n.
+        Consumes (S.input source.old) (S.input source.new) (take n buf.new)) }
     ensures end { IfOk result (λ n. n < length buf.new → IsAtEnd (S.input source.new)) }
-    ensures part { OnErr result ((bytes : List ℕ) × Consumes (S.input source.old) (S.input source.new) bytes) }
+    // before a failure some bytes may have been read
+    ensures part { OnErr result ((bytes : List ℕ)
+        × Consumes (S.input source.old) (S.input source.new) bytes) }
     ensures cause { CountsFaults (S.faults source.old) (S.faults source.new) result }
 {
     let mut filled = 0;
@@ -90,11 +95,15 @@ fn fill<S: Source>(source: &mut S, buf: &mut [u8]) -> Result<usize, Failed>
 
 // Reads a head, or answers none where input has ended. `place` is where the record began.
 fn read_head<S: Source>(source: &mut S, place: u64) -> Result<Option<Head>, RecordFault>
-    ensures head { IfOk result (λ found. IfSome found (λ f. Consumes (S.input source.old) (S.input source.new) (head f.last f.len))) }
+    ensures head { IfOk result (λ found. IfSome found (λ f.
+        Consumes (S.input source.old) (S.input source.new) (head f.last f.len))) }
     ensures short { IfOk result (λ found. IfSome found (λ f. f.len < 2 ^ 31)) }
-    ensures none { IfOk result (λ found. IfNone found (IsEmpty (S.input source.old) (S.input source.new))) }
+    ensures none { IfOk result (λ found. IfNone found
+        (IsEmpty (S.input source.old) (S.input source.new))) }
     // whatever room and empty fragments there are
-    ensures cause { (room empty : ℕ) → IfErr result (λ fault. HasNoFragment room empty place (S.input source.old) (S.input source.new) (S.faults source.old) (S.faults source.new) fault) }
+    ensures cause { (room empty : ℕ) → IfErr result (λ fault. HasNoFragment room empty place
+        (S.input source.old) (S.input source.new)
+        (S.faults source.old) (S.faults source.new) fault) }
     ensures counted { S.faults source.old ≤ S.faults source.new }
 {
     let mut bytes = [0; HEAD];
@@ -106,7 +115,7 @@ fn read_head<S: Source>(source: &mut S, place: u64) -> Result<Option<Head>, Reco
 }
 
 // Reads the next fragment of a record to the front of `room`, or answers none where input has ended. The record began
-// at `place`, and has so many empty fragments so far. A head that names too much is the last that is read.
+// at `place`, and has `empty` fragments of no byte so far. Behind a head that names too much nothing is read.
 fn read_fragment<S: Source>(
     source: &mut S,
     room: &mut [u8],
@@ -116,9 +125,14 @@ fn read_fragment<S: Source>(
     ensures within { IfOk result (λ found. IfSome found (λ f. f.len ≤ length room.new)) }
     ensures short { IfOk result (λ found. IfSome found (λ f. f.len < 2 ^ 31)) }
     ensures few { IfOk result (λ found. IfSome found (λ f. f.len ≡ 0 → empty < EMPTY_MAX)) }
-    ensures taken { IfOk result (λ found. IfSome found (λ f. Consumes (S.input source.old) (S.input source.new) (fragment f.last (take f.len room.new)))) }
-    ensures none { IfOk result (λ found. IfNone found (IsEmpty (S.input source.old) (S.input source.new))) }
-    ensures cause { IfErr result (λ fault. HasNoFragment (length room.new) empty place (S.input source.old) (S.input source.new) (S.faults source.old) (S.faults source.new) fault) }
+    ensures taken { IfOk result (λ found. IfSome found (λ f.
+        Consumes (S.input source.old) (S.input source.new)
+        (fragment f.last (take f.len room.new)))) }
+    ensures none { IfOk result (λ found. IfNone found
+        (IsEmpty (S.input source.old) (S.input source.new))) }
+    ensures cause { IfErr result (λ fault. HasNoFragment (length room.new) empty place
+        (S.input source.old) (S.input source.new)
+        (S.faults source.old) (S.faults source.new) fault) }
     ensures counted { S.faults source.old ≤ S.faults source.new }
 {
     let Some(fragment) = read_head(source, place)? else {
@@ -140,9 +154,14 @@ fn read_record<S: Source>(
     place: u64,
 ) -> Result<Option<Record>, RecordFault>
     ensures within { IfOk result (λ found. IfSome found (λ r. r.len ≤ length buf.new)) }
-    ensures taken { IfOk result (λ found. IfSome found (λ r. TakesRecord (length buf.new) (take r.len buf.new) (S.input source.old) (S.input source.new) place r.end)) }
-    ensures none { IfOk result (λ found. IfNone found (IsEmpty (S.input source.old) (S.input source.new))) }
-    ensures cause { IfErr result (λ fault. HasCause (length buf.new) place (S.input source.old) (S.input source.new) (S.faults source.old) (S.faults source.new) fault) }
+    ensures taken { IfOk result (λ found. IfSome found (λ r.
+        TakesRecord (length buf.new) (take r.len buf.new)
+        (S.input source.old) (S.input source.new) place r.end)) }
+    ensures none { IfOk result (λ found. IfNone found
+        (IsEmpty (S.input source.old) (S.input source.new))) }
+    ensures cause { IfErr result (λ fault. HasCause (length buf.new) place
+        (S.input source.old) (S.input source.new)
+        (S.faults source.old) (S.faults source.new) fault) }
     ensures counted { S.faults source.old ≤ S.faults source.new }
 {
     let mut len = 0;

@@ -21,14 +21,16 @@ pub struct RecordWriter {
 }
 
 impl Model for RecordWriter {
-    ghost use Rattle.std.specs.Prelude.{◌≡◌, ℕ, ◌≤◌, List, length, take, drop};
+    ghost use Rattle.std.specs.Prelude.{◌≡◌, ℕ, ◌+◌, ◌≤◌, List, length, take, drop};
     ghost use Rattle.yp_rpc.specs.declared.record.TheConstants.{FRAGMENT_MAX};
+    ghost use Rattle.yp_rpc.specs.declared.record.head.TheConstants.{HEAD};
 
     ghost Value = { List ℕ };
 
-    ghost view = { λ w. take w.len (drop 4 w.bytes.items) };
+    ghost view = { λ w. take w.len (drop HEAD w.bytes.items) };
 
-    ghost invariant = { λ w. (length w.bytes.items ≡ 8196) × (w.len ≤ FRAGMENT_MAX) };
+    ghost invariant = { λ w. (length w.bytes.items ≡ HEAD + FRAGMENT_MAX)
+        × (w.len ≤ FRAGMENT_MAX) };
 }
 
 impl RecordWriter {
@@ -44,13 +46,15 @@ impl RecordWriter {
     /// After `Failed` nothing waits, and the stream ends inside the record.
     pub fn put<K: Sink>(&mut self, sink: &mut K, piece: &[u8]) -> Result<(), Failed>
         // what is sent of a record does not depend on how it was put
-        ensures sent { OnOk result ((out : List ℕ) × Appends (K.output sink.old) (K.output sink.new) out
+        ensures sent { OnOk result ((out : List ℕ)
+            × Appends (K.output sink.old) (K.output sink.new) out
             × ((more : List ℕ) → 0 < length (self.new ++ more)
             → sent (self.old ++ piece.now ++ more) ≡ out ++ sent (self.new ++ more))) }
         // something waits unless nothing was put
         ensures pending { OnOk result (0 < length (self.old ++ piece.now) → 0 < length self.new) }
         ensures prefix { OnErr result ((more : List ℕ) → (n : ℕ)
-            × Appends (K.output sink.old) (K.output sink.new) (take n (sent (self.old ++ piece.now ++ more)))) }
+            × Appends (K.output sink.old) (K.output sink.new)
+            (take n (sent (self.old ++ piece.now ++ more)))) }
         ensures as_new { OnErr result (self.new ≡ []) }
         ensures cause { CountsFaults (K.faults sink.old) (K.faults sink.new) result }
     {
@@ -66,8 +70,10 @@ impl RecordWriter {
     /// Ends a record: writes what waits as its last fragment, and flushes. Nothing waits then, even after `Failed`.
     pub fn end<K: Sink>(&mut self, sink: &mut K) -> Result<(), Failed>
         requires { 0 < length self.old }
-        ensures sent { OnOk result (Appends (K.output sink.old) (K.output sink.new) (sent self.old)) }
-        ensures prefix { OnErr result ((n : ℕ) × Appends (K.output sink.old) (K.output sink.new) (take n (sent self.old))) }
+        ensures sent { OnOk result
+            (Appends (K.output sink.old) (K.output sink.new) (sent self.old)) }
+        ensures prefix { OnErr result ((n : ℕ)
+            × Appends (K.output sink.old) (K.output sink.new) (take n (sent self.old))) }
         ensures as_new { self.new ≡ [] }
         ensures cause { CountsFaults (K.faults sink.old) (K.faults sink.new) result }
     {
@@ -78,8 +84,10 @@ impl RecordWriter {
     // Makes room for a further byte of the record.
     fn make_room<K: Sink>(&mut self, sink: &mut K) -> Result<(), Failed>
         ensures room { OnOk result (length self.new < FRAGMENT_MAX) }
-        ensures sent { OnOk result ((out : List ℕ) × Appends (K.output sink.old) (K.output sink.new) out
-            × ((more : List ℕ) → 0 < length more → sent (self.old ++ more) ≡ out ++ sent (self.new ++ more))) }
+        ensures sent { OnOk result ((out : List ℕ)
+            × Appends (K.output sink.old) (K.output sink.new) out
+            × ((more : List ℕ) → 0 < length more
+            → sent (self.old ++ more) ≡ out ++ sent (self.new ++ more))) }
         ensures prefix { OnErr result ((more : List ℕ) → 0 < length more → (n : ℕ)
             × Appends (K.output sink.old) (K.output sink.new) (take n (sent (self.old ++ more)))) }
         ensures as_new { OnErr result (self.new ≡ []) }
@@ -106,7 +114,8 @@ impl RecordWriter {
     // Writes what waits as one fragment.
     fn send<K: Sink>(&mut self, sink: &mut K, last: bool) -> Result<(), Failed>
         ensures few { length self.old ≤ FRAGMENT_MAX }
-        ensures sent { OnOk result (Appends (K.output sink.old) (K.output sink.new) (fragment last self.old)) }
+        ensures sent { OnOk result
+            (Appends (K.output sink.old) (K.output sink.new) (fragment last self.old)) }
         ensures prefix { OnErr result ((n : ℕ) × (n ≤ length (fragment last self.old))
             × Appends (K.output sink.old) (K.output sink.new) (take n (fragment last self.old))) }
         ensures as_new { self.new ≡ [] }
@@ -125,11 +134,13 @@ fn write_fragment<K: Sink>(
     len: usize,
     last: bool,
 ) -> Result<(), Failed>
-    requires room { 4 + len ≤ length bytes.old }
+    requires room { HEAD + len ≤ length bytes.old }
     requires short { len ≤ FRAGMENT_MAX }
-    ensures sent { OnOk result (Appends (K.output sink.old) (K.output sink.new) (fragment last (take len (drop 4 bytes.old)))) }
-    ensures prefix { OnErr result ((n : ℕ) × (n ≤ length (fragment last (take len (drop 4 bytes.old))))
-        × Appends (K.output sink.old) (K.output sink.new) (take n (fragment last (take len (drop 4 bytes.old))))) }
+    ensures sent { let whole = fragment last (take len (drop HEAD bytes.old))
+        in OnOk result (Appends (K.output sink.old) (K.output sink.new) whole) }
+    ensures prefix { let whole = fragment last (take len (drop HEAD bytes.old))
+        in OnErr result ((n : ℕ) × (n ≤ length whole)
+        × Appends (K.output sink.old) (K.output sink.new) (take n whole)) }
     ensures cause { CountsFaults (K.faults sink.old) (K.faults sink.new) result }
 {
     bytes[..HEAD].copy_from_slice(&Head { last, len }.to_bytes());

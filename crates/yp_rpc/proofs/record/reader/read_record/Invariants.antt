@@ -1,14 +1,14 @@
 -- How far a record has come.
-use Rattle.std.proofs.Common.{◌+◌, ◌-◌, ◌≤◌, length, take}
+use Rattle.std.proofs.Common.{◌+◌, ◌-◌, ◌≤◌, length}
 use Rattle.yp_rpc.specs.declared.record.TheConstants.{EMPTY_MAX}
-use Rattle.yp_rpc.proofs.Fragments.{HasBegun}
+use Rattle.yp_rpc.proofs.Fragments.{HasFilled}
 use Rattle.yp_rpc.proofs.record.reader.read_record.Given as goal
 
 abbrev pub invariant-fragments : goal.invariant-fragments
 invariant-fragments g l = record {
   fits : l.len ≤ length l.buf;
   few : l.empty ≤ EMPTY_MAX;
-  begun : HasBegun (length l.buf) (g.S.Source.input l.fn.source) (g.S.Source.input l.source) (take l.len l.buf) l.empty l.place l.end;
+  begun : HasFilled (g.S.Source.input l.fn.source) (g.S.Source.input l.source) l.buf l.len l.empty l.place l.end;
   never_fell : g.S.Source.faults l.fn.source ≤ g.S.Source.faults l.source;
 }
 
