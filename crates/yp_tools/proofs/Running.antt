@@ -8,7 +8,7 @@ use Rattle.std.proofs.lemmas.Grind.{flat_map-append}
 use Rattle.std.proofs.Math.Seq.{take-append-add}
 use Rattle.yp_io.specs.Counts.{HasRisen, last_count}
 use Rattle.yp_rpc.specs.Records.{TakesRecord}
-use Rattle.yp_tools.specs.declared.protocol.TheConstants.{CALL_MAX, CALLS_MAX}
+use Rattle.yp_tools.specs.Numbers.{call_max, calls_max}
 use Rattle.yp_tools.specs.declared.session.End.{End}
 use Rattle.yp_tools.specs.declared.session.End.TheVariants.{Clean, Torn, TooLong, ReadFault, WriteFault, Enough}
 use Rattle.yp_tools.specs.declared.session.Step.TheVariants.{Ended}
@@ -45,7 +45,7 @@ Appends-none (Some xs) = sym (append-nil xs)
 -- ---- one record more
 
 Reads-more : (messages : List (List ℕ)) (message : List ℕ) (old mid new : Feed) → Reads messages old mid
-    → TakesRecord CALL_MAX message mid.input new.input mid.place new.place → Reads (messages ++ message ∷ []) old new
+    → TakesRecord call_max message mid.input new.input mid.place new.place → Reads (messages ++ message ∷ []) old new
 Reads-more [] message old mid new before more =
     let counted = more.counted ∙ ap (λ (p : ℕ). min (p + length more.bytes) last_count) before.1 in
     (new, record { bytes = more.bytes; fragments = more.fragments; taken = Consumes-kept old.input mid.input new.input more.bytes before.0 more.taken; counted = counted }, (Keeps-refl new.input, refl))
@@ -78,7 +78,7 @@ SoFar-more served count old mid new a b c so_far step = record {
 -- ---- the end
 
 -- the same, at a later count and from earlier counts of faults
-later : (end : End) (count : ℕ) (mid new : Feed) (before between after : Counts) → count < CALLS_MAX → before.reads ≤ between.reads → before.writes ≤ between.writes
+later : (end : End) (count : ℕ) (mid new : Feed) (before between after : Counts) → count < calls_max → before.reads ≤ between.reads → before.writes ≤ between.writes
     → EndsAt end 0 mid new between after → EndsAt end count mid new before after
 later Clean count mid new before between after few r w h = (h.0, h.1, few)
 later (Torn at) count mid new before between after few r w h = (h.0, h.1, h.2, h.3, h.4, few)
@@ -89,7 +89,7 @@ later Enough count mid new before between after few r w h = absurd (omega (arith
 
 -- a session that ends between its records
 between_records : (served : Served) (end : End) (count : ℕ) (old mid new : Feed) (a b c : Option (List ℕ)) (before between after : Counts) → SoFar served count old mid a b
-    → count < CALLS_MAX → before.reads ≤ between.reads → before.writes ≤ between.writes → Keeps b c → EndsAt end 0 mid new between after
+    → count < calls_max → before.reads ≤ between.reads → before.writes ≤ between.writes → Keeps b c → EndsAt end 0 mid new between after
     → ((bytes : List ℕ) → Appends a c bytes → Answers end a c bytes) → Runs served end old new a c before after
 between_records served end count old mid new a b c before between after so_far few r w kept ended as_end = record {
   messages = so_far.messages;
@@ -100,7 +100,7 @@ between_records served end count old mid new a b c before between after so_far f
 }
 
 pub Runs-ended : (served : Served) (end : End) (count : ℕ) (old mid new : Feed) (a b c : Option (List ℕ)) (before between after : Counts) → SoFar served count old mid a b
-    → count < CALLS_MAX → before.reads ≤ between.reads → before.writes ≤ between.writes → Does served (Ended end) mid new b c between after → Runs served end old new a c before after
+    → count < calls_max → before.reads ≤ between.reads → before.writes ≤ between.writes → Does served (Ended end) mid new b c between after → Runs served end old new a c before after
 Runs-ended served Clean count old mid new a b c before between after so_far few r w h = between_records served Clean count old mid new a b c before between after so_far few r w h.0 h.1 (λ bytes k. k)
 Runs-ended served (Torn at) count old mid new a b c before between after so_far few r w h = between_records served (Torn at) count old mid new a b c before between after so_far few r w h.0 h.1 (λ bytes k. k)
 Runs-ended served (TooLong at) count old mid new a b c before between after so_far few r w h = between_records served (TooLong at) count old mid new a b c before between after so_far few r w h.0 h.1 (λ bytes k. k)
@@ -120,7 +120,7 @@ Runs-ended served WriteFault count old mid new a b c before between after so_far
       ended = omega (arith, h.1);
     }
 
-pub Runs-enough : (served : Served) (count : ℕ) (old now : Feed) (a b : Option (List ℕ)) (before after : Counts) → SoFar served count old now a b → count ≡ CALLS_MAX → Runs served Enough old now a b before after
+pub Runs-enough : (served : Served) (count : ℕ) (old now : Feed) (a b : Option (List ℕ)) (before after : Counts) → SoFar served count old now a b → count ≡ calls_max → Runs served Enough old now a b before after
 Runs-enough served count old now a b before after so_far all = record {
   messages = so_far.messages;
   mid = now;

@@ -7,7 +7,7 @@ use Rattle.yp_io.specs.Counts.{last_count, HasRisen}
 use Rattle.yp_rpc.specs.Records.{Fragments, Cut, IsRest, IsTorn, IsTooLong, IsLong, TakesRecord}
 use Rattle.yp_rpc.proofs.CutKinds.{whole_one, whole_is_some, torn_is_some, long_is_some}
 use Rattle.yp_rpc.proofs.CutOne.{cut_one, rest_is_not_whole}
-use Rattle.yp_tools.specs.declared.protocol.TheConstants.{CALL_MAX, CALLS_MAX}
+use Rattle.yp_tools.specs.Numbers.{call_max, calls_max}
 use Rattle.yp_tools.specs.declared.session.End.{End}
 use Rattle.yp_tools.specs.declared.session.End.TheVariants as ends
 use Rattle.yp_tools.specs.declared.status.Status.{Status}
@@ -67,19 +67,19 @@ told (message ∷ messages) old new stream e within h =
     }
 
 -- records and a rest are a cut
-cut_from : (messages : List (List ℕ)) (stream rest : List ℕ) → Begins stream messages rest → IsRest CALL_MAX rest → Cut CALL_MAX stream messages rest
+cut_from : (messages : List (List ℕ)) (stream rest : List ℕ) → Begins stream messages rest → IsRest call_max rest → Cut call_max stream messages rest
 cut_from [] stream rest h end = (h, end)
 cut_from (message ∷ messages) stream rest h end = (h.0, h.1, h.2, h.3, cut_from messages h.1 rest h.4 end)
 
 -- no more records were read than the whole stream has
-begins_few : (messages others : List (List ℕ)) (stream rest : List ℕ) → Begins stream others rest → Cut CALL_MAX stream messages [] → length others ≤ length messages
+begins_few : (messages others : List (List ℕ)) (stream rest : List ℕ) → Begins stream others rest → Cut call_max stream messages [] → length others ≤ length messages
 begins_few messages [] stream rest h cut = omega arith
 begins_few [] (other ∷ others) stream rest h cut =
     let none : h.0 ++ h.1 ≡ [] = sym h.3 ∙ cut.0 in
-    absurd (whole_is_some CALL_MAX other h.0 h.1 h.2 none)
+    absurd (whole_is_some call_max other h.0 h.1 h.2 none)
 begins_few (message ∷ messages) (other ∷ others) stream rest h cut =
-    let same = whole_one CALL_MAX other message h.0 cut.0 h.1 cut.1 (omega arith) h.2 cut.2 (sym h.3 ∙ cut.3) in
-    let more : Cut CALL_MAX h.1 messages [] = rw same.1 cut.4 in
+    let same = whole_one call_max other message h.0 cut.0 h.1 cut.1 (omega arith) h.2 cut.2 (sym h.3 ∙ cut.3) in
+    let more : Cut call_max h.1 messages [] = rw same.1 cut.4 in
     omega (arith, begins_few messages others h.1 rest h.4 more)
 
 -- ---- each status
@@ -101,13 +101,13 @@ serves_told served (ends.Torn at) stream input' output output' place before afte
     let behind = taken h.mid.input input' t.rest e.1 t.left e.3 in
     let none : behind.0 ≡ [] = ended input' behind.0 behind.1 e.4 in
     let same : e.1 ≡ t.rest = sym (append-nil e.1) ∙ ap (λ (xs : List ℕ). e.1 ++ xs) (sym none) ∙ sym behind.2 in
-    let torn : IsTorn CALL_MAX t.rest = subst (IsTorn CALL_MAX) same e.2 in
+    let torn : IsTorn call_max t.rest = subst (IsTorn call_max) same e.2 in
     (t.rest, record { messages = h.messages; cut = cut_from h.messages stream t.rest t.begins (inr (inl torn)); few = e.5; answered = h.answered }, torn, e.0 ∙ place_is stream t.rest h.mid.place t.place)
 serves_told served (ends.TooLong at) stream input' output output' place before after h =
     let t = told h.messages (record { input = Some stream; place = 0 }) h.mid stream refl (omega arith) h.read in
     let e = h.ended in
     let behind = taken h.mid.input input' t.rest e.1 t.left e.3 in
-    let long : IsLong CALL_MAX t.rest = (e.1, behind.0, e.2, behind.2) in
+    let long : IsLong call_max t.rest = (e.1, behind.0, e.2, behind.2) in
     (t.rest, record { messages = h.messages; cut = cut_from h.messages stream t.rest t.begins (inr (inr long)); few = e.4; answered = h.answered }, long, e.0 ∙ place_is stream t.rest h.mid.place t.place)
 serves_told served ends.ReadFault stream input' output output' place before after h =
     let t = told h.messages (record { input = Some stream; place = 0 }) h.mid stream refl (omega arith) h.read in
@@ -134,7 +134,7 @@ ran_told served status (Some stream) input' output output' before after (inr h) 
 
 -- whole records are all answered, where nothing failed and memory sufficed
 pub all_answered : (served : Served) (status : Status) (stream : List ℕ) (messages : List (List ℕ)) (output output' : Option (List ℕ)) → Serves served status stream output output'
-    → Cut CALL_MAX stream messages [] → length messages < CALLS_MAX → (status ≡ ReadFault → ⊥) → (status ≡ WriteFault → ⊥) → (status ≡ Done) ⊎ (status ≡ NoMemory)
+    → Cut call_max stream messages [] → length messages < calls_max → (status ≡ ReadFault → ⊥) → (status ≡ WriteFault → ⊥) → (status ≡ Done) ⊎ (status ≡ NoMemory)
 all_answered served Done stream messages output output' h cut few reads writes = inl refl
 all_answered served NoMemory stream messages output output' h cut few reads writes = inr refl
 all_answered served (Usage word) stream messages output output' h cut few reads writes = absurd h
@@ -143,9 +143,9 @@ all_answered served WriteFault stream messages output output' h cut few reads wr
 all_answered served Enough stream messages output output' h cut few reads writes =
     absurd (omega (arith, begins_few messages h.messages stream h.rest h.begins cut, h.done.0))
 all_answered served (Torn at) stream messages output output' h cut few reads writes =
-    absurd (torn_is_some CALL_MAX h.0 h.2 (sym (cut_one CALL_MAX stream messages h.1.messages [] h.0 (omega arith) cut h.1.cut).1))
+    absurd (torn_is_some call_max h.0 h.2 (sym (cut_one call_max stream messages h.1.messages [] h.0 (omega arith) cut h.1.cut).1))
 all_answered served (TooLong at) stream messages output output' h cut few reads writes =
-    absurd (long_is_some CALL_MAX h.0 h.2 (sym (cut_one CALL_MAX stream messages h.1.messages [] h.0 (omega arith) cut h.1.cut).1))
+    absurd (long_is_some call_max h.0 h.2 (sym (cut_one call_max stream messages h.1.messages [] h.0 (omega arith) cut h.1.cut).1))
 
 -- what holds of a told value
 pub at_some : (o : Option (List ℕ)) (x : List ℕ) (P : List ℕ → Type 0) → o ≡ Some x → IfSome o P → P x

@@ -1,3 +1,4 @@
+pub mod Numbers
 pub mod Served
 pub mod Words
 pub mod Messages

@@ -3,7 +3,7 @@ use Rattle.std.specs.Prelude.{◌≡◌, ℕ, ◌-◌, ◌<◌, List, [], ◌∷
 use Rattle.std.specs.Io.KnownBytes.{Keeps, Appends}
 use Rattle.yp_io.specs.Counts.{last_count}
 use Rattle.yp_rpc.specs.Records.{Fragments, Cut, IsTorn, IsLong}
-use Rattle.yp_tools.specs.declared.protocol.TheConstants.{CALL_MAX, CALLS_MAX}
+use Rattle.yp_tools.specs.Numbers.{call_max, calls_max}
 use Rattle.yp_tools.specs.declared.session.End.{End}
 use Rattle.yp_tools.specs.declared.session.End.TheVariants as ends
 use Rattle.yp_tools.specs.declared.status.Status.{Status}
@@ -25,7 +25,7 @@ status_of ends.Enough = Enough
 abbrev pub Begins : List ℕ → List (List ℕ) → List ℕ → Type 0
 Begins stream [] rest = stream ≡ rest
 Begins stream (message ∷ messages) rest =
-    (bytes more : List ℕ) × Fragments CALL_MAX message bytes × (stream ≡ bytes ++ more) × Begins more messages rest
+    (bytes more : List ℕ) × Fragments call_max message bytes × (stream ≡ bytes ++ more) × Begins more messages rest
 
 -- the place of the rest in the stream
 abbrev pub place_of : List ℕ → List ℕ → ℕ
@@ -34,8 +34,8 @@ place_of stream rest = min (length stream - length rest) last_count
 -- the records of a stream were answered up to its rest
 pub record AnswersUpTo (served : Served) (stream rest : List ℕ) (output output' : Option (List ℕ)) : Type 0 where
   pub messages : List (List ℕ)
-  pub cut : Cut CALL_MAX stream messages rest
-  pub few : length messages < CALLS_MAX
+  pub cut : Cut call_max stream messages rest
+  pub few : length messages < calls_max
   pub answered : Appends output output' (answers served messages)
 
 -- records at the front of a stream were read, and of their answers this was sent
@@ -48,11 +48,11 @@ pub record AnswersSome (stream : List ℕ) (P : List (List ℕ) → Type 0) : Ty
 -- What is done with an input, for each status. All records before the rest are answered; a failed sink took a prefix.
 abbrev pub Serves : Served → Status → List ℕ → Option (List ℕ) → Option (List ℕ) → Type 0
 Serves served Done stream output output' = AnswersUpTo served stream [] output output'
-Serves served (Torn at) stream output output' = (rest : List ℕ) × AnswersUpTo served stream rest output output' × IsTorn CALL_MAX rest × (at ≡ place_of stream rest)
-Serves served (TooLong at) stream output output' = (rest : List ℕ) × AnswersUpTo served stream rest output output' × IsLong CALL_MAX rest × (at ≡ place_of stream rest)
+Serves served (Torn at) stream output output' = (rest : List ℕ) × AnswersUpTo served stream rest output output' × IsTorn call_max rest × (at ≡ place_of stream rest)
+Serves served (TooLong at) stream output output' = (rest : List ℕ) × AnswersUpTo served stream rest output output' × IsLong call_max rest × (at ≡ place_of stream rest)
 Serves served ReadFault stream output output' = AnswersSome stream (λ messages. Appends output output' (answers served messages))
 Serves served WriteFault stream output output' = AnswersSome stream (λ messages. (n : ℕ) × Appends output output' (take n (answers served messages)))
-Serves served Enough stream output output' = AnswersSome stream (λ messages. (length messages ≡ CALLS_MAX) × Appends output output' (answers served messages))
+Serves served Enough stream output output' = AnswersSome stream (λ messages. (length messages ≡ calls_max) × Appends output output' (answers served messages))
 Serves served NoMemory stream output output' = Keeps output output'
 Serves served (Usage word) stream output output' = ⊥
 

@@ -10,13 +10,12 @@ use Rattle.yp_rpc.specs.declared.call.Heard.{Heard}
 use Rattle.yp_rpc.specs.declared.call.Heard.TheVariants.{Call, WrongRpc, Noise}
 use Rattle.yp_rpc.specs.declared.reply.ReplyHead.{ReplyHead}
 use Rattle.yp_rpc.specs.declared.reply.ReplyHead.TheVariants.{Success, ProgUnavail, ProgMismatch, ProcUnavail, GarbageArgs, RpcMismatch, AuthError}
-use Rattle.yp_rpc.specs.declared.protocol.TheConstants.{RPC_VERSION, AUTH_NONE, AUTH_SYS, AUTH_REJECTEDCRED}
+use Rattle.yp_tools.specs.Numbers.{rpc_version, auth_none, auth_sys, auth_rejectedcred, program, version, null, match_procedure}
 use Rattle.yp_rpc.specs.Call.{heard}
 use Rattle.yp_rpc.specs.Reply.{reply_head}
 use Rattle.yp_tools.specs.declared.messages.YpStat.{YpStat}
 use Rattle.yp_tools.specs.declared.messages.YpStat.TheVariants.{True, Nomap, Nodom, Nokey, Badargs}
 use Rattle.yp_tools.specs.declared.answer.Service.{Service}
-use Rattle.yp_tools.specs.declared.protocol.TheConstants.{YPPROG, YPVERS, NULL, MATCH}
 use Rattle.yp_tools.specs.Served.{Served}
 use Rattle.yp_tools.specs.Words.{row_view}
 use Rattle.yp_tools.specs.Messages.{req_key, resp_val, resp_val_of}
@@ -45,10 +44,10 @@ matched served asked =
 -- why a call isn't let to its procedure, the first reason that applies
 abbrev pub refusal : CallHead → Option ReplyHead
 refusal call =
-    if not (call.flavor == AUTH_NONE) && not (call.flavor == AUTH_SYS) then Some (AuthError AUTH_REJECTEDCRED)
-    else (if not (call.prog == YPPROG) then Some ProgUnavail
-    else (if not (call.vers == YPVERS) then Some (ProgMismatch YPVERS YPVERS)
-    else (if not (call.procedure == NULL) && not (call.procedure == MATCH) then Some ProcUnavail
+    if not (call.flavor == auth_none) && not (call.flavor == auth_sys) then Some (AuthError auth_rejectedcred)
+    else (if not (call.prog == program) then Some ProgUnavail
+    else (if not (call.vers == version) then Some (ProgMismatch version version)
+    else (if not (call.procedure == null) && not (call.procedure == match_procedure) then Some ProcUnavail
     else None)))
 
 -- the reply to MATCH, whose arguments were read so
@@ -61,13 +60,13 @@ match_reply served xid (Err fault) = reply_head xid GarbageArgs
 abbrev pub call_reply : Served → CallHead → List ℕ → Option ReplyHead → List ℕ
 call_reply served call arguments (Some head) = reply_head call.xid head
 call_reply served call arguments None =
-    if call.procedure == NULL
+    if call.procedure == null
     then reply_head call.xid Success
     else match_reply served call.xid (reading req_key (record { at = 0; bytes = arguments }))
 
 abbrev pub heard_reply : Served → List ℕ → Heard → Option (List ℕ)
 heard_reply served message Noise = None
-heard_reply served message (WrongRpc xid) = Some (reply_head xid (RpcMismatch RPC_VERSION RPC_VERSION))
+heard_reply served message (WrongRpc xid) = Some (reply_head xid (RpcMismatch rpc_version rpc_version))
 heard_reply served message (Call call) = Some (call_reply served call (drop call.body message) (refusal call))
 
 -- the one reply to a record, or silence

@@ -4,7 +4,7 @@ use Rattle.std.specs.List.{flat_map}
 use Rattle.std.specs.Io.KnownBytes.{Keeps, Appends, Consumes, IsAtEnd}
 use Rattle.yp_io.specs.Counts.{HasRisen, last_count}
 use Rattle.yp_rpc.specs.Records.{Fragments, IsTorn, IsTooLong, TakesRecord, sent}
-use Rattle.yp_tools.specs.declared.protocol.TheConstants.{CALL_MAX, CALLS_MAX}
+use Rattle.yp_tools.specs.Numbers.{call_max, calls_max}
 use Rattle.yp_rpc.specs.declared.record.RecordFault.{RecordFault}
 use Rattle.yp_rpc.specs.declared.record.RecordFault.TheVariants as faults
 use Rattle.yp_tools.specs.declared.session.Step.{Step}
@@ -32,7 +32,7 @@ pub record Feed : Type 0 where
 abbrev pub Reads : List (List ℕ) → Feed → Feed → Type 0
 Reads [] old new = Keeps old.input new.input × (new.place ≡ old.place)
 Reads (message ∷ messages) old new =
-    (mid : Feed) × TakesRecord CALL_MAX message old.input mid.input old.place mid.place × Reads messages mid new
+    (mid : Feed) × TakesRecord call_max message old.input mid.input old.place mid.place × Reads messages mid new
 
 -- how often the source and the sink have failed
 pub record Counts : Type 0 where
@@ -41,12 +41,12 @@ pub record Counts : Type 0 where
 
 -- what is left where the session ended, and how many records were read
 abbrev pub EndsAt : End → ℕ → Feed → Feed → Counts → Counts → Type 0
-EndsAt Clean count mid new before after = IsAtEnd mid.input × IsAtEnd new.input × (count < CALLS_MAX)
-EndsAt (Torn at) count mid new before after = (at ≡ mid.place) × (rest : List ℕ) × IsTorn CALL_MAX rest × Consumes mid.input new.input rest × IsAtEnd new.input × (count < CALLS_MAX)
-EndsAt (TooLong at) count mid new before after = (at ≡ mid.place) × (front : List ℕ) × IsTooLong CALL_MAX front × Consumes mid.input new.input front × (count < CALLS_MAX)
+EndsAt Clean count mid new before after = IsAtEnd mid.input × IsAtEnd new.input × (count < calls_max)
+EndsAt (Torn at) count mid new before after = (at ≡ mid.place) × (rest : List ℕ) × IsTorn call_max rest × Consumes mid.input new.input rest × IsAtEnd new.input × (count < calls_max)
+EndsAt (TooLong at) count mid new before after = (at ≡ mid.place) × (front : List ℕ) × IsTooLong call_max front × Consumes mid.input new.input front × (count < calls_max)
 EndsAt ReadFault count mid new before after = HasRisen before.reads after.reads
 EndsAt WriteFault count mid new before after = HasRisen before.writes after.writes
-EndsAt Enough count mid new before after = count ≡ CALLS_MAX
+EndsAt Enough count mid new before after = count ≡ calls_max
 
 -- the sink has taken all answers, or a prefix of them where it failed
 abbrev pub Answers : End → Option (List ℕ) → Option (List ℕ) → List ℕ → Type 0
@@ -74,7 +74,7 @@ end_of faults.ReadFault = ReadFault
 -- a record was read, and this was made of its answer
 pub record IsAnswered (served : Served) (old new : Feed) (P : List ℕ → Type 0) : Type 0 where
   pub message : List ℕ
-  pub taken : TakesRecord CALL_MAX message old.input new.input old.place new.place
+  pub taken : TakesRecord call_max message old.input new.input old.place new.place
   pub done : P (sent_reply (reply served message))
 
 -- What a step does: it answers a record, or ends before one, or in an answer that the sink didn't take whole.

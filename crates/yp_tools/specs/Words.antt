@@ -11,7 +11,7 @@ use Rattle.yp_tools.specs.declared.command.Command.{Command}
 use Rattle.yp_tools.specs.declared.command.Command.TheVariants as command
 use Rattle.yp_tools.specs.declared.words.ParseFault.{ParseFault}
 use Rattle.yp_tools.specs.declared.words.ParseFault.TheVariants.{Usage, NoMemory}
-use Rattle.yp_tools.specs.declared.protocol.TheConstants.{NAME_MAX, KEY_MAX, VALUE_MAX}
+use Rattle.yp_tools.specs.Numbers.{name_max, key_max, value_max}
 
 -- ---- the forms of words
 
@@ -21,7 +21,7 @@ is_name_byte c = nat_le 0x21 c && nat_le c 0x7e && not (c == 47) && not (c == 64
 
 -- a name: 1 to 64 such bytes, the first of which is no dot
 abbrev pub is_name : List ℕ → Bool
-is_name word = nat_le 1 (length word) && nat_le (length word) NAME_MAX && not (slice_index_or word 0 0 == 46) && list_all is_name_byte word
+is_name word = nat_le 1 (length word) && nat_le (length word) name_max && not (slice_index_or word 0 0 == 46) && list_all is_name_byte word
 
 -- what stands before and after the first such byte
 abbrev pub before : ℕ → List ℕ → List ℕ
@@ -37,7 +37,7 @@ is_store word = is_name (before 47 word) && is_name (after 47 word)
 -- a row: a key, which isn't empty, and its value behind the first equals sign
 abbrev pub is_row : List ℕ → Bool
 is_row word =
-    nat_lt (length (before 61 word)) (length word) && nat_le 1 (length (before 61 word)) && nat_le (length (before 61 word)) KEY_MAX && nat_le (length (after 61 word)) VALUE_MAX
+    nat_lt (length (before 61 word)) (length word) && nat_le 1 (length (before 61 word)) && nat_le (length (before 61 word)) key_max && nat_le (length (after 61 word)) value_max
 
 pub data Form : Type 0 where
   -- this very word

@@ -4,7 +4,7 @@ ghost use Rattle.std.specs.Prelude.{◌≡◌, ℕ, ◌<◌, ◌⊎◌, ◌↔�
 ghost use Rattle.std.specs.Io.KnownBytes.{Appends};
 ghost use Rattle.yp_io.specs.Counts.{HasRisen};
 ghost use Rattle.yp_rpc.specs.Records.{Cut};
-ghost use Rattle.yp_tools.specs.declared.protocol.TheConstants.{CALL_MAX, CALLS_MAX};
+ghost use Rattle.yp_tools.specs.Numbers.{call_max, calls_max};
 ghost use Rattle.yp_tools.specs.Served.{Served};
 ghost use Rattle.yp_tools.specs.Words.{command_of, texts, meaning, Once};
 ghost use Rattle.yp_tools.specs.Reply.{served};
@@ -131,7 +131,7 @@ pub fn run<S: Source, K: Sink>(
 
     // Whole records are all answered, but for want of memory.
     ensures complete { (served : Served) (stream : List ℕ) (messages : List (List ℕ)) → command_of (texts words.now) ≡ Ok (Once served)
-        → S.input outside.input ≡ Some stream → Cut CALL_MAX stream messages [] → length messages < CALLS_MAX
+        → S.input outside.input ≡ Some stream → Cut call_max stream messages [] → length messages < calls_max
         → ¬ HasRisen (S.faults outside.input) (S.faults result.1.input) → ¬ HasRisen (K.faults outside.output) (K.faults result.1.output)
         → (result.0 ≡ Status.Done) ⊎ (result.0 ≡ Status.NoMemory) }
 
