@@ -2,7 +2,7 @@
 
 ghost use Rattle.std.specs.Prelude.{◌<◌};
 
-use crate::{Command, Outside, ParseFault, Status, parse, run};
+use crate::{Command, Outside, Status, parse, run, tell};
 use std::alloc::{AllocError, Global};
 use std::process::Abort;
 use std::test::Fail;
@@ -37,6 +37,78 @@ const FAIR: Weather<'static> = Weather {
     writes: &[],
 };
 
+/// Reads of one, three and eighty bytes.
+const EACH_PIECE: [Weather<'static>; 3] = [
+    Weather {
+        piece: 1,
+        reads: &[],
+        writes: &[],
+    },
+    Weather {
+        piece: 3,
+        reads: &[],
+        writes: &[],
+    },
+    FAIR,
+];
+
+/// Calls that are answered by a head alone, and how.
+const REFUSED: [(&str, &[u32], &[u32]); 8] = [
+    (
+        "RPC version 3",
+        &[0x8000_000c, 2, 0, 3],
+        &[0x8000_0018, 2, 1, 1, 0, 2, 2],
+    ),
+    (
+        "NULL",
+        &[0x8000_0028, 7, 0, 2, 100_004, 2, 0, 0, 0, 0, 0],
+        &[0x8000_0018, 7, 1, 0, 0, 0, 0],
+    ),
+    (
+        "NULL with version 1",
+        &[0x8000_0028, 3, 0, 2, 100_004, 1, 0, 0, 0, 0, 0],
+        &[0x8000_0020, 3, 1, 0, 0, 0, 2, 2, 2],
+    ),
+    (
+        "procedure 12",
+        &[0x8000_0028, 4, 0, 2, 100_004, 2, 12, 0, 0, 0, 0],
+        &[0x8000_0018, 4, 1, 0, 0, 0, 3],
+    ),
+    (
+        "program 100005, version 1, procedure 12",
+        &[0x8000_0028, 5, 0, 2, 100_005, 1, 12, 0, 0, 0, 0],
+        &[0x8000_0018, 5, 1, 0, 0, 0, 1],
+    ),
+    (
+        "credential flavor 6, program 100005",
+        &[0x8000_0028, 6, 0, 2, 100_005, 2, 3, 6, 0, 0, 0],
+        &[0x8000_0014, 6, 1, 1, 1, 2],
+    ),
+    (
+        "credential flavor 1 with a body, MATCH without arguments",
+        &[0x8000_002c, 8, 0, 2, 100_004, 2, 3, 1, 4, 0x01020304, 0, 0],
+        &[0x8000_0018, 8, 1, 0, 0, 0, 4],
+    ),
+    (
+        "MATCH with empty names, another domain behind",
+        &[0x8000_0034, 9, 0, 2, 100_004, 2, 3, 0, 0, 0, 0, 0, 0, 0],
+        &[0x8000_0020, 9, 1, 0, 0, 0, 0, 0xffff_fff9, 0],
+    ),
+];
+
+/// Words that are no sentence, the word that is wrong, and how that is told.
+const USAGE: [(&[&str], usize, &str); 9] = [
+    (&[], 0, "yp: usage at word 0\n"),
+    (&["frob"], 0, "yp: usage at word 0\n"),
+    (&["once"], 1, "yp: usage at word 1\n"),
+    (&["once", "lab"], 1, "yp: usage at word 1\n"),
+    (&["once", "lab/a/b"], 1, "yp: usage at word 1\n"),
+    (&["once", ".lab/a"], 1, "yp: usage at word 1\n"),
+    (&["once", "lab/m", "=v"], 2, "yp: usage at word 2\n"),
+    (&["once", "lab/m", "k=v", "k"], 3, "yp: usage at word 3\n"),
+    (&["Once", "lab/m"], 0, "yp: usage at word 0\n"),
+];
+
 fn bytes(alloc: Global, numbers: &[u32]) -> Result<Vec<u8>, AllocError> {
     let mut all = Vec::new(alloc);
     for number in numbers {
@@ -54,6 +126,7 @@ fn strings(alloc: Global, words: &[&str]) -> Result<Vec<String>, AllocError> {
 }
 
 /// A case: what is read, and what is to come of it.
+#[derive(Clone, Copy)]
 struct Case<'a> {
     words: &'a [&'a str],
     input: &'a [u8],
@@ -93,28 +166,316 @@ fn answered<'a>(input: &'a [u8], output: &'a [u8]) -> Case<'a> {
     }
 }
 
-/// A call of MATCH with xid 1, in one fragment. Each name and the key has fewer than 4,096 bytes.
-fn match_call(alloc: Global, domain: &[u8], map: &[u8], key: &[u8]) -> Result<Vec<u8>, AllocError> {
-    let mut call = bytes(alloc, &[1, 0, 2, 100_004, 2, 3, 0, 0, 0, 0])?;
-    for field in [domain, map, key] {
-        assert_field(&mut call, field)?;
-    }
-    framed(alloc, call.as_slice())
+/// A case in fair weather that ends with this status.
+fn try_ended(
+    rt: &impl Abort,
+    alloc: Global,
+    input: &[u8],
+    output: &[u8],
+    status: Status,
+    note: &str,
+) -> Result<(), AllocError> {
+    let case = Case {
+        status,
+        note,
+        ..answered(input, output)
+    };
+    try_case(rt, alloc, note, &case)
 }
 
-/// Adds a string of XDR.
-fn assert_field(call: &mut Vec<u8>, field: &[u8]) -> Result<(), AllocError> {
-    call.extend_from_slice(&(field.len() as u32).to_be_bytes())?;
-    call.extend_from_slice(field)?;
-    while call.len() % 4 != 0 {
-        call.push(0)?;
+/// Bytes of several parts.
+fn joined(alloc: Global, parts: &[&[u8]]) -> Result<Vec<u8>, AllocError> {
+    let mut all = Vec::new(alloc);
+    for part in parts {
+        all.extend_from_slice(part)?;
+    }
+    Ok(all)
+}
+
+/// The call of MATCH, each of its bytes in a fragment of its own, and an empty fragment after the tenth.
+fn in_many_fragments(alloc: Global) -> Result<Vec<u8>, AllocError> {
+    let call = bytes(alloc, &MATCH_CALL)?;
+    let mut all = Vec::new(alloc);
+    for (i, byte) in call.iter().enumerate() {
+        if i >= 4 {
+            let head: u32 = if i == 79 { 0x8000_0001 } else { 1 };
+            all.extend_from_slice(&head.to_be_bytes())?;
+            all.push(*byte)?;
+        }
+        if i == 13 {
+            all.extend_from_slice(&[0; 4])?;
+        }
+    }
+    Ok(all)
+}
+
+/// The call of MATCH behind so many empty fragments.
+fn behind_empty_fragments(alloc: Global, count: usize) -> Result<Vec<u8>, AllocError> {
+    let mut all = vec![in alloc; 0; 0]?;
+    for _ in 0..count {
+        all.extend_from_slice(&[0; 4])?;
+    }
+    all.extend_from_slice(&bytes(alloc, &MATCH_CALL)?)?;
+    Ok(all)
+}
+
+/// A call of MATCH with xid 1, whose key is so many bytes `k`.
+fn with_key_of(alloc: Global, len: u32) -> Result<Vec<u8>, AllocError>
+    requires { len < 4096 }
+{
+    let padded = len.next_multiple_of(4);
+    let mut all = bytes(
+        alloc,
+        &[
+            0x8000_0044 + padded,
+            1,
+            0,
+            2,
+            100_004,
+            2,
+            3,
+            0,
+            0,
+            0,
+            0,
+            3,
+            0x6c616200,
+            12,
+            0x686f7374,
+            0x732e6279,
+            0x6e616d65,
+            len,
+        ],
+    )?;
+    for i in 0..padded {
+        all.push(if i < len { b'k' } else { 0 })?;
+    }
+    Ok(all)
+}
+
+#[test]
+fn first_match(rt: HostRuntime) -> Result<(), Fail> {
+    let alloc = rt.alloc();
+    let call = bytes(alloc, &MATCH_CALL)?;
+    let reply = bytes(alloc, &MATCH_REPLY)?;
+    for weather in EACH_PIECE {
+        let case = Case {
+            weather,
+            ..answered(&call, &reply)
+        };
+        try_case(&rt, alloc, "one call", &case)?;
+    }
+    try_case(&rt, alloc, "no call", &answered(&[], &[]))?;
+    let calls = joined(alloc, &[&call, &call])?;
+    let replies = joined(alloc, &[&reply, &reply])?;
+    try_case(&rt, alloc, "two calls", &answered(&calls, &replies))?;
+    Ok(())
+}
+
+#[test]
+fn many_fragments(rt: HostRuntime) -> Result<(), Fail> {
+    let alloc = rt.alloc();
+    let reply = bytes(alloc, &MATCH_REPLY)?;
+    let call = in_many_fragments(alloc)?;
+    assert_eq!(rt; call.len(), 384);
+    for weather in EACH_PIECE {
+        let case = Case {
+            weather,
+            ..answered(&call, &reply)
+        };
+        try_case(&rt, alloc, "many fragments", &case)?;
     }
     Ok(())
 }
 
-/// The record in one fragment.
-fn framed(alloc: Global, record: &[u8]) -> Result<Vec<u8>, AllocError> {
-    let mut all = bytes(alloc, &[0x8000_0000 + record.len() as u32])?;
-    all.extend_from_slice(record)?;
-    Ok(all)
+#[test]
+fn empty_fragments(rt: HostRuntime) -> Result<(), Fail> {
+    let alloc = rt.alloc();
+    let reply = bytes(alloc, &MATCH_REPLY)?;
+    let most = behind_empty_fragments(alloc, 1024)?;
+    try_ended(&rt, alloc, &most, &reply, Status::Done, "")?;
+    let too_many = behind_empty_fragments(alloc, 1025)?;
+    let status = Status::TooLong { at: 0 };
+    try_ended(&rt, alloc, &too_many, &[], status, "yp: too long at 0\n")?;
+    Ok(())
+}
+
+#[test]
+fn torn_and_long(rt: HostRuntime) -> Result<(), Fail> {
+    let alloc = rt.alloc();
+    let call = bytes(alloc, &MATCH_CALL)?;
+    let reply = bytes(alloc, &MATCH_REPLY)?;
+    let torn = [0x80, 0, 0];
+    let status = Status::Torn { at: 0 };
+    try_ended(&rt, alloc, &torn, &[], status, "yp: torn record at 0\n")?;
+    let then_torn = joined(alloc, &[&call, &torn])?;
+    let status = Status::Torn { at: 80 };
+    try_ended(
+        &rt,
+        alloc,
+        &then_torn,
+        &reply,
+        status,
+        "yp: torn record at 80\n",
+    )?;
+    for head in [0x8000_2001, 0xffff_ffff, 0x7fff_ffff] {
+        let long = bytes(alloc, &[head])?;
+        let status = Status::TooLong { at: 0 };
+        try_ended(&rt, alloc, &long, &[], status, "yp: too long at 0\n")?;
+    }
+    Ok(())
+}
+
+#[test]
+fn refusal_heads(rt: HostRuntime) -> Result<(), Fail> {
+    let alloc = rt.alloc();
+    let noise = bytes(alloc, &[0x8000_0008, 1, 0])?;
+    let call = bytes(alloc, &MATCH_CALL)?;
+    let reply = bytes(alloc, &MATCH_REPLY)?;
+    let after_noise = joined(alloc, &[&noise, &call])?;
+    try_case(
+        &rt,
+        alloc,
+        "noise before a call",
+        &answered(&after_noise, &reply),
+    )?;
+    for (name, call, reply) in REFUSED {
+        let call = bytes(alloc, call)?;
+        let reply = bytes(alloc, reply)?;
+        try_case(&rt, alloc, name, &answered(&call, &reply))?;
+    }
+    Ok(())
+}
+
+#[test]
+fn absent_and_long_key(rt: HostRuntime) -> Result<(), Fail> {
+    let alloc = rt.alloc();
+    let absent = bytes(alloc, &[0x8000_0020, 1, 1, 0, 0, 0, 0, 0xffff_fffd, 0])?;
+    let garbage = bytes(alloc, &[0x8000_0018, 1, 1, 0, 0, 0, 4])?;
+    let longest = with_key_of(alloc, 1024)?;
+    assert!(rt; longest.starts_with(&[0x80, 0, 4, 0x44]));
+    try_case(
+        &rt,
+        alloc,
+        "a key of 1,024 bytes",
+        &answered(&longest, &absent),
+    )?;
+    let longer = with_key_of(alloc, 1025)?;
+    try_case(
+        &rt,
+        alloc,
+        "a key of 1,025 bytes",
+        &answered(&longer, &garbage),
+    )?;
+    Ok(())
+}
+
+#[test]
+fn first_of_equal_keys(rt: HostRuntime) -> Result<(), Fail> {
+    let alloc = rt.alloc();
+    let call = bytes(alloc, &MATCH_CALL)?;
+    let reply = bytes(alloc, &[0x8000_0024, 1, 1, 0, 0, 0, 0, 1, 3, 0x6f6e6500])?;
+    let case = Case {
+        words: &[
+            "once",
+            "lab/hosts.byname",
+            "beta=two",
+            "alpha=one",
+            "alpha=two",
+        ],
+        ..answered(&call, &reply)
+    };
+    try_case(&rt, alloc, "alpha stands twice", &case)?;
+    Ok(())
+}
+
+#[test]
+fn usage_words(rt: HostRuntime) -> Result<(), Fail> {
+    let alloc = rt.alloc();
+    for (words, word, note) in USAGE {
+        let case = Case {
+            words,
+            status: Status::Usage { word },
+            note,
+            ..answered(&[], &[])
+        };
+        try_case(&rt, alloc, note, &case)?;
+    }
+    Ok(())
+}
+
+#[test]
+fn one_failing_call(rt: HostRuntime) -> Result<(), Fail> {
+    let alloc = rt.alloc();
+    let call = bytes(alloc, &MATCH_CALL)?;
+    let reply = bytes(alloc, &MATCH_REPLY)?;
+    let calls = joined(alloc, &[&call, &call])?;
+    // Each record takes a read for its head and one for its body, each reply a write and a flush.
+    for (number, output) in [(0, false), (1, false), (2, true), (3, true)] {
+        let case = Case {
+            weather: Weather {
+                piece: 80,
+                reads: &[number],
+                writes: &[],
+            },
+            status: Status::ReadFault,
+            note: "yp: read fault\n",
+            ..answered(&calls, if output { &reply } else { &[] })
+        };
+        try_case(&rt, alloc, "a failing read", &case)?;
+    }
+    for (number, output) in [(0, false), (1, true), (2, true)] {
+        let case = Case {
+            weather: Weather {
+                piece: 80,
+                reads: &[],
+                writes: &[number],
+            },
+            status: Status::WriteFault,
+            note: "yp: write fault\n",
+            ..answered(&calls, if output { &reply } else { &[] })
+        };
+        try_case(&rt, alloc, "a failing write", &case)?;
+    }
+    Ok(())
+}
+
+#[test]
+fn codes_and_notes(rt: HostRuntime) -> Result<(), Fail> {
+    for (status, code, note) in [
+        (Status::Done, 0, ""),
+        (Status::Usage { word: 12 }, 2, "yp: usage at word 12\n"),
+        (Status::ReadFault, 3, "yp: read fault\n"),
+        (Status::WriteFault, 4, "yp: write fault\n"),
+        (
+            Status::Torn { at: u64::MAX },
+            5,
+            "yp: torn record at 18446744073709551615\n",
+        ),
+        (Status::TooLong { at: 80 }, 6, "yp: too long at 80\n"),
+        (Status::NoMemory, 7, "yp: no memory\n"),
+        (Status::Enough, 23, "yp: enough calls\n"),
+    ] {
+        assert_eq!(rt; status.code(), code, "{status:?}");
+        let mut notes = MemSink::new(rt.alloc(), 4096, Vec::new(rt.alloc()));
+        tell(&mut notes, status);
+        assert_eq!(rt; notes.taken(), note.as_bytes(), "{status:?}");
+    }
+    Ok(())
+}
+
+#[test]
+fn parsed(rt: HostRuntime) -> Result<(), Fail> {
+    let words = strings(rt.alloc(), &["once", "lab/hosts.byname", "a=b=c", "x="])?;
+    let Ok(Command::Once { store, rows }) = parse(rt.alloc(), &words) else {
+        return Err("the words are a sentence".into());
+    };
+    assert_eq!(rt; store.domain.as_slice(), b"lab".as_slice());
+    assert_eq!(rt; store.map.as_slice(), b"hosts.byname".as_slice());
+    assert_eq!(rt; rows.len(), 2);
+    for (row, (key, value)) in rows.iter().zip(&[("a", "b=c"), ("x", "")]) {
+        assert_eq!(rt; row.key.as_slice(), key.as_bytes());
+        assert_eq!(rt; row.value.as_slice(), value.as_bytes());
+    }
+    Ok(())
 }
