@@ -1,18 +1,18 @@
 -- Lemmas on the fragments of a record, one after another.
-use Rattle.std.proofs.Common.{◌≡◌, ◌≢◌, ℕ, ◌+◌, ◌-◌, ◌^◌, ◌<◌, ◌≤◌, Bool, true, false, ◌==◌, List, [], ◌∷◌, ◌++◌, Option, length, take, min, refl, sym, ap, ◌∙◌, arith, inl, inr, eq-eqb}
+use Rattle.std.proofs.Common.{◌≡◌, ◌≢◌, ℕ, ◌+◌, ◌-◌, ◌^◌, ◌<◌, ◌≤◌, Bool, true, false, ◌==◌, ◌⊎◌, List, [], ◌∷◌, ◌++◌, Option, length, take, min, refl, sym, ap, ◌∙◌, arith, inl, inr, eq-eqb}
 use Rattle.std.proofs.lemmas.List.{length-append, length-take-le, append-nil}
 use Rattle.std.proofs.lemmas.List.Concat.{flat_map-append}
 use Rattle.std.proofs.lemmas.Bool.{ne_eqb}
 use Rattle.std.proofs.KnownBytes.{Consumes-trans}
 use Rattle.std.specs.Io.KnownBytes.{Consumes, IsAtEnd}
 use mir.Val.{bool_byte}
-use Rattle.yp_io.specs.Counts.{last_count}
+use Rattle.yp_io.specs.Counts.{HasRisen, last_count}
 use Rattle.yp_rpc.specs.declared.record.RecordFault.{RecordFault}
 use Rattle.yp_rpc.specs.declared.record.RecordFault.TheVariants.{Torn, TooLong, ReadFault}
 use Rattle.yp_rpc.specs.declared.record.TheConstants.{EMPTY_MAX}
 use Rattle.yp_rpc.proofs.Stream.{take-behind, ReadsBehind, read_behind, length-room, length-read_behind}
 use Rattle.yp_rpc.proofs.CutPieces.{blank, blank_is, empties-cons, empties-append, length-joined, length-joined_push}
-use Rattle.yp_rpc.specs.Records.{head, fragment, begun, joined, empties, AreWithin, IsPart, IsEmpty, TakesRecord, HasCause, HasNoFragment}
+use Rattle.yp_rpc.specs.Records.{head, fragment, begun, joined, empties, AreWithin, IsPart, IsBegun, IsEmpty, TakesRecord, HasCause, HasNoFragment}
 
 -- input ended behind the head of a fragment
 pub torn_body : (last : Bool) (len n room empty place : ℕ) (body : List ℕ) (old mid new : Option (List ℕ)) → len < 2 ^ 31 → len ≤ room → n < len → n ≤ length body
@@ -21,6 +21,12 @@ torn_body last len n room empty place body old mid new short fits fewer within f
     let size : length (take n body) ≡ n = length-take-le n body within in
     let some : 0 < length (head last len ++ take n body) = omega (arith, length-append (head last len) (take n body)) in
     (refl, head last len ++ take n body, some, inr (last, len, take n body, refl, omega arith, short, omega arith), Consumes-trans old mid new _ _ first second, end)
+
+-- the source failed behind the head of a fragment
+pub failed_body : (last : Bool) (len room empty place before now after : ℕ) (body : List ℕ) (old mid new : Option (List ℕ)) → len < 2 ^ 31 → len ≤ room → length body < len
+    → Consumes old mid (head last len) → Consumes mid new body → before ≤ now → HasRisen now after → HasNoFragment room empty place old new before after ReadFault
+failed_body last len room empty place before now after body old mid new short fits fewer first second rose risen =
+    (omega arith, head last len ++ body, Consumes-trans old mid new _ _ first second, inr (last, len, body, refl, fewer, short, omega arith))
 
 -- a fragment takes four bytes more than its piece
 pub length-fragment : (last : Bool) (piece : List ℕ) → length (fragment last piece) ≡ 4 + length piece
@@ -124,6 +130,19 @@ IsPart-behind : (limit room : ℕ) (pieces : List (List ℕ)) (tail : List ℕ) 
 IsPart-behind limit room pieces tail fits (inl few) = inl few
 IsPart-behind limit room pieces tail fits (inr h) = inr (h.0, h.1, h.2, h.3, h.4, h.5, omega (arith, h.6))
 
+-- a list is empty or has something
+nil_or_some : (bytes : List ℕ) → (bytes ≡ []) ⊎ (bytes ≢ [])
+nil_or_some [] = inl refl
+nil_or_some (byte ∷ bytes) = inr (λ none. cc)
+
+-- whole fragments and part of one are less than a record
+IsBegun-part : (limit : ℕ) (pieces : List (List ℕ)) (tail : List ℕ) → AreWithin limit pieces → IsPart limit pieces tail → IsBegun limit (begun pieces ++ tail)
+IsBegun-part limit pieces tail within part =
+    elim (nil_or_some (begun pieces ++ tail)) [
+      | inl none ↦ inl none
+      | inr some ↦ inr (record { pieces = pieces; tail = tail; begins = refl; some = some; within = within; part = part })
+    ]
+
 -- Why a record has no next fragment is why there is no record.
 HasCause-behind : (limit room empty place end before now after : ℕ) (old mid new : Option (List ℕ)) (front : List ℕ) (fault : RecordFault) → HasBegun limit old mid front empty place end
     → length front + room ≡ limit → before ≤ now → HasNoFragment room empty place mid new now after fault → HasCause limit place old new before after fault
@@ -155,7 +174,14 @@ HasCause-behind limit room empty place end before now after old mid new front (T
       },
       Consumes-trans old mid new _ _ h.taken cause.5,
     )
-HasCause-behind limit room empty place end before now after old mid new front ReadFault h fits rose cause = omega arith
+HasCause-behind limit room empty place end before now after old mid new front ReadFault h fits rose cause =
+    let so_far : length (joined h.pieces) ≡ length front = ap length h.filled in
+    let tail = cause.1 in (
+      omega (arith, cause.0),
+      begun h.pieces ++ tail,
+      Consumes-trans old mid new _ _ h.taken cause.2,
+      IsBegun-part limit h.pieces tail h.within (IsPart-behind limit room h.pieces tail (omega arith) cause.3),
+    )
 
 -- input ended behind some whole fragments
 torn_between : (limit empty place end : ℕ) (old now new : Option (List ℕ)) (front : List ℕ) → HasBegun limit old now front empty place end → 0 < length front + empty → IsEmpty now new

@@ -57,6 +57,10 @@ pub record IsTorn (limit : ℕ) (rest : List ℕ) : Type 0 where
   pub within : AreWithin limit pieces
   pub part : IsPart limit pieces tail
 
+-- less than a record: nothing, or a rest that ends inside its first record
+abbrev pub IsBegun : ℕ → List ℕ → Type 0
+IsBegun limit part = (part ≡ []) ⊎ IsTorn limit part
+
 -- bytes up to the first head that names too much
 pub record IsTooLong (limit : ℕ) (front : List ℕ) : Type 0 where
   pub pieces : List (List ℕ)
@@ -99,11 +103,11 @@ pub record TakesRecord (limit : ℕ) (message : List ℕ) (old new : Option (Lis
   pub taken : Consumes old new bytes
   pub counted : after ≡ min (place + length bytes) last_count
 
--- Why there is no record: its place is where it began.
+-- Why there is no record: its place is where it began. A source that failed had given less than a record.
 abbrev pub HasCause : ℕ → ℕ → Option (List ℕ) → Option (List ℕ) → ℕ → ℕ → RecordFault → Type 0
 HasCause limit place old new before now (Torn at) = (at ≡ place) × (rest : List ℕ) × IsTorn limit rest × Consumes old new rest × IsAtEnd new
 HasCause limit place old new before now (TooLong at) = (at ≡ place) × (front : List ℕ) × IsTooLong limit front × Consumes old new front
-HasCause limit place old new before now ReadFault = HasRisen before now
+HasCause limit place old new before now ReadFault = HasRisen before now × (part : List ℕ) × Consumes old new part × IsBegun limit part
 
 -- Nothing was left, and nothing was taken.
 abbrev pub IsEmpty : Option (List ℕ) → Option (List ℕ) → Type 0
@@ -114,4 +118,4 @@ abbrev pub HasNoFragment : ℕ → ℕ → ℕ → Option (List ℕ) → Option 
 HasNoFragment room empty place old new before now (Torn at) = (at ≡ place) × (tail : List ℕ) × (0 < length tail) × IsPart room [] tail × Consumes old new tail × IsAtEnd new
 HasNoFragment room empty place old new before now (TooLong at) =
     (at ≡ place) × (last : Bool) × (len : ℕ) × (len < 2 ^ 31) × ((room < len) ⊎ ((len ≡ 0) × (EMPTY_MAX ≤ empty))) × Consumes old new (head last len)
-HasNoFragment room empty place old new before now ReadFault = HasRisen before now
+HasNoFragment room empty place old new before now ReadFault = HasRisen before now × (part : List ℕ) × Consumes old new part × IsPart room [] part

@@ -3,7 +3,7 @@ use Rattle.std.specs.Prelude.{◌≡◌, ℕ, ◌+◌, ◌-◌, ◌<◌, List, [
 use Rattle.std.specs.List.{flat_map}
 use Rattle.std.specs.Io.KnownBytes.{Keeps, Appends, Consumes, IsAtEnd}
 use Rattle.yp_io.specs.Counts.{HasRisen, last_count}
-use Rattle.yp_rpc.specs.Records.{Fragments, IsTorn, IsTooLong, TakesRecord, sent}
+use Rattle.yp_rpc.specs.Records.{Fragments, IsTorn, IsBegun, IsTooLong, TakesRecord, sent}
 use Rattle.yp_tools.specs.declared.protocol.TheConstants.{CALL_MAX, CALLS_MAX}
 use Rattle.yp_rpc.specs.declared.record.RecordFault.{RecordFault}
 use Rattle.yp_rpc.specs.declared.record.RecordFault.TheVariants as faults
@@ -44,7 +44,7 @@ abbrev pub EndsAt : End → ℕ → Feed → Feed → Counts → Counts → Type
 EndsAt Clean count mid new before after = IsAtEnd mid.input × IsAtEnd new.input × (count < CALLS_MAX)
 EndsAt (Torn at) count mid new before after = (at ≡ mid.place) × (rest : List ℕ) × IsTorn CALL_MAX rest × Consumes mid.input new.input rest × IsAtEnd new.input × (count < CALLS_MAX)
 EndsAt (TooLong at) count mid new before after = (at ≡ mid.place) × (front : List ℕ) × IsTooLong CALL_MAX front × Consumes mid.input new.input front × (count < CALLS_MAX)
-EndsAt ReadFault count mid new before after = HasRisen before.reads after.reads
+EndsAt ReadFault count mid new before after = HasRisen before.reads after.reads × (part : List ℕ) × Consumes mid.input new.input part × IsBegun CALL_MAX part
 EndsAt WriteFault count mid new before after = HasRisen before.writes after.writes
 EndsAt Enough count mid new before after = count ≡ CALLS_MAX
 
