@@ -2,6 +2,7 @@
 use Rattle.std.proofs.Common.{◌≡◌, ◌≢◌, ℕ, ◌+◌, ◌-◌, ◌^◌, ◌<◌, ◌≤◌, Bool, true, false, ◌==◌, ◌⊎◌, List, [], ◌∷◌, ◌++◌, Option, length, take, min, refl, sym, ap, ◌∙◌, arith, inl, inr, eq-eqb}
 use Rattle.std.proofs.lemmas.List.{length-append, length-take-le, append-nil}
 use Rattle.std.proofs.lemmas.List.Concat.{flat_map-append}
+use Rattle.std.proofs.lemmas.List.Elements.{All-push}
 use Rattle.std.proofs.lemmas.Bool.{ne_eqb}
 use Rattle.std.proofs.KnownBytes.{Consumes-trans}
 use Rattle.std.specs.Io.KnownBytes.{Consumes, IsAtEnd}
@@ -12,7 +13,7 @@ use Rattle.yp_rpc.specs.declared.record.RecordFault.TheVariants.{Torn, TooLong, 
 use Rattle.yp_rpc.specs.declared.record.TheConstants.{EMPTY_MAX}
 use Rattle.yp_rpc.proofs.Stream.{take-behind, ReadsBehind, read_behind, length-room, length-read_behind}
 use Rattle.yp_rpc.proofs.CutPieces.{blank, blank_is, empties-cons, empties-append, length-joined, length-joined_push}
-use Rattle.yp_rpc.specs.Records.{head, fragment, begun, joined, empties, AreWithin, IsPart, IsBegun, IsEmpty, TakesRecord, HasCause, HasNoFragment}
+use Rattle.yp_rpc.specs.Records.{IsShort, head, fragment, begun, joined, empties, AreWithin, IsPart, IsBegun, IsEmpty, TakesRecord, HasCause, HasNoFragment}
 
 -- input ended behind the head of a fragment
 pub torn_body : (last : Bool) (len n room empty place : ℕ) (body : List ℕ) (old mid new : Option (List ℕ)) → len < 2 ^ 31 → len ≤ room → n < len → n ≤ length body
@@ -71,14 +72,15 @@ some_begun pieces tail some none =
     omega arith
 
 -- one piece more is within the limit
-AreWithin-push : (limit : ℕ) (pieces : List (List ℕ)) (piece : List ℕ) → AreWithin limit pieces → length (joined pieces) + length piece ≤ limit → (length piece ≡ 0 → empties pieces < EMPTY_MAX)
+AreWithin-push : (limit : ℕ) (pieces : List (List ℕ)) (piece : List ℕ) → AreWithin limit pieces → IsShort piece → length (joined pieces) + length piece ≤ limit → (length piece ≡ 0 → empties pieces < EMPTY_MAX)
     → AreWithin limit (pieces ++ piece ∷ [])
-AreWithin-push limit pieces piece within fits few = record {
+AreWithin-push limit pieces piece within short fits few = record {
   len = omega (arith, length-joined_push pieces piece);
   empty = elim (blank_is piece) [
     | inl none ↦ omega (arith, few none.0, none.1, empties-append pieces (piece ∷ []))
     | inr some ↦ omega (arith, within.empty, some.1, empties-append pieces (piece ∷ []))
   ];
+  short = All-push IsShort pieces piece within.short short;
 }
 
 -- How far a record has come: the bytes so far, how many fragments were empty, and the place behind them.
@@ -92,22 +94,22 @@ pub record HasBegun (limit : ℕ) (old now : Option (List ℕ)) (front : List �
 
 -- one fragment more, which isn't the last
 HasBegun-push : (limit empty empty' place end end' : ℕ) (old now new : Option (List ℕ)) (front piece : List ℕ) → HasBegun limit old now front empty place end
-    → Consumes now new (fragment false piece) → length front + length piece ≤ limit → (length piece ≡ 0 → empty < EMPTY_MAX)
+    → Consumes now new (fragment false piece) → length front + length piece ≤ limit → (length piece ≡ 0 → empty < EMPTY_MAX) → IsShort piece
     → empty' ≡ empty + blank piece → end' ≡ min (end + (4 + length piece)) last_count → HasBegun limit old new (front ++ piece) empty' place end'
-HasBegun-push limit empty empty' place end end' old now new front piece h taken fits few counted passed =
+HasBegun-push limit empty empty' place end end' old now new front piece h taken fits few short counted passed =
     let so_far : length (joined h.pieces) ≡ length front = ap length h.filled in
     record {
       pieces = h.pieces ++ piece ∷ [];
       taken = rw (begun-push h.pieces piece) (Consumes-trans old now new _ _ h.taken taken);
       filled = rw (joined-push h.pieces piece, h.filled) refl;
-      within = AreWithin-push limit h.pieces piece h.within (omega arith) (λ none. omega (arith, few none, h.counted));
+      within = AreWithin-push limit h.pieces piece h.within short (omega arith) (λ none. omega (arith, few none, h.counted));
       counted = empties-append h.pieces (piece ∷ []) ∙ ap (λ (n : ℕ). n + blank piece) h.counted ∙ sym counted;
       passed = rw (begun-push h.pieces piece) (omega (arith, h.passed, length-append (begun h.pieces) (fragment false piece), length-fragment false piece));
     }
 
 -- the last fragment
 TakesRecord-push : (limit empty place end end' : ℕ) (old now new : Option (List ℕ)) (front piece : List ℕ) → HasBegun limit old now front empty place end
-    → Consumes now new (fragment true piece) → length front + length piece ≤ limit → (length piece ≡ 0 → empty < EMPTY_MAX) → length piece < 2 ^ 31
+    → Consumes now new (fragment true piece) → length front + length piece ≤ limit → (length piece ≡ 0 → empty < EMPTY_MAX) → IsShort piece
     → end' ≡ min (end + (4 + length piece)) last_count → TakesRecord limit (front ++ piece) old new place end'
 TakesRecord-push limit empty place end end' old now new front piece h taken fits few short passed =
     let so_far : length (joined h.pieces) ≡ length front = ap length h.filled in
@@ -118,8 +120,7 @@ TakesRecord-push limit empty place end end' old now new front piece h taken fits
         last = piece;
         whole = rw h.filled refl;
         spelled = refl;
-        within = AreWithin-push limit h.pieces piece h.within (omega arith) (λ none. omega (arith, few none, h.counted));
-        short = short;
+        within = AreWithin-push limit h.pieces piece h.within short (omega arith) (λ none. omega (arith, few none, h.counted));
       };
       taken = Consumes-trans old now new _ _ h.taken taken;
       counted = omega (arith, h.passed, length-append (begun h.pieces) (fragment true piece), length-fragment true piece);
@@ -208,14 +209,14 @@ HasFilled old now buf len empty place end = HasBegun (length buf) old now (take 
 
 -- one fragment more was read behind them, which isn't the last
 pub HasFilled-more : (buf room : List ℕ) (len n empty empty' place end end' : ℕ) (old now new : Option (List ℕ)) → ReadsBehind len buf room → n ≤ length room
-    → HasFilled old now buf len empty place end → Consumes now new (fragment false (take n room)) → (n ≡ 0 → empty < EMPTY_MAX) → empty' ≡ empty + bool_byte (n == 0) → end' ≡ min (end + (4 + n)) last_count
+    → HasFilled old now buf len empty place end → Consumes now new (fragment false (take n room)) → (n ≡ 0 → empty < EMPTY_MAX) → n < 2 ^ 31 → empty' ≡ empty + bool_byte (n == 0) → end' ≡ min (end + (4 + n)) last_count
     → HasFilled old new (read_behind len buf room) (len + n) empty' place end'
-HasFilled-more buf room len n empty empty' place end end' old now new behind fits h taken few counted passed =
+HasFilled-more buf room len n empty empty' place end end' old now new behind fits h taken few short counted passed =
     let front : length (take len buf) ≡ len = length-take-le len buf behind.within in
     let piece : length (take n room) ≡ n = length-take-le n room fits in
     let left = length-room len buf room behind in
     rw (length-read_behind len buf room behind, take-behind len (length buf - len) n buf room behind.within fits)
-    (HasBegun-push (length buf) empty empty' place end end' old now new (take len buf) (take n room) h taken (omega (arith, behind.within)) (λ none. few (sym piece ∙ none)) (rw (← bool_byte-blank (take n room) n piece) counted) (omega arith))
+    (HasBegun-push (length buf) empty empty' place end end' old now new (take len buf) (take n room) h taken (omega (arith, behind.within)) (λ none. few (sym piece ∙ none)) (omega arith) (rw (← bool_byte-blank (take n room) n piece) counted) (omega arith))
 
 -- the last fragment was read behind them
 pub TakesRecord-last : (buf room : List ℕ) (len n empty place end end' : ℕ) (old now new : Option (List ℕ)) → ReadsBehind len buf room → n ≤ length room

@@ -1,5 +1,5 @@
 -- Records in a stream, by RFC 5531 section 11: each is cut into fragments, the last of which is marked.
-use Rattle.std.specs.Prelude.{◌≡◌, ◌≢◌, ℕ, zero, suc, ◌+◌, ◌^◌, ◌<◌, ◌≤◌, Bool, true, false, if◌then◌else◌, nat_le, ◌==◌, List, [], ◌∷◌, ◌++◌, length, take, drop, count_by, Option, min, ◌⊎◌}
+use Rattle.std.specs.Prelude.{◌≡◌, ◌≢◌, ℕ, zero, suc, ◌+◌, ◌^◌, ◌<◌, ◌≤◌, All, Bool, true, false, if◌then◌else◌, nat_le, ◌==◌, List, [], ◌∷◌, ◌++◌, length, take, drop, count_by, Option, min, ◌⊎◌}
 use Rattle.std.specs.List.{flat_map}
 use Rattle.std.specs.Io.KnownBytes.{Consumes, IsAtEnd}
 use Rattle.yp_io.specs.Counts.{HasRisen, last_count}
@@ -28,10 +28,15 @@ joined pieces = flat_map (λ piece. piece) pieces
 abbrev pub empties : List (List ℕ) → ℕ
 empties pieces = count_by (λ piece. length piece == 0) pieces
 
--- pieces with no more bytes than the limit, and no more empty ones than a record may have
+-- a piece whose length a head can name, in 31 bits
+abbrev pub IsShort : List ℕ → Type 0
+IsShort piece = length piece < 2 ^ 31
+
+-- pieces that heads can name, with no more bytes than the limit and no more empty ones than a record may have
 pub record AreWithin (limit : ℕ) (pieces : List (List ℕ)) : Type 0 where
   pub len : length (joined pieces) ≤ limit
   pub empty : empties pieces ≤ EMPTY_MAX
+  pub short : All IsShort pieces
 
 -- bytes that are the record in fragments, within the limit
 pub record Fragments (limit : ℕ) (message bytes : List ℕ) : Type 0 where
@@ -40,7 +45,6 @@ pub record Fragments (limit : ℕ) (message bytes : List ℕ) : Type 0 where
   pub whole : message ≡ joined pieces ++ last
   pub spelled : bytes ≡ begun pieces ++ fragment true last
   pub within : AreWithin limit (pieces ++ last ∷ [])
-  pub short : length last < 2 ^ 31
 
 -- less than a fragment: a part of its head, or a head and a part of the bytes that it names
 abbrev pub IsPart : ℕ → List (List ℕ) → List ℕ → Type 0
