@@ -2,8 +2,7 @@
 use Rattle.std.proofs.Common.{◌≡◌, ◌≢◌, ℕ, ◌+◌, ◌^◌, ◌<◌, ◌≤◌, All, Bool, true, false, ◌⊎◌, inl, inr, List, [], ◌∷◌, ◌++◌, length, refl, sym, ap, ◌∙◌, arith, append_assoc}
 use Rattle.std.proofs.lemmas.List.{length-append, take_at}
 use Rattle.std.proofs.lemmas.List.Elements.{All-take, All-contains, Contains-push}
-use Rattle.yp_rpc.specs.declared.record.TheConstants.{EMPTY_MAX}
-use Rattle.yp_rpc.specs.Records.{IsShort, head, fragment, begun, joined, empties, AreWithin, Fragments, IsPart, IsTorn, IsTooLong, IsLong}
+use Rattle.yp_rpc.specs.Records.{empty_max, IsShort, head, fragment, begun, joined, empties, AreWithin, Fragments, IsPart, IsTorn, IsTooLong, IsLong}
 use Rattle.yp_rpc.proofs.CutHead.{head_one, fragment_one}
 use Rattle.yp_rpc.proofs.CutPieces.{blank, blank_is, empties-append, length-joined_push, NoMore, NoMore-at, pieces_one}
 
@@ -40,7 +39,7 @@ part_none limit pieces tail last piece more part short begins =
     omega (arith, less.0, length-append piece more)
 
 -- no fragment within the limit has a length that is too much
-past_none : (limit used empty len : ℕ) (piece : List ℕ) → (limit < used + len) ⊎ ((len ≡ 0) × (empty ≡ EMPTY_MAX)) → len ≡ length piece → used + length piece ≤ limit → empty + blank piece ≤ EMPTY_MAX → ⊥
+past_none : (limit used empty len : ℕ) (piece : List ℕ) → (limit < used + len) ⊎ ((len ≡ 0) × (empty ≡ empty_max)) → len ≡ length piece → used + length piece ≤ limit → empty + blank piece ≤ empty_max → ⊥
 past_none limit used empty len piece (inl over) same fits room = omega arith
 past_none limit used empty len piece (inr over) same fits room =
     elim (blank_is piece) [ inl none ↦ omega (arith, over.0, over.1, none.0, none.1) | inr some ↦ omega (arith, over.0, some.0) ]

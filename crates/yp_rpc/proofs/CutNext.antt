@@ -7,8 +7,7 @@ use Rattle.std.proofs.lemmas.List.{length-take-le, get_or-append-add, get_or_app
 use Rattle.std.proofs.lemmas.List.Elements.{All-push}
 use Rattle.yp_xdr.specs.Spelling.{word}
 use Rattle.yp_xdr.specs.Reading.{IsBytes}
-use Rattle.yp_rpc.specs.declared.record.TheConstants.{EMPTY_MAX}
-use Rattle.yp_rpc.specs.Records.{IsShort, head, fragment, joined, empties, AreWithin, IsPart}
+use Rattle.yp_rpc.specs.Records.{empty_max, IsShort, head, fragment, joined, empties, AreWithin, IsPart}
 use Rattle.yp_rpc.proofs.CutPieces.{blank, blank_is, empties-append, length-joined_push}
 
 -- what stands behind the front of bytes is bytes
@@ -61,19 +60,19 @@ pub record IsNext (limit : ℕ) (pieces : List (List ℕ)) (last : Bool) (tail :
 
 -- behind these pieces there is no room for one of so many bytes
 abbrev pub IsPast : ℕ → List (List ℕ) → ℕ → Type 0
-IsPast limit pieces len = (limit < length (joined pieces) + len) ⊎ ((len ≡ 0) × (empties pieces ≡ EMPTY_MAX))
+IsPast limit pieces len = (limit < length (joined pieces) + len) ⊎ ((len ≡ 0) × (empties pieces ≡ empty_max))
 
 -- one more piece is within the limit, or is one empty piece too many
 room_of : (limit : ℕ) (pieces : List (List ℕ)) (piece : List ℕ) → AreWithin limit pieces → IsShort piece → length (joined pieces) + length piece ≤ limit
     → IsPast limit pieces (length piece) ⊎ AreWithin limit (pieces ++ piece ∷ [])
 room_of limit pieces piece within short fits =
-    let more : empties pieces + blank piece ≤ EMPTY_MAX → AreWithin limit (pieces ++ piece ∷ []) = λ room. record {
+    let more : empties pieces + blank piece ≤ empty_max → AreWithin limit (pieces ++ piece ∷ []) = λ room. record {
       len = omega (arith, length-joined_push pieces piece);
       empty = omega (arith, empties-append pieces (piece ∷ []));
       short = All-push IsShort pieces piece within.short short;
     } in
     elim (blank_is piece) [
-      | inl none ↦ elim (cases_eq (empties pieces) EMPTY_MAX) [ inl full ↦ inl (inr (none.0, full)) | inr room ↦ inr (more (omega (arith, none.1, within.empty, room))) ]
+      | inl none ↦ elim (cases_eq (empties pieces) empty_max) [ inl full ↦ inl (inr (none.0, full)) | inr room ↦ inr (more (omega (arith, none.1, within.empty, room))) ]
       | inr some ↦ inr (more (omega (arith, some.1, within.empty)))
     ]
 

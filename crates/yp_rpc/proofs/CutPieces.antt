@@ -6,8 +6,7 @@ use Rattle.std.proofs.lemmas.List.{length-append}
 use Rattle.std.proofs.lemmas.List.Concat.{flat_map-append}
 use Rattle.std.proofs.lemmas.List.Elements.{All-head, All-tail}
 use Rattle.std.proofs.lemmas.List.Sums.{sum_by-cons, sum_by-append}
-use Rattle.yp_rpc.specs.declared.record.TheConstants.{EMPTY_MAX}
-use Rattle.yp_rpc.specs.Records.{IsShort, fragment, begun, joined, empties}
+use Rattle.yp_rpc.specs.Records.{empty_max, IsShort, fragment, begun, joined, empties}
 use Rattle.yp_rpc.proofs.CutHead.{fragment_one}
 
 -- 1 for an empty piece, 0 for another
@@ -41,7 +40,7 @@ blank_is piece = elim (eqb_tells (length piece) 0) [ inl w ↦ inl (w.1, rw w.0 
 -- there is no further fragment, behind so many bytes in fragments of which so many are empty
 abbrev pub NoMore : ℕ → ℕ → ℕ → List ℕ → Type 0
 NoMore limit used empty tail =
-    (piece more : List ℕ) → tail ≡ fragment false piece ++ more → IsShort piece → used + length piece ≤ limit → empty + blank piece ≤ EMPTY_MAX → ⊥
+    (piece more : List ℕ) → tail ≡ fragment false piece ++ more → IsShort piece → used + length piece ≤ limit → empty + blank piece ≤ empty_max → ⊥
 
 -- the same, where the counts are written otherwise
 pub NoMore-at : (limit used used' empty empty' : ℕ) (tail : List ℕ) → used ≡ used' → empty ≡ empty' → NoMore limit used empty tail → NoMore limit used' empty' tail
@@ -49,7 +48,7 @@ NoMore-at limit used used' empty empty' tail bytes blanks none = λ piece more b
 
 -- two lists of pieces that begin one list are one, if no further fragment follows either
 pub pieces_one : (limit used empty : ℕ) (pieces others : List (List ℕ)) (tail tail' : List ℕ) → All IsShort pieces → All IsShort others
-    → used + length (joined pieces) ≤ limit → empty + empties pieces ≤ EMPTY_MAX → used + length (joined others) ≤ limit → empty + empties others ≤ EMPTY_MAX
+    → used + length (joined pieces) ≤ limit → empty + empties pieces ≤ empty_max → used + length (joined others) ≤ limit → empty + empties others ≤ empty_max
     → NoMore limit (used + length (joined pieces)) (empty + empties pieces) tail → NoMore limit (used + length (joined others)) (empty + empties others) tail'
     → begun pieces ++ tail ≡ begun others ++ tail' → (pieces ≡ others) × (tail ≡ tail')
 pieces_one limit used empty [] [] tail tail' short short' fits room fits' room' none none' same = (refl, same)

@@ -10,10 +10,9 @@ use mir.Val.{bool_byte}
 use Rattle.yp_io.specs.Counts.{HasRisen, last_count}
 use Rattle.yp_rpc.specs.declared.record.RecordFault.{RecordFault}
 use Rattle.yp_rpc.specs.declared.record.RecordFault.TheVariants.{Torn, TooLong, ReadFault}
-use Rattle.yp_rpc.specs.declared.record.TheConstants.{EMPTY_MAX}
 use Rattle.yp_rpc.proofs.Stream.{take-behind, ReadsBehind, read_behind, length-room, length-read_behind}
 use Rattle.yp_rpc.proofs.CutPieces.{blank, blank_is, empties-cons, empties-append, length-joined, length-joined_push}
-use Rattle.yp_rpc.specs.Records.{IsShort, head, fragment, begun, joined, empties, AreWithin, IsPart, IsBegun, IsEmpty, TakesRecord, HasCause, HasNoFragment}
+use Rattle.yp_rpc.specs.Records.{empty_max, IsShort, head, fragment, begun, joined, empties, AreWithin, IsPart, IsBegun, IsEmpty, TakesRecord, HasCause, HasNoFragment}
 
 -- input ended behind the head of a fragment
 pub torn_body : (last : Bool) (len n room empty place : ℕ) (body : List ℕ) (old mid new : Option (List ℕ)) → len < 2 ^ 31 → len ≤ room → n < len → n ≤ length body
@@ -72,7 +71,7 @@ some_begun pieces tail some none =
     omega arith
 
 -- one piece more is within the limit
-AreWithin-push : (limit : ℕ) (pieces : List (List ℕ)) (piece : List ℕ) → AreWithin limit pieces → IsShort piece → length (joined pieces) + length piece ≤ limit → (length piece ≡ 0 → empties pieces < EMPTY_MAX)
+AreWithin-push : (limit : ℕ) (pieces : List (List ℕ)) (piece : List ℕ) → AreWithin limit pieces → IsShort piece → length (joined pieces) + length piece ≤ limit → (length piece ≡ 0 → empties pieces < empty_max)
     → AreWithin limit (pieces ++ piece ∷ [])
 AreWithin-push limit pieces piece within short fits few = record {
   len = omega (arith, length-joined_push pieces piece);
@@ -94,7 +93,7 @@ pub record HasBegun (limit : ℕ) (old now : Option (List ℕ)) (front : List �
 
 -- one fragment more, which isn't the last
 HasBegun-push : (limit empty empty' place end end' : ℕ) (old now new : Option (List ℕ)) (front piece : List ℕ) → HasBegun limit old now front empty place end
-    → Consumes now new (fragment false piece) → length front + length piece ≤ limit → (length piece ≡ 0 → empty < EMPTY_MAX) → IsShort piece
+    → Consumes now new (fragment false piece) → length front + length piece ≤ limit → (length piece ≡ 0 → empty < empty_max) → IsShort piece
     → empty' ≡ empty + blank piece → end' ≡ min (end + (4 + length piece)) last_count → HasBegun limit old new (front ++ piece) empty' place end'
 HasBegun-push limit empty empty' place end end' old now new front piece h taken fits few short counted passed =
     let so_far : length (joined h.pieces) ≡ length front = ap length h.filled in
@@ -109,7 +108,7 @@ HasBegun-push limit empty empty' place end end' old now new front piece h taken 
 
 -- the last fragment
 TakesRecord-push : (limit empty place end end' : ℕ) (old now new : Option (List ℕ)) (front piece : List ℕ) → HasBegun limit old now front empty place end
-    → Consumes now new (fragment true piece) → length front + length piece ≤ limit → (length piece ≡ 0 → empty < EMPTY_MAX) → IsShort piece
+    → Consumes now new (fragment true piece) → length front + length piece ≤ limit → (length piece ≡ 0 → empty < empty_max) → IsShort piece
     → end' ≡ min (end + (4 + length piece)) last_count → TakesRecord limit (front ++ piece) old new place end'
 TakesRecord-push limit empty place end end' old now new front piece h taken fits few short passed =
     let so_far : length (joined h.pieces) ≡ length front = ap length h.filled in
@@ -159,7 +158,7 @@ HasCause-behind limit room empty place end before now after old mid new front (T
     )
 HasCause-behind limit room empty place end before now after old mid new front (TooLong at) h fits rose cause =
     let so_far : length (joined h.pieces) ≡ length front = ap length h.filled in
-    let most : empties h.pieces ≤ EMPTY_MAX = h.within.empty in
+    let most : empties h.pieces ≤ empty_max = h.within.empty in
     let last = cause.1 in
     let len = cause.2 in (
       cause.0,
@@ -209,7 +208,7 @@ HasFilled old now buf len empty place end = HasBegun (length buf) old now (take 
 
 -- one fragment more was read behind them, which isn't the last
 pub HasFilled-more : (buf room : List ℕ) (len n empty empty' place end end' : ℕ) (old now new : Option (List ℕ)) → ReadsBehind len buf room → n ≤ length room
-    → HasFilled old now buf len empty place end → Consumes now new (fragment false (take n room)) → (n ≡ 0 → empty < EMPTY_MAX) → n < 2 ^ 31 → empty' ≡ empty + bool_byte (n == 0) → end' ≡ min (end + (4 + n)) last_count
+    → HasFilled old now buf len empty place end → Consumes now new (fragment false (take n room)) → (n ≡ 0 → empty < empty_max) → n < 2 ^ 31 → empty' ≡ empty + bool_byte (n == 0) → end' ≡ min (end + (4 + n)) last_count
     → HasFilled old new (read_behind len buf room) (len + n) empty' place end'
 HasFilled-more buf room len n empty empty' place end end' old now new behind fits h taken few short counted passed =
     let front : length (take len buf) ≡ len = length-take-le len buf behind.within in
@@ -220,7 +219,7 @@ HasFilled-more buf room len n empty empty' place end end' old now new behind fit
 
 -- the last fragment was read behind them
 pub TakesRecord-last : (buf room : List ℕ) (len n empty place end end' : ℕ) (old now new : Option (List ℕ)) → ReadsBehind len buf room → n ≤ length room
-    → HasFilled old now buf len empty place end → Consumes now new (fragment true (take n room)) → (n ≡ 0 → empty < EMPTY_MAX) → n < 2 ^ 31 → end' ≡ min (end + (4 + n)) last_count
+    → HasFilled old now buf len empty place end → Consumes now new (fragment true (take n room)) → (n ≡ 0 → empty < empty_max) → n < 2 ^ 31 → end' ≡ min (end + (4 + n)) last_count
     → TakesRecord (length (read_behind len buf room)) (take (len + n) (read_behind len buf room)) old new place end'
 TakesRecord-last buf room len n empty place end end' old now new behind fits h taken few short passed =
     let front : length (take len buf) ≡ len = length-take-le len buf behind.within in

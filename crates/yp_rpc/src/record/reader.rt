@@ -3,7 +3,7 @@
 ghost use Rattle.std.specs.Prelude.{◌≡◌, ℕ, zero, ◌^◌, ◌<◌, ◌≤◌, List, [], length, take, Some, None, IfOk, IfErr, IfSome, IfNone, OnErr};
 ghost use Rattle.std.specs.Io.KnownBytes.{Consumes, IsAtEnd};
 ghost use Rattle.yp_io.specs.Counts.{CountsFaults};
-ghost use Rattle.yp_rpc.specs.Records.{head, fragment, IsEmpty, TakesRecord, HasCause, HasNoFragment};
+ghost use Rattle.yp_rpc.specs.Records.{empty_max, head, fragment, IsEmpty, TakesRecord, HasCause, HasNoFragment};
 
 use crate::record::head::{HEAD, Head};
 use crate::record::{EMPTY_MAX, RecordFault};
@@ -125,7 +125,7 @@ fn read_fragment<S: Source>(
 ) -> Result<Option<Head>, RecordFault>
     ensures within { IfOk result (λ found. IfSome found (λ f. f.len ≤ length room.new)) }
     ensures short { IfOk result (λ found. IfSome found (λ f. f.len < 2 ^ 31)) }
-    ensures few { IfOk result (λ found. IfSome found (λ f. f.len ≡ 0 → empty < EMPTY_MAX)) }
+    ensures few { IfOk result (λ found. IfSome found (λ f. f.len ≡ 0 → empty < empty_max)) }
     ensures taken { IfOk result (λ found. IfSome found (λ f.
         Consumes (S.input source.old) (S.input source.new)
         (fragment f.last (take f.len room.new)))) }
