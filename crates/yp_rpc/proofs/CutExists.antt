@@ -2,8 +2,9 @@
 use Rattle.std.proofs.Common.{◌≡◌, ◌≢◌, ℕ, zero, suc, ◌<◌, ◌≤◌, Bool, true, false, ◌⊎◌, inl, inr, List, [], ◌∷◌, ◌++◌, length, refl, sym, ap, ◌∙◌, arith, append_assoc}
 use Rattle.std.proofs.lemmas.Bool.{cases_lt}
 use Rattle.std.proofs.lemmas.List.{flat_map_more, length-append, nil_from_length}
+use Rattle.std.proofs.lemmas.List.Elements.{All-nil}
 use Rattle.yp_xdr.specs.Reading.{IsBytes}
-use Rattle.yp_rpc.specs.Records.{head, fragment, begun, joined, AreWithin, Fragments, IsPart, IsTorn, IsLong, IsRest, Cut}
+use Rattle.yp_rpc.specs.Records.{IsShort, head, fragment, begun, joined, AreWithin, Fragments, IsPart, IsTorn, IsLong, IsRest, Cut}
 use Rattle.yp_rpc.proofs.CutNext.{IsBytes-behind, head_of, Opens, IsNext, IsPast, next_of}
 
 -- bytes that begin with a whole record
@@ -20,7 +21,7 @@ IsNext-whole limit stream pieces tail begins next = record {
   message = joined pieces ++ next.piece;
   bytes = begun pieces ++ fragment true next.piece;
   more = next.more;
-  fragments = record { pieces = pieces; last = next.piece; whole = refl; spelled = refl; within = next.within; short = next.short };
+  fragments = record { pieces = pieces; last = next.piece; whole = refl; spelled = refl; within = next.within };
   begins = begins ∙ ap (λ bytes. begun pieces ++ bytes) next.begins ∙ sym (append_assoc (begun pieces) (fragment true next.piece) next.more);
 }
 
@@ -76,7 +77,7 @@ found (suc turns) limit stream pieces tail enough fits within some begins =
 rest_or_whole : (limit : ℕ) (stream : List ℕ) → IsBytes stream → IsRest limit stream ⊎ IsWhole limit stream
 rest_or_whole limit [] fits = inl (inl refl)
 rest_or_whole limit (byte ∷ bytes) fits =
-    elim (found (length (byte ∷ bytes)) limit (byte ∷ bytes) [] (byte ∷ bytes) (omega arith) fits (record { len = omega arith; empty = omega arith }) (λ none. cc) refl) [
+    elim (found (length (byte ∷ bytes)) limit (byte ∷ bytes) [] (byte ∷ bytes) (omega arith) fits (record { len = omega arith; empty = omega arith; short = All-nil IsShort }) (λ none. cc) refl) [
       | inl torn ↦ inl (inr (inl torn))
       | inr more ↦ elim more [ inl long ↦ inl (inr (inr long)) | inr whole ↦ inr whole ]
     ]

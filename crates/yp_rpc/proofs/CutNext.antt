@@ -4,10 +4,10 @@ use Rattle.std.specs.Int.{w32, from_be_bytes}
 use Rattle.std.proofs.lemmas.Bool.{cases_lt, cases_eq}
 use Rattle.std.proofs.lemmas.Nat.{be_bytes_4}
 use Rattle.std.proofs.lemmas.List.{length-take-le, get_or-append-add, get_or_append_left, get_or_past, take-append-drop}
+use Rattle.std.proofs.lemmas.List.Elements.{All-push}
 use Rattle.yp_xdr.specs.Spelling.{word}
 use Rattle.yp_xdr.specs.Reading.{IsBytes}
-use Rattle.yp_rpc.specs.declared.record.TheConstants.{EMPTY_MAX}
-use Rattle.yp_rpc.specs.Records.{head, fragment, joined, empties, AreWithin, IsPart}
+use Rattle.yp_rpc.specs.Records.{empty_max, IsShort, head, fragment, joined, empties, AreWithin, IsPart}
 use Rattle.yp_rpc.proofs.CutPieces.{blank, blank_is, empties-append, length-joined_push}
 
 -- what stands behind the front of bytes is bytes
@@ -57,22 +57,22 @@ pub record IsNext (limit : ℕ) (pieces : List (List ℕ)) (last : Bool) (tail :
   pub more : List ℕ
   pub begins : tail ≡ fragment last piece ++ more
   pub within : AreWithin limit (pieces ++ piece ∷ [])
-  pub short : length piece < 2 ^ 31
 
 -- behind these pieces there is no room for one of so many bytes
 abbrev pub IsPast : ℕ → List (List ℕ) → ℕ → Type 0
-IsPast limit pieces len = (limit < length (joined pieces) + len) ⊎ ((len ≡ 0) × (empties pieces ≡ EMPTY_MAX))
+IsPast limit pieces len = (limit < length (joined pieces) + len) ⊎ ((len ≡ 0) × (empties pieces ≡ empty_max))
 
 -- one more piece is within the limit, or is one empty piece too many
-room_of : (limit : ℕ) (pieces : List (List ℕ)) (piece : List ℕ) → AreWithin limit pieces → length (joined pieces) + length piece ≤ limit
+room_of : (limit : ℕ) (pieces : List (List ℕ)) (piece : List ℕ) → AreWithin limit pieces → IsShort piece → length (joined pieces) + length piece ≤ limit
     → IsPast limit pieces (length piece) ⊎ AreWithin limit (pieces ++ piece ∷ [])
-room_of limit pieces piece within fits =
-    let more : empties pieces + blank piece ≤ EMPTY_MAX → AreWithin limit (pieces ++ piece ∷ []) = λ room. record {
+room_of limit pieces piece within short fits =
+    let more : empties pieces + blank piece ≤ empty_max → AreWithin limit (pieces ++ piece ∷ []) = λ room. record {
       len = omega (arith, length-joined_push pieces piece);
       empty = omega (arith, empties-append pieces (piece ∷ []));
+      short = All-push IsShort pieces piece within.short short;
     } in
     elim (blank_is piece) [
-      | inl none ↦ elim (cases_eq (empties pieces) EMPTY_MAX) [ inl full ↦ inl (inr (none.0, full)) | inr room ↦ inr (more (omega (arith, none.1, within.empty, room))) ]
+      | inl none ↦ elim (cases_eq (empties pieces) empty_max) [ inl full ↦ inl (inr (none.0, full)) | inr room ↦ inr (more (omega (arith, none.1, within.empty, room))) ]
       | inr some ↦ inr (more (omega (arith, some.1, within.empty)))
     ]
 
@@ -85,9 +85,9 @@ whole_next limit pieces tail opens within fits enough =
     let size : length piece ≡ opens.len = length-take-le opens.len opens.body enough in
     let begins : tail ≡ fragment opens.last piece ++ more =
     opens.begins ∙ ap (λ len. head opens.last len ++ opens.body) (sym size) ∙ ap (λ body. head opens.last (length piece) ++ body) (sym (take-append-drop opens.len opens.body)) in
-    elim (room_of limit pieces piece within (omega arith)) [
+    elim (room_of limit pieces piece within (omega (arith, opens.short)) (omega arith)) [
       | inl past ↦ inl (subst (IsPast limit pieces) size past)
-      | inr room ↦ inr (record { piece = piece; more = more; begins = begins; within = room; short = omega (arith, size, opens.short) })
+      | inr room ↦ inr (record { piece = piece; more = more; begins = begins; within = room })
     ]
 
 -- what its head names is past the limit, or partly there, or the next fragment

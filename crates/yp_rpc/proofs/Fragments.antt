@@ -1,18 +1,18 @@
 -- Lemmas on the fragments of a record, one after another.
-use Rattle.std.proofs.Common.{◌≡◌, ◌≢◌, ℕ, ◌+◌, ◌-◌, ◌^◌, ◌<◌, ◌≤◌, Bool, true, false, ◌==◌, List, [], ◌∷◌, ◌++◌, Option, length, take, min, refl, sym, ap, ◌∙◌, arith, inl, inr, eq-eqb}
+use Rattle.std.proofs.Common.{◌≡◌, ◌≢◌, ℕ, ◌+◌, ◌-◌, ◌^◌, ◌<◌, ◌≤◌, Bool, true, false, ◌==◌, ◌⊎◌, List, [], ◌∷◌, ◌++◌, Option, length, take, min, refl, sym, ap, ◌∙◌, arith, inl, inr, eq-eqb}
 use Rattle.std.proofs.lemmas.List.{length-append, length-take-le, append-nil}
 use Rattle.std.proofs.lemmas.List.Concat.{flat_map-append}
+use Rattle.std.proofs.lemmas.List.Elements.{All-push}
 use Rattle.std.proofs.lemmas.Bool.{ne_eqb}
 use Rattle.std.proofs.KnownBytes.{Consumes-trans}
 use Rattle.std.specs.Io.KnownBytes.{Consumes, IsAtEnd}
 use mir.Val.{bool_byte}
-use Rattle.yp_io.specs.Counts.{last_count}
+use Rattle.yp_io.specs.Counts.{HasRisen, last_count}
 use Rattle.yp_rpc.specs.declared.record.RecordFault.{RecordFault}
 use Rattle.yp_rpc.specs.declared.record.RecordFault.TheVariants.{Torn, TooLong, ReadFault}
-use Rattle.yp_rpc.specs.declared.record.TheConstants.{EMPTY_MAX}
 use Rattle.yp_rpc.proofs.Stream.{take-behind, ReadsBehind, read_behind, length-room, length-read_behind}
 use Rattle.yp_rpc.proofs.CutPieces.{blank, blank_is, empties-cons, empties-append, length-joined, length-joined_push}
-use Rattle.yp_rpc.specs.Records.{head, fragment, begun, joined, empties, AreWithin, IsPart, IsEmpty, TakesRecord, HasCause, HasNoFragment}
+use Rattle.yp_rpc.specs.Records.{empty_max, IsShort, head, fragment, begun, joined, empties, AreWithin, IsPart, IsBegun, IsEmpty, TakesRecord, HasCause, HasNoFragment}
 
 -- input ended behind the head of a fragment
 pub torn_body : (last : Bool) (len n room empty place : ℕ) (body : List ℕ) (old mid new : Option (List ℕ)) → len < 2 ^ 31 → len ≤ room → n < len → n ≤ length body
@@ -21,6 +21,12 @@ torn_body last len n room empty place body old mid new short fits fewer within f
     let size : length (take n body) ≡ n = length-take-le n body within in
     let some : 0 < length (head last len ++ take n body) = omega (arith, length-append (head last len) (take n body)) in
     (refl, head last len ++ take n body, some, inr (last, len, take n body, refl, omega arith, short, omega arith), Consumes-trans old mid new _ _ first second, end)
+
+-- the source failed behind the head of a fragment
+pub failed_body : (last : Bool) (len room empty place before now after : ℕ) (body : List ℕ) (old mid new : Option (List ℕ)) → len < 2 ^ 31 → len ≤ room → length body < len
+    → Consumes old mid (head last len) → Consumes mid new body → before ≤ now → HasRisen now after → HasNoFragment room empty place old new before after ReadFault
+failed_body last len room empty place before now after body old mid new short fits fewer first second rose risen =
+    (omega arith, head last len ++ body, Consumes-trans old mid new _ _ first second, inr (last, len, body, refl, fewer, short, omega arith))
 
 -- a fragment takes four bytes more than its piece
 pub length-fragment : (last : Bool) (piece : List ℕ) → length (fragment last piece) ≡ 4 + length piece
@@ -65,14 +71,15 @@ some_begun pieces tail some none =
     omega arith
 
 -- one piece more is within the limit
-AreWithin-push : (limit : ℕ) (pieces : List (List ℕ)) (piece : List ℕ) → AreWithin limit pieces → length (joined pieces) + length piece ≤ limit → (length piece ≡ 0 → empties pieces < EMPTY_MAX)
+AreWithin-push : (limit : ℕ) (pieces : List (List ℕ)) (piece : List ℕ) → AreWithin limit pieces → IsShort piece → length (joined pieces) + length piece ≤ limit → (length piece ≡ 0 → empties pieces < empty_max)
     → AreWithin limit (pieces ++ piece ∷ [])
-AreWithin-push limit pieces piece within fits few = record {
+AreWithin-push limit pieces piece within short fits few = record {
   len = omega (arith, length-joined_push pieces piece);
   empty = elim (blank_is piece) [
     | inl none ↦ omega (arith, few none.0, none.1, empties-append pieces (piece ∷ []))
     | inr some ↦ omega (arith, within.empty, some.1, empties-append pieces (piece ∷ []))
   ];
+  short = All-push IsShort pieces piece within.short short;
 }
 
 -- How far a record has come: the bytes so far, how many fragments were empty, and the place behind them.
@@ -86,22 +93,22 @@ pub record HasBegun (limit : ℕ) (old now : Option (List ℕ)) (front : List �
 
 -- one fragment more, which isn't the last
 HasBegun-push : (limit empty empty' place end end' : ℕ) (old now new : Option (List ℕ)) (front piece : List ℕ) → HasBegun limit old now front empty place end
-    → Consumes now new (fragment false piece) → length front + length piece ≤ limit → (length piece ≡ 0 → empty < EMPTY_MAX)
+    → Consumes now new (fragment false piece) → length front + length piece ≤ limit → (length piece ≡ 0 → empty < empty_max) → IsShort piece
     → empty' ≡ empty + blank piece → end' ≡ min (end + (4 + length piece)) last_count → HasBegun limit old new (front ++ piece) empty' place end'
-HasBegun-push limit empty empty' place end end' old now new front piece h taken fits few counted passed =
+HasBegun-push limit empty empty' place end end' old now new front piece h taken fits few short counted passed =
     let so_far : length (joined h.pieces) ≡ length front = ap length h.filled in
     record {
       pieces = h.pieces ++ piece ∷ [];
       taken = rw (begun-push h.pieces piece) (Consumes-trans old now new _ _ h.taken taken);
       filled = rw (joined-push h.pieces piece, h.filled) refl;
-      within = AreWithin-push limit h.pieces piece h.within (omega arith) (λ none. omega (arith, few none, h.counted));
+      within = AreWithin-push limit h.pieces piece h.within short (omega arith) (λ none. omega (arith, few none, h.counted));
       counted = empties-append h.pieces (piece ∷ []) ∙ ap (λ (n : ℕ). n + blank piece) h.counted ∙ sym counted;
       passed = rw (begun-push h.pieces piece) (omega (arith, h.passed, length-append (begun h.pieces) (fragment false piece), length-fragment false piece));
     }
 
 -- the last fragment
 TakesRecord-push : (limit empty place end end' : ℕ) (old now new : Option (List ℕ)) (front piece : List ℕ) → HasBegun limit old now front empty place end
-    → Consumes now new (fragment true piece) → length front + length piece ≤ limit → (length piece ≡ 0 → empty < EMPTY_MAX) → length piece < 2 ^ 31
+    → Consumes now new (fragment true piece) → length front + length piece ≤ limit → (length piece ≡ 0 → empty < empty_max) → IsShort piece
     → end' ≡ min (end + (4 + length piece)) last_count → TakesRecord limit (front ++ piece) old new place end'
 TakesRecord-push limit empty place end end' old now new front piece h taken fits few short passed =
     let so_far : length (joined h.pieces) ≡ length front = ap length h.filled in
@@ -112,8 +119,7 @@ TakesRecord-push limit empty place end end' old now new front piece h taken fits
         last = piece;
         whole = rw h.filled refl;
         spelled = refl;
-        within = AreWithin-push limit h.pieces piece h.within (omega arith) (λ none. omega (arith, few none, h.counted));
-        short = short;
+        within = AreWithin-push limit h.pieces piece h.within short (omega arith) (λ none. omega (arith, few none, h.counted));
       };
       taken = Consumes-trans old now new _ _ h.taken taken;
       counted = omega (arith, h.passed, length-append (begun h.pieces) (fragment true piece), length-fragment true piece);
@@ -123,6 +129,19 @@ TakesRecord-push limit empty place end end' old now new front piece h taken fits
 IsPart-behind : (limit room : ℕ) (pieces : List (List ℕ)) (tail : List ℕ) → length (joined pieces) + room ≤ limit → IsPart room [] tail → IsPart limit pieces tail
 IsPart-behind limit room pieces tail fits (inl few) = inl few
 IsPart-behind limit room pieces tail fits (inr h) = inr (h.0, h.1, h.2, h.3, h.4, h.5, omega (arith, h.6))
+
+-- a list is empty or has something
+nil_or_some : (bytes : List ℕ) → (bytes ≡ []) ⊎ (bytes ≢ [])
+nil_or_some [] = inl refl
+nil_or_some (byte ∷ bytes) = inr (λ none. cc)
+
+-- whole fragments and part of one are less than a record
+IsBegun-part : (limit : ℕ) (pieces : List (List ℕ)) (tail : List ℕ) → AreWithin limit pieces → IsPart limit pieces tail → IsBegun limit (begun pieces ++ tail)
+IsBegun-part limit pieces tail within part =
+    elim (nil_or_some (begun pieces ++ tail)) [
+      | inl none ↦ inl none
+      | inr some ↦ inr (record { pieces = pieces; tail = tail; begins = refl; some = some; within = within; part = part })
+    ]
 
 -- Why a record has no next fragment is why there is no record.
 HasCause-behind : (limit room empty place end before now after : ℕ) (old mid new : Option (List ℕ)) (front : List ℕ) (fault : RecordFault) → HasBegun limit old mid front empty place end
@@ -139,7 +158,7 @@ HasCause-behind limit room empty place end before now after old mid new front (T
     )
 HasCause-behind limit room empty place end before now after old mid new front (TooLong at) h fits rose cause =
     let so_far : length (joined h.pieces) ≡ length front = ap length h.filled in
-    let most : empties h.pieces ≤ EMPTY_MAX = h.within.empty in
+    let most : empties h.pieces ≤ empty_max = h.within.empty in
     let last = cause.1 in
     let len = cause.2 in (
       cause.0,
@@ -155,7 +174,14 @@ HasCause-behind limit room empty place end before now after old mid new front (T
       },
       Consumes-trans old mid new _ _ h.taken cause.5,
     )
-HasCause-behind limit room empty place end before now after old mid new front ReadFault h fits rose cause = omega arith
+HasCause-behind limit room empty place end before now after old mid new front ReadFault h fits rose cause =
+    let so_far : length (joined h.pieces) ≡ length front = ap length h.filled in
+    let tail = cause.1 in (
+      omega (arith, cause.0),
+      begun h.pieces ++ tail,
+      Consumes-trans old mid new _ _ h.taken cause.2,
+      IsBegun-part limit h.pieces tail h.within (IsPart-behind limit room h.pieces tail (omega arith) cause.3),
+    )
 
 -- input ended behind some whole fragments
 torn_between : (limit empty place end : ℕ) (old now new : Option (List ℕ)) (front : List ℕ) → HasBegun limit old now front empty place end → 0 < length front + empty → IsEmpty now new
@@ -182,18 +208,18 @@ HasFilled old now buf len empty place end = HasBegun (length buf) old now (take 
 
 -- one fragment more was read behind them, which isn't the last
 pub HasFilled-more : (buf room : List ℕ) (len n empty empty' place end end' : ℕ) (old now new : Option (List ℕ)) → ReadsBehind len buf room → n ≤ length room
-    → HasFilled old now buf len empty place end → Consumes now new (fragment false (take n room)) → (n ≡ 0 → empty < EMPTY_MAX) → empty' ≡ empty + bool_byte (n == 0) → end' ≡ min (end + (4 + n)) last_count
+    → HasFilled old now buf len empty place end → Consumes now new (fragment false (take n room)) → (n ≡ 0 → empty < empty_max) → n < 2 ^ 31 → empty' ≡ empty + bool_byte (n == 0) → end' ≡ min (end + (4 + n)) last_count
     → HasFilled old new (read_behind len buf room) (len + n) empty' place end'
-HasFilled-more buf room len n empty empty' place end end' old now new behind fits h taken few counted passed =
+HasFilled-more buf room len n empty empty' place end end' old now new behind fits h taken few short counted passed =
     let front : length (take len buf) ≡ len = length-take-le len buf behind.within in
     let piece : length (take n room) ≡ n = length-take-le n room fits in
     let left = length-room len buf room behind in
     rw (length-read_behind len buf room behind, take-behind len (length buf - len) n buf room behind.within fits)
-    (HasBegun-push (length buf) empty empty' place end end' old now new (take len buf) (take n room) h taken (omega (arith, behind.within)) (λ none. few (sym piece ∙ none)) (rw (← bool_byte-blank (take n room) n piece) counted) (omega arith))
+    (HasBegun-push (length buf) empty empty' place end end' old now new (take len buf) (take n room) h taken (omega (arith, behind.within)) (λ none. few (sym piece ∙ none)) (omega arith) (rw (← bool_byte-blank (take n room) n piece) counted) (omega arith))
 
 -- the last fragment was read behind them
 pub TakesRecord-last : (buf room : List ℕ) (len n empty place end end' : ℕ) (old now new : Option (List ℕ)) → ReadsBehind len buf room → n ≤ length room
-    → HasFilled old now buf len empty place end → Consumes now new (fragment true (take n room)) → (n ≡ 0 → empty < EMPTY_MAX) → n < 2 ^ 31 → end' ≡ min (end + (4 + n)) last_count
+    → HasFilled old now buf len empty place end → Consumes now new (fragment true (take n room)) → (n ≡ 0 → empty < empty_max) → n < 2 ^ 31 → end' ≡ min (end + (4 + n)) last_count
     → TakesRecord (length (read_behind len buf room)) (take (len + n) (read_behind len buf room)) old new place end'
 TakesRecord-last buf room len n empty place end end' old now new behind fits h taken few short passed =
     let front : length (take len buf) ≡ len = length-take-le len buf behind.within in

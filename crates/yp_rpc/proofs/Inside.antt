@@ -1,5 +1,5 @@
 -- What was read lies inside the message.
-use Rattle.std.proofs.Common.{◌≡◌, ℕ, ◌+◌, ◌≤◌, List, ◌++◌, length, Ok, ap, ◌∙◌, arith}
+use Rattle.std.proofs.Common.{◌≡◌, ◌+◌, ◌≤◌, length, Ok, ap, ◌∙◌, arith}
 use Rattle.std.proofs.lemmas.List.{length-append}
 use Rattle.yp_xdr.specs.Kind.{Kind, Value}
 use Rattle.yp_xdr.specs.Reading.{Unread, reading, IsBytes}

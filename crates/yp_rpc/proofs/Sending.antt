@@ -5,20 +5,19 @@ use Rattle.std.proofs.lemmas.Bool.{cases_lt, le-leb, lt-leb, eqb-false}
 use Rattle.std.proofs.Math.Seq.{take-append-add}
 use Rattle.std.proofs.KnownBytes.{Appends-trans, Appends-kept}
 use Rattle.std.specs.Io.KnownBytes.{Appends, Keeps}
-use Rattle.yp_rpc.specs.declared.record.TheConstants.{FRAGMENT_MAX}
-use Rattle.yp_rpc.specs.Records.{fragment, sent_within, sent}
+use Rattle.yp_rpc.specs.Records.{fragment_max, fragment, sent_within, sent}
 
 -- a short message is one fragment
-sent_within-short : (turns : ℕ) (message : List ℕ) → length message ≤ FRAGMENT_MAX → sent_within turns message ≡ fragment true message
+sent_within-short : (turns : ℕ) (message : List ℕ) → length message ≤ fragment_max → sent_within turns message ≡ fragment true message
 unfolding sent_within
 sent_within-short zero message short = refl
-sent_within-short (suc turns) message short = rw (le-leb (length message) FRAGMENT_MAX short) refl
+sent_within-short (suc turns) message short = rw (le-leb (length message) fragment_max short) refl
 
 -- a long message is a full fragment, and what is sent of the rest
-sent_within-long : (turns : ℕ) (message : List ℕ) → FRAGMENT_MAX < length message
-    → sent_within (suc turns) message ≡ fragment false (take FRAGMENT_MAX message) ++ sent_within turns (drop FRAGMENT_MAX message)
+sent_within-long : (turns : ℕ) (message : List ℕ) → fragment_max < length message
+    → sent_within (suc turns) message ≡ fragment false (take fragment_max message) ++ sent_within turns (drop fragment_max message)
 unfolding sent_within
-sent_within-long turns message long = rw (lt-leb (length message) FRAGMENT_MAX long) refl
+sent_within-long turns message long = rw (lt-leb (length message) fragment_max long) refl
 
 -- any number of turns will do, if there are as many as bytes
 sent_within-enough : (turns others : ℕ) (message : List ℕ) → length message ≤ turns → length message ≤ others → sent_within turns message ≡ sent_within others message
@@ -26,24 +25,24 @@ sent_within-enough zero others message few many = sent_within-short zero message
 sent_within-enough (suc turns) zero message few many = sent_within-short (suc turns) message (omega arith) ∙ sym (sent_within-short zero message (omega arith))
 sent_within-enough (suc turns) (suc others) message few many =
     ⊎_elim
-    (λ (long : FRAGMENT_MAX < length message). sent_within-long turns message long
-    ∙ ap (λ (rest : List ℕ). fragment false (take FRAGMENT_MAX message) ++ rest) (sent_within-enough turns others (drop FRAGMENT_MAX message) (omega (arith, length-drop FRAGMENT_MAX message)) (omega (arith, length-drop FRAGMENT_MAX message)))
+    (λ (long : fragment_max < length message). sent_within-long turns message long
+    ∙ ap (λ (rest : List ℕ). fragment false (take fragment_max message) ++ rest) (sent_within-enough turns others (drop fragment_max message) (omega (arith, length-drop fragment_max message)) (omega (arith, length-drop fragment_max message)))
     ∙ sym (sent_within-long others message long))
-    (λ (short : length message ≤ FRAGMENT_MAX). sent_within-short (suc turns) message short ∙ sym (sent_within-short (suc others) message short))
-    (cases_lt FRAGMENT_MAX (length message))
+    (λ (short : length message ≤ fragment_max). sent_within-short (suc turns) message short ∙ sym (sent_within-short (suc others) message short))
+    (cases_lt fragment_max (length message))
 
 -- what one fragment holds is sent as the last one
-pub sent-last : (message : List ℕ) → length message ≤ FRAGMENT_MAX → sent message ≡ fragment true message
+pub sent-last : (message : List ℕ) → length message ≤ fragment_max → sent message ≡ fragment true message
 sent-last message short = sent_within-short (length message) message short
 
 -- a full fragment, and what is sent of the bytes behind it
-pub sent-full : (full rest : List ℕ) → length full ≡ FRAGMENT_MAX → 0 < length rest → sent (full ++ rest) ≡ fragment false full ++ sent rest
+pub sent-full : (full rest : List ℕ) → length full ≡ fragment_max → 0 < length rest → sent (full ++ rest) ≡ fragment false full ++ sent rest
 sent-full full rest len some =
     let turns = length (full ++ rest) in
     let size = length-append full rest in
     sent_within-enough turns (suc turns) (full ++ rest) (omega arith) (omega arith)
     ∙ sent_within-long turns (full ++ rest) (omega arith)
-    ∙ rw (take_at full rest FRAGMENT_MAX len, drop_at full rest FRAGMENT_MAX len) (ap (λ (others : List ℕ). fragment false full ++ others) (sent_within-enough turns (length rest) rest (omega arith) (omega arith)))
+    ∙ rw (take_at full rest fragment_max len, drop_at full rest fragment_max len) (ap (λ (others : List ℕ). fragment false full ++ others) (sent_within-enough turns (length rest) rest (omega arith) (omega arith)))
 
 -- What a sink took so far of a record, of which some bytes wait to be written and others are still to be put.
 pub record HasPut (before now : Option (List ℕ)) (whole waiting rest : List ℕ) : Type 0 where
@@ -96,7 +95,7 @@ OnErr-always (Ok x) p = tt
 OnErr-always (Err e) p = p
 
 -- what was written and flushed was taken
-pub flushed : {T E : Type 0} (result : Result T E) (before mid after : Option (List ℕ)) (message : List ℕ) → length message ≤ FRAGMENT_MAX → Appends before mid (fragment true message) → Keeps mid after
+pub flushed : {T E : Type 0} (result : Result T E) (before mid after : Option (List ℕ)) (message : List ℕ) → length message ≤ fragment_max → Appends before mid (fragment true message) → Keeps mid after
     → OnOk result (Appends before after (sent message)) × OnErr result ((n : ℕ) × Appends before after (take n (sent message)))
 flushed result before mid after message few taken kept =
     let all : Appends before after (sent message) = rw (sent-last message few) (Appends-kept before mid after (fragment true message) taken kept) in
@@ -104,13 +103,13 @@ flushed result before mid after message few taken kept =
     (OnOk-always result all, OnErr-always result (length (sent message), part))
 
 -- what is sent where a full fragment was written
-pub full_sent : {T E : Type 0} (result : Result T E) (before now : Option (List ℕ)) (full next : List ℕ) → length full ≡ FRAGMENT_MAX → next ≡ [] → OnOk result (Appends before now (fragment false full))
+pub full_sent : {T E : Type 0} (result : Result T E) (before now : Option (List ℕ)) (full next : List ℕ) → length full ≡ fragment_max → next ≡ [] → OnOk result (Appends before now (fragment false full))
     → OnOk result ((out : List ℕ) × Appends before now out × ((more : List ℕ) → 0 < length more → sent (full ++ more) ≡ out ++ sent (next ++ more)))
 full_sent (Ok x) before now full next len none taken = (fragment false full, taken, λ more some. rw none (sent-full full more len some))
 full_sent (Err e) before now full next len none taken = tt
 
 -- what is sent where a part of a full fragment was written
-pub full_part : {T E : Type 0} (result : Result T E) (before now : Option (List ℕ)) (full : List ℕ) → length full ≡ FRAGMENT_MAX
+pub full_part : {T E : Type 0} (result : Result T E) (before now : Option (List ℕ)) (full : List ℕ) → length full ≡ fragment_max
     → OnErr result ((n : ℕ) × (n ≤ length (fragment false full)) × Appends before now (take n (fragment false full)))
     → OnErr result ((more : List ℕ) → 0 < length more → (n : ℕ) × Appends before now (take n (sent (full ++ more))))
 full_part (Ok x) before now full len part = tt

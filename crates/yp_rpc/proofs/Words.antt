@@ -1,11 +1,10 @@
 -- Words, one behind the other.
-use Rattle.std.proofs.Common.{◌≡◌, ℕ, ◌+◌, ◌*◌, ◌<◌, ◌≤◌, List, [], ◌∷◌, ◌++◌, length, take, get_or, Result, Ok, Err, refl, sym, ap, ◌∙◌, arith}
+use Rattle.std.proofs.Common.{◌≡◌, ℕ, ◌+◌, ◌*◌, ◌<◌, ◌≤◌, List, [], ◌∷◌, ◌++◌, length, take, get_or, Ok, refl, ap, ◌∙◌, arith}
 use Rattle.std.proofs.lemmas.List.{take_more, take_all, length-take}
 use Rattle.std.proofs.lemmas.Grind.{flat_map-append}
 use Rattle.yp_xdr.specs.Spelling.{word}
 use Rattle.yp_xdr.specs.Writing.{written, Writes}
-use Rattle.yp_xdr.specs.declared.fault.NoRoom.{NoRoom}
-use Rattle.yp_xdr.proofs.Parts.{written-written, length-written}
+use Rattle.yp_xdr.proofs.Parts.{written-written}
 use Rattle.yp_rpc.specs.Reply.{words}
 
 -- each word takes four bytes

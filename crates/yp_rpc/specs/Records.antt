@@ -1,12 +1,19 @@
 -- Records in a stream, by RFC 5531 section 11: each is cut into fragments, the last of which is marked.
-use Rattle.std.specs.Prelude.{◌≡◌, ◌≢◌, ℕ, zero, suc, ◌+◌, ◌^◌, ◌<◌, ◌≤◌, Bool, true, false, if◌then◌else◌, nat_le, ◌==◌, List, [], ◌∷◌, ◌++◌, length, take, drop, count_by, Option, min, ◌⊎◌}
+use Rattle.std.specs.Prelude.{◌≡◌, ◌≢◌, ℕ, zero, suc, ◌+◌, ◌^◌, ◌<◌, ◌≤◌, All, Bool, true, false, if◌then◌else◌, nat_le, ◌==◌, List, [], ◌∷◌, ◌++◌, length, take, drop, count_by, Option, min, ◌⊎◌}
 use Rattle.std.specs.List.{flat_map}
 use Rattle.std.specs.Io.KnownBytes.{Consumes, IsAtEnd}
 use Rattle.yp_io.specs.Counts.{HasRisen, last_count}
 use Rattle.yp_xdr.specs.Spelling.{word}
 use Rattle.yp_rpc.specs.declared.record.RecordFault.{RecordFault}
 use Rattle.yp_rpc.specs.declared.record.RecordFault.TheVariants.{Torn, TooLong, ReadFault}
-use Rattle.yp_rpc.specs.declared.record.TheConstants.{FRAGMENT_MAX, EMPTY_MAX}
+
+-- the most bytes of a fragment that is written
+abbrev pub fragment_max : ℕ
+fragment_max = 8192
+
+-- the most empty fragments of one record
+abbrev pub empty_max : ℕ
+empty_max = 1024
 
 -- the head of a fragment: its highest bit marks the last one of a record, and the others are the length
 abbrev pub head : Bool → ℕ → List ℕ
@@ -28,10 +35,15 @@ joined pieces = flat_map (λ piece. piece) pieces
 abbrev pub empties : List (List ℕ) → ℕ
 empties pieces = count_by (λ piece. length piece == 0) pieces
 
--- pieces with no more bytes than the limit, and no more empty ones than a record may have
+-- a piece whose length a head can name, in 31 bits
+abbrev pub IsShort : List ℕ → Type 0
+IsShort piece = length piece < 2 ^ 31
+
+-- pieces that heads can name, with no more bytes than the limit and no more empty ones than a record may have
 pub record AreWithin (limit : ℕ) (pieces : List (List ℕ)) : Type 0 where
   pub len : length (joined pieces) ≤ limit
-  pub empty : empties pieces ≤ EMPTY_MAX
+  pub empty : empties pieces ≤ empty_max
+  pub short : All IsShort pieces
 
 -- bytes that are the record in fragments, within the limit
 pub record Fragments (limit : ℕ) (message bytes : List ℕ) : Type 0 where
@@ -40,7 +52,6 @@ pub record Fragments (limit : ℕ) (message bytes : List ℕ) : Type 0 where
   pub whole : message ≡ joined pieces ++ last
   pub spelled : bytes ≡ begun pieces ++ fragment true last
   pub within : AreWithin limit (pieces ++ last ∷ [])
-  pub short : length last < 2 ^ 31
 
 -- less than a fragment: a part of its head, or a head and a part of the bytes that it names
 abbrev pub IsPart : ℕ → List (List ℕ) → List ℕ → Type 0
@@ -57,6 +68,10 @@ pub record IsTorn (limit : ℕ) (rest : List ℕ) : Type 0 where
   pub within : AreWithin limit pieces
   pub part : IsPart limit pieces tail
 
+-- less than a record: nothing, or a rest that ends inside its first record
+abbrev pub IsBegun : ℕ → List ℕ → Type 0
+IsBegun limit part = (part ≡ []) ⊎ IsTorn limit part
+
 -- bytes up to the first head that names too much
 pub record IsTooLong (limit : ℕ) (front : List ℕ) : Type 0 where
   pub pieces : List (List ℕ)
@@ -65,7 +80,7 @@ pub record IsTooLong (limit : ℕ) (front : List ℕ) : Type 0 where
   pub begins : front ≡ begun pieces ++ head last len
   pub within : AreWithin limit pieces
   pub short : len < 2 ^ 31
-  pub past : (limit < length (joined pieces) + len) ⊎ ((len ≡ 0) × (empties pieces ≡ EMPTY_MAX))
+  pub past : (limit < length (joined pieces) + len) ⊎ ((len ≡ 0) × (empties pieces ≡ empty_max))
 
 -- a rest whose first record is too long
 abbrev pub IsLong : ℕ → List ℕ → Type 0
@@ -81,13 +96,13 @@ Cut limit stream [] rest = (stream ≡ rest) × IsRest limit rest
 Cut limit stream (message ∷ messages) rest =
     (bytes more : List ℕ) × Fragments limit message bytes × (stream ≡ bytes ++ more) × Cut limit more messages rest
 
--- what is sent of a record: fragments of FRAGMENT_MAX bytes, and the last with what is left
+-- what is sent of a record: fragments of 8192 bytes, and the last with what is left
 unfoldable pub sent_within : ℕ → List ℕ → List ℕ
 sent_within zero message = fragment true message
 sent_within (suc turns) message =
-    if nat_le (length message) FRAGMENT_MAX
+    if nat_le (length message) fragment_max
     then fragment true message
-    else fragment false (take FRAGMENT_MAX message) ++ sent_within turns (drop FRAGMENT_MAX message)
+    else fragment false (take fragment_max message) ++ sent_within turns (drop fragment_max message)
 
 abbrev pub sent : List ℕ → List ℕ
 sent message = sent_within (length message) message
@@ -99,11 +114,11 @@ pub record TakesRecord (limit : ℕ) (message : List ℕ) (old new : Option (Lis
   pub taken : Consumes old new bytes
   pub counted : after ≡ min (place + length bytes) last_count
 
--- Why there is no record: its place is where it began.
+-- Why there is no record: its place is where it began. A source that failed had given less than a record.
 abbrev pub HasCause : ℕ → ℕ → Option (List ℕ) → Option (List ℕ) → ℕ → ℕ → RecordFault → Type 0
 HasCause limit place old new before now (Torn at) = (at ≡ place) × (rest : List ℕ) × IsTorn limit rest × Consumes old new rest × IsAtEnd new
 HasCause limit place old new before now (TooLong at) = (at ≡ place) × (front : List ℕ) × IsTooLong limit front × Consumes old new front
-HasCause limit place old new before now ReadFault = HasRisen before now
+HasCause limit place old new before now ReadFault = HasRisen before now × (part : List ℕ) × Consumes old new part × IsBegun limit part
 
 -- Nothing was left, and nothing was taken.
 abbrev pub IsEmpty : Option (List ℕ) → Option (List ℕ) → Type 0
@@ -113,5 +128,5 @@ IsEmpty old new = Consumes old new [] × IsAtEnd new
 abbrev pub HasNoFragment : ℕ → ℕ → ℕ → Option (List ℕ) → Option (List ℕ) → ℕ → ℕ → RecordFault → Type 0
 HasNoFragment room empty place old new before now (Torn at) = (at ≡ place) × (tail : List ℕ) × (0 < length tail) × IsPart room [] tail × Consumes old new tail × IsAtEnd new
 HasNoFragment room empty place old new before now (TooLong at) =
-    (at ≡ place) × (last : Bool) × (len : ℕ) × (len < 2 ^ 31) × ((room < len) ⊎ ((len ≡ 0) × (EMPTY_MAX ≤ empty))) × Consumes old new (head last len)
-HasNoFragment room empty place old new before now ReadFault = HasRisen before now
+    (at ≡ place) × (last : Bool) × (len : ℕ) × (len < 2 ^ 31) × ((room < len) ⊎ ((len ≡ 0) × (empty_max ≤ empty))) × Consumes old new (head last len)
+HasNoFragment room empty place old new before now ReadFault = HasRisen before now × (part : List ℕ) × Consumes old new part × IsPart room [] part

@@ -1,14 +1,13 @@
 //! Laws of records in a stream: what each reader of one can rely on.
 
-ghost use Rattle.std.specs.Prelude.{◌≡◌, ◌≢◌, ℕ, ◌^◌, ◌<◌, List, []};
+ghost use Rattle.std.specs.Prelude.{◌≡◌, ◌≢◌, ℕ, List, []};
 ghost use Rattle.yp_rpc.specs.Records.{Cut, IsTorn, IsLong};
 ghost use Rattle.yp_xdr.specs.Reading.{IsBytes};
 
-/// The records of a stream and the rest behind them are determined by its bytes. The limit is below 2^31 bytes, since
-/// the head of a fragment has 31 bits for its length (RFC 5531 section 11).
+/// The records of a stream and the rest behind them are determined by its bytes, whatever the limit is.
 pub fn cut_is_one()
     ensures { (limit : ℕ) (stream : List ℕ) (messages others : List (List ℕ)) (rest rest' : List ℕ)
-        → limit < 2 ^ 31 → Cut limit stream messages rest → Cut limit stream others rest'
+        → Cut limit stream messages rest → Cut limit stream others rest'
         → (messages ≡ others) × (rest ≡ rest') }
 {}
 
@@ -22,7 +21,7 @@ pub fn cut_exists()
 /// whose head names too much is too long even where its bytes are not all there.
 pub fn rest_is_one_kind()
     ensures torn_is_not_long { (limit : ℕ) (rest : List ℕ)
-        → limit < 2 ^ 31 → IsTorn limit rest → IsLong limit rest → ⊥ }
+        → IsTorn limit rest → IsLong limit rest → ⊥ }
     ensures torn_is_some { (limit : ℕ) (rest : List ℕ) → IsTorn limit rest → rest ≢ [] }
     ensures long_is_some { (limit : ℕ) (rest : List ℕ) → IsLong limit rest → rest ≢ [] }
 {}

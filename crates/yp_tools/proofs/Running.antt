@@ -83,7 +83,7 @@ later : (end : End) (count : ℕ) (mid new : Feed) (before between after : Count
 later Clean count mid new before between after few r w h = (h.0, h.1, few)
 later (Torn at) count mid new before between after few r w h = (h.0, h.1, h.2, h.3, h.4, few)
 later (TooLong at) count mid new before between after few r w h = (h.0, h.1, h.2, h.3, few)
-later ReadFault count mid new before between after few r w h = omega (arith, h)
+later ReadFault count mid new before between after few r w h = (omega (arith, h.0), h.1, h.2, h.3)
 later WriteFault count mid new before between after few r w h = omega (arith, h)
 later Enough count mid new before between after few r w h = absurd (omega (arith, h))
 

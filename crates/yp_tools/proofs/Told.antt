@@ -61,7 +61,7 @@ told (message ∷ messages) old new stream e within h =
     record {
       rest = b.rest;
       left = b.left;
-      begins = (step.bytes, a.0, record { pieces = step.fragments.pieces; last = step.fragments.last; whole = step.fragments.whole; spelled = step.fragments.spelled; within = step.fragments.within; short = step.fragments.short }, a.2, b.begins);
+      begins = (step.bytes, a.0, record { pieces = step.fragments.pieces; last = step.fragments.last; whole = step.fragments.whole; spelled = step.fragments.spelled; within = step.fragments.within }, a.2, b.begins);
       few = omega (arith, b.few);
       place = omega (arith, b.place, b.few, step.counted);
     }
@@ -78,7 +78,7 @@ begins_few [] (other ∷ others) stream rest h cut =
     let none : h.0 ++ h.1 ≡ [] = sym h.3 ∙ cut.0 in
     absurd (whole_is_some call_max other h.0 h.1 h.2 none)
 begins_few (message ∷ messages) (other ∷ others) stream rest h cut =
-    let same = whole_one call_max other message h.0 cut.0 h.1 cut.1 (omega arith) h.2 cut.2 (sym h.3 ∙ cut.3) in
+    let same = whole_one call_max other message h.0 cut.0 h.1 cut.1 h.2 cut.2 (sym h.3 ∙ cut.3) in
     let more : Cut call_max h.1 messages [] = rw same.1 cut.4 in
     omega (arith, begins_few messages others h.1 rest h.4 more)
 
@@ -143,9 +143,9 @@ all_answered served WriteFault stream messages output output' h cut few reads wr
 all_answered served Enough stream messages output output' h cut few reads writes =
     absurd (omega (arith, begins_few messages h.messages stream h.rest h.begins cut, h.done.0))
 all_answered served (Torn at) stream messages output output' h cut few reads writes =
-    absurd (torn_is_some call_max h.0 h.2 (sym (cut_one call_max stream messages h.1.messages [] h.0 (omega arith) cut h.1.cut).1))
+    absurd (torn_is_some call_max h.0 h.2 (sym (cut_one call_max stream messages h.1.messages [] h.0 cut h.1.cut).1))
 all_answered served (TooLong at) stream messages output output' h cut few reads writes =
-    absurd (long_is_some call_max h.0 h.2 (sym (cut_one call_max stream messages h.1.messages [] h.0 (omega arith) cut h.1.cut).1))
+    absurd (long_is_some call_max h.0 h.2 (sym (cut_one call_max stream messages h.1.messages [] h.0 cut h.1.cut).1))
 
 -- what holds of a told value
 pub at_some : (o : Option (List ℕ)) (x : List ℕ) (P : List ℕ → Type 0) → o ≡ Some x → IfSome o P → P x

@@ -3,7 +3,7 @@
 ghost use Rattle.std.specs.Prelude.{◌≡◌, ℕ, zero, ◌^◌, ◌<◌, ◌≤◌, List, [], length, take, Some, None, IfOk, IfErr, IfSome, IfNone, OnErr};
 ghost use Rattle.std.specs.Io.KnownBytes.{Consumes, IsAtEnd};
 ghost use Rattle.yp_io.specs.Counts.{CountsFaults};
-ghost use Rattle.yp_rpc.specs.Records.{head, fragment, IsEmpty, TakesRecord, HasCause, HasNoFragment};
+ghost use Rattle.yp_rpc.specs.Records.{empty_max, head, fragment, IsEmpty, TakesRecord, HasCause, HasNoFragment};
 
 use crate::record::head::{HEAD, Head};
 use crate::record::{EMPTY_MAX, RecordFault};
@@ -43,7 +43,8 @@ impl RecordReader {
     /// Reads the next record to the front of `buf`, and answers its length, or none where input ended before its first
     /// byte. `Torn` comes where input ended later than that, `TooLong` where the heads name more than `buf` holds or
     /// a 1,025th empty fragment, of which no byte behind the head is read, and `ReadFault` where the source failed.
-    /// After an error the place is still that of the record, and the source may have gone on from there.
+    /// After an error the place is still that of the record, and the source may have gone on from there, by less than
+    /// a record after `ReadFault`.
     pub fn next<S: Source>(
         &mut self,
         source: &mut S,
@@ -77,8 +78,8 @@ fn fill<S: Source>(source: &mut S, buf: &mut [u8]) -> Result<usize, Failed>
     ensures bytes { IfOk result (λ n.
         Consumes (S.input source.old) (S.input source.new) (take n buf.new)) }
     ensures end { IfOk result (λ n. n < length buf.new → IsAtEnd (S.input source.new)) }
-    // before a failure some bytes may have been read
-    ensures part { OnErr result ((bytes : List ℕ)
+    // before a failure some bytes may have been read, but not all
+    ensures part { OnErr result ((bytes : List ℕ) × (length bytes < length buf.new)
         × Consumes (S.input source.old) (S.input source.new) bytes) }
     ensures cause { CountsFaults (S.faults source.old) (S.faults source.new) result }
 {
@@ -124,7 +125,7 @@ fn read_fragment<S: Source>(
 ) -> Result<Option<Head>, RecordFault>
     ensures within { IfOk result (λ found. IfSome found (λ f. f.len ≤ length room.new)) }
     ensures short { IfOk result (λ found. IfSome found (λ f. f.len < 2 ^ 31)) }
-    ensures few { IfOk result (λ found. IfSome found (λ f. f.len ≡ 0 → empty < EMPTY_MAX)) }
+    ensures few { IfOk result (λ found. IfSome found (λ f. f.len ≡ 0 → empty < empty_max)) }
     ensures taken { IfOk result (λ found. IfSome found (λ f.
         Consumes (S.input source.old) (S.input source.new)
         (fragment f.last (take f.len room.new)))) }

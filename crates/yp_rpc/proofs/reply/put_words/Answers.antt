@@ -1,7 +1,4 @@
-use Rattle.std.proofs.Common.{refl, arith, length, take}
-use Rattle.std.proofs.lemmas.List.{length-take}
-use Rattle.yp_xdr.proofs.Parts.{length-written}
-use Rattle.yp_rpc.specs.Reply.{words}
+use Rattle.std.proofs.Common.{refl, arith}
 use Rattle.yp_rpc.proofs.Words.{length-words, words_written, words_done}
 use Rattle.yp_rpc.proofs.reply.put_words.Goals as goal
 

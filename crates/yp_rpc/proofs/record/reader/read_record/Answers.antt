@@ -34,7 +34,7 @@ fragments-preserved g c =
     let behind : ReadsBehind c.fragments.len c.fragments.buf c.read_fragment.new.room = record { within = c.fragments.invariant.fits; as_long = c.read_fragment.auto.room } in
     let found = rw c.in-Some.is at c.in_ok-fragment.ensures in
     let taken = rw c.if-fragment.false at found.taken in
-    let begun = HasFilled-more c.fragments.buf c.read_fragment.new.room c.fragments.len c.in-Some.fragment.len c.fragments.empty _ c.args.place _ _ _ _ _ behind found.within c.fragments.invariant.begun taken found.few (ap (λ n. c.fragments.empty + n) c.from-empty.ensures) c.saturating_add-end.ensures in
+    let begun = HasFilled-more c.fragments.buf c.read_fragment.new.room c.fragments.len c.in-Some.fragment.len c.fragments.empty _ c.args.place _ _ _ _ _ behind found.within c.fragments.invariant.begun taken found.few found.short (ap (λ n. c.fragments.empty + n) c.from-empty.ensures) c.saturating_add-end.ensures in
     record {
       fits = within-behind _ _ _ _ _ c.fragments.invariant.fits found.within;
       few = omega (arith, begun.counted, begun.within.empty);
