@@ -80,12 +80,12 @@ SoFar-more served count old mid new a b c so_far step = record {
 -- the same, at a later count and from earlier counts of faults
 later : (end : End) (count : ℕ) (mid new : Feed) (before between after : Counts) → count < calls_max → before.reads ≤ between.reads → before.writes ≤ between.writes
     → EndsAt end 0 mid new between after → EndsAt end count mid new before after
-later Clean count mid new before between after few r w h = (h.0, h.1, few)
+later Clean count mid new before between after few r w h = (h.0, few)
 later (Torn at) count mid new before between after few r w h = (h.0, h.1, h.2, h.3, h.4, few)
 later (TooLong at) count mid new before between after few r w h = (h.0, h.1, h.2, h.3, few)
 later ReadFault count mid new before between after few r w h = (omega (arith, h.0), h.1, h.2, h.3)
-later WriteFault count mid new before between after few r w h = omega (arith, h)
-later Enough count mid new before between after few r w h = absurd (omega (arith, h))
+later WriteFault count mid new before between after few r w h = (omega (arith, h.0), h.1)
+later Enough count mid new before between after few r w h = absurd (omega (arith, h.0))
 
 -- a session that ends between its records
 between_records : (served : Served) (end : End) (count : ℕ) (old mid new : Feed) (a b c : Option (List ℕ)) (before between after : Counts) → SoFar served count old mid a b
@@ -117,7 +117,7 @@ Runs-ended served WriteFault count old mid new a b c before between after so_far
       mid = new;
       read = Reads-more so_far.messages step.message old mid new so_far.read step.taken;
       answered = (length sent + n, rw whole (Appends-trans a b c sent (take n bytes) so_far.answered step.done.1));
-      ended = omega (arith, h.1);
+      ended = (omega (arith, h.1), Keeps-refl new.input);
     }
 
 pub Runs-enough : (served : Served) (count : ℕ) (old now : Feed) (a b : Option (List ℕ)) (before after : Counts) → SoFar served count old now a b → count ≡ calls_max → Runs served Enough old now a b before after
@@ -126,5 +126,5 @@ Runs-enough served count old now a b before after so_far all = record {
   mid = now;
   read = so_far.read;
   answered = so_far.answered;
-  ended = so_far.counted ∙ all;
+  ended = (so_far.counted ∙ all, Keeps-refl now.input);
 }

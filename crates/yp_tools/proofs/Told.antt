@@ -4,7 +4,7 @@ use Rattle.std.specs.Prelude.{IfSome}
 use Rattle.std.specs.Io.KnownBytes.{Keeps, Appends, Consumes, IsAtEnd}
 use Rattle.std.proofs.lemmas.List.{append-nil, length-append}
 use Rattle.yp_io.specs.Counts.{last_count, HasRisen}
-use Rattle.yp_rpc.specs.Records.{Fragments, Cut, IsRest, IsTorn, IsTooLong, IsLong, TakesRecord}
+use Rattle.yp_rpc.specs.Records.{Fragments, Cut, IsRest, IsTorn, IsBegun, IsTooLong, IsLong, TakesRecord}
 use Rattle.yp_rpc.proofs.CutKinds.{whole_one, whole_is_some, torn_is_some, long_is_some}
 use Rattle.yp_rpc.proofs.CutOne.{cut_one, rest_is_not_whole}
 use Rattle.yp_tools.specs.Numbers.{call_max, calls_max}
@@ -88,64 +88,83 @@ begins_few (message ∷ messages) (other ∷ others) stream rest h cut =
 place_is : (stream rest : List ℕ) (place : ℕ) → place ≡ min (0 + (length stream - length rest)) last_count → place ≡ place_of stream rest
 place_is stream rest place h = omega (arith, h)
 
-pub serves_told : (served : Served) (end : End) (stream : List ℕ) (input' output output' : Option (List ℕ)) (place : ℕ) (before after : Counts)
-    → Runs served end (record { input = Some stream; place = 0 }) (record { input = input'; place = place }) output output' before after → Serves served (status_of end) stream output output'
-serves_told served ends.Clean stream input' output output' place before after h =
+-- the records that were read whole, and what is left of the stream
+read_some : (messages : List (List ℕ)) (stream part : List ℕ) (mid : Feed) (left : Option (List ℕ)) (P : List (List ℕ) → Type 0)
+    → Reads messages (record { input = Some stream; place = 0 }) mid → Consumes mid.input left part → IsBegun call_max part → P messages → AnswersSome stream left P
+read_some messages stream part mid left P read consumed begun done =
+    let t = told messages (record { input = Some stream; place = 0 }) mid stream refl (omega arith) read in
+    let b = taken mid.input left t.rest part t.left consumed in
+    record { messages = messages; part = part; rest = b.0; begins = rw b.2 at t.begins; begun = begun; left_is = b.1; done = done }
+
+-- kept bytes consume nothing
+nothing_taken : (a b : Option (List ℕ)) → Keeps a b → Consumes a b []
+nothing_taken None b h = tt
+nothing_taken (Some xs) None h = absurd h
+nothing_taken (Some xs) (Some ys) h = sym h
+
+pub serves_told : (served : Served) (end : End) (stream : List ℕ) (left output output' : Option (List ℕ)) (place : ℕ) (before after : Counts)
+    → Runs served end (record { input = Some stream; place = 0 }) (record { input = left; place = place }) output output' before after → Serves served (status_of end) stream left output output'
+serves_told served ends.Clean stream left output output' place before after h =
     let t = told h.messages (record { input = Some stream; place = 0 }) h.mid stream refl (omega arith) h.read in
-    let none : t.rest ≡ [] = ended h.mid.input t.rest t.left h.ended.0 in
-    let begins : Begins stream h.messages [] = rw none at t.begins in
-    record { messages = h.messages; cut = cut_from h.messages stream [] begins (inl refl); few = h.ended.2; answered = h.answered }
-serves_told served (ends.Torn at) stream input' output output' place before after h =
+    let empty = h.ended.0 in
+    let behind = taken h.mid.input left t.rest [] t.left empty.0 in
+    let none : behind.0 ≡ [] = ended left behind.0 behind.1 empty.1 in
+    let begins : Begins stream h.messages [] = rw (behind.2, none) at t.begins in
+    (record { messages = h.messages; cut = cut_from h.messages stream [] begins (inl refl); few = h.ended.1; answered = h.answered }, behind.1 ∙ ap (λ (xs : List ℕ). Some xs) none)
+serves_told served (ends.Torn at) stream left output output' place before after h =
     let t = told h.messages (record { input = Some stream; place = 0 }) h.mid stream refl (omega arith) h.read in
     let e = h.ended in
-    let behind = taken h.mid.input input' t.rest e.1 t.left e.3 in
-    let none : behind.0 ≡ [] = ended input' behind.0 behind.1 e.4 in
+    let behind = taken h.mid.input left t.rest e.1 t.left e.3 in
+    let none : behind.0 ≡ [] = ended left behind.0 behind.1 e.4 in
     let same : e.1 ≡ t.rest = sym (append-nil e.1) ∙ ap (λ (xs : List ℕ). e.1 ++ xs) (sym none) ∙ sym behind.2 in
     let torn : IsTorn call_max t.rest = subst (IsTorn call_max) same e.2 in
-    (t.rest, record { messages = h.messages; cut = cut_from h.messages stream t.rest t.begins (inr (inl torn)); few = e.5; answered = h.answered }, torn, e.0 ∙ place_is stream t.rest h.mid.place t.place)
-serves_told served (ends.TooLong at) stream input' output output' place before after h =
+    (t.rest, record { messages = h.messages; cut = cut_from h.messages stream t.rest t.begins (inr (inl torn)); few = e.5; answered = h.answered }, torn, e.0 ∙ place_is stream t.rest h.mid.place t.place, behind.1 ∙ ap (λ (xs : List ℕ). Some xs) none)
+serves_told served (ends.TooLong at) stream left output output' place before after h =
     let t = told h.messages (record { input = Some stream; place = 0 }) h.mid stream refl (omega arith) h.read in
     let e = h.ended in
-    let behind = taken h.mid.input input' t.rest e.1 t.left e.3 in
-    let long : IsLong call_max t.rest = (e.1, behind.0, e.2, behind.2) in
-    (t.rest, record { messages = h.messages; cut = cut_from h.messages stream t.rest t.begins (inr (inr long)); few = e.4; answered = h.answered }, long, e.0 ∙ place_is stream t.rest h.mid.place t.place)
-serves_told served ends.ReadFault stream input' output output' place before after h =
-    let t = told h.messages (record { input = Some stream; place = 0 }) h.mid stream refl (omega arith) h.read in
-    record { messages = h.messages; rest = t.rest; begins = t.begins; done = h.answered }
-serves_told served ends.WriteFault stream input' output output' place before after h =
-    let t = told h.messages (record { input = Some stream; place = 0 }) h.mid stream refl (omega arith) h.read in
-    record { messages = h.messages; rest = t.rest; begins = t.begins; done = h.answered }
-serves_told served ends.Enough stream input' output output' place before after h =
-    let t = told h.messages (record { input = Some stream; place = 0 }) h.mid stream refl (omega arith) h.read in
-    record { messages = h.messages; rest = t.rest; begins = t.begins; done = (h.ended, h.answered) }
+    let behind = taken h.mid.input left t.rest e.1 t.left e.3 in
+    let rest = e.1 ++ behind.0 in
+    let long : IsLong call_max rest = (e.1, behind.0, e.2, refl) in
+    let begins : Begins stream h.messages rest = rw behind.2 at t.begins in
+    let at_rest : ℕ → Type 0 = λ n. at ≡ n in
+    (e.1, behind.0, record { messages = h.messages; cut = cut_from h.messages stream rest begins (inr (inr long)); few = e.4; answered = h.answered }, e.2,
+    subst at_rest (ap (place_of stream) behind.2) (e.0 ∙ place_is stream t.rest h.mid.place t.place), behind.1)
+serves_told served ends.ReadFault stream left output output' place before after h =
+    read_some h.messages stream h.ended.1 h.mid left (λ messages. Appends output output' (answers served messages)) h.read h.ended.2 h.ended.3 h.answered
+serves_told served ends.WriteFault stream left output output' place before after h =
+    read_some h.messages stream [] h.mid left (λ messages. (n : ℕ) × Appends output output' (take n (answers served messages))) h.read (nothing_taken h.mid.input left h.ended.1) (inl refl) h.answered
+serves_told served ends.Enough stream left output output' place before after h =
+    read_some h.messages stream [] h.mid left (λ messages. (length messages ≡ calls_max) × Appends output output' (answers served messages)) h.read (nothing_taken h.mid.input left h.ended.1) (inl refl) (h.ended.0, h.answered)
 
 -- whichever way it ran, where its input is told
-pub ran_told : (served : Served) (status : Status) (input input' output output' : Option (List ℕ)) (before after : Counts)
-    → Ran served status input input' output output' before after → IfSome input (λ stream. Serves served status stream output output')
-ran_told served status None input' output output' before after h = tt
-ran_told served status (Some stream) input' output output' before after (inl h) =
-    let P : Status → Type 0 = λ s. Serves served s stream output output' in
-    subst P (sym h.0) h.2
-ran_told served status (Some stream) input' output output' before after (inr h) =
-    let P : Status → Type 0 = λ s. Serves served s stream output output' in
-    subst P (sym h.2) (serves_told served h.0 stream input' output output' h.1 before after h.3)
+pub ran_told : (served : Served) (status : Status) (input left output output' : Option (List ℕ)) (before after : Counts)
+    → Ran served status input left output output' before after → IfSome input (λ stream. Serves served status stream left output output')
+ran_told served status None left output output' before after h = tt
+ran_told served status (Some stream) left output output' before after (inl h) =
+    let P : Status → Type 0 = λ s. Serves served s stream left output output' in
+    subst P (sym h.0) (kept (Some stream) left stream refl h.1, h.2)
+ran_told served status (Some stream) left output output' before after (inr h) =
+    let P : Status → Type 0 = λ s. Serves served s stream left output output' in
+    subst P (sym h.2) (serves_told served h.0 stream left output output' h.1 before after h.3)
 
 -- ---- whole records
 
 -- whole records are all answered, where nothing failed and memory sufficed
-pub all_answered : (served : Served) (status : Status) (stream : List ℕ) (messages : List (List ℕ)) (output output' : Option (List ℕ)) → Serves served status stream output output'
+pub all_answered : (served : Served) (status : Status) (stream : List ℕ) (messages : List (List ℕ)) (left output output' : Option (List ℕ)) → Serves served status stream left output output'
     → Cut call_max stream messages [] → length messages < calls_max → (status ≡ ReadFault → ⊥) → (status ≡ WriteFault → ⊥) → (status ≡ Done) ⊎ (status ≡ NoMemory)
-all_answered served Done stream messages output output' h cut few reads writes = inl refl
-all_answered served NoMemory stream messages output output' h cut few reads writes = inr refl
-all_answered served (Usage word) stream messages output output' h cut few reads writes = absurd h
-all_answered served ReadFault stream messages output output' h cut few reads writes = absurd (reads refl)
-all_answered served WriteFault stream messages output output' h cut few reads writes = absurd (writes refl)
-all_answered served Enough stream messages output output' h cut few reads writes =
-    absurd (omega (arith, begins_few messages h.messages stream h.rest h.begins cut, h.done.0))
-all_answered served (Torn at) stream messages output output' h cut few reads writes =
+all_answered served Done stream messages left output output' h cut few reads writes = inl refl
+all_answered served NoMemory stream messages left output output' h cut few reads writes = inr refl
+all_answered served (Usage word) stream messages left output output' h cut few reads writes = absurd h
+all_answered served ReadFault stream messages left output output' h cut few reads writes = absurd (reads refl)
+all_answered served WriteFault stream messages left output output' h cut few reads writes = absurd (writes refl)
+all_answered served Enough stream messages left output output' h cut few reads writes =
+    absurd (omega (arith, begins_few messages h.messages stream (h.part ++ h.rest) h.begins cut, h.done.0))
+all_answered served (Torn at) stream messages left output output' h cut few reads writes =
     absurd (torn_is_some call_max h.0 h.2 (sym (cut_one call_max stream messages h.1.messages [] h.0 cut h.1.cut).1))
-all_answered served (TooLong at) stream messages output output' h cut few reads writes =
-    absurd (long_is_some call_max h.0 h.2 (sym (cut_one call_max stream messages h.1.messages [] h.0 cut h.1.cut).1))
+all_answered served (TooLong at) stream messages left output output' h cut few reads writes =
+    let rest = h.0 ++ h.1 in
+    let long : IsLong call_max rest = (h.0, h.1, h.3, refl) in
+    absurd (long_is_some call_max rest long (sym (cut_one call_max stream messages h.2.messages [] rest cut h.2.cut).1))
 
 -- what holds of a told value
 pub at_some : (o : Option (List ℕ)) (x : List ℕ) (P : List ℕ → Type 0) → o ≡ Some x → IfSome o P → P x

@@ -1,8 +1,8 @@
 -- What the program does with an input that is told.
-use Rattle.std.specs.Prelude.{◌≡◌, ℕ, ◌-◌, ◌<◌, List, [], ◌∷◌, ◌++◌, length, take, min, Option, ◌⊎◌}
+use Rattle.std.specs.Prelude.{◌≡◌, ℕ, ◌-◌, ◌<◌, List, [], ◌∷◌, ◌++◌, length, take, min, Option, Some, ◌⊎◌}
 use Rattle.std.specs.Io.KnownBytes.{Keeps, Appends}
 use Rattle.yp_io.specs.Counts.{last_count}
-use Rattle.yp_rpc.specs.Records.{Fragments, Cut, IsTorn, IsLong}
+use Rattle.yp_rpc.specs.Records.{Fragments, Cut, IsTorn, IsBegun, IsTooLong}
 use Rattle.yp_tools.specs.Numbers.{call_max, calls_max}
 use Rattle.yp_tools.specs.declared.session.End.{End}
 use Rattle.yp_tools.specs.declared.session.End.TheVariants as ends
@@ -38,23 +38,29 @@ pub record AnswersUpTo (served : Served) (stream rest : List ℕ) (output output
   pub few : length messages < calls_max
   pub answered : Appends output output' (answers served messages)
 
--- records at the front of a stream were read, and of their answers this was sent
-pub record AnswersSome (stream : List ℕ) (P : List (List ℕ) → Type 0) : Type 0 where
+-- Records at the front of a stream were read whole, and less than a record more; the rest is left.
+pub record AnswersSome (stream : List ℕ) (left : Option (List ℕ)) (P : List (List ℕ) → Type 0) : Type 0 where
   pub messages : List (List ℕ)
+  pub part : List ℕ
   pub rest : List ℕ
-  pub begins : Begins stream messages rest
+  pub begins : Begins stream messages (part ++ rest)
+  pub begun : IsBegun call_max part
+  pub left_is : left ≡ Some rest
   pub done : P messages
 
--- What is done with an input, for each status. All records before the rest are answered; a failed sink took a prefix.
-abbrev pub Serves : Served → Status → List ℕ → Option (List ℕ) → Option (List ℕ) → Type 0
-Serves served Done stream output output' = AnswersUpTo served stream [] output output'
-Serves served (Torn at) stream output output' = (rest : List ℕ) × AnswersUpTo served stream rest output output' × IsTorn call_max rest × (at ≡ place_of stream rest)
-Serves served (TooLong at) stream output output' = (rest : List ℕ) × AnswersUpTo served stream rest output output' × IsLong call_max rest × (at ≡ place_of stream rest)
-Serves served ReadFault stream output output' = AnswersSome stream (λ messages. Appends output output' (answers served messages))
-Serves served WriteFault stream output output' = AnswersSome stream (λ messages. (n : ℕ) × Appends output output' (take n (answers served messages)))
-Serves served Enough stream output output' = AnswersSome stream (λ messages. (length messages ≡ calls_max) × Appends output output' (answers served messages))
-Serves served NoMemory stream output output' = Keeps output output'
-Serves served (Usage word) stream output output' = ⊥
+-- What is done with an input, for each status, and what is left of it. All records before the rest are answered; a
+-- sink that failed took a prefix.
+abbrev pub Serves : Served → Status → List ℕ → Option (List ℕ) → Option (List ℕ) → Option (List ℕ) → Type 0
+Serves served Done stream left output output' = AnswersUpTo served stream [] output output' × (left ≡ Some [])
+Serves served (Torn at) stream left output output' =
+    (rest : List ℕ) × AnswersUpTo served stream rest output output' × IsTorn call_max rest × (at ≡ place_of stream rest) × (left ≡ Some [])
+Serves served (TooLong at) stream left output output' =
+    (front more : List ℕ) × AnswersUpTo served stream (front ++ more) output output' × IsTooLong call_max front × (at ≡ place_of stream (front ++ more)) × (left ≡ Some more)
+Serves served ReadFault stream left output output' = AnswersSome stream left (λ messages. Appends output output' (answers served messages))
+Serves served WriteFault stream left output output' = AnswersSome stream left (λ messages. (n : ℕ) × Appends output output' (take n (answers served messages)))
+Serves served Enough stream left output output' = AnswersSome stream left (λ messages. (length messages ≡ calls_max) × Appends output output' (answers served messages))
+Serves served NoMemory stream left output output' = (left ≡ Some stream) × Keeps output output'
+Serves served (Usage word) stream left output output' = ⊥
 
 -- A session ran, or there was no memory for it and nothing was read or written.
 abbrev pub Ran : Served → Status → Option (List ℕ) → Option (List ℕ) → Option (List ℕ) → Option (List ℕ) → Counts → Counts → Type 0

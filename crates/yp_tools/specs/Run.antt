@@ -3,7 +3,7 @@ use Rattle.std.specs.Prelude.{◌≡◌, ℕ, ◌+◌, ◌-◌, ◌<◌, List, [
 use Rattle.std.specs.List.{flat_map}
 use Rattle.std.specs.Io.KnownBytes.{Keeps, Appends, Consumes, IsAtEnd}
 use Rattle.yp_io.specs.Counts.{HasRisen, last_count}
-use Rattle.yp_rpc.specs.Records.{Fragments, IsTorn, IsBegun, IsTooLong, TakesRecord, sent}
+use Rattle.yp_rpc.specs.Records.{Fragments, IsTorn, IsBegun, IsTooLong, IsEmpty, TakesRecord, sent}
 use Rattle.yp_tools.specs.Numbers.{call_max, calls_max}
 use Rattle.yp_rpc.specs.declared.record.RecordFault.{RecordFault}
 use Rattle.yp_rpc.specs.declared.record.RecordFault.TheVariants as faults
@@ -41,12 +41,12 @@ pub record Counts : Type 0 where
 
 -- what is left where the session ended, and how many records were read
 abbrev pub EndsAt : End → ℕ → Feed → Feed → Counts → Counts → Type 0
-EndsAt Clean count mid new before after = IsAtEnd mid.input × IsAtEnd new.input × (count < calls_max)
+EndsAt Clean count mid new before after = IsEmpty mid.input new.input × (count < calls_max)
 EndsAt (Torn at) count mid new before after = (at ≡ mid.place) × (rest : List ℕ) × IsTorn call_max rest × Consumes mid.input new.input rest × IsAtEnd new.input × (count < calls_max)
 EndsAt (TooLong at) count mid new before after = (at ≡ mid.place) × (front : List ℕ) × IsTooLong call_max front × Consumes mid.input new.input front × (count < calls_max)
 EndsAt ReadFault count mid new before after = HasRisen before.reads after.reads × (part : List ℕ) × Consumes mid.input new.input part × IsBegun call_max part
-EndsAt WriteFault count mid new before after = HasRisen before.writes after.writes
-EndsAt Enough count mid new before after = count ≡ calls_max
+EndsAt WriteFault count mid new before after = HasRisen before.writes after.writes × Keeps mid.input new.input
+EndsAt Enough count mid new before after = (count ≡ calls_max) × Keeps mid.input new.input
 
 -- the sink has taken all answers, or a prefix of them where it failed
 abbrev pub Answers : End → Option (List ℕ) → Option (List ℕ) → List ℕ → Type 0

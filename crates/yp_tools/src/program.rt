@@ -92,7 +92,7 @@ fn run_words<S: Source, K: Sink>(
     ensures usage { (word : ℕ) → (result ≡ Status.Usage word) ↔ (command_of (texts words.now) ≡ Err word) }
     ensures untouched { IsErr (command_of (texts words.now)) → (input.new ≡ input.old) × (output.new ≡ output.old) }
     ensures once { (served : Served) → command_of (texts words.now) ≡ Ok (Once served)
-        → IfSome (S.input input.old) (λ stream. Serves served result stream (K.output output.old) (K.output output.new)) }
+        → IfSome (S.input input.old) (λ stream. Serves served result stream (S.input input.new) (K.output output.old) (K.output output.new)) }
     ensures read_fault { result ≡ Status.ReadFault → HasRisen (S.faults input.old) (S.faults input.new) }
     ensures write_fault { result ≡ Status.WriteFault → HasRisen (K.faults output.old) (K.faults output.new) }
 {
@@ -123,7 +123,7 @@ pub fn run<S: Source, K: Sink>(
 
     // What the output has taken, for each status, where the input is told.
     ensures once { (served : Served) → command_of (texts words.now) ≡ Ok (Once served)
-        → IfSome (S.input outside.input) (λ stream. Serves served result.0 stream (K.output outside.output) (K.output result.1.output)) }
+        → IfSome (S.input outside.input) (λ stream. Serves served result.0 stream (S.input result.1.input) (K.output outside.output) (K.output result.1.output)) }
 
     // A fault has its cause.
     ensures read_fault { result.0 ≡ Status.ReadFault → HasRisen (S.faults outside.input) (S.faults result.1.input) }

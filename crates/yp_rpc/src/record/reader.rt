@@ -56,8 +56,7 @@ impl RecordReader {
             TakesRecord (length buf.new) (take n buf.new)
             (S.input source.old) (S.input source.new) self.old self.new)) }
         // none: input had ended before a record's first byte
-        ensures none { IfOk result (λ found. IfNone found
-            (IsAtEnd (S.input source.old) × IsAtEnd (S.input source.new) × (self.new ≡ self.old))) }
+        ensures none { IfOk result (λ found. IfNone found (IsEmpty (S.input source.old) (S.input source.new) × (self.new ≡ self.old))) }
         ensures cause { IfErr result (λ fault. HasCause (length buf.new) self.old
             (S.input source.old) (S.input source.new)
             (S.faults source.old) (S.faults source.new) fault) }

@@ -5,8 +5,9 @@ use Rattle.yp_tools.proofs.program.run.Goals as goal
 pub returns-clause-complete : goal.returns-clause-complete
 returns-clause-complete g c = λ served stream messages e told cut few reads writes.
     let did = c.run_words-status in
+    let left = g.S.Source.input did.new.input in
     let output = g.K.Sink.output c.args.outside.output in
     let output' = g.K.Sink.output did.new.output in
-    all_answered served did.result stream messages output output'
-    (at_some (g.S.Source.input c.args.outside.input) stream (λ s. Serves served did.result s output output') told (did.ensures.once served e))
+    all_answered served did.result stream messages left output output'
+    (at_some (g.S.Source.input c.args.outside.input) stream (λ s. Serves served did.result s left output output') told (did.ensures.once served e))
     cut few (λ h. reads (did.ensures.read_fault h)) (λ h. writes (did.ensures.write_fault h))
