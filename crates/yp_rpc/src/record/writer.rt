@@ -3,7 +3,7 @@
 ghost use Rattle.std.specs.Prelude.{◌≡◌, ℕ, ◌+◌, ◌-◌, ◌<◌, ◌≤◌, List, [], ◌++◌, length, take, drop, min, Ok, Err, IfOk, OnOk, OnErr};
 ghost use Rattle.std.specs.Io.KnownBytes.{Appends};
 ghost use Rattle.yp_io.specs.Counts.{CountsFaults};
-ghost use Rattle.yp_rpc.specs.Records.{fragment, sent};
+ghost use Rattle.yp_rpc.specs.Records.{fragment_max, fragment, sent};
 
 use crate::record::FRAGMENT_MAX;
 use crate::record::head::{HEAD, Head};
@@ -113,7 +113,7 @@ impl RecordWriter {
 
     // Writes what waits as one fragment.
     fn send<K: Sink>(&mut self, sink: &mut K, last: bool) -> Result<(), Failed>
-        ensures few { length self.old ≤ FRAGMENT_MAX }
+        ensures few { length self.old ≤ fragment_max }
         ensures sent { OnOk result
             (Appends (K.output sink.old) (K.output sink.new) (fragment last self.old)) }
         ensures prefix { OnErr result ((n : ℕ) × (n ≤ length (fragment last self.old))
