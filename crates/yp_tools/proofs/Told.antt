@@ -1,12 +1,12 @@
 -- What a session did, where its input is told.
-use Rattle.std.proofs.Common.{◌≡◌, ◌≢◌, ℕ, suc, ◌+◌, ◌-◌, ◌^◌, ◌<◌, ◌≤◌, List, [], ◌∷◌, ◌++◌, length, take, min, Option, Some, None, refl, sym, ap, ◌∙◌, subst, arith, inl, inr, ◌⊎◌}
+use Rattle.std.proofs.Common.{◌≡◌, ℕ, ◌+◌, ◌-◌, ◌<◌, ◌≤◌, List, [], ◌∷◌, ◌++◌, length, take, min, Option, Some, None, refl, sym, ap, ◌∙◌, subst, arith, inl, inr, ◌⊎◌}
 use Rattle.std.specs.Prelude.{IfSome}
 use Rattle.std.specs.Io.KnownBytes.{Keeps, Appends, Consumes, IsAtEnd}
 use Rattle.std.proofs.lemmas.List.{append-nil, length-append}
-use Rattle.yp_io.specs.Counts.{last_count, HasRisen}
-use Rattle.yp_rpc.specs.Records.{Fragments, Cut, IsRest, IsTorn, IsBegun, IsTooLong, IsLong, TakesRecord}
+use Rattle.yp_io.specs.Counts.{last_count}
+use Rattle.yp_rpc.specs.Records.{Cut, IsRest, IsTorn, IsBegun, IsLong}
 use Rattle.yp_rpc.proofs.CutKinds.{whole_one, whole_is_some, torn_is_some, long_is_some}
-use Rattle.yp_rpc.proofs.CutOne.{cut_one, rest_is_not_whole}
+use Rattle.yp_rpc.proofs.CutOne.{cut_one}
 use Rattle.yp_tools.specs.Numbers.{call_max, calls_max}
 use Rattle.yp_tools.specs.declared.session.End.{End}
 use Rattle.yp_tools.specs.declared.session.End.TheVariants as ends
@@ -14,7 +14,7 @@ use Rattle.yp_tools.specs.declared.status.Status.{Status}
 use Rattle.yp_tools.specs.declared.status.Status.TheVariants.{Done, Usage, ReadFault, WriteFault, Torn, TooLong, NoMemory, Enough}
 use Rattle.yp_tools.specs.Served.{Served}
 use Rattle.yp_tools.specs.Run.{Feed, Counts, Reads, Runs, answers}
-use Rattle.yp_tools.specs.Once.{Begins, AnswersUpTo, AnswersSome, Serves, Ran, status_of, place_of}
+use Rattle.yp_tools.specs.Once.{Begins, AnswersSome, Serves, Ran, status_of, place_of}
 
 -- ---- told bytes
 
@@ -126,9 +126,14 @@ serves_told served (ends.TooLong at) stream left output output' place before aft
     let rest = e.1 ++ behind.0 in
     let long : IsLong call_max rest = (e.1, behind.0, e.2, refl) in
     let begins : Begins stream h.messages rest = rw behind.2 at t.begins in
-    let at_rest : ℕ → Type 0 = λ n. at ≡ n in
-    (e.1, behind.0, record { messages = h.messages; cut = cut_from h.messages stream rest begins (inr (inr long)); few = e.4; answered = h.answered }, e.2,
-    subst at_rest (ap (place_of stream) behind.2) (e.0 ∙ place_is stream t.rest h.mid.place t.place), behind.1)
+    let at_rest : ℕ → Type 0 = λ n. at ≡ n in (
+      e.1,
+      behind.0,
+      record { messages = h.messages; cut = cut_from h.messages stream rest begins (inr (inr long)); few = e.4; answered = h.answered },
+      e.2,
+      subst at_rest (ap (place_of stream) behind.2) (e.0 ∙ place_is stream t.rest h.mid.place t.place),
+      behind.1,
+    )
 serves_told served ends.ReadFault stream left output output' place before after h =
     read_some h.messages stream h.ended.1 h.mid left (λ messages. Appends output output' (answers served messages)) h.read h.ended.2 h.ended.3 h.answered
 serves_told served ends.WriteFault stream left output output' place before after h =

@@ -10,7 +10,7 @@ use Rattle.yp_tools.specs.declared.status.Status.{Status}
 use Rattle.yp_tools.specs.declared.status.Status.TheVariants.{Done, Usage, ReadFault, WriteFault, Torn, TooLong, NoMemory, Enough}
 use Rattle.yp_tools.specs.Served.{Served}
 use Rattle.yp_tools.specs.Words.{Meaning, Once}
-use Rattle.yp_tools.specs.Run.{Feed, Counts, Runs, answers}
+use Rattle.yp_tools.specs.Run.{Counts, Runs, answers}
 
 -- the status of a session that ended so
 abbrev pub status_of : End → Status

@@ -1,9 +1,9 @@
 -- The run of a session: each record is answered, and then the next is read.
-use Rattle.std.specs.Prelude.{◌≡◌, ℕ, ◌+◌, ◌-◌, ◌<◌, List, [], ◌∷◌, ◌++◌, length, take, min, Option, Some, None}
+use Rattle.std.specs.Prelude.{◌≡◌, ℕ, ◌<◌, List, [], ◌∷◌, length, take, Option, Some, None}
 use Rattle.std.specs.List.{flat_map}
 use Rattle.std.specs.Io.KnownBytes.{Keeps, Appends, Consumes, IsAtEnd}
-use Rattle.yp_io.specs.Counts.{HasRisen, last_count}
-use Rattle.yp_rpc.specs.Records.{Fragments, IsTorn, IsBegun, IsTooLong, IsEmpty, TakesRecord, sent}
+use Rattle.yp_io.specs.Counts.{HasRisen}
+use Rattle.yp_rpc.specs.Records.{IsTorn, IsBegun, IsTooLong, IsEmpty, TakesRecord, sent}
 use Rattle.yp_tools.specs.Numbers.{call_max, calls_max}
 use Rattle.yp_rpc.specs.declared.record.RecordFault.{RecordFault}
 use Rattle.yp_rpc.specs.declared.record.RecordFault.TheVariants as faults

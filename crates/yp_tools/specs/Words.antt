@@ -1,11 +1,10 @@
 -- The command line: sentences made of words.
-use Rattle.std.specs.Prelude.{◌≡◌, ℕ, ◌+◌, ◌*◌, ◌≤◌, ◌<◌, Bool, true, false, not, ◌&&◌, nat_lt, nat_le, ◌==◌, max, if◌then◌else◌, List, [], ◌∷◌, length, drop, map, fold, slice_index_or, Option, Some, None, Result, Ok, Err, IsOk, codes, string_bytes}
+use Rattle.std.specs.Prelude.{◌≡◌, ℕ, ◌+◌, Bool, not, ◌&&◌, nat_lt, nat_le, ◌==◌, max, if◌then◌else◌, List, [], ◌∷◌, length, drop, map, fold, slice_index_or, Option, Some, None, Result, Ok, Err, IsOk, codes, string_bytes}
 use Rattle.std.specs.List.{list_all, before_first, after_first}
 use Rattle.std.specs.Str.{bytes_eq}
 use Rattle.std.specs.declared.string.String.{String}
 use Rattle.std.specs.declared.alloc.Global.{Global}
 use Rattle.yp_tools.specs.Served.{Served}
-use Rattle.yp_tools.specs.declared.command.MapName.{MapName}
 use Rattle.yp_tools.specs.declared.command.KeyValue.{KeyValue}
 use Rattle.yp_tools.specs.declared.command.Command.{Command}
 use Rattle.yp_tools.specs.declared.command.Command.TheVariants as command

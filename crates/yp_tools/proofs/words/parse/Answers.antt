@@ -1,7 +1,7 @@
-use Rattle.std.proofs.Common.{◌≡◌, ◌-◌, ◌≤◌, ℕ, List, [], length, get_or, drop, take, map, sym, ap, ◌∙◌, arith, Ok}
+use Rattle.std.proofs.Common.{◌≡◌, ◌-◌, [], length, get_or, drop, take, sym, ap, ◌∙◌, arith, Ok}
 use Rattle.std.specs.Prelude.{string_bytes}
 use Rattle.std.proofs.lemmas.List.{get_or-map, drop-map, length-map, take_rest}
-use Rattle.yp_tools.specs.Words.{Meaning, Once, once_of, texts, before, after, row_of, meaning}
+use Rattle.yp_tools.specs.Words.{Meaning, once_of, texts, meaning}
 use Rattle.yp_tools.proofs.Sentences.{whole_once}
 use Rattle.yp_tools.proofs.words.parse.Goals as goal
 

@@ -1,7 +1,6 @@
-use Rattle.std.proofs.Common.{◌≡◌, ◌≤◌, arith}
+use Rattle.std.proofs.Common.{arith}
 use Rattle.yp_tools.specs.Reply.{served}
-use Rattle.yp_tools.specs.Run.{Feed, Counts}
-use Rattle.yp_tools.proofs.Running.{SoFar-more, Runs-ended, Runs-enough}
+use Rattle.yp_tools.proofs.Running.{SoFar-more, Runs-ended}
 use Rattle.yp_tools.proofs.session.Session.run.Goals as goal
 
 pub returns-in-Ended : goal.returns-in-Ended

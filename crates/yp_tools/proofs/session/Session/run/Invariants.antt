@@ -1,4 +1,4 @@
-use Rattle.std.proofs.Common.{◌≤◌, ◌≡◌}
+use Rattle.std.proofs.Common.{◌≤◌}
 use Rattle.yp_tools.specs.Reply.{served}
 use Rattle.yp_tools.proofs.Running.{SoFar}
 use Rattle.yp_tools.proofs.session.Session.run.Given as goal
