@@ -43,3 +43,51 @@ fn text_of(alloc: Global, bytes: &[u8]) -> Result<String, AllocError> {
         Err(_) => String::from_str(alloc, NO_TEXT),
     }
 }
+
+#[cfg(test)]
+mod tests {
+    use super::*;
+    use std::test::Fail;
+
+    // A program that was started with these words.
+    #[derive(Drop)]
+    struct Script<'a> {
+        words: &'a [&'a [u8]],
+    }
+
+    impl Env for Script<'_> {
+        fn arg(&self, i: usize, buf: &mut [u8]) -> Result<usize, FillError> {
+            let Some(word) = self.words.get(i) else {
+                return Err(FillError::NotPresent);
+            };
+            if word.len() > buf.len() {
+                return Err(FillError::TooLong);
+            }
+            buf[..word.len()].copy_from_slice(word);
+            Ok(word.len())
+        }
+
+        fn var(&self, _name: &str, _buf: &mut [u8]) -> Result<usize, FillError> {
+            Err(FillError::NotPresent)
+        }
+
+        fn var_at(&self, _i: usize, _buf: &mut [u8]) -> Result<usize, FillError> {
+            Err(FillError::NotPresent)
+        }
+    }
+
+    #[test]
+    fn words_and_what_is_no_text(rt: HostRuntime) -> Result<(), Fail> {
+        let long = vec![in rt.alloc(); b'k'; WORD_MAX + 1]?;
+        let script = Script {
+            words: &[b"yp", b"once", b"k=\xff", b"", "\u{e9}=1".as_bytes(), &long],
+        };
+        let came = words(&script, rt.alloc())?;
+        let want = ["once", NO_TEXT, "", "\u{e9}=1", NO_TEXT];
+        assert_eq!(rt; came.len(), want.len());
+        for (word, want) in came.iter().zip(&want) {
+            assert_eq!(rt; word.as_str(), *want);
+        }
+        Ok(())
+    }
+}

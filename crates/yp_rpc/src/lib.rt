@@ -1,6 +1,8 @@
 //! ONC RPC version 2 over a stream (RFC 5531): records in fragments, and the heads of calls and replies.
 //!
-//! What a record is heard as stands on [`read_call`], and how a reply begins on [`write_reply`].
+//! That a stream is its records, however it is cut, stands on [`RecordReader::next`] and the laws of [`laws`]; what is
+//! sent of a record on [`RecordWriter::put`] and [`RecordWriter::end`]; what a record is heard as on [`read_call`]; and
+//! how a reply begins on [`write_reply`].
 #![tactic(auto)]
 
 mod call;

@@ -1,4 +1,7 @@
 //! The commands of Pinthou, and the one call that does all that the program does.
+//!
+//! What the words of the command line mean stands on [`parse`]. What is written for what is read, with the cause of
+//! each status, stands on [`run`].
 #![tactic(auto)]
 
 mod answer;
