@@ -5,8 +5,8 @@ use Rattle.std.specs.Io.KnownBytes.{Keeps, Appends, Consumes, IsAtEnd}
 use Rattle.std.proofs.lemmas.List.{append-nil, length-append}
 use Rattle.yp_io.specs.Counts.{last_count}
 use Rattle.yp_rpc.specs.Records.{Cut, IsRest, IsTorn, IsBegun, IsLong}
-use Rattle.yp_rpc.proofs.CutKinds.{whole_one, whole_is_some, torn_is_some, long_is_some}
-use Rattle.yp_rpc.proofs.CutOne.{cut_one}
+use Rattle.yp_rpc.proofs.CutKinds.{whole_one}
+use Rattle.yp_rpc.proofs.CutOne.{cut_one, rest_is_not_whole}
 use Rattle.yp_tools.specs.Numbers.{call_max, calls_max}
 use Rattle.yp_tools.specs.declared.session.End.{End}
 use Rattle.yp_tools.specs.declared.session.End.TheVariants as ends
@@ -14,7 +14,7 @@ use Rattle.yp_tools.specs.declared.status.Status.{Status}
 use Rattle.yp_tools.specs.declared.status.Status.TheVariants.{Done, Usage, ReadFault, WriteFault, Torn, TooLong, NoMemory, Enough}
 use Rattle.yp_tools.specs.Served.{Served}
 use Rattle.yp_tools.specs.Run.{Feed, Counts, Reads, Runs, answers}
-use Rattle.yp_tools.specs.Once.{Begins, AnswersSome, Serves, Ran, status_of, place_of}
+use Rattle.yp_tools.specs.Once.{Begins, AnswersUpTo, AnswersSome, IsStatusOf, Serves, Ran, status_of, place_of}
 
 -- ---- told bytes
 
@@ -71,16 +71,16 @@ cut_from : (messages : List (List ℕ)) (stream rest : List ℕ) → Begins stre
 cut_from [] stream rest h end = (h, end)
 cut_from (message ∷ messages) stream rest h end = (h.0, h.1, h.2, h.3, cut_from messages h.1 rest h.4 end)
 
--- no more records were read than the whole stream has
-begins_few : (messages others : List (List ℕ)) (stream rest : List ℕ) → Begins stream others rest → Cut call_max stream messages [] → length others ≤ length messages
-begins_few messages [] stream rest h cut = omega arith
-begins_few [] (other ∷ others) stream rest h cut =
-    let none : h.0 ++ h.1 ≡ [] = sym h.3 ∙ cut.0 in
-    absurd (whole_is_some call_max other h.0 h.1 h.2 none)
-begins_few (message ∷ messages) (other ∷ others) stream rest h cut =
+-- no more records were read than the stream has
+begins_few : (messages others : List (List ℕ)) (stream rest behind : List ℕ) → Begins stream others behind → Cut call_max stream messages rest → length others ≤ length messages
+begins_few messages [] stream rest behind h cut = omega arith
+begins_few [] (other ∷ others) stream rest behind h cut =
+    let same : h.0 ++ h.1 ≡ rest = sym h.3 ∙ cut.0 in
+    absurd (rest_is_not_whole call_max other h.0 h.1 h.2 (rw same cut.1))
+begins_few (message ∷ messages) (other ∷ others) stream rest behind h cut =
     let same = whole_one call_max other message h.0 cut.0 h.1 cut.1 h.2 cut.2 (sym h.3 ∙ cut.3) in
-    let more : Cut call_max h.1 messages [] = rw same.1 cut.4 in
-    omega (arith, begins_few messages others h.1 rest h.4 more)
+    let more : Cut call_max h.1 messages rest = rw same.1 cut.4 in
+    omega (arith, begins_few messages others h.1 rest behind h.4 more)
 
 -- ---- each status
 
@@ -152,24 +152,34 @@ ran_told served status (Some stream) left output output' before after (inr h) =
     let P : Status → Type 0 = λ s. Serves served s stream left output output' in
     subst P (sym h.2) (serves_told served h.0 stream left output output' h.1 before after h.3)
 
--- ---- whole records
+-- ---- the one cut
 
--- whole records are all answered, where nothing failed and memory sufficed
-pub all_answered : (served : Served) (status : Status) (stream : List ℕ) (messages : List (List ℕ)) (left output output' : Option (List ℕ)) → Serves served status stream left output output'
-    → Cut call_max stream messages [] → length messages < calls_max → (status ≡ ReadFault → ⊥) → (status ≡ WriteFault → ⊥) → (status ≡ Done) ⊎ (status ≡ NoMemory)
-all_answered served Done stream messages left output output' h cut few reads writes = inl refl
-all_answered served NoMemory stream messages left output output' h cut few reads writes = inr refl
-all_answered served (Usage word) stream messages left output output' h cut few reads writes = absurd h
-all_answered served ReadFault stream messages left output output' h cut few reads writes = absurd (reads refl)
-all_answered served WriteFault stream messages left output output' h cut few reads writes = absurd (writes refl)
-all_answered served Enough stream messages left output output' h cut few reads writes =
-    absurd (omega (arith, begins_few messages h.messages stream (h.part ++ h.rest) h.begins cut, h.done.0))
-all_answered served (Torn at) stream messages left output output' h cut few reads writes =
-    absurd (torn_is_some call_max h.0 h.2 (sym (cut_one call_max stream messages h.1.messages [] h.0 cut h.1.cut).1))
-all_answered served (TooLong at) stream messages left output output' h cut few reads writes =
-    let rest = h.0 ++ h.1 in
-    let long : IsLong call_max rest = (h.0, h.1, h.3, refl) in
-    absurd (long_is_some call_max rest long (sym (cut_one call_max stream messages h.2.messages [] rest cut h.2.cut).1))
+-- what holds of one cut of the stream holds of another
+of_cut : (served : Served) (stream rest other : List ℕ) (messages : List (List ℕ)) (output output' : Option (List ℕ)) → AnswersUpTo served stream rest output output'
+    → Cut call_max stream messages other → (length messages < calls_max) × (rest ≡ other)
+of_cut served stream rest other messages output output' h cut =
+    let same = cut_one call_max stream h.messages messages rest other h.cut cut in
+    (omega (arith, ap length same.0, h.few), same.1)
+
+-- the status is that of the cut, where nothing failed and memory sufficed
+pub status_of_cut : (served : Served) (status : Status) (stream : List ℕ) (messages : List (List ℕ)) (rest : List ℕ) (left output output' : Option (List ℕ)) → Serves served status stream left output output'
+    → Cut call_max stream messages rest → (status ≡ ReadFault → ⊥) → (status ≡ WriteFault → ⊥) → IsStatusOf stream messages rest status ⊎ (status ≡ NoMemory)
+status_of_cut served Done stream messages rest left output output' h cut reads writes =
+    let same = of_cut served stream [] rest messages output output' h.0 cut in
+    inl (same.0, sym same.1)
+status_of_cut served NoMemory stream messages rest left output output' h cut reads writes = inr refl
+status_of_cut served (Usage word) stream messages rest left output output' h cut reads writes = absurd h
+status_of_cut served ReadFault stream messages rest left output output' h cut reads writes = absurd (reads refl)
+status_of_cut served WriteFault stream messages rest left output output' h cut reads writes = absurd (writes refl)
+status_of_cut served Enough stream messages rest left output output' h cut reads writes =
+    inl (omega (arith, begins_few messages h.messages stream rest (h.part ++ h.rest) h.begins cut, h.done.0))
+status_of_cut served (Torn at) stream messages rest left output output' h cut reads writes =
+    let same = of_cut served stream h.0 rest messages output output' h.1 cut in
+    inl (same.0, subst (IsTorn call_max) same.1 h.2, h.3 ∙ ap (place_of stream) same.1)
+status_of_cut served (TooLong at) stream messages rest left output output' h cut reads writes =
+    let same = of_cut served stream (h.0 ++ h.1) rest messages output output' h.2 cut in
+    let long : IsLong call_max (h.0 ++ h.1) = (h.0, h.1, h.3, refl) in
+    inl (same.0, subst (IsLong call_max) same.1 long, h.4 ∙ ap (place_of stream) same.1)
 
 -- what holds of a told value
 pub at_some : (o : Option (List ℕ)) (x : List ℕ) (P : List ℕ → Type 0) → o ≡ Some x → IfSome o P → P x

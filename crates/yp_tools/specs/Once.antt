@@ -1,8 +1,8 @@
 -- What the program does with an input that is told.
-use Rattle.std.specs.Prelude.{◌≡◌, ℕ, ◌-◌, ◌<◌, List, [], ◌∷◌, ◌++◌, length, take, min, Option, Some, ◌⊎◌}
+use Rattle.std.specs.Prelude.{◌≡◌, ℕ, ◌-◌, ◌<◌, ◌≤◌, List, [], ◌∷◌, ◌++◌, length, take, min, Option, Some, ◌⊎◌}
 use Rattle.std.specs.Io.KnownBytes.{Keeps, Appends}
 use Rattle.yp_io.specs.Counts.{last_count}
-use Rattle.yp_rpc.specs.Records.{Fragments, Cut, IsTorn, IsBegun, IsTooLong}
+use Rattle.yp_rpc.specs.Records.{Fragments, Cut, IsTorn, IsBegun, IsTooLong, IsLong}
 use Rattle.yp_tools.specs.Numbers.{call_max, calls_max}
 use Rattle.yp_tools.specs.declared.session.End.{End}
 use Rattle.yp_tools.specs.declared.session.End.TheVariants as ends
@@ -61,6 +61,17 @@ Serves served WriteFault stream left output output' = AnswersSome stream left (�
 Serves served Enough stream left output output' = AnswersSome stream left (λ messages. (length messages ≡ calls_max) × Appends output output' (answers served messages))
 Serves served NoMemory stream left output output' = (left ≡ Some stream) × Keeps output output'
 Serves served (Usage word) stream left output output' = ⊥
+
+-- The status of a stream that is cut into these records and this rest, where nothing fails.
+abbrev pub IsStatusOf : List ℕ → List (List ℕ) → List ℕ → Status → Type 0
+IsStatusOf stream messages rest Done = (length messages < calls_max) × (rest ≡ [])
+IsStatusOf stream messages rest (Torn at) = (length messages < calls_max) × IsTorn call_max rest × (at ≡ place_of stream rest)
+IsStatusOf stream messages rest (TooLong at) = (length messages < calls_max) × IsLong call_max rest × (at ≡ place_of stream rest)
+IsStatusOf stream messages rest Enough = calls_max ≤ length messages
+IsStatusOf stream messages rest ReadFault = ⊥
+IsStatusOf stream messages rest WriteFault = ⊥
+IsStatusOf stream messages rest NoMemory = ⊥
+IsStatusOf stream messages rest (Usage word) = ⊥
 
 -- A session ran, or there was no memory for it and nothing was read or written.
 abbrev pub Ran : Served → Status → Option (List ℕ) → Option (List ℕ) → Option (List ℕ) → Option (List ℕ) → Counts → Counts → Type 0

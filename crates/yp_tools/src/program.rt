@@ -4,12 +4,12 @@ ghost use Rattle.std.specs.Prelude.{◌≡◌, ℕ, ◌<◌, ◌⊎◌, ◌↔�
 ghost use Rattle.std.specs.Io.KnownBytes.{Appends};
 ghost use Rattle.yp_io.specs.Counts.{HasRisen};
 ghost use Rattle.yp_rpc.specs.Records.{Cut};
-ghost use Rattle.yp_tools.specs.Numbers.{call_max, calls_max};
+ghost use Rattle.yp_tools.specs.Numbers.{call_max};
 ghost use Rattle.yp_tools.specs.Served.{Served};
 ghost use Rattle.yp_tools.specs.Words.{command_of, texts, meaning, Once};
 ghost use Rattle.yp_tools.specs.Reply.{served};
 ghost use Rattle.yp_tools.specs.Status.{note};
-ghost use Rattle.yp_tools.specs.Once.{Serves, Ran, RanCommand};
+ghost use Rattle.yp_tools.specs.Once.{IsStatusOf, Serves, Ran, RanCommand};
 
 use crate::answer::Service;
 use crate::command::Command;
@@ -129,11 +129,11 @@ pub fn run<S: Source, K: Sink>(
     ensures read_fault { result.0 ≡ Status.ReadFault → HasRisen (S.faults outside.input) (S.faults result.1.input) }
     ensures write_fault { result.0 ≡ Status.WriteFault → HasRisen (K.faults outside.output) (K.faults result.1.output) }
 
-    // Whole records are all answered, but for want of memory.
-    ensures complete { (served : Served) (stream : List ℕ) (messages : List (List ℕ)) → command_of (texts words.now) ≡ Ok (Once served)
-        → S.input outside.input ≡ Some stream → Cut call_max stream messages [] → length messages < calls_max
+    // The status is that of the one cut of the input, but for faults and want of memory.
+    ensures complete { (served : Served) (stream : List ℕ) (messages : List (List ℕ)) (rest : List ℕ) → command_of (texts words.now) ≡ Ok (Once served)
+        → S.input outside.input ≡ Some stream → Cut call_max stream messages rest
         → ¬ HasRisen (S.faults outside.input) (S.faults result.1.input) → ¬ HasRisen (K.faults outside.output) (K.faults result.1.output)
-        → (result.0 ≡ Status.Done) ⊎ (result.0 ≡ Status.NoMemory) }
+        → IsStatusOf stream messages rest result.0 ⊎ (result.0 ≡ Status.NoMemory) }
 
     // The status is told.
     ensures note { ¬ HasRisen (K.faults outside.notes) (K.faults result.1.notes)
