@@ -251,3 +251,19 @@ fn failing_sink(rt: HostRuntime) -> Result<(), Fail> {
     }
     Ok(())
 }
+
+#[test]
+fn faults_as_text(rt: HostRuntime) -> Result<(), Fail> {
+    for (fault, text) in [
+        (RecordFault::Torn { at: 80 }, "torn record at 80"),
+        (
+            RecordFault::TooLong { at: 160 },
+            "record at 160 is too long",
+        ),
+        (RecordFault::ReadFault, "read fault"),
+    ] {
+        let shown = format!(in rt.alloc(); "{fault}")?;
+        assert_eq!(rt; shown.as_str(), text);
+    }
+    Ok(())
+}
