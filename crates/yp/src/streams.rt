@@ -1,5 +1,5 @@
 //! The standard streams as a source and as sinks.
-ghost use Rattle.std.specs.Prelude.{◌≡◌, ◌≢◌, ◌<◌, ◌≤◌, length, IfOk, IfErr, OnErr};
+ghost use Rattle.std.specs.Prelude.{◌≡◌, ◌≢◌, ◌<◌, ◌≤◌, IsTrue, length, IfOk, IfErr, OnErr};
 ghost use Rattle.std.specs.Io.{ReadsAtMost, WritesAtMost};
 ghost use Rattle.std.specs.Io.KnownBytes.{Keeps, ReadConsumes, WriteAppends};
 ghost use Rattle.std.specs.Io.Buffered.{reader_remaining};
@@ -80,34 +80,48 @@ fn write_uninterrupted<W: Write>(writer: &mut W, piece: &[u8]) -> io::Result<usi
 #[derive(Drop)]
 pub struct DirectWriter<W> {
     writer: W,
+    flushed: bool,
     faults: u64,
 }
 
 impl<W: Write> DirectWriter<W> {
     pub fn new(writer: W) -> DirectWriter<W>
         ensures output { ⟦<DirectWriter<W> as Sink>⟧.output result ≡ W.contents writer }
+        ensures flushed { IsTrue (⟦<DirectWriter<W> as Sink>⟧.flushed result) }
         ensures faults { ⟦<DirectWriter<W> as Sink>⟧.faults result ≡ 0 }
     {
-        DirectWriter { writer, faults: 0 }
+        DirectWriter {
+            writer,
+            flushed: true,
+            faults: 0,
+        }
     }
 }
 
 impl<W: Write> Sink for DirectWriter<W> {
     ghost output = { λ s. W.contents s.writer };
 
+    ghost flushed = { λ s. s.flushed };
+
     ghost faults = { λ s. s.faults };
 
     // A write that takes nothing fails, as it does in std's `write_all`.
     fn write(&mut self, piece: &[u8]) -> Result<usize, Failed> {
         match write_uninterrupted(&mut self.writer, piece) {
-            Ok(count) if count > 0 => Ok(count),
+            Ok(count) if count > 0 => {
+                self.flushed = false;
+                Ok(count)
+            }
             _ => Err(count_fault(&mut self.faults)),
         }
     }
 
     fn flush(&mut self) -> Result<(), Failed> {
         match self.writer.flush() {
-            Ok(()) => Ok(()),
+            Ok(()) => {
+                self.flushed = true;
+                Ok(())
+            }
             Err(_) => Err(count_fault(&mut self.faults)),
         }
     }

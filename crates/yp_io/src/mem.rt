@@ -1,4 +1,4 @@
-ghost use Rattle.std.specs.Prelude.{◌≡◌, ◌<◌, ◌≤◌, ◌↔◌, [], min, length, drop, Some, Contains, IsErr, IfOk, MatchResult};
+ghost use Rattle.std.specs.Prelude.{◌≡◌, ◌<◌, ◌≤◌, ◌↔◌, true, false, not, ◌&&◌, ◌||◌, is_ok, IsTrue, [], min, length, drop, Some, Contains, IsErr, IfOk, OnOk, MatchResult};
 ghost use Rattle.std.specs.Io.KnownBytes.{Keeps, ReadConsumes, WriteAppends};
 ghost use Rattle.yp_io.specs.Counts.{CountsFaults, next_count, faults_after};
 
@@ -116,6 +116,7 @@ impl Source for MemSource {
 #[derive(Debug, Drop)]
 pub struct MemSink {
     bytes: Vec<u8>,
+    flushed: bool,
     piece: usize,
     plan: Plan,
 }
@@ -128,6 +129,7 @@ impl Model for MemSink {
 
     ghost view = { λ k. record {
       output = k.bytes.items;
+      flushed = k.flushed;
       piece = k.piece;
       failing = k.plan.failing.items;
       calls = k.plan.calls;
@@ -141,10 +143,11 @@ impl MemSink {
     /// Takes at most `piece` bytes in a write. A call whose number, from 0, stands in `failing` fails.
     pub fn new(alloc: Global, piece: usize, failing: Vec<u64>) -> MemSink
         requires { 0 < piece }
-        ensures { result ≡ record { output = []; piece = piece; failing = failing.items; calls = 0; faults = 0 } }
+        ensures { result ≡ record { output = []; flushed = true; piece = piece; failing = failing.items; calls = 0; faults = 0 } }
     {
         MemSink {
             bytes: Vec::new(alloc),
+            flushed: true,
             piece,
             plan: Plan::new(failing),
         }
@@ -161,6 +164,8 @@ impl MemSink {
 impl Sink for MemSink {
     ghost output = { λ k. Some k.output };
 
+    ghost flushed = { λ k. k.flushed };
+
     ghost faults = { λ k. k.faults };
 
     /// A write also fails where memory has run out.
@@ -169,11 +174,13 @@ impl Sink for MemSink {
         ensures some { IfOk result (λ n. 0 < n) }
         ensures within { IfOk result (λ n. n ≤ length piece.now) }
         ensures bytes { WriteAppends (Some self.old.output) (Some self.new.output) result piece.now }
+        ensures unflushed { OnOk result (self.new.flushed ≡ false) }
         ensures cause { CountsFaults self.old.faults self.new.faults result }
         ensures fails { Contains self.old.failing self.old.calls → IsErr result }
         ensures count { IfOk result (λ n. n ≡ min self.old.piece (length piece.now)) }
         ensures others { self.new ≡ record self.old {
           output = self.new.output;
+          flushed = not (is_ok result) && self.old.flushed;
           calls = next_count self.old.calls;
           faults = faults_after self.old.faults result;
         } }
@@ -181,21 +188,28 @@ impl Sink for MemSink {
         self.plan.start_call()?;
         let count = self.piece.min(piece.len());
         match self.bytes.extend_from_slice(&piece[..count]) {
-            Ok(()) => Ok(count),
+            Ok(()) => {
+                self.flushed = false;
+                Ok(count)
+            }
             Err(_) => Err(count_fault(&mut self.plan.faults)),
         }
     }
 
     fn flush(&mut self) -> Result<(), Failed>
         ensures bytes { Keeps (Some self.old.output) (Some self.new.output) }
+        ensures flushed { OnOk result (IsTrue self.new.flushed) }
         ensures cause { CountsFaults self.old.faults self.new.faults result }
         ensures fails { IsErr result ↔ Contains self.old.failing self.old.calls }
         ensures others { self.new ≡ record self.old {
+          flushed = is_ok result || self.old.flushed;
           calls = next_count self.old.calls;
           faults = faults_after self.old.faults result;
         } }
     {
-        self.plan.start_call()
+        self.plan.start_call()?;
+        self.flushed = true;
+        Ok(())
     }
 }
 

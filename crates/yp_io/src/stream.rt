@@ -1,4 +1,4 @@
-ghost use Rattle.std.specs.Prelude.{◌≡◌, ℕ, ◌<◌, ◌≤◌, List, length, take, Option, IfOk, OnOk, OnErr};
+ghost use Rattle.std.specs.Prelude.{◌≡◌, ℕ, ◌<◌, ◌≤◌, Bool, false, IsTrue, List, length, take, Option, IfOk, OnOk, OnErr};
 ghost use Rattle.std.specs.Io.KnownBytes.{Keeps, Appends, ReadConsumes, WriteAppends};
 ghost use Rattle.yp_io.specs.Counts.{CountsFaults, next_count};
 
@@ -48,6 +48,9 @@ pub trait Sink {
     /// The bytes that it has taken, where they are told.
     ghost output: { Self → Option (List ℕ) };
 
+    /// Whether it was flushed since it took the last byte, or has taken none.
+    ghost flushed: { Self → Bool };
+
     /// How often it has failed, up to 2^64 - 1.
     ghost faults: { Self → ℕ };
 
@@ -57,11 +60,13 @@ pub trait Sink {
         ensures some { IfOk result (λ n. 0 < n) }
         ensures within { IfOk result (λ n. n ≤ length piece.now) }
         ensures bytes { WriteAppends (output self.old) (output self.new) result piece.now }
+        ensures unflushed { OnOk result (flushed self.new ≡ false) }
         ensures cause { CountsFaults (faults self.old) (faults self.new) result };
 
     /// Passes on what was taken. It takes no further bytes.
     fn flush(&mut self) -> Result<(), Failed>
         ensures bytes { Keeps (output self.old) (output self.new) }
+        ensures flushed { OnOk result (IsTrue (flushed self.new)) }
         ensures cause { CountsFaults (faults self.old) (faults self.new) result };
 }
 

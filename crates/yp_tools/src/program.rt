@@ -1,6 +1,6 @@
 //! The one call that does all that the program does.
 
-ghost use Rattle.std.specs.Prelude.{◌≡◌, ℕ, ◌<◌, ◌⊎◌, ◌↔◌, List, [], Some, Ok, Err, length, IfSome, IsErr};
+ghost use Rattle.std.specs.Prelude.{◌≡◌, ◌≢◌, ℕ, ◌<◌, ◌⊎◌, ◌↔◌, IsTrue, List, [], Some, Ok, Err, length, IfSome, IsErr};
 ghost use Rattle.std.specs.Io.KnownBytes.{Appends};
 ghost use Rattle.yp_io.specs.Counts.{HasRisen};
 ghost use Rattle.yp_rpc.specs.Records.{Cut};
@@ -55,8 +55,9 @@ fn once<S: Source, K: Sink>(
     input: &mut S,
     output: &mut K,
 ) -> Status
-    ensures { Ran (served service.now) result (S.input input.old) (S.input input.new) (K.output output.old) (K.output output.new)
+    ensures ran { Ran (served service.now) result (S.input input.old) (S.input input.new) (K.output output.old) (K.output output.new)
         (record { reads = S.faults input.old; writes = K.faults output.old }) (record { reads = S.faults input.new; writes = K.faults output.new }) }
+    ensures flushed { result ≢ Status.WriteFault → IsTrue (K.flushed output.old) → IsTrue (K.flushed output.new) }
 {
     match Session::new(alloc) {
         Err(_) => Status::NoMemory,
@@ -71,8 +72,9 @@ fn run_command<S: Source, K: Sink>(
     input: &mut S,
     output: &mut K,
 ) -> Status
-    ensures { RanCommand (meaning command.now) result (S.input input.old) (S.input input.new) (K.output output.old) (K.output output.new)
+    ensures ran { RanCommand (meaning command.now) result (S.input input.old) (S.input input.new) (K.output output.old) (K.output output.new)
         (record { reads = S.faults input.old; writes = K.faults output.old }) (record { reads = S.faults input.new; writes = K.faults output.new }) }
+    ensures flushed { result ≢ Status.WriteFault → IsTrue (K.flushed output.old) → IsTrue (K.flushed output.new) }
 {
     match command {
         Command::Once { store, rows } => {
@@ -93,6 +95,7 @@ fn run_words<S: Source, K: Sink>(
     ensures untouched { IsErr (command_of (texts words.now)) → (input.new ≡ input.old) × (output.new ≡ output.old) }
     ensures once { (served : Served) → command_of (texts words.now) ≡ Ok (Once served)
         → IfSome (S.input input.old) (λ stream. Serves served result stream (S.input input.new) (K.output output.old) (K.output output.new)) }
+    ensures flushed { result ≢ Status.WriteFault → IsTrue (K.flushed output.old) → IsTrue (K.flushed output.new) }
     ensures read_fault { result ≡ Status.ReadFault → HasRisen (S.faults input.old) (S.faults input.new) }
     ensures write_fault { result ≡ Status.WriteFault → HasRisen (K.faults output.old) (K.faults output.new) }
 {
@@ -124,6 +127,9 @@ pub fn run<S: Source, K: Sink>(
     // What the output has taken, for each status, where the input is told.
     ensures once { (served : Served) → command_of (texts words.now) ≡ Ok (Once served)
         → IfSome (S.input outside.input) (λ stream. Serves served result.0 stream (S.input result.1.input) (K.output outside.output) (K.output result.1.output)) }
+
+    // What was taken was passed on, but for a write fault.
+    ensures flushed { result.0 ≢ Status.WriteFault → IsTrue (K.flushed outside.output) → IsTrue (K.flushed result.1.output) }
 
     // A fault has its cause.
     ensures read_fault { result.0 ≡ Status.ReadFault → HasRisen (S.faults outside.input) (S.faults result.1.input) }

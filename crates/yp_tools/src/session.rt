@@ -1,6 +1,6 @@
 //! One session: each record of a source is answered to a sink before the next is read.
 
-ghost use Rattle.std.specs.Prelude.{◌≡◌, ℕ, ◌<◌, ◌≤◌, [], length, take, IfOk, OnOk, OnErr};
+ghost use Rattle.std.specs.Prelude.{◌≡◌, ◌≢◌, ℕ, ◌<◌, ◌≤◌, IsTrue, [], length, take, IfOk, OnOk, OnErr};
 ghost use Rattle.std.specs.Io.KnownBytes.{Appends};
 ghost use Rattle.yp_io.specs.Counts.{CountsFaults};
 ghost use Rattle.yp_rpc.specs.Records.{sent};
@@ -73,6 +73,7 @@ impl Session {
             (record { input = S.input source.old; place = 0 }) (record { input = S.input source.new; place = place })
             (K.output sink.old) (K.output sink.new)
             (record { reads = S.faults source.old; writes = K.faults sink.old }) (record { reads = S.faults source.new; writes = K.faults sink.new }) }
+        ensures flushed { result ≢ End.WriteFault → IsTrue (K.flushed sink.old) → IsTrue (K.flushed sink.new) }
     {
         let mut reader = RecordReader::new();
         for _ in 0..CALLS_MAX {
@@ -96,6 +97,7 @@ impl Session {
             (record { input = S.input source.old; place = reader.old }) (record { input = S.input source.new; place = reader.new })
             (K.output sink.old) (K.output sink.new)
             (record { reads = S.faults source.old; writes = K.faults sink.old }) (record { reads = S.faults source.new; writes = K.faults sink.new }) }
+        ensures flushed { result ≢ Step.Ended End.WriteFault → IsTrue (K.flushed sink.old) → IsTrue (K.flushed sink.new) }
         ensures reads { S.faults source.old ≤ S.faults source.new }
         ensures writes { K.faults sink.old ≤ K.faults sink.new }
     {
@@ -143,6 +145,7 @@ fn send<K: Sink>(writer: &mut RecordWriter, sink: &mut K, message: &[u8]) -> Res
     requires idle { writer.old ≡ [] }
     requires some { 0 < length message.now }
     ensures sent { OnOk result (Appends (K.output sink.old) (K.output sink.new) (sent message.now)) }
+    ensures flushed { OnOk result (IsTrue (K.flushed sink.new)) }
     ensures prefix { OnErr result ((n : ℕ) × Appends (K.output sink.old) (K.output sink.new) (take n (sent message.now))) }
     ensures idle { writer.new ≡ [] }
     ensures cause { CountsFaults (K.faults sink.old) (K.faults sink.new) result }

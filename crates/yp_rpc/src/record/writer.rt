@@ -1,6 +1,6 @@
 //! Records written to a stream.
 
-ghost use Rattle.std.specs.Prelude.{◌≡◌, ℕ, ◌+◌, ◌-◌, ◌<◌, ◌≤◌, List, [], ◌++◌, length, take, drop, min, Ok, Err, IfOk, OnOk, OnErr};
+ghost use Rattle.std.specs.Prelude.{◌≡◌, ℕ, ◌+◌, ◌-◌, ◌<◌, ◌≤◌, IsTrue, List, [], ◌++◌, length, take, drop, min, Ok, Err, IfOk, OnOk, OnErr};
 ghost use Rattle.std.specs.Io.KnownBytes.{Appends};
 ghost use Rattle.yp_io.specs.Counts.{CountsFaults};
 ghost use Rattle.yp_rpc.specs.Records.{fragment_max, fragment, sent};
@@ -72,6 +72,7 @@ impl RecordWriter {
         requires { 0 < length self.old }
         ensures sent { OnOk result
             (Appends (K.output sink.old) (K.output sink.new) (sent self.old)) }
+        ensures flushed { OnOk result (IsTrue (K.flushed sink.new)) }
         ensures prefix { OnErr result ((n : ℕ)
             × Appends (K.output sink.old) (K.output sink.new) (take n (sent self.old))) }
         ensures as_new { self.new ≡ [] }

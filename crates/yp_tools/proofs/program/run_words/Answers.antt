@@ -16,4 +16,4 @@ returns-in-Ok-clause-once g c = λ served e.
     let told = c.in-Ok.ensures.sentence in
     let same : meaning c.in-Ok.command ≡ Once served = cc in
     let ran : Meaning → Type 0 = λ m. RanCommand m c.run_command.result input input' output output' before after in
-    ran_told served c.run_command.result input input' output output' before after (subst ran same c.run_command.ensures)
+    ran_told served c.run_command.result input input' output output' before after (subst ran same c.run_command.ensures.ran)

@@ -21,6 +21,7 @@ returns-in-Ended g c =
             (record { reads = reads step.source; writes = writes step.sink })
             so_far.so_far c.loop-test.true so_far.reads so_far.writes c.in-Ended.ensures.does,
       );
+      flushed = λ ended old. c.in-Ended.ensures.flushed (λ e. ended cc) (so_far.flushed old);
     }
 
 pub loop-preserved : goal.loop-preserved
@@ -35,4 +36,5 @@ loop-preserved g c =
           (output c.args.sink.now) (output c.loop.sink) (output step.sink) so_far.so_far c.in-Answered.ensures.does;
       reads = omega (arith, so_far.reads, c.in-Answered.ensures.reads);
       writes = omega (arith, so_far.writes, c.in-Answered.ensures.writes);
+      flushed = λ old. c.in-Answered.ensures.flushed (λ e. cc) (so_far.flushed old);
     }

@@ -1,4 +1,5 @@
 use Rattle.std.proofs.Common.{◌≤◌}
+use Rattle.std.specs.Prelude.{IsTrue}
 use Rattle.yp_tools.specs.Reply.{served}
 use Rattle.yp_tools.proofs.Running.{SoFar}
 use Rattle.yp_tools.proofs.session.Session.run.Given as goal
@@ -11,4 +12,5 @@ invariant-loop g l =
       so_far : SoFar (served l.service) l.counter (record { input = input l.initial.source; place = 0 }) (record { input = input l.source; place = l.reader }) (output l.initial.sink) (output l.sink);
       reads : g.S.Source.faults l.initial.source ≤ g.S.Source.faults l.source;
       writes : g.K.Sink.faults l.initial.sink ≤ g.K.Sink.faults l.sink;
+      flushed : IsTrue (g.K.Sink.flushed l.initial.sink) → IsTrue (g.K.Sink.flushed l.sink);
     }
