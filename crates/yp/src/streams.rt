@@ -80,6 +80,7 @@ fn write_uninterrupted<W: Write>(writer: &mut W, piece: &[u8]) -> io::Result<usi
 #[derive(Drop)]
 pub struct DirectWriter<W> {
     writer: W,
+    // whether a flush came after the last write, for the contract of a sink
     flushed: bool,
     faults: u64,
 }

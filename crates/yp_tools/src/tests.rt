@@ -53,7 +53,7 @@ const EACH_PIECE: [Weather<'static>; 3] = [
 ];
 
 /// Calls that are answered by a head alone, and how.
-const REFUSED: [(&str, &[u32], &[u32]); 8] = [
+const HEAD_ALONE: [(&str, &[u32], &[u32]); 7] = [
     (
         "RPC version 3",
         &[0x8000_000c, 2, 0, 3],
@@ -89,10 +89,113 @@ const REFUSED: [(&str, &[u32], &[u32]); 8] = [
         &[0x8000_002c, 8, 0, 2, 100_004, 2, 3, 1, 4, 0x01020304, 0, 0],
         &[0x8000_0018, 8, 1, 0, 0, 0, 4],
     ),
+];
+
+/// Calls of MATCH for which there is no value, and the replies with the status that says why.
+const NO_VALUE: [(&str, &[u32], &[u32]); 5] = [
     (
-        "MATCH with empty names, another domain behind",
+        "no domain and no map",
         &[0x8000_0034, 9, 0, 2, 100_004, 2, 3, 0, 0, 0, 0, 0, 0, 0],
         &[0x8000_0020, 9, 1, 0, 0, 0, 0, 0xffff_fff9, 0],
+    ),
+    (
+        "domain lax and no map",
+        &[
+            0x8000_0038,
+            10,
+            0,
+            2,
+            100_004,
+            2,
+            3,
+            0,
+            0,
+            0,
+            0,
+            3,
+            0x6c617800,
+            0,
+            0,
+        ],
+        &[0x8000_0020, 10, 1, 0, 0, 0, 0, 0xffff_fff9, 0],
+    ),
+    (
+        "domain lax",
+        &[
+            0x8000_004c,
+            11,
+            0,
+            2,
+            100_004,
+            2,
+            3,
+            0,
+            0,
+            0,
+            0,
+            3,
+            0x6c617800,
+            12,
+            0x686f7374,
+            0x732e6279,
+            0x6e616d65,
+            5,
+            0x616c7068,
+            0x61000000,
+        ],
+        &[0x8000_0020, 11, 1, 0, 0, 0, 0, 0xffff_fffe, 0],
+    ),
+    (
+        "domain lax, map hosts.byaddr",
+        &[
+            0x8000_004c,
+            12,
+            0,
+            2,
+            100_004,
+            2,
+            3,
+            0,
+            0,
+            0,
+            0,
+            3,
+            0x6c617800,
+            12,
+            0x686f7374,
+            0x732e6279,
+            0x61646472,
+            5,
+            0x616c7068,
+            0x61000000,
+        ],
+        &[0x8000_0020, 12, 1, 0, 0, 0, 0, 0xffff_fffe, 0],
+    ),
+    (
+        "map hosts.byaddr",
+        &[
+            0x8000_004c,
+            13,
+            0,
+            2,
+            100_004,
+            2,
+            3,
+            0,
+            0,
+            0,
+            0,
+            3,
+            0x6c616200,
+            12,
+            0x686f7374,
+            0x732e6279,
+            0x61646472,
+            5,
+            0x616c7068,
+            0x61000000,
+        ],
+        &[0x8000_0020, 13, 1, 0, 0, 0, 0, 0xffff_ffff, 0],
     ),
 ];
 
@@ -339,7 +442,18 @@ fn refusal_heads(rt: HostRuntime) -> Result<(), Fail> {
         "noise before a call",
         &answered(&after_noise, &reply),
     )?;
-    for (name, call, reply) in REFUSED {
+    for (name, call, reply) in HEAD_ALONE {
+        let call = bytes(alloc, call)?;
+        let reply = bytes(alloc, reply)?;
+        try_case(&rt, alloc, name, &answered(&call, &reply))?;
+    }
+    Ok(())
+}
+
+#[test]
+fn statuses_of_match(rt: HostRuntime) -> Result<(), Fail> {
+    let alloc = rt.alloc();
+    for (name, call, reply) in NO_VALUE {
         let call = bytes(alloc, call)?;
         let reply = bytes(alloc, reply)?;
         try_case(&rt, alloc, name, &answered(&call, &reply))?;
