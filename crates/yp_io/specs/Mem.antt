@@ -1,5 +1,10 @@
 -- What the forms in memory keep.
-use Rattle.std.specs.Prelude.{ℕ, Bool, List}
+use Rattle.std.specs.Prelude.{ℕ, ◌<◌, Bool, List, length, Result, Ok, Err, MatchOption, ⊤}
+use Rattle.yp_io.specs.Counts.{next_count}
+use Rattle.yp_io.specs.Texts.{text_max, text_of}
+use Rattle.yp_io.specs.declared.texts.TextFile.{TextFile}
+use Rattle.yp_io.specs.declared.texts.TextFault.{TextFault}
+use Rattle.yp_io.specs.declared.texts.TextFault.TheVariants.{Failed, NoMemory}
 
 -- a source: what is left of its input, the most bytes of one read, and which calls fail
 pub record Feed : Type 0 where
@@ -17,3 +22,20 @@ pub record Drain : Type 0 where
   pub failing : List ℕ
   pub calls : ℕ
   pub faults : ℕ
+
+-- texts: each with its name, and which calls fail
+pub record Shelf : Type 0 where
+  pub texts : List (TextFile × List ℕ)
+  pub failing : List ℕ
+  pub calls : ℕ
+  pub faults : ℕ
+
+-- a text is missing, or over the limit
+abbrev pub LacksText : TextFile → List (TextFile × List ℕ) → Type 0
+LacksText which texts = MatchOption (text_of which texts) ⊤ (λ bytes. text_max < length bytes)
+
+-- the count of faults after a text was read: want of memory is none
+abbrev pub text_faults_after : {T : Type 0} → ℕ → Result T TextFault → ℕ
+text_faults_after before (Ok x) = before
+text_faults_after before (Err Failed) = next_count before
+text_faults_after before (Err NoMemory) = before

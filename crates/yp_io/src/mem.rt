@@ -2,45 +2,10 @@ ghost use Rattle.std.specs.Prelude.{◌≡◌, ◌<◌, ◌≤◌, ◌↔◌, tr
 ghost use Rattle.std.specs.Io.KnownBytes.{Keeps, ReadConsumes, WriteAppends};
 ghost use Rattle.yp_io.specs.Counts.{CountsFaults, next_count, faults_after};
 
+use crate::plan::Plan;
 use crate::stream::{Failed, Pair, Sink, Source, count_fault};
 use std::alloc::Global;
 use std::marker::Model;
-
-// Which calls of a form in memory fail, and how many calls and faults there were.
-#[derive(Debug, Drop)]
-struct Plan {
-    failing: Vec<u64>,
-    calls: u64,
-    faults: u64,
-}
-
-impl Plan {
-    fn new(failing: Vec<u64>) -> Plan
-        ensures { result ≡ record { failing = failing; calls = 0; faults = 0 } }
-    {
-        Plan {
-            failing,
-            calls: 0,
-            faults: 0,
-        }
-    }
-
-    // Counts a call, which fails where its number is listed.
-    fn start_call(&mut self) -> Result<(), Failed>
-        ensures fails { IsErr result ↔ Contains self.old.failing.items self.old.calls }
-        ensures counts { self.new ≡ record self.old {
-          calls = next_count self.old.calls;
-          faults = faults_after self.old.faults result;
-        } }
-    {
-        let number = self.calls;
-        self.calls = number.saturating_add(1);
-        if self.failing.contains(&number) {
-            return Err(count_fault(&mut self.faults));
-        }
-        Ok(())
-    }
-}
 
 /// A source in memory, which tells its input.
 #[derive(Debug, Drop)]

@@ -1,6 +1,7 @@
 ghost use Rattle.std.specs.Prelude.{◌≡◌};
 
 use super::*;
+use std::alloc::Global;
 use std::test::Fail;
 
 // A read into a buffer of two bytes, and the buffer after it.
@@ -85,5 +86,138 @@ fn wire_in_memory(rt: HostRuntime) -> Result<(), Fail> {
     assert_eq!(rt; answer, Ok(2));
     assert_eq!(rt; write_and_flush(&mut wire.sink, &buf), Ok(()));
     assert_eq!(rt; wire.sink.taken(), b"hi".as_slice());
+    Ok(())
+}
+
+// The bytes that hexadecimal digits write, without what stands between.
+fn hex(alloc: Global, text: &str) -> Result<Vec<u8>, Fail> {
+    let mut bytes = Vec::new(alloc);
+    let mut half = None;
+    for digit in text.chars().filter_map(|c| c.to_digit(16)) {
+        half = match half {
+            None => Some(digit as u8),
+            Some(high) => {
+                bytes.push((high << 4) | digit as u8)?;
+                None
+            }
+        };
+    }
+    Ok(bytes)
+}
+
+// A write within the disk's length, up to a small place.
+fn write(disk: &mut MemDisk, at: u64, piece: &[u8]) -> Result<(), Failed> {
+    if at > disk.bytes().len() as u64 || at > 1000 || piece.len() > 1000 {
+        return Err(Failed);
+    }
+    disk.write_at(at, piece)
+}
+
+// Three bytes from a place within the disk's length.
+fn read_three(disk: &mut MemDisk, at: u64) -> Result<[u8; 3], Failed> {
+    let mut buf = [0; 3];
+    if at > 1000 || at + 3 > disk.bytes().len() as u64 {
+        return Err(Failed);
+    }
+    disk.read(at, &mut buf)?;
+    Ok(buf)
+}
+
+#[test]
+fn disk_in_memory(rt: HostRuntime) -> Result<(), Fail> {
+    let alloc = rt.alloc();
+    let mut disk = sent(MemDisk::new(alloc, hex(alloc, "01020304")?, None, vec![in alloc; 1]?));
+    assert_eq!(rt; disk.len(), Ok(4));
+    assert_eq!(rt; disk.len(), Err(Failed));
+    assert_eq!(rt; write(&mut disk, 2, &hex(alloc, "aabbcc")?), Ok(()));
+    assert_eq!(rt; disk.sync(), Ok(()));
+    assert_eq!(rt; write(&mut disk, 0, &hex(alloc, "ff")?), Ok(()));
+    assert_eq!(rt; write(&mut disk, 5, &hex(alloc, "dddd")?), Ok(()));
+    assert_eq!(rt; write(&mut disk, 7, &hex(alloc, "ee")?), Ok(()));
+    assert_eq!(rt; read_three(&mut disk, 4), Ok([0xcc, 0xdd, 0xdd]));
+    assert_eq!(rt; disk.bytes(), hex(alloc, "ff02aabb ccdddd ee")?.as_slice());
+    let crashes = [
+        (0, "0102aabb cc"),
+        (1, "ff02aabb cc"),
+        (2, "0102aabb ccdddd"),
+        (4, "0102aabb cc0000 ee"),
+        (7, "ff02aabb ccdddd ee"),
+        (u64::MAX, "ff02aabb ccdddd ee"),
+    ];
+    for (kept, left) in crashes {
+        assert_eq!(rt;
+            disk.crashed(kept).ok(),
+            Some(hex(alloc, left)?),
+            "where {kept} are kept"
+        );
+    }
+    Ok(())
+}
+
+// How many of four writes, each with its sync, succeed, and what a crash leaves of them.
+fn writes_before(alloc: Global, stop: u64, failing: u64) -> Result<(u32, Vec<u8>), Fail> {
+    let mut disk = MemDisk::new(alloc, Vec::new(alloc), Some(stop), vec![in alloc; failing]?);
+    let mut done = 0u32;
+    for byte in 0u8..4 {
+        done = done.saturating_add(u32::from(write(&mut disk, 0, &[byte]).is_ok()));
+        done = done.saturating_add(u32::from(disk.sync().is_ok()));
+    }
+    Ok((done, disk.crashed(0).unwrap_or(Vec::new(alloc))))
+}
+
+#[test]
+fn disk_stops(rt: HostRuntime) -> Result<(), Fail> {
+    let alloc = rt.alloc();
+    let cases = [
+        (9, 9, 8, "03"),
+        (0, 9, 0, ""),
+        (3, 9, 3, "00"),
+        (9, 3, 7, "03"),
+        (9, 7, 7, "02"),
+    ];
+    for (stop, failing, done, left) in cases {
+        let told = writes_before(alloc, stop, failing)?;
+        assert_eq!(rt;
+            told,
+            (done, hex(alloc, left)?),
+            "up to {stop}, but for {failing}"
+        );
+    }
+    Ok(())
+}
+
+// The answer to a read of a text, and the bytes that came.
+fn read_text<T: Texts>(
+    alloc: Global,
+    texts: &mut T,
+    which: TextFile,
+) -> (Result<(), TextFault>, Vec<u8>) {
+    let mut bytes = Vec::new(alloc);
+    let answer = texts.read(which, &mut bytes);
+    (answer, bytes)
+}
+
+#[test]
+fn texts_and_clock_in_memory(rt: HostRuntime) -> Result<(), Fail> {
+    let alloc = rt.alloc();
+    let mut texts = sent(MemTexts::new(
+        vec![in alloc;
+            (TextFile::Hosts, b"one".to_vec(alloc)?),
+            (TextFile::Group, b"two".to_vec(alloc)?),
+        ]?,
+        vec![in alloc; 1]?,
+    ));
+    let cases: [(TextFile, Result<(), TextFault>, &[u8]); 4] = [
+        (TextFile::Group, Ok(()), b"two"),
+        (TextFile::Hosts, Err(TextFault::Failed), b""),
+        (TextFile::Hosts, Ok(()), b"one"),
+        (TextFile::Passwd, Err(TextFault::Failed), b""),
+    ];
+    for (which, answer, bytes) in cases {
+        let (answered, came) = read_text(alloc, &mut texts, which);
+        assert_eq!(rt; answered, answer, "at {which:?}");
+        assert_eq!(rt; came.as_slice(), bytes, "at {which:?}");
+    }
+    assert_eq!(rt; sent(SetClock { moment: 100 }).now(), 100);
     Ok(())
 }
