@@ -1,0 +1,9 @@
+pub mod Keys
+pub mod Listed
+pub mod Unique
+pub mod Stored
+pub mod Drafted
+pub mod Moved
+pub mod Sorted
+pub mod Finished
+pub mod Search

@@ -1,0 +1,11 @@
+pub mod Limits
+pub mod Rows
+pub mod Versions
+pub mod Drafts
+pub mod Pair
+pub mod Indexed
+pub mod Version
+pub mod VersionBuilder
+pub mod Next
+pub mod Places
+pub mod Laws

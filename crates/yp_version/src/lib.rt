@@ -1,0 +1,17 @@
+//! Versions of maps: rows with distinct keys in rising byte order, with an order, a master and the mark `secure`.
+//!
+//! A version never changes. It is built by pushing rows, whose limits stand on the clauses of [`VersionBuilder::push`],
+//! and `finish` sorts them once. What is looked up stands on the clauses of [`Version::get`], [`Version::row`],
+//! [`Version::first`] and [`Version::next`], and what joins the order of pushing with that of the rows on [`laws`].
+#![tactic(auto)]
+
+mod builder;
+pub mod laws;
+mod limits;
+#[cfg(test)]
+mod tests;
+mod version;
+
+pub use builder::{VersionBuilder, VersionFault};
+pub use limits::{BODY_MAX, KEY_MAX, MASTER_MAX, ROWS_MAX, VALUE_MAX};
+pub use version::{Next, Version};

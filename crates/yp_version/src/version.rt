@@ -1,0 +1,188 @@
+//! A version of a map, which never changes.
+
+ghost use Rattle.std.specs.Prelude.{◌≡◌, ◌≤◌, ◌↔◌, [], map, length, slice_get, option_map, MatchOption, IsTrue, IfSome};
+ghost use Rattle.yp_version.specs.Limits.{key_max, value_max};
+ghost use Rattle.yp_version.specs.Rows.{key_cmp, value_of, first_of, following};
+ghost use Rattle.yp_version.specs.Versions.{IsVersion, body_len, unmarked};
+ghost use Rattle.yp_version.specs.Pair.{row_view};
+ghost use Rattle.yp_version.specs.Places.{StandsAt, IsAbsent};
+ghost use Rattle.yp_version.specs.Next.{next_row, IsWithin};
+
+use std::cmp::Ordering;
+use std::marker::Model;
+
+/// What stands behind the row with a key.
+#[derive(Clone, Copy, Debug, PartialEq, Eq)]
+pub enum Next<'a> {
+    /// The next row: its key and its value.
+    Row(&'a [u8], &'a [u8]),
+
+    /// The row with the key is the last one.
+    Last,
+
+    /// No row has the key.
+    Absent,
+}
+
+/// A version of a map: an order, a master, whether it is secure, and rows in rising byte order of their keys.
+///
+/// Rows are numbered from 0. No call on a version takes memory.
+#[derive(Debug, Drop)]
+pub struct Version {
+    order: u32,
+    master: Vec<u8>,
+    secure: bool,
+    rows: Vec<(Vec<u8>, Vec<u8>)>,
+    body_len: usize,
+}
+
+impl Model for Version {
+    ghost use Rattle.yp_version.specs.Versions.{MapVersion};
+
+    ghost Value = { MapVersion };
+
+    ghost use Rattle.yp_version.specs.Version.{version_of, IsKept};
+
+    ghost view = { version_of };
+
+    ghost invariant = { IsKept };
+}
+
+impl Version {
+    // A version of rows that stand in their order, whose stored body has this length.
+    pub(crate) fn new(
+        order: u32,
+        master: Vec<u8>,
+        rows: Vec<(Vec<u8>, Vec<u8>)>,
+        len: usize,
+    ) -> Version
+        requires version { IsVersion (unmarked order master.items (map row_view rows.items)) }
+        requires len { len ≡ body_len (unmarked order master.items (map row_view rows.items)) }
+        ensures { result ≡ unmarked order master.items (map row_view rows.items) }
+    {
+        Version {
+            order,
+            master,
+            secure: false,
+            rows,
+            body_len: len,
+        }
+    }
+
+    /// The order: the moment of its making, in seconds, or one more than the order before.
+    pub fn order(&self) -> u32
+        ensures order { result ≡ self.now.order }
+        ensures version { IsVersion self.now }
+    {
+        self.order
+    }
+
+    /// The name of its master, of at most 64 bytes.
+    pub fn master(&self) -> &[u8]
+        ensures master { result.now ≡ self.now.master }
+        ensures version { IsVersion self.now }
+    {
+        self.master.as_slice()
+    }
+
+    /// Whether its rows are answered only to callers on ports below 1024.
+    pub fn secure(&self) -> bool
+        ensures secure { result ≡ self.now.secure }
+        ensures version { IsVersion self.now }
+    {
+        self.secure
+    }
+
+    /// The number of rows.
+    pub fn len(&self) -> usize
+        ensures len { result ≡ length self.now.rows }
+        ensures version { IsVersion self.now }
+    {
+        self.rows.len()
+    }
+
+    /// Whether it has no rows.
+    pub fn is_empty(&self) -> bool
+        ensures { IsTrue result ↔ (self.now.rows ≡ []) }
+    {
+        self.rows.is_empty()
+    }
+
+    /// The bytes of its stored body.
+    pub fn body_len(&self) -> usize
+        ensures len { result ≡ body_len self.now }
+        ensures version { IsVersion self.now }
+    {
+        self.body_len
+    }
+
+    /// The same version, secure or not.
+    pub fn marked(self, secure: bool) -> Version
+        ensures { result ≡ record self { secure = secure } }
+    {
+        let mut version = self;
+        version.secure = secure;
+        version
+    }
+
+    // The number of the row with this key.
+    fn find(&self, key: &[u8]) -> Option<usize>
+        ensures found { MatchOption result (IsAbsent key.now self.now.rows) (StandsAt key.now self.now.rows) }
+        ensures version { IsVersion self.now }
+    {
+        self.rows
+            .binary_search_by(
+                |row: &(Vec<u8>, Vec<u8>)| -> Ordering
+                    ensures { result ≡ key_cmp row.now.0.items key.entry.now }
+                { row.0.as_slice().cmp(key) },
+            )
+            .ok()
+    }
+
+    /// The value of the row with this key.
+    pub fn get(&self, key: &[u8]) -> Option<&[u8]>
+        ensures value { option_map (λ value. value.now) result ≡ value_of key.now self.now.rows }
+        ensures len { IfSome result (λ value. length value.now ≤ value_max) }
+        ensures version { IsVersion self.now }
+    {
+        let i = self.find(key)?;
+        let (_, value) = self.row(i)?;
+        Some(value)
+    }
+
+    /// The row with this number.
+    pub fn row(&self, i: usize) -> Option<(&[u8], &[u8])>
+        ensures row { option_map (λ row. (row.0.now, row.1.now)) result ≡ slice_get self.now.rows i }
+        ensures key_len { IfSome result (λ row. length row.0.now ≤ key_max) }
+        ensures value_len { IfSome result (λ row. length row.1.now ≤ value_max) }
+        ensures version { IsVersion self.now }
+    {
+        let row = self.rows.get(i)?;
+        Some((row.0.as_slice(), row.1.as_slice()))
+    }
+
+    /// The first row.
+    pub fn first(&self) -> Option<(&[u8], &[u8])>
+        ensures row { option_map (λ row. (row.0.now, row.1.now)) result ≡ first_of self.now.rows }
+        ensures key_len { IfSome result (λ row. length row.0.now ≤ key_max) }
+        ensures value_len { IfSome result (λ row. length row.1.now ≤ value_max) }
+        ensures version { IsVersion self.now }
+    {
+        self.row(0)
+    }
+
+    /// The row after the one with this key.
+    pub fn next(&self, key: &[u8]) -> Next<'_>
+        ensures row { next_row result ≡ following key.now self.now.rows }
+        ensures len { IsWithin result }
+        ensures version { IsVersion self.now }
+    {
+        let Some(i) = self.find(key) else {
+            return Next::Absent;
+        };
+        match self.row(i + 1) {
+            None => Next::Last,
+            Some((key, value)) => Next::Row(key, value),
+        }
+    }
+}
