@@ -1,0 +1,5 @@
+pub mod Mapped
+pub mod Again
+pub mod Rising
+pub mod NoFault
+pub mod Starts

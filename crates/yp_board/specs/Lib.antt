@@ -1,0 +1,5 @@
+pub mod Catalogues
+pub mod Logs
+pub mod Views
+pub mod Catalog
+pub mod PlainBoard

@@ -1,0 +1,63 @@
+//! How a board is read, and how a version is shown on it.
+
+ghost use Rattle.std.specs.Prelude.{◌≡◌, ℕ, ◌<◌, [], ◌∷◌, ◌++◌, length, option_map, OnOk, IfErr, OnErr};
+ghost use Rattle.std.specs.Arc.{arc_value};
+ghost use Rattle.yp_version.specs.Versions.{MapVersion};
+ghost use Rattle.yp_board.specs.Logs.{Log, shown};
+ghost use Rattle.yp_board.specs.Views.{Seen, Refreshes};
+
+use crate::catalog::Catalog;
+use std::sync::Arc;
+use yp_version::Version;
+
+/// A reader of a board. It knows a front of the board's log, which changes in a read step alone.
+///
+/// Its calls take no memory, wait for nobody and don't change its catalogue.
+pub trait View {
+    /// What it tells of itself.
+    ghost seen: { Self → Seen };
+
+    /// What a read step does to the whole value.
+    ghost stepped: { Self → Self → Type 0 };
+
+    /// The maps that are served.
+    fn catalog(&self) -> &Catalog
+        ensures { result.now ≡ (seen self.now).catalogue };
+
+    /// The read step.
+    fn refresh(&mut self)
+        ensures refreshed { Refreshes (seen self.old) (seen self.new) }
+        ensures stepped { stepped self.old self.new };
+
+    /// The last version of a map that is known. It makes no step.
+    fn held(&self, map: u32) -> Option<&Version>
+        requires { map < length (seen self.now).catalogue.maps }
+        ensures { option_map (λ version. version.now) result ≡ shown map (seen self.now).known };
+}
+
+/// Memory ran out, so the version wasn't shown. It is handed back.
+#[derive(Debug, Drop)]
+pub struct ShowRefused {
+    pub version: Arc<Version>,
+}
+
+/// A writer of a board.
+pub trait Show {
+    /// How many maps there are.
+    ghost maps: { Self → ℕ };
+
+    /// The versions that were shown.
+    ghost log: { Self → Log };
+
+    /// What showing a version of a map does to the whole value.
+    ghost showed: { ℕ → MapVersion → Self → Self → Type 0 };
+
+    /// Shows a version of a map. After a refusal nothing has changed.
+    fn show(&mut self, map: u32, version: Arc<Version>) -> Result<(), ShowRefused>
+        requires { map < maps self.old }
+        ensures log { OnOk result (log self.new ≡ log self.old ++ (map, arc_value version) ∷ []) }
+        ensures showed { OnOk result (showed map (arc_value version) self.old self.new) }
+        ensures maps { maps self.new ≡ maps self.old }
+        ensures err { OnErr result (self.new ≡ self.old) }
+        ensures returned { IfErr result (λ refused. refused.version ≡ version) };
+}
