@@ -1,0 +1,5 @@
+mod LineLists
+mod Places
+mod Pushing
+mod Sampling
+mod WordLists

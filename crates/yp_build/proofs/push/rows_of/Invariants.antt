@@ -1,0 +1,13 @@
+use Rattle.std.proofs.Common.{◌+◌, ◌≤◌, length}
+use Rattle.yp_build.specs.Rows.{rows_from, rows}
+use Rattle.yp_build.specs.Pushes.{Pushed}
+use Rattle.yp_build.proofs.push.rows_of.Given as goal
+
+abbrev pub invariant-loop-rest : goal.invariant-loop-rest
+invariant-loop-rest l = record {
+  numbers : l.number + length l.rest ≤ 1 + length l.text;
+  pushed : Pushed l.initial.into (rows l.kind l.text) (rows_from l.kind l.number l.rest) l.into;
+}
+
+abbrev pub decreases-loop-rest : goal.decreases-loop-rest
+decreases-loop-rest l = length l.rest

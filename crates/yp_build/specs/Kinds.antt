@@ -1,0 +1,47 @@
+-- The kinds of maps that are made of texts: their numbers, the names of their maps, and the texts that they are made of.
+use Rattle.std.specs.Prelude.{ℕ, List, [], ◌∷◌, codes}
+use Rattle.yp_io.specs.declared.texts.TextFile.{TextFile}
+use Rattle.yp_io.specs.declared.texts.TextFile.TheVariants as file
+use Rattle.yp_build.specs.declared.kind.Kind.{Kind}
+use Rattle.yp_build.specs.declared.kind.Kind.TheVariants.{PasswdByname, PasswdByuid, GroupByname, GroupBygid, HostsByname, HostsByaddr, ServicesByname, ProtocolsBynumber, Netgroup, Ypservers}
+
+-- all of them, in the order of their numbers
+abbrev pub kinds : List Kind
+kinds =
+    PasswdByname ∷ PasswdByuid ∷ GroupByname ∷ GroupBygid ∷ HostsByname ∷ HostsByaddr ∷ ServicesByname ∷ ProtocolsBynumber ∷ Netgroup ∷ Ypservers ∷ []
+
+abbrev pub number_of : Kind → ℕ
+number_of PasswdByname = 1
+number_of PasswdByuid = 2
+number_of GroupByname = 3
+number_of GroupBygid = 4
+number_of HostsByname = 5
+number_of HostsByaddr = 6
+number_of ServicesByname = 7
+number_of ProtocolsBynumber = 8
+number_of Netgroup = 9
+number_of Ypservers = 10
+
+abbrev pub name_of : Kind → List ℕ
+name_of PasswdByname = codes "passwd.byname"
+name_of PasswdByuid = codes "passwd.byuid"
+name_of GroupByname = codes "group.byname"
+name_of GroupBygid = codes "group.bygid"
+name_of HostsByname = codes "hosts.byname"
+name_of HostsByaddr = codes "hosts.byaddr"
+name_of ServicesByname = codes "services.byname"
+name_of ProtocolsBynumber = codes "protocols.bynumber"
+name_of Netgroup = codes "netgroup"
+name_of Ypservers = codes "ypservers"
+
+abbrev pub text_of : Kind → TextFile
+text_of PasswdByname = file.Passwd
+text_of PasswdByuid = file.Passwd
+text_of GroupByname = file.Group
+text_of GroupBygid = file.Group
+text_of HostsByname = file.Hosts
+text_of HostsByaddr = file.Hosts
+text_of ServicesByname = file.Services
+text_of ProtocolsBynumber = file.Protocols
+text_of Netgroup = file.Netgroup
+text_of Ypservers = file.Ypservers

@@ -1,0 +1,98 @@
+-- The rows that a text makes (manuals of passwd(5), group(5), hosts(5), services(5), protocols(5) and netgroup(5)).
+use Rattle.std.specs.Prelude.{ℕ, Bool, true, false, not, ◌&&◌, ◌||◌, ◌==◌, if◌then◌else◌, List, map, drop, Option, Some, None, slice_index, option_map, option_to_list}
+use Rattle.std.specs.Borrow.{Bor}
+use Rattle.std.specs.List.{slice_get, list_all, flat_map}
+use Rattle.yp_version.specs.Rows.{Row}
+use Rattle.yp_build.specs.declared.kind.Kind.{Kind}
+use Rattle.yp_build.specs.declared.kind.Kind.TheVariants.{PasswdByname, PasswdByuid, GroupByname, GroupBygid, HostsByname, HostsByaddr, ServicesByname, ProtocolsBynumber, Netgroup, Ypservers}
+use Rattle.yp_build.specs.Lines.{Line, whole_lines}
+use Rattle.yp_build.specs.Words.{is_blank, is_filled, fields, words, after_word, bare}
+
+-- a key and its value that are lent, as a row
+abbrev pub row_view : Bor (List ℕ) × Bor (List ℕ) → Row
+row_view lent = (lent.0.now, lent.1.now)
+
+-- ---- passwd and group: the line as it stands, by one of its fields
+
+-- a number sign, a plus or a minus
+abbrev pub is_mark : ℕ → Bool
+is_mark b = b == 35 || b == 43 || b == 45
+
+-- It isn't blank and begins with none of these.
+abbrev pub is_entry : List ℕ → Bool
+is_entry line = not (list_all is_blank line) && not (is_mark (slice_index line 0))
+
+-- a row whose key isn't empty
+abbrev pub filled_row : List ℕ → List ℕ → Option Row
+filled_row value key = if is_filled key then Some (key, value) else None
+
+abbrev pub and_then : {A B : Type 0} → Option A → (A → Option B) → Option B
+and_then None f = None
+and_then (Some x) f = f x
+
+-- by the field of this number, from 0
+abbrev pub field_row : ℕ → List ℕ → Option Row
+field_row number line = if is_entry line then and_then (slice_get (fields line) number) (filled_row line) else None
+
+-- ---- the others: the bare line, by one of its words
+
+-- by the word of this number, from 0
+abbrev pub word_row : ℕ → List ℕ → Option Row
+word_row number line = option_map (λ word. (word, line)) (slice_get (words line) number)
+
+-- the first word, and what follows the blanks after it
+abbrev pub group_row : List ℕ → Option Row
+group_row line = option_map (λ word. (word, after_word line)) (slice_get (words line) 0)
+
+-- the first word alone
+abbrev pub server_row : List ℕ → Option Row
+server_row line = option_map (λ word. (word, word)) (slice_get (words line) 0)
+
+-- a row for each word from the second on, in their order
+abbrev pub name_rows : List ℕ → List Row
+name_rows line = map (λ word. (word, line)) (drop 1 (words line))
+
+-- ---- by kinds
+
+-- the rows of one line
+abbrev pub rows_in : Kind → List ℕ → List Row
+rows_in PasswdByname line = option_to_list (field_row 0 line)
+rows_in PasswdByuid line = option_to_list (field_row 2 line)
+rows_in GroupByname line = option_to_list (field_row 0 line)
+rows_in GroupBygid line = option_to_list (field_row 2 line)
+rows_in HostsByname line = name_rows (bare line)
+rows_in HostsByaddr line = option_to_list (word_row 0 (bare line))
+rows_in ServicesByname line = option_to_list (word_row 1 (bare line))
+rows_in ProtocolsBynumber line = option_to_list (word_row 1 (bare line))
+rows_in Netgroup line = option_to_list (group_row (bare line))
+rows_in Ypservers line = option_to_list (server_row (bare line))
+
+-- whether lines go on in the next
+abbrev pub joins : Kind → Bool
+joins PasswdByname = false
+joins PasswdByuid = false
+joins GroupByname = false
+joins GroupBygid = false
+joins HostsByname = false
+joins HostsByaddr = false
+joins ServicesByname = false
+joins ProtocolsBynumber = false
+joins Netgroup = true
+joins Ypservers = false
+
+-- a row with the number of its line
+abbrev pub LineRow : Type 0
+LineRow = ℕ × Row
+
+abbrev pub numbered : ℕ → List Row → List LineRow
+numbered line rows = map (λ row. (line, row)) rows
+
+abbrev pub line_rows : Kind → Line → List LineRow
+line_rows kind line = numbered line.0 (rows_in kind line.1)
+
+-- the rows of a text whose first line has this number
+abbrev pub rows_from : Kind → ℕ → List ℕ → List LineRow
+rows_from kind number text = flat_map (line_rows kind) (whole_lines (joins kind) number text)
+
+abbrev pub rows : Kind → List ℕ → List LineRow
+rows kind text = rows_from kind 1 text

@@ -1,0 +1,38 @@
+-- What stands in a line: fields, words, comments.
+use Rattle.std.specs.Prelude.{ℕ, ◌-◌, Bool, not, ◌||◌, ◌==◌, List, length, take, drop}
+use Rattle.std.specs.List.{slice_split, filter, prefix_len, suffix_len, before_first, after_first}
+
+-- a space or a tab
+abbrev pub is_blank : ℕ → Bool
+is_blank b = b == 32 || b == 9
+
+abbrev pub is_colon : ℕ → Bool
+is_colon b = b == 58
+
+abbrev pub is_number_sign : ℕ → Bool
+is_number_sign b = b == 35
+
+-- the fields, with a colon between each two
+abbrev pub fields : List ℕ → List (List ℕ)
+fields line = slice_split is_colon line
+
+abbrev pub is_filled : List ℕ → Bool
+is_filled piece = not (length piece == 0)
+
+-- the words, with blanks between each two
+abbrev pub words : List ℕ → List (List ℕ)
+words line = filter is_filled (slice_split is_blank line)
+
+abbrev pub without_front_blanks : List ℕ → List ℕ
+without_front_blanks line = drop (prefix_len is_blank line) line
+
+abbrev pub without_back_blanks : List ℕ → List ℕ
+without_back_blanks line = take (length line - suffix_len is_blank line) line
+
+-- what follows the first word and the blanks after it
+abbrev pub after_word : List ℕ → List ℕ
+after_word line = without_front_blanks (after_first is_blank (without_front_blanks line))
+
+-- the line without its comment, then without the blanks at both ends
+abbrev pub bare : List ℕ → List ℕ
+bare line = without_back_blanks (without_front_blanks (before_first is_number_sign line))

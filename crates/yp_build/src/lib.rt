@@ -1,0 +1,24 @@
+//! Source texts (passwd, hosts, netgroup and others) become the versions of maps.
+//!
+//! The rows of a text stand on the contract of [`rows_of`], a raised order on that of [`next_order`], and a whole
+//! version on those of [`build`] and [`sample`].
+#![tactic(auto)]
+
+mod fault;
+mod kind;
+mod lines;
+mod order;
+mod push;
+mod row;
+mod samples;
+#[cfg(test)]
+mod tests;
+mod versions;
+mod words;
+
+pub use fault::BuildFault;
+pub use kind::Kind;
+pub use order::{OrderSpent, next_order};
+pub use push::rows_of;
+pub use samples::sample;
+pub use versions::build;
