@@ -18,11 +18,11 @@ echo "files in $(df --output=fstype "$room" | tail -n 1): ${room%/*}"
 
 gcc -O2 -Wall -Wextra -o "$room/plain" "$top/bench/plain.c"
 
-# calls N: N times the call of examples/match.call, with the xids 1 to N.
+# calls N: N times the call of examples/first_match, with the xids 1 to N.
 calls() {
-    python3 - "$top/examples/match.call" "$1" <<'PYTHON'
+    python3 - "$top/examples/first_match/input.hex" "$1" <<'PYTHON'
 import sys
-call = open(sys.argv[1], "rb").read()
+call = bytes.fromhex(open(sys.argv[1]).read())
 sys.stdout.buffer.write(b"".join(call[:4] + xid.to_bytes(4, "big") + call[8:] for xid in range(1, int(sys.argv[2]) + 1)))
 PYTHON
 }

@@ -6,6 +6,7 @@ use streams::{BlockReader, DirectWriter, StandardStream};
 use words::words;
 use yp_tools::{Outside, Status, run, tell};
 
+mod disk;
 mod streams;
 mod words;
 
@@ -24,6 +25,6 @@ fn main(rt: HostRuntime) -> ExitCode {
         output,
         notes,
     };
-    let (status, _outside) = run(rt.alloc(), &words, outside);
+    let (status, _outside) = run(rt.alloc(), &rt, &words, outside);
     ExitCode::from(status.code())
 }

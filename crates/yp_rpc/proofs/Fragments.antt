@@ -33,11 +33,11 @@ pub length-fragment : (last : Bool) (piece : List ℕ) → length (fragment last
 length-fragment last piece = length-append (head last (length piece)) piece
 
 -- one piece more behind the joined ones
-joined-push : (pieces : List (List ℕ)) (piece : List ℕ) → joined (pieces ++ piece ∷ []) ≡ joined pieces ++ piece
+pub joined-push : (pieces : List (List ℕ)) (piece : List ℕ) → joined (pieces ++ piece ∷ []) ≡ joined pieces ++ piece
 joined-push pieces piece = flat_map-append (λ (p : List ℕ). p) pieces (piece ∷ []) ∙ ap (λ (bytes : List ℕ). joined pieces ++ bytes) (append-nil piece)
 
 -- one fragment more behind the begun ones
-begun-push : (pieces : List (List ℕ)) (piece : List ℕ) → begun (pieces ++ piece ∷ []) ≡ begun pieces ++ fragment false piece
+pub begun-push : (pieces : List (List ℕ)) (piece : List ℕ) → begun (pieces ++ piece ∷ []) ≡ begun pieces ++ fragment false piece
 begun-push pieces piece = flat_map-append (fragment false) pieces (piece ∷ []) ∙ ap (λ (bytes : List ℕ). begun pieces ++ bytes) (append-nil (fragment false piece))
 
 -- the code counts an empty piece as 1, and another as 0

@@ -5,7 +5,7 @@ pub mod CutKinds
 pub mod CutOne
 pub mod CutNext
 pub mod CutExists
-pub mod Inside
 pub mod Stream
 pub mod Fragments
 pub mod Sending
+pub mod Holding

@@ -1,3 +1,5 @@
 pub mod Records
+pub mod Waiting
+pub mod Laws
 pub mod Call
 pub mod Reply

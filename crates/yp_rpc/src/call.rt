@@ -1,7 +1,7 @@
 //! The head of a call (RFC 5531 section 9).
 
 ghost use Rattle.std.specs.Prelude.{◌≡◌};
-ghost use Rattle.yp_xdr.specs.Reading.{Reads};
+ghost use Rattle.yp_xdr.specs.Reading.{Reads, end_of};
 ghost use Rattle.yp_xdr.specs.Cursor.{unread};
 ghost use Rattle.yp_rpc.specs.Call.{front_kind, auth_kind, procedure_kind, heard, IsInside};
 
@@ -44,7 +44,9 @@ struct Front {
 }
 
 fn read_front(cursor: &mut Cursor<'_>) -> Result<Front, XdrFault>
-    ensures { Reads front_kind (λ f. (f.xid, (f.message_type, f.rpc_version))) result (unread cursor.old) (unread cursor.new) }
+    ensures read { Reads front_kind (λ f. (f.xid, (f.message_type, f.rpc_version))) result
+        (unread cursor.old) (unread cursor.new) }
+    ensures end { end_of (unread cursor.new) ≡ end_of (unread cursor.old) }
 {
     let mut ahead = *cursor;
     let xid = ahead.u32()?;
@@ -66,7 +68,8 @@ struct Auth<'a> {
 }
 
 fn read_auth<'a>(cursor: &mut Cursor<'a>) -> Result<Auth<'a>, XdrFault>
-    ensures { Reads auth_kind (λ a. (a.flavor, a.body.now)) result (unread cursor.old) (unread cursor.new) }
+    ensures read { Reads auth_kind (λ a. (a.flavor, a.body.now)) result (unread cursor.old) (unread cursor.new) }
+    ensures end { end_of (unread cursor.new) ≡ end_of (unread cursor.old) }
 {
     let mut ahead = *cursor;
     let flavor = ahead.u32()?;
@@ -86,8 +89,10 @@ struct Procedure<'a> {
 }
 
 fn read_procedure<'a>(cursor: &mut Cursor<'a>) -> Result<Procedure<'a>, XdrFault>
-    ensures { Reads procedure_kind (λ p. (p.prog, (p.vers, (p.procedure, ((p.credential.flavor, p.credential.body.now), (p.verifier.flavor, p.verifier.body.now))))))
+    ensures read { Reads procedure_kind
+        (λ p. (p.prog, (p.vers, (p.procedure, ((p.credential.flavor, p.credential.body.now), (p.verifier.flavor, p.verifier.body.now))))))
         result (unread cursor.old) (unread cursor.new) }
+    ensures end { end_of (unread cursor.new) ≡ end_of (unread cursor.old) }
 {
     let mut ahead = *cursor;
     let prog = ahead.u32()?;

@@ -10,6 +10,8 @@ pub mod laws;
 pub mod protocol;
 mod record;
 mod reply;
+#[cfg(test)]
+mod spelled;
 
 pub use call::{CallHead, Heard, read_call};
 pub use record::{RecordFault, RecordReader, RecordWriter};

@@ -3,6 +3,7 @@
 ghost use Rattle.std.specs.Prelude.{◌≡◌};
 ghost use Rattle.yp_rpc.specs.declared.record.RecordFault.TheVariants.{ReadFault};
 
+mod batch;
 mod head;
 mod reader;
 #[cfg(test)]
@@ -16,6 +17,9 @@ use yp_io::Failed;
 
 /// The most bytes of a fragment that is written.
 pub const FRAGMENT_MAX: usize = 8192;
+
+/// The most fragments that wait to be written at once.
+pub const HELD_MAX: usize = 8;
 
 /// The most empty fragments of one record.
 pub const EMPTY_MAX: usize = 1024;

@@ -8,7 +8,7 @@ use crate::protocol::{
     AUTH_ERROR, AUTH_NONE, GARBAGE_ARGS, MSG_ACCEPTED, MSG_DENIED, PROC_UNAVAIL, PROG_MISMATCH,
     PROG_UNAVAIL, REPLY, RPC_MISMATCH, SUCCESS, SYSTEM_ERR,
 };
-use yp_xdr::{NoRoom, put_u32};
+use yp_xdr::{NoRoom, set_u32};
 
 /// What a reply says before its results.
 #[derive(Clone, Copy, Debug, PartialEq, Eq)]
@@ -81,7 +81,7 @@ fn put_words(buf: &mut [u8], numbers: &[u32]) -> Result<usize, NoRoom>
     }
     let mut at = 0;
     for number in numbers {
-        at = put_u32(buf, at, *number)?;
+        at = set_u32(buf, at, *number);
     }
     Ok(at)
 }

@@ -1,5 +1,6 @@
-pub mod Sentences
-pub mod Stats
-pub mod Sending
-pub mod Running
 pub mod Told
+pub mod Pushed
+pub mod Calls
+pub mod Numerals
+pub mod Gathered
+pub mod Counted

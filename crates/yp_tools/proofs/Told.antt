@@ -1,20 +1,22 @@
--- What a session did, where its input is told.
-use Rattle.std.proofs.Common.{◌≡◌, ℕ, ◌+◌, ◌-◌, ◌<◌, ◌≤◌, List, [], ◌∷◌, ◌++◌, length, take, min, Option, Some, None, refl, sym, ap, ◌∙◌, subst, arith, inl, inr, ◌⊎◌}
+-- What a session did, where its input is told and its maps stay the same.
+use Rattle.std.proofs.Common.{◌≡◌, ℕ, ◌+◌, ◌-◌, ◌<◌, ◌≤◌, Bool, true, false, List, [], ◌∷◌, ◌++◌, length, min, map, Option, Some, None, refl, sym, ap, ◌∙◌, subst, arith, inl, inr, ◌⊎◌}
 use Rattle.std.specs.Prelude.{IfSome}
 use Rattle.std.specs.Io.KnownBytes.{Keeps, Appends, Consumes, IsAtEnd}
 use Rattle.std.proofs.lemmas.List.{append-nil, length-append}
 use Rattle.yp_io.specs.Counts.{last_count}
-use Rattle.yp_rpc.specs.Records.{Cut, IsRest, IsTorn, IsBegun, IsLong}
-use Rattle.yp_rpc.proofs.CutKinds.{whole_one}
-use Rattle.yp_rpc.proofs.CutOne.{cut_one, rest_is_not_whole}
+use Rattle.yp_rpc.specs.Records.{Fragments, Cut, IsRest, IsTorn, IsBegun, IsLong}
+use Rattle.yp_board.specs.Views.{Seen}
+use Rattle.yp_answer.specs.declared.procedure.Path.TheVariants.{Stream}
+use Rattle.yp_answer.specs.Maps.{Maps, maps_of}
+use Rattle.yp_answer.specs.Reply.{reply, asks}
+use Rattle.yp_answer.specs.Answers.{StepsWhere}
+use Rattle.yp_session.specs.declared.session.End.{End}
+use Rattle.yp_session.specs.declared.session.End.TheVariants as ends
+use Rattle.yp_session.specs.Runs.{Moment, Feed, feed_of, Reads, Chain, Runs, sent_replies, sent_reply}
 use Rattle.yp_tools.specs.Numbers.{call_max, calls_max}
-use Rattle.yp_tools.specs.declared.session.End.{End}
-use Rattle.yp_tools.specs.declared.session.End.TheVariants as ends
 use Rattle.yp_tools.specs.declared.status.Status.{Status}
-use Rattle.yp_tools.specs.declared.status.Status.TheVariants.{Done, Usage, ReadFault, WriteFault, Torn, TooLong, NoMemory, Enough}
-use Rattle.yp_tools.specs.Served.{Served}
-use Rattle.yp_tools.specs.Run.{Feed, Counts, Reads, Runs, answers}
-use Rattle.yp_tools.specs.Once.{Begins, AnswersUpTo, AnswersSome, IsStatusOf, Serves, Ran, status_of, place_of}
+use Rattle.yp_tools.specs.declared.status.Status.TheVariants.{Done, Usage, ReadFault, WriteFault, Torn, TooLong, NoMemory, Rows, Enough}
+use Rattle.yp_tools.specs.Served.{Traffic, Begins, AnswersUpTo, AnswersSome, AnswersInPart, IsStatusOf, Serves, status_of, place_of, answer_to, answers}
 
 -- ---- told bytes
 
@@ -34,6 +36,12 @@ kept (Some xs) (Some ys) stream e h = let same : xs ≡ stream = cc in ap (λ (z
 ended : (a : Option (List ℕ)) (rest : List ℕ) → a ≡ Some rest → IsAtEnd a → rest ≡ []
 ended None rest e h = absurd cc
 ended (Some xs) rest e h = let same : xs ≡ rest = cc in sym same ∙ h
+
+-- kept bytes consume nothing
+nothing_taken : (a b : Option (List ℕ)) → Keeps a b → Consumes a b []
+nothing_taken None b h = tt
+nothing_taken (Some xs) None h = absurd h
+nothing_taken (Some xs) (Some ys) h = sym h
 
 -- ---- the records that were read
 
@@ -71,115 +79,240 @@ cut_from : (messages : List (List ℕ)) (stream rest : List ℕ) → Begins stre
 cut_from [] stream rest h end = (h, end)
 cut_from (message ∷ messages) stream rest h end = (h.0, h.1, h.2, h.3, cut_from messages h.1 rest h.4 end)
 
--- no more records were read than the stream has
-begins_few : (messages others : List (List ℕ)) (stream rest behind : List ℕ) → Begins stream others behind → Cut call_max stream messages rest → length others ≤ length messages
-begins_few messages [] stream rest behind h cut = omega arith
-begins_few [] (other ∷ others) stream rest behind h cut =
-    let same : h.0 ++ h.1 ≡ rest = sym h.3 ∙ cut.0 in
-    absurd (rest_is_not_whole call_max other h.0 h.1 h.2 (rw same cut.1))
-begins_few (message ∷ messages) (other ∷ others) stream rest behind h cut =
-    let same = whole_one call_max other message h.0 cut.0 h.1 cut.1 h.2 cut.2 (sym h.3 ∙ cut.3) in
-    let more : Cut call_max h.1 messages rest = rw same.1 cut.4 in
-    omega (arith, begins_few messages others h.1 rest behind h.4 more)
-
--- ---- each status
-
 -- the place of a rest, counted from the front
 place_is : (stream rest : List ℕ) (place : ℕ) → place ≡ min (0 + (length stream - length rest)) last_count → place ≡ place_of stream rest
 place_is stream rest place h = omega (arith, h)
 
+-- ---- the replies
+
+-- a host whose read steps leave its maps as they are
+abbrev pub KeepsMaps : {H : Type 0} → (H → H → Type 0) → (H → Seen) → Type 0
+KeepsMaps {H} stepped seen = (old new : H) → stepped old new → maps_of (seen new) ≡ maps_of (seen old)
+
+-- a step, or none, leaves the maps
+step_keeps : {H : Type 0} (asked : Bool) (stepped : H → H → Type 0) (seen : H → Seen) (old new : H) → KeepsMaps stepped seen → StepsWhere asked stepped seen old new → maps_of (seen new) ≡ maps_of (seen old)
+step_keeps true stepped seen old new keeps h = keeps old new h.0
+step_keeps false stepped seen old new keeps h = ap (λ host. maps_of (seen host)) h
+
+-- so each record gets its reply on the same maps
+replies_are : {H : Type 0} (stepped : H → H → Type 0) (seen : H → Seen) (maps : Maps) (messages : List (List ℕ)) (replies : List (Option (List ℕ))) (old new : H) → KeepsMaps stepped seen
+    → maps_of (seen old) ≡ maps → Chain stepped seen 0 messages replies old new → replies ≡ map (reply Stream maps 0) messages
+replies_are stepped seen maps [] [] old new keeps is h = refl
+replies_are stepped seen maps [] (answer ∷ replies) old new keeps is h = absurd h
+replies_are stepped seen maps (message ∷ messages) [] old new keeps is h = absurd h
+replies_are stepped seen maps (message ∷ messages) (answer ∷ replies) old new keeps is h =
+    let now : maps_of (seen h.0) ≡ maps = step_keeps (asks Stream message) stepped seen old h.0 keeps h.1.step ∙ is in
+    let first : answer ≡ reply Stream maps 0 message = h.1.answered ∙ ap (λ m. reply Stream m 0 message) now in
+    let rest = replies_are stepped seen maps messages replies h.0 new keeps now h.2 in
+    ap (λ a. a ∷ replies) first ∙ ap (λ others. reply Stream maps 0 message ∷ others) rest
+
+-- what is sent for them
+sent_are : (maps : Maps) (messages : List (List ℕ)) → sent_replies (map (reply Stream maps 0) messages) ≡ answers maps messages
+sent_are maps [] = refl
+sent_are maps (message ∷ messages) = ap (λ bytes. answer_to maps message ++ bytes) (sent_are maps messages)
+
+-- a list whose images end with one is a front and one more
+pub record Split {A B : Type 0} (f : A → B) (xs : List A) (before : List B) (last : B) : Type 0 where
+  pub front : List A
+  pub one : A
+  pub whole : xs ≡ front ++ one ∷ []
+  pub images : map f front ≡ before
+  pub image : f one ≡ last
+
+split_map : {A B : Type 0} (f : A → B) (xs : List A) (before : List B) (last : B) → map f xs ≡ before ++ last ∷ [] → Split f xs before last
+split_map f [] [] last e = absurd cc
+split_map f [] (y ∷ before) last e = absurd cc
+split_map f (x ∷ []) [] last e = record { front = []; one = x; whole = refl; images = refl; image = cc }
+split_map f (x ∷ z ∷ xs) [] last e = absurd cc
+split_map f (x ∷ xs) (y ∷ before) last e =
+    let rest : map f xs ≡ before ++ last ∷ [] = cc in
+    let first : f x ≡ y = cc in
+    let s = split_map f xs before last rest in
+    record {
+      front = x ∷ s.front;
+      one = s.one;
+      whole = ap (λ ys. x ∷ ys) s.whole;
+      images = ap (λ ys. f x ∷ ys) s.images ∙ ap (λ b. b ∷ before) first;
+      image = s.image;
+    }
+
+-- ---- each status
+
 -- the records that were read whole, and what is left of the stream
-read_some : (messages : List (List ℕ)) (stream part : List ℕ) (mid : Feed) (left : Option (List ℕ)) (P : List (List ℕ) → Type 0)
-    → Reads messages (record { input = Some stream; place = 0 }) mid → Consumes mid.input left part → IsBegun call_max part → P messages → AnswersSome stream left P
-read_some messages stream part mid left P read consumed begun done =
+read_some : (messages : List (List ℕ)) (stream part : List ℕ) (mid : Feed) (traffic : Traffic) (P : List (List ℕ) → Type 0)
+    → Reads messages (record { input = Some stream; place = 0 }) mid → Consumes mid.input traffic.left part → IsBegun call_max part → P messages → AnswersSome stream traffic P
+read_some messages stream part mid traffic P read consumed begun done =
     let t = told messages (record { input = Some stream; place = 0 }) mid stream refl (omega arith) read in
-    let b = taken mid.input left t.rest part t.left consumed in
+    let b = taken mid.input traffic.left t.rest part t.left consumed in
     record { messages = messages; part = part; rest = b.0; begins = rw b.2 at t.begins; begun = begun; left_is = b.1; done = done }
 
--- kept bytes consume nothing
-nothing_taken : (a b : Option (List ℕ)) → Keeps a b → Consumes a b []
-nothing_taken None b h = tt
-nothing_taken (Some xs) None h = absurd h
-nothing_taken (Some xs) (Some ys) h = sym h
+-- a run from the front of a told stream, over maps that stay the same
+pub record Ran (maps : Maps) (stream : List ℕ) (traffic : Traffic) {H : Type 0} (stepped : H → H → Type 0) (seen : H → Seen) (end : End) (old new : Moment H) (calls : ℕ) : Type 0 where
+  pub keeps : KeepsMaps stepped seen
+  pub is : maps_of (seen old.host) ≡ maps
+  pub input : old.wire.input ≡ Some stream
+  pub start : old.place ≡ 0
+  pub left : new.wire.input ≡ traffic.left
+  pub before : old.wire.output ≡ traffic.before
+  pub after : new.wire.output ≡ traffic.after
+  pub runs : Runs stepped seen 0 calls_max end old new calls
 
-pub serves_told : (served : Served) (end : End) (stream : List ℕ) (left output output' : Option (List ℕ)) (place : ℕ) (before after : Counts)
-    → Runs served end (record { input = Some stream; place = 0 }) (record { input = left; place = place }) output output' before after → Serves served (status_of end) stream left output output'
-serves_told served ends.Clean stream left output output' place before after h =
-    let t = told h.messages (record { input = Some stream; place = 0 }) h.mid stream refl (omega arith) h.read in
-    let empty = h.ended.0 in
-    let behind = taken h.mid.input left t.rest [] t.left empty.0 in
-    let none : behind.0 ≡ [] = ended left behind.0 behind.1 empty.1 in
-    let begins : Begins stream h.messages [] = rw (behind.2, none) at t.begins in
-    (record { messages = h.messages; cut = cut_from h.messages stream [] begins (inl refl); few = h.ended.1; answered = h.answered }, behind.1 ∙ ap (λ (xs : List ℕ). Some xs) none)
-serves_told served (ends.Torn at) stream left output output' place before after h =
-    let t = told h.messages (record { input = Some stream; place = 0 }) h.mid stream refl (omega arith) h.read in
-    let e = h.ended in
-    let behind = taken h.mid.input left t.rest e.1 t.left e.3 in
-    let none : behind.0 ≡ [] = ended left behind.0 behind.1 e.4 in
-    let same : e.1 ≡ t.rest = sym (append-nil e.1) ∙ ap (λ (xs : List ℕ). e.1 ++ xs) (sym none) ∙ sym behind.2 in
-    let torn : IsTorn call_max t.rest = subst (IsTorn call_max) same e.2 in
-    (t.rest, record { messages = h.messages; cut = cut_from h.messages stream t.rest t.begins (inr (inl torn)); few = e.5; answered = h.answered }, torn, e.0 ∙ place_is stream t.rest h.mid.place t.place, behind.1 ∙ ap (λ (xs : List ℕ). Some xs) none)
-serves_told served (ends.TooLong at) stream left output output' place before after h =
-    let t = told h.messages (record { input = Some stream; place = 0 }) h.mid stream refl (omega arith) h.read in
-    let e = h.ended in
-    let behind = taken h.mid.input left t.rest e.1 t.left e.3 in
-    let rest = e.1 ++ behind.0 in
-    let long : IsLong call_max rest = (e.1, behind.0, e.2, refl) in
-    let begins : Begins stream h.messages rest = rw behind.2 at t.begins in
-    let at_rest : ℕ → Type 0 = λ n. at ≡ n in (
-      e.1,
-      behind.0,
-      record { messages = h.messages; cut = cut_from h.messages stream rest begins (inr (inr long)); few = e.4; answered = h.answered },
-      e.2,
-      subst at_rest (ap (place_of stream) behind.2) (e.0 ∙ place_is stream t.rest h.mid.place t.place),
-      behind.1,
-    )
-serves_told served ends.ReadFault stream left output output' place before after h =
-    read_some h.messages stream h.ended.1 h.mid left (λ messages. Appends output output' (answers served messages)) h.read h.ended.2 h.ended.3 h.answered
-serves_told served ends.WriteFault stream left output output' place before after h =
-    read_some h.messages stream [] h.mid left (λ messages. (n : ℕ) × Appends output output' (take n (answers served messages))) h.read (nothing_taken h.mid.input left h.ended.1) (inl refl) h.answered
-serves_told served ends.Enough stream left output output' place before after h =
-    read_some h.messages stream [] h.mid left (λ messages. (length messages ≡ calls_max) × Appends output output' (answers served messages)) h.read (nothing_taken h.mid.input left h.ended.1) (inl refl) (h.ended.0, h.answered)
+module _ (maps : Maps) (stream : List ℕ) (traffic : Traffic) {H : Type 0} (stepped : H → H → Type 0) (seen : H → Seen) (old new : Moment H) (calls : ℕ) where
+  -- where it began
+  begins_at : (end : End) (h : Ran maps stream traffic stepped seen end old new calls) → feed_of old ≡ record { input = Some stream; place = 0 }
+  begins_at end h = ap (λ input. record { input = input; place = old.place }) h.input ∙ ap (λ place. record { input = Some stream; place = place }) h.start
 
--- whichever way it ran, where its input is told
-pub ran_told : (served : Served) (status : Status) (input left output output' : Option (List ℕ)) (before after : Counts)
-    → Ran served status input left output output' before after → IfSome input (λ stream. Serves served status stream left output output')
-ran_told served status None left output output' before after h = tt
-ran_told served status (Some stream) left output output' before after (inl h) =
-    let P : Status → Type 0 = λ s. Serves served s stream left output output' in
-    subst P (sym h.0) (kept (Some stream) left stream refl h.1, h.2)
-ran_told served status (Some stream) left output output' before after (inr h) =
-    let P : Status → Type 0 = λ s. Serves served s stream left output output' in
-    subst P (sym h.2) (serves_told served h.0 stream left output output' h.1 before after h.3)
+  reads_are : (end : End) (h : Ran maps stream traffic stepped seen end old new calls) → Reads h.runs.messages (record { input = Some stream; place = 0 }) h.runs.mid
+  reads_are end h = let P : Feed → Type 0 = λ feed. Reads h.runs.messages feed h.runs.mid in subst P (begins_at end h) h.runs.read
+
+  told_of : (end : End) (h : Ran maps stream traffic stepped seen end old new calls) → ToldReads h.runs.messages stream 0 h.runs.mid
+  told_of end h = told h.runs.messages (record { input = Some stream; place = 0 }) h.runs.mid stream refl (omega arith) (reads_are end h)
+
+  -- what the output took, where all replies went out
+  took_all : (end : End) (h : Ran maps stream traffic stepped seen end old new calls) → Appends old.wire.output new.wire.output (sent_replies h.runs.answers) → Appends traffic.before traffic.after (answers maps h.runs.messages)
+  took_all end h all =
+      let bytes : sent_replies h.runs.answers ≡ answers maps h.runs.messages =
+      ap sent_replies (replies_are stepped seen maps h.runs.messages h.runs.answers old.host new.host h.keeps h.is h.runs.chain) ∙ sent_are maps h.runs.messages in
+      rw (h.before, h.after, bytes) at all
+
+  took_part : (h : Ran maps stream traffic stepped seen ends.WriteFault old new calls) → AnswersInPart maps h.runs.messages traffic
+  took_part h =
+      let sent = h.runs.sent in
+      let images : map (reply Stream maps 0) h.runs.messages ≡ sent.0 ++ sent.1 ∷ [] =
+      sym (replies_are stepped seen maps h.runs.messages h.runs.answers old.host new.host h.keeps h.is h.runs.chain) ∙ sent.3 in
+      let s = split_map (reply Stream maps 0) h.runs.messages sent.0 sent.1 images in
+      let front : sent_replies sent.0 ≡ answers maps s.front = ap sent_replies (sym s.images) ∙ sent_are maps s.front in
+      let last : sent_reply sent.1 ≡ answer_to maps s.one = ap sent_reply (sym s.image) in
+      record {
+        before = s.front;
+        last = s.one;
+        count = sent.2;
+        all = s.whole;
+        answered = rw (h.before, h.after, front, last) at sent.4;
+      }
+
+  pub serves_told : (end : End) → Ran maps stream traffic stepped seen end old new calls → Serves maps (status_of end) stream traffic
+  serves_told ends.Clean h =
+      let t = told_of ends.Clean h in
+      let empty = h.runs.ended.1 in
+      let left : Consumes h.runs.mid.input traffic.left [] = rw (← h.left) empty.0 in
+      let behind = taken h.runs.mid.input traffic.left t.rest [] t.left left in
+      let none : behind.0 ≡ [] = ended traffic.left behind.0 behind.1 (rw (← h.left) empty.1) in
+      let rest : t.rest ≡ [] = behind.2 ∙ none in (
+        record {
+          messages = h.runs.messages;
+          cut = cut_from h.runs.messages stream [] (rw rest at t.begins) (inl refl);
+          few = h.runs.ended.0;
+          answered = took_all ends.Clean h h.runs.sent;
+        },
+        behind.1 ∙ ap (λ (xs : List ℕ). Some xs) none,
+      )
+  serves_told (ends.Torn at) h =
+      let t = told_of (ends.Torn at) h in
+      let e = h.runs.ended in
+      let torn = e.2 in
+      let left : Consumes h.runs.mid.input traffic.left torn = rw (← h.left) e.4 in
+      let behind = taken h.runs.mid.input traffic.left t.rest torn t.left left in
+      let none : behind.0 ≡ [] = ended traffic.left behind.0 behind.1 (rw (← h.left) e.5) in
+      let rest : t.rest ≡ torn = behind.2 ∙ ap (λ (xs : List ℕ). torn ++ xs) none ∙ append-nil torn in (
+        torn,
+        record {
+          messages = h.runs.messages;
+          cut = cut_from h.runs.messages stream torn (rw rest at t.begins) (inr (inl e.3));
+          few = e.0;
+          answered = took_all (ends.Torn at) h h.runs.sent;
+        },
+        e.3,
+        e.1 ∙ place_is stream t.rest h.runs.mid.place t.place ∙ ap (place_of stream) rest,
+        behind.1 ∙ ap (λ (xs : List ℕ). Some xs) none,
+      )
+  serves_told (ends.TooLong at) h =
+      let t = told_of (ends.TooLong at) h in
+      let e = h.runs.ended in
+      let front = e.2 in
+      let left : Consumes h.runs.mid.input traffic.left front = rw (← h.left) e.4 in
+      let behind = taken h.runs.mid.input traffic.left t.rest front t.left left in
+      let rest : t.rest ≡ front ++ behind.0 = behind.2 in (
+        front,
+        behind.0,
+        record {
+          messages = h.runs.messages;
+          cut = cut_from h.runs.messages stream (front ++ behind.0) (rw rest at t.begins) (inr (inr (front, behind.0, e.3, refl)));
+          few = e.0;
+          answered = took_all (ends.TooLong at) h h.runs.sent;
+        },
+        e.3,
+        e.1 ∙ place_is stream t.rest h.runs.mid.place t.place ∙ ap (place_of stream) rest,
+        behind.1,
+      )
+  serves_told ends.ReadFault h =
+      let e = h.runs.ended in
+      read_some h.runs.messages stream e.2 h.runs.mid traffic (λ messages. Appends traffic.before traffic.after (answers maps messages)) (reads_are ends.ReadFault h)
+      (rw (← h.left) e.3) e.4 (took_all ends.ReadFault h h.runs.sent)
+  serves_told ends.WriteFault h =
+      let e = h.runs.ended in
+      let kept_input : Keeps h.runs.mid.input traffic.left = rw (← h.left) e.2 in
+      read_some h.runs.messages stream [] h.runs.mid traffic (λ messages. AnswersInPart maps messages traffic) (reads_are ends.WriteFault h)
+      (nothing_taken h.runs.mid.input traffic.left kept_input) (inl refl) (took_part h)
+  serves_told ends.Enough h =
+      let e = h.runs.ended in
+      let kept_input : Keeps h.runs.mid.input traffic.left = rw (← h.left) e.1 in
+      read_some h.runs.messages stream [] h.runs.mid traffic (λ messages. (length messages ≡ calls_max) × Appends traffic.before traffic.after (answers maps messages)) (reads_are ends.Enough h)
+      (nothing_taken h.runs.mid.input traffic.left kept_input) (inl refl) (e.0, took_all ends.Enough h h.runs.sent)
 
 -- ---- the one cut
 
+-- What the laws of records say, for the limit of a call.
+pub record CutLaws : Type 0 where
+  pub one : (limit : ℕ) (stream : List ℕ) (messages others : List (List ℕ)) (rest rest' : List ℕ)
+      → Cut limit stream messages rest → Cut limit stream others rest' → (messages ≡ others) × (rest ≡ rest')
+  pub front : (limit : ℕ) (message other bytes bytes' more more' : List ℕ) → Fragments limit message bytes → Fragments limit other bytes'
+      → bytes ++ more ≡ bytes' ++ more' → (message ≡ other) × (more ≡ more')
+  pub rest : (limit : ℕ) (message bytes more : List ℕ) → Fragments limit message bytes → IsRest limit (bytes ++ more) → ⊥
+
+-- no more records were read than the stream has
+begins_few : CutLaws → (messages others : List (List ℕ)) (stream rest behind : List ℕ) → Begins stream others behind → Cut call_max stream messages rest → length others ≤ length messages
+begins_few laws messages [] stream rest behind h cut = omega arith
+begins_few laws [] (other ∷ others) stream rest behind h cut =
+    let same : h.0 ++ h.1 ≡ rest = sym h.3 ∙ cut.0 in
+    absurd (laws.rest call_max other h.0 h.1 h.2 (rw same cut.1))
+begins_few laws (message ∷ messages) (other ∷ others) stream rest behind h cut =
+    let same = laws.front call_max other message h.0 cut.0 h.1 cut.1 h.2 cut.2 (sym h.3 ∙ cut.3) in
+    let more : Cut call_max h.1 messages rest = rw same.1 cut.4 in
+    omega (arith, begins_few laws messages others h.1 rest behind h.4 more)
+
 -- what holds of one cut of the stream holds of another
-of_cut : (served : Served) (stream rest other : List ℕ) (messages : List (List ℕ)) (output output' : Option (List ℕ)) → AnswersUpTo served stream rest output output'
+of_cut : CutLaws → (maps : Maps) (stream rest other : List ℕ) (messages : List (List ℕ)) (traffic : Traffic) → AnswersUpTo maps stream rest traffic
     → Cut call_max stream messages other → (length messages < calls_max) × (rest ≡ other)
-of_cut served stream rest other messages output output' h cut =
-    let same = cut_one call_max stream h.messages messages rest other h.cut cut in
+of_cut laws maps stream rest other messages traffic h cut =
+    let same = laws.one call_max stream h.messages messages rest other h.cut cut in
     (omega (arith, ap length same.0, h.few), same.1)
 
 -- the status is that of the cut, where nothing failed and memory sufficed
-pub status_of_cut : (served : Served) (status : Status) (stream : List ℕ) (messages : List (List ℕ)) (rest : List ℕ) (left output output' : Option (List ℕ)) → Serves served status stream left output output'
+pub status_of_cut : CutLaws → (maps : Maps) (status : Status) (stream : List ℕ) (messages : List (List ℕ)) (rest : List ℕ) (traffic : Traffic) → Serves maps status stream traffic
     → Cut call_max stream messages rest → (status ≡ ReadFault → ⊥) → (status ≡ WriteFault → ⊥) → IsStatusOf stream messages rest status ⊎ (status ≡ NoMemory)
-status_of_cut served Done stream messages rest left output output' h cut reads writes =
-    let same = of_cut served stream [] rest messages output output' h.0 cut in
+status_of_cut laws maps Done stream messages rest traffic h cut reads writes =
+    let same = of_cut laws maps stream [] rest messages traffic h.0 cut in
     inl (same.0, sym same.1)
-status_of_cut served NoMemory stream messages rest left output output' h cut reads writes = inr refl
-status_of_cut served (Usage word) stream messages rest left output output' h cut reads writes = absurd h
-status_of_cut served ReadFault stream messages rest left output output' h cut reads writes = absurd (reads refl)
-status_of_cut served WriteFault stream messages rest left output output' h cut reads writes = absurd (writes refl)
-status_of_cut served Enough stream messages rest left output output' h cut reads writes =
-    inl (omega (arith, begins_few messages h.messages stream rest (h.part ++ h.rest) h.begins cut, h.done.0))
-status_of_cut served (Torn at) stream messages rest left output output' h cut reads writes =
-    let same = of_cut served stream h.0 rest messages output output' h.1 cut in
+status_of_cut laws maps NoMemory stream messages rest traffic h cut reads writes = inr refl
+status_of_cut laws maps (Usage word) stream messages rest traffic h cut reads writes = absurd h
+status_of_cut laws maps (Rows row rule) stream messages rest traffic h cut reads writes = absurd h
+status_of_cut laws maps ReadFault stream messages rest traffic h cut reads writes = absurd (reads refl)
+status_of_cut laws maps WriteFault stream messages rest traffic h cut reads writes = absurd (writes refl)
+status_of_cut laws maps Enough stream messages rest traffic h cut reads writes =
+    inl (omega (arith, begins_few laws messages h.messages stream rest (h.part ++ h.rest) h.begins cut, h.done.0))
+status_of_cut laws maps (Torn at) stream messages rest traffic h cut reads writes =
+    let same = of_cut laws maps stream h.0 rest messages traffic h.1 cut in
     inl (same.0, subst (IsTorn call_max) same.1 h.2, h.3 ∙ ap (place_of stream) same.1)
-status_of_cut served (TooLong at) stream messages rest left output output' h cut reads writes =
-    let same = of_cut served stream (h.0 ++ h.1) rest messages output output' h.2 cut in
+status_of_cut laws maps (TooLong at) stream messages rest traffic h cut reads writes =
+    let same = of_cut laws maps stream (h.0 ++ h.1) rest messages traffic h.2 cut in
     let long : IsLong call_max (h.0 ++ h.1) = (h.0, h.1, h.3, refl) in
     inl (same.0, subst (IsLong call_max) same.1 long, h.4 ∙ ap (place_of stream) same.1)
+
+-- what holds of each told value
+pub if_told : (o : Option (List ℕ)) (P : List ℕ → Type 0) → ((stream : List ℕ) → o ≡ Some stream → P stream) → IfSome o P
+if_told None P h = tt
+if_told (Some xs) P h = h xs refl
 
 -- what holds of a told value
 pub at_some : (o : Option (List ℕ)) (x : List ℕ) (P : List ℕ → Type 0) → o ≡ Some x → IfSome o P → P x

@@ -1,8 +1,6 @@
 pub mod Numbers
-pub mod Served
-pub mod Words
-pub mod Messages
-pub mod Reply
-pub mod Run
-pub mod Status
 pub mod Once
+pub mod Words
+pub mod Status
+pub mod Served
+pub mod Sample

@@ -1,10 +1,12 @@
 -- The command line: sentences made of words.
-use Rattle.std.specs.Prelude.{◌≡◌, ℕ, ◌+◌, Bool, not, ◌&&◌, nat_lt, nat_le, ◌==◌, max, if◌then◌else◌, List, [], ◌∷◌, length, drop, map, fold, slice_index_or, Option, Some, None, Result, Ok, Err, IsOk, codes, string_bytes}
+use Rattle.std.specs.Prelude.{◌≡◌, ℕ, ◌+◌, ◌^◌, Bool, not, ◌&&◌, nat_lt, nat_le, ◌==◌, max, if◌then◌else◌, List, [], ◌∷◌, length, drop, map, fold, slice_index_or, Option, Some, None, Result, Ok, Err, codes, decimal, string_bytes}
 use Rattle.std.specs.List.{list_all, before_first, after_first}
 use Rattle.std.specs.Str.{bytes_eq}
+use Rattle.std.specs.Str.Parse.{digits_value}
 use Rattle.std.specs.declared.string.String.{String}
 use Rattle.std.specs.declared.alloc.Global.{Global}
-use Rattle.yp_tools.specs.Served.{Served}
+use Rattle.yp_version.specs.Rows.{Row}
+use Rattle.yp_board.specs.Catalogues.{Name, name_view}
 use Rattle.yp_tools.specs.declared.command.KeyValue.{KeyValue}
 use Rattle.yp_tools.specs.declared.command.Command.{Command}
 use Rattle.yp_tools.specs.declared.command.Command.TheVariants as command
@@ -38,16 +40,25 @@ abbrev pub is_row : List ℕ → Bool
 is_row word =
     nat_lt (length (before 61 word)) (length word) && nat_le 1 (length (before 61 word)) && nat_le (length (before 61 word)) key_max && nat_le (length (after 61 word)) value_max
 
+-- a number of 32 bits in decimal, without a sign and without zeros in front
+abbrev pub is_number : List ℕ → Bool
+is_number word = nat_lt (digits_value 10 word) (2 ^ 32) && bytes_eq (decimal (digits_value 10 word)) word
+
+abbrev pub number_of : List ℕ → Option ℕ
+number_of word = if is_number word then Some (digits_value 10 word) else None
+
 pub data Form : Type 0 where
   -- this very word
   Exactly : (text : List ℕ) → Form
   Store : Form
-  Row : Form
+  Pair : Form
+  Number : Form
 
 abbrev pub has_form : Form → List ℕ → Bool
 has_form (Exactly text) word = bytes_eq word text
 has_form Store word = is_store word
-has_form Row word = is_row word
+has_form Pair word = is_row word
+has_form Number word = is_number word
 
 -- ---- sentences
 
@@ -57,10 +68,13 @@ pub record Sentence : Type 0 where
   pub further : Option Form
 
 abbrev pub once : Sentence
-once = record { forms = Exactly (codes "once") ∷ Store ∷ []; further = Some Row }
+once = record { forms = Exactly (codes "once") ∷ Store ∷ []; further = Some Pair }
+
+abbrev pub sample : Sentence
+sample = record { forms = Exactly (codes "sample") ∷ Number ∷ Number ∷ []; further = None }
 
 abbrev pub sentences : List Sentence
-sentences = once ∷ []
+sentences = once ∷ sample ∷ []
 
 -- how many words at the front are of further forms
 abbrev pub further_fitting : Option Form → List (List ℕ) → ℕ
@@ -89,33 +103,48 @@ wrong_word words = fold max 0 (map (fits_to words) sentences)
 
 -- a command, with bytes in place of vectors
 pub data Meaning : Type 0 where
-  Once : (served : Served) → Meaning
+  Once : (store : Name) (rows : List Row) → Meaning
+  Sample : (start count : ℕ) → Meaning
 
-abbrev pub row_of : List ℕ → List ℕ × List ℕ
+-- the name of a map, of a word
+abbrev pub name_of : List ℕ → Name
+name_of word = (before 47 word, after 47 word)
+
+-- a row, of a word
+abbrev pub row_of : List ℕ → Row
 row_of word = (before 61 word, after 61 word)
 
--- the store and the rows, each of a word
-abbrev pub served_by : List ℕ → List (List ℕ) → Served
-served_by store rows = record { domain = before 47 store; map = after 47 store; rows = map row_of rows }
-
 abbrev pub once_of : List (List ℕ) → Meaning
-once_of words = Once (served_by (slice_index_or words 1 []) (drop 2 words))
+once_of words = Once (name_of (slice_index_or words 1 [])) (map row_of (drop 2 words))
+
+abbrev pub sample_of : List (List ℕ) → Meaning
+sample_of words = Sample (digits_value 10 (slice_index_or words 1 [])) (digits_value 10 (slice_index_or words 2 []))
 
 -- the command that the words are, or the number of the word that is wrong
 abbrev pub command_of : List (List ℕ) → Result Meaning ℕ
-command_of words = if is_whole words once then Ok (once_of words) else Err (wrong_word words)
+command_of words =
+    if is_whole words once then Ok (once_of words)
+    else (if is_whole words sample then Ok (sample_of words)
+    else Err (wrong_word words))
 
-abbrev pub row_view : KeyValue → List ℕ × List ℕ
+abbrev pub row_view : KeyValue → Row
 row_view row = (row.key.items, row.value.items)
 
 abbrev pub meaning : Command → Meaning
-meaning (command.Once store rows) = Once (record { domain = store.domain.items; map = store.map.items; rows = map row_view rows.items })
+meaning (command.Once store rows) = Once (name_view store) (map row_view rows.items)
+meaning (command.Sample start count) = Sample start count
 
 -- the bytes of each word
 abbrev pub texts : List (String Global) → List (List ℕ)
 texts words = map string_bytes words
 
--- The fault names the word that is wrong. Memory runs out only where no word is.
+-- the words are the command `once`
+abbrev pub IsOnce : Result Meaning ℕ → Type 0
+IsOnce (Ok (Once store rows)) = Unit {0}
+IsOnce (Ok (Sample start count)) = ⊥
+IsOnce (Err word) = ⊥
+
+-- The fault names the word that is wrong. Memory runs out only where rows are taken over.
 abbrev pub IsUsage : Result Meaning ℕ → ParseFault → Type 0
 IsUsage expected (Usage word) = expected ≡ Err word
-IsUsage expected NoMemory = IsOk expected
+IsUsage expected NoMemory = IsOnce expected

@@ -4,19 +4,18 @@
 //! each status, stands on [`run`].
 #![tactic(auto)]
 
-mod answer;
+mod ask;
 mod command;
-mod messages;
+mod once;
 mod program;
-mod protocol;
-mod session;
+mod sample;
 mod status;
+mod tally;
+#[cfg(test)]
+mod tests;
 mod words;
 
-pub use command::{Command, KeyValue, MapName};
+pub use command::{Command, KeyValue};
 pub use program::{Outside, run, tell};
 pub use status::Status;
 pub use words::{ParseFault, parse};
-
-#[cfg(test)]
-mod tests;

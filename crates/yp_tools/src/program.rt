@@ -1,23 +1,37 @@
 //! The one call that does all that the program does.
 
-ghost use Rattle.std.specs.Prelude.{◌≡◌, ◌≢◌, ℕ, ◌<◌, ◌⊎◌, ◌↔◌, IsTrue, List, [], Some, Ok, Err, length, IfSome, IsErr};
+ghost use Rattle.std.specs.Prelude.{◌≡◌, ◌≢◌, ℕ, ◌<◌, ◌⊎◌, ◌↔◌, IsTrue, List, map, None, Some, Ok, Err, IfSome, IsErr};
 ghost use Rattle.std.specs.Io.KnownBytes.{Appends};
 ghost use Rattle.yp_io.specs.Counts.{HasRisen};
 ghost use Rattle.yp_rpc.specs.Records.{Cut};
+ghost use Rattle.yp_version.specs.Limits.{rows_max};
+ghost use Rattle.yp_version.specs.Rows.{Row};
+ghost use Rattle.yp_board.specs.Catalogues.{Name, name_view};
+ghost use Rattle.yp_answer.specs.Maps.{maps_of};
 ghost use Rattle.yp_tools.specs.Numbers.{call_max};
-ghost use Rattle.yp_tools.specs.Served.{Served};
-ghost use Rattle.yp_tools.specs.Words.{command_of, texts, meaning, Once};
-ghost use Rattle.yp_tools.specs.Reply.{served};
+ghost use Rattle.yp_tools.specs.Words.{command_of, texts, row_view, Once, Sample};
+ghost use Rattle.yp_tools.specs.Sample.{Tells};
+ghost use Rattle.yp_tools.specs.Once.{once_maps, rows_fault};
 ghost use Rattle.yp_tools.specs.Status.{note};
-ghost use Rattle.yp_tools.specs.Once.{IsStatusOf, Serves, Ran, RanCommand};
+ghost use Rattle.yp_tools.specs.Served.{IsStatusOf, Serves};
 
-use crate::answer::Service;
-use crate::command::Command;
-use crate::session::{End, Session};
+use crate::command::{Command, KeyValue};
+use crate::once::{board_of, version_of};
+use crate::sample::sample;
 use crate::status::Status;
 use crate::words::{ParseFault, parse};
 use std::alloc::Global;
-use yp_io::{Sink, Source, write_all};
+use std::random::RandomSource;
+use yp_board::{MapName, PlainBoard};
+use yp_io::{NoMemory, Pair, Peer, Sink, Source, write_all};
+use yp_rpc::laws;
+use yp_session::{CALLS_MAX, End, Session};
+
+/// The caller that `once` answers: nobody's address, and port 0.
+pub(crate) const NOBODY: Peer = Peer {
+    addr: [0; 4],
+    port: 0,
+};
 
 /// What the program reaches outside itself.
 #[derive(Drop)]
@@ -32,7 +46,7 @@ pub struct Outside<S, K> {
 
 impl From<End> for Status {
     ghost use Rattle.std.specs.Prelude.{◌≡◌};
-    ghost use Rattle.yp_tools.specs.Once.{status_of};
+    ghost use Rattle.yp_tools.specs.Served.{status_of};
 
     ghost from_gives = { λ end status. status ≡ status_of end };
 
@@ -48,61 +62,78 @@ impl From<End> for Status {
     }
 }
 
-/// Answers the calls of the input on the rows of the words.
-fn once<S: Source, K: Sink>(
-    alloc: Global,
-    service: &Service<'_>,
-    input: &mut S,
-    output: &mut K,
-) -> Status
-    ensures ran { Ran (served service.now) result (S.input input.old) (S.input input.new) (K.output output.old) (K.output output.new)
-        (record { reads = S.faults input.old; writes = K.faults output.old }) (record { reads = S.faults input.new; writes = K.faults output.new }) }
-    ensures flushed { result ≢ Status.WriteFault → IsTrue (K.flushed output.old) → IsTrue (K.flushed output.new) }
+/// Answers the calls of the wire on a board that doesn't change.
+fn serve<S: Source, K: Sink>(alloc: Global, board: PlainBoard, wire: &mut Pair<S, K>) -> Status
+    ensures served { IfSome (S.input wire.old.source) (λ stream. Serves (maps_of board) result stream
+        (record { left = S.input wire.new.source; before = K.output wire.old.sink; after = K.output wire.new.sink })) }
+    ensures flushed { result ≢ Status.WriteFault → IsTrue (K.flushed wire.old.sink) → IsTrue (K.flushed wire.new.sink) }
+    ensures read_fault { result ≡ Status.ReadFault → HasRisen (S.faults wire.old.source) (S.faults wire.new.source) }
+    ensures write_fault { result ≡ Status.WriteFault → HasRisen (K.faults wire.old.sink) (K.faults wire.new.sink) }
+    ensures sound { (row rule : ℕ) → result ≢ Status.Rows row rule }
+    ensures sentence { (word : ℕ) → result ≢ Status.Usage word }
 {
+    let mut board = board;
     match Session::new(alloc) {
-        Err(_) => Status::NoMemory,
-        Ok(mut session) => session.run(service, input, output).into(),
+        Err(NoMemory) => Status::NoMemory,
+        Ok(mut session) => session.run(wire, &mut board, NOBODY, CALLS_MAX).into(),
     }
 }
 
-/// Does what the command asks for.
-fn run_command<S: Source, K: Sink>(
+/// Answers the calls of the wire on one map of these rows.
+fn once<S: Source, K: Sink>(
     alloc: Global,
-    command: &Command,
-    input: &mut S,
-    output: &mut K,
+    rt: &impl RandomSource,
+    store: MapName,
+    rows: &[KeyValue],
+    wire: &mut Pair<S, K>,
 ) -> Status
-    ensures ran { RanCommand (meaning command.now) result (S.input input.old) (S.input input.new) (K.output output.old) (K.output output.new)
-        (record { reads = S.faults input.old; writes = K.faults output.old }) (record { reads = S.faults input.new; writes = K.faults output.new }) }
-    ensures flushed { result ≢ Status.WriteFault → IsTrue (K.flushed output.old) → IsTrue (K.flushed output.new) }
+    ensures served { rows_fault (map row_view rows.now) ≡ None
+        → IfSome (S.input wire.old.source) (λ stream. Serves (once_maps (name_view store) (map row_view rows.now)) result stream
+        (record { left = S.input wire.new.source; before = K.output wire.old.sink; after = K.output wire.new.sink })) }
+    ensures refused { (row rule : ℕ) → rows_fault (map row_view rows.now) ≡ Some (row, rule)
+        → ((result ≡ Status.Rows row rule) ⊎ (result ≡ Status.NoMemory)) × (wire.new ≡ wire.old) }
+    ensures flushed { result ≢ Status.WriteFault → IsTrue (K.flushed wire.old.sink) → IsTrue (K.flushed wire.new.sink) }
+    ensures read_fault { result ≡ Status.ReadFault → HasRisen (S.faults wire.old.source) (S.faults wire.new.source) }
+    ensures write_fault { result ≡ Status.WriteFault → HasRisen (K.faults wire.old.sink) (K.faults wire.new.sink) }
+    ensures sentence { (word : ℕ) → result ≢ Status.Usage word }
 {
-    match command {
-        Command::Once { store, rows } => {
-            let service = Service { store, rows };
-            once(alloc, &service, input, output)
-        }
+    let version = match version_of(alloc, rt, rows) {
+        Ok(version) => version,
+        Err(status) => return status,
+    };
+    match board_of(alloc, store, version) {
+        Ok(board) => serve(alloc, board, wire),
+        Err(NoMemory) => Status::NoMemory,
     }
 }
 
 /// Does what the words ask for.
 fn run_words<S: Source, K: Sink>(
     alloc: Global,
+    rt: &impl RandomSource,
     words: &[String],
-    input: &mut S,
-    output: &mut K,
+    wire: &mut Pair<S, K>,
 ) -> Status
     ensures usage { (word : ℕ) → (result ≡ Status.Usage word) ↔ (command_of (texts words.now) ≡ Err word) }
-    ensures untouched { IsErr (command_of (texts words.now)) → (input.new ≡ input.old) × (output.new ≡ output.old) }
-    ensures once { (served : Served) → command_of (texts words.now) ≡ Ok (Once served)
-        → IfSome (S.input input.old) (λ stream. Serves served result stream (S.input input.new) (K.output output.old) (K.output output.new)) }
-    ensures flushed { result ≢ Status.WriteFault → IsTrue (K.flushed output.old) → IsTrue (K.flushed output.new) }
-    ensures read_fault { result ≡ Status.ReadFault → HasRisen (S.faults input.old) (S.faults input.new) }
-    ensures write_fault { result ≡ Status.WriteFault → HasRisen (K.faults output.old) (K.faults output.new) }
+    ensures untouched { IsErr (command_of (texts words.now)) → wire.new ≡ wire.old }
+    ensures once { (store : Name) (rows : List Row) → command_of (texts words.now) ≡ Ok (Once store rows) → rows_fault rows ≡ None
+        → IfSome (S.input wire.old.source) (λ stream. Serves (once_maps store rows) result stream
+        (record { left = S.input wire.new.source; before = K.output wire.old.sink; after = K.output wire.new.sink })) }
+    ensures rows { (store : Name) (rows : List Row) (row rule : ℕ) → command_of (texts words.now) ≡ Ok (Once store rows) → rows_fault rows ≡ Some (row, rule)
+        → ((result ≡ Status.Rows row rule) ⊎ (result ≡ Status.NoMemory)) × (wire.new ≡ wire.old) }
+    ensures sample { (start count : ℕ) → command_of (texts words.now) ≡ Ok (Sample start count)
+        → Tells start count result (K.output wire.old.sink) (K.output wire.new.sink) × (wire.new.source ≡ wire.old.source) }
+    ensures many { (start count : ℕ) → command_of (texts words.now) ≡ Ok (Sample start count) → rows_max < count
+        → (result ≡ Status.Rows 262145 3) × (wire.new ≡ wire.old) }
+    ensures flushed { result ≢ Status.WriteFault → IsTrue (K.flushed wire.old.sink) → IsTrue (K.flushed wire.new.sink) }
+    ensures read_fault { result ≡ Status.ReadFault → HasRisen (S.faults wire.old.source) (S.faults wire.new.source) }
+    ensures write_fault { result ≡ Status.WriteFault → HasRisen (K.faults wire.old.sink) (K.faults wire.new.sink) }
 {
     match parse(alloc, words) {
         Err(ParseFault::Usage { word }) => Status::Usage { word },
         Err(ParseFault::NoMemory) => Status::NoMemory,
-        Ok(command) => run_command(alloc, &command, input, output),
+        Ok(Command::Once { store, rows }) => once(alloc, rt, store, &rows, wire),
+        Ok(Command::Sample { start, count }) => sample(alloc, rt, start, count, &mut wire.sink),
     }
 }
 
@@ -114,9 +145,10 @@ pub fn tell<K: Sink>(notes: &mut K, status: Status)
 }
 
 /// Does all that the program does: what the words ask for, on the outside that it hands back, and a note of how it
-/// ended. The records of the input are those of its one cut (RFC 5531 section 11), at most 8,192 bytes each.
+/// ended. The records of the input are those of its one cut (RFC 5531 section 11), at most 262,144 bytes each.
 pub fn run<S: Source, K: Sink>(
     alloc: Global,
+    rt: &impl RandomSource,
     words: &[String],
     outside: Outside<S, K>,
 ) -> (Status, Outside<S, K>)
@@ -124,9 +156,20 @@ pub fn run<S: Source, K: Sink>(
     ensures usage { (word : ℕ) → (result.0 ≡ Status.Usage word) ↔ (command_of (texts words.now) ≡ Err word) }
     ensures untouched { IsErr (command_of (texts words.now)) → (result.1.input ≡ outside.input) × (result.1.output ≡ outside.output) }
 
-    // What the output has taken, for each status, where the input is told.
-    ensures once { (served : Served) → command_of (texts words.now) ≡ Ok (Once served)
-        → IfSome (S.input outside.input) (λ stream. Serves served result.0 stream (S.input result.1.input) (K.output outside.output) (K.output result.1.output)) }
+    // What the output has taken, for each status, where the input is told and the rows are within the limits of a version.
+    ensures once { (store : Name) (rows : List Row) → command_of (texts words.now) ≡ Ok (Once store rows) → rows_fault rows ≡ None
+        → IfSome (S.input outside.input) (λ stream. Serves (once_maps store rows) result.0 stream
+        (record { left = S.input result.1.input; before = K.output outside.output; after = K.output result.1.output })) }
+
+    // The first row past a limit is told, and nothing is read or written.
+    ensures rows { (store : Name) (rows : List Row) (row rule : ℕ) → command_of (texts words.now) ≡ Ok (Once store rows) → rows_fault rows ≡ Some (row, rule)
+        → ((result.0 ≡ Status.Rows row rule) ⊎ (result.0 ≡ Status.NoMemory)) × (result.1.input ≡ outside.input) × (result.1.output ≡ outside.output) }
+
+    // `sample` reads nothing. It tells the numbers of its rows, or that there are too many of them, and then writes nothing.
+    ensures sample { (start count : ℕ) → command_of (texts words.now) ≡ Ok (Sample start count)
+        → Tells start count result.0 (K.output outside.output) (K.output result.1.output) × (result.1.input ≡ outside.input) }
+    ensures many { (start count : ℕ) → command_of (texts words.now) ≡ Ok (Sample start count) → rows_max < count
+        → (result.0 ≡ Status.Rows 262145 3) × (result.1.output ≡ outside.output) }
 
     // What was taken was passed on, but for a write fault.
     ensures flushed { result.0 ≢ Status.WriteFault → IsTrue (K.flushed outside.output) → IsTrue (K.flushed result.1.output) }
@@ -136,7 +179,8 @@ pub fn run<S: Source, K: Sink>(
     ensures write_fault { result.0 ≡ Status.WriteFault → HasRisen (K.faults outside.output) (K.faults result.1.output) }
 
     // The status is that of the one cut of the input, but for faults and want of memory.
-    ensures complete { (served : Served) (stream : List ℕ) (messages : List (List ℕ)) (rest : List ℕ) → command_of (texts words.now) ≡ Ok (Once served)
+    ensures complete { (store : Name) (rows : List Row) (stream : List ℕ) (messages : List (List ℕ)) (rest : List ℕ)
+        → command_of (texts words.now) ≡ Ok (Once store rows) → rows_fault rows ≡ None
         → S.input outside.input ≡ Some stream → Cut call_max stream messages rest
         → ¬ HasRisen (S.faults outside.input) (S.faults result.1.input) → ¬ HasRisen (K.faults outside.output) (K.faults result.1.output)
         → IsStatusOf stream messages rest result.0 ⊎ (result.0 ≡ Status.NoMemory) }
@@ -145,8 +189,20 @@ pub fn run<S: Source, K: Sink>(
     ensures note { ¬ HasRisen (K.faults outside.notes) (K.faults result.1.notes)
         → Appends (K.output outside.notes) (K.output result.1.notes) (note result.0) }
 {
-    let mut outside = outside;
-    let status = run_words(alloc, words, &mut outside.input, &mut outside.output);
-    tell(&mut outside.notes, status);
+    let mut notes = outside.notes;
+    let mut wire = Pair {
+        source: outside.input,
+        sink: outside.output,
+    };
+    laws::cut_is_one();
+    laws::first_is_one();
+    laws::rest_is_not_whole();
+    let status = run_words(alloc, rt, words, &mut wire);
+    tell(&mut notes, status);
+    let outside = Outside {
+        input: wire.source,
+        output: wire.sink,
+        notes,
+    };
     (status, outside)
 }

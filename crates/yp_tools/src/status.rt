@@ -1,6 +1,6 @@
 //! How a run ended, and the note that tells it.
 
-ghost use Rattle.std.specs.Prelude.{◌≡◌, ◌≤◌, ◌++◌, length, decimal};
+ghost use Rattle.std.specs.Prelude.{◌≡◌, ◌≤◌, ◌++◌, length, decimal, codes};
 ghost use Rattle.yp_tools.specs.Status.{code_of, note, line as note_line};
 
 use arrayvec::ArrayString;
@@ -22,6 +22,9 @@ pub enum Status {
     TooLong { at: u64 },
     /// Memory ran out.
     NoMemory,
+    /// This row is the first past a limit, by this rule: 1 its key is too long, 2 its value is too long, 3 there are too
+    /// many rows, 4 they have too many bytes. The row is the number of its word, counted from 0.
+    Rows { row: u32, rule: u8 },
     /// As many calls were read as a session may have.
     Enough,
 }
@@ -39,6 +42,7 @@ impl Status {
             Status::Torn { .. } => 5,
             Status::TooLong { .. } => 6,
             Status::NoMemory => 7,
+            Status::Rows { .. } => 17,
             Status::Enough => 23,
         }
     }
@@ -55,6 +59,7 @@ impl Status {
             Status::Torn { at } => numbered("torn record at ", at),
             Status::TooLong { at } => numbered("too long at ", at),
             Status::NoMemory => line("no memory", ""),
+            Status::Rows { row, rule } => ruled("row ", u64::from(row), rule),
             Status::Enough => line("enough calls", ""),
         }
     }
@@ -69,6 +74,21 @@ fn numbered(text: &str, number: u64) -> ArrayString<NOTE_MAX>
     ensures { result.bytes ≡ note_line (text.now ++ decimal number) }
 {
     line(text, itoa::Buffer::new().format(number))
+}
+
+/// A line with the number of a place, and that of a rule behind it.
+fn ruled(text: &str, number: u64, rule: u8) -> ArrayString<NOTE_MAX>
+    requires { length text.now ≤ 4 }
+    ensures { result.bytes ≡ note_line (text.now ++ decimal number ++ codes " rule " ++ decimal rule) }
+{
+    let mut note = ArrayString::new();
+    note.push_str("yp: ");
+    note.push_str(text);
+    note.push_str(itoa::Buffer::new().format(number));
+    note.push_str(" rule ");
+    note.push_str(itoa::Buffer::new().format(rule));
+    note.push_str("\n");
+    note
 }
 
 /// A line of the program.

@@ -1,26 +1,36 @@
-//! The program over memory: rows with their calls written out by hand in words of four bytes.
+//! The program over memory: its calls and replies written out by hand, from RFC 5531 and yp.x.
 
 ghost use Rattle.std.specs.Prelude.{◌<◌};
 
 use crate::{Command, Outside, Status, parse, run, tell};
 use std::alloc::{AllocError, Global};
 use std::process::Abort;
+use std::random::RandomSource;
 use std::test::Fail;
 use yp_io::{MemSink, MemSource};
 
 /// The words that serve one row.
 const SERVED: [&str; 3] = ["once", "lab/hosts.byname", "alpha=10.0.0.1 alpha"];
 
-/// MATCH of `alpha` in map `hosts.byname` of domain `lab`, xid 1.
-const MATCH_CALL: [u32; 20] = [
-    0x8000004c, 1, 0, 2, 0x000186a4, 2, 3, 0, 0, 0, 0, 3, 0x6c616200, 12, 0x686f7374, 0x732e6279,
-    0x6e616d65, 5, 0x616c7068, 0x61000000,
-];
+const LAB: &str = "00000003 6c616200";
+
+const HOSTS: &str = "0000000c 686f7374 732e6279 6e616d65";
+
+const ALPHA: &str = "00000005 616c7068 61000000";
+
+const ADDRESS: &str = "0000000e 31302e30 2e302e31 20616c70 68610000";
+
+/// The head of an accepted reply that succeeds, xid 1, behind that of its record.
+const SUCCESS: &str = "00000001 00000001 00000000 00000000 00000000 00000000";
+
+/// MATCH of `alpha` in the map `hosts.byname` of the domain `lab`, xid 1, in a record of 80 bytes.
+const MATCH: &str = "8000004c 00000001 00000000 00000002 000186a4 00000002 00000003
+    00000000 00000000 00000000 00000000 00000003 6c616200
+    0000000c 686f7374 732e6279 6e616d65 00000005 616c7068 61000000";
 
 /// Its reply.
-const MATCH_REPLY: [u32; 13] = [
-    0x80000030, 1, 1, 0, 0, 0, 0, 1, 14, 0x31302e30, 0x2e302e31, 0x20616c70, 0x68610000,
-];
+const MATCH_REPLY: &str = "80000030 00000001 00000001 00000000 00000000 00000000 00000000
+    00000001 0000000e 31302e30 2e302e31 20616c70 68610000";
 
 /// How the outside behaves: the most bytes of a read, and the reads and writes that fail.
 #[derive(Clone, Copy)]
@@ -52,172 +62,13 @@ const EACH_PIECE: [Weather<'static>; 3] = [
     FAIR,
 ];
 
-/// Calls that are answered by a head alone, and how.
-const HEAD_ALONE: [(&str, &[u32], &[u32]); 7] = [
-    (
-        "RPC version 3",
-        &[0x8000_000c, 2, 0, 3],
-        &[0x8000_0018, 2, 1, 1, 0, 2, 2],
-    ),
-    (
-        "NULL",
-        &[0x8000_0028, 7, 0, 2, 100_004, 2, 0, 0, 0, 0, 0],
-        &[0x8000_0018, 7, 1, 0, 0, 0, 0],
-    ),
-    (
-        "NULL with version 1",
-        &[0x8000_0028, 3, 0, 2, 100_004, 1, 0, 0, 0, 0, 0],
-        &[0x8000_0020, 3, 1, 0, 0, 0, 2, 2, 2],
-    ),
-    (
-        "procedure 12",
-        &[0x8000_0028, 4, 0, 2, 100_004, 2, 12, 0, 0, 0, 0],
-        &[0x8000_0018, 4, 1, 0, 0, 0, 3],
-    ),
-    (
-        "program 100005, version 1, procedure 12",
-        &[0x8000_0028, 5, 0, 2, 100_005, 1, 12, 0, 0, 0, 0],
-        &[0x8000_0018, 5, 1, 0, 0, 0, 1],
-    ),
-    (
-        "credential flavor 6, program 100005",
-        &[0x8000_0028, 6, 0, 2, 100_005, 2, 3, 6, 0, 0, 0],
-        &[0x8000_0014, 6, 1, 1, 1, 2],
-    ),
-    (
-        "credential flavor 1 with a body, MATCH without arguments",
-        &[0x8000_002c, 8, 0, 2, 100_004, 2, 3, 1, 4, 0x01020304, 0, 0],
-        &[0x8000_0018, 8, 1, 0, 0, 0, 4],
-    ),
-];
-
-/// Calls of MATCH for which there is no value, and the replies with the status that says why.
-const NO_VALUE: [(&str, &[u32], &[u32]); 5] = [
-    (
-        "no domain and no map",
-        &[0x8000_0034, 9, 0, 2, 100_004, 2, 3, 0, 0, 0, 0, 0, 0, 0],
-        &[0x8000_0020, 9, 1, 0, 0, 0, 0, 0xffff_fff9, 0],
-    ),
-    (
-        "domain lax and no map",
-        &[
-            0x8000_0038,
-            10,
-            0,
-            2,
-            100_004,
-            2,
-            3,
-            0,
-            0,
-            0,
-            0,
-            3,
-            0x6c617800,
-            0,
-            0,
-        ],
-        &[0x8000_0020, 10, 1, 0, 0, 0, 0, 0xffff_fff9, 0],
-    ),
-    (
-        "domain lax",
-        &[
-            0x8000_004c,
-            11,
-            0,
-            2,
-            100_004,
-            2,
-            3,
-            0,
-            0,
-            0,
-            0,
-            3,
-            0x6c617800,
-            12,
-            0x686f7374,
-            0x732e6279,
-            0x6e616d65,
-            5,
-            0x616c7068,
-            0x61000000,
-        ],
-        &[0x8000_0020, 11, 1, 0, 0, 0, 0, 0xffff_fffe, 0],
-    ),
-    (
-        "domain lax, map hosts.byaddr",
-        &[
-            0x8000_004c,
-            12,
-            0,
-            2,
-            100_004,
-            2,
-            3,
-            0,
-            0,
-            0,
-            0,
-            3,
-            0x6c617800,
-            12,
-            0x686f7374,
-            0x732e6279,
-            0x61646472,
-            5,
-            0x616c7068,
-            0x61000000,
-        ],
-        &[0x8000_0020, 12, 1, 0, 0, 0, 0, 0xffff_fffe, 0],
-    ),
-    (
-        "map hosts.byaddr",
-        &[
-            0x8000_004c,
-            13,
-            0,
-            2,
-            100_004,
-            2,
-            3,
-            0,
-            0,
-            0,
-            0,
-            3,
-            0x6c616200,
-            12,
-            0x686f7374,
-            0x732e6279,
-            0x61646472,
-            5,
-            0x616c7068,
-            0x61000000,
-        ],
-        &[0x8000_0020, 13, 1, 0, 0, 0, 0, 0xffff_ffff, 0],
-    ),
-];
-
-/// Words that are no sentence, the word that is wrong, and how that is told.
-const USAGE: [(&[&str], usize, &str); 9] = [
-    (&[], 0, "yp: usage at word 0\n"),
-    (&["frob"], 0, "yp: usage at word 0\n"),
-    (&["once"], 1, "yp: usage at word 1\n"),
-    (&["once", "lab"], 1, "yp: usage at word 1\n"),
-    (&["once", "lab/a/b"], 1, "yp: usage at word 1\n"),
-    (&["once", ".lab/a"], 1, "yp: usage at word 1\n"),
-    (&["once", "lab/m", "=v"], 2, "yp: usage at word 2\n"),
-    (&["once", "lab/m", "k=v", "k"], 3, "yp: usage at word 3\n"),
-    (&["Once", "lab/m"], 0, "yp: usage at word 0\n"),
-];
-
-fn bytes(alloc: Global, numbers: &[u32]) -> Result<Vec<u8>, AllocError> {
-    let mut all = Vec::new(alloc);
-    for number in numbers {
-        all.extend_from_slice(&number.to_be_bytes())?;
+/// The bytes of texts of hexadecimal words.
+fn bytes(alloc: Global, texts: &[&str]) -> Result<Vec<u8>, Fail> {
+    let mut bytes = Vec::new(alloc);
+    for word in texts.iter().flat_map(|text| text.split_whitespace()) {
+        bytes.extend_from_slice(&hex::decode(alloc, word)?)?;
     }
-    Ok(all)
+    Ok(bytes)
 }
 
 fn strings(alloc: Global, words: &[&str]) -> Result<Vec<String>, AllocError> {
@@ -228,10 +79,22 @@ fn strings(alloc: Global, words: &[&str]) -> Result<Vec<String>, AllocError> {
     Ok(owned)
 }
 
-/// A case: what is read, and what is to come of it.
+/// A row whose value is so many bytes `x`.
+fn long_row(alloc: Global, key: &[u8], len: usize) -> Result<String, AllocError> {
+    let mut row = String::new(alloc);
+    for byte in key {
+        row.push(char::from(*byte))?;
+    }
+    row.push('=')?;
+    for _ in 0..len {
+        row.push('x')?;
+    }
+    Ok(row)
+}
+
+/// A run: what is read, and what is to come of it.
 #[derive(Clone, Copy)]
 struct Case<'a> {
-    words: &'a [&'a str],
     input: &'a [u8],
     weather: Weather<'a>,
     status: Status,
@@ -239,8 +102,25 @@ struct Case<'a> {
     note: &'a str,
 }
 
-/// Runs the case over memory, and compares.
-fn try_case(rt: &impl Abort, alloc: Global, name: &str, case: &Case<'_>) -> Result<(), AllocError> {
+/// A run in fair weather that ends well.
+fn answered<'a>(input: &'a [u8], output: &'a [u8]) -> Case<'a> {
+    Case {
+        input,
+        weather: FAIR,
+        status: Status::Done,
+        output,
+        note: "",
+    }
+}
+
+/// Runs the words over memory, and compares.
+fn try_words<R: RandomSource + Abort>(
+    rt: &R,
+    alloc: Global,
+    words: &[String],
+    name: &str,
+    case: &Case<'_>,
+) -> Result<(), AllocError> {
     let outside = Outside {
         input: MemSource::new(
             Vec::from_slice(alloc, case.input)?,
@@ -250,54 +130,162 @@ fn try_case(rt: &impl Abort, alloc: Global, name: &str, case: &Case<'_>) -> Resu
         output: MemSink::new(alloc, 4096, Vec::from_slice(alloc, case.weather.writes)?),
         notes: MemSink::new(alloc, 4096, Vec::new(alloc)),
     };
-    let (status, outside) = run(alloc, &strings(alloc, case.words)?, outside);
+    let (status, outside) = run(alloc, rt, words, outside);
     assert_eq!(rt; status, case.status, "{name}");
     assert_eq!(rt; outside.output.taken(), case.output, "{name}");
     assert_eq!(rt; outside.notes.taken(), case.note.as_bytes(), "{name}");
     Ok(())
 }
 
-/// A case in fair weather that ends well.
-fn answered<'a>(input: &'a [u8], output: &'a [u8]) -> Case<'a> {
-    Case {
-        words: &SERVED,
-        input,
-        weather: FAIR,
-        status: Status::Done,
-        output,
-        note: "",
-    }
-}
-
-/// A case in fair weather that ends with this status.
-fn try_ended(
-    rt: &impl Abort,
+/// Runs the words that serve one row.
+fn try_case<R: RandomSource + Abort>(
+    rt: &R,
     alloc: Global,
-    input: &[u8],
-    output: &[u8],
-    status: Status,
-    note: &str,
+    name: &str,
+    case: &Case<'_>,
 ) -> Result<(), AllocError> {
-    let case = Case {
-        status,
-        note,
-        ..answered(input, output)
-    };
-    try_case(rt, alloc, note, &case)
+    try_words(rt, alloc, &strings(alloc, &SERVED)?, name, case)
 }
 
-/// Bytes of several parts.
-fn joined(alloc: Global, parts: &[&[u8]]) -> Result<Vec<u8>, AllocError> {
-    let mut all = Vec::new(alloc);
-    for part in parts {
-        all.extend_from_slice(part)?;
+/// Calls that are answered well, and the replies.
+const ANSWERED: [(&str, &[&str], &[&str]); 10] = [
+    ("no call", &[], &[]),
+    ("two calls", &[MATCH, MATCH], &[MATCH_REPLY, MATCH_REPLY]),
+    (
+        "noise before a call",
+        &["80000008 00000001 00000000", MATCH],
+        &[MATCH_REPLY],
+    ),
+    (
+        "RPC version 3",
+        &["8000000c 00000002 00000000 00000003"],
+        &["80000018 00000002 00000001 00000001 00000000 00000002 00000002"],
+    ),
+    (
+        "XFR and the program of make",
+        &[
+            "80000028 00000004 00000000 00000002 000186a4 00000002 00000006
+                00000000 00000000 00000000 00000000",
+            "80000028 00000005 00000000 00000002 20000101 00000001 00000001
+                00000000 00000000 00000000 00000000",
+        ],
+        &[
+            "80000018 00000004 00000001 00000000 00000000 00000000 00000003",
+            "80000018 00000005 00000001 00000000 00000000 00000000 00000001",
+        ],
+    ),
+    (
+        "DOMAIN_NONACK of zzz, then NULL",
+        &[
+            "80000030 00000006 00000000 00000002 000186a4 00000002 00000002
+                00000000 00000000 00000000 00000000 00000003 7a7a7a00",
+            "80000028 00000007 00000000 00000002 000186a4 00000002 00000000
+                00000000 00000000 00000000 00000000",
+        ],
+        &["80000018 00000007 00000001 00000000 00000000 00000000 00000000"],
+    ),
+    (
+        "FIRST, then NEXT of its key",
+        &[
+            "80000040 00000001 00000000 00000002 000186a4 00000002 00000004
+                00000000 00000000 00000000 00000000",
+            LAB,
+            HOSTS,
+            "8000004c 00000001 00000000 00000002 000186a4 00000002 00000005
+                00000000 00000000 00000000 00000000",
+            LAB,
+            HOSTS,
+            ALPHA,
+        ],
+        &[
+            "8000003c",
+            SUCCESS,
+            "00000001",
+            ADDRESS,
+            ALPHA,
+            "80000024",
+            SUCCESS,
+            "00000002 00000000 00000000",
+        ],
+    ),
+    (
+        "ALL",
+        &[
+            "80000040 00000001 00000000 00000002 000186a4 00000002 00000008
+                00000000 00000000 00000000 00000000",
+            LAB,
+            HOSTS,
+        ],
+        &[
+            "80000044",
+            SUCCESS,
+            "00000001 00000001",
+            ADDRESS,
+            ALPHA,
+            "00000000",
+        ],
+    ),
+    (
+        "MASTER and ORDER",
+        &[
+            "80000040 00000001 00000000 00000002 000186a4 00000002 00000009
+                00000000 00000000 00000000 00000000",
+            LAB,
+            HOSTS,
+            "80000040 00000001 00000000 00000002 000186a4 00000002 0000000a
+                00000000 00000000 00000000 00000000",
+            LAB,
+            HOSTS,
+        ],
+        &[
+            "80000024",
+            SUCCESS,
+            "00000001 00000004 6f6e6365",
+            "80000020",
+            SUCCESS,
+            "00000001 00000001",
+        ],
+    ),
+    (
+        "MAPLIST",
+        &[
+            "80000030 00000001 00000000 00000002 000186a4 00000002 0000000b
+                00000000 00000000 00000000 00000000",
+            LAB,
+        ],
+        &["80000034", SUCCESS, "00000001 00000001", HOSTS, "00000000"],
+    ),
+];
+
+#[test]
+fn first_match(rt: HostRuntime) -> Result<(), Fail> {
+    let alloc = rt.alloc();
+    let call = bytes(alloc, &[MATCH])?;
+    let reply = bytes(alloc, &[MATCH_REPLY])?;
+    for weather in EACH_PIECE {
+        let case = Case {
+            weather,
+            ..answered(&call, &reply)
+        };
+        try_case(&rt, alloc, "one call", &case)?;
     }
-    Ok(all)
+    Ok(())
+}
+
+#[test]
+fn calls_answered(rt: HostRuntime) -> Result<(), Fail> {
+    let alloc = rt.alloc();
+    for (name, calls, replies) in ANSWERED {
+        let calls = bytes(alloc, calls)?;
+        let replies = bytes(alloc, replies)?;
+        try_case(&rt, alloc, name, &answered(&calls, &replies))?;
+    }
+    Ok(())
 }
 
 /// The call of MATCH, each of its bytes in a fragment of its own, and an empty fragment after the tenth.
-fn in_many_fragments(alloc: Global) -> Result<Vec<u8>, AllocError> {
-    let call = bytes(alloc, &MATCH_CALL)?;
+fn in_many_fragments(alloc: Global) -> Result<Vec<u8>, Fail> {
+    let call = bytes(alloc, &[MATCH])?;
     let mut all = Vec::new(alloc);
     for (i, byte) in call.iter().enumerate() {
         if i >= 4 {
@@ -312,73 +300,10 @@ fn in_many_fragments(alloc: Global) -> Result<Vec<u8>, AllocError> {
     Ok(all)
 }
 
-/// The call of MATCH behind so many empty fragments.
-fn behind_empty_fragments(alloc: Global, count: usize) -> Result<Vec<u8>, AllocError> {
-    let mut all = vec![in alloc; 0; 0]?;
-    for _ in 0..count {
-        all.extend_from_slice(&[0; 4])?;
-    }
-    all.extend_from_slice(&bytes(alloc, &MATCH_CALL)?)?;
-    Ok(all)
-}
-
-/// A call of MATCH with xid 1, whose key is so many bytes `k`.
-fn with_key_of(alloc: Global, len: u32) -> Result<Vec<u8>, AllocError>
-    requires { len < 4096 }
-{
-    let padded = len.next_multiple_of(4);
-    let mut all = bytes(
-        alloc,
-        &[
-            0x8000_0044 + padded,
-            1,
-            0,
-            2,
-            100_004,
-            2,
-            3,
-            0,
-            0,
-            0,
-            0,
-            3,
-            0x6c616200,
-            12,
-            0x686f7374,
-            0x732e6279,
-            0x6e616d65,
-            len,
-        ],
-    )?;
-    for i in 0..padded {
-        all.push(if i < len { b'k' } else { 0 })?;
-    }
-    Ok(all)
-}
-
-#[test]
-fn first_match(rt: HostRuntime) -> Result<(), Fail> {
-    let alloc = rt.alloc();
-    let call = bytes(alloc, &MATCH_CALL)?;
-    let reply = bytes(alloc, &MATCH_REPLY)?;
-    for weather in EACH_PIECE {
-        let case = Case {
-            weather,
-            ..answered(&call, &reply)
-        };
-        try_case(&rt, alloc, "one call", &case)?;
-    }
-    try_case(&rt, alloc, "no call", &answered(&[], &[]))?;
-    let calls = joined(alloc, &[&call, &call])?;
-    let replies = joined(alloc, &[&reply, &reply])?;
-    try_case(&rt, alloc, "two calls", &answered(&calls, &replies))?;
-    Ok(())
-}
-
 #[test]
 fn many_fragments(rt: HostRuntime) -> Result<(), Fail> {
     let alloc = rt.alloc();
-    let reply = bytes(alloc, &MATCH_REPLY)?;
+    let reply = bytes(alloc, &[MATCH_REPLY])?;
     let call = in_many_fragments(alloc)?;
     assert_eq!(rt; call.len(), 384);
     for weather in EACH_PIECE {
@@ -391,139 +316,225 @@ fn many_fragments(rt: HostRuntime) -> Result<(), Fail> {
     Ok(())
 }
 
+/// The call of MATCH behind so many empty fragments.
+fn behind_empty_fragments(alloc: Global, count: usize) -> Result<Vec<u8>, Fail> {
+    let mut all = Vec::new(alloc);
+    for _ in 0..count {
+        all.extend_from_slice(&[0; 4])?;
+    }
+    all.extend_from_slice(&bytes(alloc, &[MATCH])?)?;
+    Ok(all)
+}
+
 #[test]
 fn empty_fragments(rt: HostRuntime) -> Result<(), Fail> {
     let alloc = rt.alloc();
-    let reply = bytes(alloc, &MATCH_REPLY)?;
     let most = behind_empty_fragments(alloc, 1024)?;
-    try_ended(&rt, alloc, &most, &reply, Status::Done, "")?;
+    let reply = bytes(alloc, &[MATCH_REPLY])?;
+    try_case(&rt, alloc, "1,024", &answered(&most, &reply))?;
     let too_many = behind_empty_fragments(alloc, 1025)?;
-    let status = Status::TooLong { at: 0 };
-    try_ended(&rt, alloc, &too_many, &[], status, "yp: too long at 0\n")?;
+    let case = Case {
+        status: Status::TooLong { at: 0 },
+        note: "yp: too long at 0\n",
+        ..answered(&too_many, &[])
+    };
+    try_case(&rt, alloc, "1,025", &case)?;
     Ok(())
 }
+
+/// Input that ends in no record, what comes out before, the status and its note.
+const BROKEN: [(&[&str], &[&str], Status, &str); 6] = [
+    (
+        &["800000"],
+        &[],
+        Status::Torn { at: 0 },
+        "yp: torn record at 0\n",
+    ),
+    (
+        &[MATCH, "800000"],
+        &[MATCH_REPLY],
+        Status::Torn { at: 80 },
+        "yp: torn record at 80\n",
+    ),
+    (
+        &["80040001"],
+        &[],
+        Status::TooLong { at: 0 },
+        "yp: too long at 0\n",
+    ),
+    (
+        &[MATCH, "80040001"],
+        &[MATCH_REPLY],
+        Status::TooLong { at: 80 },
+        "yp: too long at 80\n",
+    ),
+    (
+        &["ffffffff"],
+        &[],
+        Status::TooLong { at: 0 },
+        "yp: too long at 0\n",
+    ),
+    (
+        &["7fffffff"],
+        &[],
+        Status::TooLong { at: 0 },
+        "yp: too long at 0\n",
+    ),
+];
 
 #[test]
 fn torn_and_long(rt: HostRuntime) -> Result<(), Fail> {
     let alloc = rt.alloc();
-    let call = bytes(alloc, &MATCH_CALL)?;
-    let reply = bytes(alloc, &MATCH_REPLY)?;
-    let torn = [0x80, 0, 0];
-    let status = Status::Torn { at: 0 };
-    try_ended(&rt, alloc, &torn, &[], status, "yp: torn record at 0\n")?;
-    let then_torn = joined(alloc, &[&call, &torn])?;
-    let status = Status::Torn { at: 80 };
-    try_ended(
-        &rt,
-        alloc,
-        &then_torn,
-        &reply,
-        status,
-        "yp: torn record at 80\n",
-    )?;
-    for head in [0x8000_2001, 0xffff_ffff, 0x7fff_ffff] {
-        let long = bytes(alloc, &[head])?;
-        let status = Status::TooLong { at: 0 };
-        try_ended(&rt, alloc, &long, &[], status, "yp: too long at 0\n")?;
-    }
-    Ok(())
-}
-
-#[test]
-fn refusal_heads(rt: HostRuntime) -> Result<(), Fail> {
-    let alloc = rt.alloc();
-    let noise = bytes(alloc, &[0x8000_0008, 1, 0])?;
-    let call = bytes(alloc, &MATCH_CALL)?;
-    let reply = bytes(alloc, &MATCH_REPLY)?;
-    let after_noise = joined(alloc, &[&noise, &call])?;
-    try_case(
-        &rt,
-        alloc,
-        "noise before a call",
-        &answered(&after_noise, &reply),
-    )?;
-    for (name, call, reply) in HEAD_ALONE {
-        let call = bytes(alloc, call)?;
-        let reply = bytes(alloc, reply)?;
-        try_case(&rt, alloc, name, &answered(&call, &reply))?;
-    }
-    Ok(())
-}
-
-#[test]
-fn statuses_of_match(rt: HostRuntime) -> Result<(), Fail> {
-    let alloc = rt.alloc();
-    for (name, call, reply) in NO_VALUE {
-        let call = bytes(alloc, call)?;
-        let reply = bytes(alloc, reply)?;
-        try_case(&rt, alloc, name, &answered(&call, &reply))?;
-    }
-    Ok(())
-}
-
-#[test]
-fn absent_and_long_key(rt: HostRuntime) -> Result<(), Fail> {
-    let alloc = rt.alloc();
-    let absent = bytes(alloc, &[0x8000_0020, 1, 1, 0, 0, 0, 0, 0xffff_fffd, 0])?;
-    let garbage = bytes(alloc, &[0x8000_0018, 1, 1, 0, 0, 0, 4])?;
-    let longest = with_key_of(alloc, 1024)?;
-    assert!(rt; longest.starts_with(&[0x80, 0, 4, 0x44]));
-    try_case(
-        &rt,
-        alloc,
-        "a key of 1,024 bytes",
-        &answered(&longest, &absent),
-    )?;
-    let longer = with_key_of(alloc, 1025)?;
-    try_case(
-        &rt,
-        alloc,
-        "a key of 1,025 bytes",
-        &answered(&longer, &garbage),
-    )?;
-    Ok(())
-}
-
-#[test]
-fn first_of_equal_keys(rt: HostRuntime) -> Result<(), Fail> {
-    let alloc = rt.alloc();
-    let call = bytes(alloc, &MATCH_CALL)?;
-    let reply = bytes(alloc, &[0x8000_0024, 1, 1, 0, 0, 0, 0, 1, 3, 0x6f6e6500])?;
-    let case = Case {
-        words: &[
-            "once",
-            "lab/hosts.byname",
-            "beta=two",
-            "alpha=one",
-            "alpha=two",
-        ],
-        ..answered(&call, &reply)
-    };
-    try_case(&rt, alloc, "alpha stands twice", &case)?;
-    Ok(())
-}
-
-#[test]
-fn usage_words(rt: HostRuntime) -> Result<(), Fail> {
-    let alloc = rt.alloc();
-    for (words, word, note) in USAGE {
+    for (input, output, status, note) in BROKEN {
+        let input = bytes(alloc, input)?;
+        let output = bytes(alloc, output)?;
         let case = Case {
-            words,
-            status: Status::Usage { word },
+            status,
             note,
-            ..answered(&[], &[])
+            ..answered(&input, &output)
         };
         try_case(&rt, alloc, note, &case)?;
     }
     Ok(())
 }
 
+/// A call of MATCH, xid 1, whose key is so many bytes `k`, given the head of its record and the length in hexadecimal.
+fn with_key_of(alloc: Global, head: &str, len: &str, count: usize) -> Result<Vec<u8>, Fail> {
+    let before = "00000001 00000000 00000002 000186a4 00000002 00000003
+        00000000 00000000 00000000 00000000";
+    let mut all = bytes(alloc, &[head, before, LAB, HOSTS, len])?;
+    for _ in 0..count {
+        all.push(b'k')?;
+    }
+    while all.len() % 4 != 0 {
+        all.push(0)?;
+    }
+    Ok(all)
+}
+
+#[test]
+fn absent_and_long_key(rt: HostRuntime) -> Result<(), Fail> {
+    let alloc = rt.alloc();
+    let absent = bytes(alloc, &["80000020", SUCCESS, "fffffffd 00000000"])?;
+    let garbage = bytes(
+        alloc,
+        &["80000018 00000001 00000001 00000000 00000000 00000000 00000004"],
+    )?;
+    // The key stands behind 40 bytes of head, 24 of names and 4 of its length.
+    let key = with_key_of(alloc, "80000448", "00000401", 1025)?;
+    try_case(&rt, alloc, "1,025 bytes", &answered(&key, &absent))?;
+    let key = with_key_of(alloc, "80010044", "00010000", 65_536)?;
+    try_case(&rt, alloc, "65,536 bytes", &answered(&key, &absent))?;
+    let key = with_key_of(alloc, "80010048", "00010001", 65_537)?;
+    try_case(&rt, alloc, "65,537 bytes", &answered(&key, &garbage))?;
+    Ok(())
+}
+
+#[test]
+fn value_in_nine_fragments(rt: HostRuntime) -> Result<(), Fail> {
+    let alloc = rt.alloc();
+    let mut words = strings(alloc, &["once", "lab/hosts.byname"])?;
+    words.push(long_row(alloc, b"alpha", 65_536)?)?;
+    let call = bytes(alloc, &[MATCH])?;
+    // Eight fragments of 8,192 bytes, the first of which begins with 32 bytes before the value, and one of 32.
+    let mut reply = bytes(alloc, &["00002000", SUCCESS, "00000001 00010000"])?;
+    for i in 32..65_568 {
+        if i == 65_536 {
+            reply.extend_from_slice(&bytes(alloc, &["80000020"])?)?;
+        } else if i % 8192 == 0 {
+            reply.extend_from_slice(&bytes(alloc, &["00002000"])?)?;
+        }
+        reply.push(b'x')?;
+    }
+    assert_eq!(rt; reply.len(), 65_604);
+    try_words(&rt, alloc, &words, "a long value", &answered(&call, &reply))?;
+    Ok(())
+}
+
+#[test]
+fn first_of_equal_keys(rt: HostRuntime) -> Result<(), Fail> {
+    let alloc = rt.alloc();
+    let words = strings(
+        alloc,
+        &[
+            "once",
+            "lab/hosts.byname",
+            "beta=two",
+            "alpha=one",
+            "alpha=two",
+        ],
+    )?;
+    let call = bytes(alloc, &[MATCH])?;
+    let reply = bytes(alloc, &["80000024", SUCCESS, "00000001 00000003 6f6e6500"])?;
+    let case = answered(&call, &reply);
+    try_words(&rt, alloc, &words, "alpha stands twice", &case)?;
+    Ok(())
+}
+
+#[test]
+fn rows_past_a_limit(rt: HostRuntime) -> Result<(), Fail> {
+    let alloc = rt.alloc();
+    let mut words = strings(alloc, &["once", "lab/hosts.byname"])?;
+    // The body of a version is at most 16,777,216 bytes: 20 at its front, and 65,548 of each row.
+    for first in b'A'..=b'P' {
+        for second in b'A'..=b'P' {
+            words.push(long_row(alloc, &[first, second], 65_536)?)?;
+        }
+    }
+    let call = bytes(alloc, &[MATCH])?;
+    let case = Case {
+        status: Status::Rows { row: 257, rule: 4 },
+        note: "yp: row 257 rule 4\n",
+        ..answered(&call, &[])
+    };
+    try_words(&rt, alloc, &words, "256 rows", &case)?;
+    let absent = bytes(alloc, &["80000020", SUCCESS, "fffffffd 00000000"])?;
+    let case = answered(&call, &absent);
+    try_words(&rt, alloc, &words[..257], "255 rows", &case)?;
+    Ok(())
+}
+
+/// Words that are no sentence, the word that is wrong, and how that is told.
+const USAGE: [(&[&str], usize, &str); 9] = [
+    (&[], 0, "yp: usage at word 0\n"),
+    (&["frob"], 0, "yp: usage at word 0\n"),
+    (&["once"], 1, "yp: usage at word 1\n"),
+    (&["once", "lab"], 1, "yp: usage at word 1\n"),
+    (&["once", "lab/a/b"], 1, "yp: usage at word 1\n"),
+    (&["once", ".lab/a"], 1, "yp: usage at word 1\n"),
+    (&["once", "lab/m", "=v"], 2, "yp: usage at word 2\n"),
+    (&["once", "lab/m", "k=v", "k"], 3, "yp: usage at word 3\n"),
+    (&["Once", "lab/m"], 0, "yp: usage at word 0\n"),
+];
+
+#[test]
+fn usage_words(rt: HostRuntime) -> Result<(), Fail> {
+    let alloc = rt.alloc();
+    let call = bytes(alloc, &[MATCH])?;
+    for (words, word, note) in USAGE {
+        let case = Case {
+            status: Status::Usage { word },
+            note,
+            ..answered(&call, &[])
+        };
+        try_words(&rt, alloc, &strings(alloc, words)?, note, &case)?;
+    }
+    let mut words = strings(alloc, &["once", "lab/m"])?;
+    words.push(long_row(alloc, b"k", 65_537)?)?;
+    let case = Case {
+        status: Status::Usage { word: 2 },
+        note: "yp: usage at word 2\n",
+        ..answered(&call, &[])
+    };
+    try_words(&rt, alloc, &words, "a long value", &case)?;
+    Ok(())
+}
+
 #[test]
 fn one_failing_call(rt: HostRuntime) -> Result<(), Fail> {
     let alloc = rt.alloc();
-    let call = bytes(alloc, &MATCH_CALL)?;
-    let reply = bytes(alloc, &MATCH_REPLY)?;
-    let calls = joined(alloc, &[&call, &call])?;
+    let calls = bytes(alloc, &[MATCH, MATCH])?;
+    let reply = bytes(alloc, &[MATCH_REPLY])?;
     // Each record takes a read for its head and one for its body, each reply a write and a flush.
     for (number, output) in [(0, false), (1, false), (2, true), (3, true)] {
         let case = Case {
@@ -568,6 +579,14 @@ fn codes_and_notes(rt: HostRuntime) -> Result<(), Fail> {
         ),
         (Status::TooLong { at: 80 }, 6, "yp: too long at 80\n"),
         (Status::NoMemory, 7, "yp: no memory\n"),
+        (
+            Status::Rows {
+                row: u32::MAX,
+                rule: 3,
+            },
+            17,
+            "yp: row 4294967295 rule 3\n",
+        ),
         (Status::Enough, 23, "yp: enough calls\n"),
     ] {
         assert_eq!(rt; status.code(), code, "{status:?}");

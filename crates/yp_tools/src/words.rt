@@ -1,12 +1,13 @@
 //! The words of the command line.
 
-ghost use Rattle.std.specs.Prelude.{◌≡◌, ◌+◌, ◌≤◌, ◌<◌, IsTrue, Some, Ok, IfOk, IfErr, length, map};
+ghost use Rattle.std.specs.Prelude.{◌≡◌, ◌+◌, ◌≤◌, ◌<◌, IsTrue, [], ◌∷◌, None, Some, Ok, IfOk, IfErr, length, map, option_map, if◌then◌else◌};
 ghost use Rattle.std.specs.List.{list_all};
-ghost use Rattle.yp_tools.specs.Words.{is_name_byte, is_name, is_store, is_row, Row, once, fits_to, further_fitting, Once, served_by, command_of, meaning, row_of, row_view, before, after, texts, IsUsage};
+ghost use Rattle.yp_tools.specs.Words.{is_name_byte, is_name, is_store, is_row, number_of, Pair, once, sample, is_whole, sample_of, fits_to, fitting, Number, further_fitting, Once, name_of, command_of, meaning, row_of, row_view, before, after, texts, IsUsage};
 
-use crate::command::{Command, KeyValue, MapName};
-use crate::protocol::{KEY_MAX, NAME_MAX, VALUE_MAX};
+use crate::command::{Command, KeyValue};
 use std::alloc::{AllocError, Global};
+use yp_board::{MapName, NAME_MAX};
+use yp_version::{KEY_MAX, VALUE_MAX};
 
 /// Why the words are no command.
 #[derive(Clone, Copy, Debug, PartialEq, Eq)]
@@ -56,6 +57,16 @@ fn is_row(word: &str) -> bool
     })
 }
 
+/// A number of 32 bits in decimal, without a sign and without zeros in front.
+fn number_of(word: &str) -> Option<u32>
+    ensures { result ≡ number_of word.now }
+{
+    match word.parse::<u32>() {
+        Ok(number) if itoa::Buffer::new().format(number) == word => Some(number),
+        _ => None,
+    }
+}
+
 /// How many words at the front are as the sentence `once` has them.
 fn once_fits(words: &[String]) -> usize
     ensures value { result ≡ fits_to (texts words.now) once }
@@ -78,7 +89,7 @@ fn once_fits(words: &[String]) -> usize
 
 /// How many words at the front are rows.
 fn rows_fit(words: &[String]) -> usize
-    ensures value { result ≡ further_fitting (Some Row) (texts words.now) }
+    ensures value { result ≡ further_fitting (Some Pair) (texts words.now) }
     ensures within { result ≤ length words.now }
 {
     for (i, word) in words.iter().enumerate() {
@@ -87,6 +98,53 @@ fn rows_fit(words: &[String]) -> usize
         }
     }
     words.len()
+}
+
+/// How many words at the front are as the sentence `sample` has them.
+fn sample_fits(words: &[String]) -> usize
+    ensures value { result ≡ fits_to (texts words.now) sample }
+    ensures within { result ≤ length words.now }
+{
+    let Some((first, further)) = words.split_first() else {
+        return 0;
+    };
+    if first.as_str() != "sample" {
+        return 0;
+    }
+    1 + numbers_fit(further)
+}
+
+/// How many words at the front are numbers, up to two.
+fn numbers_fit(words: &[String]) -> usize
+    ensures value { result ≡ fitting (Number ∷ Number ∷ []) None (texts words.now) }
+    ensures within { result ≤ length words.now }
+{
+    let Some((start, further)) = words.split_first() else {
+        return 0;
+    };
+    if number_of(start.as_str()).is_none() {
+        return 0;
+    }
+    let Some((count, _)) = further.split_first() else {
+        return 1;
+    };
+    if number_of(count.as_str()).is_none() {
+        return 1;
+    }
+    2
+}
+
+/// The command `sample`, where the words are that sentence.
+fn sample_of(words: &[String]) -> Option<Command>
+    ensures { option_map meaning result ≡ (if is_whole (texts words.now) sample then Some (sample_of (texts words.now)) else None) }
+{
+    if words.len() != 3 || words[0].as_str() != "sample" {
+        return None;
+    }
+    Some(Command::Sample {
+        start: number_of(words[1].as_str())?,
+        count: number_of(words[2].as_str())?,
+    })
 }
 
 /// What stands before and after the first such mark.
@@ -110,7 +168,6 @@ fn store_of(alloc: Global, word: &str) -> Result<MapName, AllocError>
 }
 
 fn row_of(alloc: Global, word: &str) -> Result<KeyValue, AllocError>
-    requires { IsTrue (is_row word.now) }
     ensures { IfOk result (λ row. row_view row ≡ row_of word.now) }
 {
     let (key, value) = cut_at(word, '=');
@@ -121,7 +178,6 @@ fn row_of(alloc: Global, word: &str) -> Result<KeyValue, AllocError>
 }
 
 fn rows_of(alloc: Global, words: &[String]) -> Result<Vec<KeyValue>, AllocError>
-    requires { further_fitting (Some Row) (texts words.now) ≡ length words.now }
     ensures { IfOk result (λ rows. map row_view rows.items ≡ map row_of (texts words.now)) }
 {
     let mut rows = Vec::new(alloc);
@@ -132,8 +188,7 @@ fn rows_of(alloc: Global, words: &[String]) -> Result<Vec<KeyValue>, AllocError>
 }
 
 fn once_of(alloc: Global, store: &str, rows: &[String]) -> Result<Command, AllocError>
-    requires { further_fitting (Some Row) (texts rows.now) ≡ length rows.now }
-    ensures { IfOk result (λ command. meaning command ≡ Once (served_by store.now (texts rows.now))) }
+    ensures { IfOk result (λ command. meaning command ≡ Once (name_of store.now) (map row_of (texts rows.now))) }
 {
     Ok(Command::Once {
         store: store_of(alloc, store)?,
@@ -147,11 +202,16 @@ pub fn parse(alloc: Global, words: &[String]) -> Result<Command, ParseFault>
     ensures usage { IfErr result (IsUsage (command_of (texts words.now))) }
 {
     let fits = once_fits(words);
-    if words.len() < 2 || fits < words.len() {
-        return Err(ParseFault::Usage { word: fits });
+    if words.len() >= 2 && fits == words.len() {
+        return match once_of(alloc, words[1].as_str(), &words[2..]) {
+            Ok(command) => Ok(command),
+            Err(_) => Err(ParseFault::NoMemory),
+        };
     }
-    match once_of(alloc, words[1].as_str(), &words[2..]) {
-        Ok(command) => Ok(command),
-        Err(_) => Err(ParseFault::NoMemory),
+    match sample_of(words) {
+        Some(command) => Ok(command),
+        None => Err(ParseFault::Usage {
+            word: fits.max(sample_fits(words)),
+        }),
     }
 }

@@ -1,9 +1,11 @@
 -- What joins writing and reading, for values of every kind.
-use Rattle.std.specs.Prelude.{◌≡◌, ℕ, ◌+◌, List, [], ◌++◌, length, Ok, Err}
+use Rattle.std.specs.Prelude.{◌≡◌, ℕ, ◌+◌, ◌≤◌, List, [], ◌++◌, length, Result, Ok, Err}
 use Rattle.yp_xdr.specs.declared.fault.XdrFault.{XdrFault}
-use Rattle.yp_xdr.specs.Kind.{Kind, Value}
+use Rattle.yp_xdr.specs.declared.fault.NoRoom.{NoRoom}
+use Rattle.yp_xdr.specs.Kind.{Kind, ListOf, Value}
 use Rattle.yp_xdr.specs.Spelling.{Spells}
-use Rattle.yp_xdr.specs.Reading.{Unread, reading, BeginsWith, BeginsWithNone, IsBytes}
+use Rattle.yp_xdr.specs.Reading.{Unread, elements_at, reading, BeginsWith, BeginsWithNone, IsBytes}
+use Rattle.yp_xdr.specs.Writing.{written, Writes, Sets}
 
 -- a value has one spelling
 abbrev pub OneSpelling : Type 0
@@ -25,3 +27,20 @@ ReadIsSpelled = (kind : Kind) (old new : Unread) (value : Value kind) → IsByte
 -- bytes that are refused begin with no spelling
 abbrev pub RefusedIsNotSpelled : Type 0
 RefusedIsNotSpelled = (kind : Kind) (old : Unread) (fault : XdrFault) → reading kind old ≡ Err fault → BeginsWithNone kind old.bytes
+
+-- a list is read element by element
+abbrev pub ListIsReadInTurn : Type 0
+ListIsReadInTurn = (kind : Kind) (left : Unread) → IsBytes left.bytes → reading (ListOf kind) left ≡ elements_at (reading kind) (reading (ListOf kind)) left
+
+-- bytes that are written behind others stand there as if both were written at once
+abbrev pub WrittenIsJoined : Type 0
+WrittenIsJoined = (buf : List ℕ) (at : ℕ) (one other : List ℕ) → at ≤ length buf → written (written buf at one) (at + length one) other ≡ written buf at (one ++ other)
+
+-- two writers in turn are one writer, where there is room for both
+abbrev pub WritersJoin : Type 0
+WritersJoin = (one other : List ℕ) (at mid : ℕ) (result : Result ℕ NoRoom) (old half new : List ℕ) → at + length (one ++ other) ≤ length old
+    → Writes one at (Ok mid) old half → Writes other mid result half new → Writes (one ++ other) at result old new
+
+-- the same of two writers that need the room
+abbrev pub SetsJoin : Type 0
+SetsJoin = (one other : List ℕ) (at mid end : ℕ) (old half new : List ℕ) → Sets one at mid old half → Sets other mid end half new → Sets (one ++ other) at end old new

@@ -1,10 +1,10 @@
 -- What a reader answers: the value that the next bytes spell, or the fault of the first item that is refused.
-use Rattle.std.specs.Prelude.{◌≡◌, ℕ, ◌+◌, ◌<◌, List, ◌++◌, length, take, drop, Option, Some, None, Result, Ok, Err, not, nat_lt, ◌==◌, if◌then◌else◌, position, slice_index}
+use Rattle.std.specs.Prelude.{◌≡◌, ℕ, ℤ, zero, suc, ◌+◌, ◌<◌, Bool, true, false, List, [], ◌∷◌, ◌++◌, length, take, drop, Option, Some, None, Result, Ok, Err, not, nat_lt, ◌==◌, if◌then◌else◌, position, slice_index}
 use Rattle.std.specs.Int.{w32, from_be_bytes, cast_signed}
 use Rattle.yp_xdr.specs.declared.fault.XdrFault.{XdrFault}
-use Rattle.yp_xdr.specs.declared.fault.XdrFault.TheVariants.{Short, TooLong, Pad}
-use Rattle.yp_xdr.specs.Kind.{Kind, U32, I32, Opaque, Sequence, Value}
-use Rattle.yp_xdr.specs.Spelling.{padding_len, Spells}
+use Rattle.yp_xdr.specs.declared.fault.XdrFault.TheVariants.{Short, TooLong, Pad, BadBool, BadEnum}
+use Rattle.yp_xdr.specs.Kind.{Kind, U32, I32, Boolean, Enum, Fixed, Opaque, Sequence, Optional, ListOf, Value}
+use Rattle.yp_xdr.specs.Spelling.{is_one_of, padding_len, Spells}
 
 -- what is left to read: the place of its first byte, and its bytes
 pub record Unread : Type 0 where
@@ -26,6 +26,24 @@ word_at left =
     if nat_lt (length left.bytes) 4
     then Err (Short left.at)
     else Ok (from_be_bytes w32 (take 4 left.bytes), past 4 left)
+
+-- FALSE or TRUE
+unfoldable pub bool_at : Unread → Result (Bool × Unread) XdrFault
+bool_at left = do
+  word ← word_at left
+  if word.0 == 0 then Ok (false, word.1) else if word.0 == 1 then Ok (true, word.1) else Err (BadBool left.at)
+
+-- a signed number
+abbrev pub signed_at : Unread → Result (ℤ × Unread) XdrFault
+signed_at left = do
+  word ← word_at left
+  Ok (cast_signed w32 word.0, word.1)
+
+-- a signed number that is listed
+unfoldable pub one_of_at : List ℤ → Unread → Result (ℤ × Unread) XdrFault
+one_of_at allowed left = do
+  number ← signed_at left
+  if is_one_of allowed number.0 then Ok number else Err (BadEnum left.at)
 
 -- the place of the first byte that isn't zero
 abbrev pub first_nonzero : List ℕ → Option ℕ
@@ -49,17 +67,54 @@ opaque_at max left = do
   len ← word_at left
   if nat_lt max len.0 then Err (TooLong left.at len.0) else content_at left.at len.0 len.1
 
+-- a value that is there
+abbrev pub some_at : {V : Type 0} → (Unread → Result (V × Unread) XdrFault) → Unread → Result (Option V × Unread) XdrFault
+some_at read left = do
+  one ← read left
+  Ok (Some one.0, one.1)
+
+-- a value behind TRUE, or FALSE
+abbrev pub optional_at : {V : Type 0} → (Unread → Result (V × Unread) XdrFault) → Unread → Result (Option V × Unread) XdrFault
+optional_at read left = do
+  more ← bool_at left
+  if more.0 then some_at read more.1 else Ok (None, more.1)
+
+-- a value, and the others behind it
+abbrev pub cons_at : {V : Type 0} → (Unread → Result (V × Unread) XdrFault) → (Unread → Result (List V × Unread) XdrFault) → Unread → Result (List V × Unread) XdrFault
+cons_at read read_others left = do
+  one ← read left
+  others ← read_others one.1
+  Ok (one.0 ∷ others.0, others.1)
+
+-- a value behind TRUE and the others behind it, or FALSE
+abbrev pub elements_at : {V : Type 0} → (Unread → Result (V × Unread) XdrFault) → (Unread → Result (List V × Unread) XdrFault) → Unread → Result (List V × Unread) XdrFault
+elements_at read read_others left = do
+  more ← bool_at left
+  if more.0 then cons_at read read_others more.1 else Ok ([], more.1)
+
+-- Each value behind TRUE, and then FALSE. There are at most n values. As many as there are bytes are enough, since each takes some.
+abbrev pub list_at : {V : Type 0} → (Unread → Result (V × Unread) XdrFault) → ℕ → Unread → Result (List V × Unread) XdrFault
+list_at read zero left = Err (Short left.at)
+list_at read (suc n) left = elements_at read (list_at read n) left
+
 -- the value that the next bytes spell, and what is left behind it; or the fault of the first item that is refused
 abbrev pub reading : (kind : Kind) → Unread → Result (Value kind × Unread) XdrFault
 reading U32 left = word_at left
-reading I32 left = do
-  word ← word_at left
-  Ok (cast_signed w32 word.0, word.1)
+reading I32 left = signed_at left
+reading Boolean left = bool_at left
+reading (Enum allowed) left = one_of_at allowed left
+reading (Fixed n) left = content_at left.at n left
 reading (Opaque max) left = opaque_at max left
 reading (Sequence first second) left = do
   one ← reading first left
   other ← reading second one.1
   Ok ((one.0, other.0), other.1)
+reading (Optional kind) left = optional_at (reading kind) left
+reading (ListOf kind) left = list_at (reading kind) (length left.bytes) left
+
+-- the place behind the last byte
+abbrev pub end_of : Unread → ℕ
+end_of left = left.at + length left.bytes
 
 -- The answer of a reader, seen by view, is what is expected: it has moved to what is left, or not moved at all.
 abbrev pub ReadsAs : {X V : Type 0} → Result (V × Unread) XdrFault → (X → V) → Result X XdrFault → Unread → Unread → Type 0

@@ -1,11 +1,22 @@
 -- How each value is spelled in bytes, by RFC 4506 sections 3 and 4.
-use Rattle.std.specs.Prelude.{◌≡◌, ℕ, ◌-◌, ◌%◌, ◌^◌, ◌<◌, ◌≤◌, List, ◌++◌, length, replicate, FitsSigned}
+use Rattle.std.specs.Prelude.{◌≡◌, ℕ, ◌-◌, ◌%◌, ◌^◌, ◌<◌, ◌≤◌, ℤ, Bool, true, false, IsTrue, List, ◌++◌, length, replicate, flat_map, All, Option, Some, None, IfSome, FitsSigned}
+use Rattle.std.specs.List.{list_any}
+use Rattle.std.specs.Ordering.{int_eq}
 use Rattle.std.specs.Int.{w32, to_be_bytes, cast_unsigned}
-use Rattle.yp_xdr.specs.Kind.{Kind, U32, I32, Opaque, Sequence, Value}
+use Rattle.yp_xdr.specs.Kind.{Kind, U32, I32, Boolean, Enum, Fixed, Opaque, Sequence, Optional, ListOf, Value}
 
 -- four bytes, the highest first
 abbrev pub word : ℕ → List ℕ
 word n = to_be_bytes w32 n
+
+-- FALSE is 0, and TRUE is 1
+abbrev pub truth : Bool → ℕ
+truth false = 0
+truth true = 1
+
+-- it is listed
+abbrev pub is_one_of : List ℤ → ℤ → Bool
+is_one_of allowed z = list_any (λ y. int_eq y z) allowed
 
 -- how many bytes follow n bytes, up to a multiple of four
 abbrev pub padding_len : ℕ → ℕ
@@ -15,23 +26,50 @@ padding_len n = (4 - n % 4) % 4
 abbrev pub padding : ℕ → List ℕ
 padding n = replicate (padding_len n) 0
 
+-- opaque bytes, padded
+unfoldable pub fixed : List ℕ → List ℕ
+fixed content = content ++ padding (length content)
+
 -- opaque bytes behind their length, and padded
 unfoldable pub opaque : List ℕ → List ℕ
-opaque content = word (length content) ++ content ++ padding (length content)
+opaque content = word (length content) ++ fixed content
+
+-- TRUE and a value, by the spelling of such values
+abbrev pub present : {V : Type 0} → (V → List ℕ) → V → List ℕ
+present spell value = word (truth true) ++ spell value
+
+-- a value behind TRUE, or FALSE
+abbrev pub optional : {V : Type 0} → (V → List ℕ) → Option V → List ℕ
+optional spell None = word (truth false)
+optional spell (Some value) = present spell value
+
+-- each value behind TRUE, and then FALSE
+abbrev pub list_of : {V : Type 0} → (V → List ℕ) → List V → List ℕ
+list_of spell values = flat_map (present spell) values ++ word (truth false)
 
 -- the values that a kind has
 abbrev pub Fits : (kind : Kind) → Value kind → Type 0
 Fits U32 n = n < 2 ^ 32
 Fits I32 z = FitsSigned w32 z
+Fits Boolean b = Unit {0}
+Fits (Enum allowed) z = FitsSigned w32 z × IsTrue (is_one_of allowed z)
+Fits (Fixed n) content = length content ≡ n
 Fits (Opaque max) content = (length content ≤ max) × (length content < 2 ^ 32)
 Fits (Sequence first second) value = Fits first value.0 × Fits second value.1
+Fits (Optional kind) value = IfSome value (Fits kind)
+Fits (ListOf kind) values = All (Fits kind) values
 
 -- the bytes of a value
 abbrev pub spelling : (kind : Kind) → Value kind → List ℕ
 spelling U32 n = word n
 spelling I32 z = word (cast_unsigned w32 z)
+spelling Boolean b = word (truth b)
+spelling (Enum allowed) z = word (cast_unsigned w32 z)
+spelling (Fixed n) content = fixed content
 spelling (Opaque max) content = opaque content
 spelling (Sequence first second) value = spelling first value.0 ++ spelling second value.1
+spelling (Optional kind) value = optional (spelling kind) value
+spelling (ListOf kind) values = list_of (spelling kind) values
 
 -- these bytes are the spelling of a value that the kind has
 pub record Spells (kind : Kind) (value : Value kind) (bytes : List ℕ) : Type 0 where

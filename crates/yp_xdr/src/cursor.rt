@@ -1,6 +1,6 @@
 //! Values read from bytes.
 
-ghost use Rattle.std.specs.Prelude.{◌≡◌, ◌+◌, ◌^◌, ◌<◌, length, IfOk, OnErr};
+ghost use Rattle.std.specs.Prelude.{◌≡◌, ◌+◌, ◌^◌, ◌<◌, ◌≤◌, length, IfOk, OnErr};
 ghost use Rattle.yp_xdr.specs.Reading.{IsBytes};
 
 use crate::fault::XdrFault;
@@ -16,8 +16,8 @@ pub struct Cursor<'a> {
 }
 
 impl<'a> Cursor<'a> {
-    ghost use Rattle.yp_xdr.specs.Kind.{U32, I32, Opaque};
-    ghost use Rattle.yp_xdr.specs.Reading.{Unread, word_at, content_at, ReadsAs, Reads, BeginsWith, BeginsWithNone};
+    ghost use Rattle.yp_xdr.specs.Kind.{U32, I32, Boolean, Enum, Fixed, Opaque};
+    ghost use Rattle.yp_xdr.specs.Reading.{Unread, end_of, content_at, ReadsAs, Reads, BeginsWith, BeginsWithNone};
     ghost use Rattle.yp_xdr.specs.Cursor.{unread};
 
     /// A cursor at the first of the bytes.
@@ -29,7 +29,8 @@ impl<'a> Cursor<'a> {
 
     /// The place of the next byte, counted from the first.
     pub fn at(&self) -> usize
-        ensures { result ≡ (unread self.now).at }
+        ensures place { result ≡ (unread self.now).at }
+        ensures within { result ≤ end_of (unread self.now) }
     {
         self.at
     }
@@ -40,6 +41,7 @@ impl<'a> Cursor<'a> {
         ensures read { Reads U32 (λ n. n) result (unread self.old) (unread self.new) }
         ensures spelled { IfOk result (λ n. BeginsWith U32 n (unread self.old) (unread self.new)) }
         ensures refused { OnErr result (BeginsWithNone U32 (unread self.old).bytes) }
+        ensures end { end_of (unread self.new) ≡ end_of (unread self.old) }
     {
         match self.rest.split_first_chunk::<4>() {
             None => Err(XdrFault::Short { at: self.at }),
@@ -59,8 +61,59 @@ impl<'a> Cursor<'a> {
         ensures read { Reads I32 (λ z. z) result (unread self.old) (unread self.new) }
         ensures spelled { IfOk result (λ z. BeginsWith I32 z (unread self.old) (unread self.new)) }
         ensures refused { OnErr result (BeginsWithNone I32 (unread self.old).bytes) }
+        ensures end { end_of (unread self.new) ≡ end_of (unread self.old) }
     {
         Ok(self.u32()?.cast_signed())
+    }
+
+    /// Reads a boolean, FALSE or TRUE (RFC 4506 section 4.4).
+    #[tactic(auto, unfolding(crate::specs::Reading::bool_at))]
+    pub fn bool(&mut self) -> Result<bool, XdrFault>
+        ensures read { Reads Boolean (λ b. b) result (unread self.old) (unread self.new) }
+        ensures spelled { IfOk result (λ b. BeginsWith Boolean b (unread self.old) (unread self.new)) }
+        ensures refused { OnErr result (BeginsWithNone Boolean (unread self.old).bytes) }
+        ensures end { end_of (unread self.new) ≡ end_of (unread self.old) }
+    {
+        let mut ahead = *self;
+        let value = match ahead.u32()? {
+            0 => false,
+            1 => true,
+            _ => return Err(XdrFault::BadBool { at: self.at }),
+        };
+        *self = ahead;
+        Ok(value)
+    }
+
+    /// Reads a number of an enum, one of those that are listed (RFC 4506 section 4.3).
+    #[tactic(auto, unfolding(crate::specs::Reading::one_of_at))]
+    pub fn one_of(&mut self, allowed: &[i32]) -> Result<i32, XdrFault>
+        ensures read { Reads (Enum allowed.now) (λ z. z) result (unread self.old) (unread self.new) }
+        ensures spelled { IfOk result (λ z. BeginsWith (Enum allowed.now) z (unread self.old) (unread self.new)) }
+        ensures refused { OnErr result (BeginsWithNone (Enum allowed.now) (unread self.old).bytes) }
+        ensures end { end_of (unread self.new) ≡ end_of (unread self.old) }
+    {
+        let mut ahead = *self;
+        let number = ahead.i32()?;
+        if allowed.contains(&number) {
+            *self = ahead;
+            Ok(number)
+        } else {
+            Err(XdrFault::BadEnum { at: self.at })
+        }
+    }
+
+    /// Reads opaque bytes, `n` of them and their padding (RFC 4506 section 4.9).
+    pub fn fixed(&mut self, n: usize) -> Result<&'a [u8], XdrFault>
+        requires { n ≤ 1024 }
+        ensures read { Reads (Fixed n) (λ s. s.now) result (unread self.old) (unread self.new) }
+        ensures spelled { IfOk result (λ s. BeginsWith (Fixed n) s.now (unread self.old) (unread self.new)) }
+        ensures refused { OnErr result (BeginsWithNone (Fixed n) (unread self.old).bytes) }
+        ensures end { end_of (unread self.new) ≡ end_of (unread self.old) }
+    {
+        let mut ahead = *self;
+        let bytes = ahead.content(self.at, n)?;
+        *self = ahead;
+        Ok(bytes)
     }
 
     /// Reads opaque bytes, at most `max` of them (RFC 4506 section 4.10).
@@ -69,6 +122,7 @@ impl<'a> Cursor<'a> {
         ensures read { Reads (Opaque max) (λ s. s.now) result (unread self.old) (unread self.new) }
         ensures spelled { IfOk result (λ s. BeginsWith (Opaque max) s.now (unread self.old) (unread self.new)) }
         ensures refused { OnErr result (BeginsWithNone (Opaque max) (unread self.old).bytes) }
+        ensures end { end_of (unread self.new) ≡ end_of (unread self.old) }
     {
         let mut ahead = *self;
         let len = ahead.u32()?;
@@ -85,6 +139,7 @@ impl<'a> Cursor<'a> {
         ensures read { Reads (Opaque max) (λ s. s.now) result (unread self.old) (unread self.new) }
         ensures spelled { IfOk result (λ s. BeginsWith (Opaque max) s.now (unread self.old) (unread self.new)) }
         ensures refused { OnErr result (BeginsWithNone (Opaque max) (unread self.old).bytes) }
+        ensures end { end_of (unread self.new) ≡ end_of (unread self.old) }
     {
         self.opaque(max)
     }
@@ -93,7 +148,8 @@ impl<'a> Cursor<'a> {
     #[tactic(auto, unfolding(crate::specs::Reading::content_at))]
     fn content(&mut self, start: usize, len: usize) -> Result<&'a [u8], XdrFault>
         requires { len < 2 ^ 32 }
-        ensures { ReadsAs (content_at start len (unread self.old)) (λ s. s.now) result (unread self.old) (unread self.new) }
+        ensures read { ReadsAs (content_at start len (unread self.old)) (λ s. s.now) result (unread self.old) (unread self.new) }
+        ensures end { end_of (unread self.new) ≡ end_of (unread self.old) }
     {
         let padding = padding_of(len);
         if self.rest.len() < len + padding {

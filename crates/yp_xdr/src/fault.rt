@@ -16,6 +16,14 @@ pub enum XdrFault {
     /// The padding byte at this place isn't zero.
     #[error("padding at {at} is not zero")]
     Pad { at: usize },
+
+    /// The word at this place is neither FALSE nor TRUE.
+    #[error("no boolean at {at}")]
+    BadBool { at: usize },
+
+    /// The number at this place isn't one of its enum's.
+    #[error("no number of the enum at {at}")]
+    BadEnum { at: usize },
 }
 
 /// What was to be written doesn't fit into the buffer.

@@ -1,6 +1,6 @@
 //! What joins writing and reading, for values of every kind. Each law is the contract of a function that does nothing.
 
-ghost use Rattle.yp_xdr.specs.Laws.{OneSpelling, NoSpellingBeginsAnother, WrittenIsReadAgain, ReadIsSpelled, RefusedIsNotSpelled};
+ghost use Rattle.yp_xdr.specs.Laws.{OneSpelling, NoSpellingBeginsAnother, WrittenIsReadAgain, ReadIsSpelled, RefusedIsNotSpelled, ListIsReadInTurn, WrittenIsJoined, WritersJoin, SetsJoin};
 
 /// A value has one spelling.
 pub fn one_spelling()
@@ -25,4 +25,24 @@ pub fn read_is_spelled()
 /// Where reading is refused, the bytes begin with no spelling of the kind.
 pub fn refused_is_not_spelled()
     ensures { RefusedIsNotSpelled }
+{}
+
+/// A list is read element by element, each behind TRUE, up to FALSE.
+pub fn list_is_read_in_turn()
+    ensures { ListIsReadInTurn }
+{}
+
+/// Bytes that are written behind others stand there as if both were written at once.
+pub fn written_is_joined()
+    ensures { WrittenIsJoined }
+{}
+
+/// Two writers in turn are one writer, where there is room for both.
+pub fn writers_join()
+    ensures { WritersJoin }
+{}
+
+/// The same of two writers that need the room.
+pub fn sets_join()
+    ensures { SetsJoin }
 {}

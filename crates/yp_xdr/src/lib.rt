@@ -1,7 +1,7 @@
 //! XDR values in bytes (RFC 4506): each value has one spelling, and what was written is read again.
 //!
-//! Writing stands on the clauses of [`put_u32`], [`put_i32`] and [`put_opaque`], reading on those of [`Cursor`], and
-//! what joins the two on the laws of [`laws`].
+//! Writing stands on the clauses of the `put` and `set` functions, reading on those of [`Cursor`], and what joins the
+//! two on the laws of [`laws`].
 #![tactic(auto)]
 
 mod cursor;
@@ -12,7 +12,10 @@ mod put;
 
 pub use cursor::Cursor;
 pub use fault::{NoRoom, XdrFault};
-pub use put::{opaque_len, put_i32, put_opaque, put_u32};
+pub use put::{
+    fixed_len, opaque_len, put_bool, put_fixed, put_i32, put_opaque, put_u32, set_bool, set_fixed,
+    set_i32, set_opaque, set_u32,
+};
 
 #[cfg(test)]
 mod tests;

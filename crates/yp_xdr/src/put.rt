@@ -1,9 +1,9 @@
-//! Values written into a buffer.
+//! Values written into a buffer. Each `set` requires the room that its value takes, and each `put` tests it first.
 
-ghost use Rattle.std.specs.Prelude.{◌≡◌, ◌^◌, ◌+◌, ◌<◌, ◌≤◌, ◌++◌, length};
-ghost use Rattle.yp_xdr.specs.Kind.{U32, I32, Opaque};
-ghost use Rattle.yp_xdr.specs.Spelling.{padding, spelling};
-ghost use Rattle.yp_xdr.specs.Writing.{written, Writes};
+ghost use Rattle.std.specs.Prelude.{◌≡◌, ◌^◌, ◌+◌, ◌<◌, ◌≤◌, length};
+ghost use Rattle.yp_xdr.specs.Kind.{U32, I32, Boolean, Fixed, Opaque};
+ghost use Rattle.yp_xdr.specs.Spelling.{spelling};
+ghost use Rattle.yp_xdr.specs.Writing.{written, Writes, Sets};
 
 use crate::fault::NoRoom;
 use crate::padding::{WORD, padding_of};
@@ -16,8 +16,7 @@ pub fn put_u32(buf: &mut [u8], at: usize, value: u32) -> Result<usize, NoRoom>
     if buf.len() - at < WORD {
         return Err(NoRoom);
     }
-    buf[at..at + WORD].copy_from_slice(&value.to_be_bytes());
-    Ok(at + WORD)
+    Ok(set_u32(buf, at, value))
 }
 
 /// Writes a signed integer in two's complement at `at`, and answers the place after it (RFC 4506 section 4.1).
@@ -28,9 +27,16 @@ pub fn put_i32(buf: &mut [u8], at: usize, value: i32) -> Result<usize, NoRoom>
     put_u32(buf, at, value.cast_unsigned())
 }
 
+/// Writes a boolean at `at`, and answers the place after it (RFC 4506 section 4.4).
+pub fn put_bool(buf: &mut [u8], at: usize, value: bool) -> Result<usize, NoRoom>
+    requires { at ≤ length buf.old }
+    ensures { Writes (spelling Boolean value) at result buf.old buf.new }
+{
+    put_u32(buf, at, u32::from(value))
+}
+
 /// Writes bytes behind their length and padded with zeros at `at`, and answers the place after them
 /// (RFC 4506 sections 4.10 and 4.11).
-#[tactic(auto, unfolding(crate::specs::Spelling::opaque))]
 pub fn put_opaque(buf: &mut [u8], at: usize, bytes: &[u8]) -> Result<usize, NoRoom>
     requires place { at ≤ length buf.old }
     requires len { length bytes.now < 2 ^ 32 }
@@ -39,8 +45,63 @@ pub fn put_opaque(buf: &mut [u8], at: usize, bytes: &[u8]) -> Result<usize, NoRo
     if buf.len() - at < opaque_len(bytes) {
         return Err(NoRoom);
     }
-    let content = put_u32(buf, at, bytes.len() as u32)?;
-    put_content(buf, content, bytes)
+    Ok(set_opaque(buf, at, bytes))
+}
+
+/// Writes bytes padded with zeros at `at`, and answers the place after them (RFC 4506 section 4.9).
+pub fn put_fixed(buf: &mut [u8], at: usize, bytes: &[u8]) -> Result<usize, NoRoom>
+    requires { at ≤ length buf.old }
+    ensures { Writes (spelling (Fixed (length bytes.now)) bytes.now) at result buf.old buf.new }
+{
+    if buf.len() - at < fixed_len(bytes) {
+        return Err(NoRoom);
+    }
+    Ok(set_fixed(buf, at, bytes))
+}
+
+/// Writes an unsigned integer at `at`, and answers the place after it.
+pub fn set_u32(buf: &mut [u8], at: usize, value: u32) -> usize
+    requires { at + 4 ≤ length buf.old }
+    ensures { Sets (spelling U32 value) at result buf.old buf.new }
+{
+    set_bytes(buf, at, &value.to_be_bytes())
+}
+
+/// Writes a signed integer in two's complement at `at`, and answers the place after it.
+pub fn set_i32(buf: &mut [u8], at: usize, value: i32) -> usize
+    requires { at + 4 ≤ length buf.old }
+    ensures { Sets (spelling I32 value) at result buf.old buf.new }
+{
+    set_u32(buf, at, value.cast_unsigned())
+}
+
+/// Writes a boolean at `at`, and answers the place after it.
+pub fn set_bool(buf: &mut [u8], at: usize, value: bool) -> usize
+    requires { at + 4 ≤ length buf.old }
+    ensures { Sets (spelling Boolean value) at result buf.old buf.new }
+{
+    set_u32(buf, at, u32::from(value))
+}
+
+/// Writes bytes behind their length and padded with zeros at `at`, and answers the place after them.
+#[tactic(auto, unfolding(crate::specs::Spelling::opaque))]
+pub fn set_opaque(buf: &mut [u8], at: usize, bytes: &[u8]) -> usize
+    requires len { length bytes.now < 2 ^ 32 }
+    requires room { at + length (spelling (Opaque (length bytes.now)) bytes.now) ≤ length buf.old }
+    ensures { Sets (spelling (Opaque (length bytes.now)) bytes.now) at result buf.old buf.new }
+{
+    let content = set_u32(buf, at, bytes.len() as u32);
+    set_fixed(buf, content, bytes)
+}
+
+/// Writes bytes padded with zeros at `at`, and answers the place after them.
+#[tactic(auto, unfolding(crate::specs::Spelling::fixed))]
+pub fn set_fixed(buf: &mut [u8], at: usize, bytes: &[u8]) -> usize
+    requires { at + length (spelling (Fixed (length bytes.now)) bytes.now) ≤ length buf.old }
+    ensures { Sets (spelling (Fixed (length bytes.now)) bytes.now) at result buf.old buf.new }
+{
+    let padding = set_bytes(buf, at, bytes);
+    set_bytes(buf, padding, &[0; WORD][..padding_of(bytes.len())])
 }
 
 /// How many bytes [`put_opaque`] writes for these bytes.
@@ -50,28 +111,23 @@ pub fn opaque_len(bytes: &[u8]) -> usize
     ensures value { result ≡ length (spelling (Opaque (length bytes.now)) bytes.now) }
     ensures bound { result < length bytes.now + 8 }
 {
-    WORD + bytes.len() + padding_of(bytes.len())
+    WORD + fixed_len(bytes)
 }
 
-/// Writes bytes padded with zeros at `at`, and answers the place after them.
-fn put_content(buf: &mut [u8], at: usize, bytes: &[u8]) -> Result<usize, NoRoom>
-    requires place { at ≤ length buf.old }
-    requires len { length bytes.now < 2 ^ 32 }
-    ensures { Writes (bytes.now ++ padding (length bytes.now)) at result buf.old buf.new }
+/// How many bytes [`put_fixed`] writes for these bytes.
+pub fn fixed_len(bytes: &[u8]) -> usize
+    ensures value { result ≡ length (spelling (Fixed (length bytes.now)) bytes.now) }
+    ensures bound { result < length bytes.now + 4 }
 {
-    let padding = padding_of(bytes.len());
-    if buf.len() - at < bytes.len() + padding {
-        return Err(NoRoom);
-    }
-    put_bytes(buf, at, bytes);
-    put_bytes(buf, at + bytes.len(), &[0; WORD][..padding]);
-    Ok(at + bytes.len() + padding)
+    bytes.len() + padding_of(bytes.len())
 }
 
-/// Writes bytes as they are at `at`.
-fn put_bytes(buf: &mut [u8], at: usize, bytes: &[u8])
+/// Writes bytes as they are at `at`, and answers the place after them.
+fn set_bytes(buf: &mut [u8], at: usize, bytes: &[u8]) -> usize
     requires { at + length bytes.now ≤ length buf.old }
-    ensures { buf.new ≡ written buf.old at bytes.now }
+    ensures { Sets bytes.now at result buf.old buf.new }
 {
-    buf[at..at + bytes.len()].copy_from_slice(bytes);
+    let end = at + bytes.len();
+    buf[at..end].copy_from_slice(bytes);
+    end
 }

@@ -1,6 +1,9 @@
+//! Streams written out by hand, from RFC 5531 section 11.
+
 ghost use Rattle.std.specs.Prelude.{◌<◌, length};
 
 use super::*;
+use crate::spelled;
 use std::alloc::{AllocError, Global};
 use std::process::Abort;
 use std::test::Fail;
@@ -15,32 +18,33 @@ fn counted(alloc: Global, len: usize) -> Result<Vec<u8>, AllocError> {
     Ok(bytes)
 }
 
-// A fragment, by its head as it stands in RFC 5531 section 11.
-fn push_fragment(stream: &mut Vec<u8>, head: [u8; 4], body: &[u8]) -> Result<(), AllocError> {
-    stream.extend_from_slice(&head)?;
-    stream.extend_from_slice(body)
-}
-
-// A record of 76 bytes with each byte in a fragment of its own, and an empty fragment behind the tenth.
-fn shredded(alloc: Global) -> Result<Vec<u8>, AllocError> {
+// The record in fragments of so many bytes. That of the number `full` has another head than those before it.
+fn cut(
+    alloc: Global,
+    record: &[u8],
+    size: usize,
+    head: &str,
+    full: usize,
+    last: &str,
+) -> Result<Vec<u8>, Fail>
+    requires { 0 < size }
+{
     let mut stream = Vec::new(alloc);
-    for byte in 0..75u8 {
-        push_fragment(&mut stream, [0, 0, 0, 1], &[byte])?;
-        if byte == 9 {
-            push_fragment(&mut stream, [0, 0, 0, 0], &[])?;
-        }
+    for (i, piece) in record.chunks(size).enumerate() {
+        let head = if i < full { head } else { last };
+        stream.extend_from_slice(&spelled::bytes(alloc, head)?)?;
+        stream.extend_from_slice(piece)?;
     }
-    push_fragment(&mut stream, [0x80, 0, 0, 1], &[75])?;
     Ok(stream)
 }
 
 // So many empty fragments, and then a record of one byte.
-fn hollow(alloc: Global, empty: usize) -> Result<Vec<u8>, AllocError> {
-    let mut stream = Vec::new(alloc);
+fn hollow(alloc: Global, empty: usize) -> Result<Vec<u8>, Fail> {
+    let mut stream = vec![in alloc; 0; empty]?;
     for _ in 0..empty {
-        push_fragment(&mut stream, [0, 0, 0, 0], &[])?;
+        stream.extend_from_slice(&[0; 3])?;
     }
-    push_fragment(&mut stream, [0x80, 0, 0, 1], b"x")?;
+    stream.extend_from_slice(&spelled::bytes(alloc, "80000001 78")?)?;
     Ok(stream)
 }
 
@@ -56,7 +60,7 @@ fn assert_only(
 {
     let mut source = MemSource::new(stream.to_vec(alloc)?, piece, Vec::new(alloc));
     let mut reader = RecordReader::new();
-    let mut buf = vec![in alloc; 0; 8192]?;
+    let mut buf = vec![in alloc; 0; 262_144]?;
     assert_eq!(rt;
         reader.next(&mut source, &mut buf),
         Ok(Some(record.len())),
@@ -75,41 +79,50 @@ fn assert_only(
 fn one_record(rt: HostRuntime) -> Result<(), Fail> {
     let alloc = rt.alloc();
     let record = counted(alloc, 76)?;
-    let mut whole = Vec::new(alloc);
-    push_fragment(&mut whole, [0x80, 0, 0, 76], &record)?;
-    let shreds = shredded(alloc)?;
+    let whole = cut(alloc, &record, 76, "", 0, "8000004c")?;
+    let shreds = cut(alloc, &record, 1, "00000001", 75, "80000001")?;
+    // An empty fragment before each of the others.
+    let hollows = cut(
+        alloc,
+        &record,
+        1,
+        "00000000 00000001",
+        75,
+        "00000000 80000001",
+    )?;
     for piece in [1, 3, 80] {
-        assert_only(&rt, alloc, &whole, piece, &record)?;
-        assert_only(&rt, alloc, &shreds, piece, &record)?;
+        for stream in [&whole, &shreds, &hollows] {
+            assert_only(&rt, alloc, stream, piece, &record)?;
+        }
     }
     Ok(())
 }
 
 #[test]
 fn few_bytes(rt: HostRuntime) -> Result<(), Fail> {
-    let alloc = rt.alloc();
     let torn = Err(RecordFault::Torn { at: 0 });
     let long = Err(RecordFault::TooLong { at: 0 });
-    let cases: [(&[u8], Result<Option<usize>, RecordFault>); 11] = [
-        (b"", Ok(None)),
-        (b"\x80\0\0", torn),
-        (b"\x80\0\0\x02a", torn),
-        (b"\0\0\0\0", torn),
-        (b"\0\0\0\x01a", torn),
-        (b"\x80\0\0\0", Ok(Some(0))),
-        (b"\0\0\0\x03abc\x80\0\0\0", Ok(Some(3))),
-        (b"\x80\0\0\x04abcd", Ok(Some(4))),
-        (b"\x80\0\0\x05abcde", long),
-        (b"\0\0\0\x03abc\x80\0\0\x02de", long),
-        (b"\xff\xff\xff\xff", long),
+    let cases = [
+        ("", Ok(None)),
+        ("800000", torn),
+        ("80000002 61", torn),
+        ("00000000", torn),
+        ("00000001 61", torn),
+        ("80000000", Ok(Some(0))),
+        ("00000003 616263 80000000", Ok(Some(3))),
+        ("80000004 61626364", Ok(Some(4))),
+        ("80000005 6162636465", long),
+        ("00000003 616263 80000002 6465", long),
+        ("ffffffff", long),
     ];
-    for (stream, answer) in cases {
-        let mut source = MemSource::new(stream.to_vec(alloc)?, 80, Vec::new(alloc));
+    for (text, answer) in cases {
+        let stream = spelled::bytes(rt.alloc(), text)?;
+        let mut source = MemSource::new(stream, 80, Vec::new(rt.alloc()));
         let mut buf = [0; 4];
         assert_eq!(rt;
             RecordReader::new().next(&mut source, &mut buf),
             answer,
-            "{stream:?}"
+            "{text}"
         );
     }
     Ok(())
@@ -118,9 +131,8 @@ fn few_bytes(rt: HostRuntime) -> Result<(), Fail> {
 #[test]
 fn torn_behind_a_record(rt: HostRuntime) -> Result<(), Fail> {
     let alloc = rt.alloc();
-    let mut stream = Vec::new(alloc);
-    push_fragment(&mut stream, [0x80, 0, 0, 76], &counted(alloc, 76)?)?;
-    stream.extend_from_slice(&[0x80, 0, 0])?;
+    let mut stream = cut(alloc, &counted(alloc, 76)?, 76, "", 0, "8000004c")?;
+    stream.extend_from_slice(&spelled::bytes(alloc, "800000")?)?;
     let mut source = MemSource::new(stream, 80, Vec::new(alloc));
     let mut reader = RecordReader::new();
     let mut buf = [0; 100];
@@ -135,13 +147,13 @@ fn torn_behind_a_record(rt: HostRuntime) -> Result<(), Fail> {
 #[test]
 fn largest_record(rt: HostRuntime) -> Result<(), Fail> {
     let alloc = rt.alloc();
-    let record = counted(alloc, 8192)?;
-    let mut stream = Vec::new(alloc);
-    push_fragment(&mut stream, [0x80, 0, 0x20, 0], &record)?;
-    assert_only(&rt, alloc, &stream, 80, &record)?;
+    let record = counted(alloc, 262_144)?;
+    let stream = cut(alloc, &record, 262_144, "", 0, "80040000")?;
+    assert_only(&rt, alloc, &stream, 1000, &record)?;
 
-    let mut source = MemSource::new(b"\x80\0\x20\x01ab".to_vec(alloc)?, 80, Vec::new(alloc));
-    let mut buf = vec![in alloc; 0; 8192]?;
+    let stream = spelled::bytes(alloc, "80040001 6162")?;
+    let mut source = MemSource::new(stream, 80, Vec::new(alloc));
+    let mut buf = vec![in alloc; 0; 262_144]?;
     let answer = RecordReader::new().next(&mut source, &mut buf);
     assert_eq!(rt; answer, Err(RecordFault::TooLong { at: 0 }));
     let mut behind = [0; 3];
@@ -165,7 +177,7 @@ fn empty_fragments(rt: HostRuntime) -> Result<(), Fail> {
 fn failing_source(rt: HostRuntime) -> Result<(), Fail> {
     let alloc = rt.alloc();
     for failing in 0..4 {
-        let stream = b"\x80\0\0\x04abcd".to_vec(alloc)?;
+        let stream = spelled::bytes(alloc, "80000004 61626364")?;
         let mut source = MemSource::new(stream, 2, vec![in alloc; failing]?);
         let mut buf = [0; 80];
         let answer = RecordReader::new().next(&mut source, &mut buf);
@@ -174,15 +186,17 @@ fn failing_source(rt: HostRuntime) -> Result<(), Fail> {
     Ok(())
 }
 
-// Writes a record in two parts.
-fn write_parts<K: Sink>(
+// Writes a record in two pieces, the first of which has so many bytes, or all.
+fn write_two<K: Sink>(
     writer: &mut RecordWriter,
     sink: &mut K,
-    front: &[u8],
-    back: &[u8],
+    message: &[u8],
+    len: usize,
 ) -> Result<(), Failed>
-    requires { 0 < length front.now }
+    requires some { 0 < length message.now }
+    requires first { 0 < len }
 {
+    let (front, back) = message.split_at(len.min(message.len()));
     writer.put(sink, front)?;
     writer.put(sink, back)?;
     writer.end(sink)
@@ -191,40 +205,28 @@ fn write_parts<K: Sink>(
 #[test]
 fn fragments_written(rt: HostRuntime) -> Result<(), Fail> {
     let alloc = rt.alloc();
-    let full = counted(alloc, 8192)?;
-    assert_eq!(rt; full.len(), 8192);
-    let mut one = Vec::new(alloc);
-    push_fragment(&mut one, [0x80, 0, 0x20, 0], &full)?;
-    let mut two = Vec::new(alloc);
-    push_fragment(&mut two, [0, 0, 0x20, 0], &full)?;
-    push_fragment(&mut two, [0x80, 0, 0, 4], b"last")?;
-
     let mut writer = RecordWriter::new(alloc)?;
-    let mut sink = MemSink::new(alloc, 1, Vec::new(alloc));
-    write_parts(&mut writer, &mut sink, &full, b"")?;
-    assert_eq!(rt; sink.taken(), one.as_slice());
-    let mut sink = MemSink::new(alloc, 1, Vec::new(alloc));
-    write_parts(&mut writer, &mut sink, &full, b"last")?;
-    assert_eq!(rt; sink.taken(), two.as_slice());
-    Ok(())
-}
-
-#[test]
-fn parts_written(rt: HostRuntime) -> Result<(), Fail> {
-    let alloc = rt.alloc();
-    let record = counted(alloc, 8196)?;
-    assert_eq!(rt; record.len(), 8196);
-    let (front, back) = record.split_at(8192);
-    let mut stream = Vec::new(alloc);
-    push_fragment(&mut stream, [0, 0, 0x20, 0], front)?;
-    push_fragment(&mut stream, [0x80, 0, 0, 4], back)?;
-
-    let mut writer = RecordWriter::new(alloc)?;
-    for cut in [1, 4, 8191, 8192, 8193, 8196] {
-        let mut sink = MemSink::new(alloc, 9000, Vec::new(alloc));
-        let (front, back) = record.split_at(cut);
-        write_parts(&mut writer, &mut sink, front, back)?;
-        assert_eq!(rt; sink.taken(), stream.as_slice(), "cut at {cut}");
+    // The length of a record, how many of its fragments aren't the last, and the head of the last.
+    for (len, full, last) in [
+        (1, 0, "80000001"),
+        (8192, 0, "80002000"),
+        (8196, 1, "80000004"),
+        (65_536, 7, "80002000"),
+        (65_537, 8, "80000001"),
+        (200_000, 24, "80000d40"),
+    ] {
+        let record = counted(alloc, len)?;
+        assert!(rt; !record.is_empty());
+        let stream = cut(alloc, &record, 8192, "00002000", full, last)?;
+        for first in [1, 8191, 8192, 65_536, 65_537] {
+            let mut sink = MemSink::new(alloc, 9000, Vec::new(alloc));
+            write_two(&mut writer, &mut sink, &record, first)?;
+            assert_eq!(rt;
+                sink.taken(),
+                stream.as_slice(),
+                "{len} bytes, cut at {first}"
+            );
+        }
     }
     Ok(())
 }
@@ -232,22 +234,30 @@ fn parts_written(rt: HostRuntime) -> Result<(), Fail> {
 #[test]
 fn failing_sink(rt: HostRuntime) -> Result<(), Fail> {
     let alloc = rt.alloc();
-    let record = counted(alloc, 8196)?;
-    assert_eq!(rt; record.len(), 8196);
     let mut writer = RecordWriter::new(alloc)?;
-    for (failing, taken) in [(0, 0), (1, 4000), (2, 8000), (3, 8196), (4, 8204)] {
-        let mut sink = MemSink::new(alloc, 4000, vec![in alloc; failing]?);
-        let answer = write_parts(&mut writer, &mut sink, &record, b"");
-        assert_eq!(rt; answer, Err(Failed), "at call {failing}");
-        assert_eq!(rt; sink.taken().len(), taken, "at call {failing}");
+    let short = spelled::bytes(alloc, "80000002 6162")?;
+    // The length of a record, the most bytes of a write, the call that fails, and what was taken before it.
+    for (len, piece, failing, taken) in [
+        (8196, 4000, 0, 0),
+        (8196, 4000, 1, 4000),
+        (8196, 4000, 2, 8000),
+        (8196, 4000, 3, 8204),
+        // Eight fragments are one write, before the flush, and a further byte is another.
+        (65_536, 100_000, 0, 0),
+        (65_536, 100_000, 1, 65_568),
+        (65_537, 100_000, 1, 65_568),
+        (65_537, 100_000, 2, 65_573),
+    ] {
+        let record = counted(alloc, len)?;
+        assert!(rt; !record.is_empty());
+        let mut sink = MemSink::new(alloc, piece, vec![in alloc; failing]?);
+        let answer = write_two(&mut writer, &mut sink, &record, 1);
+        assert_eq!(rt; answer, Err(Failed), "{len} bytes, at call {failing}");
+        assert_eq!(rt; sink.taken().len(), taken, "{len} bytes, at call {failing}");
 
         let mut sink = MemSink::new(alloc, 4000, Vec::new(alloc));
-        write_parts(&mut writer, &mut sink, b"a", b"b")?;
-        assert_eq!(rt;
-            sink.taken(),
-            b"\x80\0\0\x02ab".as_slice(),
-            "after call {failing}"
-        );
+        write_two(&mut writer, &mut sink, b"ab", 1)?;
+        assert_eq!(rt; sink.taken(), short.as_slice(), "after {len} bytes");
     }
     Ok(())
 }

@@ -1,36 +1,32 @@
 //! Records written to a stream.
 
-ghost use Rattle.std.specs.Prelude.{◌≡◌, ℕ, ◌+◌, ◌-◌, ◌<◌, ◌≤◌, IsTrue, List, [], ◌++◌, length, take, drop, min, Ok, Err, IfOk, OnOk, OnErr};
-ghost use Rattle.std.specs.Io.KnownBytes.{Appends};
+ghost use Rattle.std.specs.Prelude.{◌≡◌, ℕ, ◌<◌, ◌≤◌, ◌↔◌, IsTrue, List, [], ◌++◌, length, take, IsOk, IfOk, OnOk, OnErr};
+ghost use Rattle.std.specs.Io.KnownBytes.{Keeps, Appends};
 ghost use Rattle.yp_io.specs.Counts.{CountsFaults};
-ghost use Rattle.yp_rpc.specs.Records.{fragment_max, fragment, sent};
+ghost use Rattle.yp_rpc.specs.Records.{fragment_max, sent};
+ghost use Rattle.yp_rpc.specs.Waiting.{held_bytes, none, waiting, promised, Holds, Rests};
 
-use crate::record::FRAGMENT_MAX;
-use crate::record::head::{HEAD, Head};
+use crate::record::batch::Batch;
 use std::alloc::Global;
 use std::marker::Model;
-use yp_io::{Failed, NoMemory, Sink, write_all};
+use yp_io::{Failed, NoMemory, Sink};
 
 /// Writes one record after another, in fragments of 8,192 bytes; the last one of a record has from 1 to 8,192. It is
-/// seen as the bytes that wait to be written, at most those of one fragment.
+/// seen as the bytes of the record that wait to be written, at most those of eight fragments.
 #[derive(Debug, Drop)]
 pub struct RecordWriter {
-    // a head, and the bytes that wait behind it
-    bytes: Vec<u8>,
-    len: usize,
+    batch: Batch,
 }
 
 impl Model for RecordWriter {
-    ghost use Rattle.std.specs.Prelude.{◌≡◌, ℕ, ◌+◌, ◌≤◌, List, length, take, drop};
-    ghost use Rattle.yp_rpc.specs.declared.record.TheConstants.{FRAGMENT_MAX};
-    ghost use Rattle.yp_rpc.specs.declared.record.head.TheConstants.{HEAD};
+    ghost use Rattle.std.specs.Prelude.{ℕ, List};
+    ghost use Rattle.yp_rpc.specs.Waiting.{waiting, Rests};
 
     ghost Value = { List ℕ };
 
-    ghost view = { λ w. take w.len (drop HEAD w.bytes.items) };
+    ghost view = { λ w. waiting w.batch };
 
-    ghost invariant = { λ w. (length w.bytes.items ≡ HEAD + FRAGMENT_MAX)
-        × (w.len ≤ FRAGMENT_MAX) };
+    ghost invariant = { λ w. Rests w.batch };
 }
 
 impl RecordWriter {
@@ -38,18 +34,21 @@ impl RecordWriter {
     pub fn new(alloc: Global) -> Result<RecordWriter, NoMemory>
         ensures { IfOk result (λ w. w ≡ []) }
     {
-        let bytes = vec![in alloc; 0; HEAD + FRAGMENT_MAX].map_err(|_| NoMemory)?;
-        Ok(RecordWriter { bytes, len: 0 })
+        let batch = Batch::new(alloc)?;
+        Ok(RecordWriter { batch })
     }
 
-    /// Puts a piece of a record. Bytes are written only where the next fragment is full and a further byte comes.
-    /// After `Failed` nothing waits, and the stream ends inside the record.
+    /// Puts a piece of a record. Bytes are written only where the next eight fragments are full and a further byte
+    /// comes, and then all at once. After `Failed` nothing waits, and the stream ends inside the record.
     pub fn put<K: Sink>(&mut self, sink: &mut K, piece: &[u8]) -> Result<(), Failed>
         // what is sent of a record does not depend on how it was put
         ensures sent { OnOk result ((out : List ℕ)
             × Appends (K.output sink.old) (K.output sink.new) out
             × ((more : List ℕ) → 0 < length (self.new ++ more)
             → sent (self.old ++ piece.now ++ more) ≡ out ++ sent (self.new ++ more))) }
+        // bytes wait for as long as they fit in eight fragments
+        ensures held { length (self.old ++ piece.now) ≤ held_bytes → IsOk result
+            × Keeps (K.output sink.old) (K.output sink.new) × (self.new ≡ self.old ++ piece.now) }
         // something waits unless nothing was put
         ensures pending { OnOk result (0 < length (self.old ++ piece.now) → 0 < length self.new) }
         ensures prefix { OnErr result ((more : List ℕ) → (n : ℕ)
@@ -58,16 +57,11 @@ impl RecordWriter {
         ensures as_new { OnErr result (self.new ≡ []) }
         ensures cause { CountsFaults (K.faults sink.old) (K.faults sink.new) result }
     {
-        let mut rest = piece;
-        while !rest.is_empty() {
-            self.make_room(sink)?;
-            let count = self.keep(rest);
-            rest = &rest[count..];
-        }
-        Ok(())
+        put_all(&mut self.batch, sink, piece)
     }
 
-    /// Ends a record: writes what waits as its last fragment, and flushes. Nothing waits then, even after `Failed`.
+    /// Ends a record: writes what waits at once, the rest of it as the last fragment, and flushes. Nothing waits then,
+    /// even after `Failed`.
     pub fn end<K: Sink>(&mut self, sink: &mut K) -> Result<(), Failed>
         requires { 0 < length self.old }
         ensures sent { OnOk result
@@ -78,72 +72,60 @@ impl RecordWriter {
         ensures as_new { self.new ≡ [] }
         ensures cause { CountsFaults (K.faults sink.old) (K.faults sink.new) result }
     {
-        self.send(sink, true)?;
+        self.batch.close(true);
+        self.batch.send(sink)?;
         sink.flush()
-    }
-
-    // Makes room for a further byte of the record.
-    fn make_room<K: Sink>(&mut self, sink: &mut K) -> Result<(), Failed>
-        ensures room { OnOk result (length self.new < FRAGMENT_MAX) }
-        ensures sent { OnOk result ((out : List ℕ)
-            × Appends (K.output sink.old) (K.output sink.new) out
-            × ((more : List ℕ) → 0 < length more
-            → sent (self.old ++ more) ≡ out ++ sent (self.new ++ more))) }
-        ensures prefix { OnErr result ((more : List ℕ) → 0 < length more → (n : ℕ)
-            × Appends (K.output sink.old) (K.output sink.new) (take n (sent (self.old ++ more)))) }
-        ensures as_new { OnErr result (self.new ≡ []) }
-        ensures cause { CountsFaults (K.faults sink.old) (K.faults sink.new) result }
-    {
-        if self.len < FRAGMENT_MAX {
-            return Ok(());
-        }
-        self.send(sink, false)
-    }
-
-    // Keeps as many of the first bytes as there is room for, and answers how many.
-    fn keep(&mut self, piece: &[u8]) -> usize
-        ensures count { result ≡ min (length piece.now) (FRAGMENT_MAX - length self.old) }
-        ensures kept { self.new ≡ self.old ++ take result piece.now }
-    {
-        let count = piece.len().min(FRAGMENT_MAX - self.len);
-        let at = HEAD + self.len;
-        self.bytes[at..at + count].copy_from_slice(&piece[..count]);
-        self.len += count;
-        count
-    }
-
-    // Writes what waits as one fragment.
-    fn send<K: Sink>(&mut self, sink: &mut K, last: bool) -> Result<(), Failed>
-        ensures few { length self.old ≤ fragment_max }
-        ensures sent { OnOk result
-            (Appends (K.output sink.old) (K.output sink.new) (fragment last self.old)) }
-        ensures prefix { OnErr result ((n : ℕ) × (n ≤ length (fragment last self.old))
-            × Appends (K.output sink.old) (K.output sink.new) (take n (fragment last self.old))) }
-        ensures as_new { self.new ≡ [] }
-        ensures cause { CountsFaults (K.faults sink.old) (K.faults sink.new) result }
-    {
-        let len = self.len;
-        self.len = 0;
-        write_fragment(sink, &mut self.bytes, len, last)
     }
 }
 
-// Writes the head of a fragment before the `len` bytes that stand behind its place, and then both to the sink.
-fn write_fragment<K: Sink>(
-    sink: &mut K,
-    bytes: &mut [u8],
-    len: usize,
-    last: bool,
-) -> Result<(), Failed>
-    requires room { HEAD + len ≤ length bytes.old }
-    requires short { len ≤ FRAGMENT_MAX }
-    ensures sent { let whole = fragment last (take len (drop HEAD bytes.old))
-        in OnOk result (Appends (K.output sink.old) (K.output sink.new) whole) }
-    ensures prefix { let whole = fragment last (take len (drop HEAD bytes.old))
-        in OnErr result ((n : ℕ) × (n ≤ length whole)
-        × Appends (K.output sink.old) (K.output sink.new) (take n whole)) }
+// Puts a piece of a record behind what is held back.
+fn put_all<K: Sink>(batch: &mut Batch, sink: &mut K, piece: &[u8]) -> Result<(), Failed>
+    requires { Rests batch.old }
+    ensures rests { OnOk result (Rests batch.new) }
+    ensures sent { OnOk result ((out : List ℕ)
+        × Appends (K.output sink.old) (K.output sink.new) out
+        × ((more : List ℕ) → promised batch.old (piece.now ++ more) ≡ out ++ promised batch.new more)) }
+    ensures held { length (waiting batch.old ++ piece.now) ≤ held_bytes → IsOk result
+        × Keeps (K.output sink.old) (K.output sink.new) × (waiting batch.new ≡ waiting batch.old ++ piece.now) }
+    ensures pending { OnOk result (0 < length (batch.old.piece ++ piece.now) ↔ 0 < length batch.new.piece) }
+    ensures some { OnErr result (0 < length piece.now) }
+    ensures prefix { OnErr result ((more : List ℕ) → (n : ℕ)
+        × Appends (K.output sink.old) (K.output sink.new)
+        (take n (promised batch.old (piece.now ++ more)))) }
+    ensures as_new { OnErr result (batch.new ≡ none) }
     ensures cause { CountsFaults (K.faults sink.old) (K.faults sink.new) result }
 {
-    bytes[..HEAD].copy_from_slice(&Head { last, len }.to_bytes());
-    write_all(sink, &bytes[..HEAD + len])
+    let mut rest = piece;
+    while !rest.is_empty() {
+        make_room(batch, sink)?;
+        let count = batch.keep(rest);
+        rest = &rest[count..];
+    }
+    Ok(())
+}
+
+// Makes room for a further byte of the record.
+fn make_room<K: Sink>(batch: &mut Batch, sink: &mut K) -> Result<(), Failed>
+    requires { Holds batch.old }
+    ensures holds { OnOk result (Holds batch.new) }
+    ensures room { OnOk result (length batch.new.piece < fragment_max) }
+    ensures sent { OnOk result ((out : List ℕ)
+        × Appends (K.output sink.old) (K.output sink.new) out
+        × ((more : List ℕ) → 0 < length more
+        → promised batch.old more ≡ out ++ promised batch.new more)) }
+    ensures held { length (waiting batch.old) < held_bytes → IsOk result
+        × Keeps (K.output sink.old) (K.output sink.new) × (waiting batch.new ≡ waiting batch.old) }
+    ensures prefix { OnErr result ((more : List ℕ) → 0 < length more → (n : ℕ)
+        × Appends (K.output sink.old) (K.output sink.new) (take n (promised batch.old more))) }
+    ensures as_new { OnErr result (batch.new ≡ none) }
+    ensures cause { CountsFaults (K.faults sink.old) (K.faults sink.new) result }
+{
+    if !batch.is_full() {
+        return Ok(());
+    }
+    batch.close(false);
+    if batch.has_room() {
+        return Ok(());
+    }
+    batch.send(sink)
 }

@@ -1,20 +1,12 @@
-use Rattle.std.proofs.Common.{◌<◌, length, arith}
-use Rattle.std.proofs.lemmas.List.{take_rest}
-use Rattle.std.proofs.lemmas.Result.{err_from_is_err_and}
-use Rattle.yp_rpc.proofs.Sending.{some_left, HasPut-more, prefix_behind}
+use Rattle.yp_rpc.proofs.Holding.{put_sent, put_part, idle_err}
 use Rattle.yp_rpc.proofs.record.writer.RecordWriter.put.Goals as goal
 
-pub returns-in_err-make_room-clause-prefix : goal.returns-in_err-make_room-clause-prefix
-returns-in_err-make_room-clause-prefix g c =
-    let some : 0 < length c.loop-rest.rest.now = some_left (length c.loop-rest.rest.now) c.is_empty.result c.is_empty.ensures c.loop-rest-test.true in
-    let p = err_from_is_err_and c.from_residual.result c.from_residual.ensures.1 in
-    rw p.1 (λ more. prefix_behind _ _ _ _ _ _ more c.loop-rest.invariant.so_far c.in_err-make_room.ensures.prefix some)
+pub returns-clause-sent : goal.returns-clause-sent
+returns-clause-sent g c =
+    put_sent c.put_all.result _ _ c.self.inside.batch c.put_all.new.batch c.args.self.now c.args.piece.now c.self.view_is c.self.invariant c.put_all.ensures.rests c.put_all.ensures.sent c.put_all.ensures.pending
 
-pub loop-rest-preserved : goal.loop-rest-preserved
-loop-rest-preserved g c =
-    let some : 0 < length c.loop-rest.rest.now = some_left (length c.loop-rest.rest.now) c.is_empty.result c.is_empty.ensures c.loop-rest-test.true in
-    let sent = c.in_ok-make_room.ensures.sent in
-    record {
-      so_far = rw (c.keep-count.ensures.kept, take_rest) (HasPut-more _ _ _ _ _ _ _ _ _ c.loop-rest.invariant.so_far sent.1 sent.2 (omega (arith, c.in_ok-make_room.ensures.room)) (omega arith));
-      never_fell = omega (arith, c.in_ok-make_room.ensures.cause.never_falls);
-    }
+pub returns-clause-prefix : goal.returns-clause-prefix
+returns-clause-prefix g c = put_part c.put_all.result _ _ c.self.inside.batch c.args.self.now c.args.piece.now c.self.view_is c.self.invariant c.put_all.ensures.some c.put_all.ensures.prefix
+
+pub returns-clause-as_new : goal.returns-clause-as_new
+returns-clause-as_new g c = idle_err c.put_all.result c.put_all.new.batch c.put_all.ensures.as_new

@@ -1,0 +1,6 @@
+pub mod Parts
+pub mod Listing
+pub mod Rooms
+pub mod Itemized
+pub mod Streaming
+pub mod Fronts

@@ -1,0 +1,46 @@
+-- What is short enough for its room.
+use Rattle.std.proofs.Common.{◌≡◌, ℕ, ◌+◌, ◌-◌, ◌%◌, ◌<◌, ◌≤◌, Bool, true, false, List, ◌++◌, length, replicate, arith}
+use Rattle.std.proofs.lemmas.Bool.{ltb-false}
+use Rattle.std.proofs.lemmas.List.{length-append, length-replicate}
+use Rattle.yp_xdr.specs.Spelling.{word, padding_len, padding, opaque, fixed, spelling}
+use Rattle.yp_msgs.specs.declared.results.AllItem.{AllItem}
+use Rattle.yp_msgs.specs.declared.results.AllItem.TheVariants.{More, End}
+use Rattle.yp_msgs.specs.declared.results.RespMaster.{RespMaster}
+use Rattle.yp_msgs.specs.Messages.{all_item, all_item_view, AllItemIsWithin, resp_master, resp_master_view}
+use Rattle.yp_answer.specs.declared.procedure.Path.{Path}
+use Rattle.yp_answer.specs.declared.procedure.Path.TheVariants.{Stream, Datagram}
+use Rattle.yp_answer.specs.Numbers.{room_of, record_max, datagram_max}
+use Rattle.yp_answer.specs.Reply.{exceeds}
+
+-- bytes with their length and padding
+pub opaque_short : (content : List ℕ) → length (opaque content) < length content + 8
+unfolding opaque fixed
+opaque_short content =
+    let n = length content in
+    let pad : length (padding n) ≡ padding_len n = length-replicate (padding_len n) 0 in
+    omega (arith, length-append (word n) (content ++ padding n), length-append content (padding n))
+
+-- what a path can carry fits its room
+pub fits_on : (path : Path) (len room : ℕ) → exceeds path len ≡ false → len ≤ record_max → room_of path ≤ room → len ≤ room
+fits_on Stream len room e few h = omega arith
+fits_on Datagram len room e few h = omega (arith, ltb-false datagram_max len e)
+
+-- each path has the room of a datagram
+pub least_room : (path : Path) → datagram_max ≤ room_of path
+least_room Stream = omega arith
+least_room Datagram = omega arith
+
+-- one item of ALL
+pub item_short : (item : AllItem) → AllItemIsWithin item → length (spelling all_item (all_item_view item)) ≤ 131096
+item_short (More row) h =
+    omega (arith, length-append (opaque row.val.now) (opaque row.key.now), opaque_short row.val.now, opaque_short row.key.now, h.val, h.key)
+item_short End h = omega arith
+
+-- it takes some
+pub item_some : (item : AllItem) → 0 < length (spelling all_item (all_item_view item))
+item_some (More row) = omega arith
+item_some End = omega arith
+
+-- a status and the name of a master
+pub master_short : (answer : RespMaster) → length answer.peer.now ≤ 64 → length (spelling resp_master (resp_master_view answer)) < 76
+master_short answer few = omega (arith, opaque_short answer.peer.now)

@@ -1,0 +1,9 @@
+pub mod Numbers
+pub mod Maps
+pub mod Held
+pub mod Results
+pub mod Procedures
+pub mod Reply
+pub mod Streams
+pub mod Items
+pub mod Answers

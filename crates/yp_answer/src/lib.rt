@@ -1,0 +1,22 @@
+//! The reply to one call, on one state of the maps.
+//!
+//! A record is answered by [`answer`], and a call in a datagram by [`answer_datagram`]. That each gives the one reply of
+//! YP version 2 (yp.x) over RPC (RFC 5531) on what its view knows, after at most one read step, stands on their clauses.
+//! The reply of ALL goes out in pieces of whole items, by [`AllStream::piece`].
+#![tactic(auto)]
+
+mod caller;
+mod calls;
+mod check;
+mod facts;
+mod limits;
+mod look_up;
+mod procedure;
+mod stream;
+#[cfg(test)]
+mod tests;
+
+pub use calls::{Answered, answer, answer_datagram};
+pub use limits::{DATAGRAM_MAX, RECORD_MAX};
+pub use procedure::{Path, Procedure};
+pub use stream::AllStream;

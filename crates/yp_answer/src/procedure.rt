@@ -1,0 +1,58 @@
+//! The procedures of YP version 2 that are answered (yp.x).
+
+ghost use Rattle.std.specs.Prelude.{◌≡◌};
+ghost use Rattle.yp_answer.specs.Procedures.{procedure_of};
+
+use yp_msgs::protocol::{
+    ALL, CLEAR, DOMAIN, DOMAIN_NONACK, FIRST, MAPLIST, MASTER, MATCH, NEXT, NULL, ORDER,
+};
+
+/// How a call comes and its reply goes.
+#[derive(Clone, Copy, Debug, PartialEq, Eq)]
+pub enum Path {
+    /// In records of a stream.
+    Stream,
+    /// In one datagram each.
+    Datagram,
+}
+
+/// A procedure that is answered.
+#[derive(Clone, Copy, Debug, PartialEq, Eq)]
+pub enum Procedure {
+    Null,
+    Domain,
+    DomainNonack,
+    Match,
+    First,
+    Next,
+    Clear,
+    All,
+    Master,
+    Order,
+    Maplist,
+}
+
+impl Procedure {
+    /// The procedure with this number on a path. ALL is sent over a stream alone.
+    pub(crate) fn of_number(path: Path, number: u32) -> Option<Procedure>
+        ensures { result ≡ procedure_of path number }
+    {
+        match number {
+            NULL => Some(Procedure::Null),
+            DOMAIN => Some(Procedure::Domain),
+            DOMAIN_NONACK => Some(Procedure::DomainNonack),
+            MATCH => Some(Procedure::Match),
+            FIRST => Some(Procedure::First),
+            NEXT => Some(Procedure::Next),
+            CLEAR => Some(Procedure::Clear),
+            ALL => match path {
+                Path::Stream => Some(Procedure::All),
+                Path::Datagram => None,
+            },
+            MASTER => Some(Procedure::Master),
+            ORDER => Some(Procedure::Order),
+            MAPLIST => Some(Procedure::Maplist),
+            _ => None,
+        }
+    }
+}

@@ -1,0 +1,142 @@
+//! The reply of ALL, given in pieces.
+
+ghost use Rattle.std.specs.Prelude.{◌≡◌, ◌+◌, ◌<◌, ◌≤◌, ◌↔◌, ◌++◌, [], length, take, slice_get, option_map, IfSome};
+ghost use Rattle.yp_version.specs.Limits.{rows_max};
+ghost use Rattle.yp_msgs.specs.Messages.{all_item, all_item_view, AllItemIsWithin};
+ghost use Rattle.yp_xdr.specs.Spelling.{spelling};
+ghost use Rattle.yp_answer.specs.Numbers.{record_max};
+ghost use Rattle.yp_answer.specs.Maps.{maps_of};
+ghost use Rattle.yp_answer.specs.Streams.{Gives, item_parts, parts_left, source_of, joined, between};
+ghost use Rattle.yp_answer.specs.declared.stream.TheConstants.{ITEM_MAX};
+ghost use Rattle.yp_answer.specs.Answers.{IsInside};
+ghost use Rattle.yp_answer.specs.Items.{items_view};
+
+use crate::caller::put_head;
+use crate::look_up::{no_row, row};
+use std::marker::Model;
+use yp_board::View;
+use yp_msgs::{AllItem, Message, YpStat};
+use yp_rpc::ReplyHead;
+use yp_version::{KEY_MAX, VALUE_MAX, Version};
+
+/// The bytes that are enough for one item: its two first words, and its value and key, each behind its length and padded.
+const ITEM_MAX: usize = 8 + (8 + VALUE_MAX) + (8 + KEY_MAX);
+
+/// The reply of ALL, which goes out in pieces of whole items. It is the reply on the one version that was shown when the
+/// call was answered, as long as the view that it is taken from makes no read step.
+#[derive(Debug, Drop)]
+pub struct AllStream {
+    xid: u32,
+    source: Result<u32, YpStat>,
+    given: usize,
+}
+
+impl Model for AllStream {
+    ghost use Rattle.yp_answer.specs.Streams.{Streamed};
+
+    ghost Value = { Streamed };
+
+    ghost view = { λ s. record { xid = s.xid; source = s.source; given = s.given } };
+}
+
+/// What ALL lists: the rows of a version, or the status that refuses it.
+#[derive(Drop)]
+enum Items<'a> {
+    Rows(&'a Version),
+    Refused(YpStat),
+}
+
+impl<'a> Items<'a> {
+    /// The item with this number, or the end behind the last one.
+    fn item(&self, i: usize) -> Option<AllItem<'a>>
+        ensures item { option_map (λ item. spelling all_item (all_item_view item)) result ≡ slice_get (item_parts (items_view self.now)) i }
+        ensures within { IfSome result AllItemIsWithin }
+        ensures few { IfSome result (λ item. i ≤ rows_max) }
+    {
+        match self {
+            Items::Rows(version) => match version.row(i) {
+                Some((key, val)) => Some(AllItem::More(row(key, val))),
+                None if i == version.len() => Some(AllItem::End),
+                None => None,
+            },
+            Items::Refused(stat) => match i {
+                0 => Some(AllItem::More(no_row(*stat))),
+                1 => Some(AllItem::End),
+                _ => None,
+            },
+        }
+    }
+}
+
+/// Puts items from one number on behind a place of the buffer, as many as fit. It answers the place behind them and the
+/// number of the next item.
+fn put_items(items: &Items<'_>, buf: &mut [u8], at: usize, first: usize) -> (usize, usize)
+    requires { at ≤ length buf.old }
+    ensures put { take result.0 buf.new ≡ take at buf.old ++ joined (between first result.1 (item_parts (items_view items.now))) }
+    ensures within { result.0 ≤ length buf.new }
+    ensures forward { first ≤ result.1 }
+    ensures few { first < result.1 → result.1 ≤ rows_max + 1 }
+    ensures some { first < length (item_parts (items_view items.now)) → at + ITEM_MAX ≤ length buf.old → at < result.0 }
+    ensures none { length (item_parts (items_view items.now)) ≤ first → result.0 ≡ at }
+{
+    let mut end = at;
+    let mut next = first;
+    while let Some(item) = items.item(next) {
+        if buf.len() - end < item.len() {
+            break;
+        }
+        end = item.set(buf, end);
+        next += 1;
+    }
+    (end, next)
+}
+
+impl AllStream {
+    /// The whole reply to a call: the rows of a map, or the status that refuses it.
+    pub(crate) fn new(xid: u32, source: Result<u32, YpStat>) -> AllStream
+        ensures { result ≡ record { xid = xid; source = source; given = 0 } }
+    {
+        AllStream {
+            xid,
+            source,
+            given: 0,
+        }
+    }
+
+    /// Puts the next parts of the reply at the front of the buffer, as many whole ones as fit, and answers their length
+    /// in bytes: 0 exactly at the end.
+    pub fn piece<V: View>(&mut self, view: &V, buf: &mut [u8]) -> usize
+        requires room { record_max ≤ length buf.old }
+        requires inside { IsInside (maps_of (V.seen view.now)) self.old.source }
+        ensures gives { Gives (take result buf.new) (parts_left (V.seen view.now).known self.old) (parts_left (V.seen view.now).known self.new) }
+        ensures end { (result ≡ 0) ↔ (parts_left (V.seen view.now).known self.old ≡ []) }
+        ensures same { self.new ≡ record self.old { given = self.new.given } }
+        ensures within { result ≤ length buf.new }
+    {
+        let items = items_of(view, self.source);
+        let given = self.given;
+        if given == 0 {
+            let at = put_head(buf, self.xid, &ReplyHead::Success);
+            let (end, next) = put_items(&items, buf, at, 0);
+            self.given = next + 1;
+            return end;
+        }
+        let (end, next) = put_items(&items, buf, 0, given - 1);
+        self.given = next + 1;
+        end
+    }
+}
+
+/// What is listed of a source.
+fn items_of<V: View>(view: &V, source: Result<u32, YpStat>) -> Items<'_>
+    requires { IsInside (maps_of (V.seen view.now)) source }
+    ensures { items_view result ≡ source_of (V.seen view.now).known source }
+{
+    match source {
+        Err(stat) => Items::Refused(stat),
+        Ok(map) => match view.held(map) {
+            Some(version) => Items::Rows(version),
+            None => Items::Refused(YpStat::Nomap),
+        },
+    }
+}

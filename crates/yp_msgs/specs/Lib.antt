@@ -1,0 +1,5 @@
+pub mod Numbers
+pub mod Statuses
+pub mod Messages
+pub mod MapLists
+pub mod Transfers

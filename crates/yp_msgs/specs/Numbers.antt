@@ -1,0 +1,56 @@
+-- The numbers of YP version 2, as the protocol file yp.x has them, and the limits of what its messages hold.
+use Rattle.std.specs.Prelude.{ℕ}
+
+-- the program YPPROG, and its version
+abbrev pub program : ℕ
+program = 100004
+
+abbrev pub version : ℕ
+version = 2
+
+-- the procedures, as YPPROC_NULL
+abbrev pub null_procedure : ℕ
+null_procedure = 0
+
+abbrev pub domain_procedure : ℕ
+domain_procedure = 1
+
+abbrev pub domain_nonack_procedure : ℕ
+domain_nonack_procedure = 2
+
+abbrev pub match_procedure : ℕ
+match_procedure = 3
+
+abbrev pub first_procedure : ℕ
+first_procedure = 4
+
+abbrev pub next_procedure : ℕ
+next_procedure = 5
+
+abbrev pub xfr_procedure : ℕ
+xfr_procedure = 6
+
+abbrev pub clear_procedure : ℕ
+clear_procedure = 7
+
+abbrev pub all_procedure : ℕ
+all_procedure = 8
+
+abbrev pub master_procedure : ℕ
+master_procedure = 9
+
+abbrev pub order_procedure : ℕ
+order_procedure = 10
+
+abbrev pub maplist_procedure : ℕ
+maplist_procedure = 11
+
+-- the most bytes of a name, a key and a value
+abbrev pub name_max : ℕ
+name_max = 64
+
+abbrev pub key_max : ℕ
+key_max = 65536
+
+abbrev pub value_max : ℕ
+value_max = 65536

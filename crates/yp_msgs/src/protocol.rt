@@ -1,0 +1,83 @@
+//! The numbers of YP version 2 (yp.x), and the limits of what its messages hold.
+
+ghost use Rattle.std.specs.Prelude.{◌≡◌};
+ghost use Rattle.yp_msgs.specs.Numbers.{program, version, name_max, key_max, value_max};
+ghost use Rattle.yp_msgs.specs.Numbers.{null_procedure, domain_procedure, domain_nonack_procedure, match_procedure};
+ghost use Rattle.yp_msgs.specs.Numbers.{first_procedure, next_procedure, xfr_procedure, clear_procedure};
+ghost use Rattle.yp_msgs.specs.Numbers.{all_procedure, master_procedure, order_procedure, maplist_procedure};
+
+/// The program number of YP.
+pub const YPPROG: u32 = 100_004;
+
+/// The version of YP that is spoken.
+pub const YPVERS: u32 = 2;
+
+/// The procedure that does nothing.
+pub const NULL: u32 = 0;
+
+/// The procedure that tells whether a domain is served.
+pub const DOMAIN: u32 = 1;
+
+/// The same, with silence in place of no.
+pub const DOMAIN_NONACK: u32 = 2;
+
+/// The procedure that gives a key's value.
+pub const MATCH: u32 = 3;
+
+/// The procedure that gives the first row of a map.
+pub const FIRST: u32 = 4;
+
+/// The procedure that gives the row behind a key's.
+pub const NEXT: u32 = 5;
+
+/// The procedure that has a map fetched from its master.
+pub const XFR: u32 = 6;
+
+/// The procedure that has open maps closed.
+pub const CLEAR: u32 = 7;
+
+/// The procedure that gives all rows of a map.
+pub const ALL: u32 = 8;
+
+/// The procedure that names the master of a map.
+pub const MASTER: u32 = 9;
+
+/// The procedure that gives the order number of a map.
+pub const ORDER: u32 = 10;
+
+/// The procedure that lists the maps of a domain.
+pub const MAPLIST: u32 = 11;
+
+/// The most bytes of a domain's, a map's, a master's or a host's name.
+pub const NAME_MAX: u32 = 64;
+
+/// The most bytes of a key.
+pub const KEY_MAX: u32 = 65_536;
+
+/// The most bytes of a value.
+pub const VALUE_MAX: u32 = 65_536;
+
+/// The numbers of the program are those that the definitions have. It does nothing.
+pub fn program_is_defined()
+    ensures program { YPPROG ≡ program }
+    ensures version { YPVERS ≡ version }
+    ensures null { NULL ≡ null_procedure }
+    ensures domain { DOMAIN ≡ domain_procedure }
+    ensures domain_nonack { DOMAIN_NONACK ≡ domain_nonack_procedure }
+    ensures match_ { MATCH ≡ match_procedure }
+    ensures first { FIRST ≡ first_procedure }
+    ensures next { NEXT ≡ next_procedure }
+    ensures xfr { XFR ≡ xfr_procedure }
+    ensures clear { CLEAR ≡ clear_procedure }
+    ensures all { ALL ≡ all_procedure }
+    ensures master { MASTER ≡ master_procedure }
+    ensures order { ORDER ≡ order_procedure }
+    ensures maplist { MAPLIST ≡ maplist_procedure }
+{}
+
+/// The limits are those that the definitions have. It does nothing.
+pub fn limits_are_defined()
+    ensures name { NAME_MAX ≡ name_max }
+    ensures key { KEY_MAX ≡ key_max }
+    ensures value { VALUE_MAX ≡ value_max }
+{}

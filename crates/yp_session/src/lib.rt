@@ -1,0 +1,12 @@
+//! One connection: the records of a wire, answered in turn.
+//!
+//! A session reads a record, writes its whole reply and flushes, and only then reads on. What goes out for what comes in,
+//! and how it ends, stands on [`Session::run`], and of one record on [`Session::step`].
+#![tactic(auto)]
+
+mod send;
+mod session;
+#[cfg(test)]
+mod tests;
+
+pub use session::{CALLS_MAX, End, Session, Step};
