@@ -1,0 +1,16 @@
+pub mod Slices
+pub mod Sits
+pub mod Images
+pub mod Stays
+pub mod Writes
+pub mod Moments
+pub mod Steps
+pub mod Again
+pub mod Filling
+pub mod Committing
+pub mod Rows
+pub mod Places
+pub mod Judging
+pub mod Loading
+pub mod Spelling
+pub mod Whole

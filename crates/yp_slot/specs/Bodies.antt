@@ -1,0 +1,126 @@
+-- The body of a version: XDR values in a row (RFC 4506). What stands in it is this project's own.
+use Rattle.std.specs.Prelude.{◌≡◌, ℕ, ◌+◌, Bool, true, false, zero, suc, List, [], ◌∷◌, ◌++◌, length, Option, Some, None, Result, Ok, Err, if◌then◌else◌, ◌==◌, nat_lt}
+use Rattle.std.specs.List.{flat_map}
+use Rattle.std.specs.Ordering.{is_lt}
+use Rattle.yp_xdr.specs.declared.fault.XdrFault.{XdrFault}
+use Rattle.yp_xdr.specs.declared.fault.XdrFault.TheVariants.{Short, TooLong, Pad, BadBool, BadEnum}
+use Rattle.yp_xdr.specs.Kind.{Kind, U32, Opaque, Value}
+use Rattle.yp_xdr.specs.Spelling.{spelling}
+use Rattle.yp_xdr.specs.Reading.{Unread, reading}
+use Rattle.yp_version.specs.Limits.{key_max, value_max, master_max, rows_max}
+use Rattle.yp_version.specs.Rows.{Row, key_cmp}
+use Rattle.yp_version.specs.Versions.{MapVersion, IsVersion}
+use Rattle.yp_slot.specs.declared.wrong.Wrong.{Wrong}
+
+-- ---- the bytes of a version
+
+-- the first word says whether the version is secure
+abbrev pub format : Bool → ℕ
+format secure = if secure then 2 else 1
+
+-- a row: its key and then its value
+unfoldable pub row_bytes : Row → List ℕ
+row_bytes row = spelling (Opaque key_max) row.0 ++ spelling (Opaque value_max) row.1
+
+-- format, order, master and count of rows
+unfoldable pub head_bytes : MapVersion → List ℕ
+head_bytes version =
+    spelling U32 (format version.secure) ++ spelling U32 version.order ++ spelling (Opaque master_max) version.master ++ spelling U32 (length version.rows)
+
+-- the whole body
+abbrev pub body : MapVersion → List ℕ
+body version = head_bytes version ++ flat_map row_bytes version.rows
+
+-- these bytes are the body of this version
+pub record IsBody (bytes : List ℕ) (version : MapVersion) : Type 0 where
+  pub within : IsVersion version
+  pub spelled : bytes ≡ body version
+
+-- ---- the first thing that is wrong in a body
+
+-- the value of a step, or where the body is wrong and by which rule
+infixl 10 ◌>>=◌
+abbrev pub ◌>>=◌ : {A B : Type 0} → Result A Wrong → (A → Result B Wrong) → Result B Wrong
+(Ok x) >>= f = f x
+(Err wrong) >>= f = Err wrong
+
+-- the place of an item that XDR refuses
+abbrev pub fault_place : XdrFault → ℕ
+fault_place (Short at) = at
+fault_place (TooLong at len) = at
+fault_place (Pad at) = at
+fault_place (BadBool at) = at
+fault_place (BadEnum at) = at
+
+-- rule 5: an item is refused
+abbrev pub by_xdr : {A : Type 0} → Result A XdrFault → Result A Wrong
+by_xdr (Ok x) = Ok x
+by_xdr (Err fault) = Err (record { at = fault_place fault; rule = 5 })
+
+-- the next item
+abbrev pub item : (kind : Kind) → Unread → Result (Value kind × Unread) Wrong
+item kind left = by_xdr (reading kind left)
+
+-- a rule that refuses what stands at a place
+abbrev pub guard : Bool → ℕ → ℕ → Result (Unit {0}) Wrong
+guard holds at rule = if holds then Ok tt else Err (record { at = at; rule = rule })
+
+-- rule 6: the format is neither 1 nor 2
+abbrev pub secure_of : ℕ → ℕ → Result Bool Wrong
+secure_of at number = if number == 1 then Ok false else if number == 2 then Ok true else Err (record { at = at; rule = 6 })
+
+-- what stands before the rows
+pub record Head : Type 0 where
+  pub secure : Bool
+  pub order : ℕ
+  pub master : List ℕ
+  pub count : ℕ
+
+-- format, order, master and count, of which rule 7 allows no more than the most rows
+unfoldable pub head_at : Unread → Result (Head × Unread) Wrong
+head_at left = do
+  number ← item U32 left
+  secure ← secure_of left.at number.0
+  order ← item U32 number.1
+  master ← item (Opaque master_max) order.1
+  count ← item U32 master.1
+  few ← guard (nat_lt count.0 (suc rows_max)) master.1.at 7
+  Ok (record { secure = secure; order = order.0; master = master.0; count = count.0 }, count.1)
+
+-- whether a key is over the one before it, if there is one
+abbrev pub is_over : Option (List ℕ) → List ℕ → Bool
+is_over None key = true
+is_over (Some last) key = is_lt (key_cmp last key)
+
+-- a row; rule 8: its key isn't over the one before it
+unfoldable pub row_at : Option (List ℕ) → Unread → Result (Row × Unread) Wrong
+row_at last left = do
+  key ← item (Opaque key_max) left
+  over ← guard (is_over last key.0) left.at 8
+  value ← item (Opaque value_max) key.1
+  Ok ((key.0, value.0), value.1)
+
+-- this many rows
+abbrev pub rows_at : ℕ → Option (List ℕ) → Unread → Result (List Row × Unread) Wrong
+rows_at zero last left = Ok ([], left)
+rows_at (suc n) last left = do
+  row ← row_at last left
+  rows ← rows_at n (Some row.0.0) row.1
+  Ok (row.0 ∷ rows.0, rows.1)
+
+-- rule 9: bytes follow the last row
+unfoldable pub body_at : List ℕ → Result MapVersion Wrong
+body_at bytes = do
+  head ← head_at (record { at = 0; bytes = bytes })
+  rows ← rows_at head.0.count None head.1
+  ended ← guard (length rows.1.bytes == 0) rows.1.at 9
+  Ok (record { order = head.0.order; master = head.0.master; secure = head.0.secure; rows = rows.0 })
+
+-- a reader of the code answers what is expected, and has then moved to what is left
+abbrev pub Answers : {X V : Type 0} → Result (V × Unread) Wrong → (X → V) → Result X Wrong → Unread → Type 0
+Answers expected view (Ok x) new = expected ≡ Ok (view x, new)
+Answers expected view (Err wrong) new = expected ≡ Err wrong
+
+-- a reader passed some of the bytes that it had left
+abbrev pub Passes : Unread → Unread → Type 0
+Passes old new = new.at + length new.bytes ≡ old.at + length old.bytes

@@ -1,0 +1,25 @@
+//! A file that keeps one version of a map through a crash at any moment.
+//!
+//! What its bytes stand for is the definition `stands`. [`Slot::load`] answers it. [`Slot::commit`] stores a version:
+//! at each moment of the call a crash leaves a file that stands for what stood before or for that version, and after
+//! Ok for that version alone. Its clauses rest on those of its four parts, on [`body_of`], and on [`laws`].
+#![tactic(auto)]
+
+mod cells;
+mod fault;
+mod known;
+pub mod laws;
+mod load;
+mod parts;
+mod read;
+mod slot;
+mod write;
+mod wrong;
+
+pub use fault::SlotFault;
+pub use known::Stage;
+pub use slot::Slot;
+pub use write::body_of;
+
+#[cfg(test)]
+mod tests;

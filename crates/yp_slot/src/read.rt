@@ -1,0 +1,142 @@
+//! Bodies, read.
+
+ghost use Rattle.std.specs.Prelude.{◌≡◌, ◌+◌, ◌≤◌, [], None, true, length, option_map, IfOk, OnOk};
+ghost use Rattle.yp_xdr.specs.Cursor.{unread};
+ghost use Rattle.yp_version.specs.Limits.{key_max, value_max, master_max, rows_max, body_max};
+ghost use Rattle.yp_version.specs.Rows.{padded, row_len};
+ghost use Rattle.yp_version.specs.Drafts.{draft_len};
+ghost use Rattle.yp_slot.specs.Bodies.{Answers, Passes, head_at, row_at, rows_at, body_at, is_over};
+ghost use Rattle.yp_slot.specs.Heads.{head_view, ReadsRows, ReadsBody};
+
+use crate::wrong::{BodyFault, Wrong};
+use std::alloc::Global;
+use std::random::RandomSource;
+use yp_version::{KEY_MAX, MASTER_MAX, ROWS_MAX, VALUE_MAX, Version, VersionBuilder, VersionFault};
+use yp_xdr::Cursor;
+
+/// The first word of a body whose version isn't secure.
+pub(crate) const PLAIN: u32 = 1;
+
+/// The first word of a body whose version is secure.
+pub(crate) const SECURE: u32 = 2;
+
+/// What stands before the rows.
+#[derive(Clone, Copy, Debug)]
+pub(crate) struct Front<'a> {
+    pub secure: bool,
+    pub order: u32,
+    pub master: &'a [u8],
+    pub count: u32,
+}
+
+/// Reads what stands before the rows.
+#[tactic(auto, using(crate::proofs::Again::word_place, crate::proofs::Again::opaque_place), unfolding(crate::specs::Bodies::head_at))]
+fn read_front<'a>(cursor: &mut Cursor<'a>) -> Result<Front<'a>, Wrong>
+    ensures read { Answers (head_at (unread cursor.old)) head_view result (unread cursor.new) }
+    ensures passed { OnOk result (Passes (unread cursor.old) (unread cursor.new)) }
+    ensures place { IfOk result (λ front. (unread cursor.new).at
+        ≡ (unread cursor.old).at + 16 + padded (length front.master.now)) }
+    ensures master { IfOk result (λ front. length front.master.now ≤ master_max) }
+    ensures count { IfOk result (λ front. front.count ≤ rows_max) }
+{
+    let start = cursor.at();
+    let secure = match cursor.u32()? {
+        PLAIN => false,
+        SECURE => true,
+        _ => return Err(Wrong { at: start, rule: 6 }),
+    };
+    let order = cursor.u32()?;
+    let master = cursor.string(MASTER_MAX as u32)?;
+    let place = cursor.at();
+    let count = cursor.u32()?;
+    if count > ROWS_MAX as u32 {
+        return Err(Wrong { at: place, rule: 7 });
+    }
+    Ok(Front {
+        secure,
+        order,
+        master,
+        count,
+    })
+}
+
+/// Whether a key is over the one before it, if there is one.
+fn is_over(last: Option<&[u8]>, key: &[u8]) -> bool
+    ensures { result ≡ is_over (option_map (λ last. last.now) last.entry) key.now }
+{
+    match last {
+        Some(last) => last.cmp(key).is_lt(),
+        None => true,
+    }
+}
+
+/// Reads a row, whose key has to be over the one before it.
+#[tactic(auto, using(crate::proofs::Again::opaque_place), unfolding(crate::specs::Bodies::row_at))]
+fn read_row<'a>(cursor: &mut Cursor<'a>, last: Option<&[u8]>) -> Result<(&'a [u8], &'a [u8]), Wrong>
+    ensures read { Answers (row_at (option_map (λ last. last.now) last.entry) (unread cursor.old))
+        (λ row. (row.0.now, row.1.now)) result (unread cursor.new) }
+    ensures passed { OnOk result (Passes (unread cursor.old) (unread cursor.new)) }
+    ensures place { IfOk result (λ row. (unread cursor.new).at
+        ≡ (unread cursor.old).at + row_len (row.0.now, row.1.now)) }
+    ensures over { IfOk result (λ row. is_over (option_map (λ last. last.now) last.entry) row.0.now ≡ true) }
+    ensures key { IfOk result (λ row. length row.0.now ≤ key_max) }
+    ensures value { IfOk result (λ row. length row.1.now ≤ value_max) }
+{
+    let place = cursor.at();
+    let key = cursor.opaque(KEY_MAX as u32)?;
+    if !is_over(last, key) {
+        return Err(Wrong { at: place, rule: 8 });
+    }
+    let value = cursor.opaque(VALUE_MAX as u32)?;
+    Ok((key, value))
+}
+
+/// Reads this many rows into a builder that has none, each once.
+fn read_rows(
+    cursor: &mut Cursor<'_>,
+    count: u32,
+    builder: &mut VersionBuilder,
+) -> Result<(), BodyFault>
+    requires none { builder.old.rows ≡ [] }
+    requires count { count ≤ rows_max }
+    requires place { (unread cursor.old).at ≡ draft_len builder.old }
+    requires size { (unread cursor.old).at + length (unread cursor.old).bytes ≤ body_max }
+    ensures read { ReadsRows (rows_at count None (unread cursor.old)) result builder.old builder.new (unread cursor.new) }
+    ensures passed { OnOk result (Passes (unread cursor.old) (unread cursor.new)) }
+{
+    let mut last: Option<&[u8]> = None;
+    for _number in 0..count {
+        let (key, value) = read_row(cursor, last)?;
+        if let Err(fault) = builder.push(key, value) {
+            // The row keeps the limits and its key is new, so only memory can be wanting.
+            prove!(matches!(fault, VersionFault::NoMemory));
+            return Err(BodyFault::NoMemory);
+        }
+        last = Some(key);
+    }
+    Ok(())
+}
+
+/// The version that a body spells, or the first thing that is wrong in it.
+#[tactic(auto, unfolding(crate::specs::Bodies::body_at))]
+pub(crate) fn read_version(
+    alloc: Global,
+    rt: &impl RandomSource,
+    body: &[u8],
+) -> Result<Version, BodyFault>
+    requires { length body.now ≤ body_max }
+    ensures { ReadsBody (body_at body.now) result }
+{
+    yp_version::laws::rising_stays();
+    let mut cursor = Cursor::new(body);
+    let front = read_front(&mut cursor)?;
+    let mut builder = VersionBuilder::new(alloc, rt, front.order, front.master)?;
+    read_rows(&mut cursor, front.count, &mut builder)?;
+    if cursor.at() < body.len() {
+        return Err(BodyFault::Wrong(Wrong {
+            at: cursor.at(),
+            rule: 9,
+        }));
+    }
+    Ok(builder.finish()?.marked(front.secure))
+}
