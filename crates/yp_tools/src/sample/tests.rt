@@ -35,13 +35,21 @@ fn try_words<R: RandomSource + Abort>(
 #[test]
 fn numbers_told(rt: HostRuntime) -> Result<(), Fail> {
     let alloc = rt.alloc();
-    let cases: [(&str, &str); 3] = [
-        ("0", "rows 0 body 24 all 28 matched 0\n"),
-        ("1", "rows 1 body 48 all 60 matched 1\n"),
-        ("3", "rows 3 body 96 all 124 matched 3\n"),
+    let cases: [(&str, &str, &str); 6] = [
+        ("0", "0", "rows 0 body 24 all 28 matched 0\n"),
+        ("0", "1", "rows 1 body 48 all 60 matched 1\n"),
+        ("0", "3", "rows 3 body 96 all 124 matched 3\n"),
+        ("4294967295", "3", "rows 3 body 96 all 124 matched 3\n"),
+        ("0", "1000", "rows 1000 body 24024 all 32028 matched 1000\n"),
+        (
+            "7",
+            "262144",
+            "rows 262144 body 7336056 all 9433212 matched 262144\n",
+        ),
     ];
-    for (count, line) in cases {
-        try_words(&rt, alloc, &["sample", "0", count], &[], Status::Done, line)?;
+    for (start, count, line) in cases {
+        let words = ["sample", start, count];
+        try_words(&rt, alloc, &words, &[], Status::Done, line)?;
     }
     Ok(())
 }
