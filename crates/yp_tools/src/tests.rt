@@ -147,6 +147,24 @@ fn try_case<R: RandomSource + Abort>(
     try_words(rt, alloc, &strings(alloc, &SERVED)?, name, case)
 }
 
+/// Runs these words in fair weather, to an end that isn't Done.
+fn try_ended<R: RandomSource + Abort>(
+    rt: &R,
+    alloc: Global,
+    words: &[String],
+    input: &[u8],
+    output: &[u8],
+    status: Status,
+    note: &str,
+) -> Result<(), AllocError> {
+    let case = Case {
+        status,
+        note,
+        ..answered(input, output)
+    };
+    try_words(rt, alloc, words, note, &case)
+}
+
 /// Calls that are answered well, and the replies.
 const ANSWERED: [(&str, &[&str], &[&str]); 10] = [
     ("no call", &[], &[]),
@@ -333,12 +351,17 @@ fn empty_fragments(rt: HostRuntime) -> Result<(), Fail> {
     let reply = bytes(alloc, &[MATCH_REPLY])?;
     try_case(&rt, alloc, "1,024", &answered(&most, &reply))?;
     let too_many = behind_empty_fragments(alloc, 1025)?;
-    let case = Case {
-        status: Status::TooLong { at: 0 },
-        note: "yp: too long at 0\n",
-        ..answered(&too_many, &[])
-    };
-    try_case(&rt, alloc, "1,025", &case)?;
+    let words = strings(alloc, &SERVED)?;
+    let status = Status::TooLong { at: 0 };
+    try_ended(
+        &rt,
+        alloc,
+        &words,
+        &too_many,
+        &[],
+        status,
+        "yp: too long at 0\n",
+    )?;
     Ok(())
 }
 
@@ -385,30 +408,30 @@ const BROKEN: [(&[&str], &[&str], Status, &str); 6] = [
 #[test]
 fn torn_and_long(rt: HostRuntime) -> Result<(), Fail> {
     let alloc = rt.alloc();
+    let words = strings(alloc, &SERVED)?;
     for (input, output, status, note) in BROKEN {
         let input = bytes(alloc, input)?;
         let output = bytes(alloc, output)?;
-        let case = Case {
-            status,
-            note,
-            ..answered(&input, &output)
-        };
-        try_case(&rt, alloc, note, &case)?;
+        try_ended(&rt, alloc, &words, &input, &output, status, note)?;
     }
     Ok(())
 }
 
-/// A call of MATCH, xid 1, whose key is so many bytes `k`, given the head of its record and the length in hexadecimal.
-fn with_key_of(alloc: Global, head: &str, len: &str, count: usize) -> Result<Vec<u8>, Fail> {
+/// A call of MATCH, xid 1, whose key is so many bytes `k`, given the head of its record, the length and the padding.
+fn with_key_of(
+    alloc: Global,
+    head: &str,
+    len: &str,
+    count: usize,
+    padding: &str,
+) -> Result<Vec<u8>, Fail> {
     let before = "00000001 00000000 00000002 000186a4 00000002 00000003
         00000000 00000000 00000000 00000000";
     let mut all = bytes(alloc, &[head, before, LAB, HOSTS, len])?;
     for _ in 0..count {
         all.push(b'k')?;
     }
-    while all.len() % 4 != 0 {
-        all.push(0)?;
-    }
+    all.extend_from_slice(&bytes(alloc, &[padding])?)?;
     Ok(all)
 }
 
@@ -421,11 +444,11 @@ fn absent_and_long_key(rt: HostRuntime) -> Result<(), Fail> {
         &["80000018 00000001 00000001 00000000 00000000 00000000 00000004"],
     )?;
     // The key stands behind 40 bytes of head, 24 of names and 4 of its length.
-    let key = with_key_of(alloc, "80000448", "00000401", 1025)?;
+    let key = with_key_of(alloc, "80000448", "00000401", 1025, "000000")?;
     try_case(&rt, alloc, "1,025 bytes", &answered(&key, &absent))?;
-    let key = with_key_of(alloc, "80010044", "00010000", 65_536)?;
+    let key = with_key_of(alloc, "80010044", "00010000", 65_536, "")?;
     try_case(&rt, alloc, "65,536 bytes", &answered(&key, &absent))?;
-    let key = with_key_of(alloc, "80010048", "00010001", 65_537)?;
+    let key = with_key_of(alloc, "80010048", "00010001", 65_537, "000000")?;
     try_case(&rt, alloc, "65,537 bytes", &answered(&key, &garbage))?;
     Ok(())
 }
@@ -482,15 +505,20 @@ fn rows_past_a_limit(rt: HostRuntime) -> Result<(), Fail> {
         }
     }
     let call = bytes(alloc, &[MATCH])?;
-    let case = Case {
-        status: Status::Rows { row: 257, rule: 4 },
-        note: "yp: row 257 rule 4\n",
-        ..answered(&call, &[])
-    };
-    try_words(&rt, alloc, &words, "256 rows", &case)?;
+    let status = Status::Rows { row: 257, rule: 4 };
+    try_ended(
+        &rt,
+        alloc,
+        &words,
+        &call,
+        &[],
+        status,
+        "yp: row 257 rule 4\n",
+    )?;
+    assert!(rt; words.pop().is_some());
     let absent = bytes(alloc, &["80000020", SUCCESS, "fffffffd 00000000"])?;
     let case = answered(&call, &absent);
-    try_words(&rt, alloc, &words[..257], "255 rows", &case)?;
+    try_words(&rt, alloc, &words, "255 rows", &case)?;
     Ok(())
 }
 
@@ -512,21 +540,22 @@ fn usage_words(rt: HostRuntime) -> Result<(), Fail> {
     let alloc = rt.alloc();
     let call = bytes(alloc, &[MATCH])?;
     for (words, word, note) in USAGE {
-        let case = Case {
-            status: Status::Usage { word },
-            note,
-            ..answered(&call, &[])
-        };
-        try_words(&rt, alloc, &strings(alloc, words)?, note, &case)?;
+        let words = strings(alloc, words)?;
+        let status = Status::Usage { word };
+        try_ended(&rt, alloc, &words, &call, &[], status, note)?;
     }
     let mut words = strings(alloc, &["once", "lab/m"])?;
     words.push(long_row(alloc, b"k", 65_537)?)?;
-    let case = Case {
-        status: Status::Usage { word: 2 },
-        note: "yp: usage at word 2\n",
-        ..answered(&call, &[])
-    };
-    try_words(&rt, alloc, &words, "a long value", &case)?;
+    let status = Status::Usage { word: 2 };
+    try_ended(
+        &rt,
+        alloc,
+        &words,
+        &call,
+        &[],
+        status,
+        "yp: usage at word 2\n",
+    )?;
     Ok(())
 }
 
