@@ -6,9 +6,11 @@
 
 mod ask;
 mod command;
+mod form;
 mod once;
 mod program;
 mod sample;
+mod sentence;
 mod status;
 mod tally;
 #[cfg(test)]
@@ -18,4 +20,4 @@ mod words;
 pub use command::{Command, KeyValue};
 pub use program::{Outside, run, tell};
 pub use status::Status;
-pub use words::{ParseFault, parse};
+pub use words::{ParseFault, disk_names, parse};

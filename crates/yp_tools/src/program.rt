@@ -133,6 +133,7 @@ fn run_words<S: Source, K: Sink>(
         Err(ParseFault::Usage { word }) => Status::Usage { word },
         Err(ParseFault::NoMemory) => Status::NoMemory,
         Ok(Command::Once { store, rows }) => once(alloc, rt, store, &rows, wire),
+        Ok(Command::Check { .. }) | Ok(Command::Build { .. }) => Status::NoMemory,
         Ok(Command::Sample { start, count }) => sample(alloc, rt, start, count, &mut wire.sink),
     }
 }

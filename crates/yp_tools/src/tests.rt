@@ -2,7 +2,7 @@
 
 ghost use Rattle.std.specs.Prelude.{◌<◌};
 
-use crate::{Command, Outside, Status, parse, run, tell};
+use crate::{Outside, Status, run, tell};
 use std::alloc::{AllocError, Global};
 use std::process::Abort;
 use std::random::RandomSource;
@@ -622,22 +622,6 @@ fn codes_and_notes(rt: HostRuntime) -> Result<(), Fail> {
         let mut notes = MemSink::new(rt.alloc(), 4096, Vec::new(rt.alloc()));
         tell(&mut notes, status);
         assert_eq!(rt; notes.taken(), note.as_bytes(), "{status:?}");
-    }
-    Ok(())
-}
-
-#[test]
-fn parsed(rt: HostRuntime) -> Result<(), Fail> {
-    let words = strings(rt.alloc(), &["once", "lab/hosts.byname", "a=b=c", "x="])?;
-    let Ok(Command::Once { store, rows }) = parse(rt.alloc(), &words) else {
-        return Err("the words are a sentence".into());
-    };
-    assert_eq!(rt; store.domain.as_slice(), b"lab".as_slice());
-    assert_eq!(rt; store.map.as_slice(), b"hosts.byname".as_slice());
-    assert_eq!(rt; rows.len(), 2);
-    for (row, (key, value)) in rows.iter().zip(&[("a", "b=c"), ("x", "")]) {
-        assert_eq!(rt; row.key.as_slice(), key.as_bytes());
-        assert_eq!(rt; row.value.as_slice(), value.as_bytes());
     }
     Ok(())
 }
