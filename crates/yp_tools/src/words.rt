@@ -1,8 +1,8 @@
 //! The words of the command line.
 
-ghost use Rattle.std.specs.Prelude.{◌≡◌, ◌+◌, ◌≤◌, ◌<◌, drop, length, map, Some, Ok, IfOk, IfErr, OnErr};
+ghost use Rattle.std.specs.Prelude.{◌≡◌, drop, map, Ok, IfOk, IfErr, OnErr};
 ghost use Rattle.yp_board.specs.Catalogues.{name_view};
-ghost use Rattle.yp_tools.specs.Words.{name_of, row_of, value_of, word_at, command_of, disk_names, stores_of, row_view, meaning, texts, asks_of, once, check, build, sample, Build, TakesMemory, IsSentenceOfWords, IsUsage};
+ghost use Rattle.yp_tools.specs.Words.{name_of, row_of, value_of, word_at, command_of, disk_names, stores_of, row_view, meaning, texts, asks_of, once, check, sample, Build, TakesMemory, IsSentenceOfWords, IsUsage};
 
 use crate::command::{Command, KeyValue};
 use crate::form::{SECURE, cut_at, number_of};

@@ -1,10 +1,10 @@
-use Rattle.std.proofs.Common.{◌≡◌, ℕ, ◌+◌, ◌<◌, List, [], ◌∷◌, Option, drop, map, length, refl, arith, length-drop}
+use Rattle.std.proofs.Common.{◌≡◌, ◌<◌, List, [], ◌∷◌, Option, drop, map, length, refl, arith, length-drop}
 use Rattle.std.specs.Option.{option_map}
 use Rattle.std.proofs.lemmas.Grind.{common_steps}
 use Rattle.std.proofs.lemmas.List.{nil_from_length}
 use Rattle.yp_tools.specs.declared.form.Form.{Form as CodeForm}
 use Rattle.yp_tools.specs.Forms.{Form, form_view}
-use Rattle.yp_tools.specs.Words.{fitting, texts}
+use Rattle.yp_tools.specs.Words.{fitting}
 use Rattle.yp_tools.proofs.sentence.fitting.Goals as goal
 use Rattle.yp_tools.proofs.sentence.fitting.Goals.{then-i-words-via-then-i-words, then-i-words-via-else-i-words+then-not-fits}
 

@@ -1,6 +1,6 @@
-use Rattle.std.proofs.Common.{◌≡◌, ℕ, List, Option, Some, None, Result, Ok, Err, refl, sym, ap, subst, ◌∙◌}
+use Rattle.std.proofs.Common.{◌≡◌, ℕ, List, Some, None, Result, Ok, Err, sym, ap, subst, ◌∙◌}
 use Rattle.std.specs.Option.{ok_or}
-use Rattle.yp_tools.specs.Words.{Meaning, command_of, asked, sentences, wrong_word, texts, asks_of, TakesMemory, IsSentenceOfWords}
+use Rattle.yp_tools.specs.Words.{Meaning, command_of, asked, sentences, wrong_word, texts, asks_of, IsSentenceOfWords}
 use Rattle.yp_tools.proofs.words.parse.Goals as goal
 
 -- words that ask for something are a command
