@@ -19,7 +19,7 @@ pub enum Task {
 
 /// A sentence.
 #[derive(Clone, Copy)]
-pub struct Sentence {
+struct Sentence {
     /// What it asks for.
     task: Task,
     /// The forms of its words, in order.
@@ -29,7 +29,7 @@ pub struct Sentence {
 }
 
 /// All sentences.
-pub const SENTENCES: [Sentence; 5] = [
+const SENTENCES: [Sentence; 5] = [
     Sentence {
         task: Task::Once,
         forms: &[Form::Exactly("once"), Form::Store],
