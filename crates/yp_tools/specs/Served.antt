@@ -3,13 +3,12 @@ use Rattle.std.specs.Prelude.{◌≡◌, ℕ, ◌-◌, ◌<◌, ◌≤◌, List,
 use Rattle.std.specs.Io.KnownBytes.{Keeps, Appends}
 use Rattle.yp_io.specs.Counts.{last_count}
 use Rattle.yp_rpc.specs.Records.{Fragments, Cut, IsTorn, IsBegun, IsTooLong, IsLong}
-use Rattle.yp_answer.specs.declared.procedure.Path.TheVariants.{Stream}
 use Rattle.yp_answer.specs.Maps.{Maps}
-use Rattle.yp_answer.specs.Reply.{reply}
 use Rattle.yp_session.specs.declared.session.End.{End}
 use Rattle.yp_session.specs.declared.session.End.TheVariants as ends
 use Rattle.yp_session.specs.Runs.{sent_reply}
 use Rattle.yp_tools.specs.Numbers.{call_max, calls_max}
+use Rattle.yp_tools.specs.Callers.{reply_to}
 use Rattle.yp_tools.specs.declared.status.Status.{Status}
 use Rattle.yp_tools.specs.declared.status.Status.TheVariants.{Done, Usage, ReadFault, WriteFault, Torn, TooLong, NoMemory, Rows, Enough}
 
@@ -22,9 +21,9 @@ status_of ends.ReadFault = ReadFault
 status_of ends.WriteFault = WriteFault
 status_of ends.Enough = Enough
 
--- what is sent for a record from port 0
+-- what is sent for a record from nobody
 abbrev pub answer_to : Maps → List ℕ → List ℕ
-answer_to maps message = sent_reply (reply Stream maps 0 message)
+answer_to maps message = sent_reply (reply_to maps message)
 
 -- what is sent for records, in their order
 abbrev pub answers : Maps → List (List ℕ) → List ℕ

@@ -6,6 +6,7 @@
 
 mod ask;
 mod command;
+mod host;
 mod once;
 mod program;
 mod sample;

@@ -16,6 +16,7 @@ ghost use Rattle.yp_tools.specs.Status.{note};
 ghost use Rattle.yp_tools.specs.Served.{IsStatusOf, Serves};
 
 use crate::command::{Command, KeyValue};
+use crate::host::FixedHost;
 use crate::once::{board_of, version_of};
 use crate::sample::sample;
 use crate::status::Status;
@@ -72,10 +73,11 @@ fn serve<S: Source, K: Sink>(alloc: Global, board: PlainBoard, wire: &mut Pair<S
     ensures sound { (row rule : ℕ) → result ≢ Status.Rows row rule }
     ensures sentence { (word : ℕ) → result ≢ Status.Usage word }
 {
-    let mut board = board;
+    yp_answer::laws::open_is_from_own_host();
+    let mut host = FixedHost { board };
     match Session::new(alloc) {
         Err(NoMemory) => Status::NoMemory,
-        Ok(mut session) => session.run(wire, &mut board, NOBODY, CALLS_MAX).into(),
+        Ok(mut session) => session.run(wire, &mut host, NOBODY, CALLS_MAX).into(),
     }
 }
 

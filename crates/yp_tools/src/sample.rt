@@ -8,9 +8,8 @@ ghost use Rattle.yp_version.specs.Limits.{key_max, value_max, rows_max};
 ghost use Rattle.yp_build.specs.Samples.{sampled};
 ghost use Rattle.yp_answer.specs.Numbers.{record_max};
 ghost use Rattle.yp_answer.specs.Maps.{maps_of};
-ghost use Rattle.yp_answer.specs.Reply.{reply as reply_of};
+ghost use Rattle.yp_tools.specs.Callers.{reply_to};
 ghost use Rattle.yp_tools.specs.Sample.{sample_maps, is_matched, reply_len, all_call, tally_of, Tells};
-ghost use Rattle.yp_answer.specs.declared.procedure.Path.TheVariants as paths;
 
 use crate::ask::{SAMPLE, ask, set_all, set_match, set_value};
 use crate::once::shown_on;
@@ -95,7 +94,7 @@ fn all_len(
 ) -> Result<usize, NoMemory>
     requires message { record_max ≤ length message.old }
     requires piece { record_max ≤ length piece.old }
-    ensures { IfOk result (λ len. len ≡ reply_len (reply_of paths.Stream (maps_of board.old) 0 all_call)) }
+    ensures { IfOk result (λ len. len ≡ reply_len (reply_to (maps_of board.old) all_call)) }
 {
     let len = set_all(message);
     if !ask(board, &message[..len], piece, reply)? {
