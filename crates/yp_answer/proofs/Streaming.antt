@@ -1,16 +1,15 @@
 -- The reply of ALL as a stream.
-use Rattle.std.proofs.Common.{◌≡◌, ℕ, List, [], ◌∷◌, ◌++◌, map, Result, Ok, Err, refl, sym, ap, subst, ◌∙◌}
+use Rattle.std.proofs.Common.{◌≡◌, ℕ, List, Result, Ok, sym, ap, subst, ◌∙◌}
 use Rattle.yp_xdr.specs.Kind.{Value, ListOf}
 use Rattle.yp_xdr.specs.Reading.{Unread}
 use Rattle.yp_msgs.specs.declared.stat.YpStat.{YpStat}
 use Rattle.yp_msgs.specs.Messages.{req_nokey, key_val}
-use Rattle.yp_version.specs.Versions.{MapVersion}
 use Rattle.yp_answer.specs.declared.caller.Caller.{Caller}
 use Rattle.yp_answer.specs.declared.procedure.Procedure.TheVariants.{All}
 use Rattle.yp_answer.specs.Maps.{Maps, row_check}
 use Rattle.yp_answer.specs.Results.{all_items}
 use Rattle.yp_answer.specs.Reply.{Response, Bytes, arguments_of, with_arguments, procedure_reply, success}
-use Rattle.yp_answer.specs.Streams.{Streamed, source_of, parts, parts_left, joined}
+use Rattle.yp_answer.specs.Streams.{Streamed, source_of, parts_left, joined}
 use Rattle.yp_answer.specs.Answers.{IsInside, Streams}
 use Rattle.yp_answer.proofs.Parts.{joined_parts}
 

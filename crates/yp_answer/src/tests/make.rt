@@ -140,11 +140,27 @@ fn other_calls_of_the_make_program(rt: HostRuntime) -> Result<(), Fail> {
     Ok(())
 }
 
+// The xid, the kind and the domain of a call that is left open.
+fn opened(
+    alloc: Global,
+    path: Path,
+    board: &mut PlainBoard,
+    call: &[u8],
+) -> Result<(u32, u32, Vec<u8>), Fail> {
+    let mut buf = vec![in alloc; 9; RECORD_MAX]?;
+    match asked(path, board, OWN_HOST, call, &mut buf) {
+        Answered::Make { xid, request } => {
+            let domain = Vec::from_slice(alloc, request.domain)?;
+            Ok((xid, request.kind, domain))
+        }
+        _ => Err("the MAKE isn't open".into()),
+    }
+}
+
 #[test]
 fn open_makes(rt: HostRuntime) -> Result<(), Fail> {
     let alloc = rt.alloc();
     let mut board = two_domains(&rt, alloc)?;
-    let mut buf = vec![in alloc; 9; RECORD_MAX]?;
     // The arguments, bytes behind which aren't read, and the domain.
     let rows: [(&[&str], &[u8]); 3] = [
         (&[LAB, "00000005"], b"lab"),
@@ -155,13 +171,9 @@ fn open_makes(rt: HostRuntime) -> Result<(), Fail> {
         let mut call = bytes_of(alloc, MAKE)?;
         call.extend_from_slice(&joined(alloc, arguments)?)?;
         for path in [Path::Stream, Path::Datagram] {
-            match asked(path, &mut board, OWN_HOST, &call, &mut buf) {
-                Answered::Make { xid, request } => {
-                    assert_eq!(rt; (xid, request.kind), (2, 5));
-                    assert_eq!(rt; request.domain, domain);
-                }
-                _ => return Err("the MAKE isn't open".into()),
-            }
+            let (xid, kind, asked) = opened(alloc, path, &mut board, &call)?;
+            assert_eq!(rt; (xid, kind), (2, 5));
+            assert_eq!(rt; asked.as_slice(), domain);
         }
     }
     Ok(())

@@ -96,15 +96,26 @@ fn make_from_another_host(rt: HostRuntime) -> Result<(), Fail> {
 fn make_whose_reply_is_lost(rt: HostRuntime) -> Result<(), Fail> {
     let alloc = rt.alloc();
     let mut session = Session::new(alloc)?;
-    // A reply of 32 bytes is four writes and a flush. The call of the sink that fails, and the bytes that were taken.
-    for (write, taken) in [(0, 0), (1, 10), (3, 30), (4, 32)] {
+    // A reply of 32 bytes is four writes and a flush. The call of the sink that fails, and what it took.
+    for (write, taken) in [
+        (0, ""),
+        (1, "8000001c 00000002 0000"),
+        (
+            3,
+            "8000001c 00000002 00000001 00000000 00000000 00000000 00000000 0000",
+        ),
+        (
+            4,
+            "8000001c 00000002 00000001 00000000 00000000 00000000 00000000 00000001",
+        ),
+    ] {
         let mut host = unmade(&rt, alloc)?;
         let mut wire = wire(alloc, &[MAKE, "00000001", MATCH], NEVER, write)?;
         assert_eq!(rt; session.run(&mut wire, &mut host, PEER, 9), End::WriteFault);
         assert_eq!(rt; host.makes, 1);
         assert!(rt; host.next.is_none());
-        let output = bytes(alloc, &[MADE, "00000001"])?;
-        assert_eq!(rt; wire.sink.taken(), &output[..taken]);
+        let output = bytes(alloc, &[taken])?;
+        assert_eq!(rt; wire.sink.taken(), output.as_slice());
         // The record of MATCH, of 84 bytes, wasn't read.
         assert_eq!(rt; left(&rt, &mut wire), 84);
     }

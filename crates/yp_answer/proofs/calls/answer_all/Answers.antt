@@ -1,8 +1,8 @@
-use Rattle.std.proofs.Common.{◌≡◌, sym, ap, ◌∙◌, Result, Ok, Err, subst}
+use Rattle.std.proofs.Common.{◌≡◌, sym, ap, ◌∙◌, Ok, subst}
 use Rattle.std.specs.Option.{ok_or}
 use Rattle.yp_msgs.specs.Messages.{req_nokey, req_nokey_view}
 use Rattle.yp_msgs.specs.declared.stat.YpStat.TheVariants.{Nomap}
-use Rattle.yp_xdr.specs.Reading.{Unread, reading}
+use Rattle.yp_xdr.specs.Reading.{reading}
 use Rattle.yp_xdr.specs.Cursor.{unread}
 use Rattle.yp_answer.specs.Maps.{Maps, maps_of, row_check}
 use Rattle.yp_answer.specs.Streams.{source_of}

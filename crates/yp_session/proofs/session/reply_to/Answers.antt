@@ -1,8 +1,6 @@
-use Rattle.std.proofs.Common.{ℕ, List, Some, None, take, sym, ap}
-use Rattle.std.specs.Io.KnownBytes.{Appends}
+use Rattle.std.proofs.Common.{Some, None, take}
 use Rattle.std.proofs.lemmas.Result.{on_ok_weaker, on_err_weaker}
 use Rattle.yp_msgs.specs.Transfers.{req_make_view}
-use Rattle.yp_rpc.specs.Records.{sent}
 use Rattle.yp_answer.specs.declared.procedure.Path.TheVariants.{Stream}
 use Rattle.yp_answer.specs.Maps.{maps_of}
 use Rattle.yp_answer.specs.Streams.{parts_left, joined}
