@@ -16,7 +16,8 @@ use yp_rpc::ReplyHead;
 /// The address of a caller on the server's own host.
 const OWN_HOST: [u8; 4] = [127, 0, 0, 1];
 
-/// The status that refuses to make a map for a caller, the first that applies, or none. It rests on the catalogue alone.
+/// The status that refuses to make a map for a caller, the first that applies, or none. It rests on the catalogue
+/// alone.
 pub fn make_check(catalog: &Catalog, peer: Peer, asked: &ReqMake<'_>) -> Option<XfrStat>
     ensures { result ≡ make_check catalog.now peer (req_make_view asked.now) }
 {

@@ -23,7 +23,8 @@ pub trait Host: View {
     /// is left open.
     fn make(&mut self, request: &ReqMake<'_>, peer: Peer) -> XfrStat
         requires { make_check (Self.seen self.old).catalogue peer (req_make_view request.now) ≡ None }
-        ensures { Makes (conduct_of Self.seen files Self.stepped made) (req_make_view request.now) peer result self.old self.new };
+        ensures { Makes (conduct_of Self.seen files Self.stepped made) (req_make_view request.now) peer result
+            self.old self.new };
 
     /// A read step counts nothing.
     ghost step_counts_nothing: { (old new : Self) → Self.stepped old new → files new ≡ files old };

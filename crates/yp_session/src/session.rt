@@ -173,10 +173,10 @@ fn reply_to<K: Sink, H: Host>(
 ) -> Result<(), Failed>
     requires idle { writer.old ≡ [] }
     requires room { record_max ≤ length buf.old }
-    ensures sent { OnOk result (Replies (conduct_of H.seen H.files H.stepped H.made) peer record.now host.old host.new
-        (λ bytes. Appends (K.output sink.old) (K.output sink.new) bytes)) }
-    ensures prefix { OnErr result (Replies (conduct_of H.seen H.files H.stepped H.made) peer record.now host.old host.new
-        (λ bytes. (n : ℕ) × Appends (K.output sink.old) (K.output sink.new) (take n bytes))) }
+    ensures sent { OnOk result (Replies (conduct_of H.seen H.files H.stepped H.made) peer record.now
+        host.old host.new (λ bytes. Appends (K.output sink.old) (K.output sink.new) bytes)) }
+    ensures prefix { OnErr result (Replies (conduct_of H.seen H.files H.stepped H.made) peer record.now
+        host.old host.new (λ bytes. (n : ℕ) × Appends (K.output sink.old) (K.output sink.new) (take n bytes))) }
     ensures flushed { OnOk result (IsTrue (K.flushed sink.old) → IsTrue (K.flushed sink.new)) }
     ensures idle { writer.new ≡ [] }
     ensures cause { CountsFaults (K.faults sink.old) (K.faults sink.new) result }
