@@ -9,3 +9,4 @@ pub mod Stream
 pub mod Fragments
 pub mod Sending
 pub mod Holding
+pub mod Again

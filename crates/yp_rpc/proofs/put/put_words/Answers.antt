@@ -1,7 +1,7 @@
 use Rattle.std.proofs.Common.{take, refl, arith}
 use Rattle.std.proofs.lemmas.List.{length-take}
 use Rattle.yp_rpc.proofs.Words.{length-words, sets_none, words_set, words_done}
-use Rattle.yp_rpc.proofs.reply.put_words.Goals as goal
+use Rattle.yp_rpc.proofs.put.put_words.Goals as goal
 
 pub returns-then-buf-numbers : goal.returns-then-buf-numbers
 returns-then-buf-numbers c =
