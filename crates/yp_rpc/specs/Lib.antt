@@ -1,4 +1,6 @@
 pub mod Records
+pub mod Pieces
+pub mod Parts
 pub mod Waiting
 pub mod Laws
 pub mod Call

@@ -65,10 +65,11 @@ impl Model for Session {
 
     ghost use Rattle.std.specs.Prelude.{◌≡◌, [], length};
     ghost use Rattle.yp_answer.specs.Numbers.{record_max};
+    ghost use Rattle.yp_rpc.specs.Pieces.{not_begun};
 
-    ghost view = { λ s. record { place = s.reader; calls = s.calls } };
+    ghost view = { λ s. record { place = s.reader.place; calls = s.calls } };
 
-    ghost invariant = { λ s. (s.writer ≡ []) × (length s.call.items ≡ record_max) × (length s.reply.items ≡ record_max) };
+    ghost invariant = { λ s. (s.reader.part ≡ not_begun) × (s.writer ≡ []) × (length s.call.items ≡ record_max) × (length s.reply.items ≡ record_max) };
 }
 
 impl Session {
