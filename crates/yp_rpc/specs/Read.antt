@@ -69,9 +69,15 @@ denied_read left = do
 abbrev pub by_reply_stat : ℤ → Unread → HeadRead
 by_reply_stat stat left = if int_eq stat (pos 0) then accepted_read left else denied_read left
 
+-- the number of the call and the head, and what is left: the results
+abbrev pub reply_at : Unread → Result ((ℕ × ReplyHead) × Unread) XdrFault
+reply_at left = do
+  front ← reading reply_kind left
+  head ← by_reply_stat front.0.1.1 front.1
+  Ok ((front.0.0, head.0), head.1)
+
 -- What a reply says, and the place of its results, which are what is left; or the fault of the first item that is refused.
 abbrev pub reply_read : List ℕ → Result ReplyRead XdrFault
 reply_read message = do
-  front ← reading reply_kind (record { at = 0; bytes = message })
-  head ← by_reply_stat front.0.1.1 front.1
-  Ok (record { xid = front.0.0; head = head.0; body = head.1.at })
+  read ← reply_at (record { at = 0; bytes = message })
+  Ok (record { xid = read.0.0; head = read.0.1; body = read.1.at })

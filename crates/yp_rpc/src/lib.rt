@@ -16,4 +16,4 @@ mod spelled;
 
 pub use call::{CallHead, Heard, read_call, write_call};
 pub use record::{RecordFault, RecordReader, RecordWriter};
-pub use reply::{ReplyHead, ReplyRead, read_reply, write_reply};
+pub use reply::{ReplyHead, ReplyRead, read_reply, read_reply_at, write_reply};

@@ -5,7 +5,7 @@ ghost use Rattle.yp_xdr.specs.Reading.{ReadsAs, Reads, end_of};
 ghost use Rattle.yp_xdr.specs.Writing.{Writes};
 ghost use Rattle.yp_xdr.specs.Cursor.{unread};
 ghost use Rattle.yp_rpc.specs.Reply.{words, accepted, reply_head};
-ghost use Rattle.yp_rpc.specs.Read.{reply_kind, versions_kind, accepted_read, denied_read, reply_read};
+ghost use Rattle.yp_rpc.specs.Read.{reply_kind, versions_kind, accepted_read, denied_read, reply_at, reply_read};
 
 use crate::call::read_auth;
 use crate::protocol::{
@@ -170,22 +170,39 @@ fn read_denied(cursor: &mut Cursor<'_>) -> Result<ReplyHead, XdrFault>
     Ok(head)
 }
 
-/// Reads the head of a reply, with any verifier. It takes the bytes of the record without the heads of its fragments, and
-/// refuses the first item that isn't as it has to be, at its place in the record.
+/// Reads the head of a reply, with any verifier, and moves the cursor to its results. It refuses the first item that isn't
+/// as it has to be, at its place, and then the cursor hasn't moved.
+pub fn read_reply_at(cursor: &mut Cursor<'_>) -> Result<ReplyRead, XdrFault>
+    ensures read { ReadsAs (reply_at (unread cursor.old)) (λ r. (r.xid, r.head)) result
+        (unread cursor.old) (unread cursor.new) }
+    ensures body { IfOk result (λ r. r.body ≡ (unread cursor.new).at) }
+    ensures end { end_of (unread cursor.new) ≡ end_of (unread cursor.old) }
+{
+    let mut ahead = *cursor;
+    let front = read_front(&mut ahead)?;
+    let head = match front.stat {
+        0 => read_accepted(&mut ahead)?,
+        _ => read_denied(&mut ahead)?,
+    };
+    *cursor = ahead;
+    Ok(ReplyRead {
+        xid: front.xid,
+        head,
+        body: cursor.at(),
+    })
+}
+
+/// Reads the head of a reply, as [`read_reply_at`] does. It takes the bytes of the record without the heads of its
+/// fragments, and places are places in the record.
 pub fn read_reply(bytes: &[u8]) -> Result<ReplyRead, XdrFault>
     ensures read { result ≡ reply_read bytes.now }
     ensures body { IfOk result (λ r. r.body ≤ length bytes.now) }
 {
     let mut cursor = Cursor::new(bytes);
-    let front = read_front(&mut cursor)?;
-    let head = match front.stat {
-        0 => read_accepted(&mut cursor)?,
-        _ => read_denied(&mut cursor)?,
-    };
+    let read = read_reply_at(&mut cursor)?;
     Ok(ReplyRead {
-        xid: front.xid,
-        head,
         body: cursor.at(),
+        ..read
     })
 }
 

@@ -69,6 +69,13 @@ impl RecordReader {
         }
     }
 
+    /// The place in the stream at which its record begins, or 2^64 - 1 where that place is greater.
+    pub fn place(&self) -> u64
+        ensures { result ≡ self.now.place }
+    {
+        self.place
+    }
+
     /// Reads the next record to the front of `buf`, and answers its length, or none where input ended before its first
     /// byte. `Torn` comes where input ended later than that, `TooLong` where the heads name more than `buf` holds or
     /// a 1,025th empty fragment, of which no byte behind the head is read, and `ReadFault` where the source failed.
