@@ -6,7 +6,7 @@ use Rattle.yp_xdr.specs.Kind.{Value}
 use Rattle.yp_xdr.specs.Spelling.{word, padding_len, padding, opaque, fixed, spelling}
 use Rattle.yp_msgs.specs.Numbers.{name_max, key_max}
 use Rattle.yp_msgs.specs.Messages.{req_domain, req_nokey, req_key}
-use Rattle.yp_msgs.specs.Transfers.{req_xfr}
+use Rattle.yp_msgs.specs.Transfers.{req_xfr, req_make}
 use Rattle.yp_client.specs.Limits.{reply_max}
 use Rattle.yp_xdr.specs.Writing.{Sets, written}
 use Rattle.yp_xdr.specs.Laws.{WrittenIsJoined}
@@ -70,3 +70,6 @@ room_xfr asked d m p =
     let peer = opaque asked.1.1.1.0 ++ last in
     let order = word asked.1.1.0 ++ peer in
     omega (arith, length-append (opaque asked.0) (opaque asked.1.0 ++ order), length-append (opaque asked.1.0) order, length-append (word asked.1.1.0) peer, length-append (opaque asked.1.1.1.0) last, opaque_short asked.0, opaque_short asked.1.0, opaque_short asked.1.1.1.0)
+
+pub room_make : (domain : List ℕ) (kind : ℕ) → length domain ≤ name_max → 40 + length (spelling req_make (domain, kind)) ≤ reply_max
+room_make domain kind d = omega (arith, length-append (opaque domain) (word kind), opaque_short domain)

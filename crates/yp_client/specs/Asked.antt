@@ -2,9 +2,9 @@
 use Rattle.std.specs.Prelude.{ℕ, List, []}
 use Rattle.yp_xdr.specs.Kind.{Fixed, Value}
 use Rattle.yp_rpc.specs.Called.{call_of}
-use Rattle.yp_msgs.specs.Numbers.{program, version, null_procedure, domain_procedure, match_procedure, first_procedure, next_procedure, xfr_procedure, clear_procedure, master_procedure, order_procedure, maplist_procedure}
+use Rattle.yp_msgs.specs.Numbers.{program, version, null_procedure, domain_procedure, match_procedure, first_procedure, next_procedure, xfr_procedure, clear_procedure, master_procedure, order_procedure, maplist_procedure, make_program, make_version, make_procedure}
 use Rattle.yp_msgs.specs.Messages.{req_domain, req_key, req_nokey}
-use Rattle.yp_msgs.specs.Transfers.{req_xfr}
+use Rattle.yp_msgs.specs.Transfers.{req_xfr, req_make}
 
 -- a procedure without arguments: they have no bytes
 abbrev pub null_call : ℕ → List ℕ
@@ -40,3 +40,7 @@ next_call domain map key xid = call_of req_key xid program version next_procedur
 -- of a transfer
 abbrev pub xfr_call : Value req_xfr → ℕ → List ℕ
 xfr_call request xid = call_of req_xfr xid program version xfr_procedure request
+
+-- of the make program: a map of a domain, by the number of its kind
+abbrev pub make_call : List ℕ → ℕ → ℕ → List ℕ
+make_call domain kind xid = call_of req_make xid make_program make_version make_procedure (domain, kind)

@@ -16,7 +16,7 @@ use Rattle.yp_msgs.specs.Numbers.{key_max, value_max}
 use Rattle.yp_msgs.specs.Statuses.{stat}
 use Rattle.yp_msgs.specs.Messages.{name}
 use Rattle.yp_msgs.specs.MapLists.{map_list}
-use Rattle.yp_msgs.specs.Transfers.{resp_xfr, xfr_number}
+use Rattle.yp_msgs.specs.Transfers.{resp_xfr, resp_make, xfr_number}
 use Rattle.yp_client.specs.declared.fault.ClientFault.{ClientFault}
 use Rattle.yp_client.specs.declared.fault.ClientFault.TheVariants.{Yp, Denied, BadReply, BadXid, NoMemory}
 
@@ -143,6 +143,13 @@ taken_of xid message = do
   left ← results_of xid message
   taken ← item resp_xfr left
   Ok taken.0.1
+
+-- of MAKE: the number of a status, whichever it is
+abbrev pub made_of : ℕ → List ℕ → Result ℤ ClientFault
+made_of xid message = do
+  left ← results_of xid message
+  made ← item resp_make left
+  Ok made.0
 
 -- ---- what a call answers
 

@@ -3,14 +3,14 @@
 ghost use Rattle.std.specs.Prelude.{◌≡◌, ℕ, List, Result, Ok, Err, IfOk, IfErr};
 ghost use Rattle.yp_xdr.specs.Cursor.{unread};
 ghost use Rattle.yp_client.specs.Results.{results_of, behind_true, Says};
-ghost use Rattle.yp_client.specs.Results.{nothing_of, served_of, value_of, row_of, master_of, order_of, maps_of, taken_of};
+ghost use Rattle.yp_client.specs.Results.{nothing_of, served_of, value_of, row_of, master_of, order_of, maps_of, taken_of, made_of};
 ghost use Rattle.yp_client.specs.Calls.{IsOfReply};
 ghost use Rattle.yp_client.specs.Said.{SaysNothing, SaysBool, SaysNumber, SaysBytes, SaysRow, SaysNames, SaysStat};
 
 use crate::fault::ClientFault;
 use std::alloc::Global;
 use yp_msgs::protocol::{KEY_MAX, NAME_MAX, VALUE_MAX};
-use yp_msgs::{MapList, MapListFault, ReadMessage, RespXfr, XfrStat, YpStat};
+use yp_msgs::{MapList, MapListFault, ReadMessage, RespMake, RespXfr, XfrStat, YpStat};
 use yp_rpc::{ReplyHead, read_reply_at};
 use yp_xdr::Cursor;
 
@@ -200,5 +200,20 @@ impl Answer for Taken {
         let mut cursor = read_results(message, xid)?;
         let taken = RespXfr::read(&mut cursor)?;
         Ok(taken.xfrstat)
+    }
+}
+
+/// The result of MAKE.
+pub struct Made;
+
+impl Answer for Made {
+    type Value = XfrStat;
+
+    ghost answers = { SaysStat made_of };
+
+    fn judge(&self, _alloc: Global, message: &[u8], xid: u32) -> Result<XfrStat, ClientFault> {
+        let mut cursor = read_results(message, xid)?;
+        let made = RespMake::read(&mut cursor)?;
+        Ok(made.stat)
     }
 }

@@ -1,25 +1,28 @@
-//! The procedures of YP version 2 (yp.x), but for ALL.
+//! The procedures of YP version 2 (yp.x), but for ALL, and of the make program.
 
 ghost use Rattle.std.specs.Prelude.{◌≡◌, ◌≤◌, [], length};
 ghost use Rattle.yp_xdr.specs.Kind.{Fixed};
 ghost use Rattle.yp_msgs.specs.Numbers.{name_max, key_max};
 ghost use Rattle.yp_msgs.specs.Transfers.{req_xfr_view, ReqXfrIsWithin};
-ghost use Rattle.yp_client.specs.Results.{nothing_of, served_of, value_of, row_of, master_of, order_of, maps_of, taken_of};
+ghost use Rattle.yp_client.specs.Results.{nothing_of, served_of, value_of, row_of, master_of, order_of, maps_of, taken_of, made_of};
 ghost use Rattle.yp_client.specs.Said.{SaysNothing, SaysBool, SaysNumber, SaysBytes, SaysRow, SaysNames, SaysStat};
 ghost use Rattle.yp_client.specs.Asked.{null_call, clear_call, domain_call, maplist_call, first_call, master_call, order_call};
-ghost use Rattle.yp_client.specs.Asked.{match_call, next_call, xfr_call};
+ghost use Rattle.yp_client.specs.Asked.{match_call, next_call, xfr_call, make_call};
 ghost use Rattle.yp_client.specs.Moments.{moment_of};
 ghost use Rattle.yp_client.specs.Calls.{Calls};
 
-use crate::answers::{Found, Listed, Mastered, Matched, Nothing, Ordered, Row, Served, Taken};
+use crate::answers::{
+    Found, Listed, Made, Mastered, Matched, Nothing, Ordered, Row, Served, Taken,
+};
 use crate::client::Client;
 use crate::exchange::Called;
 use crate::fault::ClientFault;
 use yp_io::{Sink, Source};
 use yp_msgs::protocol::{
-    CLEAR, DOMAIN, FIRST, MAPLIST, MASTER, MATCH, NEXT, NULL, ORDER, XFR, YPPROG, YPVERS,
+    CLEAR, DOMAIN, FIRST, MAKE, MAKEPROG, MAKEVERS, MAPLIST, MASTER, MATCH, NEXT, NULL, ORDER, XFR,
+    YPPROG, YPVERS,
 };
-use yp_msgs::{MapList, Message, ReqDomain, ReqKey, ReqNokey, ReqXfr, XfrStat};
+use yp_msgs::{MapList, Message, ReqDomain, ReqKey, ReqMake, ReqNokey, ReqXfr, XfrStat};
 
 /// No arguments.
 struct NoArguments;
@@ -219,6 +222,23 @@ impl<S: Source, K: Sink> Client<S, K> {
             },
             request,
             &Taken,
+        )
+    }
+
+    /// MAKE of the make program: has the server make a map anew, by the number of its kind.
+    pub fn make(&mut self, domain: &[u8], kind: u32) -> Result<XfrStat, ClientFault>
+        requires { length domain.now ≤ name_max }
+        ensures { Calls (make_call domain.now kind) (SaysStat made_of) result
+            (moment_of S.input S.faults K.output K.faults self.old) (moment_of S.input S.faults K.output K.faults self.new) }
+    {
+        self.call(
+            Called {
+                prog: MAKEPROG,
+                vers: MAKEVERS,
+                procedure: MAKE,
+            },
+            &ReqMake { domain, kind },
+            &Made,
         )
     }
 }

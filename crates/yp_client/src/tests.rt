@@ -254,3 +254,18 @@ fn other_procedures(rt: HostRuntime) -> Result<(), Fail> {
     );
     Ok(())
 }
+
+#[test]
+fn make_program(rt: HostRuntime) -> Result<(), Fail> {
+    let alloc = rt.alloc();
+    let reply = "8000001c 00000002 00000001 00000000 00000000 00000000 00000000 00000001";
+    let call = "80000034 00000002 00000000 00000002 20004e49 00000001 00000001 00000000 00000000 \
+        00000000 00000000 00000003 6c616200 00000005";
+    let Some(mut client) = client(alloc, reply, 2, Vec::new(alloc), Vec::new(alloc))? else {
+        return Ok(());
+    };
+    assert_eq!(rt; client.make(b"lab", 5), Ok(XfrStat::Succ));
+    let wire = client.into_wire();
+    assert_eq!(rt; wire.sink.taken(), bytes(alloc, call)?.as_slice());
+    Ok(())
+}
