@@ -34,13 +34,17 @@ with_shown number version log = log ++ (number, version) ∷ []
 abbrev pub with_standing : ℕ → MapStanding → Moment → Moment
 with_standing number standing moment = record moment { standings = slice_set moment.standings number standing }
 
--- An install that isn't forced: nothing changed; or the version is newer, the map was level, and the version is shown,
--- or the map is behind it.
+-- A version of a level map is shown, or the map is behind it.
+abbrev pub Stores : ℕ → MapVersion → Moment → Moment → Type 0
+Stores number version old new =
+    (slice_get old.standings number ≡ Some Level)
+    × ((new ≡ record old { log = with_shown number version old.log }) ⊎ (new ≡ with_standing number (Behind version) old))
+
+-- An install that isn't forced: nothing changed; or the version is newer, and is shown, or its map is behind it.
 abbrev pub InstallsNewer : ℕ → MapVersion → Moment → Moment → Type 0
 InstallsNewer number version old new =
     (new ≡ old)
-    ⊎ (IsNewer number version old.log × (slice_get old.standings number ≡ Some Level)
-      × ((new ≡ record old { log = with_shown number version old.log }) ⊎ (new ≡ with_standing number (Behind version) old)))
+    ⊎ (IsNewer number version old.log × Stores number version old new)
 
 -- A reopen: nothing changed; or the map was behind a version and is level, and that version may be shown.
 abbrev pub Reopens : ℕ → Moment → Moment → Type 0

@@ -1,15 +1,16 @@
 //! Publishers: maps with their files, and the board on which their versions are shown.
 
-ghost use Rattle.std.specs.Prelude.{◌≡◌, ◌≢◌, ◌⊎◌, ◌+◌, ◌<◌, ◌≤◌, ◌++◌, ◌∷◌, [], ℕ, false, map, length, slice_get, OnOk, OnErr, IfOk, IfErr, IfSome, IsOk, IsSome, IsTrue, IsErrOf, option_map};
+ghost use Rattle.std.specs.Prelude.{◌≡◌, ◌≢◌, ◌⊎◌, ◌+◌, ◌<◌, ◌≤◌, ◌++◌, ◌∷◌, [], ℕ, false, map, length, slice_get, OnOk, OnErr, IfOk, IfErr, IfSome, IsOk, IsSome, IsTrue, IsErrOf, Some, None, option_map};
 ghost use Rattle.std.specs.Arc.{arc_value};
 ghost use Rattle.yp_io.specs.Counts.{HasRisen};
 ghost use Rattle.yp_io.specs.Disk.{LeavesOnly};
 ghost use Rattle.yp_version.specs.Versions.{MapVersion};
+ghost use Rattle.yp_slot.specs.Bodies.{IsBody};
 ghost use Rattle.yp_board.specs.Logs.{shown};
 ghost use Rattle.yp_publish.specs.Standing.{Level, StandsAs, IsStanding, OfMap, At, IsSameElsewhere, versions, Shows, standing_name};
 ghost use Rattle.yp_publish.specs.Installs.{offer, refusal, IsCause, is_refusal, IsInstalled, IsUnsure, IsUnshown, LeavesEither, LeavesFew};
 ghost use Rattle.yp_publish.specs.Opens.{IsOutside, IsAnother, IsWhatStood, LeavesNoMore};
-ghost use Rattle.yp_publish.specs.Rising.{moment_of, with_shown, InstallsNewer, Reopens};
+ghost use Rattle.yp_publish.specs.Rising.{moment_of, with_shown, InstallsNewer, Stores, Reopens};
 
 use crate::install::{InstallFault, Installed, Origin};
 use crate::loaded::{Loaded, give_back};
@@ -183,12 +184,81 @@ impl<D: Disk, B: Show> Publisher<D, B> {
         ensures rising { force ≡ false
             → InstallsNewer map version (moment_of B.log self.old) (moment_of B.log self.new) }
     {
-        let stored = &mut self.maps[map as usize];
-        stored.refuse(alloc, self.catalog.own(), &version, origin, force)?;
+        self.check(alloc, map, &version, origin, force)?;
         let order = version.order();
         let spelled = Spelled::new(alloc, version)?;
-        let generation = stored.install(&mut self.board, map, spelled)?;
+        let generation = self.store(map, spelled)?;
         Ok(Installed { order, generation })
+    }
+
+    /// Refuses what is offered of a map, for the first reason that applies.
+    fn check(
+        &self,
+        alloc: Global,
+        map: u32,
+        version: &Version,
+        origin: Origin,
+        force: bool,
+    ) -> Result<(), InstallFault>
+        requires { map < length self.now.maps }
+        ensures accepted { OnOk result (OfMap map self.now.maps
+            (λ kept. refusal self.now.catalogue.own (offer version.now origin force) kept ≡ None)) }
+        ensures refused { IfErr result (λ fault. OfMap map self.now.maps
+            (λ kept. IsCause fault (refusal self.now.catalogue.own (offer version.now origin force) kept))) }
+        ensures no_disk { IsErrOf result InstallFault.DiskFault → ⊥ }
+        ensures generation { OnOk result (OfMap map self.now.maps
+            (λ kept. kept.generation < 18446744073709551615)) }
+
+        // While nothing is done, nothing changes.
+        ensures any_moment { At map self.now.maps self.now.maps
+            (λ before after. before.standing ≡ Level → LeavesEither D.history version.now before after) }
+        ensures bound { At map self.now.maps self.now.maps (LeavesFew D.history) }
+        ensures never_falls { At map self.now.maps self.now.maps
+            (λ before after. D.faults before.disk ≤ D.faults after.disk) }
+        ensures standing { OfMap map self.now.maps (IsStanding D.history) }
+        ensures shown { Shows (B.log self.now.board) (versions self.now.maps) }
+    {
+        let stored = &self.maps[map as usize];
+        stored.rest();
+        stored.refuse(alloc, self.catalog.own(), version, origin, force)
+    }
+
+    /// Stores a version of a level map, and then shows it.
+    fn store(&mut self, map: u32, spelled: Spelled) -> Result<u64, InstallFault>
+        requires map { map < length self.old.maps }
+        requires level { OfMap map self.old.maps (λ kept. kept.standing ≡ Level) }
+        requires generation { OfMap map self.old.maps (λ kept. kept.generation < 18446744073709551615) }
+        requires body { IsBody spelled.body.items (arc_value spelled.stored) }
+        requires shown { arc_value spelled.shown ≡ arc_value spelled.stored }
+        ensures fault { IfErr result (λ fault. (fault ≡ InstallFault.DiskFault) ⊎ (fault ≡ InstallFault.NoMemory)) }
+        ensures cause { IsErrOf result InstallFault.DiskFault → At map self.old.maps self.new.maps
+            (λ before after. HasRisen (D.faults before.disk) (D.faults after.disk)) }
+        ensures never_falls { At map self.old.maps self.new.maps
+            (λ before after. D.faults before.disk ≤ D.faults after.disk) }
+        ensures installed { OnOk result
+            (At map self.old.maps self.new.maps (IsInstalled (arc_value spelled.stored))) }
+        ensures answer { IfOk result (λ generation. OfMap map self.old.maps
+            (λ kept. generation ≡ kept.generation + 1)) }
+        ensures log { OnOk result
+            (B.log self.new.board ≡ with_shown map (arc_value spelled.stored) (B.log self.old.board)) }
+        ensures showed { OnOk result
+            (B.showed map (arc_value spelled.stored) self.old.board self.new.board) }
+        ensures not_shown { OnErr result (self.new.board ≡ self.old.board) }
+        ensures disk_fault { IsErrOf result InstallFault.DiskFault
+            → At map self.old.maps self.new.maps (IsUnsure (arc_value spelled.stored)) }
+        ensures no_memory { IsErrOf result InstallFault.NoMemory
+            → At map self.old.maps self.new.maps (IsUnshown (arc_value spelled.stored)) }
+        ensures any_moment { At map self.old.maps self.new.maps
+            (LeavesEither D.history (arc_value spelled.stored)) }
+        ensures bound { At map self.old.maps self.new.maps (LeavesFew D.history) }
+        ensures standing { OfMap map self.new.maps (IsStanding D.history) }
+        ensures shown { Shows (B.log self.new.board) (versions self.new.maps) }
+        ensures elsewhere { IsSameElsewhere map self.old.maps self.new.maps }
+        ensures catalogue { self.new.catalogue ≡ self.old.catalogue }
+        ensures stores { Stores map (arc_value spelled.stored) (moment_of B.log self.old) (moment_of B.log self.new) }
+    {
+        let stored = &mut self.maps[map as usize];
+        stored.install(&mut self.board, map, spelled)
     }
 
     /// Opens the file of a map that is behind again, and shows what stands there where that isn't what is shown. The map
@@ -241,6 +311,7 @@ impl<D: Disk, B: Show> Publisher<D, B> {
         ensures rising { OfMap map self.old.maps (λ kept. IsSome (D.history kept.disk)
             → Reopens map (moment_of B.log self.old) (moment_of B.log self.new)) }
     {
+        yp_slot::laws::file_is_bounded();
         let stored = &mut self.maps[map as usize];
         stored.reopen(alloc, rt, &mut self.board, map)
     }

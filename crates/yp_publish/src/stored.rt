@@ -124,6 +124,17 @@ impl<D: Disk> StoredMap<D> {
         }
     }
 
+    /// Does nothing. Its contract says what a crash leaves meanwhile.
+    pub(crate) fn rest(&self)
+        ensures any_moment { (version : MapVersion) → self.now.standing ≡ Level
+            → LeavesEither D.history version self.now self.now }
+        ensures bound { LeavesFew D.history self.now self.now }
+        ensures standing { IsStanding D.history self.now }
+    {
+        yp_slot::laws::file_is_bounded();
+        let _slot = &self.slot;
+    }
+
     /// Refuses what is offered to it, for the first reason that applies. It changes nothing.
     pub(crate) fn refuse(
         &self,
@@ -136,6 +147,7 @@ impl<D: Disk> StoredMap<D> {
         ensures accepted { OnOk result (refusal own.now (offer version.now origin force) self.now ≡ None) }
         ensures refused { IfErr result (λ fault.
             IsCause fault (refusal own.now (offer version.now origin force) self.now)) }
+        ensures generation { OnOk result (self.now.generation < 18446744073709551615) }
         ensures no_disk { IsErrOf result InstallFault.DiskFault → ⊥ }
     {
         if self.failed.is_some() {
@@ -174,7 +186,12 @@ impl<D: Disk> StoredMap<D> {
             → IsUnsure (arc_value spelled.stored) self.old self.new }
         ensures no_memory { IsErrOf result InstallFault.NoMemory
             → IsUnshown (arc_value spelled.stored) self.old self.new }
+        ensures version { OnOk result (self.new.version ≡ Some (arc_value spelled.stored)) }
+        ensures version_kept { OnErr result (self.new.version ≡ self.old.version) }
+        ensures level { OnOk result (self.new.standing ≡ Level) }
+        ensures behind { OnErr result (self.new.standing ≡ Behind (arc_value spelled.stored)) }
         ensures any_moment { LeavesEither D.history (arc_value spelled.stored) self.old self.new }
+        ensures bound { LeavesFew D.history self.old self.new }
         ensures standing { IsStanding D.history self.new }
         ensures cause { IsErrOf result InstallFault.DiskFault
             → HasRisen (D.faults self.old.disk) (D.faults self.new.disk) }
@@ -310,6 +327,7 @@ fn refuse_after(
         (not_following own.now (offer version.now origin force) (Some shown.now) ≡ None) }
     ensures refused { IfErr result (λ fault.
         IsCause fault (not_following own.now (offer version.now origin force) (Some shown.now))) }
+    ensures cause { OnErr result (IsSome (not_following own.now (offer version.now origin force) (Some shown.now))) }
     ensures no_disk { IsErrOf result InstallFault.DiskFault → ⊥ }
 {
     let is_own = shown.master() == own;
