@@ -1,6 +1,7 @@
 pub mod Lists
+pub mod Moments
 pub mod Maps
 pub mod Begins
 pub mod Rises
-pub mod Moments
+pub mod Giving
 pub mod Refusals
