@@ -4,4 +4,5 @@ pub mod Maps
 pub mod Begins
 pub mod Rises
 pub mod Giving
+pub mod Loading
 pub mod Refusals
