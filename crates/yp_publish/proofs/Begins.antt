@@ -1,5 +1,5 @@
 -- The log that begins with versions.
-use Rattle.std.proofs.Common.{◌≡◌, ◌≢◌, ℕ, zero, suc, ◌+◌, ◌<◌, Bool, true, false, subst, List, [], ◌∷◌, fold, get_or, Option, None, Some, if◌then◌else◌, ◌==◌, eqb, eq-eqb, refl, sym, ◌∙◌, arith}
+use Rattle.std.proofs.Common.{◌≡◌, ◌≢◌, ℕ, zero, suc, ◌+◌, ◌<◌, Bool, true, false, subst, List, [], ◌∷◌, fold, get_or, Option, None, Some, if◌then◌else◌, ◌==◌, eqb, eq-eqb, refl, sym, arith}
 use Rattle.std.proofs.lemmas.Bool.{ne_eqb}
 use Rattle.yp_version.specs.Versions.{MapVersion}
 use Rattle.yp_board.specs.Logs.{Log, starts}

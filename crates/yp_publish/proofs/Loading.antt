@@ -1,6 +1,6 @@
 -- Disks that are loaded, the first one first. They stand in reverse, so that the last one is next.
-use Rattle.std.proofs.Common.{◌≡◌, ℕ, suc, ◌+◌, ◌≤◌, List, [], ◌∷◌, ◌++◌, map, reverse, length, append_assoc, arith, refl, sym, ◌∙◌, ap, subst, Option, None, Some, IfSome, Err}
-use Rattle.std.proofs.lemmas.List.{reverse-append, map-append, length-append, append-nil, reverse-reverse}
+use Rattle.std.proofs.Common.{◌≡◌, ℕ, suc, List, [], ◌∷◌, ◌++◌, map, reverse, length, append_assoc, arith, refl, sym, ◌∙◌, ap, subst, Option, None, Some, IfSome, Err}
+use Rattle.std.proofs.lemmas.List.{reverse-append, append-nil, reverse-reverse}
 use Rattle.std.specs.List.{AllZip}
 use Rattle.yp_io.specs.Disk.{History, GoesOn, LeftBetween, MayLeave}
 use Rattle.yp_slot.specs.declared.fault.SlotFault.{SlotFault}

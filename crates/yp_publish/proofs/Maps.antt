@@ -1,5 +1,5 @@
 -- What is kept of maps, of which one was changed.
-use Rattle.std.proofs.Common.{◌≡◌, ◌≢◌, ◌⊎◌, inl, inr, ℕ, ◌+◌, ◌<◌, ◌≤◌, Bool, true, false, List, [], ◌∷◌, ◌++◌, map, length, slice_get, slice_set, slice_index_or, get_or, set, Option, Some, None, IfSome, Result, Ok, Err, OnOk, OnErr, IfOk, IfErr, IsSome, option_map, if◌then◌else◌, ◌==◌, arith, refl, sym, ◌∙◌, ap, subst, eq-eqb, eqb, cond, fold}
+use Rattle.std.proofs.Common.{◌≡◌, ◌≢◌, ◌⊎◌, inl, inr, ℕ, ◌<◌, ◌≤◌, true, false, List, [], ◌∷◌, map, length, slice_get, slice_set, slice_index_or, get_or, set, Option, Some, None, IfSome, Result, Ok, Err, OnOk, OnErr, IfOk, IfErr, IsSome, option_map, if◌then◌else◌, ◌==◌, refl, sym, ◌∙◌, ap, subst, eq-eqb, eqb}
 use Rattle.std.proofs.lemmas.Option.{get_or_from_slice_get, slice_get_read, slice_get_within, slice_get-map}
 use Rattle.std.proofs.lemmas.List.{length-set, get_or-set_same, get_or-set_other, map-set, length-map, set-get_or}
 use Rattle.std.proofs.lemmas.List.Sums.{fold-append}
@@ -12,7 +12,7 @@ use Rattle.yp_board.specs.Logs.{Log, shown}
 use Rattle.yp_publish.specs.Standing.{MapStanding, Level, Behind, Kept, StandsAs, IsStanding, stands_for, OfMap, At, IsSameElsewhere, versions, Shows}
 use Rattle.yp_publish.specs.Starts.{IsPublisher}
 use Rattle.yp_publish.specs.Opens.{IsAnother, IsWhatStood}
-use Rattle.yp_publish.specs.Rising.{Moment, Stores, Reopens, with_shown, with_standing}
+use Rattle.yp_publish.specs.Rising.{Stores, Reopens, with_shown}
 use Rattle.yp_publish.proofs.Moments.{was_failed}
 use Rattle.yp_publish.proofs.Lists.{get_set, get_set_other}
 

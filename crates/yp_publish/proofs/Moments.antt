@@ -1,6 +1,6 @@
 -- What a crash leaves at the moments of a call, and how a map stands after it.
 use Rattle.std.proofs.Common.{◌≡◌, ◌≢◌, ◌⊎◌, inl, inr, ℕ, List, Option, Some, None, IfSome, IsSome, Err, [], length, ◌≤◌, option_map, subst, ap, ◌∙◌, sym, refl}
-use Rattle.yp_io.specs.Disk.{DiskState, History, GoesOn, LeftBetween, LeavesOnly, MayLeave, IsReadAnImage, IsDurable, after_sync}
+use Rattle.yp_io.specs.Disk.{History, GoesOn, LeftBetween, LeavesOnly, MayLeave, IsReadAnImage, IsDurable, after_sync}
 use Rattle.yp_version.specs.Versions.{MapVersion}
 use Rattle.yp_slot.specs.Laws.{FileIsBounded}
 use Rattle.yp_slot.specs.Slots.{IsAsBeforeOr, IsSound}
@@ -9,7 +9,7 @@ use Rattle.yp_slot.specs.declared.fault.SlotFault.TheVariants as fault
 use Rattle.yp_slot.specs.Loads.{Loads}
 use Rattle.yp_slot.specs.Stands.{Nothing, Stored, Damaged, stands, file_max}
 use Rattle.yp_publish.specs.Opens.{IsOutside}
-use Rattle.yp_publish.specs.Standing.{MapStanding, Level, Behind, Kept, StandsAs, IsStanding, stands_for}
+use Rattle.yp_publish.specs.Standing.{MapStanding, Level, Behind, Kept, StandsAs, stands_for}
 
 -- what holds of all that is left at some moment holds of all that is left of it in other words
 pub weaker : {P Q : List ℕ → Type 0} (old new : Option History) → ((image : List ℕ) → P image → Q image) → LeavesOnly old new P → LeavesOnly old new Q

@@ -3,14 +3,13 @@ use Rattle.std.proofs.Common.{◌≡◌, ◌<◌, Bool, true, not, ◌&&◌, leb
 use Rattle.std.proofs.lemmas.Bool.Decides.{nat_tests}
 use Rattle.std.proofs.lemmas.Option.{slice_get-map, unwrap_or-slice_get}
 use Rattle.std.specs.Option.{unwrap_or}
-use Rattle.std.specs.Arc.{arc_value}
 use Rattle.std.specs.declared.alloc.Global.{Global}
 use Rattle.std.specs.declared.sync.Arc.{Arc}
 use Rattle.yp_version.specs.Versions.{MapVersion}
 use Rattle.yp_publish.specs.Shared.{standing_of}
 use Rattle.yp_board.specs.Logs.{Log, shown}
 use Rattle.yp_publish.specs.Rising.{IsNewer}
-use Rattle.yp_publish.specs.Standing.{MapStanding, Level, Kept, OfMap, Shows, versions}
+use Rattle.yp_publish.specs.Standing.{Level, Kept, OfMap, Shows, versions}
 use Rattle.yp_publish.specs.Installs.{Offer, Refusal, IsBehind, HasMaster, IsNotNewer, first_of, is_behind, is_foreign, is_no_newer, not_following, no_further, refusal}
 
 first_some : (a b : Option Refusal) → IsSome a → first_of a b ≡ a

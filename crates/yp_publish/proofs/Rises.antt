@@ -1,5 +1,5 @@
 -- Logs that rise.
-use Rattle.std.proofs.Common.{◌≡◌, ◌≢◌, ◌⊎◌, inl, inr, ℕ, zero, suc, ◌+◌, ◌-◌, ◌<◌, ◌≤◌, Bool, true, false, List, [], ◌∷◌, ◌++◌, map, filter, fold, length, slice_get, slice_set, get_or, set, Option, None, Some, IfSome, if◌then◌else◌, ◌==◌, eqb, eq-eqb, arith, refl, sym, ◌∙◌, ap, subst, append_assoc, All}
+use Rattle.std.proofs.Common.{◌≡◌, ◌≢◌, inl, inr, ℕ, ◌+◌, ◌-◌, ◌<◌, Bool, true, false, List, [], ◌∷◌, ◌++◌, map, filter, fold, length, slice_get, get_or, set, Option, None, Some, IfSome, if◌then◌else◌, ◌==◌, eqb, eq-eqb, arith, refl, sym, ◌∙◌, ap, subst, append_assoc}
 use Rattle.std.proofs.lemmas.Bool.{ne_eqb, cases_eq, cases_lt}
 use Rattle.std.proofs.lemmas.List.{get_or_append_left, map-append, length-append, append-nil}
 use Rattle.std.proofs.Math.Seq.{get_or-append_seam}
@@ -10,7 +10,7 @@ use Rattle.std.specs.List.Sorted.{IsStrictlyIncreasing}
 use Rattle.yp_version.specs.Versions.{MapVersion}
 use Rattle.yp_board.specs.Logs.{Log, shown}
 use Rattle.yp_publish.specs.Standing.{MapStanding, Level, Behind}
-use Rattle.yp_publish.specs.Rising.{Moment, orders, IsRisingLog, IsNewer, with_shown, with_standing, Stores, InstallsNewer, Reopens, Steps, Follow, IsStart}
+use Rattle.yp_publish.specs.Rising.{Moment, orders, IsRisingLog, IsNewer, with_shown, Stores, Reopens, Steps, Follow, IsStart}
 use Rattle.yp_publish.proofs.Lists.{get_set, get_set_other}
 use Rattle.yp_publish.proofs.Maps.{shown_other}
 

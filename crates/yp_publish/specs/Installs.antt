@@ -1,5 +1,5 @@
 -- The installing of a version: why it is refused, and what it makes of its map.
-use Rattle.std.specs.Prelude.{◌≡◌, ◌⊎◌, ℕ, ◌+◌, ◌≤◌, Bool, true, false, not, ◌&&◌, ◌==◌, List, length, bytes_eq, nat_le, Option, None, Some, IsSome, if◌then◌else◌, ⊤}
+use Rattle.std.specs.Prelude.{◌≡◌, ◌⊎◌, ℕ, ◌+◌, ◌≤◌, Bool, true, false, not, ◌&&◌, ◌==◌, List, length, bytes_eq, nat_le, Option, None, Some, if◌then◌else◌}
 use Rattle.yp_io.specs.Disk.{History, LeavesOnly}
 use Rattle.yp_version.specs.Versions.{MapVersion}
 use Rattle.yp_slot.specs.Stands.{file_max}

@@ -1,5 +1,5 @@
 -- What holds of logs and versions, whatever the publisher.
-use Rattle.std.specs.Prelude.{◌≡◌, ℕ, List, ◌∷◌, Option}
+use Rattle.std.specs.Prelude.{List, ◌∷◌, Option}
 use Rattle.std.specs.List.{AllByRecursion}
 use Rattle.yp_version.specs.Versions.{MapVersion}
 use Rattle.yp_board.specs.Logs.{starts}

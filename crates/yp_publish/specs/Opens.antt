@@ -1,5 +1,5 @@
 -- The opening of a map's file, at the start and after an install that failed.
-use Rattle.std.specs.Prelude.{◌≡◌, ◌≢◌, ◌⊎◌, ◌++◌, ◌≤◌, ◌∷◌, [], ℕ, List, map, length, Option, Some, IfSome, Err}
+use Rattle.std.specs.Prelude.{◌≡◌, ◌≢◌, ◌⊎◌, ◌++◌, ◌≤◌, ◌∷◌, ℕ, List, map, length, Option, Some, IfSome, Err}
 use Rattle.std.specs.List.{AllZip}
 use Rattle.yp_io.specs.Counts.{HasRisen}
 use Rattle.yp_io.specs.Disk.{History, LeavesOnly, MayLeave}
@@ -9,8 +9,7 @@ use Rattle.yp_slot.specs.declared.fault.SlotFault.TheVariants.{DiskFault, NoMemo
 use Rattle.yp_slot.specs.Commits.{generation_of, winning}
 use Rattle.yp_slot.specs.Loads.{Loads}
 use Rattle.yp_slot.specs.Stands.{stands}
-use Rattle.yp_board.specs.Logs.{Log}
-use Rattle.yp_publish.specs.Standing.{Level, Kept, IsStanding, StandsAs, stands_for}
+use Rattle.yp_publish.specs.Standing.{Level, Kept, IsStanding, stands_for}
 
 -- what the opening of a file does to its disk: no crash leaves what none might have left before
 abbrev pub LeavesNoMore : {D : Type 0} → (D → Option History) → D → D → Type 0

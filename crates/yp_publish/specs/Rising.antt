@@ -1,10 +1,10 @@
 -- Logs in which the orders of each map rise, and what installs and reopens add to a log.
-use Rattle.std.specs.Prelude.{◌≡◌, ◌⊎◌, ◌≤◌, ◌<◌, ℕ, ◌==◌, List, [], ◌∷◌, ◌++◌, map, filter, length, slice_set, slice_get, Option, None, Some, IfSome, ⊤}
+use Rattle.std.specs.Prelude.{◌≡◌, ◌⊎◌, ◌≤◌, ◌<◌, ℕ, ◌==◌, List, [], ◌∷◌, ◌++◌, map, filter, length, slice_set, slice_get, Some, IfSome, ⊤}
 use Rattle.std.specs.List.{All}
 use Rattle.std.specs.List.Sorted.{IsStrictlyIncreasing}
 use Rattle.yp_version.specs.Versions.{MapVersion}
 use Rattle.yp_board.specs.Logs.{Log, shown}
-use Rattle.yp_publish.specs.Standing.{MapStanding, Level, Behind, Kept, Published}
+use Rattle.yp_publish.specs.Standing.{MapStanding, Level, Behind, Published}
 
 -- the orders of a map's versions in a log, in turn
 abbrev pub orders : ℕ → Log → List ℕ

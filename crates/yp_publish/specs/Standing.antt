@@ -1,6 +1,6 @@
 -- How each map stands: the version that is shown of it, and what its file stands for after a crash.
 use Rattle.std.specs.Prelude.{◌≡◌, ◌≢◌, ◌⊎◌, ℕ, List, map, length, slice_get, slice_index_or, Option, None, Some, IfSome}
-use Rattle.yp_io.specs.Disk.{History, MayLeave, LeavesOnly}
+use Rattle.yp_io.specs.Disk.{History, MayLeave}
 use Rattle.yp_version.specs.Versions.{MapVersion}
 use Rattle.yp_slot.specs.Stands.{Stands, Nothing, Stored, stands}
 use Rattle.yp_board.specs.Catalogues.{Catalogue}

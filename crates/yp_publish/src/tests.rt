@@ -207,7 +207,11 @@ fn third_install_stopped(rt: HostRuntime) -> Result<(), Fail> {
                 let found = loaded_orders(&rt, alloc, left)?;
                 let third = stop == 22 && kept % 2 == 1;
                 let order = if third { 102 } else { 101 };
-                assert_eq!(rt; found.as_slice(), [Some(order)].as_slice(), "at {stop}, kept {kept}");
+                assert_eq!(rt;
+                    found.as_slice(),
+                    [Some(order)].as_slice(),
+                    "at {stop}, kept {kept}"
+                );
             }
         }
     }
@@ -407,7 +411,10 @@ fn disks_in_order(rt: HostRuntime) -> Result<(), Fail> {
     );
     let (disks, _board) = maps.into_parts();
     let found = loaded_orders(&rt, alloc, disks)?;
-    assert_eq!(rt; found.as_slice(), [Some(100), Some(7), Some(100)].as_slice());
+    assert_eq!(rt;
+        found.as_slice(),
+        [Some(100), Some(7), Some(100)].as_slice()
+    );
     Ok(())
 }
 

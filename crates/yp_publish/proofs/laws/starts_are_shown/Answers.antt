@@ -1,4 +1,4 @@
-use Rattle.std.proofs.Common.{◌≡◌, ◌+◌, arith}
+use Rattle.std.proofs.Common.{arith}
 use Rattle.yp_publish.proofs.Begins.{starts_at}
 use Rattle.yp_publish.proofs.laws.starts_are_shown.Goals as goal
 

@@ -1,4 +1,4 @@
-use Rattle.std.proofs.Common.{◌≡◌, [], ◌++◌, List, ℕ, map, reverse, ap, sym, ◌∙◌, subst, rules, vec_capacity, arith}
+use Rattle.std.proofs.Common.{◌≡◌, [], ◌++◌, List, map, reverse, ap, sym, ◌∙◌, subst, rules, vec_capacity, arith}
 use Rattle.yp_publish.specs.Standing.{Kept, OfMap, IsStanding}
 use Rattle.yp_publish.proofs.Giving.{giving_none, giving_more}
 use Rattle.yp_publish.proofs.loaded.give_back.Goals as goal

@@ -1,4 +1,4 @@
-use Rattle.std.proofs.Common.{◌≡◌, ◌<◌, ◌≤◌, ◌+◌, [], ◌∷◌, length, vec_capacity, ap, sym, ◌∙◌, rules, arith}
+use Rattle.std.proofs.Common.{◌≡◌, ◌+◌, [], ◌∷◌, length, ap, ◌∙◌, rules, arith}
 use Rattle.std.proofs.lemmas.List.{length-append}
 use Rattle.yp_publish.proofs.Loading.{loading_none, loading_more, loading_stopped, stopped_first}
 use Rattle.yp_publish.proofs.loaded.load_all.Goals as goal

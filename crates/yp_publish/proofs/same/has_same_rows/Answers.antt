@@ -1,4 +1,4 @@
-use Rattle.std.proofs.Common.{◌≡◌, ℕ, ◌<◌, length, arith, refl}
+use Rattle.std.proofs.Common.{◌≡◌, length, arith, refl}
 use Rattle.yp_publish.proofs.Lists.{same_by_get}
 use Rattle.yp_publish.proofs.same.has_same_rows.Goals as goal
 

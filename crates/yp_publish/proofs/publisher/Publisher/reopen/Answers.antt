@@ -1,7 +1,6 @@
-use Rattle.std.proofs.Common.{◌≡◌, ◌≢◌, ◌⊎◌, inl, inr, ◌<◌, ◌≤◌, ◌+◌, List, ℕ, Some, IsSome, length, map, slice_set, ap, subst, sym, ◌∙◌, refl}
+use Rattle.std.proofs.Common.{◌≡◌, ◌≢◌, ◌⊎◌, inl, inr, ◌<◌, ◌≤◌, List, IsSome, length, slice_set, ap, subst, sym, ◌∙◌, refl}
 use Rattle.yp_io.specs.Counts.{HasRisen}
 use Rattle.yp_io.specs.Disk.{LeavesOnly}
-use Rattle.yp_board.specs.Logs.{Log}
 use Rattle.yp_version.specs.Versions.{MapVersion}
 use Rattle.yp_publish.specs.Installs.{LeavesFew}
 use Rattle.yp_publish.specs.Opens.{IsAnother, IsOutside, IsWhatStood, LeavesNoMore}

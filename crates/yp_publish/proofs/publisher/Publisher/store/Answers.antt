@@ -1,4 +1,4 @@
-use Rattle.std.proofs.Common.{◌≡◌, ◌<◌, ◌≤◌, ◌+◌, List, ℕ, length, map, slice_set, ap, subst, sym, refl}
+use Rattle.std.proofs.Common.{◌≡◌, ◌<◌, ◌≤◌, ◌+◌, List, length, map, slice_set, ap, subst, sym, refl}
 use Rattle.std.specs.Arc.{arc_value}
 use Rattle.yp_io.specs.Counts.{HasRisen}
 use Rattle.yp_publish.specs.Installs.{IsInstalled, IsUnsure, IsUnshown, LeavesEither, LeavesFew}

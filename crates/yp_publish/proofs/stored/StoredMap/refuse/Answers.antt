@@ -1,10 +1,7 @@
-use Rattle.std.proofs.Common.{◌≡◌, List, ℕ, Some, ap, sym, ◌∙◌, subst, Option, rules}
-use Rattle.std.specs.Arc.{arc_value}
+use Rattle.std.proofs.Common.{◌≡◌, Some, ap, sym, ◌∙◌, subst, rules}
 use Rattle.std.proofs.lemmas.Result.{err_from_is_err_and}
-use Rattle.yp_version.specs.Versions.{MapVersion}
 use Rattle.yp_publish.specs.Standing.{Kept, Level}
-use Rattle.yp_publish.specs.Installs.{Refusal, IsCause, offer}
-use Rattle.yp_publish.specs.Shared.{standing_of}
+use Rattle.yp_publish.specs.Installs.{IsCause, offer}
 use Rattle.yp_publish.proofs.Refusals.{none_level, refusal_from}
 use Rattle.yp_publish.proofs.stored.StoredMap.refuse.Goals as goal
 

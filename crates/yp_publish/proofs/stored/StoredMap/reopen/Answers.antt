@@ -1,4 +1,4 @@
-use Rattle.std.proofs.Common.{◌≡◌, inl, inr, List, ℕ, true, Option, IfSome, IsSome, option_map, subst, sym, ◌∙◌, rules}
+use Rattle.std.proofs.Common.{◌≡◌, inl, inr, List, ℕ, true, IfSome, IsSome, option_map, subst, sym, rules}
 use Rattle.std.specs.Arc.{arc_value}
 use Rattle.std.proofs.lemmas.Result.{err_from_is_err_and}
 use Rattle.yp_io.specs.Disk.{MayLeave}

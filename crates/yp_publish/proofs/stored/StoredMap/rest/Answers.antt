@@ -1,4 +1,4 @@
-use Rattle.std.proofs.Common.{◌≡◌, subst, option_map}
+use Rattle.std.proofs.Common.{subst, option_map}
 use Rattle.std.specs.Arc.{arc_value}
 use Rattle.yp_publish.specs.Installs.{LeavesFew}
 use Rattle.yp_publish.specs.Shared.{standing_of}
