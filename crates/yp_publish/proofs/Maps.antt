@@ -1,15 +1,19 @@
 -- What is kept of maps, of which one was changed.
-use Rattle.std.proofs.Common.{◌≡◌, ◌≢◌, ◌⊎◌, inl, inr, ℕ, ◌+◌, ◌<◌, ◌≤◌, Bool, true, false, List, [], ◌∷◌, ◌++◌, map, length, slice_get, slice_set, slice_index_or, get_or, set, Option, Some, None, IfSome, Result, Ok, Err, OnOk, OnErr, IfOk, option_map, if◌then◌else◌, ◌==◌, arith, refl, sym, ◌∙◌, ap, subst, eq-eqb, eqb, cond, fold}
+use Rattle.std.proofs.Common.{◌≡◌, ◌≢◌, ◌⊎◌, inl, inr, ℕ, ◌+◌, ◌<◌, ◌≤◌, Bool, true, false, List, [], ◌∷◌, ◌++◌, map, length, slice_get, slice_set, slice_index_or, get_or, set, Option, Some, None, IfSome, Result, Ok, Err, OnOk, OnErr, IfOk, IfErr, IsSome, option_map, if◌then◌else◌, ◌==◌, arith, refl, sym, ◌∙◌, ap, subst, eq-eqb, eqb, cond, fold}
 use Rattle.std.proofs.lemmas.Option.{get_or_from_slice_get, slice_get_read, slice_get_within, slice_get-map}
-use Rattle.std.proofs.lemmas.List.{length-set, get_or-set_same, get_or-set_other, map-set, length-map}
+use Rattle.std.proofs.lemmas.List.{length-set, get_or-set_same, get_or-set_other, map-set, length-map, set-get_or}
 use Rattle.std.proofs.lemmas.List.Sums.{fold-append}
 use Rattle.std.proofs.lemmas.Bool.{ne_eqb, cases_eq}
 use Rattle.std.proofs.Math.Seq.{map-set_same}
+use Rattle.yp_io.specs.Disk.{History, MayLeave, IsReadAnImage}
 use Rattle.yp_version.specs.Versions.{MapVersion}
+use Rattle.yp_slot.specs.Stands.{Stored, stands}
 use Rattle.yp_board.specs.Logs.{Log, shown}
-use Rattle.yp_publish.specs.Standing.{MapStanding, Level, Behind, Kept, OfMap, At, IsSameElsewhere, versions, Shows}
+use Rattle.yp_publish.specs.Standing.{MapStanding, Level, Behind, Kept, StandsAs, IsStanding, stands_for, OfMap, At, IsSameElsewhere, versions, Shows}
 use Rattle.yp_publish.specs.Starts.{IsPublisher}
-use Rattle.yp_publish.specs.Rising.{Moment, Stores, with_shown, with_standing}
+use Rattle.yp_publish.specs.Opens.{IsAnother, IsWhatStood}
+use Rattle.yp_publish.specs.Rising.{Moment, Stores, Reopens, with_shown, with_standing}
+use Rattle.yp_publish.proofs.Moments.{was_failed}
 use Rattle.yp_publish.proofs.Lists.{get_set, get_set_other}
 
 -- ---- results
@@ -25,6 +29,10 @@ if_ok (Err e) f h = tt
 pub on_err : {T E P Q : Type 0} (r : Result T E) → (P → Q) → OnErr r P → OnErr r Q
 on_err (Ok x) f h = tt
 on_err (Err e) f h = f h
+
+pub if_err : {T E : Type 0} {P Q : E → Type 0} (r : Result T E) → ((e : E) → P e → Q e) → IfErr r P → IfErr r Q
+if_err (Ok x) f h = tt
+if_err (Err e) f h = f e h
 
 -- ---- one map
 
@@ -108,6 +116,22 @@ shows_after {D} (Ok t) log after maps n x y version there more same new kept sho
 shows_after {D} (Err e) log after maps n x y version there more same new kept shows =
     subst (λ (l : Log). Shows l (versions (slice_set maps n y))) (sym same) (shows_same log maps n x y there kept shows)
 
+-- what a reopen shows: nothing, or a version other than the one that was shown
+abbrev pub Reshown : {D : Type 0} → ℕ → (log after : Log) → Kept D → Kept D → Type 0
+Reshown n log after x y =
+    ((after ≡ log) × (y.version ≡ x.version)) ⊎ ((version : MapVersion) × IsAnother version x y × (after ≡ with_shown n version log))
+
+pub shows_reopened : {D T E : Type 0} (r : Result T E) (log after : Log) (maps : List (Kept D)) (n : ℕ) (x y : Kept D) → slice_get maps n ≡ Some x
+    → OnOk r (Reshown n log after x y) → OnErr r (after ≡ log) → OnErr r (y.version ≡ x.version) → Shows log (versions maps) → Shows after (versions (slice_set maps n y))
+shows_reopened {D} (Ok t) log after maps n x y there ok unshown kept shows =
+    let P : Log → Type 0 = λ l. Shows l (versions (slice_set maps n y)) in
+    elim ok [
+      | inl same ↦ subst P (sym same.0) (shows_same log maps n x y there same.1 shows)
+      | inr more ↦ subst P (sym more.2) (shows_more log maps n y more.0 (slice_get_within maps n x there) more.1.shown shows)
+    ]
+shows_reopened {D} (Err e) log after maps n x y there ok unshown kept shows =
+    subst (λ (l : Log). Shows l (versions (slice_set maps n y))) (sym unshown) (shows_same log maps n x y there kept shows)
+
 -- ---- what steps a log makes
 
 standings_set : {D : Type 0} (maps : List (Kept D)) (n : ℕ) (y : Kept D) (standing : MapStanding) → y.standing ≡ standing
@@ -148,3 +172,41 @@ publisher_set maps n y names log after board_maps board_maps_after capacity is s
   shows = shows;
   room = subst (λ (k : ℕ). k ≤ capacity) (sym (length-set maps n y)) is.room;
 }
+
+-- what is put back where it stood
+pub put_back : {D : Type 0} (maps : List (Kept D)) (n : ℕ) (x y : Kept D) → slice_get maps n ≡ Some x → y ≡ x → slice_set maps n y ≡ maps
+put_back {D} maps n x y there same =
+    ap (λ (k : Kept D). slice_set maps n k) (same ∙ sym (get_or_from_slice_get maps n x x there)) ∙ set-get_or maps n x
+
+abbrev pub standings : {D : Type 0} → List (Kept D) → List MapStanding
+standings {D} maps = map (λ (kept : Kept D). kept.standing) maps
+
+-- the step that a reopen makes
+reopens_done : {D : Type 0} (H : D → Option History) (log after : Log) (maps : List (Kept D)) (n : ℕ) (x y : Kept D) (standing : MapStanding) → x.standing ≡ standing → slice_get maps n ≡ Some x
+    → (x.standing ≡ Level → (y.standing ≡ x.standing) × (after ≡ log)) → y.standing ≡ Level → Reshown n log after x y → (x.standing ≢ Level → IsWhatStood H x.disk y)
+    → IsStanding H x → IsReadAnImage (H x.disk) → IsSome (H x.disk)
+    → Reopens n (record { log = log; standings = standings maps }) (record { log = after; standings = standings (slice_set maps n y) })
+reopens_done {D} H log after maps n x y Level is there level now shown stood before reads told =
+    let same = level is in
+    inl (ap (λ (l : Log). record { log = l; standings = standings (slice_set maps n y) }) same.1 ∙ ap (λ (l : List MapStanding). record { log = log; standings = l }) (standings_same maps n x y there same.0))
+reopens_done {D} H log after maps n x y (Behind failed) is there level now shown stood before reads told =
+    let behind : x.standing ≢ Level = λ e. (let no : Behind failed ≡ Level = sym is ∙ e in cc) in
+    let set_level = standings_set maps n y Level now in
+    inr (failed, standing_there maps n x there ∙ ap (λ (s : MapStanding). Some s) is, elim shown [
+      | inl same ↦ inl (ap (λ (l : Log). record { log = l; standings = standings (slice_set maps n y) }) same.0 ∙ ap (λ (l : List MapStanding). record { log = log; standings = l }) set_level)
+      | inr more ↦
+          let images : (image : List ℕ) → MayLeave (H x.disk) image → StandsAs (Behind failed) x.version image = λ image left. subst (λ (s : MapStanding). StandsAs s x.version image) is (before image left) in
+          let what = stood behind in
+          let version : IfSome (H x.disk) (λ h. stands h.state.reads ≡ Stored more.0) = subst (λ (o : Option MapVersion). IfSome (H x.disk) (λ h. stands h.state.reads ≡ stands_for o)) more.1.shown what.version in
+          let same = was_failed (H x.disk) failed more.0 x.version reads images version more.1.another told in
+          inr (ap (λ (l : Log). record { log = l; standings = standings (slice_set maps n y) }) (more.2 ∙ ap (λ (v : MapVersion). with_shown n v log) same)
+          ∙ ap (λ (l : List MapStanding). record { log = with_shown n failed log; standings = l }) set_level)
+    ])
+
+pub reopens_after : {D T E : Type 0} (H : D → Option History) (r : Result T E) (log after : Log) (maps : List (Kept D)) (n : ℕ) (x y : Kept D) → slice_get maps n ≡ Some x
+    → (x.standing ≡ Level → (y.standing ≡ x.standing) × (after ≡ log)) → OnOk r (y.standing ≡ Level) → OnOk r (Reshown n log after x y) → OnOk r (x.standing ≢ Level → IsWhatStood H x.disk y)
+    → OnErr r (after ≡ log) → OnErr r (y.standing ≡ x.standing) → IsStanding H x → IsReadAnImage (H x.disk) → IsSome (H x.disk)
+    → Reopens n (record { log = log; standings = standings maps }) (record { log = after; standings = standings (slice_set maps n y) })
+reopens_after {D} H (Ok t) log after maps n x y there level now shown stood unshown stays before reads told = reopens_done H log after maps n x y x.standing refl there level now shown stood before reads told
+reopens_after {D} H (Err e) log after maps n x y there level now shown stood unshown stays before reads told =
+    inl (ap (λ (l : Log). record { log = l; standings = standings (slice_set maps n y) }) unshown ∙ ap (λ (l : List MapStanding). record { log = log; standings = l }) (standings_same maps n x y there stays))

@@ -1,5 +1,5 @@
 -- What a crash leaves at the moments of a call, and how a map stands after it.
-use Rattle.std.proofs.Common.{◌≡◌, ◌⊎◌, inl, inr, ℕ, List, Option, Some, None, IfSome, IsSome, Err, [], length, ◌≤◌, option_map, subst, ap, ◌∙◌, sym, refl}
+use Rattle.std.proofs.Common.{◌≡◌, ◌≢◌, ◌⊎◌, inl, inr, ℕ, List, Option, Some, None, IfSome, IsSome, Err, [], length, ◌≤◌, option_map, subst, ap, ◌∙◌, sym, refl}
 use Rattle.yp_io.specs.Disk.{DiskState, History, GoesOn, LeftBetween, LeavesOnly, MayLeave, IsReadAnImage, IsDurable, after_sync}
 use Rattle.yp_version.specs.Versions.{MapVersion}
 use Rattle.yp_slot.specs.Laws.{FileIsBounded}
@@ -75,6 +75,19 @@ settled None standing shown found after reads images stood is = tt
 settled (Some h) standing shown found after reads images stood is = elim is [
   | inl same ↦ stood ∙ ap stands_for (sym same)
   | inr kept ↦ nothing_shown standing shown h.state.reads (images h.state.reads reads) (stood ∙ ap stands_for kept.0) ∙ ap stands_for (sym kept.1)
+]
+
+stands_is : (shown : Option MapVersion) (version : MapVersion) → stands_for shown ≡ Stored version → shown ≡ Some version
+stands_is None version e = cc
+stands_is (Some v) version e = let same : v ≡ version = cc in ap (λ (w : MapVersion). Some w) same
+
+-- a version that stands in the file of a map that is behind, and isn't the one that was shown, is the failed one
+pub was_failed : (old : Option History) (failed version : MapVersion) (shown : Option MapVersion) → IsReadAnImage old
+    → ((image : List ℕ) → MayLeave old image → StandsAs (Behind failed) shown image) → IfSome old (λ h. stands h.state.reads ≡ Stored version) → shown ≢ Some version → IsSome old → version ≡ failed
+was_failed None failed version shown reads images stood another told = cc
+was_failed (Some h) failed version shown reads images stood another told = elim (images h.state.reads reads) [
+  | inl same ↦ absurd (another (stands_is shown version (sym same ∙ stood)))
+  | inr stored ↦ let e : Stored version ≡ Stored failed = sym stood ∙ stored in cc
 ]
 
 -- after a load that was done whatever a crash leaves stands for what the file stood for

@@ -272,8 +272,8 @@ impl<D: Disk, B: Show> Publisher<D, B> {
         requires { map < length self.old.maps }
 
         // A level map stays as it is.
-        ensures level { OfMap map self.old.maps
-            (λ kept. kept.standing ≡ Level → IsOk result × (self.new ≡ self.old)) }
+        ensures level { OfMap map self.old.maps (λ kept. kept.standing ≡ Level)
+            → IsOk result × (self.new ≡ self.old) }
 
         // After Ok the map is level with what its file stood for, and that is shown.
         ensures ok { OnOk result (OfMap map self.new.maps (λ kept. kept.standing ≡ Level)) }
@@ -308,8 +308,8 @@ impl<D: Disk, B: Show> Publisher<D, B> {
         ensures catalogue { self.new.catalogue ≡ self.old.catalogue }
 
         // The log goes on rising, where the disk tells its history.
-        ensures rising { OfMap map self.old.maps (λ kept. IsSome (D.history kept.disk)
-            → Reopens map (moment_of B.log self.old) (moment_of B.log self.new)) }
+        ensures rising { OfMap map self.old.maps (λ kept. IsSome (D.history kept.disk))
+            → Reopens map (moment_of B.log self.old) (moment_of B.log self.new) }
     {
         yp_slot::laws::file_is_bounded();
         let stored = &mut self.maps[map as usize];

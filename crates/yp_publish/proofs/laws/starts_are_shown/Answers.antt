@@ -1,6 +1,5 @@
 use Rattle.std.proofs.Common.{◌≡◌, ◌+◌, arith}
 use Rattle.yp_publish.proofs.Begins.{starts_at}
-use Rattle.yp_publish.proofs.Maps.{shows_after}
 use Rattle.yp_publish.proofs.laws.starts_are_shown.Goals as goal
 
 pub returns : goal.returns
