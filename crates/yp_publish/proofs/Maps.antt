@@ -155,12 +155,12 @@ pub stores_after : {D E T : Type 0} (r : Result T E) (log after : Log) (maps : L
 stores_after {D} (Ok t) log after maps n x y version there level more same new kept = (
   standing_there maps n x there ∙ ap (λ (s : MapStanding). Some s) level,
   inl (ap (λ (l : Log). record { log = l; standings = map (λ (kept : Kept D). kept.standing) (slice_set maps n y) }) more
-  ∙ ap (λ (l : List MapStanding). record { log = with_shown n version log; standings = l }) (standings_same maps n x y there (new ∙ sym level))),
+      ∙ ap (λ (l : List MapStanding). record { log = with_shown n version log; standings = l }) (standings_same maps n x y there (new ∙ sym level))),
 )
 stores_after {D} (Err e) log after maps n x y version there level more same new kept = (
   standing_there maps n x there ∙ ap (λ (s : MapStanding). Some s) level,
   inr (ap (λ (l : Log). record { log = l; standings = map (λ (kept : Kept D). kept.standing) (slice_set maps n y) }) same
-  ∙ ap (λ (l : List MapStanding). record { log = log; standings = l }) (standings_set maps n y (Behind version) kept)),
+      ∙ ap (λ (l : List MapStanding). record { log = log; standings = l }) (standings_set maps n y (Behind version) kept)),
 )
 
 -- what holds of a publisher holds after a map was changed, where the board shows that
@@ -192,16 +192,20 @@ reopens_done {D} H log after maps n x y Level is there level now shown stood bef
 reopens_done {D} H log after maps n x y (Behind failed) is there level now shown stood before reads told =
     let behind : x.standing ≢ Level = λ e. (let no : Behind failed ≡ Level = sym is ∙ e in cc) in
     let set_level = standings_set maps n y Level now in
-    inr (failed, standing_there maps n x there ∙ ap (λ (s : MapStanding). Some s) is, elim shown [
-      | inl same ↦ inl (ap (λ (l : Log). record { log = l; standings = standings (slice_set maps n y) }) same.0 ∙ ap (λ (l : List MapStanding). record { log = log; standings = l }) set_level)
-      | inr more ↦
-          let images : (image : List ℕ) → MayLeave (H x.disk) image → StandsAs (Behind failed) x.version image = λ image left. subst (λ (s : MapStanding). StandsAs s x.version image) is (before image left) in
-          let what = stood behind in
-          let version : IfSome (H x.disk) (λ h. stands h.state.reads ≡ Stored more.0) = subst (λ (o : Option MapVersion). IfSome (H x.disk) (λ h. stands h.state.reads ≡ stands_for o)) more.1.shown what.version in
-          let same = was_failed (H x.disk) failed more.0 x.version reads images version more.1.another told in
-          inr (ap (λ (l : Log). record { log = l; standings = standings (slice_set maps n y) }) (more.2 ∙ ap (λ (v : MapVersion). with_shown n v log) same)
-          ∙ ap (λ (l : List MapStanding). record { log = with_shown n failed log; standings = l }) set_level)
-    ])
+    inr (
+      failed,
+      standing_there maps n x there ∙ ap (λ (s : MapStanding). Some s) is,
+      elim shown [
+        | inl same ↦ inl (ap (λ (l : Log). record { log = l; standings = standings (slice_set maps n y) }) same.0 ∙ ap (λ (l : List MapStanding). record { log = log; standings = l }) set_level)
+        | inr more ↦
+            let images : (image : List ℕ) → MayLeave (H x.disk) image → StandsAs (Behind failed) x.version image = λ image left. subst (λ (s : MapStanding). StandsAs s x.version image) is (before image left) in
+            let what = stood behind in
+            let version : IfSome (H x.disk) (λ h. stands h.state.reads ≡ Stored more.0) = subst (λ (o : Option MapVersion). IfSome (H x.disk) (λ h. stands h.state.reads ≡ stands_for o)) more.1.shown what.version in
+            let same = was_failed (H x.disk) failed more.0 x.version reads images version more.1.another told in
+            inr (ap (λ (l : Log). record { log = l; standings = standings (slice_set maps n y) }) (more.2 ∙ ap (λ (v : MapVersion). with_shown n v log) same)
+            ∙ ap (λ (l : List MapStanding). record { log = with_shown n failed log; standings = l }) set_level)
+      ],
+    )
 
 pub reopens_after : {D T E : Type 0} (H : D → Option History) (r : Result T E) (log after : Log) (maps : List (Kept D)) (n : ℕ) (x y : Kept D) → slice_get maps n ≡ Some x
     → (x.standing ≡ Level → (y.standing ≡ x.standing) × (after ≡ log)) → OnOk r (y.standing ≡ Level) → OnOk r (Reshown n log after x y) → OnOk r (x.standing ≢ Level → IsWhatStood H x.disk y)

@@ -99,23 +99,23 @@ record Rises (moment : Moment) : Type 0 where
 rises_stored : (n : ℕ) (version : MapVersion) (old new : Moment) → IsNewer n version old.log → Stores n version old new → Rises old → Rises new
 rises_stored n version old new newer stores rises = elim stores.1 [
   | inl shows ↦ subst Rises (sym shows) (record {
-      rising = rises_more n version old.log rises.rising newer;
-      behind = λ m failed is. elim (cases_eq m n) [
-        | inl same ↦ absurd (let e : Some Level ≡ Some (Behind failed) = sym stores.0 ∙ ap (slice_get old.standings) (sym same) ∙ is in cc)
-        | inr other ↦ newer_other n m version failed old.log other (rises.behind m failed is)
-      ];
-    })
+    rising = rises_more n version old.log rises.rising newer;
+    behind = λ m failed is. elim (cases_eq m n) [
+      | inl same ↦ absurd (let e : Some Level ≡ Some (Behind failed) = sym stores.0 ∙ ap (slice_get old.standings) (sym same) ∙ is in cc)
+      | inr other ↦ newer_other n m version failed old.log other (rises.behind m failed is)
+    ];
+  })
   | inr behind ↦ subst Rises (sym behind) (record {
-      rising = rises.rising;
-      behind = λ m failed is. elim (cases_eq m n) [
-        | inl same ↦
-            let there : slice_get (set old.standings n (Behind version)) n ≡ Some (Behind version) = get_set old.standings n (Behind version) (slice_get_within old.standings n Level stores.0) in
-            let e : Some (Behind version) ≡ Some (Behind failed) = sym there ∙ ap (slice_get (set old.standings n (Behind version))) (sym same) ∙ is in
-            let v : version ≡ failed = cc in
-            subst (λ (k : ℕ). IsNewer k failed old.log) (sym same) (subst (λ (w : MapVersion). IsNewer n w old.log) v newer)
-        | inr other ↦ rises.behind m failed (sym (get_set_other old.standings n m (Behind version) other) ∙ is)
-      ];
-    })
+    rising = rises.rising;
+    behind = λ m failed is. elim (cases_eq m n) [
+      | inl same ↦
+          let there : slice_get (set old.standings n (Behind version)) n ≡ Some (Behind version) = get_set old.standings n (Behind version) (slice_get_within old.standings n Level stores.0) in
+          let e : Some (Behind version) ≡ Some (Behind failed) = sym there ∙ ap (slice_get (set old.standings n (Behind version))) (sym same) ∙ is in
+          let v : version ≡ failed = cc in
+          subst (λ (k : ℕ). IsNewer k failed old.log) (sym same) (subst (λ (w : MapVersion). IsNewer n w old.log) v newer)
+      | inr other ↦ rises.behind m failed (sym (get_set_other old.standings n m (Behind version) other) ∙ is)
+    ];
+  })
 ]
 
 level_not_behind : (standings : List MapStanding) (n m : ℕ) (was failed : MapVersion) → slice_get standings n ≡ Some (Behind was) → m ≡ n → slice_get (set standings n Level) m ≡ Some (Behind failed) → ⊥
@@ -131,28 +131,28 @@ rises_reopened n old new reopens rises = elim reopens [
       let was = opened.0 in
       elim opened.2 [
         | inl level ↦ subst Rises (sym level) (record {
-            rising = rises.rising;
-            behind = λ m failed is. elim (cases_eq m n) [
-              | inl same ↦ absurd (level_not_behind old.standings n m was failed opened.1 same is)
-              | inr other ↦ rises.behind m failed (sym (get_set_other old.standings n m Level other) ∙ is)
-            ];
-          })
+          rising = rises.rising;
+          behind = λ m failed is. elim (cases_eq m n) [
+            | inl same ↦ absurd (level_not_behind old.standings n m was failed opened.1 same is)
+            | inr other ↦ rises.behind m failed (sym (get_set_other old.standings n m Level other) ∙ is)
+          ];
+        })
         | inr shows ↦ subst Rises (sym shows) (record {
-            rising = rises_more n was old.log rises.rising (rises.behind n was opened.1);
-            behind = λ m failed is. elim (cases_eq m n) [
-              | inl same ↦ absurd (level_not_behind old.standings n m was failed opened.1 same is)
-              | inr other ↦ newer_other n m was failed old.log other (rises.behind m failed (sym (get_set_other old.standings n m Level other) ∙ is))
-            ];
-          })
+          rising = rises_more n was old.log rises.rising (rises.behind n was opened.1);
+          behind = λ m failed is. elim (cases_eq m n) [
+            | inl same ↦ absurd (level_not_behind old.standings n m was failed opened.1 same is)
+            | inr other ↦ newer_other n m was failed old.log other (rises.behind m failed (sym (get_set_other old.standings n m Level other) ∙ is))
+          ];
+        })
       ]
 ]
 
 rises_step : (old new : Moment) → Steps old new → Rises old → Rises new
 rises_step old new step rises = elim step [
   | inl installs ↦ elim installs.2 [
-      | inl same ↦ subst Rises (sym same) rises
-      | inr stored ↦ rises_stored installs.0 installs.1 old new stored.0 stored.1 rises
-    ]
+    | inl same ↦ subst Rises (sym same) rises
+    | inr stored ↦ rises_stored installs.0 installs.1 old new stored.0 stored.1 rises
+  ]
   | inr reopens ↦ rises_reopened reopens.0 old new reopens.1 rises
 ]
 
@@ -160,9 +160,9 @@ rises_start : (moment : Moment) → IsStart moment → Rises moment
 rises_start moment start = record {
   rising = λ n k lt. let one = start.one n in absurd (omega arith);
   behind = λ n failed is. absurd (
-    let level = start.level n (Behind failed) (slice_get_within moment.standings n (Behind failed) is) in
-    let e : Level ≡ Behind failed = sym level ∙ get_or_from_slice_get moment.standings n (Behind failed) (Behind failed) is in
-    cc);
+      let level = start.level n (Behind failed) (slice_get_within moment.standings n (Behind failed) is) in
+      let e : Level ≡ Behind failed = sym level ∙ get_or_from_slice_get moment.standings n (Behind failed) (Behind failed) is in
+      cc);
 }
 
 rises_all : (first : Moment) (moments : List Moment) → Rises first → Follow first moments → AllByRecursion (λ moment. IsRisingLog moment.log) (first ∷ moments)

@@ -51,8 +51,8 @@ abbrev pub Reopens : ℕ → Moment → Moment → Type 0
 Reopens number old new =
     (new ≡ old)
     ⊎ ((failed : MapVersion) × (slice_get old.standings number ≡ Some (Behind failed))
-      × ((new ≡ with_standing number Level old)
-        ⊎ (new ≡ with_standing number Level (record old { log = with_shown number failed old.log }))))
+    × ((new ≡ with_standing number Level old)
+    ⊎ (new ≡ with_standing number Level (record old { log = with_shown number failed old.log }))))
 
 -- an install that isn't forced, or a reopen, of some map
 abbrev pub Steps : Moment → Moment → Type 0

@@ -33,8 +33,8 @@ pub enum InstallFault {
     /// An install of this map failed, and the map wasn't opened again since.
     Behind,
 
-    /// A version with this master is shown. A map whose master is the own name is built and never fetched, and any other
-    /// one is fetched and never built.
+    /// A version with this master is shown. A map whose master is the own name is built and never fetched, and any
+    /// other one is fetched and never built.
     Refused { master: Vec<u8> },
 
     /// The order isn't over the one that is shown.

@@ -2,8 +2,9 @@
 //!
 //! How each map stands is a fact of the type [`Publisher`]: whatever a crash may leave of a level map's file stands for
 //! the version that is shown of it, and of a map that is behind for that version or for the one whose install failed.
-//! So no board is ever ahead of its files. [`Publisher::install`] and [`Publisher::reopen`] say so of each moment inside
-//! them, and rest on those of `yp_slot`; [`load_all`] and [`Publisher::new`] begin, and [`laws`] say that logs rise.
+//! So no board is ever ahead of its files. [`Publisher::standing`] tells it, and [`Publisher::install`] and
+//! [`Publisher::reopen`] say it of each moment inside them; they rest on the calls of `yp_slot`. [`laws`] say that logs
+//! rise.
 #![tactic(auto)]
 
 mod install;

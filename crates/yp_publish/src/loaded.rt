@@ -35,7 +35,7 @@ impl<D: Disk> Model for Loaded<D> {
 }
 
 /// A disk wasn't loaded. All disks are handed back, in their order.
-#[derive(Drop)]
+#[derive(Debug, Drop)]
 pub struct StartRefused<D> {
     pub disks: Vec<D>,
     /// The number of the first map whose disk was refused, from 0.

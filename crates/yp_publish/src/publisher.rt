@@ -261,8 +261,8 @@ impl<D: Disk, B: Show> Publisher<D, B> {
         stored.install(&mut self.board, map, spelled)
     }
 
-    /// Opens the file of a map that is behind again, and shows what stands there where that isn't what is shown. The map
-    /// is level then. After a refusal it is still behind. Where the map is level, nothing is done.
+    /// Opens the file of a map that is behind again, and shows what stands there where that isn't what is shown. The
+    /// map is level then. After a refusal it is still behind. Where the map is level, nothing is done.
     pub fn reopen(
         &mut self,
         alloc: Global,
@@ -282,8 +282,8 @@ impl<D: Disk, B: Show> Publisher<D, B> {
         ensures log { OnOk result (At map self.old.maps self.new.maps (λ before after.
             ((self.new.board ≡ self.old.board) × (after.version ≡ before.version))
             ⊎ ((version : MapVersion) × IsAnother version before after
-              × (B.log self.new.board ≡ with_shown map version (B.log self.old.board))
-              × B.showed map version self.old.board self.new.board))) }
+            × (B.log self.new.board ≡ with_shown map version (B.log self.old.board))
+            × B.showed map version self.old.board self.new.board))) }
 
         // What a refusal leaves.
         ensures still_behind { OnErr result (At map self.old.maps self.new.maps (λ before after.

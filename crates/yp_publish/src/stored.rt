@@ -234,7 +234,7 @@ impl<D: Disk> StoredMap<D> {
         ensures stood { OnOk result (self.old.standing ≢ Level → IsWhatStood D.history self.old.disk self.new) }
         ensures shown { OnOk result (((board.new ≡ board.old) × (self.new.version ≡ self.old.version))
             ⊎ ((version : MapVersion) × IsAnother version self.old self.new
-              × (B.log board.new ≡ B.log board.old ++ (map, version) ∷ []) × B.showed map version board.old board.new)) }
+            × (B.log board.new ≡ B.log board.old ++ (map, version) ∷ []) × B.showed map version board.old board.new)) }
         ensures still_behind { OnErr result
             (self.new ≡ record self.old { disk = self.new.disk; generation = self.new.generation }) }
         ensures not_shown { OnErr result (board.new ≡ board.old) }

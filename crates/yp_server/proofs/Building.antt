@@ -63,6 +63,7 @@ pub follows : (site : Site) (material : Material) (version : MapVersion) → is_
 follows site material version own marked = after site.shown own (built_order site.kind material.text (last_order site) material.moment site.own marked.plain marked.built) where
   newer : (last : MapVersion) → last.order < version.order → nat_le version.order last.order ≡ false
   newer last lt = grind arith
+
   after : (shown : Option MapVersion) → is_of_another site.own shown ≡ false
       → order_after (option_map (λ v. v.order) shown) material.moment ≡ Some marked.plain.order
       → not_following site.own (offer version Built false) shown ≡ None
@@ -80,19 +81,21 @@ pub unbuilt : {T C : Type 0} (telling : Telling T C) (site : Site) (material : M
     → IsUnbuilt telling site stat old new
 unbuilt telling site material stat old new own told refused =
     subst (λ (s : XfrStat). IsUnbuilt telling site s old new) (sym refused.stat_is) (by_fault refused.fault refused.cause refused.spent) where
-  row : (f : BuildFault) → (f ≡ fault.NoMemory → ⊥) → (f ≡ fault.OrderSpent → ⊥) → (f ≡ fault.NoMemory) ⊎ (built_for site material ≡ Err f) → HasBadRow telling site old
-  row f memory spent cause =
-      elim cause [
-        inl e ↦ absurd (memory e)
-      | inr e ↦ record { material = material; told = told; fault = f; of_row = spent; cause = e } ]
-  by_fault : (f : BuildFault) → (f ≡ fault.NoMemory) ⊎ (built_for site material ≡ Err f) → (f ≡ fault.OrderSpent → last_order site ≡ Some order_max)
-      → IsUnbuilt telling site (stat_of f) old new
-  by_fault fault.OrderSpent cause spent = (own, spent refl)
-  by_fault fault.NoMemory cause spent = own
-  by_fault (fault.KeyLong line) cause spent = (own, row (fault.KeyLong line) (λ e. cc) (λ e. cc) cause)
-  by_fault (fault.ValueLong line) cause spent = (own, row (fault.ValueLong line) (λ e. cc) (λ e. cc) cause)
-  by_fault (fault.TooManyRows line) cause spent = (own, row (fault.TooManyRows line) (λ e. cc) (λ e. cc) cause)
-  by_fault (fault.TooBig line) cause spent = (own, row (fault.TooBig line) (λ e. cc) (λ e. cc) cause)
+      row : (f : BuildFault) → (f ≡ fault.NoMemory → ⊥) → (f ≡ fault.OrderSpent → ⊥) → (f ≡ fault.NoMemory) ⊎ (built_for site material ≡ Err f) → HasBadRow telling site old
+      row f memory spent cause =
+          elim cause [
+            | inl e ↦ absurd (memory e)
+            | inr e ↦ record { material = material; told = told; fault = f; of_row = spent; cause = e }
+          ]
+
+      by_fault : (f : BuildFault) → (f ≡ fault.NoMemory) ⊎ (built_for site material ≡ Err f) → (f ≡ fault.OrderSpent → last_order site ≡ Some order_max)
+          → IsUnbuilt telling site (stat_of f) old new
+      by_fault fault.OrderSpent cause spent = (own, spent refl)
+      by_fault fault.NoMemory cause spent = own
+      by_fault (fault.KeyLong line) cause spent = (own, row (fault.KeyLong line) (λ e. cc) (λ e. cc) cause)
+      by_fault (fault.ValueLong line) cause spent = (own, row (fault.ValueLong line) (λ e. cc) (λ e. cc) cause)
+      by_fault (fault.TooManyRows line) cause spent = (own, row (fault.TooManyRows line) (λ e. cc) (λ e. cc) cause)
+      by_fault (fault.TooBig line) cause spent = (own, row (fault.TooBig line) (λ e. cc) (λ e. cc) cause)
 
 -- ---- results
 
@@ -122,6 +125,6 @@ pub follows_at : {D T C : Type 0} (telling : Telling T C) (site : Site) (desk : 
 follows_at telling site desk version own now number maps anew same_own same_shown kept =
     let there : not_following site.own (offer version Built false) site.shown ≡ None = follows site anew.material version anew.own anew.marked in
     let here : not_following own (offer version Built false) now ≡ None =
-        subst (λ (s : Option MapVersion). not_following own (offer version Built false) s ≡ None) same_shown
-          (subst (λ (o : List ℕ). not_following o (offer version Built false) site.shown ≡ None) same_own there) in
+    subst (λ (s : Option MapVersion). not_following own (offer version Built false) s ≡ None) same_shown
+    (subst (λ (o : List ℕ). not_following o (offer version Built false) site.shown ≡ None) same_own there) in
     if_some (slice_get maps number) (λ map is. subst (λ (s : Option MapVersion). not_following own (offer version Built false) s ≡ None) (sym is) here) kept

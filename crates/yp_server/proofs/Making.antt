@@ -14,7 +14,7 @@ pub made_from : {D B T C : Type 0} (keeping : Keeping D B) (telling : Telling T 
     → Makes keeping telling job stat old new
 made_from {D} {B} {T} {C} keeping telling job stat inside old new middle is desk asked opens tries =
     subst (λ (o : Local D B T C). Makes keeping telling job stat o new) is
-      record { desk = desk; asked = asked; ends = inr record { middle = middle; opens = opens; tries = tries } }
+    record { desk = desk; asked = asked; ends = inr record { middle = middle; opens = opens; tries = tries } }
 
 -- the count of FILE is no part of it
 pub recounted : {D B T C : Type 0} (keeping : Keeping D B) (telling : Telling T C) (job : Job) (stat : XfrStat)
@@ -22,9 +22,9 @@ pub recounted : {D B T C : Type 0} (keeping : Keeping D B) (telling : Telling T 
     → inside ≡ new → Makes keeping telling job stat old new → Makes keeping telling job stat old (record inside { files = files })
 recounted {D} {B} {T} {C} keeping telling job stat old inside new files is made =
     subst (λ (n : Local D B T C). Makes keeping telling job stat old (record n { files = files })) (sym is) again where
-  again : Makes keeping telling job stat old (record new { files = files })
-  again = record {
-    desk = made.desk;
-    asked = made.asked;
-    ends = elim made.ends [ inl stays ↦ inl stays | inr tries ↦ inr record { middle = tries.middle; opens = tries.opens; tries = tries.tries } ];
-  }
+      again : Makes keeping telling job stat old (record new { files = files })
+      again = record {
+        desk = made.desk;
+        asked = made.asked;
+        ends = elim made.ends [ inl stays ↦ inl stays | inr tries ↦ inr record { middle = tries.middle; opens = tries.opens; tries = tries.tries } ];
+      }

@@ -35,7 +35,7 @@ abbrev pub Tries : {D B T C : Type 0} → Keeping D B → Telling T C → Job �
 Tries keeping telling job stat old new =
     (IsUnbuilt telling (site_at keeping job old.published) stat old.desk new.desk × (new.published ≡ old.published))
     ⊎ ((version : MapVersion) × IsAnew telling (site_at keeping job old.published) old.desk version
-      × Installs keeping job.number version stat old.published new.published)
+    × Installs keeping job.number version stat old.published new.published)
 
 -- The map is level, where it was behind by opening its file again, and then it is tried to make it.
 pub record OpensAndTries {D B T C : Type 0} (keeping : Keeping D B) (telling : Telling T C) (job : Job) (stat : XfrStat) (old new : Local D B T C) : Type 0 where

@@ -34,7 +34,7 @@ abbrev pub ShowsWhatStood : {D B : Type 0} → Keeping D B → ℕ → Published
 ShowsWhatStood keeping number old new = At number old.maps new.maps (λ before after.
     (IsNotShown old new × (after.version ≡ before.version))
     ⊎ ((version : MapVersion) × IsAnother version before after
-      × (keeping.log new.board ≡ with_shown number version (keeping.log old.board))))
+    × (keeping.log new.board ≡ with_shown number version (keeping.log old.board))))
 
 -- The map was level and nothing was done, or it is level with what its file stood for, and that is shown.
 pub record Opens {D B : Type 0} (keeping : Keeping D B) (number : ℕ) (old new : Published D B) : Type 0 where

@@ -9,8 +9,6 @@ mod anew;
 mod desk;
 mod local;
 mod steps;
-#[cfg(test)]
-mod tests;
 
 pub use desk::Desk;
 pub use local::LocalHost;

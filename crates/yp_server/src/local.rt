@@ -41,7 +41,8 @@ pub struct LocalHost<D: Disk, B: Show, T: Texts, C: Clock, R: RandomSource + Dro
     rt: R,
 }
 
-impl<D: Disk, B: Show, T: Texts, C: Clock, R: RandomSource + Drop> Model for LocalHost<D, B, T, C, R> {
+impl<D: Disk, B: Show, T: Texts, C: Clock, R: RandomSource + Drop> Model
+    for LocalHost<D, B, T, C, R> {
     ghost use Rattle.std.specs.Prelude.{◌≡◌, length};
     ghost use Rattle.yp_server.specs.Locals.{Local};
 
@@ -179,7 +180,8 @@ fn held<D: Disk, B: Show>(publisher: &Publisher<D, B>, map: u32) -> Option<&Vers
     }
 }
 
-impl<D: Disk, B: Show, T: Texts, C: Clock, R: RandomSource + Drop> View for LocalHost<D, B, T, C, R> {
+impl<D: Disk, B: Show, T: Texts, C: Clock, R: RandomSource + Drop> View
+    for LocalHost<D, B, T, C, R> {
     ghost seen = { λ host. seen_of B.log host };
 
     ghost stepped = { λ old new. new ≡ record old { asked = next_count old.asked } };
@@ -197,7 +199,8 @@ impl<D: Disk, B: Show, T: Texts, C: Clock, R: RandomSource + Drop> View for Loca
     }
 }
 
-impl<D: Disk, B: Show, T: Texts, C: Clock, R: RandomSource + Drop> Host for LocalHost<D, B, T, C, R> {
+impl<D: Disk, B: Show, T: Texts, C: Clock, R: RandomSource + Drop> Host
+    for LocalHost<D, B, T, C, R> {
     ghost files = { λ host. host.files };
 
     ghost made = { λ asked peer stat old new.

@@ -18,16 +18,16 @@ loop-disk-init g c = record {
 
 pub loop-disk-preserved : goal.loop-disk-preserved
 loop-disk-preserved g c =
-  let old = c.loop-disk.invariant in
-  let popped = c.in-Some.ensures.len in
-  let more : length c.push_reserved.new.self.items ≡ length c.loop-disk.maps.items + 1 = ap length c.push_reserved.ensures.items ∙ length-append c.loop-disk.maps.items (c.in-Ok-load.stored ∷ []) in
-  let fewer : length c.loop-disk.rest.items ≡ length c.pop.new.self.items + 1 = ap length c.in-Some.ensures.items ∙ length-append c.pop.new.self.items (c.in-Some.disk ∷ []) in
-  record {
-  loading = loading_more g.D.Disk.history g.D.Disk.faults c.args.disks.items c.loop-disk.rest.items c.pop.new.self.items c.loop-disk.maps.items c.push_reserved.new.self.items c.in-Some.disk c.in-Ok-load.stored c.loop-disk.invariant.loading c.in-Some.ensures.items c.in-Ok-load.ensures.opened c.push_reserved.ensures.items;
-  count = omega arith;
-  maps = search rules;
-  disks = search rules;
-}
+    let old = c.loop-disk.invariant in
+    let popped = c.in-Some.ensures.len in
+    let more : length c.push_reserved.new.self.items ≡ length c.loop-disk.maps.items + 1 = ap length c.push_reserved.ensures.items ∙ length-append c.loop-disk.maps.items (c.in-Ok-load.stored ∷ []) in
+    let fewer : length c.loop-disk.rest.items ≡ length c.pop.new.self.items + 1 = ap length c.in-Some.ensures.items ∙ length-append c.pop.new.self.items (c.in-Some.disk ∷ []) in
+    record {
+      loading = loading_more g.D.Disk.history g.D.Disk.faults c.args.disks.items c.loop-disk.rest.items c.pop.new.self.items c.loop-disk.maps.items c.push_reserved.new.self.items c.in-Some.disk c.in-Ok-load.stored c.loop-disk.invariant.loading c.in-Some.ensures.items c.in-Ok-load.ensures.opened c.push_reserved.ensures.items;
+      count = omega arith;
+      maps = search rules;
+      disks = search rules;
+    }
 
 pub returns-in-Err-clause-refused : goal.returns-in-Err-clause-refused
 returns-in-Err-clause-refused g c =

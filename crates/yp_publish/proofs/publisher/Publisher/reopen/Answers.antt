@@ -189,7 +189,7 @@ returns-clause-log g c =
     let reshown : Public → Reshown n log after x y = λ h. elim h [ inl kept ↦ inl (ap L kept.0, kept.1) | inr more ↦ inr (more.0, more.1, more.2) ] in
     let shown = on_ok r reshown c.reopen.ensures.shown in
     let P : Published g.row.D.Denot g.row.B.Denot → Type 0 = λ p. At n p.maps (slice_set maps n y)
-      (λ before after. ((board' ≡ p.board) × (after.version ≡ before.version)) ⊎ ((version : MapVersion) × IsAnother version before after × (L board' ≡ with_shown n version (L p.board)) × g.B.Show.showed n version p.board board')) in
+    (λ before after. ((board' ≡ p.board) × (after.version ≡ before.version)) ⊎ ((version : MapVersion) × IsAnother version before after × (L board' ≡ with_shown n version (L p.board)) × g.B.Show.showed n version p.board board')) in
     on_ok r (λ h. subst P c.self.view_is (at_set (λ before after. ((board' ≡ board) × (after.version ≡ before.version)) ⊎ ((version : MapVersion) × IsAnother version before after × (L board' ≡ with_shown n version (L board)) × g.B.Show.showed n version board board'))
     maps maps n x y refl here h)) c.reopen.ensures.shown
 

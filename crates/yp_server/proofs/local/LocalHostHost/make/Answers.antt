@@ -8,7 +8,7 @@ returns-in-Err-File g c = record {
     record { number = c.in-Some-find.map; kind = c.in-Some.kind },
     record { kind = search rules; number = search rules; kept = search rules },
     recounted _ _ _ _ _ _ _ c.saturating_add-self-inside.result c.self-2.view_is
-      (rw c.in-Err-File.field-0-is at c.in-Err-File.ensures.unmade)
+        (rw c.in-Err-File.field-0-is at c.in-Err-File.ensures.unmade),
   );
   allowed = search rules;
   catalogue = search rules;
