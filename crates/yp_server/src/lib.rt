@@ -9,6 +9,8 @@ mod anew;
 mod desk;
 mod local;
 mod steps;
+#[cfg(test)]
+mod tests;
 
 pub use desk::Desk;
 pub use local::LocalHost;
