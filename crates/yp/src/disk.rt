@@ -28,13 +28,15 @@ pub struct FileDisk<R: Files + Drop> {
 }
 
 impl<R: Files + Drop> FileDisk<R> {
-    /// The file of the map of this name. Nothing is opened yet.
+    /// The file of the map of this name, of which what isn't text stands as one replacement character. Nothing is opened
+    /// yet.
     pub fn new(
         alloc: Global,
         files: R,
-        domain: &str,
-        map: &str,
+        domain: &[u8],
+        map: &[u8],
     ) -> Result<FileDisk<R>, AllocError> {
+        let (domain, map) = (text_of(domain), text_of(map));
         let place = Place {
             files,
             folder: format!(in alloc; "{ROOT}/{domain}")?,
@@ -44,6 +46,11 @@ impl<R: Files + Drop> FileDisk<R> {
         };
         Ok(FileDisk { place, faults: 0 })
     }
+}
+
+// The text of a name. The names of the command line are text.
+fn text_of(name: &[u8]) -> &str {
+    str::from_utf8(name).unwrap_or("\u{fffd}")
 }
 
 // What was found at the path.

@@ -1,30 +1,63 @@
-//! The program: its words, and the standard streams.
+//! The program: its words, the standard streams, the files of maps and the clock.
 #![tactic(auto)]
 
+ghost use Rattle.std.specs.Prelude.{◌≡◌, IfOk};
+ghost use Rattle.yp_tools.specs.Words.{disk_names, texts};
+ghost use Rattle.yp_tools.specs.Disks.{names_of};
+
+use clock::SystemClock;
+use disk::FileDisk;
+use std::alloc::{AllocError, Global};
 use std::process::ExitCode;
 use streams::{BlockReader, DirectWriter, StandardStream};
 use words::words;
-use yp_tools::{Outside, Status, run, tell};
+use yp_board::MapName;
+use yp_io::{NoMemory, Sink};
+use yp_tools::{NamedDisk, Outside, Status, disk_names, named_disks, run, tell};
 
+mod clock;
 mod disk;
 mod streams;
 mod words;
 
+/// The files of the maps that the words name.
+fn disks(
+    alloc: Global,
+    files: HostRuntime,
+    words: &[String],
+) -> Result<Vec<NamedDisk<FileDisk<HostRuntime>>>, NoMemory>
+    ensures { IfOk result (λ disks. names_of disks.items ≡ disk_names (texts words.now)) }
+{
+    let names = disk_names(alloc, words)?;
+    let make = |name: &MapName| FileDisk::new(alloc, files, &name.domain, &name.map);
+    match named_disks(alloc, names, make) {
+        Ok(disks) => Ok(disks),
+        Err(AllocError) => Err(NoMemory),
+    }
+}
+
+/// Ends where memory ran out before anything was done.
+fn without_memory<K: Sink>(notes: &mut K) -> ExitCode {
+    tell(notes, &Status::NoMemory);
+    ExitCode::from(Status::NoMemory.code())
+}
+
 fn main(rt: HostRuntime) -> ExitCode {
+    let alloc = rt.alloc();
     let mut notes = DirectWriter::new(StandardStream::Error(rt.stderr()));
-    let (Ok(words), Ok(input)) = (
-        words(&rt, rt.alloc()),
-        BlockReader::new(rt.alloc(), rt.stdin()),
-    ) else {
-        tell(&mut notes, Status::NoMemory);
-        return ExitCode::from(Status::NoMemory.code());
+    let (Ok(words), Ok(input)) = (words(&rt, alloc), BlockReader::new(alloc, rt.stdin())) else {
+        return without_memory(&mut notes);
     };
-    let output = DirectWriter::new(StandardStream::Output(rt.stdout()));
+    let Ok(disks) = disks(alloc, rt, &words) else {
+        return without_memory(&mut notes);
+    };
     let outside = Outside {
         input,
-        output,
+        output: DirectWriter::new(StandardStream::Output(rt.stdout())),
         notes,
+        disks,
+        clock: SystemClock::new(&rt),
     };
-    let (status, _outside) = run(rt.alloc(), &rt, &words, outside);
+    let (status, _outside) = run(alloc, &rt, &words, outside);
     ExitCode::from(status.code())
 }

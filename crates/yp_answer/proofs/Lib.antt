@@ -4,3 +4,4 @@ pub mod Rooms
 pub mod Itemized
 pub mod Streaming
 pub mod Fronts
+pub mod Opened

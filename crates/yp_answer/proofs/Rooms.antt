@@ -1,8 +1,11 @@
 -- What is short enough for its room.
-use Rattle.std.proofs.Common.{◌≡◌, ℕ, ◌+◌, ◌-◌, ◌%◌, ◌<◌, ◌≤◌, Bool, true, false, List, ◌++◌, length, replicate, arith}
+use Rattle.std.proofs.Common.{◌≡◌, ℕ, ◌+◌, ◌<◌, ◌≤◌, false, List, ◌++◌, length, arith}
 use Rattle.std.proofs.lemmas.Bool.{ltb-false}
 use Rattle.std.proofs.lemmas.List.{length-append, length-replicate}
 use Rattle.yp_xdr.specs.Spelling.{word, padding_len, padding, opaque, fixed, spelling}
+use Rattle.yp_rpc.specs.declared.reply.ReplyHead.{ReplyHead}
+use Rattle.yp_rpc.specs.declared.reply.ReplyHead.TheVariants.{Success, ProgUnavail, ProgMismatch, ProcUnavail, GarbageArgs, SystemErr, RpcMismatch, AuthError}
+use Rattle.yp_rpc.specs.Reply.{reply_head}
 use Rattle.yp_msgs.specs.declared.results.AllItem.{AllItem}
 use Rattle.yp_msgs.specs.declared.results.AllItem.TheVariants.{More, End}
 use Rattle.yp_msgs.specs.declared.results.RespMaster.{RespMaster}
@@ -29,6 +32,17 @@ fits_on Datagram len room e few h = omega (arith, ltb-false datagram_max len e)
 pub least_room : (path : Path) → datagram_max ≤ room_of path
 least_room Stream = omega arith
 least_room Datagram = omega arith
+
+-- a head has some bytes
+pub head_some : (xid : ℕ) (head : ReplyHead) → 0 < length (reply_head xid head)
+head_some xid Success = omega arith
+head_some xid ProgUnavail = omega arith
+head_some xid (ProgMismatch low high) = omega arith
+head_some xid ProcUnavail = omega arith
+head_some xid GarbageArgs = omega arith
+head_some xid SystemErr = omega arith
+head_some xid (RpcMismatch low high) = omega arith
+head_some xid (AuthError stat) = omega arith
 
 -- one item of ALL
 pub item_short : (item : AllItem) → AllItemIsWithin item → length (spelling all_item (all_item_view item)) ≤ 131096

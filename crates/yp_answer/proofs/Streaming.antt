@@ -1,16 +1,15 @@
 -- The reply of ALL as a stream.
-use Rattle.std.proofs.Common.{◌≡◌, ℕ, List, [], ◌∷◌, ◌++◌, map, Option, Some, None, Result, Ok, Err, refl, sym, ap, subst, ◌∙◌}
+use Rattle.std.proofs.Common.{◌≡◌, ℕ, List, Result, Ok, sym, ap, subst, ◌∙◌}
 use Rattle.yp_xdr.specs.Kind.{Value, ListOf}
 use Rattle.yp_xdr.specs.Reading.{Unread}
 use Rattle.yp_msgs.specs.declared.stat.YpStat.{YpStat}
 use Rattle.yp_msgs.specs.Messages.{req_nokey, key_val}
-use Rattle.yp_version.specs.Versions.{MapVersion}
 use Rattle.yp_answer.specs.declared.caller.Caller.{Caller}
 use Rattle.yp_answer.specs.declared.procedure.Procedure.TheVariants.{All}
 use Rattle.yp_answer.specs.Maps.{Maps, row_check}
 use Rattle.yp_answer.specs.Results.{all_items}
-use Rattle.yp_answer.specs.Reply.{arguments_of, with_arguments, procedure_reply, success}
-use Rattle.yp_answer.specs.Streams.{Streamed, source_of, parts, parts_left, joined}
+use Rattle.yp_answer.specs.Reply.{Response, Bytes, arguments_of, with_arguments, procedure_reply, success}
+use Rattle.yp_answer.specs.Streams.{Streamed, source_of, parts_left, joined}
 use Rattle.yp_answer.specs.Answers.{IsInside, Streams}
 use Rattle.yp_answer.proofs.Parts.{joined_parts}
 
@@ -20,15 +19,15 @@ fresh xid source = record { xid = xid; source = source; given = 0 }
 
 -- it is the reply to arguments that were read, where its source is what the check of the map gives
 pub all_streams : (maps : Maps) (caller : Caller) (bytes : List ℕ) (asked : Value req_nokey) (left : Unread) (source : Result ℕ YpStat) (stream : Streamed)
-    → arguments_of req_nokey bytes ≡ Ok (asked, left) → source_of maps.log source ≡ row_check maps caller.port asked.0 asked.1 → IsInside maps source → stream ≡ fresh caller.xid source
+    → arguments_of req_nokey bytes ≡ Ok (asked, left) → source_of maps.log source ≡ row_check maps caller.peer.port asked.0 asked.1 → IsInside maps source → stream ≡ fresh caller.xid source
     → Streams maps (procedure_reply maps caller All bytes) stream
 all_streams maps caller bytes asked left source stream read same inside is =
-    let reply : Value req_nokey → Option (List ℕ) = λ v. Some (success caller.xid (ListOf key_val) (all_items (row_check maps caller.port v.0 v.1))) in
+    let reply : Value req_nokey → Response = λ v. Bytes (success caller.xid (ListOf key_val) (all_items (row_check maps caller.peer.port v.0 v.1))) in
     let answered : procedure_reply maps caller All bytes ≡ reply asked = ap (λ r. with_arguments caller.xid r reply) read in
-    let bytes_are : joined (parts_left maps.log (fresh caller.xid source)) ≡ success caller.xid (ListOf key_val) (all_items (row_check maps caller.port asked.0 asked.1)) =
+    let bytes_are : joined (parts_left maps.log (fresh caller.xid source)) ≡ success caller.xid (ListOf key_val) (all_items (row_check maps caller.peer.port asked.0 asked.1)) =
     joined_parts caller.xid (source_of maps.log source) ∙ ap (λ s. success caller.xid (ListOf key_val) (all_items s)) same in
     subst (λ s. Streams maps (procedure_reply maps caller All bytes) s) (sym is) (record {
       inside = inside;
       some = λ e. cc;
-      whole = answered ∙ ap (λ b. Some b) (sym bytes_are);
+      whole = answered ∙ ap (λ b. Bytes b) (sym bytes_are);
     })

@@ -1,15 +1,16 @@
 -- What an answer says of a record, and what it does with the view.
-use Rattle.std.specs.Prelude.{◌≡◌, ◌≢◌, ℕ, ◌<◌, ◌≤◌, Bool, true, false, List, [], length, take, Option, Some, None, Ok, Err, Result}
+use Rattle.std.specs.Prelude.{◌≡◌, ◌≢◌, ℕ, ◌<◌, ◌≤◌, Bool, true, false, List, [], length, take, Ok, Err, Result}
+use Rattle.yp_io.specs.declared.stream.Peer.{Peer}
 use Rattle.yp_msgs.specs.declared.stat.YpStat.{YpStat}
-use Rattle.yp_board.specs.Logs.{Log}
+use Rattle.yp_msgs.specs.Transfers.{req_make_view}
 use Rattle.yp_board.specs.Views.{Seen, Refreshes}
 use Rattle.yp_answer.specs.declared.procedure.Path.{Path}
 use Rattle.yp_answer.specs.declared.procedure.Procedure.{Procedure}
 use Rattle.yp_answer.specs.declared.caller.Caller.{Caller}
 use Rattle.yp_answer.specs.declared.calls.Answered.{Answered}
-use Rattle.yp_answer.specs.declared.calls.Answered.TheVariants.{Silent, Reply, Stream}
+use Rattle.yp_answer.specs.declared.calls.Answered.TheVariants as answers
 use Rattle.yp_answer.specs.Maps.{Maps}
-use Rattle.yp_answer.specs.Reply.{reply, procedure_reply}
+use Rattle.yp_answer.specs.Reply.{Response, Silence, Bytes, Open, reply, procedure_reply}
 use Rattle.yp_answer.specs.Streams.{Streamed, parts_left, joined}
 
 -- the map of a stream is one of the catalogue
@@ -18,30 +19,31 @@ IsInside maps (Ok map) = map < length maps.catalogue.maps
 IsInside maps (Err stat) = Unit {0}
 
 -- The reply is at the front of the buffer.
-pub record Replies (expected : Option (List ℕ)) (len : ℕ) (buf : List ℕ) : Type 0 where
+pub record Replies (expected : Response) (len : ℕ) (buf : List ℕ) : Type 0 where
   pub some : 0 < len
   pub within : len ≤ length buf
-  pub bytes : expected ≡ Some (take len buf)
+  pub bytes : expected ≡ Bytes (take len buf)
 
 -- The reply is the parts of a stream that are left, at least one; its map is one of the catalogue.
-pub record Streams (maps : Maps) (expected : Option (List ℕ)) (stream : Streamed) : Type 0 where
+pub record Streams (maps : Maps) (expected : Response) (stream : Streamed) : Type 0 where
   pub inside : IsInside maps stream.source
   pub some : parts_left maps.log stream ≢ []
-  pub whole : expected ≡ Some (joined (parts_left maps.log stream))
+  pub whole : expected ≡ Bytes (joined (parts_left maps.log stream))
 
--- an answer has this reply: silence, the front of the buffer, or a stream
-abbrev pub HasReply : Maps → Option (List ℕ) → Answered → List ℕ → Type 0
-HasReply maps expected Silent buf = expected ≡ None
-HasReply maps expected (Reply len) buf = Replies expected len buf
-HasReply maps expected (Stream stream) buf = Streams maps expected stream
+-- an answer has this reply: silence, the front of the buffer, or a stream; or it has the call whose map is made first
+abbrev pub HasReply : Maps → Response → Answered → List ℕ → Type 0
+HasReply maps expected answers.Silent buf = expected ≡ Silence
+HasReply maps expected (answers.Reply len) buf = Replies expected len buf
+HasReply maps expected (answers.Stream stream) buf = Streams maps expected stream
+HasReply maps expected (answers.Make xid request) buf = expected ≡ Open xid (req_make_view request)
 
 -- the answer has the reply of a procedure
 abbrev pub IsProcedureAnswer : Maps → Caller → Procedure → List ℕ → Answered → List ℕ → Type 0
 IsProcedureAnswer maps caller procedure arguments answered buf = HasReply maps (procedure_reply maps caller procedure arguments) answered buf
 
 -- the answer has the one reply to a record
-abbrev pub IsAnswer : Path → Maps → ℕ → List ℕ → Answered → List ℕ → Type 0
-IsAnswer path maps port message answered buf = HasReply maps (reply path maps port message) answered buf
+abbrev pub IsAnswer : Path → Maps → Peer → List ℕ → Answered → List ℕ → Type 0
+IsAnswer path maps peer message answered buf = HasReply maps (reply path maps peer message) answered buf
 
 -- A view took one read step where it was asked to, and else nothing changed.
 abbrev pub StepsWhere : {V : Type 0} → Bool → (V → V → Type 0) → (V → Seen) → V → V → Type 0

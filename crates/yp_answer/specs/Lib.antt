@@ -3,7 +3,9 @@ pub mod Maps
 pub mod Held
 pub mod Results
 pub mod Procedures
+pub mod Make
 pub mod Reply
 pub mod Streams
 pub mod Items
 pub mod Answers
+pub mod Laws

@@ -1,17 +1,17 @@
--- The procedures of YP version 2 that are answered, with their numbers (yp.x).
-use Rattle.std.specs.Prelude.{ℕ, Bool, true, false, ◌==◌, if◌then◌else◌, Option, Some, None}
+-- The procedures that are answered, with their numbers: those of YP version 2 (yp.x) and of the make program.
+use Rattle.std.specs.Prelude.{ℕ, ◌==◌, if◌then◌else◌, Option, Some, None}
 use Rattle.yp_msgs.specs.Numbers as numbers
 use Rattle.yp_answer.specs.declared.procedure.Path.{Path}
 use Rattle.yp_answer.specs.declared.procedure.Path.TheVariants.{Stream, Datagram}
 use Rattle.yp_answer.specs.declared.procedure.Procedure.{Procedure}
-use Rattle.yp_answer.specs.declared.procedure.Procedure.TheVariants.{Null, Domain, DomainNonack, Match, First, Next, Clear, All, Master, Order, Maplist}
+use Rattle.yp_answer.specs.declared.procedure.Procedure.TheVariants.{Null, Domain, DomainNonack, Match, First, Next, Clear, All, Master, Order, Maplist, Make}
 
 -- a whole map is sent over a stream alone
 abbrev pub all_on : Path → Option Procedure
 all_on Stream = Some All
 all_on Datagram = None
 
--- the procedure with a number
+-- the procedure of YP with a number
 abbrev pub procedure_of : Path → ℕ → Option Procedure
 procedure_of path number =
     if number == numbers.null_procedure then Some Null
@@ -26,3 +26,10 @@ procedure_of path number =
     else (if number == numbers.order_procedure then Some Order
     else (if number == numbers.maplist_procedure then Some Maplist
     else None))))))))))
+
+-- the procedure of the make program with a number
+abbrev pub make_procedure_of : ℕ → Option Procedure
+make_procedure_of number =
+    if number == numbers.make_null_procedure then Some Null
+    else (if number == numbers.make_procedure then Some Make
+    else None)

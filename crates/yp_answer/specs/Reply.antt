@@ -1,5 +1,5 @@
--- The one reply to a record, or silence (yp.x, RFC 5531 section 9).
-use Rattle.std.specs.Prelude.{ℕ, Bool, true, false, not, ◌&&◌, ◌==◌, nat_lt, if◌then◌else◌, List, [], ◌∷◌, ◌++◌, length, drop, map, Option, Some, None, Result, Ok, Err, is_ok}
+-- What a record gets: silence, its one reply, or a map that is made first (yp.x, RFC 5531 section 9).
+use Rattle.std.specs.Prelude.{ℕ, Bool, true, false, not, ◌&&◌, ◌==◌, nat_lt, if◌then◌else◌, List, ◌++◌, length, drop, Option, Some, None, Result, Ok, Err, is_ok}
 use Rattle.std.specs.Option.{ok_or}
 use Rattle.yp_xdr.specs.declared.fault.XdrFault.{XdrFault}
 use Rattle.yp_xdr.specs.Kind.{Kind, Boolean, ListOf, Value}
@@ -13,19 +13,40 @@ use Rattle.yp_rpc.specs.declared.reply.ReplyHead.TheVariants.{Success, ProgUnava
 use Rattle.yp_rpc.specs.Call.{heard}
 use Rattle.yp_rpc.specs.Reply.{reply_head}
 use Rattle.yp_msgs.specs.declared.stat.YpStat.TheVariants.{Yperr}
-use Rattle.yp_msgs.specs.Numbers.{program, version}
+use Rattle.yp_msgs.specs.declared.transfer.XfrStat.{XfrStat}
+use Rattle.yp_io.specs.declared.stream.Peer.{Peer}
+use Rattle.yp_msgs.specs.Numbers.{program, version, make_program, make_version}
 use Rattle.yp_msgs.specs.Messages.{req_domain, req_key, req_nokey, resp_val, key_val, resp_master, resp_order}
 use Rattle.yp_msgs.specs.MapLists.{map_list}
+use Rattle.yp_msgs.specs.Transfers.{req_make, resp_make, xfr_number}
 use Rattle.yp_board.specs.Catalogues.{serves}
 use Rattle.yp_answer.specs.declared.procedure.Path.{Path}
 use Rattle.yp_answer.specs.declared.procedure.Path.TheVariants.{Stream, Datagram}
 use Rattle.yp_answer.specs.declared.procedure.Procedure.{Procedure}
 use Rattle.yp_answer.specs.declared.caller.Caller.{Caller}
-use Rattle.yp_answer.specs.declared.procedure.Procedure.TheVariants.{Null, Domain, DomainNonack, Match, First, Next, Clear, All, Master, Order, Maplist}
+use Rattle.yp_answer.specs.declared.procedure.Procedure.TheVariants.{Null, Domain, DomainNonack, Match, First, Next, Clear, All, Master, Order, Maplist, Make}
 use Rattle.yp_answer.specs.Numbers.{auth_none, auth_sys, auth_rejectedcred, rpc_version, datagram_max}
 use Rattle.yp_answer.specs.Maps.{Maps, map_check, row_check}
 use Rattle.yp_answer.specs.Results.{no_value, no_row, matched, first_row, next_row, all_items, mastered, ordered, maps_listed}
-use Rattle.yp_answer.specs.Procedures.{procedure_of}
+use Rattle.yp_answer.specs.Procedures.{procedure_of, make_procedure_of}
+use Rattle.yp_answer.specs.Make.{MakeRequest, make_check}
+
+-- What a record gets: no reply, this reply message, or the status of a map that is made first, to the call with this xid.
+pub data Response : Type 0 where
+  Silence : Response
+  Bytes : (bytes : List ℕ) → Response
+  Open : (xid : ℕ) (asked : MakeRequest) → Response
+
+-- these bytes, or silence
+abbrev pub bytes_or_silence : Option (List ℕ) → Response
+bytes_or_silence (Some bytes) = Bytes bytes
+bytes_or_silence None = Silence
+
+-- the reply that goes out at once, where there is one
+abbrev pub reply_at_once : Response → Option (List ℕ)
+reply_at_once Silence = None
+reply_at_once (Bytes bytes) = Some bytes
+reply_at_once (Open xid asked) = None
 
 -- the head of a reply with results, and the results
 abbrev pub success : ℕ → (kind : Kind) → Value kind → List ℕ
@@ -42,63 +63,79 @@ look_up path xid kind found instead =
     if exceeds path (length (success xid kind found)) then success xid kind instead else success xid kind found
 
 -- what is made of the arguments, or the refusal of arguments that no front of the bytes spells
-abbrev pub with_arguments : {V : Type 0} → ℕ → Result (V × Unread) XdrFault → (V → Option (List ℕ)) → Option (List ℕ)
+abbrev pub with_arguments : {V : Type 0} → ℕ → Result (V × Unread) XdrFault → (V → Response) → Response
 with_arguments xid (Ok read) reply_to = reply_to read.0
-with_arguments xid (Err fault) reply_to = Some (reply_head xid GarbageArgs)
+with_arguments xid (Err fault) reply_to = Bytes (reply_head xid GarbageArgs)
 
 -- arguments are at the front of these bytes
 abbrev pub arguments_of : (kind : Kind) → List ℕ → Result (Value kind × Unread) XdrFault
 arguments_of kind bytes = reading kind (record { at = 0; bytes = bytes })
 
+-- the reply of MAKE with a status
+abbrev pub make_reply : ℕ → XfrStat → List ℕ
+make_reply xid stat = success xid resp_make (xfr_number stat)
+
+-- MAKE has the status that refuses it, or its map is made first
+abbrev pub make_response : ℕ → MakeRequest → Option XfrStat → Response
+make_response xid asked (Some stat) = Bytes (make_reply xid stat)
+make_response xid asked None = Open xid asked
+
 -- the reply of a procedure to its arguments
-abbrev pub procedure_reply : Maps → Caller → Procedure → List ℕ → Option (List ℕ)
-procedure_reply maps caller Null bytes = Some (reply_head caller.xid Success)
-procedure_reply maps caller Clear bytes = Some (reply_head caller.xid Success)
+abbrev pub procedure_reply : Maps → Caller → Procedure → List ℕ → Response
+procedure_reply maps caller Null bytes = Bytes (reply_head caller.xid Success)
+procedure_reply maps caller Clear bytes = Bytes (reply_head caller.xid Success)
 procedure_reply maps caller Domain bytes =
-    with_arguments caller.xid (arguments_of req_domain bytes) (λ domain. Some (success caller.xid Boolean (serves domain maps.catalogue)))
+    with_arguments caller.xid (arguments_of req_domain bytes) (λ domain. Bytes (success caller.xid Boolean (serves domain maps.catalogue)))
 procedure_reply maps caller DomainNonack bytes =
-    with_arguments caller.xid (arguments_of req_domain bytes) (λ domain. if serves domain maps.catalogue then Some (success caller.xid Boolean true) else None)
+    with_arguments caller.xid (arguments_of req_domain bytes) (λ domain. if serves domain maps.catalogue then Bytes (success caller.xid Boolean true) else Silence)
 procedure_reply maps caller Match bytes =
     with_arguments caller.xid (arguments_of req_key bytes) (λ asked.
-    Some (look_up caller.path caller.xid resp_val (matched asked.1.1 (row_check maps caller.port asked.0 asked.1.0)) (no_value Yperr)))
+    Bytes (look_up caller.path caller.xid resp_val (matched asked.1.1 (row_check maps caller.peer.port asked.0 asked.1.0)) (no_value Yperr)))
 procedure_reply maps caller First bytes =
     with_arguments caller.xid (arguments_of req_nokey bytes) (λ asked.
-    Some (look_up caller.path caller.xid key_val (first_row (row_check maps caller.port asked.0 asked.1)) (no_row Yperr)))
+    Bytes (look_up caller.path caller.xid key_val (first_row (row_check maps caller.peer.port asked.0 asked.1)) (no_row Yperr)))
 procedure_reply maps caller Next bytes =
     with_arguments caller.xid (arguments_of req_key bytes) (λ asked.
-    Some (look_up caller.path caller.xid key_val (next_row asked.1.1 (row_check maps caller.port asked.0 asked.1.0)) (no_row Yperr)))
+    Bytes (look_up caller.path caller.xid key_val (next_row asked.1.1 (row_check maps caller.peer.port asked.0 asked.1.0)) (no_row Yperr)))
 procedure_reply maps caller All bytes =
     with_arguments caller.xid (arguments_of req_nokey bytes) (λ asked.
-    Some (success caller.xid (ListOf key_val) (all_items (row_check maps caller.port asked.0 asked.1))))
+    Bytes (success caller.xid (ListOf key_val) (all_items (row_check maps caller.peer.port asked.0 asked.1))))
 procedure_reply maps caller Master bytes =
-    with_arguments caller.xid (arguments_of req_nokey bytes) (λ asked. Some (success caller.xid resp_master (mastered (map_check maps asked.0 asked.1))))
+    with_arguments caller.xid (arguments_of req_nokey bytes) (λ asked. Bytes (success caller.xid resp_master (mastered (map_check maps asked.0 asked.1))))
 procedure_reply maps caller Order bytes =
-    with_arguments caller.xid (arguments_of req_nokey bytes) (λ asked. Some (success caller.xid resp_order (ordered (map_check maps asked.0 asked.1))))
+    with_arguments caller.xid (arguments_of req_nokey bytes) (λ asked. Bytes (success caller.xid resp_order (ordered (map_check maps asked.0 asked.1))))
 procedure_reply maps caller Maplist bytes =
-    with_arguments caller.xid (arguments_of req_domain bytes) (λ domain. Some (success caller.xid map_list (maps_listed maps domain)))
+    with_arguments caller.xid (arguments_of req_domain bytes) (λ domain. Bytes (success caller.xid map_list (maps_listed maps domain)))
+procedure_reply maps caller Make bytes =
+    with_arguments caller.xid (arguments_of req_make bytes) (λ asked. make_response caller.xid asked (make_check maps.catalogue caller.peer asked))
+
+-- a procedure of a program that is spoken in one version
+abbrev pub in_version : ℕ → ℕ → Option Procedure → Result Procedure ReplyHead
+in_version spoken asked found =
+    if not (asked == spoken) then Err (ProgMismatch spoken spoken) else ok_or found ProcUnavail
 
 -- the procedure that a call is let to, or the first reason why it isn't let to one
 abbrev pub admitted : Path → CallHead → Result Procedure ReplyHead
 admitted path call =
     if not (call.flavor == auth_none) && not (call.flavor == auth_sys) then Err (AuthError auth_rejectedcred)
-    else (if not (call.prog == program) then Err ProgUnavail
-    else (if not (call.vers == version) then Err (ProgMismatch version version)
-    else ok_or (procedure_of path call.procedure) ProcUnavail))
+    else (if call.prog == program then in_version version call.vers (procedure_of path call.procedure)
+    else (if call.prog == make_program then in_version make_version call.vers (make_procedure_of call.procedure)
+    else Err ProgUnavail))
 
 -- the reply to a call that is let to a procedure, or isn't
-abbrev pub call_reply : Path → Maps → ℕ → List ℕ → CallHead → Result Procedure ReplyHead → Option (List ℕ)
-call_reply path maps port message call (Ok procedure) =
-    procedure_reply maps (record { path = path; xid = call.xid; port = port }) procedure (drop call.body message)
-call_reply path maps port message call (Err head) = Some (reply_head call.xid head)
+abbrev pub call_reply : Path → Maps → Peer → List ℕ → CallHead → Result Procedure ReplyHead → Response
+call_reply path maps peer message call (Ok procedure) =
+    procedure_reply maps (record { path = path; xid = call.xid; peer = peer }) procedure (drop call.body message)
+call_reply path maps peer message call (Err head) = Bytes (reply_head call.xid head)
 
-abbrev pub heard_reply : Path → Maps → ℕ → List ℕ → Heard → Option (List ℕ)
-heard_reply path maps port message Noise = None
-heard_reply path maps port message (WrongRpc xid) = Some (reply_head xid (RpcMismatch rpc_version rpc_version))
-heard_reply path maps port message (Call call) = call_reply path maps port message call (admitted path call)
+abbrev pub heard_reply : Path → Maps → Peer → List ℕ → Heard → Response
+heard_reply path maps peer message Noise = Silence
+heard_reply path maps peer message (WrongRpc xid) = Bytes (reply_head xid (RpcMismatch rpc_version rpc_version))
+heard_reply path maps peer message (Call call) = call_reply path maps peer message call (admitted path call)
 
--- the one reply to a record from a caller on this port, or silence
-abbrev pub reply : Path → Maps → ℕ → List ℕ → Option (List ℕ)
-reply path maps port message = heard_reply path maps port message (heard message)
+-- what a record from a caller gets
+abbrev pub reply : Path → Maps → Peer → List ℕ → Response
+reply path maps peer message = heard_reply path maps peer message (heard message)
 
 -- ---- which replies rest on versions
 
@@ -108,6 +145,7 @@ asks_for Null bytes = false
 asks_for Domain bytes = false
 asks_for DomainNonack bytes = false
 asks_for Clear bytes = false
+asks_for Make bytes = false
 asks_for Match bytes = is_ok (arguments_of req_key bytes)
 asks_for First bytes = is_ok (arguments_of req_nokey bytes)
 asks_for Next bytes = is_ok (arguments_of req_key bytes)

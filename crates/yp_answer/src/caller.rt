@@ -7,15 +7,16 @@ ghost use Rattle.yp_answer.specs.Numbers.{datagram_max};
 ghost use Rattle.yp_answer.specs.Reply.{success};
 
 use crate::procedure::Path;
+use yp_io::Peer;
 use yp_rpc::{ReplyHead, write_reply};
 use yp_xdr::{NoRoom, set_bool};
 
-/// Whom a reply is for: how the call came, its xid, and the port of the caller.
+/// Whom a reply is for: how the call came, its xid, and where the caller is.
 #[derive(Clone, Copy, Debug)]
 pub struct Caller {
     pub path: Path,
     pub xid: u32,
-    pub port: u16,
+    pub peer: Peer,
 }
 
 /// Puts the head of a reply at the front of the buffer, and answers its length.

@@ -13,19 +13,20 @@ use crate::facts::{
     answer_domain, answer_domain_nonack, answer_maplist, answer_master, answer_order,
 };
 use crate::look_up::{answer_first, answer_match, answer_next};
+use crate::make::{make_check, make_reply};
 use crate::procedure::{Path, Procedure};
 use crate::stream::AllStream;
 use yp_board::View;
 use yp_io::Peer;
-use yp_msgs::protocol::{YPPROG, YPVERS};
-use yp_msgs::{ReadMessage, ReqNokey};
+use yp_msgs::protocol::{MAKEPROG, MAKEVERS, YPPROG, YPVERS};
+use yp_msgs::{ReadMessage, ReqMake, ReqNokey};
 use yp_rpc::protocol::{AUTH_NONE, AUTH_REJECTEDCRED, AUTH_SYS, RPC_VERSION};
 use yp_rpc::{CallHead, Heard, ReplyHead, read_call};
 use yp_xdr::Cursor;
 
 /// The answer to a record.
 #[derive(Debug, Drop)]
-pub enum Answered {
+pub enum Answered<'a> {
     /// No reply goes out.
     Silent,
 
@@ -34,6 +35,9 @@ pub enum Answered {
 
     /// The reply goes out in pieces, which are taken from the view that the call was answered on.
     Stream(AllStream),
+
+    /// A map is made first, and then the reply has the status of that, by [`make_reply`](crate::make_reply).
+    Make { xid: u32, request: ReqMake<'a> },
 }
 
 /// The procedure that a call is let to, or the first reason why it isn't let to one.
@@ -45,20 +49,27 @@ fn admit(path: Path, call: &CallHead) -> Result<Procedure, ReplyHead>
             stat: AUTH_REJECTEDCRED,
         });
     }
-    if call.prog != YPPROG {
-        return Err(ReplyHead::ProgUnavail);
-    }
-    if call.vers != YPVERS {
+    let (version, procedure) = match call.prog {
+        YPPROG => (YPVERS, Procedure::of_number(path, call.procedure)),
+        MAKEPROG => (MAKEVERS, Procedure::of_make_number(call.procedure)),
+        _ => return Err(ReplyHead::ProgUnavail),
+    };
+    if call.vers != version {
         return Err(ReplyHead::ProgMismatch {
-            low: YPVERS,
-            high: YPVERS,
+            low: version,
+            high: version,
         });
     }
-    Procedure::of_number(path, call.procedure).ok_or(ReplyHead::ProcUnavail)
+    procedure.ok_or(ReplyHead::ProcUnavail)
 }
 
 /// Answers ALL: the rows go out in pieces.
-fn answer_all<V: View>(view: &mut V, caller: &Caller, arguments: &[u8], buf: &mut [u8]) -> Answered
+fn answer_all<'a, V: View>(
+    view: &mut V,
+    caller: &Caller,
+    arguments: &'a [u8],
+    buf: &mut [u8],
+) -> Answered<'a>
     requires { room_of caller.now.path ≤ length buf.old }
     ensures reply { IsProcedureAnswer (maps_of (V.seen view.new)) caller.now Procedure.All arguments.now result buf.new }
     ensures step { StepsWhere (asks_for Procedure.All arguments.now) V.stepped V.seen view.old view.new }
@@ -69,21 +80,47 @@ fn answer_all<V: View>(view: &mut V, caller: &Caller, arguments: &[u8], buf: &mu
         };
     };
     view.refresh();
-    let source = match row_check(view, caller.port, asked.domain, asked.map) {
+    let source = match row_check(view, caller.peer.port, asked.domain, asked.map) {
         Ok(held) => Ok(held.map),
         Err(stat) => Err(stat),
     };
     Answered::Stream(AllStream::new(caller.xid, source))
 }
 
+/// Answers MAKE: with the status that refuses it, or with what is to be made.
+fn answer_make<'a, V: View>(
+    view: &V,
+    caller: &Caller,
+    arguments: &'a [u8],
+    buf: &mut [u8],
+) -> Answered<'a>
+    requires { room_of caller.now.path ≤ length buf.old }
+    ensures { IsProcedureAnswer (maps_of (V.seen view.now)) caller.now Procedure.Make arguments.now result buf.new }
+{
+    let Ok(request) = ReqMake::read(&mut Cursor::new(arguments)) else {
+        return Answered::Reply {
+            len: put_head(buf, caller.xid, &ReplyHead::GarbageArgs),
+        };
+    };
+    match make_check(view.catalog(), caller.peer, &request) {
+        Some(stat) => Answered::Reply {
+            len: make_reply(buf, caller.xid, stat),
+        },
+        None => Answered::Make {
+            xid: caller.xid,
+            request,
+        },
+    }
+}
+
 /// Answers a call that is let to a procedure.
-fn answer_procedure<V: View>(
+fn answer_procedure<'a, V: View>(
     view: &mut V,
     caller: &Caller,
     procedure: Procedure,
-    arguments: &[u8],
+    arguments: &'a [u8],
     buf: &mut [u8],
-) -> Answered
+) -> Answered<'a>
     requires { room_of caller.now.path ≤ length buf.old }
     ensures reply { IsProcedureAnswer (maps_of (V.seen view.new)) caller.now procedure arguments.now result buf.new }
     ensures step { StepsWhere (asks_for procedure arguments.now) V.stepped V.seen view.old view.new }
@@ -104,20 +141,21 @@ fn answer_procedure<V: View>(
         Procedure::Master => answer_master(view, caller, arguments, buf),
         Procedure::Order => answer_order(view, caller, arguments, buf),
         Procedure::Maplist => answer_maplist(view, caller, arguments, buf),
+        Procedure::Make => return answer_make(view, caller, arguments, buf),
     };
     Answered::Reply { len }
 }
 
 /// Answers a record that came on a path.
-fn answer_on<V: View>(
+fn answer_on<'a, V: View>(
     path: Path,
     view: &mut V,
-    record: &[u8],
+    record: &'a [u8],
     peer: Peer,
     buf: &mut [u8],
-) -> Answered
+) -> Answered<'a>
     requires { room_of path ≤ length buf.old }
-    ensures reply { IsAnswer path (maps_of (V.seen view.new)) peer.port record.now result buf.new }
+    ensures reply { IsAnswer path (maps_of (V.seen view.new)) peer record.now result buf.new }
     ensures step { StepsWhere (asks path record.now) V.stepped V.seen view.old view.new }
 {
     match read_call(record) {
@@ -140,7 +178,7 @@ fn answer_on<V: View>(
                 let caller = Caller {
                     path,
                     xid: call.xid,
-                    port: peer.port,
+                    peer,
                 };
                 answer_procedure(view, &caller, procedure, &record[call.body..], buf)
             }
@@ -149,9 +187,14 @@ fn answer_on<V: View>(
 }
 
 /// Answers a record of a stream, on the state that the view knows after at most one read step.
-pub fn answer<V: View>(view: &mut V, record: &[u8], peer: Peer, buf: &mut [u8]) -> Answered
+pub fn answer<'a, V: View>(
+    view: &mut V,
+    record: &'a [u8],
+    peer: Peer,
+    buf: &mut [u8],
+) -> Answered<'a>
     requires { record_max ≤ length buf.old }
-    ensures reply { IsAnswer paths.Stream (maps_of (V.seen view.new)) peer.port record.now result buf.new }
+    ensures reply { IsAnswer paths.Stream (maps_of (V.seen view.new)) peer record.now result buf.new }
     ensures step { StepsWhere (asks paths.Stream record.now) V.stepped V.seen view.old view.new }
 {
     answer_on(Path::Stream, view, record, peer, buf)
@@ -159,9 +202,14 @@ pub fn answer<V: View>(view: &mut V, record: &[u8], peer: Peer, buf: &mut [u8]) 
 
 /// Answers a call in a datagram, on the state that the view knows after at most one read step. It knows no ALL, and has
 /// YPERR for a row that a datagram can't carry.
-pub fn answer_datagram<V: View>(view: &mut V, call: &[u8], peer: Peer, buf: &mut [u8]) -> Answered
+pub fn answer_datagram<'a, V: View>(
+    view: &mut V,
+    call: &'a [u8],
+    peer: Peer,
+    buf: &mut [u8],
+) -> Answered<'a>
     requires { datagram_max ≤ length buf.old }
-    ensures reply { IsAnswer paths.Datagram (maps_of (V.seen view.new)) peer.port call.now result buf.new }
+    ensures reply { IsAnswer paths.Datagram (maps_of (V.seen view.new)) peer call.now result buf.new }
     ensures step { StepsWhere (asks paths.Datagram call.now) V.stepped V.seen view.old view.new }
 {
     answer_on(Path::Datagram, view, call, peer, buf)

@@ -1,6 +1,6 @@
 //! The procedures that tell of domains and maps, and not of rows (yp.x).
 
-ghost use Rattle.std.specs.Prelude.{◌≡◌, ◌+◌, ◌*◌, ◌<◌, ◌≤◌, ◌++◌, length, slice_index_or, take, Some, option_map, [], IfSome};
+ghost use Rattle.std.specs.Prelude.{◌≡◌, ◌+◌, ◌*◌, ◌<◌, ◌≤◌, ◌++◌, length, slice_index_or, take, option_map, [], IfSome};
 ghost use Rattle.yp_xdr.specs.Kind.{ListOf};
 ghost use Rattle.yp_xdr.specs.Spelling.{spelling};
 ghost use Rattle.yp_msgs.specs.Statuses.{stat_number};
@@ -14,7 +14,7 @@ ghost use Rattle.yp_board.specs.declared.catalog.TheConstants.{MAPS_MAX};
 ghost use Rattle.yp_answer.specs.Maps.{maps_of};
 ghost use Rattle.yp_answer.specs.Results.{mastered, maps_in, map_part};
 ghost use Rattle.yp_answer.specs.Held.{checked};
-ghost use Rattle.yp_answer.specs.Reply.{procedure_reply, asks_for};
+ghost use Rattle.yp_answer.specs.Reply.{Bytes, bytes_or_silence, procedure_reply, asks_for};
 ghost use Rattle.yp_answer.specs.Answers.{StepsWhere};
 
 use crate::caller::{Caller, put_head, put_truth};
@@ -27,7 +27,7 @@ use yp_xdr::Cursor;
 /// Answers DOMAIN.
 pub fn answer_domain<V: View>(view: &V, caller: &Caller, arguments: &[u8], buf: &mut [u8]) -> usize
     requires { datagram_max ≤ length buf.old }
-    ensures reply { Some (take result buf.new) ≡ procedure_reply (maps_of (V.seen view.now)) caller.now procedures.Domain arguments.now }
+    ensures reply { Bytes (take result buf.new) ≡ procedure_reply (maps_of (V.seen view.now)) caller.now procedures.Domain arguments.now }
     ensures within { result ≤ length buf.new }
 {
     let Ok(asked) = ReqDomain::read(&mut Cursor::new(arguments)) else {
@@ -44,7 +44,7 @@ pub fn answer_domain_nonack<V: View>(
     buf: &mut [u8],
 ) -> Option<usize>
     requires { datagram_max ≤ length buf.old }
-    ensures reply { option_map (λ len. take len buf.new) result ≡ procedure_reply (maps_of (V.seen view.now)) caller.now procedures.DomainNonack arguments.now }
+    ensures reply { bytes_or_silence (option_map (λ len. take len buf.new) result) ≡ procedure_reply (maps_of (V.seen view.now)) caller.now procedures.DomainNonack arguments.now }
     ensures within { IfSome result (λ len. len ≤ length buf.new) }
 {
     let Ok(asked) = ReqDomain::read(&mut Cursor::new(arguments)) else {
@@ -82,7 +82,7 @@ pub fn answer_master<V: View>(
     buf: &mut [u8],
 ) -> usize
     requires { datagram_max ≤ length buf.old }
-    ensures reply { Some (take result buf.new) ≡ procedure_reply (maps_of (V.seen view.new)) caller.now procedures.Master arguments.now }
+    ensures reply { Bytes (take result buf.new) ≡ procedure_reply (maps_of (V.seen view.new)) caller.now procedures.Master arguments.now }
     ensures within { result ≤ length buf.new }
     ensures step { StepsWhere (asks_for procedures.Master arguments.now) V.stepped V.seen view.old view.new }
 {
@@ -103,7 +103,7 @@ pub fn answer_order<V: View>(
     buf: &mut [u8],
 ) -> usize
     requires { datagram_max ≤ length buf.old }
-    ensures reply { Some (take result buf.new) ≡ procedure_reply (maps_of (V.seen view.new)) caller.now procedures.Order arguments.now }
+    ensures reply { Bytes (take result buf.new) ≡ procedure_reply (maps_of (V.seen view.new)) caller.now procedures.Order arguments.now }
     ensures within { result ≤ length buf.new }
     ensures step { StepsWhere (asks_for procedures.Order arguments.now) V.stepped V.seen view.old view.new }
 {
@@ -164,7 +164,7 @@ pub fn answer_maplist<V: View>(
     buf: &mut [u8],
 ) -> usize
     requires { datagram_max ≤ length buf.old }
-    ensures reply { Some (take result buf.new) ≡ procedure_reply (maps_of (V.seen view.new)) caller.now procedures.Maplist arguments.now }
+    ensures reply { Bytes (take result buf.new) ≡ procedure_reply (maps_of (V.seen view.new)) caller.now procedures.Maplist arguments.now }
     ensures within { result ≤ length buf.new }
     ensures step { StepsWhere (asks_for procedures.Maplist arguments.now) V.stepped V.seen view.old view.new }
 {

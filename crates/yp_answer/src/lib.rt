@@ -9,8 +9,10 @@ mod caller;
 mod calls;
 mod check;
 mod facts;
+pub mod laws;
 mod limits;
 mod look_up;
+mod make;
 mod procedure;
 mod stream;
 #[cfg(test)]
@@ -18,5 +20,6 @@ mod tests;
 
 pub use calls::{Answered, answer, answer_datagram};
 pub use limits::{DATAGRAM_MAX, RECORD_MAX};
+pub use make::make_reply;
 pub use procedure::{Path, Procedure};
 pub use stream::AllStream;

@@ -1,6 +1,6 @@
 //! The procedures that look a key or a row up: MATCH, FIRST and NEXT (yp.x).
 
-ghost use Rattle.std.specs.Prelude.{◌≡◌, ◌≤◌, length, take, Some};
+ghost use Rattle.std.specs.Prelude.{◌≡◌, ◌≤◌, length, take};
 ghost use Rattle.yp_msgs.specs.Messages.{resp_val, resp_val_view, key_val, key_val_view};
 ghost use Rattle.yp_version.specs.Limits.{key_max, value_max};
 ghost use Rattle.yp_msgs.specs.declared.stat.YpStat.TheVariants.{Yperr};
@@ -9,7 +9,7 @@ ghost use Rattle.yp_answer.specs.Numbers.{room_of};
 ghost use Rattle.yp_answer.specs.Maps.{maps_of};
 ghost use Rattle.yp_answer.specs.Results.{no_value, no_row, row_item, matched, first_row, next_row};
 ghost use Rattle.yp_answer.specs.Held.{checked};
-ghost use Rattle.yp_answer.specs.Reply.{look_up, procedure_reply, asks_for};
+ghost use Rattle.yp_answer.specs.Reply.{Bytes, look_up, procedure_reply, asks_for};
 ghost use Rattle.yp_answer.specs.Answers.{StepsWhere};
 
 use crate::caller::{Caller, put_head};
@@ -138,7 +138,7 @@ pub fn answer_match<V: View>(
     buf: &mut [u8],
 ) -> usize
     requires { room_of caller.now.path ≤ length buf.old }
-    ensures reply { Some (take result buf.new) ≡ procedure_reply (maps_of (V.seen view.new)) caller.now procedures.Match arguments.now }
+    ensures reply { Bytes (take result buf.new) ≡ procedure_reply (maps_of (V.seen view.new)) caller.now procedures.Match arguments.now }
     ensures within { result ≤ length buf.new }
     ensures step { StepsWhere (asks_for procedures.Match arguments.now) V.stepped V.seen view.old view.new }
 {
@@ -146,7 +146,7 @@ pub fn answer_match<V: View>(
         return put_head(buf, caller.xid, &ReplyHead::GarbageArgs);
     };
     view.refresh();
-    let found = row_check(view, caller.port, asked.domain, asked.map);
+    let found = row_check(view, caller.peer.port, asked.domain, asked.map);
     put_value(caller, &matched(&found, asked.key), buf)
 }
 
@@ -158,7 +158,7 @@ pub fn answer_first<V: View>(
     buf: &mut [u8],
 ) -> usize
     requires { room_of caller.now.path ≤ length buf.old }
-    ensures reply { Some (take result buf.new) ≡ procedure_reply (maps_of (V.seen view.new)) caller.now procedures.First arguments.now }
+    ensures reply { Bytes (take result buf.new) ≡ procedure_reply (maps_of (V.seen view.new)) caller.now procedures.First arguments.now }
     ensures within { result ≤ length buf.new }
     ensures step { StepsWhere (asks_for procedures.First arguments.now) V.stepped V.seen view.old view.new }
 {
@@ -166,7 +166,7 @@ pub fn answer_first<V: View>(
         return put_head(buf, caller.xid, &ReplyHead::GarbageArgs);
     };
     view.refresh();
-    let found = row_check(view, caller.port, asked.domain, asked.map);
+    let found = row_check(view, caller.peer.port, asked.domain, asked.map);
     put_row(caller, &first_row(&found), buf)
 }
 
@@ -178,7 +178,7 @@ pub fn answer_next<V: View>(
     buf: &mut [u8],
 ) -> usize
     requires { room_of caller.now.path ≤ length buf.old }
-    ensures reply { Some (take result buf.new) ≡ procedure_reply (maps_of (V.seen view.new)) caller.now procedures.Next arguments.now }
+    ensures reply { Bytes (take result buf.new) ≡ procedure_reply (maps_of (V.seen view.new)) caller.now procedures.Next arguments.now }
     ensures within { result ≤ length buf.new }
     ensures step { StepsWhere (asks_for procedures.Next arguments.now) V.stepped V.seen view.old view.new }
 {
@@ -186,6 +186,6 @@ pub fn answer_next<V: View>(
         return put_head(buf, caller.xid, &ReplyHead::GarbageArgs);
     };
     view.refresh();
-    let found = row_check(view, caller.port, asked.domain, asked.map);
+    let found = row_check(view, caller.peer.port, asked.domain, asked.map);
     put_row(caller, &next_row(&found, asked.key), buf)
 }

@@ -1,10 +1,11 @@
-//! The procedures of YP version 2 that are answered (yp.x).
+//! The procedures that are answered: those of YP version 2 (yp.x) and of the make program.
 
 ghost use Rattle.std.specs.Prelude.{◌≡◌};
-ghost use Rattle.yp_answer.specs.Procedures.{procedure_of};
+ghost use Rattle.yp_answer.specs.Procedures.{procedure_of, make_procedure_of};
 
 use yp_msgs::protocol::{
-    ALL, CLEAR, DOMAIN, DOMAIN_NONACK, FIRST, MAPLIST, MASTER, MATCH, NEXT, NULL, ORDER,
+    ALL, CLEAR, DOMAIN, DOMAIN_NONACK, FIRST, MAKE, MAKE_NULL, MAPLIST, MASTER, MATCH, NEXT, NULL,
+    ORDER,
 };
 
 /// How a call comes and its reply goes.
@@ -30,10 +31,11 @@ pub enum Procedure {
     Master,
     Order,
     Maplist,
+    Make,
 }
 
 impl Procedure {
-    /// The procedure with this number on a path. ALL is sent over a stream alone.
+    /// The procedure of YP with this number on a path. ALL is sent over a stream alone.
     pub(crate) fn of_number(path: Path, number: u32) -> Option<Procedure>
         ensures { result ≡ procedure_of path number }
     {
@@ -52,6 +54,17 @@ impl Procedure {
             MASTER => Some(Procedure::Master),
             ORDER => Some(Procedure::Order),
             MAPLIST => Some(Procedure::Maplist),
+            _ => None,
+        }
+    }
+
+    /// The procedure of the make program with this number.
+    pub(crate) fn of_make_number(number: u32) -> Option<Procedure>
+        ensures { result ≡ make_procedure_of number }
+    {
+        match number {
+            MAKE_NULL => Some(Procedure::Null),
+            MAKE => Some(Procedure::Make),
             _ => None,
         }
     }

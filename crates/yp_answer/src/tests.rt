@@ -5,6 +5,8 @@ ghost use Rattle.yp_answer.specs.Numbers.{record_max};
 ghost use Rattle.yp_answer.specs.Maps.{maps_of};
 ghost use Rattle.yp_answer.specs.Answers.{IsInside};
 
+mod make;
+
 use super::*;
 use std::alloc::{AllocError, Global};
 use std::process::Abort;
@@ -151,6 +153,7 @@ fn streamed(
             buf.truncate(len);
             Ok(vec![in alloc; buf]?)
         }
+        Answered::Make { .. } => Err("a MAKE that is left open".into()),
         Answered::Stream(stream) => {
             let mut stream = stream;
             let first = piece(alloc, board, &mut stream, &mut buf)?;
@@ -194,6 +197,7 @@ fn datagram_reply(
             Ok(buf)
         }
         Answered::Stream(_) => Err("a stream for a datagram".into()),
+        Answered::Make { .. } => Err("a MAKE that is left open".into()),
     }
 }
 

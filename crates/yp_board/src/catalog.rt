@@ -16,7 +16,7 @@ pub const NAME_MAX: usize = 64;
 pub const MAPS_MAX: usize = 64;
 
 /// A map, in the domain that it belongs to.
-#[derive(Debug, Drop)]
+#[derive(Debug, PartialEq, Eq, Drop)]
 pub struct MapName {
     pub domain: Vec<u8>,
     pub map: Vec<u8>,
@@ -31,7 +31,7 @@ impl MapName {
     }
 
     /// The same name once more.
-    fn copy(&self, alloc: Global) -> Result<MapName, AllocError>
+    pub fn copy(&self, alloc: Global) -> Result<MapName, AllocError>
         ensures { IfOk result (λ copy. name_view copy ≡ name_view self.now) }
     {
         let domain = Vec::from_slice(alloc, &self.domain)?;

@@ -1,7 +1,9 @@
 pub mod Counts
+pub mod Dials
 pub mod Disk
 pub mod DiskLaws
 pub mod Mem
+pub mod MemDial
 pub mod MemDisk
 pub mod MemDiskLaws
 pub mod MemSteps

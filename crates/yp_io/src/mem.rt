@@ -48,6 +48,22 @@ impl MemSource {
     }
 }
 
+impl MemSource {
+    /// What is left of its input.
+    pub(crate) fn left(&self) -> &[u8]
+        ensures { result.now ≡ self.now.input }
+    {
+        &self.bytes[self.at..]
+    }
+
+    /// How often it has failed.
+    pub(crate) fn faults(&self) -> u64
+        ensures { result ≡ self.now.faults }
+    {
+        self.plan.faults
+    }
+}
+
 impl Source for MemSource {
     ghost input = { λ s. Some s.input };
 
@@ -123,6 +139,15 @@ impl MemSink {
         ensures { result.now ≡ self.now.output }
     {
         &self.bytes
+    }
+}
+
+impl MemSink {
+    /// How often it has failed.
+    pub(crate) fn faults(&self) -> u64
+        ensures { result ≡ self.now.faults }
+    {
+        self.plan.faults
     }
 }
 

@@ -1,7 +1,8 @@
-ghost use Rattle.std.specs.Prelude.{◌≡◌};
+ghost use Rattle.std.specs.Prelude.{◌≡◌, All, IfOk};
+ghost use Rattle.yp_io.specs.MemDial.{IsNew};
 
 use super::*;
-use std::alloc::Global;
+use std::alloc::{AllocError, Global};
 use std::test::Fail;
 
 // A read into a buffer of two bytes, and the buffer after it.
@@ -219,5 +220,59 @@ fn texts_and_clock_in_memory(rt: HostRuntime) -> Result<(), Fail> {
         assert_eq!(rt; came.as_slice(), bytes, "at {which:?}");
     }
     assert_eq!(rt; sent(SetClock { moment: 100 }).now(), 100);
+    Ok(())
+}
+
+// A wire in memory with this input, which has met no fault and taken nothing.
+fn new_wire(alloc: Global, input: &[u8]) -> Result<MemWire, AllocError>
+    ensures { IfOk result IsNew }
+{
+    Ok(Pair {
+        source: MemSource::new(input.to_vec(alloc)?, 8, vec![in alloc; 1]?),
+        sink: MemSink::new(alloc, 8, Vec::new(alloc)),
+    })
+}
+
+// What comes of the next wire of a dial, which is given back after a read and a write.
+fn call<D: Dial>(dial: &mut D, to: Peer) -> Result<[u8; 2], Failed> {
+    let mut wire = dial.dial(to)?;
+    let (_, buf) = read_two(&mut wire.source);
+    let written = write_all(&mut wire.sink, &buf);
+    let _ = read_two(&mut wire.source);
+    dial.back(wire);
+    written?;
+    Ok(buf)
+}
+
+#[test]
+fn dial_in_memory(rt: HostRuntime) -> Result<(), Fail> {
+    let alloc = rt.alloc();
+    let to = Peer {
+        addr: [10, 0, 0, 1],
+        port: 834,
+    };
+    let mut wires = Vec::new(alloc);
+    wires.push(new_wire(alloc, b"one")?)?;
+    wires.push(new_wire(alloc, b"two")?)?;
+    let mut dial = sent(MemDial::new(alloc, wires, vec![in alloc; 1, 4]?));
+    assert_eq!(rt; call(&mut dial, to), Ok(*b"on"));
+    assert_eq!(rt; call(&mut dial, to), Err(Failed), "a call that is listed");
+    assert_eq!(rt; call(&mut dial, to), Ok(*b"tw"));
+    assert_eq!(rt; call(&mut dial, to), Err(Failed), "no wire is left");
+    assert_eq!(rt;
+        dial.post(to, b"lost"),
+        Err(Failed),
+        "a call that is listed"
+    );
+    assert_eq!(rt; dial.post(to, b"kept"), Ok(()));
+    assert_eq!(rt; dial.past().len(), 2);
+    for (wire, taken) in dial.past().iter().zip([b"on", b"tw"]) {
+        assert_eq!(rt; wire.sink.taken(), taken.as_slice());
+    }
+    assert_eq!(rt; dial.letters().len(), 1);
+    for letter in dial.letters() {
+        assert_eq!(rt; letter.peer, to);
+        assert_eq!(rt; letter.bytes.as_slice(), b"kept".as_slice());
+    }
     Ok(())
 }

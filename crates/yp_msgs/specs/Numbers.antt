@@ -1,4 +1,5 @@
--- The numbers of YP version 2, as the protocol file yp.x has them, and the limits of what its messages hold.
+-- The numbers of YP version 2, as the protocol file yp.x has them, those of the make program, which is this project's own, and the limits
+-- of what their messages hold.
 use Rattle.std.specs.Prelude.{ℕ}
 
 -- the program YPPROG, and its version
@@ -44,6 +45,19 @@ order_procedure = 10
 
 abbrev pub maplist_procedure : ℕ
 maplist_procedure = 11
+
+-- the make program, its version and its procedures
+abbrev pub make_program : ℕ
+make_program = 536890953
+
+abbrev pub make_version : ℕ
+make_version = 1
+
+abbrev pub make_null_procedure : ℕ
+make_null_procedure = 0
+
+abbrev pub make_procedure : ℕ
+make_procedure = 1
 
 -- the most bytes of a name, a key and a value
 abbrev pub name_max : ℕ

@@ -1,10 +1,11 @@
-//! The numbers of YP version 2 (yp.x), and the limits of what its messages hold.
+//! The numbers of YP version 2 (yp.x) and of the make program, and the limits of what their messages hold.
 
 ghost use Rattle.std.specs.Prelude.{◌≡◌};
 ghost use Rattle.yp_msgs.specs.Numbers.{program, version, name_max, key_max, value_max};
 ghost use Rattle.yp_msgs.specs.Numbers.{null_procedure, domain_procedure, domain_nonack_procedure, match_procedure};
 ghost use Rattle.yp_msgs.specs.Numbers.{first_procedure, next_procedure, xfr_procedure, clear_procedure};
 ghost use Rattle.yp_msgs.specs.Numbers.{all_procedure, master_procedure, order_procedure, maplist_procedure};
+ghost use Rattle.yp_msgs.specs.Numbers.{make_program, make_version, make_null_procedure, make_procedure};
 
 /// The program number of YP.
 pub const YPPROG: u32 = 100_004;
@@ -48,6 +49,18 @@ pub const ORDER: u32 = 10;
 /// The procedure that lists the maps of a domain.
 pub const MAPLIST: u32 = 11;
 
+/// The program number of the make program, which is this project's own.
+pub const MAKEPROG: u32 = 536_890_953;
+
+/// Its version.
+pub const MAKEVERS: u32 = 1;
+
+/// Its procedure that does nothing.
+pub const MAKE_NULL: u32 = 0;
+
+/// Its procedure that has a map made anew.
+pub const MAKE: u32 = 1;
+
 /// The most bytes of a domain's, a map's, a master's or a host's name.
 pub const NAME_MAX: u32 = 64;
 
@@ -73,6 +86,14 @@ pub fn program_is_defined()
     ensures master { MASTER ≡ master_procedure }
     ensures order { ORDER ≡ order_procedure }
     ensures maplist { MAPLIST ≡ maplist_procedure }
+{}
+
+/// The numbers of the make program are those that the definitions have. It does nothing.
+pub fn make_program_is_defined()
+    ensures program { MAKEPROG ≡ make_program }
+    ensures version { MAKEVERS ≡ make_version }
+    ensures null { MAKE_NULL ≡ make_null_procedure }
+    ensures make { MAKE ≡ make_procedure }
 {}
 
 /// The limits are those that the definitions have. It does nothing.

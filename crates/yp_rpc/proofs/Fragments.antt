@@ -63,7 +63,7 @@ no_byte_begun [] none = refl
 no_byte_begun (piece ∷ pieces) none = absurd (omega (arith, length-append (fragment false piece) (begun pieces), length-fragment false piece))
 
 -- a begun record with a byte or an empty fragment is some bytes
-some_begun : (pieces : List (List ℕ)) (tail : List ℕ) → 0 < length (joined pieces) + empties pieces → begun pieces ++ tail ≢ []
+pub some_begun : (pieces : List (List ℕ)) (tail : List ℕ) → 0 < length (joined pieces) + empties pieces → begun pieces ++ tail ≢ []
 some_begun pieces tail some none =
     let nothing : pieces ≡ [] = no_byte_begun pieces (omega (arith, length-append (begun pieces) tail, ap length none)) in
     let bytes : length (joined pieces) ≡ 0 = ap (λ (ps : List (List ℕ)). length (joined ps)) nothing in
@@ -71,7 +71,7 @@ some_begun pieces tail some none =
     omega arith
 
 -- one piece more is within the limit
-AreWithin-push : (limit : ℕ) (pieces : List (List ℕ)) (piece : List ℕ) → AreWithin limit pieces → IsShort piece → length (joined pieces) + length piece ≤ limit → (length piece ≡ 0 → empties pieces < empty_max)
+pub AreWithin-push : (limit : ℕ) (pieces : List (List ℕ)) (piece : List ℕ) → AreWithin limit pieces → IsShort piece → length (joined pieces) + length piece ≤ limit → (length piece ≡ 0 → empties pieces < empty_max)
     → AreWithin limit (pieces ++ piece ∷ [])
 AreWithin-push limit pieces piece within short fits few = record {
   len = omega (arith, length-joined_push pieces piece);
@@ -136,7 +136,7 @@ nil_or_some [] = inl refl
 nil_or_some (byte ∷ bytes) = inr (λ none. cc)
 
 -- whole fragments and part of one are less than a record
-IsBegun-part : (limit : ℕ) (pieces : List (List ℕ)) (tail : List ℕ) → AreWithin limit pieces → IsPart limit pieces tail → IsBegun limit (begun pieces ++ tail)
+pub IsBegun-part : (limit : ℕ) (pieces : List (List ℕ)) (tail : List ℕ) → AreWithin limit pieces → IsPart limit pieces tail → IsBegun limit (begun pieces ++ tail)
 IsBegun-part limit pieces tail within part =
     elim (nil_or_some (begun pieces ++ tail)) [
       | inl none ↦ inl none
@@ -144,7 +144,7 @@ IsBegun-part limit pieces tail within part =
     ]
 
 -- Why a record has no next fragment is why there is no record.
-HasCause-behind : (limit room empty place end before now after : ℕ) (old mid new : Option (List ℕ)) (front : List ℕ) (fault : RecordFault) → HasBegun limit old mid front empty place end
+pub HasCause-behind : (limit room empty place end before now after : ℕ) (old mid new : Option (List ℕ)) (front : List ℕ) (fault : RecordFault) → HasBegun limit old mid front empty place end
     → length front + room ≡ limit → before ≤ now → HasNoFragment room empty place mid new now after fault → HasCause limit place old new before after fault
 HasCause-behind limit room empty place end before now after old mid new front (Torn at) h fits rose cause =
     let so_far : length (joined h.pieces) ≡ length front = ap length h.filled in
@@ -184,7 +184,7 @@ HasCause-behind limit room empty place end before now after old mid new front Re
     )
 
 -- input ended behind some whole fragments
-torn_between : (limit empty place end : ℕ) (old now new : Option (List ℕ)) (front : List ℕ) → HasBegun limit old now front empty place end → 0 < length front + empty → IsEmpty now new
+pub torn_between : (limit empty place end : ℕ) (old now new : Option (List ℕ)) (front : List ℕ) → HasBegun limit old now front empty place end → 0 < length front + empty → IsEmpty now new
     → HasCause limit place old new 0 0 (Torn place)
 torn_between limit empty place end old now new front h some none =
     let so_far : length (joined h.pieces) ≡ length front = ap length h.filled in (

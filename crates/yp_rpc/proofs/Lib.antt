@@ -7,5 +7,7 @@ pub mod CutNext
 pub mod CutExists
 pub mod Stream
 pub mod Fragments
+pub mod Giving
 pub mod Sending
 pub mod Holding
+pub mod Again

@@ -1,5 +1,9 @@
 pub mod Records
+pub mod Pieces
+pub mod Parts
 pub mod Waiting
 pub mod Laws
 pub mod Call
+pub mod Called
 pub mod Reply
+pub mod Read

@@ -1,12 +1,15 @@
 //! The head of a call (RFC 5531 section 9).
 
-ghost use Rattle.std.specs.Prelude.{◌≡◌};
+ghost use Rattle.std.specs.Prelude.{◌≡◌, IfOk};
 ghost use Rattle.yp_xdr.specs.Reading.{Reads, end_of};
+ghost use Rattle.yp_xdr.specs.Writing.{Writes};
 ghost use Rattle.yp_xdr.specs.Cursor.{unread};
 ghost use Rattle.yp_rpc.specs.Call.{front_kind, auth_kind, procedure_kind, heard, IsInside};
+ghost use Rattle.yp_rpc.specs.Called.{called};
 
-use crate::protocol::{AUTH_MAX, CALL, RPC_VERSION};
-use yp_xdr::{Cursor, XdrFault};
+use crate::protocol::{AUTH_MAX, AUTH_NONE, CALL, RPC_VERSION};
+use crate::put::put_words;
+use yp_xdr::{Cursor, NoRoom, XdrFault};
 
 /// The head of a call. Bodies of the credential and the verifier aren't looked at.
 #[derive(Clone, Copy, Debug, PartialEq, Eq)]
@@ -62,12 +65,12 @@ fn read_front(cursor: &mut Cursor<'_>) -> Result<Front, XdrFault>
 
 /// A credential or a verifier.
 #[derive(Clone, Copy)]
-struct Auth<'a> {
+pub(crate) struct Auth<'a> {
     flavor: u32,
     body: &'a [u8],
 }
 
-fn read_auth<'a>(cursor: &mut Cursor<'a>) -> Result<Auth<'a>, XdrFault>
+pub(crate) fn read_auth<'a>(cursor: &mut Cursor<'a>) -> Result<Auth<'a>, XdrFault>
     ensures read { Reads auth_kind (λ a. (a.flavor, a.body.now)) result (unread cursor.old) (unread cursor.new) }
     ensures end { end_of (unread cursor.new) ≡ end_of (unread cursor.old) }
 {
@@ -136,6 +139,35 @@ pub fn read_call(bytes: &[u8]) -> Heard
             body: cursor.at(),
         }),
     }
+}
+
+/// Writes the head of a call from the front of the buffer, and answers its length, which is 40 bytes. The credential and
+/// the verifier are `AUTH_NONE`. The arguments stand behind it.
+pub fn write_call(
+    buf: &mut [u8],
+    xid: u32,
+    prog: u32,
+    vers: u32,
+    procedure: u32,
+) -> Result<usize, NoRoom>
+    ensures written { Writes (called xid prog vers procedure) 0 result buf.old buf.new }
+    ensures len { IfOk result (λ end. end ≡ 40) }
+{
+    put_words(
+        buf,
+        &[
+            xid,
+            CALL,
+            RPC_VERSION,
+            prog,
+            vers,
+            procedure,
+            AUTH_NONE,
+            0,
+            AUTH_NONE,
+            0,
+        ],
+    )
 }
 
 #[cfg(test)]

@@ -1,6 +1,8 @@
-//! Laws of records in a stream: what each reader of one can rely on. Each is the contract of a function that does nothing.
+//! Laws of records in a stream, on which each reader of one can rely, and of heads that were written and are read again.
+//! Each is the contract of a function that does nothing.
 
 ghost use Rattle.yp_rpc.specs.Laws.{CutIsOne, CutExists, FirstIsOne, RestIsNotWhole, TornIsNotLong, TornIsSome, LongIsSome};
+ghost use Rattle.yp_rpc.specs.Laws.{ReplyIsReadAgain, CallIsHeardAgain};
 
 /// The records of a stream and the rest behind them are determined by its bytes, whatever the limit is.
 pub fn cut_is_one()
@@ -29,3 +31,17 @@ pub fn rest_is_one_kind()
     ensures torn_is_some { TornIsSome }
     ensures long_is_some { LongIsSome }
 {}
+
+/// The head of a reply that was written is read again, whatever is behind it.
+pub fn reply_is_read_again()
+    ensures { ReplyIsReadAgain }
+{
+    yp_xdr::laws::written_is_read_again();
+}
+
+/// The head of a call that was written is heard as that call, whatever is behind it.
+pub fn call_is_heard_again()
+    ensures { CallIsHeardAgain }
+{
+    yp_xdr::laws::written_is_read_again();
+}

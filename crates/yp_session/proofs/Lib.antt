@@ -1,3 +1,4 @@
 pub mod Sending
 pub mod Streaming
 pub mod Sessions
+pub mod Links

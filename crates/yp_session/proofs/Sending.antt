@@ -1,5 +1,5 @@
 -- A message that is sent in one put and its end.
-use Rattle.std.proofs.Common.{◌≡◌, ℕ, ◌+◌, List, [], ◌++◌, length, take, Option, Result, Ok, Err}
+use Rattle.std.proofs.Common.{◌≡◌, ℕ, ◌+◌, List, [], ◌++◌, length, take, Option, Some, None, Result, Ok, Err, sym}
 use Rattle.std.specs.Prelude.{OnErr}
 use Rattle.std.specs.Io.KnownBytes.{Appends}
 use Rattle.std.proofs.KnownBytes.{Appends-trans}
@@ -11,6 +11,11 @@ use Rattle.yp_rpc.specs.Records.{sent}
 pub on_err : {T E : Type 0} (P : Type 0) (r : Result T E) → P → OnErr r P
 on_err P (Ok x) h = tt
 on_err P (Err e) h = h
+
+-- nothing was appended
+pub Appends-none : (a : Option (List ℕ)) → Appends a a []
+Appends-none None = tt
+Appends-none (Some xs) = sym (append-nil xs)
 
 -- nothing before and nothing behind
 pub alone : (before message : List ℕ) → before ≡ [] → before ++ message ++ [] ≡ message

@@ -1,5 +1,5 @@
 -- A message that is sent piece by piece.
-use Rattle.std.proofs.Common.{◌≡◌, ℕ, ◌+◌, ◌-◌, ◌<◌, List, [], ◌++◌, length, take, drop, min, Option, Some, None, refl, sym, ap, ◌∙◌, append_assoc, arith, inl, inr}
+use Rattle.std.proofs.Common.{◌≡◌, ℕ, ◌+◌, ◌-◌, ◌<◌, List, [], ◌++◌, length, take, drop, min, Option, refl, sym, ap, ◌∙◌, append_assoc, arith, inl, inr}
 use Rattle.std.specs.Io.KnownBytes.{Appends}
 use Rattle.std.proofs.KnownBytes.{Appends-trans}
 use Rattle.std.proofs.lemmas.List.{append-nil, length-append, length-drop, take-append-drop, nil_from_length}
@@ -8,18 +8,13 @@ use Rattle.std.proofs.lemmas.Grind.{flat_map-append}
 use Rattle.std.proofs.Math.Seq.{drop-nil, take-nil}
 use Rattle.yp_rpc.specs.Records.{sent}
 use Rattle.yp_answer.specs.Streams.{joined, Gives}
-use Rattle.yp_session.proofs.Sending.{front_sent}
+use Rattle.yp_session.proofs.Sending.{Appends-none, front_sent}
 
 -- Bytes of a record were put. What is sent of them and more is what went out, and what is sent of what waits and more.
 pub record HasPut (old new : Option (List ℕ)) (put waits : List ℕ) : Type 0 where
   pub out : List ℕ
   pub gone : Appends old new out
   pub rest : (more : List ℕ) → 0 < length (waits ++ more) → sent (put ++ more) ≡ out ++ sent (waits ++ more)
-
--- nothing was appended
-Appends-none : (a : Option (List ℕ)) → Appends a a []
-Appends-none None = tt
-Appends-none (Some xs) = sym (append-nil xs)
 
 pub HasPut-none : (output : Option (List ℕ)) (waits : List ℕ) → waits ≡ [] → HasPut output output [] waits
 HasPut-none output waits idle = record { out = []; gone = Appends-none output; rest = λ more some. ap (λ (w : List ℕ). sent (w ++ more)) (sym idle) }

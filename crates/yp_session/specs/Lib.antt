@@ -1,3 +1,4 @@
 pub mod Wires
 pub mod Progress
+pub mod Hosts
 pub mod Runs

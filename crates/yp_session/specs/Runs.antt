@@ -5,7 +5,7 @@ use Rattle.yp_io.specs.Counts.{HasRisen}
 use Rattle.yp_rpc.specs.Records.{IsTorn, IsBegun, IsTooLong, IsEmpty, TakesRecord, sent}
 use Rattle.yp_rpc.specs.declared.record.RecordFault.{RecordFault}
 use Rattle.yp_rpc.specs.declared.record.RecordFault.TheVariants as faults
-use Rattle.yp_board.specs.Views.{Seen}
+use Rattle.yp_io.specs.declared.stream.Peer.{Peer}
 use Rattle.yp_answer.specs.declared.procedure.Path.TheVariants.{Stream}
 use Rattle.yp_answer.specs.Numbers.{record_max}
 use Rattle.yp_answer.specs.Maps.{maps_of}
@@ -17,6 +17,7 @@ use Rattle.yp_session.specs.declared.session.Step.{Step}
 use Rattle.yp_session.specs.declared.session.Step.TheVariants.{Answered, Ended}
 use Rattle.yp_io.specs.declared.stream.Pair.{Pair}
 use Rattle.yp_session.specs.Wires.{Wire, wire_of}
+use Rattle.yp_session.specs.Hosts.{Conduct, Carries}
 
 -- what is sent for a reply, and nothing for silence
 abbrev pub sent_reply : Option (List ℕ) → List ℕ
@@ -47,28 +48,34 @@ Reads [] old new = Keeps old.input new.input × (new.place ≡ old.place)
 Reads (message ∷ messages) old new =
     (mid : Feed) × TakesRecord record_max message old.input mid.input old.place mid.place × Reads messages mid new
 
--- A host took its read step where the record asks for one, and this is the reply on what it then knows.
-pub record Link {H : Type 0} (stepped : H → H → Type 0) (seen : H → Seen) (port : ℕ) (message : List ℕ) (answer : Option (List ℕ)) (old new : H) : Type 0 where
-  pub step : StepsWhere (asks Stream message) stepped seen old new
-  pub answered : answer ≡ reply Stream (maps_of (seen new)) port message
+-- A host took its read step where the record asks for one, and then did what the reply on what it knows waits for; this is the reply.
+pub record Link {H : Type 0} (conduct : Conduct H) (peer : Peer) (message : List ℕ) (answer : Option (List ℕ)) (old new : H) : Type 0 where
+  pub mid : H
+  pub step : StepsWhere (asks Stream message) conduct.stepped conduct.seen old mid
+  pub uncounted : conduct.files mid ≡ conduct.files old
+  pub carried : Carries conduct peer (reply Stream (maps_of (conduct.seen mid)) peer message) answer mid new
 
 -- each of these records in turn got its link, with these replies
-abbrev pub Chain : {H : Type 0} → (H → H → Type 0) → (H → Seen) → ℕ → List (List ℕ) → List (Option (List ℕ)) → H → H → Type 0
-Chain stepped seen port [] [] old new = new ≡ old
-Chain {H} stepped seen port (message ∷ messages) (answer ∷ answers) old new =
-    (mid : H) × Link stepped seen port message answer old mid × Chain stepped seen port messages answers mid new
-Chain stepped seen port [] (answer ∷ answers) old new = ⊥
-Chain stepped seen port (message ∷ messages) [] old new = ⊥
+abbrev pub Chain : {H : Type 0} → Conduct H → Peer → List (List ℕ) → List (Option (List ℕ)) → H → H → Type 0
+Chain conduct peer [] [] old new = new ≡ old
+Chain {H} conduct peer (message ∷ messages) (answer ∷ answers) old new =
+    (mid : H) × Link conduct peer message answer old mid × Chain conduct peer messages answers mid new
+Chain conduct peer [] (answer ∷ answers) old new = ⊥
+Chain conduct peer (message ∷ messages) [] old new = ⊥
 
 -- ---- one step
 
--- A record was read and got its link, and this was made of what is sent for the reply.
-pub record Answers {H : Type 0} (stepped : H → H → Type 0) (seen : H → Seen) (port : ℕ) (old new : Moment H) (P : List ℕ → Type 0) : Type 0 where
-  pub message : List ℕ
+-- A record got its link, and this was made of what is sent for the reply.
+pub record Replies {H : Type 0} (conduct : Conduct H) (peer : Peer) (message : List ℕ) (old new : H) (P : List ℕ → Type 0) : Type 0 where
   pub answer : Option (List ℕ)
-  pub taken : TakesRecord record_max message old.wire.input new.wire.input old.place new.place
-  pub link : Link stepped seen port message answer old.host new.host
+  pub link : Link conduct peer message answer old new
   pub done : P (sent_reply answer)
+
+-- A record was read and got its link, and this was made of what is sent for the reply.
+pub record Answers {H : Type 0} (conduct : Conduct H) (peer : Peer) (old new : Moment H) (P : List ℕ → Type 0) : Type 0 where
+  pub message : List ℕ
+  pub taken : TakesRecord record_max message old.wire.input new.wire.input old.place new.place
+  pub replied : Replies conduct peer message old.host new.host P
 
 -- no record was read, nothing was written, and the host stays
 pub record IsIdle {H : Type 0} (old new : Moment H) : Type 0 where
@@ -88,16 +95,16 @@ StopsAt WriteFault old new = ⊥
 StopsAt Enough old new = ⊥
 
 -- What a step does: it answers a record, or ends before one, or in a reply that the output didn't take whole.
-abbrev pub Does : {H : Type 0} → (H → H → Type 0) → (H → Seen) → ℕ → Step → Moment H → Moment H → Type 0
-Does stepped seen port Answered old new =
-    Answers stepped seen port old new (λ bytes. Appends old.wire.output new.wire.output bytes)
-Does stepped seen port (Ended WriteFault) old new =
-    Answers stepped seen port old new (λ bytes. (n : ℕ) × Appends old.wire.output new.wire.output (take n bytes)) × HasRisen old.wire.writes new.wire.writes
-Does stepped seen port (Ended Clean) old new = IsIdle old new × StopsAt Clean old new
-Does stepped seen port (Ended (Torn at)) old new = IsIdle old new × StopsAt (Torn at) old new
-Does stepped seen port (Ended (TooLong at)) old new = IsIdle old new × StopsAt (TooLong at) old new
-Does stepped seen port (Ended ReadFault) old new = IsIdle old new × StopsAt ReadFault old new
-Does stepped seen port (Ended Enough) old new = ⊥
+abbrev pub Does : {H : Type 0} → Conduct H → Peer → Step → Moment H → Moment H → Type 0
+Does conduct peer Answered old new =
+    Answers conduct peer old new (λ bytes. Appends old.wire.output new.wire.output bytes)
+Does conduct peer (Ended WriteFault) old new =
+    Answers conduct peer old new (λ bytes. (n : ℕ) × Appends old.wire.output new.wire.output (take n bytes)) × HasRisen old.wire.writes new.wire.writes
+Does conduct peer (Ended Clean) old new = IsIdle old new × StopsAt Clean old new
+Does conduct peer (Ended (Torn at)) old new = IsIdle old new × StopsAt (Torn at) old new
+Does conduct peer (Ended (TooLong at)) old new = IsIdle old new × StopsAt (TooLong at) old new
+Does conduct peer (Ended ReadFault) old new = IsIdle old new × StopsAt ReadFault old new
+Does conduct peer (Ended Enough) old new = ⊥
 
 -- ---- a run
 
@@ -125,12 +132,12 @@ EndsAt WriteFault count most mid old new = (count ≤ most) × HasRisen old.writ
 EndsAt Enough count most mid old new = (count ≡ most) × Keeps mid.input new.input
 
 -- A session of at most so many records, each answered before the next was read, that ended so.
-pub record Runs {H : Type 0} (stepped : H → H → Type 0) (seen : H → Seen) (port most : ℕ) (end : End) (old new : Moment H) (calls : ℕ) : Type 0 where
+pub record Runs {H : Type 0} (conduct : Conduct H) (peer : Peer) (most : ℕ) (end : End) (old new : Moment H) (calls : ℕ) : Type 0 where
   pub messages : List (List ℕ)
   pub answers : List (Option (List ℕ))
   pub mid : Feed
   pub read : Reads messages (feed_of old) mid
-  pub chain : Chain stepped seen port messages answers old.host new.host
+  pub chain : Chain conduct peer messages answers old.host new.host
   pub sent : Sends end answers old.wire.output new.wire.output
   pub ended : EndsAt end (length messages) most mid old.wire new.wire
   pub counted : calls ≡ length messages

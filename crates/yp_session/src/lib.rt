@@ -1,12 +1,15 @@
 //! One connection: the records of a wire, answered in turn.
 //!
-//! A session reads a record, writes its whole reply and flushes, and only then reads on. What goes out for what comes in,
-//! and how it ends, stands on [`Session::run`], and of one record on [`Session::step`].
+//! A session reads a record, writes its whole reply and flushes, and only then reads on. A map that a record asks for is
+//! made by the [`Host`], before the reply. What goes out for what comes in, and how it ends, stands on [`Session::run`],
+//! and of one record on [`Session::step`].
 #![tactic(auto)]
 
+mod host;
 mod send;
 mod session;
 #[cfg(test)]
 mod tests;
 
+pub use host::Host;
 pub use session::{CALLS_MAX, End, Session, Step};

@@ -1,22 +1,24 @@
 //! A session: each record of a wire is answered before the next is read.
 
-ghost use Rattle.std.specs.Prelude.{◌≡◌, ◌≢◌, ℕ, ◌≤◌, IsTrue, [], length, take, IfOk, OnOk, OnErr};
+ghost use Rattle.std.specs.Prelude.{◌≡◌, ◌≢◌, ℕ, ◌<◌, ◌≤◌, IsTrue, [], length, take, None, IfOk, OnOk, OnErr};
 ghost use Rattle.std.specs.Io.KnownBytes.{Appends};
 ghost use Rattle.yp_io.specs.Counts.{CountsFaults};
-ghost use Rattle.yp_answer.specs.declared.procedure.Path.TheVariants.{Stream};
+ghost use Rattle.yp_msgs.specs.declared.transfer.XfrStat.{XfrStat};
+ghost use Rattle.yp_msgs.specs.Transfers.{req_make_view};
 ghost use Rattle.yp_answer.specs.Numbers.{record_max};
-ghost use Rattle.yp_answer.specs.Maps.{maps_of};
-ghost use Rattle.yp_answer.specs.Reply.{reply, asks};
-ghost use Rattle.yp_answer.specs.Answers.{StepsWhere};
-ghost use Rattle.yp_session.specs.Runs.{sent_reply, moment_of, Does, Runs};
+ghost use Rattle.yp_answer.specs.Make.{make_check};
+ghost use Rattle.yp_answer.specs.Reply.{make_reply};
+ghost use Rattle.yp_session.specs.Hosts.{conduct_of, Makes};
+ghost use Rattle.yp_session.specs.Runs.{moment_of, Replies, Does, Runs};
 ghost use Rattle.yp_session.specs.Progress.{calls_after};
 
+use crate::host::Host;
 use crate::send::{send, send_stream};
 use std::alloc::Global;
 use std::marker::Model;
-use yp_answer::{Answered, RECORD_MAX, answer};
-use yp_board::View;
+use yp_answer::{Answered, RECORD_MAX, answer, laws, make_reply};
 use yp_io::{Failed, NoMemory, Pair, Peer, Sink, Source};
+use yp_msgs::ReqMake;
 use yp_rpc::{RecordFault, RecordReader, RecordWriter};
 
 /// The most records of a session, so that each has an end.
@@ -65,10 +67,11 @@ impl Model for Session {
 
     ghost use Rattle.std.specs.Prelude.{◌≡◌, [], length};
     ghost use Rattle.yp_answer.specs.Numbers.{record_max};
+    ghost use Rattle.yp_rpc.specs.Pieces.{not_begun};
 
-    ghost view = { λ s. record { place = s.reader; calls = s.calls } };
+    ghost view = { λ s. record { place = s.reader.place; calls = s.calls } };
 
-    ghost invariant = { λ s. (s.writer ≡ []) × (length s.call.items ≡ record_max) × (length s.reply.items ≡ record_max) };
+    ghost invariant = { λ s. (s.reader.part ≡ not_begun) × (s.writer ≡ []) × (length s.call.items ≡ record_max) × (length s.reply.items ≡ record_max) };
 }
 
 impl Session {
@@ -101,15 +104,15 @@ impl Session {
     }
 
     /// Answers each record of the wire in turn, at most `most` of them, to a caller at `peer`.
-    pub fn run<S: Source, K: Sink, V: View>(
+    pub fn run<S: Source, K: Sink, H: Host>(
         &mut self,
         wire: &mut Pair<S, K>,
-        host: &mut V,
+        host: &mut H,
         peer: Peer,
         most: u64,
     ) -> End
         requires { most ≤ CALLS_MAX }
-        ensures runs { Runs V.stepped V.seen peer.port most result
+        ensures runs { Runs (conduct_of H.seen H.files H.stepped H.made) peer most result
             (moment_of S.input S.faults K.output K.flushed K.faults host.old wire.old 0)
             (moment_of S.input S.faults K.output K.flushed K.faults host.new wire.new self.new.place) self.new.calls }
         ensures flushed { result ≢ End.WriteFault → IsTrue (K.flushed wire.old.sink) → IsTrue (K.flushed wire.new.sink) }
@@ -125,13 +128,13 @@ impl Session {
     }
 
     /// Reads the next record, writes its whole reply and flushes.
-    pub fn step<S: Source, K: Sink, V: View>(
+    pub fn step<S: Source, K: Sink, H: Host>(
         &mut self,
         wire: &mut Pair<S, K>,
-        host: &mut V,
+        host: &mut H,
         peer: Peer,
     ) -> Step
-        ensures does { Does V.stepped V.seen peer.port result
+        ensures does { Does (conduct_of H.seen H.files H.stepped H.made) peer result
             (moment_of S.input S.faults K.output K.flushed K.faults host.old wire.old self.old.place)
             (moment_of S.input S.faults K.output K.flushed K.faults host.new wire.new self.new.place) }
         ensures calls { self.new.calls ≡ calls_after self.old.calls result }
@@ -161,20 +164,20 @@ impl Session {
 }
 
 /// Writes the whole reply to a record, and flushes.
-fn reply_to<K: Sink, V: View>(
+fn reply_to<K: Sink, H: Host>(
     writer: &mut RecordWriter,
     sink: &mut K,
-    host: &mut V,
+    host: &mut H,
     record: &[u8],
     peer: Peer,
     buf: &mut [u8],
 ) -> Result<(), Failed>
     requires idle { writer.old ≡ [] }
     requires room { record_max ≤ length buf.old }
-    ensures step { StepsWhere (asks Stream record.now) V.stepped V.seen host.old host.new }
-    ensures sent { OnOk result (Appends (K.output sink.old) (K.output sink.new) (sent_reply (reply Stream (maps_of (V.seen host.new)) peer.port record.now))) }
-    ensures prefix { OnErr result ((n : ℕ)
-        × Appends (K.output sink.old) (K.output sink.new) (take n (sent_reply (reply Stream (maps_of (V.seen host.new)) peer.port record.now)))) }
+    ensures sent { OnOk result (Replies (conduct_of H.seen H.files H.stepped H.made) peer record.now
+        host.old host.new (λ bytes. Appends (K.output sink.old) (K.output sink.new) bytes)) }
+    ensures prefix { OnErr result (Replies (conduct_of H.seen H.files H.stepped H.made) peer record.now
+        host.old host.new (λ bytes. (n : ℕ) × Appends (K.output sink.old) (K.output sink.new) (take n bytes))) }
     ensures flushed { OnOk result (IsTrue (K.flushed sink.old) → IsTrue (K.flushed sink.new)) }
     ensures idle { writer.new ≡ [] }
     ensures cause { CountsFaults (K.faults sink.old) (K.faults sink.new) result }
@@ -183,7 +186,25 @@ fn reply_to<K: Sink, V: View>(
         Answered::Silent => Ok(()),
         Answered::Reply { len } => send(writer, sink, &buf[..len]),
         Answered::Stream(stream) => send_stream(writer, sink, host, stream, buf),
+        Answered::Make { xid, request } => {
+            laws::open_is_unrefused();
+            let len = make(host, &request, peer, xid, buf);
+            send(writer, sink, &buf[..len])
+        }
     }
+}
+
+/// Has a map made, puts the reply with the status of that at the front of the buffer, and answers its length.
+fn make<H: Host>(host: &mut H, request: &ReqMake<'_>, peer: Peer, xid: u32, buf: &mut [u8]) -> usize
+    requires room { record_max ≤ length buf.old }
+    requires unrefused { make_check (H.seen host.old).catalogue peer (req_make_view request.now) ≡ None }
+    ensures made { (stat : XfrStat) × (take result buf.new ≡ make_reply xid stat)
+        × Makes (conduct_of H.seen H.files H.stepped H.made) (req_make_view request.now) peer stat host.old host.new }
+    ensures some { 0 < result }
+    ensures within { result ≤ length buf.new }
+{
+    let stat = host.make(request, peer);
+    make_reply(buf, xid, stat)
 }
 
 impl From<RecordFault> for End {

@@ -1,6 +1,10 @@
 //! Wires written out by hand, from RFC 5531 sections 9 and 11 and yp.x.
 
+mod host;
+mod make;
+
 use super::*;
+use host::TestHost;
 use std::alloc::{AllocError, Global};
 use std::process::Abort;
 use std::random::RandomSource;
@@ -62,31 +66,50 @@ fn left(rt: &impl Abort, wire: &mut MemWire) -> usize {
     wire.source.read(&mut buf).expect(rt, "a read")
 }
 
-// A catalogue of the map `m` of the domain `d`.
-fn catalog(rt: &impl Abort, alloc: Global) -> Result<Catalog, AllocError> {
-    let name = MapName {
-        domain: Vec::from_slice(alloc, b"d")?,
-        map: Vec::from_slice(alloc, b"m")?,
-    };
-    let own = Vec::from_slice(alloc, b"m1")?;
-    Ok(Catalog::new(alloc, own, vec![in alloc; name]?).expect(rt, "a catalogue"))
-}
-
-// A board that shows a version with these rows.
-fn board<R: RandomSource + Abort>(
-    rt: &R,
-    alloc: Global,
-    rows: &[(&[u8], &[u8])],
-) -> Result<PlainBoard, AllocError> {
+// A version of order 7 with these rows.
+fn version<R: RandomSource + Abort>(rt: &R, alloc: Global, rows: &[(&[u8], &[u8])]) -> Version {
     let mut builder = VersionBuilder::new(alloc, rt, 7, b"m1").expect(rt, "a builder");
     for (key, value) in rows {
         assert_eq!(rt; builder.push(*key, *value), Ok(true));
     }
-    let version = builder.finish().expect(rt, "a version");
-    let catalog = catalog(rt, alloc)?;
-    let start = vec![in alloc; Some(Arc::new(alloc, version)?)]?;
+    builder.finish().expect(rt, "a version")
+}
+
+// A host of these maps of the domain `d`, which shows these versions and has another one to show.
+fn host_of(
+    rt: &impl Abort,
+    alloc: Global,
+    maps: &[&[u8]],
+    start: Vec<Option<Arc<Version>>>,
+    next: Option<Arc<Version>>,
+) -> Result<TestHost, AllocError> {
+    let mut names = Vec::new(alloc);
+    for map in maps {
+        names.push(MapName {
+            domain: Vec::from_slice(alloc, b"d")?,
+            map: Vec::from_slice(alloc, *map)?,
+        })?;
+    }
+    let own = Vec::from_slice(alloc, b"m1")?;
+    let catalog = Catalog::new(alloc, own, names).expect(rt, "a catalogue");
     assert_eq!(rt; start.len(), catalog.len() as usize);
-    Ok(PlainBoard::new(alloc, catalog, start).expect(rt, "a board"))
+    Ok(TestHost {
+        board: PlainBoard::new(alloc, catalog, start).expect(rt, "a board"),
+        next,
+        makes: 0,
+        files: 0,
+    })
+}
+
+// A host that shows a version with these rows of the map `m`.
+fn host_with<R: RandomSource + Abort>(
+    rt: &R,
+    alloc: Global,
+    rows: &[(&[u8], &[u8])],
+) -> Result<TestHost, AllocError> {
+    let version = version(rt, alloc, rows);
+    let start = vec![in alloc; Some(Arc::new(alloc, version)?)]?;
+    host_of(rt, alloc, &[b"m"], start, None)
 }
 
 // A wire, and what comes of a session over it.
@@ -218,11 +241,11 @@ fn assert_row(
     rt: &impl Abort,
     alloc: Global,
     session: &mut Session,
-    board: &mut PlainBoard,
+    host: &mut TestHost,
     row: Row,
 ) -> Result<(), Fail> {
     let mut wire = wire(alloc, row.input, row.read, row.write)?;
-    let end = session.run(&mut wire, board, PEER, u64::from(row.most));
+    let end = session.run(&mut wire, host, PEER, u64::from(row.most));
     assert_eq!(rt; end, row.end);
     assert_eq!(rt; session.calls(), row.calls, "at {end:?}");
     assert_eq!(rt; left(rt, &mut wire), row.left, "at {end:?}");
@@ -234,10 +257,10 @@ fn assert_row(
 #[test]
 fn ends(rt: HostRuntime) -> Result<(), Fail> {
     let alloc = rt.alloc();
-    let mut board = board(&rt, alloc, &[])?;
+    let mut host = host_with(&rt, alloc, &[])?;
     let mut session = Session::new(alloc)?;
     for row in ROWS {
-        assert_row(&rt, alloc, &mut session, &mut board, row)?;
+        assert_row(&rt, alloc, &mut session, &mut host, row)?;
     }
     Ok(())
 }
@@ -245,7 +268,7 @@ fn ends(rt: HostRuntime) -> Result<(), Fail> {
 #[test]
 fn step_by_step(rt: HostRuntime) -> Result<(), Fail> {
     let alloc = rt.alloc();
-    let mut board = board(&rt, alloc, &[])?;
+    let mut host = host_with(&rt, alloc, &[])?;
     let mut session = Session::new(alloc)?;
     assert_eq!(rt; session.calls(), 0);
     let mut wire = wire(alloc, &[NULL, NONACK, DOMAIN, "800000"], NEVER, NEVER)?;
@@ -256,14 +279,14 @@ fn step_by_step(rt: HostRuntime) -> Result<(), Fail> {
         (Step::Answered, 3, 60),
         (Step::Ended(End::Torn { at: 148 }), 3, 60),
     ] {
-        assert_eq!(rt; session.step(&mut wire, &mut board, PEER), step);
+        assert_eq!(rt; session.step(&mut wire, &mut host, PEER), step);
         assert_eq!(rt; session.calls(), calls);
         assert_eq!(rt; wire.sink.taken().len(), taken);
     }
     session.begin();
     assert_eq!(rt; session.calls(), 0);
     assert_eq!(rt;
-        session.step(&mut wire, &mut board, PEER),
+        session.step(&mut wire, &mut host, PEER),
         Step::Ended(End::Clean)
     );
     Ok(())
@@ -298,10 +321,10 @@ fn all_in_two_fragments(rt: HostRuntime) -> Result<(), Fail> {
         (b"k007", value),
         (b"k008", &value[..840]),
     ];
-    let mut board = board(&rt, alloc, &rows)?;
+    let mut host = host_with(&rt, alloc, &rows)?;
     let mut session = Session::new(alloc)?;
     let mut wire = wire(alloc, &[ALL], NEVER, NEVER)?;
-    assert_eq!(rt; session.run(&mut wire, &mut board, PEER, 9), End::Clean);
+    assert_eq!(rt; session.run(&mut wire, &mut host, PEER, 9), End::Clean);
     assert_eq!(rt; wire.sink.taken().len(), 4 + 8_192 + 4 + 4);
     assert_eq!(rt; wire.sink.taken(), two_fragments(alloc, &rows)?.as_slice());
     Ok(())
@@ -310,19 +333,19 @@ fn all_in_two_fragments(rt: HostRuntime) -> Result<(), Fail> {
 #[test]
 fn two_wires(rt: HostRuntime) -> Result<(), Fail> {
     let alloc = rt.alloc();
-    let mut board = board(&rt, alloc, &[])?;
+    let mut host = host_with(&rt, alloc, &[])?;
     let mut session = Session::new(alloc)?;
     // The call of the first sink that fails, and how many bytes of its 60 were taken.
     for (write, end, taken) in [(NEVER, End::Torn { at: 96 }, 60), (6, End::WriteFault, 48)] {
         let mut first = wire(alloc, &[NULL, DOMAIN, "80"], NEVER, write)?;
-        assert_eq!(rt; session.run(&mut first, &mut board, PEER, 9), end);
+        assert_eq!(rt; session.run(&mut first, &mut host, PEER, 9), end);
         assert_eq!(rt; session.calls(), 2);
         assert_eq!(rt; first.sink.taken().len(), taken);
 
         // Nothing of the first wire is left in the session.
         let mut second = wire(alloc, &[DOMAIN, "80"], NEVER, NEVER)?;
         assert_eq!(rt;
-            session.run(&mut second, &mut board, PEER, 9),
+            session.run(&mut second, &mut host, PEER, 9),
             End::Torn { at: 52 }
         );
         assert_eq!(rt; session.calls(), 1);

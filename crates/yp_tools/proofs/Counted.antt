@@ -5,23 +5,22 @@ use Rattle.std.proofs.lemmas.Option.{slice_get_within, get_or_from_slice_get, sl
 use Rattle.std.proofs.lemmas.List.Sums.{count_by_more_yes, count_by_more_no}
 use Rattle.yp_version.specs.Rows.{Row}
 use Rattle.yp_version.specs.Versions.{MapVersion, body_len}
-use Rattle.yp_answer.specs.declared.procedure.Path.TheVariants.{Stream}
 use Rattle.yp_answer.specs.Maps.{Maps}
-use Rattle.yp_answer.specs.Reply.{reply}
+use Rattle.yp_tools.specs.Callers.{reply_to}
 use Rattle.yp_tools.specs.Sample.{sample_maps, match_call, all_call, value_reply, is_reply, is_matched, reply_len, tally_of}
 
 module _ (maps : Maps) (call : List ℕ) (key value bytes : List ℕ) where
   -- no reply
-  pub unmatched : (some : Bool) → call ≡ match_call key → reply Stream maps 0 call ≡ cond some (Some bytes) None → some ≡ false → false ≡ is_matched maps (key, value)
+  pub unmatched : (some : Bool) → call ≡ match_call key → reply_to maps call ≡ cond some (Some bytes) None → some ≡ false → false ≡ is_matched maps (key, value)
   unmatched true is answered none = absurd cc
   unmatched false is answered none =
-      sym (ap (λ (r : Option (List ℕ)). is_reply r (value_reply value)) (ap (reply Stream maps 0) (sym is) ∙ answered))
+      sym (ap (λ (r : Option (List ℕ)). is_reply r (value_reply value)) (ap (reply_to maps) (sym is) ∙ answered))
 
   -- a reply
-  pub matched_is : (some : Bool) → call ≡ match_call key → reply Stream maps 0 call ≡ cond some (Some bytes) None → some ≡ true → bytes_eq bytes (value_reply value) ≡ is_matched maps (key, value)
+  pub matched_is : (some : Bool) → call ≡ match_call key → reply_to maps call ≡ cond some (Some bytes) None → some ≡ true → bytes_eq bytes (value_reply value) ≡ is_matched maps (key, value)
   matched_is false is answered there = absurd cc
   matched_is true is answered there =
-      sym (ap (λ (r : Option (List ℕ)). is_reply r (value_reply value)) (ap (reply Stream maps 0) (sym is) ∙ answered))
+      sym (ap (λ (r : Option (List ℕ)). is_reply r (value_reply value)) (ap (reply_to maps) (sym is) ∙ answered))
 
 -- a row more
 pub row_yes : (p : Row → Bool) (rows : List Row) (i : ℕ) (row : Row) → Some row ≡ slice_get rows i → p row ≡ true → count_by p (take (i + 1) rows) ≡ count_by p (take i rows) + 1
@@ -39,6 +38,6 @@ row_there rows i none lt =
 
 -- all numbers of a version
 pub tally_is : (version : MapVersion) (maps : Maps) (rows body all matched : ℕ) → maps ≡ sample_maps version → rows ≡ length version.rows → body ≡ body_len version
-    → all ≡ reply_len (reply Stream maps 0 all_call) → matched ≡ count_by (is_matched maps) version.rows
+    → all ≡ reply_len (reply_to maps all_call) → matched ≡ count_by (is_matched maps) version.rows
     → record { rows = rows; body = body; all = all; matched = matched } ≡ tally_of version
 tally_is version maps rows body all matched shown r b a m = rw (r, b, a, m, shown) refl

@@ -5,17 +5,21 @@ use Rattle.std.specs.Io.KnownBytes.{Keeps, Appends, Consumes, IsAtEnd}
 use Rattle.std.proofs.lemmas.List.{append-nil, length-append}
 use Rattle.yp_io.specs.Counts.{last_count}
 use Rattle.yp_rpc.specs.Records.{Fragments, Cut, IsRest, IsTorn, IsBegun, IsLong}
-use Rattle.yp_board.specs.Views.{Seen}
 use Rattle.yp_answer.specs.declared.procedure.Path.TheVariants.{Stream}
 use Rattle.yp_answer.specs.Maps.{Maps, maps_of}
-use Rattle.yp_answer.specs.Reply.{reply, asks}
+use Rattle.yp_answer.specs.Make.{MakeRequest, own_host}
+use Rattle.yp_answer.specs.Reply.{Response, Silence, Bytes, Open, reply, reply_at_once, asks}
+use Rattle.yp_answer.specs.Laws.{OpenIsFromOwnHost}
 use Rattle.yp_answer.specs.Answers.{StepsWhere}
 use Rattle.yp_session.specs.declared.session.End.{End}
 use Rattle.yp_session.specs.declared.session.End.TheVariants as ends
+use Rattle.yp_session.specs.Hosts.{Conduct, Carries}
 use Rattle.yp_session.specs.Runs.{Moment, Feed, feed_of, Reads, Chain, Runs, sent_replies, sent_reply}
 use Rattle.yp_tools.specs.Numbers.{call_max, calls_max}
+use Rattle.yp_tools.specs.Callers.{nobody, reply_to}
 use Rattle.yp_tools.specs.declared.status.Status.{Status}
-use Rattle.yp_tools.specs.declared.status.Status.TheVariants.{Done, Usage, ReadFault, WriteFault, Torn, TooLong, NoMemory, Rows, Enough}
+use Rattle.yp_tools.specs.declared.status.Status.TheVariants.{Done, ReadFault, WriteFault, Torn, TooLong, NoMemory, Enough}
+use Rattle.yp_tools.specs.Status.{IsTellable}
 use Rattle.yp_tools.specs.Served.{Traffic, Begins, AnswersUpTo, AnswersSome, AnswersInPart, IsStatusOf, Serves, status_of, place_of, answer_to, answers}
 
 -- ---- told bytes
@@ -86,28 +90,50 @@ place_is stream rest place h = omega (arith, h)
 -- ---- the replies
 
 -- a host whose read steps leave its maps as they are
-abbrev pub KeepsMaps : {H : Type 0} → (H → H → Type 0) → (H → Seen) → Type 0
-KeepsMaps {H} stepped seen = (old new : H) → stepped old new → maps_of (seen new) ≡ maps_of (seen old)
+abbrev pub KeepsMaps : {H : Type 0} → Conduct H → Type 0
+KeepsMaps {H} conduct = (old new : H) → conduct.stepped old new → maps_of (conduct.seen new) ≡ maps_of (conduct.seen old)
+
+-- nobody leaves a MAKE open
+abbrev pub NoneIsOpen : Type 0
+NoneIsOpen = (maps : Maps) (message : List ℕ) (xid : ℕ) (asked : MakeRequest) → reply Stream maps nobody message ≡ Open xid asked → ⊥
+
+-- since it is open to the server's own host alone
+pub none_is_open : OpenIsFromOwnHost → NoneIsOpen
+none_is_open law maps message xid asked e =
+    let local : 0 ∷ 0 ∷ 0 ∷ 0 ∷ [] ≡ own_host = law Stream maps nobody message xid asked e in
+    absurd cc
 
 -- a step, or none, leaves the maps
-step_keeps : {H : Type 0} (asked : Bool) (stepped : H → H → Type 0) (seen : H → Seen) (old new : H) → KeepsMaps stepped seen → StepsWhere asked stepped seen old new → maps_of (seen new) ≡ maps_of (seen old)
-step_keeps true stepped seen old new keeps h = keeps old new h.0
-step_keeps false stepped seen old new keeps h = ap (λ host. maps_of (seen host)) h
+step_keeps : {H : Type 0} (asked : Bool) (conduct : Conduct H) (old new : H) → KeepsMaps conduct → StepsWhere asked conduct.stepped conduct.seen old new
+    → maps_of (conduct.seen new) ≡ maps_of (conduct.seen old)
+step_keeps true conduct old new keeps h = keeps old new h.0
+step_keeps false conduct old new keeps h = ap (λ host. maps_of (conduct.seen host)) h
+
+-- a reply that isn't left open goes out at once, and the host stays
+carried_is : {H : Type 0} (conduct : Conduct H) (response : Response) (answer : Option (List ℕ)) (old new : H) → ((xid : ℕ) (asked : MakeRequest) → response ≡ Open xid asked → ⊥)
+    → Carries conduct nobody response answer old new → (answer ≡ reply_at_once response) × (new ≡ old)
+carried_is conduct Silence answer old new never h = h
+carried_is conduct (Bytes bytes) answer old new never h = h
+carried_is conduct (Open xid asked) answer old new never h = absurd (never xid asked refl)
 
 -- so each record gets its reply on the same maps
-replies_are : {H : Type 0} (stepped : H → H → Type 0) (seen : H → Seen) (maps : Maps) (messages : List (List ℕ)) (replies : List (Option (List ℕ))) (old new : H) → KeepsMaps stepped seen
-    → maps_of (seen old) ≡ maps → Chain stepped seen 0 messages replies old new → replies ≡ map (reply Stream maps 0) messages
-replies_are stepped seen maps [] [] old new keeps is h = refl
-replies_are stepped seen maps [] (answer ∷ replies) old new keeps is h = absurd h
-replies_are stepped seen maps (message ∷ messages) [] old new keeps is h = absurd h
-replies_are stepped seen maps (message ∷ messages) (answer ∷ replies) old new keeps is h =
-    let now : maps_of (seen h.0) ≡ maps = step_keeps (asks Stream message) stepped seen old h.0 keeps h.1.step ∙ is in
-    let first : answer ≡ reply Stream maps 0 message = h.1.answered ∙ ap (λ m. reply Stream m 0 message) now in
-    let rest = replies_are stepped seen maps messages replies h.0 new keeps now h.2 in
-    ap (λ a. a ∷ replies) first ∙ ap (λ others. reply Stream maps 0 message ∷ others) rest
+replies_are : {H : Type 0} (conduct : Conduct H) (maps : Maps) (messages : List (List ℕ)) (replies : List (Option (List ℕ))) (old new : H) → NoneIsOpen → KeepsMaps conduct
+    → maps_of (conduct.seen old) ≡ maps → Chain conduct nobody messages replies old new → replies ≡ map (reply_to maps) messages
+replies_are conduct maps [] [] old new none keeps is h = refl
+replies_are conduct maps [] (answer ∷ replies) old new none keeps is h = absurd h
+replies_are conduct maps (message ∷ messages) [] old new none keeps is h = absurd h
+replies_are conduct maps (message ∷ messages) (answer ∷ replies) old new none keeps is h =
+    let link = h.1 in
+    let known = maps_of (conduct.seen link.mid) in
+    let stepped : known ≡ maps = step_keeps (asks Stream message) conduct old link.mid keeps link.step ∙ is in
+    let carried = carried_is conduct (reply Stream known nobody message) answer link.mid h.0 (none known message) link.carried in
+    let now : maps_of (conduct.seen h.0) ≡ maps = ap (λ host. maps_of (conduct.seen host)) carried.1 ∙ stepped in
+    let first : answer ≡ reply_to maps message = carried.0 ∙ ap (λ m. reply_to m message) stepped in
+    let rest = replies_are conduct maps messages replies h.0 new none keeps now h.2 in
+    ap (λ a. a ∷ replies) first ∙ ap (λ others. reply_to maps message ∷ others) rest
 
 -- what is sent for them
-sent_are : (maps : Maps) (messages : List (List ℕ)) → sent_replies (map (reply Stream maps 0) messages) ≡ answers maps messages
+sent_are : (maps : Maps) (messages : List (List ℕ)) → sent_replies (map (reply_to maps) messages) ≡ answers maps messages
 sent_are maps [] = refl
 sent_are maps (message ∷ messages) = ap (λ bytes. answer_to maps message ++ bytes) (sent_are maps messages)
 
@@ -147,40 +173,41 @@ read_some messages stream part mid traffic P read consumed begun done =
     record { messages = messages; part = part; rest = b.0; begins = rw b.2 at t.begins; begun = begun; left_is = b.1; done = done }
 
 -- a run from the front of a told stream, over maps that stay the same
-pub record Ran (maps : Maps) (stream : List ℕ) (traffic : Traffic) {H : Type 0} (stepped : H → H → Type 0) (seen : H → Seen) (end : End) (old new : Moment H) (calls : ℕ) : Type 0 where
-  pub keeps : KeepsMaps stepped seen
-  pub is : maps_of (seen old.host) ≡ maps
+pub record Ran (maps : Maps) (stream : List ℕ) (traffic : Traffic) {H : Type 0} (conduct : Conduct H) (end : End) (old new : Moment H) (calls : ℕ) : Type 0 where
+  pub none : NoneIsOpen
+  pub keeps : KeepsMaps conduct
+  pub is : maps_of (conduct.seen old.host) ≡ maps
   pub input : old.wire.input ≡ Some stream
   pub start : old.place ≡ 0
   pub left : new.wire.input ≡ traffic.left
   pub before : old.wire.output ≡ traffic.before
   pub after : new.wire.output ≡ traffic.after
-  pub runs : Runs stepped seen 0 calls_max end old new calls
+  pub runs : Runs conduct nobody calls_max end old new calls
 
-module _ (maps : Maps) (stream : List ℕ) (traffic : Traffic) {H : Type 0} (stepped : H → H → Type 0) (seen : H → Seen) (old new : Moment H) (calls : ℕ) where
+module _ (maps : Maps) (stream : List ℕ) (traffic : Traffic) {H : Type 0} (conduct : Conduct H) (old new : Moment H) (calls : ℕ) where
   -- where it began
-  begins_at : (end : End) (h : Ran maps stream traffic stepped seen end old new calls) → feed_of old ≡ record { input = Some stream; place = 0 }
+  begins_at : (end : End) (h : Ran maps stream traffic conduct end old new calls) → feed_of old ≡ record { input = Some stream; place = 0 }
   begins_at end h = ap (λ input. record { input = input; place = old.place }) h.input ∙ ap (λ place. record { input = Some stream; place = place }) h.start
 
-  reads_are : (end : End) (h : Ran maps stream traffic stepped seen end old new calls) → Reads h.runs.messages (record { input = Some stream; place = 0 }) h.runs.mid
+  reads_are : (end : End) (h : Ran maps stream traffic conduct end old new calls) → Reads h.runs.messages (record { input = Some stream; place = 0 }) h.runs.mid
   reads_are end h = let P : Feed → Type 0 = λ feed. Reads h.runs.messages feed h.runs.mid in subst P (begins_at end h) h.runs.read
 
-  told_of : (end : End) (h : Ran maps stream traffic stepped seen end old new calls) → ToldReads h.runs.messages stream 0 h.runs.mid
+  told_of : (end : End) (h : Ran maps stream traffic conduct end old new calls) → ToldReads h.runs.messages stream 0 h.runs.mid
   told_of end h = told h.runs.messages (record { input = Some stream; place = 0 }) h.runs.mid stream refl (omega arith) (reads_are end h)
 
   -- what the output took, where all replies went out
-  took_all : (end : End) (h : Ran maps stream traffic stepped seen end old new calls) → Appends old.wire.output new.wire.output (sent_replies h.runs.answers) → Appends traffic.before traffic.after (answers maps h.runs.messages)
+  took_all : (end : End) (h : Ran maps stream traffic conduct end old new calls) → Appends old.wire.output new.wire.output (sent_replies h.runs.answers) → Appends traffic.before traffic.after (answers maps h.runs.messages)
   took_all end h all =
       let bytes : sent_replies h.runs.answers ≡ answers maps h.runs.messages =
-      ap sent_replies (replies_are stepped seen maps h.runs.messages h.runs.answers old.host new.host h.keeps h.is h.runs.chain) ∙ sent_are maps h.runs.messages in
+      ap sent_replies (replies_are conduct maps h.runs.messages h.runs.answers old.host new.host h.none h.keeps h.is h.runs.chain) ∙ sent_are maps h.runs.messages in
       rw (h.before, h.after, bytes) at all
 
-  took_part : (h : Ran maps stream traffic stepped seen ends.WriteFault old new calls) → AnswersInPart maps h.runs.messages traffic
+  took_part : (h : Ran maps stream traffic conduct ends.WriteFault old new calls) → AnswersInPart maps h.runs.messages traffic
   took_part h =
       let sent = h.runs.sent in
-      let images : map (reply Stream maps 0) h.runs.messages ≡ sent.0 ++ sent.1 ∷ [] =
-      sym (replies_are stepped seen maps h.runs.messages h.runs.answers old.host new.host h.keeps h.is h.runs.chain) ∙ sent.3 in
-      let s = split_map (reply Stream maps 0) h.runs.messages sent.0 sent.1 images in
+      let images : map (reply_to maps) h.runs.messages ≡ sent.0 ++ sent.1 ∷ [] =
+      sym (replies_are conduct maps h.runs.messages h.runs.answers old.host new.host h.none h.keeps h.is h.runs.chain) ∙ sent.3 in
+      let s = split_map (reply_to maps) h.runs.messages sent.0 sent.1 images in
       let front : sent_replies sent.0 ≡ answers maps s.front = ap sent_replies (sym s.images) ∙ sent_are maps s.front in
       let last : sent_reply sent.1 ≡ answer_to maps s.one = ap sent_reply (sym s.image) in
       record {
@@ -191,7 +218,7 @@ module _ (maps : Maps) (stream : List ℕ) (traffic : Traffic) {H : Type 0} (ste
         answered = rw (h.before, h.after, front, last) at sent.4;
       }
 
-  pub serves_told : (end : End) → Ran maps stream traffic stepped seen end old new calls → Serves maps (status_of end) stream traffic
+  pub serves_told : (end : End) → Ran maps stream traffic conduct end old new calls → Serves maps (status_of end) stream traffic
   serves_told ends.Clean h =
       let t = told_of ends.Clean h in
       let empty = h.runs.ended.1 in
@@ -295,8 +322,6 @@ status_of_cut laws maps Done stream messages rest traffic h cut reads writes =
     let same = of_cut laws maps stream [] rest messages traffic h.0 cut in
     inl (same.0, sym same.1)
 status_of_cut laws maps NoMemory stream messages rest traffic h cut reads writes = inr refl
-status_of_cut laws maps (Usage word) stream messages rest traffic h cut reads writes = absurd h
-status_of_cut laws maps (Rows row rule) stream messages rest traffic h cut reads writes = absurd h
 status_of_cut laws maps ReadFault stream messages rest traffic h cut reads writes = absurd (reads refl)
 status_of_cut laws maps WriteFault stream messages rest traffic h cut reads writes = absurd (writes refl)
 status_of_cut laws maps Enough stream messages rest traffic h cut reads writes =
@@ -308,6 +333,16 @@ status_of_cut laws maps (TooLong at) stream messages rest traffic h cut reads wr
     let same = of_cut laws maps stream (h.0 ++ h.1) rest messages traffic h.2 cut in
     let long : IsLong call_max (h.0 ++ h.1) = (h.0, h.1, h.3, refl) in
     inl (same.0, subst (IsLong call_max) same.1 long, h.4 ∙ ap (place_of stream) same.1)
+status_of_cut laws maps _ stream messages rest traffic h cut reads writes = absurd h
+
+-- no end of a session has a name to tell
+pub tellable_end : (end : End) → IsTellable (status_of end)
+tellable_end ends.Clean = tt
+tellable_end (ends.Torn at) = tt
+tellable_end (ends.TooLong at) = tt
+tellable_end ends.ReadFault = tt
+tellable_end ends.WriteFault = tt
+tellable_end ends.Enough = tt
 
 -- what holds of each told value
 pub if_told : (o : Option (List ℕ)) (P : List ℕ → Type 0) → ((stream : List ℕ) → o ≡ Some stream → P stream) → IfSome o P

@@ -10,13 +10,13 @@ use Rattle.yp_version.specs.Limits.{rows_max}
 use Rattle.yp_version.specs.Rows.{Row}
 use Rattle.yp_version.specs.Versions.{MapVersion, body_len}
 use Rattle.yp_build.specs.Samples.{sampled}
-use Rattle.yp_answer.specs.declared.procedure.Path.TheVariants.{Stream}
 use Rattle.yp_answer.specs.Maps.{Maps}
 use Rattle.yp_answer.specs.Results.{value_found}
-use Rattle.yp_answer.specs.Reply.{reply, success}
+use Rattle.yp_answer.specs.Reply.{success}
+use Rattle.yp_tools.specs.Callers.{reply_to}
 use Rattle.yp_tools.specs.declared.tally.Tally.{Tally}
 use Rattle.yp_tools.specs.declared.status.Status.{Status}
-use Rattle.yp_tools.specs.declared.status.Status.TheVariants.{Done, Usage, ReadFault, WriteFault, Torn, TooLong, NoMemory, Rows, Enough}
+use Rattle.yp_tools.specs.declared.status.Status.TheVariants.{Done, WriteFault, NoMemory, Rows}
 
 -- its own name, and the domain and the name of its one map
 abbrev pub sample_name : List ℕ
@@ -64,7 +64,7 @@ is_reply (Some bytes) expected = bytes_eq bytes expected
 
 -- MATCH for the key of the row has its value
 abbrev pub is_matched : Maps → Row → Bool
-is_matched maps row = is_reply (reply Stream maps 0 (match_call row.0)) (value_reply row.1)
+is_matched maps row = is_reply (reply_to maps (match_call row.0)) (value_reply row.1)
 
 abbrev pub reply_len : Option (List ℕ) → ℕ
 reply_len None = 0
@@ -75,7 +75,7 @@ abbrev pub tally_of : MapVersion → Tally
 tally_of version = record {
   rows = length version.rows;
   body = body_len version;
-  all = reply_len (reply Stream (sample_maps version) 0 all_call);
+  all = reply_len (reply_to (sample_maps version) all_call);
   matched = count_by (is_matched (sample_maps version)) version.rows;
 }
 
@@ -96,8 +96,4 @@ Tells start count Done before after = (count ≤ rows_max) × Appends before aft
 Tells start count WriteFault before after = (count ≤ rows_max) × ((n : ℕ) × Appends before after (take n (sample_line start count)))
 Tells start count NoMemory before after = (count ≤ rows_max) × (after ≡ before)
 Tells start count (Rows row rule) before after = (rows_max < count) × (row ≡ 262145) × (rule ≡ 3) × (after ≡ before)
-Tells start count (Usage word) before after = ⊥
-Tells start count ReadFault before after = ⊥
-Tells start count (Torn at) before after = ⊥
-Tells start count (TooLong at) before after = ⊥
-Tells start count Enough before after = ⊥
+Tells start count _ before after = ⊥

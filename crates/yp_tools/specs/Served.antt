@@ -3,15 +3,14 @@ use Rattle.std.specs.Prelude.{◌≡◌, ℕ, ◌-◌, ◌<◌, ◌≤◌, List,
 use Rattle.std.specs.Io.KnownBytes.{Keeps, Appends}
 use Rattle.yp_io.specs.Counts.{last_count}
 use Rattle.yp_rpc.specs.Records.{Fragments, Cut, IsTorn, IsBegun, IsTooLong, IsLong}
-use Rattle.yp_answer.specs.declared.procedure.Path.TheVariants.{Stream}
 use Rattle.yp_answer.specs.Maps.{Maps}
-use Rattle.yp_answer.specs.Reply.{reply}
 use Rattle.yp_session.specs.declared.session.End.{End}
 use Rattle.yp_session.specs.declared.session.End.TheVariants as ends
 use Rattle.yp_session.specs.Runs.{sent_reply}
 use Rattle.yp_tools.specs.Numbers.{call_max, calls_max}
+use Rattle.yp_tools.specs.Callers.{reply_to}
 use Rattle.yp_tools.specs.declared.status.Status.{Status}
-use Rattle.yp_tools.specs.declared.status.Status.TheVariants.{Done, Usage, ReadFault, WriteFault, Torn, TooLong, NoMemory, Rows, Enough}
+use Rattle.yp_tools.specs.declared.status.Status.TheVariants.{Done, ReadFault, WriteFault, Torn, TooLong, NoMemory, Enough}
 
 -- the status of a session that ended so
 abbrev pub status_of : End → Status
@@ -22,9 +21,9 @@ status_of ends.ReadFault = ReadFault
 status_of ends.WriteFault = WriteFault
 status_of ends.Enough = Enough
 
--- what is sent for a record from port 0
+-- what is sent for a record from nobody
 abbrev pub answer_to : Maps → List ℕ → List ℕ
-answer_to maps message = sent_reply (reply Stream maps 0 message)
+answer_to maps message = sent_reply (reply_to maps message)
 
 -- what is sent for records, in their order
 abbrev pub answers : Maps → List (List ℕ) → List ℕ
@@ -88,8 +87,7 @@ Serves maps WriteFault stream traffic = AnswersSome stream traffic (λ messages.
 Serves maps Enough stream traffic =
     AnswersSome stream traffic (λ messages. (length messages ≡ calls_max) × Takes traffic (answers maps messages))
 Serves maps NoMemory stream traffic = (traffic.left ≡ Some stream) × Keeps traffic.before traffic.after
-Serves maps (Usage word) stream traffic = ⊥
-Serves maps (Rows row rule) stream traffic = ⊥
+Serves maps _ stream traffic = ⊥
 
 -- The status of a stream that is cut into these records and this rest, where nothing fails.
 abbrev pub IsStatusOf : List ℕ → List (List ℕ) → List ℕ → Status → Type 0
@@ -97,8 +95,4 @@ IsStatusOf stream messages rest Done = (length messages < calls_max) × (rest �
 IsStatusOf stream messages rest (Torn at) = (length messages < calls_max) × IsTorn call_max rest × (at ≡ place_of stream rest)
 IsStatusOf stream messages rest (TooLong at) = (length messages < calls_max) × IsLong call_max rest × (at ≡ place_of stream rest)
 IsStatusOf stream messages rest Enough = calls_max ≤ length messages
-IsStatusOf stream messages rest ReadFault = ⊥
-IsStatusOf stream messages rest WriteFault = ⊥
-IsStatusOf stream messages rest NoMemory = ⊥
-IsStatusOf stream messages rest (Usage word) = ⊥
-IsStatusOf stream messages rest (Rows row rule) = ⊥
+IsStatusOf stream messages rest _ = ⊥

@@ -1,7 +1,11 @@
 -- The status of a run: its code, and the note that tells it.
-use Rattle.std.specs.Prelude.{ℕ, List, [], ◌++◌, codes, decimal}
+use Rattle.std.specs.Prelude.{ℕ, ◌≤◌, List, [], ◌++◌, length, codes, decimal, ⊤}
+use Rattle.yp_version.specs.Limits.{master_max}
+use Rattle.yp_board.specs.Catalogues.{name_view}
+use Rattle.yp_tools.specs.Lines.{map_text}
+use Rattle.yp_tools.specs.Words.{IsNamed}
 use Rattle.yp_tools.specs.declared.status.Status.{Status}
-use Rattle.yp_tools.specs.declared.status.Status.TheVariants.{Done, Usage, ReadFault, WriteFault, Torn, TooLong, NoMemory, Rows, Enough}
+use Rattle.yp_tools.specs.declared.status.Status.TheVariants.{Done, Usage, ReadFault, WriteFault, Torn, TooLong, NoMemory, Damaged, NoVersion, DiskFault, Rows, OrderSpent, Refused, GenerationsSpent, Enough}
 
 -- the code with which the program ends
 abbrev pub code_of : Status → ℕ
@@ -12,7 +16,13 @@ code_of WriteFault = 4
 code_of (Torn at) = 5
 code_of (TooLong at) = 6
 code_of NoMemory = 7
+code_of (Damaged map at rule) = 8
+code_of (NoVersion map) = 9
+code_of (DiskFault map) = 10
 code_of (Rows row rule) = 17
+code_of OrderSpent = 18
+code_of (Refused master) = 19
+code_of (GenerationsSpent map) = 20
 code_of Enough = 23
 
 -- a line of the program
@@ -28,5 +38,20 @@ note WriteFault = line (codes "write fault")
 note (Torn at) = line (codes "torn record at " ++ decimal at)
 note (TooLong at) = line (codes "too long at " ++ decimal at)
 note NoMemory = line (codes "no memory")
+note (Damaged map at rule) = line (codes "damaged " ++ map_text (name_view map) ++ codes " at " ++ decimal at ++ codes " rule " ++ decimal rule)
+note (NoVersion map) = line (codes "no version of " ++ map_text (name_view map))
+note (DiskFault map) = line (codes "disk fault in " ++ map_text (name_view map))
 note (Rows row rule) = line (codes "row " ++ decimal row ++ codes " rule " ++ decimal rule)
+note OrderSpent = line (codes "order spent")
+note (Refused master) = line (codes "mastered by " ++ master.items)
+note (GenerationsSpent map) = line (codes "generations spent in " ++ map_text (name_view map))
 note Enough = line (codes "enough calls")
+
+-- each name of a status is one that a line has room for
+abbrev pub IsTellable : Status → Type 0
+IsTellable (Damaged map at rule) = IsNamed (name_view map)
+IsTellable (NoVersion map) = IsNamed (name_view map)
+IsTellable (DiskFault map) = IsNamed (name_view map)
+IsTellable (GenerationsSpent map) = IsNamed (name_view map)
+IsTellable (Refused master) = length master.items ≤ master_max
+IsTellable _ = ⊤

@@ -5,12 +5,11 @@ ghost use Rattle.yp_xdr.specs.Spelling.{spelling};
 ghost use Rattle.yp_xdr.specs.Writing.{Sets};
 ghost use Rattle.yp_rpc.specs.Call.{front_kind, auth_kind, procedure_kind};
 ghost use Rattle.yp_version.specs.Limits.{key_max, value_max};
-ghost use Rattle.yp_answer.specs.declared.procedure.Path.TheVariants as paths;
 ghost use Rattle.yp_answer.specs.Numbers.{record_max};
 ghost use Rattle.yp_answer.specs.Maps.{maps_of};
 ghost use Rattle.yp_answer.specs.Streams.{parts_left, joined};
 ghost use Rattle.yp_answer.specs.Answers.{IsInside};
-ghost use Rattle.yp_answer.specs.Reply.{reply as reply_of};
+ghost use Rattle.yp_tools.specs.Callers.{reply_to};
 ghost use Rattle.yp_tools.specs.Sample.{front, heading, call_of, match_call, all_call, value_reply};
 
 use crate::program::NOBODY;
@@ -151,7 +150,7 @@ pub fn ask(
     reply: &mut Vec<u8>,
 ) -> Result<bool, NoMemory>
     requires { record_max ≤ length buf.old }
-    ensures reply { IfOk result (λ some. reply_of paths.Stream (maps_of board.old) 0 call.now ≡ (if some then Some reply.new.items else None)) }
+    ensures reply { IfOk result (λ some. reply_to (maps_of board.old) call.now ≡ (if some then Some reply.new.items else None)) }
     ensures maps { maps_of board.new ≡ maps_of board.old }
 {
     reply.clear();
@@ -165,5 +164,6 @@ pub fn ask(
             collect(board, stream, buf, reply)?;
             Ok(true)
         }
+        Answered::Make { .. } => Ok(false),
     }
 }

@@ -5,17 +5,27 @@
 #![tactic(auto)]
 
 mod ask;
+mod build;
+mod check;
 mod command;
+mod disks;
+mod form;
+mod host;
+mod lines;
 mod once;
 mod program;
+mod put;
 mod sample;
+mod sentence;
 mod status;
 mod tally;
 #[cfg(test)]
 mod tests;
+mod text;
 mod words;
 
 pub use command::{Command, KeyValue};
+pub use disks::{NamedDisk, named_disks};
 pub use program::{Outside, run, tell};
 pub use status::Status;
-pub use words::{ParseFault, parse};
+pub use words::{ParseFault, disk_names, parse};

@@ -1,21 +1,31 @@
 //! The one call that does all that the program does.
 
-ghost use Rattle.std.specs.Prelude.{◌≡◌, ◌≢◌, ℕ, ◌<◌, ◌⊎◌, ◌↔◌, IsTrue, List, map, None, Some, Ok, Err, IfSome, IsErr};
+ghost use Rattle.std.specs.Prelude.{◌≡◌, ◌≢◌, ℕ, ◌<◌, ◌⊎◌, ◌↔◌, ◌≤◌, false, length, [], ◌∷◌, IsTrue, List, map, IsSome, None, Some, Ok, Err, IfSome, IsErr};
 ghost use Rattle.std.specs.Io.KnownBytes.{Appends};
 ghost use Rattle.yp_io.specs.Counts.{HasRisen};
 ghost use Rattle.yp_rpc.specs.Records.{Cut};
 ghost use Rattle.yp_version.specs.Limits.{rows_max};
 ghost use Rattle.yp_version.specs.Rows.{Row};
-ghost use Rattle.yp_board.specs.Catalogues.{Name, name_view};
+ghost use Rattle.yp_board.specs.Catalogues.{Name, name_max, name_view};
 ghost use Rattle.yp_answer.specs.Maps.{maps_of};
 ghost use Rattle.yp_tools.specs.Numbers.{call_max};
-ghost use Rattle.yp_tools.specs.Words.{command_of, texts, row_view, Once, Sample};
+ghost use Rattle.yp_slot.specs.Stands.{stands, Stored};
+ghost use Rattle.yp_io.specs.Disk.{LeavesOnly, MayLeave};
+ghost use Rattle.yp_version.specs.Versions.{MapVersion};
+ghost use Rattle.yp_tools.specs.Words.{command_of, disk_names, texts, row_view, Once, Sample, Check, IsNamed, kind_of};
+ghost use Rattle.yp_tools.specs.Build.{Job, IsBuild, IsJob, AtSite, Builds, tells_stored, IsStored, IsBeforeOrPlanned, LeavesFew, may_have_written, planned};
+ghost use Rattle.yp_tools.specs.Disks.{names_of, history_of, faults_of};
+ghost use Rattle.yp_tools.specs.Check.{Checks, IsUnwritten};
 ghost use Rattle.yp_tools.specs.Sample.{Tells};
 ghost use Rattle.yp_tools.specs.Once.{once_maps, rows_fault};
-ghost use Rattle.yp_tools.specs.Status.{note};
+ghost use Rattle.yp_tools.specs.Status.{note, IsTellable};
 ghost use Rattle.yp_tools.specs.Served.{IsStatusOf, Serves};
 
+use crate::build::{BuildJob, build};
+use crate::check::check;
 use crate::command::{Command, KeyValue};
+use crate::disks::{NamedDisk, put_only, take_only};
+use crate::host::FixedHost;
 use crate::once::{board_of, version_of};
 use crate::sample::sample;
 use crate::status::Status;
@@ -23,7 +33,8 @@ use crate::words::{ParseFault, parse};
 use std::alloc::Global;
 use std::random::RandomSource;
 use yp_board::{MapName, PlainBoard};
-use yp_io::{NoMemory, Pair, Peer, Sink, Source, write_all};
+use yp_build::Kind;
+use yp_io::{Clock, Disk, NoMemory, Pair, Peer, Sink, Source, write_all};
 use yp_rpc::laws;
 use yp_session::{CALLS_MAX, End, Session};
 
@@ -35,13 +46,17 @@ pub(crate) const NOBODY: Peer = Peer {
 
 /// What the program reaches outside itself.
 #[derive(Drop)]
-pub struct Outside<S, K> {
+pub struct Outside<S, K, D, C> {
     /// What it reads.
     pub input: S,
     /// What it writes.
     pub output: K,
     /// Where it tells how it ended.
     pub notes: K,
+    /// The disks of the maps that its words name, in their order.
+    pub disks: Vec<NamedDisk<D>>,
+    /// The clock.
+    pub clock: C,
 }
 
 impl From<End> for Status {
@@ -71,11 +86,14 @@ fn serve<S: Source, K: Sink>(alloc: Global, board: PlainBoard, wire: &mut Pair<S
     ensures write_fault { result ≡ Status.WriteFault → HasRisen (K.faults wire.old.sink) (K.faults wire.new.sink) }
     ensures sound { (row rule : ℕ) → result ≢ Status.Rows row rule }
     ensures sentence { (word : ℕ) → result ≢ Status.Usage word }
+    ensures no_disk { (map : MapName) → result ≢ Status.DiskFault map }
+    ensures tellable { IsTellable result }
 {
-    let mut board = board;
+    yp_answer::laws::open_is_from_own_host();
+    let mut host = FixedHost { board };
     match Session::new(alloc) {
         Err(NoMemory) => Status::NoMemory,
-        Ok(mut session) => session.run(wire, &mut board, NOBODY, CALLS_MAX).into(),
+        Ok(mut session) => session.run(wire, &mut host, NOBODY, CALLS_MAX).into(),
     }
 }
 
@@ -96,6 +114,8 @@ fn once<S: Source, K: Sink>(
     ensures read_fault { result ≡ Status.ReadFault → HasRisen (S.faults wire.old.source) (S.faults wire.new.source) }
     ensures write_fault { result ≡ Status.WriteFault → HasRisen (K.faults wire.old.sink) (K.faults wire.new.sink) }
     ensures sentence { (word : ℕ) → result ≢ Status.Usage word }
+    ensures no_disk { (map : MapName) → result ≢ Status.DiskFault map }
+    ensures tellable { IsTellable result }
 {
     let version = match version_of(alloc, rt, rows) {
         Ok(version) => version,
@@ -107,15 +127,100 @@ fn once<S: Source, K: Sink>(
     }
 }
 
+/// Tells what the file of a map stands for.
+fn check_only<D: Disk, K: Sink>(
+    alloc: Global,
+    rt: &impl RandomSource,
+    store: MapName,
+    disks: &mut Vec<NamedDisk<D>>,
+    sink: &mut K,
+) -> Status
+    requires named { IsNamed (name_view store) }
+    requires only { names_of disks.old.items ≡ name_view store ∷ [] }
+    ensures checks { IfSome (history_of D.history disks.old.items) (λ h.
+        Checks (name_view store) h.state.reads result (K.output sink.old) (K.output sink.new)) }
+    ensures names { names_of disks.new.items ≡ names_of disks.old.items }
+    ensures unwritten { IsUnwritten (history_of D.history disks.old.items) (history_of D.history disks.new.items) }
+    ensures flushed { result ≢ Status.WriteFault → IsTrue (K.flushed sink.old) → IsTrue (K.flushed sink.new) }
+    ensures write_fault { result ≡ Status.WriteFault → HasRisen (K.faults sink.old) (K.faults sink.new) }
+    ensures disk_fault { (map : MapName) → result ≡ Status.DiskFault map
+        → HasRisen (faults_of D.faults disks.old.items) (faults_of D.faults disks.new.items) }
+    ensures reads { result ≢ Status.ReadFault }
+    ensures sentence { (word : ℕ) → result ≢ Status.Usage word }
+    ensures tellable { IsTellable result }
+{
+    let NamedDisk { name, disk } = take_only(disks);
+    let (status, disk) = check(alloc, rt, store, disk, sink);
+    put_only(disks, NamedDisk { name, disk });
+    status
+}
+
+/// Builds a map of the text on the input, and stores it.
+fn build_only<S: Source, K: Sink, D: Disk, C: Clock>(
+    alloc: Global,
+    rt: &impl RandomSource,
+    name: Vec<u8>,
+    store: MapName,
+    flag: Option<bool>,
+    wire: &mut Pair<S, K>,
+    disks: &mut Vec<NamedDisk<D>>,
+    clock: &mut C,
+) -> Status
+    requires named { IsNamed (name_view store) }
+    requires name { length name.items ≤ name_max }
+    requires kind { IsSome (kind_of (name_view store)) }
+    requires only { names_of disks.old.items ≡ name_view store ∷ [] }
+    ensures builds { (job : Job) → IsJob name.items (name_view store) flag job
+        → AtSite (S.input wire.old.source) (history_of D.history disks.old.items) (C.moment clock.old) (λ site.
+        Builds job site result (K.output wire.old.sink) (K.output wire.new.sink)) }
+    ensures stored { (job : Job) → IsJob name.items (name_view store) flag job
+        → AtSite (S.input wire.old.source) (history_of D.history disks.old.items) (C.moment clock.old) (λ site.
+        IsTrue (tells_stored result) → IsStored job site (history_of D.history disks.new.items)) }
+    ensures any_moment { (job : Job) → IsJob name.items (name_view store) flag job
+        → AtSite (S.input wire.old.source) (history_of D.history disks.old.items) (C.moment clock.old) (λ site.
+        LeavesOnly (history_of D.history disks.old.items) (history_of D.history disks.new.items)
+        (IsBeforeOrPlanned job site (history_of D.history disks.old.items))) }
+    ensures few { LeavesFew (history_of D.history disks.old.items) (history_of D.history disks.new.items) }
+    ensures early { may_have_written result ≡ false → LeavesOnly (history_of D.history disks.old.items)
+        (history_of D.history disks.new.items) (MayLeave (history_of D.history disks.old.items)) }
+    ensures flushed { result ≢ Status.WriteFault → IsTrue (K.flushed wire.old.sink) → IsTrue (K.flushed wire.new.sink) }
+    ensures read_fault { result ≡ Status.ReadFault → HasRisen (S.faults wire.old.source) (S.faults wire.new.source) }
+    ensures write_fault { result ≡ Status.WriteFault → HasRisen (K.faults wire.old.sink) (K.faults wire.new.sink) }
+    ensures disk_fault { (map : MapName) → result ≡ Status.DiskFault map
+        → HasRisen (faults_of D.faults disks.old.items) (faults_of D.faults disks.new.items) }
+    ensures names { names_of disks.new.items ≡ names_of disks.old.items }
+    ensures sentence { (word : ℕ) → result ≢ Status.Usage word }
+    ensures tellable { IsTellable result }
+    ensures clock { C.moment clock.new ≡ C.moment clock.old }
+{
+    let Some(kind) = Kind::of_name(&store.map) else {
+        unreachable!()
+    };
+    let NamedDisk { name: map, disk } = take_only(disks);
+    let job = BuildJob {
+        name,
+        store,
+        kind,
+        flag,
+    };
+    let (status, disk) = build(alloc, rt, job, wire, disk, clock);
+    put_only(disks, NamedDisk { name: map, disk });
+    status
+}
+
 /// Does what the words ask for.
-fn run_words<S: Source, K: Sink>(
+fn run_words<S: Source, K: Sink, D: Disk, C: Clock>(
     alloc: Global,
     rt: &impl RandomSource,
     words: &[String],
     wire: &mut Pair<S, K>,
+    disks: &mut Vec<NamedDisk<D>>,
+    clock: &mut C,
 ) -> Status
+    requires { names_of disks.old.items ≡ disk_names (texts words.now) }
     ensures usage { (word : ℕ) → (result ≡ Status.Usage word) ↔ (command_of (texts words.now) ≡ Err word) }
     ensures untouched { IsErr (command_of (texts words.now)) → wire.new ≡ wire.old }
+    ensures names { names_of disks.new.items ≡ names_of disks.old.items }
     ensures once { (store : Name) (rows : List Row) → command_of (texts words.now) ≡ Ok (Once store rows) → rows_fault rows ≡ None
         → IfSome (S.input wire.old.source) (λ stream. Serves (once_maps store rows) result stream
         (record { left = S.input wire.new.source; before = K.output wire.old.sink; after = K.output wire.new.sink })) }
@@ -125,33 +230,64 @@ fn run_words<S: Source, K: Sink>(
         → Tells start count result (K.output wire.old.sink) (K.output wire.new.sink) × (wire.new.source ≡ wire.old.source) }
     ensures many { (start count : ℕ) → command_of (texts words.now) ≡ Ok (Sample start count) → rows_max < count
         → (result ≡ Status.Rows 262145 3) × (wire.new ≡ wire.old) }
+    ensures check { (store : Name) → command_of (texts words.now) ≡ Ok (Check store)
+        → IfSome (history_of D.history disks.old.items) (λ h. Checks store h.state.reads result (K.output wire.old.sink) (K.output wire.new.sink))
+        × (wire.new.source ≡ wire.old.source) }
+    ensures unwritten { (store : Name) → command_of (texts words.now) ≡ Ok (Check store)
+        → IsUnwritten (history_of D.history disks.old.items) (history_of D.history disks.new.items) }
+    ensures build { (job : Job) → IsBuild (texts words.now) job
+        → AtSite (S.input wire.old.source) (history_of D.history disks.old.items) (C.moment clock.old) (λ site.
+        Builds job site result (K.output wire.old.sink) (K.output wire.new.sink)) }
+    ensures stored { (job : Job) → IsBuild (texts words.now) job
+        → AtSite (S.input wire.old.source) (history_of D.history disks.old.items) (C.moment clock.old) (λ site.
+        IsTrue (tells_stored result) → IsStored job site (history_of D.history disks.new.items)) }
+    ensures any_moment { (job : Job) → IsBuild (texts words.now) job
+        → AtSite (S.input wire.old.source) (history_of D.history disks.old.items) (C.moment clock.old) (λ site.
+        LeavesOnly (history_of D.history disks.old.items) (history_of D.history disks.new.items)
+        (IsBeforeOrPlanned job site (history_of D.history disks.old.items))) }
+    ensures few { (job : Job) → IsBuild (texts words.now) job
+        → LeavesFew (history_of D.history disks.old.items) (history_of D.history disks.new.items) }
+    ensures early { (job : Job) → IsBuild (texts words.now) job → may_have_written result ≡ false
+        → LeavesOnly (history_of D.history disks.old.items) (history_of D.history disks.new.items)
+        (MayLeave (history_of D.history disks.old.items)) }
+    ensures clock { C.moment clock.new ≡ C.moment clock.old }
     ensures flushed { result ≢ Status.WriteFault → IsTrue (K.flushed wire.old.sink) → IsTrue (K.flushed wire.new.sink) }
     ensures read_fault { result ≡ Status.ReadFault → HasRisen (S.faults wire.old.source) (S.faults wire.new.source) }
     ensures write_fault { result ≡ Status.WriteFault → HasRisen (K.faults wire.old.sink) (K.faults wire.new.sink) }
+    ensures disk_fault { (map : MapName) → result ≡ Status.DiskFault map
+        → HasRisen (faults_of D.faults disks.old.items) (faults_of D.faults disks.new.items) }
+    ensures tellable { IsTellable result }
 {
     match parse(alloc, words) {
         Err(ParseFault::Usage { word }) => Status::Usage { word },
         Err(ParseFault::NoMemory) => Status::NoMemory,
         Ok(Command::Once { store, rows }) => once(alloc, rt, store, &rows, wire),
         Ok(Command::Sample { start, count }) => sample(alloc, rt, start, count, &mut wire.sink),
+        Ok(Command::Check { store }) => check_only(alloc, rt, store, disks, &mut wire.sink),
+        Ok(Command::Build { name, store, flag }) => {
+            build_only(alloc, rt, name, store, flag, wire, disks, clock)
+        }
     }
 }
 
 /// Tells a status in one line, if it has one. A failed write is dropped.
-pub fn tell<K: Sink>(notes: &mut K, status: Status)
-    ensures { ¬ HasRisen (K.faults notes.old) (K.faults notes.new) → Appends (K.output notes.old) (K.output notes.new) (note status) }
+pub fn tell<K: Sink>(notes: &mut K, status: &Status)
+    requires { IsTellable status.now }
+    ensures { ¬ HasRisen (K.faults notes.old) (K.faults notes.new) → Appends (K.output notes.old) (K.output notes.new) (note status.now) }
 {
-    let _ = write_all(notes, status.note().as_bytes());
+    let _ = write_all(notes, &status.note());
 }
 
 /// Does all that the program does: what the words ask for, on the outside that it hands back, and a note of how it
 /// ended. The records of the input are those of its one cut (RFC 5531 section 11), at most 262,144 bytes each.
-pub fn run<S: Source, K: Sink>(
+pub fn run<S: Source, K: Sink, D: Disk, C: Clock>(
     alloc: Global,
     rt: &impl RandomSource,
     words: &[String],
-    outside: Outside<S, K>,
-) -> (Status, Outside<S, K>)
+    outside: Outside<S, K, D, C>,
+) -> (Status, Outside<S, K, D, C>)
+    requires { names_of outside.disks.items ≡ disk_names (texts words.now) }
+
     // Words that are no sentence are told by the first that fits none, and nothing is read or written.
     ensures usage { (word : ℕ) → (result.0 ≡ Status.Usage word) ↔ (command_of (texts words.now) ≡ Err word) }
     ensures untouched { IsErr (command_of (texts words.now)) → (result.1.input ≡ outside.input) × (result.1.output ≡ outside.output) }
@@ -171,12 +307,44 @@ pub fn run<S: Source, K: Sink>(
     ensures many { (start count : ℕ) → command_of (texts words.now) ≡ Ok (Sample start count) → rows_max < count
         → (result.0 ≡ Status.Rows 262145 3) × (result.1.output ≡ outside.output) }
 
+    // `check` reads nothing of the input. It tells what the file of its map stands for, and writes nothing to its disk.
+    ensures check { (store : Name) → command_of (texts words.now) ≡ Ok (Check store)
+        → IfSome (history_of D.history outside.disks.items) (λ h.
+        Checks store h.state.reads result.0 (K.output outside.output) (K.output result.1.output)) × (result.1.input ≡ outside.input) }
+    ensures unwritten { (store : Name) → command_of (texts words.now) ≡ Ok (Check store)
+        → IsUnwritten (history_of D.history outside.disks.items) (history_of D.history result.1.disks.items) }
+
+    // `build` stores the version that is planned of what the outside held, or tells the first reason why none is. At each
+    // moment a crash leaves what it might have left before, or a file that stands for what stood or for that version.
+    ensures build { (job : Job) → IsBuild (texts words.now) job
+        → AtSite (S.input outside.input) (history_of D.history outside.disks.items) (C.moment outside.clock) (λ site.
+        Builds job site result.0 (K.output outside.output) (K.output result.1.output)) }
+    ensures stored { (job : Job) → IsBuild (texts words.now) job
+        → AtSite (S.input outside.input) (history_of D.history outside.disks.items) (C.moment outside.clock) (λ site.
+        IsTrue (tells_stored result.0) → IsStored job site (history_of D.history result.1.disks.items)) }
+    ensures any_moment { (job : Job) → IsBuild (texts words.now) job
+        → AtSite (S.input outside.input) (history_of D.history outside.disks.items) (C.moment outside.clock) (λ site.
+        LeavesOnly (history_of D.history outside.disks.items) (history_of D.history result.1.disks.items)
+        (IsBeforeOrPlanned job site (history_of D.history outside.disks.items))) }
+    ensures few { (job : Job) → IsBuild (texts words.now) job
+        → LeavesFew (history_of D.history outside.disks.items) (history_of D.history result.1.disks.items) }
+    ensures early { (job : Job) → IsBuild (texts words.now) job → may_have_written result.0 ≡ false
+        → LeavesOnly (history_of D.history outside.disks.items) (history_of D.history result.1.disks.items)
+        (MayLeave (history_of D.history outside.disks.items)) }
+
+    // The disks and the clock come back.
+    ensures disks { names_of result.1.disks.items ≡ names_of outside.disks.items }
+    ensures clock { C.moment result.1.clock ≡ C.moment outside.clock }
+
     // What was taken was passed on, but for a write fault.
     ensures flushed { result.0 ≢ Status.WriteFault → IsTrue (K.flushed outside.output) → IsTrue (K.flushed result.1.output) }
 
     // A fault has its cause.
     ensures read_fault { result.0 ≡ Status.ReadFault → HasRisen (S.faults outside.input) (S.faults result.1.input) }
     ensures write_fault { result.0 ≡ Status.WriteFault → HasRisen (K.faults outside.output) (K.faults result.1.output) }
+
+    ensures disk_fault { (map : MapName) → result.0 ≡ Status.DiskFault map
+        → HasRisen (faults_of D.faults outside.disks.items) (faults_of D.faults result.1.disks.items) }
 
     // The status is that of the one cut of the input, but for faults and want of memory.
     ensures complete { (store : Name) (rows : List Row) (stream : List ℕ) (messages : List (List ℕ)) (rest : List ℕ)
@@ -185,11 +353,24 @@ pub fn run<S: Source, K: Sink>(
         → ¬ HasRisen (S.faults outside.input) (S.faults result.1.input) → ¬ HasRisen (K.faults outside.output) (K.faults result.1.output)
         → IsStatusOf stream messages rest result.0 ⊎ (result.0 ≡ Status.NoMemory) }
 
+    // A version that stands is told by `check`, and one that is planned is stored by `build`, but for faults and want of memory.
+    ensures complete_check { (store : Name) (version : MapVersion) → command_of (texts words.now) ≡ Ok (Check store)
+        → IfSome (history_of D.history outside.disks.items) (λ h. stands h.state.reads ≡ Stored version
+        → ¬ HasRisen (faults_of D.faults outside.disks.items) (faults_of D.faults result.1.disks.items)
+        → ¬ HasRisen (K.faults outside.output) (K.faults result.1.output) → (result.0 ≡ Status.Done) ⊎ (result.0 ≡ Status.NoMemory)) }
+    ensures complete_build { (job : Job) (version : MapVersion) → IsBuild (texts words.now) job
+        → AtSite (S.input outside.input) (history_of D.history outside.disks.items) (C.moment outside.clock) (λ site.
+        planned job site ≡ Ok version → ¬ HasRisen (S.faults outside.input) (S.faults result.1.input)
+        → ¬ HasRisen (faults_of D.faults outside.disks.items) (faults_of D.faults result.1.disks.items)
+        → ¬ HasRisen (K.faults outside.output) (K.faults result.1.output) → (result.0 ≡ Status.Done) ⊎ (result.0 ≡ Status.NoMemory)) }
+
     // The status is told.
     ensures note { ¬ HasRisen (K.faults outside.notes) (K.faults result.1.notes)
         → Appends (K.output outside.notes) (K.output result.1.notes) (note result.0) }
 {
     let mut notes = outside.notes;
+    let mut disks = outside.disks;
+    let mut clock = outside.clock;
     let mut wire = Pair {
         source: outside.input,
         sink: outside.output,
@@ -197,12 +378,14 @@ pub fn run<S: Source, K: Sink>(
     laws::cut_is_one();
     laws::first_is_one();
     laws::rest_is_not_whole();
-    let status = run_words(alloc, rt, words, &mut wire);
-    tell(&mut notes, status);
+    let status = run_words(alloc, rt, words, &mut wire, &mut disks, &mut clock);
+    tell(&mut notes, &status);
     let outside = Outside {
         input: wire.source,
         output: wire.sink,
         notes,
+        disks,
+        clock,
     };
     (status, outside)
 }

@@ -8,12 +8,12 @@ ghost use Rattle.yp_version.specs.Limits.{key_max, value_max, rows_max};
 ghost use Rattle.yp_build.specs.Samples.{sampled};
 ghost use Rattle.yp_answer.specs.Numbers.{record_max};
 ghost use Rattle.yp_answer.specs.Maps.{maps_of};
-ghost use Rattle.yp_answer.specs.Reply.{reply as reply_of};
+ghost use Rattle.yp_tools.specs.Callers.{reply_to};
 ghost use Rattle.yp_tools.specs.Sample.{sample_maps, is_matched, reply_len, all_call, tally_of, Tells};
-ghost use Rattle.yp_answer.specs.declared.procedure.Path.TheVariants as paths;
 
 use crate::ask::{SAMPLE, ask, set_all, set_match, set_value};
 use crate::once::shown_on;
+use crate::put::put_text;
 use crate::status::Status;
 use crate::tally::Tally;
 use std::alloc::Global;
@@ -22,7 +22,7 @@ use std::sync::Arc;
 use yp_answer::RECORD_MAX;
 use yp_board::{MapName, PlainBoard};
 use yp_build::BuildFault;
-use yp_io::{Failed, NoMemory, Sink, write_all};
+use yp_io::{Failed, NoMemory, Sink};
 use yp_version::Version;
 
 /// The rule that there are at most 262,144 rows.
@@ -95,7 +95,7 @@ fn all_len(
 ) -> Result<usize, NoMemory>
     requires message { record_max ≤ length message.old }
     requires piece { record_max ≤ length piece.old }
-    ensures { IfOk result (λ len. len ≡ reply_len (reply_of paths.Stream (maps_of board.old) 0 all_call)) }
+    ensures { IfOk result (λ len. len ≡ reply_len (reply_to (maps_of board.old) all_call)) }
 {
     let len = set_all(message);
     if !ask(board, &message[..len], piece, reply)? {
@@ -170,17 +170,6 @@ fn sampled(alloc: Global, rt: &impl RandomSource, start: u32, count: u32) -> Res
     }
 }
 
-/// Writes a text and passes it on.
-fn put<K: Sink>(sink: &mut K, text: &[u8]) -> Result<(), Failed>
-    ensures put { OnOk result (Appends (K.output sink.old) (K.output sink.new) text.now) }
-    ensures flushed { OnOk result (IsTrue (K.flushed sink.new)) }
-    ensures prefix { OnErr result ((n : ℕ) × Appends (K.output sink.old) (K.output sink.new) (take n text.now)) }
-    ensures cause { CountsFaults (K.faults sink.old) (K.faults sink.new) result }
-{
-    write_all(sink, text)?;
-    sink.flush()
-}
-
 /// Tells the numbers of so many sample rows.
 pub fn sample<K: Sink>(
     alloc: Global,
@@ -196,7 +185,7 @@ pub fn sample<K: Sink>(
 {
     match sampled(alloc, rt, start, count) {
         Err(status) => status,
-        Ok(tally) => match put(sink, tally.line().as_bytes()) {
+        Ok(tally) => match put_text(sink, tally.line().as_bytes()) {
             Ok(()) => Status::Done,
             Err(Failed) => Status::WriteFault,
         },

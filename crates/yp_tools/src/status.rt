@@ -1,12 +1,17 @@
 //! How a run ended, and the note that tells it.
 
 ghost use Rattle.std.specs.Prelude.{◌≡◌, ◌≤◌, ◌++◌, length, decimal, codes};
-ghost use Rattle.yp_tools.specs.Status.{code_of, note, line as note_line};
+ghost use Rattle.arrayvec.specs.ArrayVec.{array_vec_len};
+ghost use Rattle.yp_board.specs.Catalogues.{name_view};
+ghost use Rattle.yp_tools.specs.Lines.{map_text};
+ghost use Rattle.yp_tools.specs.Status.{code_of, note, line as note_line, IsTellable};
+ghost use Rattle.yp_tools.specs.Words.{IsNamed};
 
-use arrayvec::ArrayString;
+use crate::lines::{Line, add, add_map, add_number};
+use yp_board::MapName;
 
 /// How a run ended.
-#[derive(Clone, Copy, Debug, PartialEq, Eq)]
+#[derive(Debug, PartialEq, Eq, Drop)]
 pub enum Status {
     /// All was done.
     Done,
@@ -18,13 +23,25 @@ pub enum Status {
     WriteFault,
     /// Input ended inside the record that began at this place, in bytes.
     Torn { at: u64 },
-    /// The record that began at this place, in bytes, is too long.
+    /// The record that began at this place, in bytes, is too long, or the text is over this limit.
     TooLong { at: u64 },
     /// Memory ran out.
     NoMemory,
+    /// The stored file of this map breaks this rule of its format, first at this place, in bytes.
+    Damaged { map: MapName, at: u64, rule: u8 },
+    /// No version of this map is stored.
+    NoVersion { map: MapName },
+    /// The disk of this map failed.
+    DiskFault { map: MapName },
     /// This row is the first past a limit, by this rule: 1 its key is too long, 2 its value is too long, 3 there are too
-    /// many rows, 4 they have too many bytes. The row is the number of its word, counted from 0.
+    /// many rows, 4 they have too many bytes. The row is the number of its word, counted from 0, or of its line, from 1.
     Rows { row: u32, rule: u8 },
+    /// The stored version has the greatest order that there is.
+    OrderSpent,
+    /// This other host is the master of the stored version.
+    Refused { master: Vec<u8> },
+    /// The stored file of this map has the greatest generation that there is.
+    GenerationsSpent { map: MapName },
     /// As many calls were read as a session may have.
     Enough,
 }
@@ -42,65 +59,104 @@ impl Status {
             Status::Torn { .. } => 5,
             Status::TooLong { .. } => 6,
             Status::NoMemory => 7,
+            Status::Damaged { .. } => 8,
+            Status::NoVersion { .. } => 9,
+            Status::DiskFault { .. } => 10,
             Status::Rows { .. } => 17,
+            Status::OrderSpent => 18,
+            Status::Refused { .. } => 19,
+            Status::GenerationsSpent { .. } => 20,
             Status::Enough => 23,
         }
     }
 
     /// The line that tells it, or an empty text where all was done.
-    pub(crate) fn note(&self) -> ArrayString<NOTE_MAX>
-        ensures { result.bytes ≡ note self.now }
+    pub(crate) fn note(&self) -> Line
+        requires { IsTellable self.now }
+        ensures { result.items ≡ note self.now }
     {
-        match *self {
-            Status::Done => ArrayString::new(),
-            Status::Usage { word } => numbered("usage at word ", word as u64),
-            Status::ReadFault => line("read fault", ""),
-            Status::WriteFault => line("write fault", ""),
-            Status::Torn { at } => numbered("torn record at ", at),
-            Status::TooLong { at } => numbered("too long at ", at),
-            Status::NoMemory => line("no memory", ""),
-            Status::Rows { row, rule } => ruled("row ", u64::from(row), rule),
-            Status::Enough => line("enough calls", ""),
+        match self {
+            Status::Done => Line::new(),
+            Status::Usage { word } => numbered(b"usage at word ", *word as u64),
+            Status::ReadFault => line(b"read fault", b""),
+            Status::WriteFault => line(b"write fault", b""),
+            Status::Torn { at } => numbered(b"torn record at ", *at),
+            Status::TooLong { at } => numbered(b"too long at ", *at),
+            Status::NoMemory => line(b"no memory", b""),
+            Status::Damaged { map, at, rule } => damaged(map, *at, *rule),
+            Status::NoVersion { map } => named(b"no version of ", map),
+            Status::DiskFault { map } => named(b"disk fault in ", map),
+            Status::Rows { row, rule } => ruled(*row, *rule),
+            Status::OrderSpent => line(b"order spent", b""),
+            Status::Refused { master } => line(b"mastered by ", master),
+            Status::GenerationsSpent { map } => named(b"generations spent in ", map),
+            Status::Enough => line(b"enough calls", b""),
         }
     }
 }
 
-/// The most bytes of a note.
-pub(crate) const NOTE_MAX: usize = 64;
-
-/// A line with a number at its end.
-fn numbered(text: &str, number: u64) -> ArrayString<NOTE_MAX>
-    requires { length text.now ≤ 19 }
-    ensures { result.bytes ≡ note_line (text.now ++ decimal number) }
+/// A line of the program.
+fn line(text: &[u8], more: &[u8]) -> Line
+    requires text { length text.now ≤ 21 }
+    requires more { length more.now ≤ 64 }
+    ensures { result.items ≡ note_line (text.now ++ more.now) }
 {
-    line(text, itoa::Buffer::new().format(number))
-}
-
-/// A line with the number of a place, and that of a rule behind it.
-fn ruled(text: &str, number: u64, rule: u8) -> ArrayString<NOTE_MAX>
-    requires { length text.now ≤ 4 }
-    ensures { result.bytes ≡ note_line (text.now ++ decimal number ++ codes " rule " ++ decimal rule) }
-{
-    let mut note = ArrayString::new();
-    note.push_str("yp: ");
-    note.push_str(text);
-    note.push_str(itoa::Buffer::new().format(number));
-    note.push_str(" rule ");
-    note.push_str(itoa::Buffer::new().format(rule));
-    note.push_str("\n");
+    let mut note = Line::new();
+    add(&mut note, b"yp: ");
+    add(&mut note, text);
+    add(&mut note, more);
+    add(&mut note, b"\n");
     note
 }
 
-/// A line of the program.
-fn line(text: &str, more: &str) -> ArrayString<NOTE_MAX>
-    requires text { length text.now ≤ 19 }
-    requires more { length more.now ≤ 40 }
-    ensures { result.bytes ≡ note_line (text.now ++ more.now) }
+/// A line with a number at its end.
+fn numbered(text: &[u8], number: u64) -> Line
+    requires { length text.now ≤ 21 }
+    ensures { result.items ≡ note_line (text.now ++ decimal number) }
 {
-    let mut note = ArrayString::new();
-    note.push_str("yp: ");
-    note.push_str(text);
-    note.push_str(more);
-    note.push_str("\n");
+    line(text, itoa::Buffer::new().format(number).as_bytes())
+}
+
+/// A line with the name of a map at its end.
+fn named(text: &[u8], map: &MapName) -> Line
+    requires text { length text.now ≤ 21 }
+    requires short { IsNamed (name_view map.now) }
+    ensures { result.items ≡ note_line (text.now ++ map_text (name_view map.now)) }
+{
+    let mut note = Line::new();
+    add(&mut note, b"yp: ");
+    add(&mut note, text);
+    add_map(&mut note, map);
+    add(&mut note, b"\n");
+    note
+}
+
+/// The line of a row, and of the rule that it breaks.
+fn ruled(row: u32, rule: u8) -> Line
+    ensures { result.items ≡ note_line (codes "row " ++ decimal row ++ codes " rule " ++ decimal rule) }
+{
+    let mut note = Line::new();
+    add(&mut note, b"yp: row ");
+    add_number(&mut note, u64::from(row));
+    add(&mut note, b" rule ");
+    add_number(&mut note, u64::from(rule));
+    add(&mut note, b"\n");
+    note
+}
+
+/// The line of a damaged file.
+fn damaged(map: &MapName, at: u64, rule: u8) -> Line
+    requires { IsNamed (name_view map.now) }
+    ensures { result.items ≡ note_line (codes "damaged " ++ map_text (name_view map.now)
+        ++ codes " at " ++ decimal at ++ codes " rule " ++ decimal rule) }
+{
+    let mut note = Line::new();
+    add(&mut note, b"yp: damaged ");
+    add_map(&mut note, map);
+    add(&mut note, b" at ");
+    add_number(&mut note, at);
+    add(&mut note, b" rule ");
+    add_number(&mut note, u64::from(rule));
+    add(&mut note, b"\n");
     note
 }

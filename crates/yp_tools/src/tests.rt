@@ -1,13 +1,18 @@
 //! The program over memory: its calls and replies written out by hand, from RFC 5531 and yp.x.
 
-ghost use Rattle.std.specs.Prelude.{◌<◌};
+ghost use Rattle.std.specs.Prelude.{◌≡◌, ◌<◌, IfOk};
+ghost use Rattle.yp_board.specs.Catalogues.{name_view};
+ghost use Rattle.yp_tools.specs.Words.{disk_names, texts, IsNamed};
+ghost use Rattle.yp_tools.specs.Status.{IsTellable};
+ghost use Rattle.yp_tools.specs.Disks.{names_of};
 
-use crate::{Command, Outside, Status, parse, run, tell};
+use crate::{NamedDisk, Outside, Status, disk_names, named_disks, run, tell};
 use std::alloc::{AllocError, Global};
 use std::process::Abort;
 use std::random::RandomSource;
 use std::test::Fail;
-use yp_io::{MemSink, MemSource};
+use yp_board::MapName;
+use yp_io::{MemDisk, MemSink, MemSource, SetClock};
 
 /// The words that serve one row.
 const SERVED: [&str; 3] = ["once", "lab/hosts.byname", "alpha=10.0.0.1 alpha"];
@@ -63,7 +68,7 @@ const EACH_PIECE: [Weather<'static>; 3] = [
 ];
 
 /// The bytes of texts of hexadecimal words.
-fn bytes(alloc: Global, texts: &[&str]) -> Result<Vec<u8>, Fail> {
+pub(crate) fn bytes(alloc: Global, texts: &[&str]) -> Result<Vec<u8>, Fail> {
     let mut bytes = Vec::new(alloc);
     for word in texts.iter().flat_map(|text| text.split_whitespace()) {
         bytes.extend_from_slice(&hex::decode(alloc, word)?)?;
@@ -71,7 +76,7 @@ fn bytes(alloc: Global, texts: &[&str]) -> Result<Vec<u8>, Fail> {
     Ok(bytes)
 }
 
-fn strings(alloc: Global, words: &[&str]) -> Result<Vec<String>, AllocError> {
+pub(crate) fn strings(alloc: Global, words: &[&str]) -> Result<Vec<String>, AllocError> {
     let mut owned = Vec::new(alloc);
     for word in words {
         owned.push(String::from_str(alloc, word)?)?;
@@ -97,7 +102,7 @@ fn long_row(alloc: Global, key: &[u8], len: usize) -> Result<String, AllocError>
 struct Case<'a> {
     input: &'a [u8],
     weather: Weather<'a>,
-    status: Status,
+    code: u8,
     output: &'a [u8],
     note: &'a str,
 }
@@ -107,10 +112,33 @@ fn answered<'a>(input: &'a [u8], output: &'a [u8]) -> Case<'a> {
     Case {
         input,
         weather: FAIR,
-        status: Status::Done,
+        code: 0,
         output,
         note: "",
     }
+}
+
+/// The disks that the words name, each with these bytes and these failing calls.
+pub(crate) fn disks_of(
+    alloc: Global,
+    words: &[String],
+    file: &[u8],
+    failing: &[u64],
+) -> Result<Vec<NamedDisk<MemDisk>>, AllocError>
+    ensures { IfOk result (λ disks. names_of disks.items ≡ disk_names (texts words.now)) }
+{
+    let Ok(names) = disk_names(alloc, words) else {
+        return Err(AllocError);
+    };
+    let make = |_: &MapName| disk(alloc, file, failing);
+    named_disks(alloc, names, make)
+}
+
+/// A disk with these bytes, some calls of which fail.
+fn disk(alloc: Global, file: &[u8], failing: &[u64]) -> Result<MemDisk, AllocError> {
+    let bytes = Vec::from_slice(alloc, file)?;
+    let failing = Vec::from_slice(alloc, failing)?;
+    Ok(MemDisk::new(alloc, bytes, None, failing))
 }
 
 /// Runs the words over memory, and compares.
@@ -129,9 +157,11 @@ fn try_words<R: RandomSource + Abort>(
         ),
         output: MemSink::new(alloc, 4096, Vec::from_slice(alloc, case.weather.writes)?),
         notes: MemSink::new(alloc, 4096, Vec::new(alloc)),
+        disks: disks_of(alloc, words, &[], &[])?,
+        clock: SetClock { moment: 100 },
     };
     let (status, outside) = run(alloc, rt, words, outside);
-    assert_eq!(rt; status, case.status, "{name}");
+    assert_eq!(rt; status.code(), case.code, "{name}");
     assert_eq!(rt; outside.output.taken(), case.output, "{name}");
     assert_eq!(rt; outside.notes.taken(), case.note.as_bytes(), "{name}");
     Ok(())
@@ -154,11 +184,11 @@ fn try_ended<R: RandomSource + Abort>(
     words: &[String],
     input: &[u8],
     output: &[u8],
-    status: Status,
+    code: u8,
     note: &str,
 ) -> Result<(), AllocError> {
     let case = Case {
-        status,
+        code,
         note,
         ..answered(input, output)
     };
@@ -352,67 +382,38 @@ fn empty_fragments(rt: HostRuntime) -> Result<(), Fail> {
     try_case(&rt, alloc, "1,024", &answered(&most, &reply))?;
     let too_many = behind_empty_fragments(alloc, 1025)?;
     let words = strings(alloc, &SERVED)?;
-    let status = Status::TooLong { at: 0 };
-    try_ended(
-        &rt,
-        alloc,
-        &words,
-        &too_many,
-        &[],
-        status,
-        "yp: too long at 0\n",
-    )?;
+    try_ended(&rt, alloc, &words, &too_many, &[], 6, "yp: too long at 0\n")?;
     Ok(())
 }
 
 /// Input that ends in no record, what comes out before, the status and its note.
-const BROKEN: [(&[&str], &[&str], Status, &str); 6] = [
-    (
-        &["800000"],
-        &[],
-        Status::Torn { at: 0 },
-        "yp: torn record at 0\n",
-    ),
+const BROKEN: [(&[&str], &[&str], u8, &str); 6] = [
+    (&["800000"], &[], 5, "yp: torn record at 0\n"),
     (
         &[MATCH, "800000"],
         &[MATCH_REPLY],
-        Status::Torn { at: 80 },
+        5,
         "yp: torn record at 80\n",
     ),
-    (
-        &["80040001"],
-        &[],
-        Status::TooLong { at: 0 },
-        "yp: too long at 0\n",
-    ),
+    (&["80040001"], &[], 6, "yp: too long at 0\n"),
     (
         &[MATCH, "80040001"],
         &[MATCH_REPLY],
-        Status::TooLong { at: 80 },
+        6,
         "yp: too long at 80\n",
     ),
-    (
-        &["ffffffff"],
-        &[],
-        Status::TooLong { at: 0 },
-        "yp: too long at 0\n",
-    ),
-    (
-        &["7fffffff"],
-        &[],
-        Status::TooLong { at: 0 },
-        "yp: too long at 0\n",
-    ),
+    (&["ffffffff"], &[], 6, "yp: too long at 0\n"),
+    (&["7fffffff"], &[], 6, "yp: too long at 0\n"),
 ];
 
 #[test]
 fn torn_and_long(rt: HostRuntime) -> Result<(), Fail> {
     let alloc = rt.alloc();
     let words = strings(alloc, &SERVED)?;
-    for (input, output, status, note) in BROKEN {
+    for (input, output, code, note) in BROKEN {
         let input = bytes(alloc, input)?;
         let output = bytes(alloc, output)?;
-        try_ended(&rt, alloc, &words, &input, &output, status, note)?;
+        try_ended(&rt, alloc, &words, &input, &output, code, note)?;
     }
     Ok(())
 }
@@ -505,16 +506,7 @@ fn rows_past_a_limit(rt: HostRuntime) -> Result<(), Fail> {
         }
     }
     let call = bytes(alloc, &[MATCH])?;
-    let status = Status::Rows { row: 257, rule: 4 };
-    try_ended(
-        &rt,
-        alloc,
-        &words,
-        &call,
-        &[],
-        status,
-        "yp: row 257 rule 4\n",
-    )?;
+    try_ended(&rt, alloc, &words, &call, &[], 17, "yp: row 257 rule 4\n")?;
     assert!(rt; words.pop().is_some());
     let absent = bytes(alloc, &["80000020", SUCCESS, "fffffffd 00000000"])?;
     let case = answered(&call, &absent);
@@ -522,40 +514,30 @@ fn rows_past_a_limit(rt: HostRuntime) -> Result<(), Fail> {
     Ok(())
 }
 
-/// Words that are no sentence, the word that is wrong, and how that is told.
-const USAGE: [(&[&str], usize, &str); 9] = [
-    (&[], 0, "yp: usage at word 0\n"),
-    (&["frob"], 0, "yp: usage at word 0\n"),
-    (&["once"], 1, "yp: usage at word 1\n"),
-    (&["once", "lab"], 1, "yp: usage at word 1\n"),
-    (&["once", "lab/a/b"], 1, "yp: usage at word 1\n"),
-    (&["once", ".lab/a"], 1, "yp: usage at word 1\n"),
-    (&["once", "lab/m", "=v"], 2, "yp: usage at word 2\n"),
-    (&["once", "lab/m", "k=v", "k"], 3, "yp: usage at word 3\n"),
-    (&["Once", "lab/m"], 0, "yp: usage at word 0\n"),
+/// Words that are no sentence, and how the word that is wrong is told.
+const USAGE: [(&[&str], &str); 9] = [
+    (&[], "yp: usage at word 0\n"),
+    (&["frob"], "yp: usage at word 0\n"),
+    (&["once"], "yp: usage at word 1\n"),
+    (&["once", "lab"], "yp: usage at word 1\n"),
+    (&["once", "lab/a/b"], "yp: usage at word 1\n"),
+    (&["once", ".lab/a"], "yp: usage at word 1\n"),
+    (&["once", "lab/m", "=v"], "yp: usage at word 2\n"),
+    (&["once", "lab/m", "k=v", "k"], "yp: usage at word 3\n"),
+    (&["Once", "lab/m"], "yp: usage at word 0\n"),
 ];
 
 #[test]
 fn usage_words(rt: HostRuntime) -> Result<(), Fail> {
     let alloc = rt.alloc();
     let call = bytes(alloc, &[MATCH])?;
-    for (words, word, note) in USAGE {
+    for (words, note) in USAGE {
         let words = strings(alloc, words)?;
-        let status = Status::Usage { word };
-        try_ended(&rt, alloc, &words, &call, &[], status, note)?;
+        try_ended(&rt, alloc, &words, &call, &[], 2, note)?;
     }
     let mut words = strings(alloc, &["once", "lab/m"])?;
     words.push(long_row(alloc, b"k", 65_537)?)?;
-    let status = Status::Usage { word: 2 };
-    try_ended(
-        &rt,
-        alloc,
-        &words,
-        &call,
-        &[],
-        status,
-        "yp: usage at word 2\n",
-    )?;
+    try_ended(&rt, alloc, &words, &call, &[], 2, "yp: usage at word 2\n")?;
     Ok(())
 }
 
@@ -572,7 +554,7 @@ fn one_failing_call(rt: HostRuntime) -> Result<(), Fail> {
                 reads: &[number],
                 writes: &[],
             },
-            status: Status::ReadFault,
+            code: 3,
             note: "yp: read fault\n",
             ..answered(&calls, if output { &reply } else { &[] })
         };
@@ -585,7 +567,7 @@ fn one_failing_call(rt: HostRuntime) -> Result<(), Fail> {
                 reads: &[],
                 writes: &[number],
             },
-            status: Status::WriteFault,
+            code: 4,
             note: "yp: write fault\n",
             ..answered(&calls, if output { &reply } else { &[] })
         };
@@ -594,50 +576,77 @@ fn one_failing_call(rt: HostRuntime) -> Result<(), Fail> {
     Ok(())
 }
 
-#[test]
-fn codes_and_notes(rt: HostRuntime) -> Result<(), Fail> {
-    for (status, code, note) in [
-        (Status::Done, 0, ""),
-        (Status::Usage { word: 12 }, 2, "yp: usage at word 12\n"),
-        (Status::ReadFault, 3, "yp: read fault\n"),
-        (Status::WriteFault, 4, "yp: write fault\n"),
-        (
-            Status::Torn { at: u64::MAX },
-            5,
-            "yp: torn record at 18446744073709551615\n",
-        ),
-        (Status::TooLong { at: 80 }, 6, "yp: too long at 80\n"),
-        (Status::NoMemory, 7, "yp: no memory\n"),
-        (
-            Status::Rows {
-                row: u32::MAX,
-                rule: 3,
-            },
-            17,
-            "yp: row 4294967295 rule 3\n",
-        ),
-        (Status::Enough, 23, "yp: enough calls\n"),
-    ] {
-        assert_eq!(rt; status.code(), code, "{status:?}");
-        let mut notes = MemSink::new(rt.alloc(), 4096, Vec::new(rt.alloc()));
-        tell(&mut notes, status);
-        assert_eq!(rt; notes.taken(), note.as_bytes(), "{status:?}");
-    }
+/// Compares the code of a status, and the note that tells it.
+fn try_note<R: Abort>(
+    rt: &R,
+    alloc: Global,
+    status: &Status,
+    code: u8,
+    note: &[u8],
+) -> Result<(), AllocError>
+    requires { IsTellable status.now }
+{
+    assert_eq!(rt; status.code(), code, "{status:?}");
+    let mut notes = MemSink::new(alloc, 4096, Vec::new(alloc));
+    tell(&mut notes, status);
+    assert_eq!(rt; notes.taken(), note, "{status:?}");
     Ok(())
 }
 
 #[test]
-fn parsed(rt: HostRuntime) -> Result<(), Fail> {
-    let words = strings(rt.alloc(), &["once", "lab/hosts.byname", "a=b=c", "x="])?;
-    let Ok(Command::Once { store, rows }) = parse(rt.alloc(), &words) else {
-        return Err("the words are a sentence".into());
+fn codes_and_notes(rt: HostRuntime) -> Result<(), Fail> {
+    let alloc = rt.alloc();
+    try_note(&rt, alloc, &Status::Done, 0, b"")?;
+    let status = Status::Usage { word: 12 };
+    try_note(&rt, alloc, &status, 2, b"yp: usage at word 12\n")?;
+    try_note(&rt, alloc, &Status::ReadFault, 3, b"yp: read fault\n")?;
+    try_note(&rt, alloc, &Status::WriteFault, 4, b"yp: write fault\n")?;
+    let status = Status::Torn { at: u64::MAX };
+    let note = b"yp: torn record at 18446744073709551615\n";
+    try_note(&rt, alloc, &status, 5, note)?;
+    let status = Status::TooLong { at: 80 };
+    try_note(&rt, alloc, &status, 6, b"yp: too long at 80\n")?;
+    try_note(&rt, alloc, &Status::NoMemory, 7, b"yp: no memory\n")?;
+    let status = Status::Rows {
+        row: u32::MAX,
+        rule: 3,
     };
-    assert_eq!(rt; store.domain.as_slice(), b"lab".as_slice());
-    assert_eq!(rt; store.map.as_slice(), b"hosts.byname".as_slice());
-    assert_eq!(rt; rows.len(), 2);
-    for (row, (key, value)) in rows.iter().zip(&[("a", "b=c"), ("x", "")]) {
-        assert_eq!(rt; row.key.as_slice(), key.as_bytes());
-        assert_eq!(rt; row.value.as_slice(), value.as_bytes());
-    }
+    try_note(&rt, alloc, &status, 17, b"yp: row 4294967295 rule 3\n")?;
+    try_note(&rt, alloc, &Status::OrderSpent, 18, b"yp: order spent\n")?;
+    try_note(&rt, alloc, &Status::Enough, 23, b"yp: enough calls\n")?;
+    Ok(())
+}
+
+/// The map `hosts.byname` of the domain `lab`.
+fn hosts(alloc: Global) -> Result<MapName, AllocError>
+    ensures { IfOk result (λ map. IsNamed (name_view map)) }
+{
+    let domain = Vec::from_slice(alloc, b"lab")?;
+    let map = Vec::from_slice(alloc, b"hosts.byname")?;
+    Ok(MapName { domain, map })
+}
+
+#[test]
+fn names_in_notes(rt: HostRuntime) -> Result<(), Fail> {
+    let alloc = rt.alloc();
+    let status = Status::Damaged {
+        map: hosts(alloc)?,
+        at: u64::MAX,
+        rule: 9,
+    };
+    let note = b"yp: damaged lab/hosts.byname at 18446744073709551615 rule 9\n";
+    try_note(&rt, alloc, &status, 8, note)?;
+    let status = Status::NoVersion { map: hosts(alloc)? };
+    let note = b"yp: no version of lab/hosts.byname\n";
+    try_note(&rt, alloc, &status, 9, note)?;
+    let status = Status::DiskFault { map: hosts(alloc)? };
+    let note = b"yp: disk fault in lab/hosts.byname\n";
+    try_note(&rt, alloc, &status, 10, note)?;
+    let master = Vec::from_slice(alloc, b"m\xff")?;
+    let status = Status::Refused { master };
+    try_note(&rt, alloc, &status, 19, b"yp: mastered by m\xff\n")?;
+    let status = Status::GenerationsSpent { map: hosts(alloc)? };
+    let note = b"yp: generations spent in lab/hosts.byname\n";
+    try_note(&rt, alloc, &status, 20, note)?;
     Ok(())
 }

@@ -1,13 +1,18 @@
 //! The words of the command line.
 
-ghost use Rattle.std.specs.Prelude.{◌≡◌, ◌+◌, ◌≤◌, ◌<◌, IsTrue, [], ◌∷◌, None, Some, Ok, IfOk, IfErr, length, map, option_map, if◌then◌else◌};
-ghost use Rattle.std.specs.List.{list_all};
-ghost use Rattle.yp_tools.specs.Words.{is_name_byte, is_name, is_store, is_row, number_of, Pair, once, sample, is_whole, sample_of, fits_to, fitting, Number, further_fitting, Once, name_of, command_of, meaning, row_of, row_view, before, after, texts, IsUsage};
+ghost use Rattle.std.specs.Prelude.{◌≡◌, drop, map, Ok, IfOk, IfErr, OnErr};
+ghost use Rattle.yp_board.specs.Catalogues.{name_view};
+ghost use Rattle.yp_tools.specs.Words.{name_of, row_of, value_of, word_at, command_of, disk_names, stores_of, row_view, meaning, texts, asks_of, once, check, sample, Build, TakesMemory, IsSentenceOfWords, IsUsage, HasNames};
 
 use crate::command::{Command, KeyValue};
+use crate::form::{SECURE, cut_at, number_of};
+use crate::sentence::{Task, task_of, wrong_word};
 use std::alloc::{AllocError, Global};
-use yp_board::{MapName, NAME_MAX};
-use yp_version::{KEY_MAX, VALUE_MAX};
+use yp_board::MapName;
+use yp_io::NoMemory;
+
+#[cfg(test)]
+mod tests;
 
 /// Why the words are no command.
 #[derive(Clone, Copy, Debug, PartialEq, Eq)]
@@ -20,145 +25,32 @@ pub enum ParseFault {
     NoMemory,
 }
 
-/// A name: 1 to 64 visible characters without a slash and an at sign, the first of which is no dot.
-fn is_name(word: &str) -> bool
-    ensures { result ≡ is_name word.now }
+/// The word with this number, and an empty one where there is none.
+fn word_at(words: &[String], at: usize) -> &str
+    ensures { result.now ≡ word_at at (texts words.now) }
 {
-    let bytes = word.as_bytes();
-    !bytes.is_empty() && bytes.len() <= NAME_MAX && bytes[0] != b'.' && are_name_bytes(bytes)
-}
-
-fn are_name_bytes(bytes: &[u8]) -> bool
-    ensures { result ≡ list_all is_name_byte bytes.now }
-{
-    bytes.iter().all(|byte| is_name_byte(*byte))
-}
-
-fn is_name_byte(byte: u8) -> bool
-    ensures { result ≡ is_name_byte byte }
-{
-    0x21 <= byte && byte <= 0x7e && byte != b'/' && byte != b'@'
-}
-
-/// A store: the names of a domain and a map, with a slash between.
-fn is_store(word: &str) -> bool
-    ensures { result ≡ is_store word.now }
-{
-    word.split_once('/')
-        .is_some_and(|(domain, map)| is_name(domain) && is_name(map))
-}
-
-/// A row: a key, which isn't empty, and its value behind the first equals sign.
-fn is_row(word: &str) -> bool
-    ensures { result ≡ is_row word.now }
-{
-    word.split_once('=').is_some_and(|(key, value)| {
-        !key.is_empty() && key.len() <= KEY_MAX && value.len() <= VALUE_MAX
-    })
-}
-
-/// A number of 32 bits in decimal, without a sign and without zeros in front.
-fn number_of(word: &str) -> Option<u32>
-    ensures { result ≡ number_of word.now }
-{
-    match word.parse::<u32>() {
-        Ok(number) if itoa::Buffer::new().format(number) == word => Some(number),
-        _ => None,
+    match words.get(at) {
+        Some(word) => word.as_str(),
+        None => "",
     }
 }
 
-/// How many words at the front are as the sentence `once` has them.
-fn once_fits(words: &[String]) -> usize
-    ensures value { result ≡ fits_to (texts words.now) once }
-    ensures within { result ≤ length words.now }
+/// The words from this number on.
+fn words_from(words: &[String], at: usize) -> &[String]
+    ensures { texts result.now ≡ drop at (texts words.now) }
 {
-    let Some((first, further)) = words.split_first() else {
-        return 0;
-    };
-    if first.as_str() != "once" {
-        return 0;
-    }
-    let Some((store, rows)) = further.split_first() else {
-        return 1;
-    };
-    if !is_store(store.as_str()) {
-        return 1;
-    }
-    2 + rows_fit(rows)
+    if at <= words.len() { &words[at..] } else { &[] }
 }
 
-/// How many words at the front are rows.
-fn rows_fit(words: &[String]) -> usize
-    ensures value { result ≡ further_fitting (Some Pair) (texts words.now) }
-    ensures within { result ≤ length words.now }
+/// The number that a word says, and 0 where it says none.
+fn value_of(word: &str) -> u32
+    ensures { result ≡ value_of word.now }
 {
-    for (i, word) in words.iter().enumerate() {
-        if !is_row(word.as_str()) {
-            return i;
-        }
-    }
-    words.len()
-}
-
-/// How many words at the front are as the sentence `sample` has them.
-fn sample_fits(words: &[String]) -> usize
-    ensures value { result ≡ fits_to (texts words.now) sample }
-    ensures within { result ≤ length words.now }
-{
-    let Some((first, further)) = words.split_first() else {
-        return 0;
-    };
-    if first.as_str() != "sample" {
-        return 0;
-    }
-    1 + numbers_fit(further)
-}
-
-/// How many words at the front are numbers, up to two.
-fn numbers_fit(words: &[String]) -> usize
-    ensures value { result ≡ fitting (Number ∷ Number ∷ []) None (texts words.now) }
-    ensures within { result ≤ length words.now }
-{
-    let Some((start, further)) = words.split_first() else {
-        return 0;
-    };
-    if number_of(start.as_str()).is_none() {
-        return 0;
-    }
-    let Some((count, _)) = further.split_first() else {
-        return 1;
-    };
-    if number_of(count.as_str()).is_none() {
-        return 1;
-    }
-    2
-}
-
-/// The command `sample`, where the words are that sentence.
-fn sample_of(words: &[String]) -> Option<Command>
-    ensures { option_map meaning result ≡ (if is_whole (texts words.now) sample then Some (sample_of (texts words.now)) else None) }
-{
-    if words.len() != 3 || words[0].as_str() != "sample" {
-        return None;
-    }
-    Some(Command::Sample {
-        start: number_of(words[1].as_str())?,
-        count: number_of(words[2].as_str())?,
-    })
-}
-
-/// What stands before and after the first such mark.
-fn cut_at(word: &str, mark: char) -> (&str, &str)
-    requires { mark < 128 }
-    ensures front { result.0.now ≡ before mark word.now }
-    ensures back { result.1.now ≡ after mark word.now }
-{
-    word.split_once(mark).unwrap_or((word, ""))
+    number_of(word).unwrap_or(0)
 }
 
 fn store_of(alloc: Global, word: &str) -> Result<MapName, AllocError>
-    ensures domain { IfOk result (λ store. store.domain.items ≡ before 47 word.now) }
-    ensures map { IfOk result (λ store. store.map.items ≡ after 47 word.now) }
+    ensures { IfOk result (λ store. name_view store ≡ name_of word.now) }
 {
     let (domain, map) = cut_at(word, '/');
     Ok(MapName {
@@ -187,31 +79,107 @@ fn rows_of(alloc: Global, words: &[String]) -> Result<Vec<KeyValue>, AllocError>
     Ok(rows)
 }
 
-fn once_of(alloc: Global, store: &str, rows: &[String]) -> Result<Command, AllocError>
-    ensures { IfOk result (λ command. meaning command ≡ Once (name_of store.now) (map row_of (texts rows.now))) }
+fn once_of(alloc: Global, words: &[String]) -> Result<Command, AllocError>
+    ensures { IfOk result (λ command. meaning command ≡ once.asks (texts words.now)) }
 {
     Ok(Command::Once {
-        store: store_of(alloc, store)?,
-        rows: rows_of(alloc, rows)?,
+        store: store_of(alloc, word_at(words, 1))?,
+        rows: rows_of(alloc, words_from(words, 2))?,
     })
+}
+
+fn check_of(alloc: Global, words: &[String]) -> Result<Command, AllocError>
+    ensures { IfOk result (λ command. meaning command ≡ check.asks (texts words.now)) }
+{
+    Ok(Command::Check {
+        store: store_of(alloc, word_at(words, 1))?,
+    })
+}
+
+fn build_of(alloc: Global, words: &[String], flag: Option<bool>) -> Result<Command, AllocError>
+    ensures { IfOk result (λ command. meaning command
+        ≡ Build (word_at 1 (texts words.now)) (name_of (word_at 2 (texts words.now))) flag) }
+{
+    Ok(Command::Build {
+        name: Vec::from_slice(alloc, word_at(words, 1).as_bytes())?,
+        store: store_of(alloc, word_at(words, 2))?,
+        flag,
+    })
+}
+
+fn sample_of(words: &[String]) -> Command
+    ensures { meaning result ≡ sample.asks (texts words.now) }
+{
+    Command::Sample {
+        start: value_of(word_at(words, 1)),
+        count: value_of(word_at(words, 2)),
+    }
+}
+
+/// The command that the words of a sentence with this task are.
+fn command_for(alloc: Global, task: Task, words: &[String]) -> Result<Command, AllocError>
+    ensures command { IfOk result (λ command. meaning command ≡ asks_of task (texts words.now)) }
+    ensures memory { OnErr result (TakesMemory (asks_of task (texts words.now))) }
+{
+    match task {
+        Task::Once => once_of(alloc, words),
+        Task::Check => check_of(alloc, words),
+        Task::Build => build_of(alloc, words, None),
+        Task::BuildFlagged => build_of(alloc, words, Some(word_at(words, 3) == SECURE)),
+        Task::Sample => Ok(sample_of(words)),
+    }
 }
 
 /// The command that the words are.
 pub fn parse(alloc: Global, words: &[String]) -> Result<Command, ParseFault>
     ensures sentence { IfOk result (λ command. command_of (texts words.now) ≡ Ok (meaning command)) }
     ensures usage { IfErr result (IsUsage (command_of (texts words.now))) }
+    ensures names { IfOk result (λ command. HasNames (meaning command)) }
 {
-    let fits = once_fits(words);
-    if words.len() >= 2 && fits == words.len() {
-        return match once_of(alloc, words[1].as_str(), &words[2..]) {
-            Ok(command) => Ok(command),
-            Err(_) => Err(ParseFault::NoMemory),
-        };
+    let Some(task) = task_of(words) else {
+        return Err(ParseFault::Usage {
+            word: wrong_word(words),
+        });
+    };
+    match command_for(alloc, task, words) {
+        Ok(command) => Ok(command),
+        Err(AllocError) => Err(ParseFault::NoMemory),
     }
-    match sample_of(words) {
-        Some(command) => Ok(command),
-        None => Err(ParseFault::Usage {
-            word: fits.max(sample_fits(words)),
-        }),
+}
+
+/// The maps whose files a command reads or writes.
+fn stores_of(alloc: Global, command: Command) -> Result<Vec<MapName>, AllocError>
+    ensures memory { OnErr result (TakesMemory (meaning command)) }
+    ensures stores { IfOk result (λ names. map name_view names.items ≡ stores_of (meaning command)) }
+{
+    match command {
+        Command::Check { store } => Ok(vec![in alloc; store]?),
+        Command::Build {
+            name: _name,
+            store,
+            ..
+        } => Ok(vec![in alloc; store]?),
+        Command::Once {
+            store: _store,
+            rows: _rows,
+        } => Ok(Vec::new(alloc)),
+        Command::Sample { .. } => Ok(Vec::new(alloc)),
+    }
+}
+
+/// The maps whose files the command of these words reads or writes, in the order of the words. There are none where
+/// the words are no sentence.
+pub fn disk_names(alloc: Global, words: &[String]) -> Result<Vec<MapName>, NoMemory>
+    ensures names { IfOk result (λ names. map name_view names.items ≡ disk_names (texts words.now)) }
+    ensures memory { OnErr result (IsSentenceOfWords (command_of (texts words.now))) }
+{
+    let command = match parse(alloc, words) {
+        Ok(command) => command,
+        Err(ParseFault::Usage { .. }) => return Ok(Vec::new(alloc)),
+        Err(ParseFault::NoMemory) => return Err(NoMemory),
+    };
+    match stores_of(alloc, command) {
+        Ok(names) => Ok(names),
+        Err(AllocError) => Err(NoMemory),
     }
 }

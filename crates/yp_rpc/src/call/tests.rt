@@ -150,3 +150,41 @@ fn other_versions_and_noise(rt: HostRuntime) -> Result<(), Fail> {
     }
     Ok(())
 }
+
+#[test]
+fn heads_written(rt: HostRuntime) -> Result<(), Fail> {
+    let alloc = rt.alloc();
+    for (xid, prog, vers, procedure, front) in [
+        (
+            1,
+            100_004,
+            2,
+            3,
+            "00000001 00000000 00000002 000186a4 00000002 00000003",
+        ),
+        (u32::MAX, 100_004, 1, 0, NULL),
+        (
+            2,
+            536_890_953,
+            1,
+            1,
+            "00000002 00000000 00000002 20004e49 00000001 00000001",
+        ),
+    ] {
+        let mut want = spelled::bytes(alloc, front)?;
+        want.extend_from_slice(&[0; 16])?;
+        for room in 0..=44 {
+            let mut buf = [9; 44];
+            let answer = write_call(&mut buf[..room], xid, prog, vers, procedure);
+            if room < 40 {
+                assert_eq!(rt; answer, Err(NoRoom), "{front} in {room} bytes");
+                assert_eq!(rt; buf, [9; 44], "{front} in {room} bytes");
+            } else {
+                assert_eq!(rt; answer, Ok(40), "{front} in {room} bytes");
+                assert!(rt; buf.starts_with(&want), "{front} in {room} bytes");
+                assert!(rt; buf.ends_with(&[9; 4]), "{front} in {room} bytes");
+            }
+        }
+    }
+    Ok(())
+}

@@ -186,6 +186,115 @@ fn failing_source(rt: HostRuntime) -> Result<(), Fail> {
     Ok(())
 }
 
+// The next record, piece by piece into a buffer of so many bytes, or the fault.
+fn pieces(
+    alloc: Global,
+    reader: &mut RecordReader,
+    source: &mut MemSource,
+    room: usize,
+    limit: u64,
+) -> Result<Result<Vec<u8>, RecordFault>, AllocError>
+    requires { 0 < room }
+{
+    let mut buf = vec![in alloc; 0; room]?;
+    let mut record = Vec::new(alloc);
+    for _ in 0..1_000_000 {
+        match reader.piece(source, &mut buf, limit) {
+            Ok(0) => return Ok(Ok(record)),
+            Ok(count) => record.extend_from_slice(&buf[..count])?,
+            Err(fault) => return Ok(Err(fault)),
+        }
+    }
+    Ok(Ok(record))
+}
+
+#[test]
+fn records_in_pieces(rt: HostRuntime) -> Result<(), Fail> {
+    let alloc = rt.alloc();
+    let record = counted(alloc, 76)?;
+    let whole = cut(alloc, &record, 76, "", 0, "8000004c")?;
+    let shreds = cut(alloc, &record, 1, "00000001", 75, "80000001")?;
+    let threes = cut(alloc, &record, 3, "00000003", 25, "80000001")?;
+    let hollows = cut(
+        alloc,
+        &record,
+        1,
+        "00000000 00000001",
+        75,
+        "00000000 80000001",
+    )?;
+    for stream in [&whole, &shreds, &threes, &hollows] {
+        for piece in [1, 3, 200] {
+            for room in [1, 5, 100] {
+                // The same record twice, and a torn one.
+                let mut bytes = stream.to_vec(alloc)?;
+                bytes.extend_from_slice(stream)?;
+                bytes.extend_from_slice(&[0x80, 0])?;
+                let place = 2 * stream.len() as u64;
+                let mut source = MemSource::new(bytes, piece, Vec::new(alloc));
+                let mut reader = RecordReader::new();
+                for _ in 0..2 {
+                    let read = pieces(alloc, &mut reader, &mut source, room, 76)?;
+                    let read = read.unwrap_or(Vec::new(alloc));
+                    assert_eq!(rt;
+                        read.as_slice(),
+                        record.as_slice(),
+                        "pieces of {piece} into {room}"
+                    );
+                }
+                let read = pieces(alloc, &mut reader, &mut source, room, 76)?;
+                assert_eq!(rt;
+                    read.err(),
+                    Some(RecordFault::Torn { at: place }),
+                    "pieces of {piece} into {room}"
+                );
+            }
+        }
+    }
+    Ok(())
+}
+
+#[test]
+fn few_bytes_in_pieces(rt: HostRuntime) -> Result<(), Fail> {
+    let torn = Some(RecordFault::Torn { at: 0 });
+    let long = Some(RecordFault::TooLong { at: 0 });
+    let cases = [
+        ("", torn),
+        ("800000", torn),
+        ("80000002 61", torn),
+        ("00000000", torn),
+        ("00000001 61", torn),
+        ("80000000", None),
+        ("00000003 616263 80000000", None),
+        ("80000004 61626364", None),
+        ("80000005 6162636465", long),
+        ("00000003 616263 80000002 6465", long),
+        ("ffffffff", long),
+    ];
+    for (text, fault) in cases {
+        for room in [1, 80] {
+            let stream = spelled::bytes(rt.alloc(), text)?;
+            let mut source = MemSource::new(stream, 80, Vec::new(rt.alloc()));
+            let mut reader = RecordReader::new();
+            let read = pieces(rt.alloc(), &mut reader, &mut source, room, 4)?;
+            assert_eq!(rt; read.err(), fault, "{text}");
+        }
+    }
+    Ok(())
+}
+
+#[test]
+fn empty_fragments_in_pieces(rt: HostRuntime) -> Result<(), Fail> {
+    let alloc = rt.alloc();
+    for (empty, fault) in [(1024, None), (1025, Some(RecordFault::TooLong { at: 0 }))] {
+        let mut source = MemSource::new(hollow(alloc, empty)?, 80, Vec::new(alloc));
+        let mut reader = RecordReader::new();
+        let read = pieces(alloc, &mut reader, &mut source, 80, 1)?;
+        assert_eq!(rt; read.err(), fault, "{empty} fragments");
+    }
+    Ok(())
+}
+
 // Writes a record in two pieces, the first of which has so many bytes, or all.
 fn write_two<K: Sink>(
     writer: &mut RecordWriter,

@@ -1,12 +1,13 @@
 //! `sample` over memory. A row takes 24 bytes of the stored body, behind 24 bytes of its head, and 32 bytes of the reply
 //! to ALL, behind 24 bytes of its head and before 4 bytes of its end.
 
+use crate::tests::{disks_of, strings};
 use crate::{Outside, Status, run};
 use std::alloc::{AllocError, Global};
 use std::process::Abort;
 use std::random::RandomSource;
 use std::test::Fail;
-use yp_io::{MemSink, MemSource};
+use yp_io::{MemSink, MemSource, SetClock};
 
 /// Runs the words, with a sink whose calls of these numbers fail, and compares what is told and written.
 fn try_words<R: RandomSource + Abort>(
@@ -14,20 +15,19 @@ fn try_words<R: RandomSource + Abort>(
     alloc: Global,
     words: &[&str],
     writes: &[u64],
-    status: Status,
+    status: &Status,
     output: &str,
 ) -> Result<(), AllocError> {
-    let mut owned = Vec::new(alloc);
-    for word in words {
-        owned.push(String::from_str(alloc, word)?)?;
-    }
+    let owned = strings(alloc, words)?;
     let outside = Outside {
         input: MemSource::new(Vec::new(alloc), 1, Vec::new(alloc)),
         output: MemSink::new(alloc, 10, Vec::from_slice(alloc, writes)?),
         notes: MemSink::new(alloc, 4096, Vec::new(alloc)),
+        disks: disks_of(alloc, &owned, &[], &[])?,
+        clock: SetClock { moment: 0 },
     };
     let (ended, outside) = run(alloc, rt, &owned, outside);
-    assert_eq!(rt; ended, status);
+    assert_eq!(rt; ended, *status);
     assert_eq!(rt; outside.output.taken(), output.as_bytes());
     Ok(())
 }
@@ -49,7 +49,7 @@ fn numbers_told(rt: HostRuntime) -> Result<(), Fail> {
     ];
     for (start, count, line) in cases {
         let words = ["sample", start, count];
-        try_words(&rt, alloc, &words, &[], Status::Done, line)?;
+        try_words(&rt, alloc, &words, &[], &Status::Done, line)?;
     }
     Ok(())
 }
@@ -57,13 +57,13 @@ fn numbers_told(rt: HostRuntime) -> Result<(), Fail> {
 #[test]
 fn refused(rt: HostRuntime) -> Result<(), Fail> {
     let alloc = rt.alloc();
-    let many = Status::Rows {
+    let many = || Status::Rows {
         row: 262_145,
         rule: 3,
     };
     let cases: [(&[&str], Status); 9] = [
-        (&["sample", "0", "262145"], many),
-        (&["sample", "0", "4294967295"], many),
+        (&["sample", "0", "262145"], many()),
+        (&["sample", "0", "4294967295"], many()),
         (&["sample"], Status::Usage { word: 1 }),
         (&["sample", "1"], Status::Usage { word: 2 }),
         (&["sample", "01", "2"], Status::Usage { word: 1 }),
@@ -73,7 +73,7 @@ fn refused(rt: HostRuntime) -> Result<(), Fail> {
         (&["Sample", "1", "2"], Status::Usage { word: 0 }),
     ];
     for (words, status) in cases {
-        try_words(&rt, alloc, words, &[], status, "")?;
+        try_words(&rt, alloc, words, &[], &status, "")?;
     }
     Ok(())
 }
@@ -86,7 +86,7 @@ fn write_fault(rt: HostRuntime) -> Result<(), Fail> {
         alloc,
         &["sample", "0", "1"],
         &[1],
-        Status::WriteFault,
+        &Status::WriteFault,
         "rows 1 bod",
     )?;
     Ok(())

@@ -1,0 +1,51 @@
+//! The make program: a map is made anew where a caller on the server's own host asks for it.
+
+ghost use Rattle.std.specs.Prelude.{◌≡◌, ◌<◌, ◌≤◌, length, take};
+ghost use Rattle.yp_msgs.specs.Transfers.{req_make_view};
+ghost use Rattle.yp_answer.specs.Numbers.{datagram_max};
+ghost use Rattle.yp_answer.specs.Make.{make_check};
+ghost use Rattle.yp_answer.specs.Reply.{make_reply};
+
+use crate::caller::put_head;
+use yp_board::Catalog;
+use yp_build::Kind;
+use yp_io::Peer;
+use yp_msgs::{Message, ReqMake, RespMake, XfrStat};
+use yp_rpc::ReplyHead;
+
+/// The address of a caller on the server's own host.
+const OWN_HOST: [u8; 4] = [127, 0, 0, 1];
+
+/// The status that refuses to make a map for a caller, the first that applies, or none. It rests on the catalogue
+/// alone.
+pub fn make_check(catalog: &Catalog, peer: Peer, asked: &ReqMake<'_>) -> Option<XfrStat>
+    ensures { result ≡ make_check catalog.now peer (req_make_view asked.now) }
+{
+    if peer.addr != OWN_HOST {
+        return Some(XfrStat::Refused);
+    }
+    if asked.domain.is_empty() {
+        return Some(XfrStat::Badargs);
+    }
+    if !catalog.serves(asked.domain) {
+        return Some(XfrStat::Nodom);
+    }
+    let Some(kind) = Kind::of_number(asked.kind) else {
+        return Some(XfrStat::Nomap);
+    };
+    match catalog.find(asked.domain, kind.name()) {
+        Some(_) => None,
+        None => Some(XfrStat::Nomap),
+    }
+}
+
+/// Puts the reply of MAKE with a status at the front of the buffer, and answers its length.
+pub fn make_reply(buf: &mut [u8], xid: u32, stat: XfrStat) -> usize
+    requires { datagram_max ≤ length buf.old }
+    ensures reply { take result buf.new ≡ make_reply xid stat }
+    ensures within { result ≤ length buf.new }
+    ensures some { 0 < result }
+{
+    let at = put_head(buf, xid, &ReplyHead::Success);
+    RespMake { stat }.set(buf, at)
+}

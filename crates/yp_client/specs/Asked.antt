@@ -1,0 +1,46 @@
+-- The bytes of each call, by the number that it has (yp.x).
+use Rattle.std.specs.Prelude.{ℕ, List, []}
+use Rattle.yp_xdr.specs.Kind.{Fixed, Value}
+use Rattle.yp_rpc.specs.Called.{call_of}
+use Rattle.yp_msgs.specs.Numbers.{program, version, null_procedure, domain_procedure, match_procedure, first_procedure, next_procedure, xfr_procedure, clear_procedure, master_procedure, order_procedure, maplist_procedure, make_program, make_version, make_procedure}
+use Rattle.yp_msgs.specs.Messages.{req_domain, req_key, req_nokey}
+use Rattle.yp_msgs.specs.Transfers.{req_xfr, req_make}
+
+-- a procedure without arguments: they have no bytes
+abbrev pub null_call : ℕ → List ℕ
+null_call xid = call_of (Fixed 0) xid program version null_procedure []
+
+abbrev pub clear_call : ℕ → List ℕ
+clear_call xid = call_of (Fixed 0) xid program version clear_procedure []
+
+-- of a domain
+abbrev pub domain_call : List ℕ → ℕ → List ℕ
+domain_call domain xid = call_of req_domain xid program version domain_procedure domain
+
+abbrev pub maplist_call : List ℕ → ℕ → List ℕ
+maplist_call domain xid = call_of req_domain xid program version maplist_procedure domain
+
+-- of a map
+abbrev pub first_call : List ℕ → List ℕ → ℕ → List ℕ
+first_call domain map xid = call_of req_nokey xid program version first_procedure (domain, map)
+
+abbrev pub master_call : List ℕ → List ℕ → ℕ → List ℕ
+master_call domain map xid = call_of req_nokey xid program version master_procedure (domain, map)
+
+abbrev pub order_call : List ℕ → List ℕ → ℕ → List ℕ
+order_call domain map xid = call_of req_nokey xid program version order_procedure (domain, map)
+
+-- of a key
+abbrev pub match_call : List ℕ → List ℕ → List ℕ → ℕ → List ℕ
+match_call domain map key xid = call_of req_key xid program version match_procedure (domain, (map, key))
+
+abbrev pub next_call : List ℕ → List ℕ → List ℕ → ℕ → List ℕ
+next_call domain map key xid = call_of req_key xid program version next_procedure (domain, (map, key))
+
+-- of a transfer
+abbrev pub xfr_call : Value req_xfr → ℕ → List ℕ
+xfr_call request xid = call_of req_xfr xid program version xfr_procedure request
+
+-- of the make program: a map of a domain, by the number of its kind
+abbrev pub make_call : List ℕ → ℕ → ℕ → List ℕ
+make_call domain kind xid = call_of req_make xid make_program make_version make_procedure (domain, kind)

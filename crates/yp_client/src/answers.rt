@@ -1,0 +1,219 @@
+//! What a reply says to a call.
+
+ghost use Rattle.std.specs.Prelude.{◌≡◌, ℕ, List, Result, Ok, Err, IfOk, IfErr};
+ghost use Rattle.yp_xdr.specs.Cursor.{unread};
+ghost use Rattle.yp_client.specs.Results.{results_of, behind_true, Says};
+ghost use Rattle.yp_client.specs.Results.{nothing_of, served_of, value_of, row_of, master_of, order_of, maps_of, taken_of, made_of};
+ghost use Rattle.yp_client.specs.Calls.{IsOfReply};
+ghost use Rattle.yp_client.specs.Said.{SaysNothing, SaysBool, SaysNumber, SaysBytes, SaysRow, SaysNames, SaysStat};
+
+use crate::fault::ClientFault;
+use std::alloc::Global;
+use yp_msgs::protocol::{KEY_MAX, NAME_MAX, VALUE_MAX};
+use yp_msgs::{MapList, MapListFault, ReadMessage, RespMake, RespXfr, XfrStat, YpStat};
+use yp_rpc::{ReplyHead, read_reply_at};
+use yp_xdr::Cursor;
+
+/// A row of a map.
+#[derive(Debug, Drop)]
+pub struct Row {
+    pub value: Vec<u8>,
+    pub key: Vec<u8>,
+}
+
+/// What is taken from the reply to a call.
+pub trait Answer {
+    type Value;
+
+    ghost use Rattle.yp_client.specs.declared.fault.ClientFault.{ClientFault};
+
+    /// It is what the reply to the call with a number says.
+    ghost answers: { ℕ → List ℕ → Result Self.Value ClientFault → Type 0 };
+
+    /// Reads the whole record of the reply.
+    fn judge(&self, alloc: Global, message: &[u8], xid: u32) -> Result<Self::Value, ClientFault>
+        ensures answers { answers xid message.now result }
+        ensures of_reply { IsOfReply result };
+}
+
+/// A cursor at the results of the reply to a call.
+fn read_results<'a>(message: &'a [u8], xid: u32) -> Result<Cursor<'a>, ClientFault>
+    ensures says { Says unread (results_of xid message.now) result }
+    ensures of_reply { IsOfReply result }
+{
+    let mut cursor = Cursor::new(message);
+    let read = read_reply_at(&mut cursor)?;
+    if read.xid != xid {
+        return Err(ClientFault::BadXid {
+            want: xid,
+            got: read.xid,
+        });
+    }
+    match read.head {
+        ReplyHead::Success => Ok(cursor),
+        head => Err(ClientFault::Denied(head)),
+    }
+}
+
+/// Reads a status that is TRUE.
+fn read_true(cursor: &mut Cursor<'_>) -> Result<(), ClientFault>
+    ensures says { Says (λ _. unread cursor.new) (behind_true (unread cursor.old)) result }
+    ensures of_reply { IsOfReply result }
+{
+    match YpStat::read(cursor)? {
+        YpStat::True => Ok(()),
+        stat => Err(ClientFault::Yp(stat)),
+    }
+}
+
+/// The bytes of a value that are the caller's own.
+fn copied(alloc: Global, bytes: &[u8]) -> Result<Vec<u8>, ClientFault>
+    ensures copied { IfOk result (λ copy. copy.items ≡ bytes.now) }
+    ensures none { IfErr result (λ fault. fault ≡ ClientFault.NoMemory) }
+{
+    Vec::from_slice(alloc, bytes).map_err(|_| ClientFault::NoMemory)
+}
+
+/// No results.
+pub struct Nothing;
+
+impl Answer for Nothing {
+    type Value = ();
+
+    ghost answers = { SaysNothing nothing_of };
+
+    fn judge(&self, _alloc: Global, message: &[u8], xid: u32) -> Result<(), ClientFault> {
+        let _results = read_results(message, xid)?;
+        Ok(())
+    }
+}
+
+/// The result of DOMAIN.
+pub struct Served;
+
+impl Answer for Served {
+    type Value = bool;
+
+    ghost answers = { SaysBool served_of };
+
+    fn judge(&self, _alloc: Global, message: &[u8], xid: u32) -> Result<bool, ClientFault> {
+        let mut cursor = read_results(message, xid)?;
+        Ok(cursor.bool()?)
+    }
+}
+
+/// The result of MATCH.
+pub struct Matched;
+
+impl Answer for Matched {
+    type Value = Vec<u8>;
+
+    ghost answers = { SaysBytes value_of };
+
+    fn judge(&self, alloc: Global, message: &[u8], xid: u32) -> Result<Vec<u8>, ClientFault> {
+        let mut cursor = read_results(message, xid)?;
+        read_true(&mut cursor)?;
+        let value = cursor.opaque(VALUE_MAX)?;
+        copied(alloc, value)
+    }
+}
+
+/// The result of FIRST and NEXT.
+pub struct Found;
+
+impl Answer for Found {
+    type Value = Row;
+
+    ghost answers = { SaysRow row_of };
+
+    fn judge(&self, alloc: Global, message: &[u8], xid: u32) -> Result<Row, ClientFault> {
+        let mut cursor = read_results(message, xid)?;
+        read_true(&mut cursor)?;
+        let value = cursor.opaque(VALUE_MAX)?;
+        let key = cursor.opaque(KEY_MAX)?;
+        let value = copied(alloc, value)?;
+        let key = copied(alloc, key)?;
+        Ok(Row { value, key })
+    }
+}
+
+/// The result of MASTER.
+pub struct Mastered;
+
+impl Answer for Mastered {
+    type Value = Vec<u8>;
+
+    ghost answers = { SaysBytes master_of };
+
+    fn judge(&self, alloc: Global, message: &[u8], xid: u32) -> Result<Vec<u8>, ClientFault> {
+        let mut cursor = read_results(message, xid)?;
+        read_true(&mut cursor)?;
+        let peer = cursor.string(NAME_MAX)?;
+        copied(alloc, peer)
+    }
+}
+
+/// The result of ORDER.
+pub struct Ordered;
+
+impl Answer for Ordered {
+    type Value = u32;
+
+    ghost answers = { SaysNumber order_of };
+
+    fn judge(&self, _alloc: Global, message: &[u8], xid: u32) -> Result<u32, ClientFault> {
+        let mut cursor = read_results(message, xid)?;
+        read_true(&mut cursor)?;
+        Ok(cursor.u32()?)
+    }
+}
+
+/// The result of MAPLIST.
+pub struct Listed;
+
+impl Answer for Listed {
+    type Value = MapList;
+
+    ghost answers = { SaysNames maps_of };
+
+    fn judge(&self, alloc: Global, message: &[u8], xid: u32) -> Result<MapList, ClientFault> {
+        let mut cursor = read_results(message, xid)?;
+        let mut ahead = cursor;
+        read_true(&mut ahead)?;
+        match MapList::read(alloc, &mut cursor) {
+            Ok(list) => Ok(list),
+            Err(MapListFault::Xdr(fault)) => Err(fault.into()),
+            Err(MapListFault::NoMemory) => Err(ClientFault::NoMemory),
+        }
+    }
+}
+
+/// The result of XFR.
+pub struct Taken;
+
+impl Answer for Taken {
+    type Value = XfrStat;
+
+    ghost answers = { SaysStat taken_of };
+
+    fn judge(&self, _alloc: Global, message: &[u8], xid: u32) -> Result<XfrStat, ClientFault> {
+        let mut cursor = read_results(message, xid)?;
+        let taken = RespXfr::read(&mut cursor)?;
+        Ok(taken.xfrstat)
+    }
+}
+
+/// The result of MAKE.
+pub struct Made;
+
+impl Answer for Made {
+    type Value = XfrStat;
+
+    ghost answers = { SaysStat made_of };
+
+    fn judge(&self, _alloc: Global, message: &[u8], xid: u32) -> Result<XfrStat, ClientFault> {
+        let mut cursor = read_results(message, xid)?;
+        let made = RespMake::read(&mut cursor)?;
+        Ok(made.stat)
+    }
+}

@@ -1,0 +1,122 @@
+//! The client.
+
+ghost use Rattle.std.specs.Prelude.{◌≡◌, ℕ, ◌+◌, ◌≤◌, ◌<◌, false, [], length, take, MatchResult};
+ghost use Rattle.yp_xdr.specs.Spelling.{spelling};
+ghost use Rattle.yp_rpc.specs.Called.{call_of};
+ghost use Rattle.yp_client.specs.Limits.{reply_max};
+ghost use Rattle.yp_client.specs.Moments.{moment_of};
+ghost use Rattle.yp_client.specs.Calls.{Calls};
+
+use crate::answers::Answer;
+use crate::exchange::{Called, exchange};
+use crate::fault::{ClientFault, is_spent_by};
+use crate::limits::REPLY_MAX;
+use std::alloc::Global;
+use std::marker::Model;
+use yp_io::{Pair, Sink, Source};
+use yp_msgs::Message;
+use yp_rpc::{RecordReader, RecordWriter};
+
+/// Memory ran out. The wire is handed back.
+#[derive(Drop)]
+pub struct ClientRefused<S, K> {
+    pub wire: Pair<S, K>,
+}
+
+/// A client of a YP server, over a wire of its own. It has one buffer, for its calls and their replies.
+///
+/// It is seen as its wire, the number of its next call, the place up to which it has read, and whether it is spent.
+#[derive(Drop)]
+pub struct Client<S: Source, K: Sink> {
+    alloc: Global,
+    wire: Pair<S, K>,
+    reader: RecordReader,
+    writer: RecordWriter,
+    buf: Vec<u8>,
+    xid: u32,
+    spent: bool,
+}
+
+impl<S: Source, K: Sink> Model for Client<S, K> {
+    ghost use Rattle.yp_client.specs.Moments.{Held};
+
+    ghost Value = { Held S K };
+
+    ghost use Rattle.std.specs.Prelude.{◌≡◌, [], length};
+    ghost use Rattle.yp_rpc.specs.Pieces.{not_begun};
+    ghost use Rattle.yp_client.specs.Limits.{reply_max};
+
+    ghost view = { λ c. record { wire = c.wire; xid = c.xid; place = c.reader.place; spent = c.spent } };
+
+    ghost invariant = { λ c. (c.reader.part ≡ not_begun) × (c.writer ≡ []) × (length c.buf.items ≡ reply_max) };
+}
+
+impl<S: Source, K: Sink> Client<S, K> {
+    /// A client whose calls have numbers from `xid` on, which wrap. It takes the memory of its buffers.
+    pub fn new(
+        alloc: Global,
+        wire: Pair<S, K>,
+        xid: u32,
+    ) -> Result<Client<S, K>, ClientRefused<S, K>>
+        ensures { MatchResult result
+            (λ client. client ≡ record { wire = wire; xid = xid; place = 0; spent = false })
+            (λ refused. refused.wire ≡ wire) }
+    {
+        let Ok(writer) = RecordWriter::new(alloc) else {
+            return Err(ClientRefused { wire });
+        };
+        let Ok(buf) = vec![in alloc; 0; REPLY_MAX] else {
+            return Err(ClientRefused { wire });
+        };
+        Ok(Client {
+            alloc,
+            wire,
+            reader: RecordReader::new(),
+            writer,
+            buf,
+            xid,
+            spent: false,
+        })
+    }
+
+    /// Its wire.
+    pub fn into_wire(self) -> Pair<S, K>
+        ensures { result ≡ self.wire }
+    {
+        self.wire
+    }
+
+    /// One call: it is sent, its reply is read whole, and judged.
+    pub(crate) fn call<M: Message, A: Answer>(
+        &mut self,
+        called: Called,
+        arguments: &M,
+        answer: &A,
+    ) -> Result<A::Value, ClientFault>
+        requires within { M.is_within arguments.now }
+        requires room { 40 + length (spelling M.kind (M.view arguments.now)) ≤ reply_max }
+        ensures { Calls (λ xid. call_of M.kind xid called.prog called.vers called.procedure (M.view arguments.now)) A.answers result
+            (moment_of S.input S.faults K.output K.faults self.old) (moment_of S.input S.faults K.output K.faults self.new) }
+    {
+        if self.spent {
+            return Err(ClientFault::Spent);
+        }
+        let xid = self.xid;
+        self.xid = xid.wrapping_add(1);
+        let read = exchange(
+            &mut self.wire,
+            &mut self.reader,
+            &mut self.writer,
+            &mut self.buf,
+            xid,
+            called,
+            arguments,
+        );
+        let judged = match read {
+            Ok(len) => answer.judge(self.alloc, &self.buf[..len], xid),
+            Err(fault) => Err(fault),
+        };
+        self.spent = is_spent_by(&judged);
+        judged
+    }
+}

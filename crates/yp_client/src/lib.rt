@@ -1,0 +1,19 @@
+//! Calls to a YP server over a wire (yp.x), whose answers are judged byte for byte.
+//!
+//! Each call sends one record, reads the whole record of its reply, and answers what the bytes of that say, or the first
+//! refusal that they meet. The promise stands on the calls of [`Client`], which all have one contract at different kinds
+//! of results.
+#![tactic(auto)]
+
+mod answers;
+mod client;
+mod exchange;
+mod fault;
+pub mod limits;
+mod procedures;
+#[cfg(test)]
+mod tests;
+
+pub use answers::Row;
+pub use client::{Client, ClientRefused};
+pub use fault::ClientFault;

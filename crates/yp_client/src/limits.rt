@@ -1,0 +1,4 @@
+//! The limits of a reply that a client reads.
+
+/// The most bytes of a reply, and of a call. The buffer of a client has as many.
+pub const REPLY_MAX: usize = 262_144;

@@ -1,0 +1,244 @@
+//! The procedures of YP version 2 (yp.x), but for ALL, and of the make program.
+
+ghost use Rattle.std.specs.Prelude.{◌≡◌, ◌≤◌, [], length};
+ghost use Rattle.yp_xdr.specs.Kind.{Fixed};
+ghost use Rattle.yp_msgs.specs.Numbers.{name_max, key_max};
+ghost use Rattle.yp_msgs.specs.Transfers.{req_xfr_view, ReqXfrIsWithin};
+ghost use Rattle.yp_client.specs.Results.{nothing_of, served_of, value_of, row_of, master_of, order_of, maps_of, taken_of, made_of};
+ghost use Rattle.yp_client.specs.Said.{SaysNothing, SaysBool, SaysNumber, SaysBytes, SaysRow, SaysNames, SaysStat};
+ghost use Rattle.yp_client.specs.Asked.{null_call, clear_call, domain_call, maplist_call, first_call, master_call, order_call};
+ghost use Rattle.yp_client.specs.Asked.{match_call, next_call, xfr_call, make_call};
+ghost use Rattle.yp_client.specs.Moments.{moment_of};
+ghost use Rattle.yp_client.specs.Calls.{Calls};
+
+use crate::answers::{
+    Found, Listed, Made, Mastered, Matched, Nothing, Ordered, Row, Served, Taken,
+};
+use crate::client::Client;
+use crate::exchange::Called;
+use crate::fault::ClientFault;
+use yp_io::{Sink, Source};
+use yp_msgs::protocol::{
+    CLEAR, DOMAIN, FIRST, MAKE, MAKEPROG, MAKEVERS, MAPLIST, MASTER, MATCH, NEXT, NULL, ORDER, XFR,
+    YPPROG, YPVERS,
+};
+use yp_msgs::{MapList, Message, ReqDomain, ReqKey, ReqMake, ReqNokey, ReqXfr, XfrStat};
+
+/// No arguments.
+struct NoArguments;
+
+impl Message for NoArguments {
+    ghost kind = { Fixed 0 };
+
+    ghost view = { λ _. [] };
+
+    ghost is_within = { λ _. Unit {0} };
+
+    fn len(&self) -> usize {
+        0
+    }
+
+    fn set(&self, _buf: &mut [u8], at: usize) -> usize {
+        at
+    }
+}
+
+/// Each call sends one record with the next number, and reads the record of its reply to its end.
+impl<S: Source, K: Sink> Client<S, K> {
+    /// NULL: whether the server answers.
+    pub fn ping(&mut self) -> Result<(), ClientFault>
+        ensures { Calls (null_call) (SaysNothing nothing_of) result
+            (moment_of S.input S.faults K.output K.faults self.old) (moment_of S.input S.faults K.output K.faults self.new) }
+    {
+        self.call(
+            Called {
+                prog: YPPROG,
+                vers: YPVERS,
+                procedure: NULL,
+            },
+            &NoArguments,
+            &Nothing,
+        )
+    }
+
+    /// DOMAIN: whether the domain is served.
+    pub fn domain(&mut self, domain: &[u8]) -> Result<bool, ClientFault>
+        requires { length domain.now ≤ name_max }
+        ensures { Calls (domain_call domain.now) (SaysBool served_of) result
+            (moment_of S.input S.faults K.output K.faults self.old) (moment_of S.input S.faults K.output K.faults self.new) }
+    {
+        self.call(
+            Called {
+                prog: YPPROG,
+                vers: YPVERS,
+                procedure: DOMAIN,
+            },
+            &ReqDomain { domain },
+            &Served,
+        )
+    }
+
+    /// MATCH: the value of a key.
+    pub fn match_key(
+        &mut self,
+        domain: &[u8],
+        map: &[u8],
+        key: &[u8],
+    ) -> Result<Vec<u8>, ClientFault>
+        requires domain { length domain.now ≤ name_max }
+        requires map { length map.now ≤ name_max }
+        requires key { length key.now ≤ key_max }
+        ensures { Calls (match_call domain.now map.now key.now) (SaysBytes value_of) result
+            (moment_of S.input S.faults K.output K.faults self.old) (moment_of S.input S.faults K.output K.faults self.new) }
+    {
+        self.call(
+            Called {
+                prog: YPPROG,
+                vers: YPVERS,
+                procedure: MATCH,
+            },
+            &ReqKey { domain, map, key },
+            &Matched,
+        )
+    }
+
+    /// FIRST: the first row of a map.
+    pub fn first(&mut self, domain: &[u8], map: &[u8]) -> Result<Row, ClientFault>
+        requires domain { length domain.now ≤ name_max }
+        requires map { length map.now ≤ name_max }
+        ensures { Calls (first_call domain.now map.now) (SaysRow row_of) result
+            (moment_of S.input S.faults K.output K.faults self.old) (moment_of S.input S.faults K.output K.faults self.new) }
+    {
+        self.call(
+            Called {
+                prog: YPPROG,
+                vers: YPVERS,
+                procedure: FIRST,
+            },
+            &ReqNokey { domain, map },
+            &Found,
+        )
+    }
+
+    /// NEXT: the row behind that of a key.
+    pub fn next(&mut self, domain: &[u8], map: &[u8], key: &[u8]) -> Result<Row, ClientFault>
+        requires domain { length domain.now ≤ name_max }
+        requires map { length map.now ≤ name_max }
+        requires key { length key.now ≤ key_max }
+        ensures { Calls (next_call domain.now map.now key.now) (SaysRow row_of) result
+            (moment_of S.input S.faults K.output K.faults self.old) (moment_of S.input S.faults K.output K.faults self.new) }
+    {
+        self.call(
+            Called {
+                prog: YPPROG,
+                vers: YPVERS,
+                procedure: NEXT,
+            },
+            &ReqKey { domain, map, key },
+            &Found,
+        )
+    }
+
+    /// MASTER: the name of the map's master.
+    pub fn master(&mut self, domain: &[u8], map: &[u8]) -> Result<Vec<u8>, ClientFault>
+        requires domain { length domain.now ≤ name_max }
+        requires map { length map.now ≤ name_max }
+        ensures { Calls (master_call domain.now map.now) (SaysBytes master_of) result
+            (moment_of S.input S.faults K.output K.faults self.old) (moment_of S.input S.faults K.output K.faults self.new) }
+    {
+        self.call(
+            Called {
+                prog: YPPROG,
+                vers: YPVERS,
+                procedure: MASTER,
+            },
+            &ReqNokey { domain, map },
+            &Mastered,
+        )
+    }
+
+    /// ORDER: the order number of a map.
+    pub fn order(&mut self, domain: &[u8], map: &[u8]) -> Result<u32, ClientFault>
+        requires domain { length domain.now ≤ name_max }
+        requires map { length map.now ≤ name_max }
+        ensures { Calls (order_call domain.now map.now) (SaysNumber order_of) result
+            (moment_of S.input S.faults K.output K.faults self.old) (moment_of S.input S.faults K.output K.faults self.new) }
+    {
+        self.call(
+            Called {
+                prog: YPPROG,
+                vers: YPVERS,
+                procedure: ORDER,
+            },
+            &ReqNokey { domain, map },
+            &Ordered,
+        )
+    }
+
+    /// MAPLIST: the maps of a domain.
+    pub fn maplist(&mut self, domain: &[u8]) -> Result<MapList, ClientFault>
+        requires { length domain.now ≤ name_max }
+        ensures { Calls (maplist_call domain.now) (SaysNames maps_of) result
+            (moment_of S.input S.faults K.output K.faults self.old) (moment_of S.input S.faults K.output K.faults self.new) }
+    {
+        self.call(
+            Called {
+                prog: YPPROG,
+                vers: YPVERS,
+                procedure: MAPLIST,
+            },
+            &ReqDomain { domain },
+            &Listed,
+        )
+    }
+
+    /// CLEAR: has the server close its maps.
+    pub fn clear(&mut self) -> Result<(), ClientFault>
+        ensures { Calls (clear_call) (SaysNothing nothing_of) result
+            (moment_of S.input S.faults K.output K.faults self.old) (moment_of S.input S.faults K.output K.faults self.new) }
+    {
+        self.call(
+            Called {
+                prog: YPPROG,
+                vers: YPVERS,
+                procedure: CLEAR,
+            },
+            &NoArguments,
+            &Nothing,
+        )
+    }
+
+    /// XFR: has the server fetch a map.
+    pub fn xfr(&mut self, request: &ReqXfr<'_>) -> Result<XfrStat, ClientFault>
+        requires { ReqXfrIsWithin request.now }
+        ensures { Calls (xfr_call (req_xfr_view request.now)) (SaysStat taken_of) result
+            (moment_of S.input S.faults K.output K.faults self.old) (moment_of S.input S.faults K.output K.faults self.new) }
+    {
+        self.call(
+            Called {
+                prog: YPPROG,
+                vers: YPVERS,
+                procedure: XFR,
+            },
+            request,
+            &Taken,
+        )
+    }
+
+    /// MAKE of the make program: has the server make a map anew, by the number of its kind.
+    pub fn make(&mut self, domain: &[u8], kind: u32) -> Result<XfrStat, ClientFault>
+        requires { length domain.now ≤ name_max }
+        ensures { Calls (make_call domain.now kind) (SaysStat made_of) result
+            (moment_of S.input S.faults K.output K.faults self.old) (moment_of S.input S.faults K.output K.faults self.new) }
+    {
+        self.call(
+            Called {
+                prog: MAKEPROG,
+                vers: MAKEVERS,
+                procedure: MAKE,
+            },
+            &ReqMake { domain, kind },
+            &Made,
+        )
+    }
+}

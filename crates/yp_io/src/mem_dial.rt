@@ -1,0 +1,167 @@
+//! A dial in memory.
+
+ghost use Rattle.std.specs.Prelude.{◌≡◌, ◌≢◌, ℕ, ◌+◌, ◌≤◌, ◌<◌, true, false, [], ◌∷◌, ◌++◌, length, map, min, Some, All, Contains, IsErr, IfOk, IfSome, IfNone, OnOk, OnErr};
+ghost use Rattle.yp_io.specs.Counts.{CountsFaults, next_count, faults_after, last_count};
+ghost use Rattle.yp_io.specs.Dials.{Comes, GoesBack, Gains, IsFresh};
+ghost use Rattle.yp_io.specs.MemDial.{IsNew, ended_of, wires_of, letter_of};
+
+use crate::dial::{Dial, Letter};
+use crate::mem::{MemSink, MemSource, MemWire};
+use crate::plan::Plan;
+use crate::stream::{Failed, Pair, Peer, count_fault};
+use std::alloc::Global;
+use std::marker::Model;
+
+/// A dial in memory, which tells its wires and letters.
+#[derive(Drop)]
+pub struct MemDial {
+    alloc: Global,
+    waiting: Vec<MemWire>,
+    came: Vec<Vec<u8>>,
+    // has room for as many wires as came
+    back: Vec<MemWire>,
+    lost: bool,
+    letters: Vec<Letter>,
+    plan: Plan,
+}
+
+impl Model for MemDial {
+    ghost use Rattle.yp_io.specs.MemDial.{Exchange};
+
+    ghost Value = { Exchange };
+
+    ghost use Rattle.std.specs.Prelude.{◌≤◌, length, map, All, vec_capacity};
+    ghost use Rattle.yp_io.specs.MemDial.{IsNew, letter_of};
+
+    ghost view = { λ d. record {
+      waiting = d.waiting.items;
+      came = map (λ input. input.items) d.came.items;
+      back = d.back.items;
+      lost = d.lost;
+      letters = map letter_of d.letters.items;
+      failing = d.plan.failing.items;
+      calls = d.plan.calls;
+      faults = d.plan.faults;
+    } };
+
+    ghost invariant = { λ d. (All IsNew d.waiting.items) × (length d.came.items ≤ vec_capacity d.back) };
+}
+
+impl MemDial {
+    /// Gives these wires in turn; a dial with no wire left is a fault. A call whose number, from 0, stands in `failing`
+    /// fails. The wires have met no fault and taken nothing.
+    pub fn new(alloc: Global, wires: Vec<MemWire>, failing: Vec<u64>) -> MemDial
+        requires { All IsNew wires.items }
+        ensures { result ≡ record { waiting = wires.items; came = []; back = []; lost = false; letters = []; failing = failing.items; calls = 0; faults = 0 } }
+    {
+        MemDial {
+            alloc,
+            waiting: wires,
+            came: Vec::new(alloc),
+            back: Vec::new(alloc),
+            lost: false,
+            letters: Vec::new(alloc),
+            plan: Plan::new(failing),
+        }
+    }
+
+    // The next wire, of whose input a copy is kept, unless none is left or memory has run out.
+    fn next_wire(&mut self) -> Option<MemWire>
+        ensures fresh { IfSome result IsNew }
+        ensures first { IfSome result (λ wire. self.old.waiting ≡ wire ∷ self.new.waiting) }
+        ensures came { IfSome result (λ wire. self.new ≡ record self.old { waiting = self.new.waiting; came = self.old.came ++ wire.source.input ∷ [] }) }
+        ensures none { IfNone result (self.new ≡ self.old) }
+    {
+        let first = self.waiting.first()?;
+        let input = Vec::from_slice(self.alloc, first.source.left()).ok()?;
+        self.back.reserve(self.came.len() + 1).ok()?;
+        self.came.push(input).ok()?;
+        Some(self.waiting.remove(0))
+    }
+
+    /// The wires that were given back.
+    pub fn past(&self) -> &[MemWire]
+        ensures { result.now ≡ self.now.back }
+    {
+        &self.back
+    }
+
+    /// The datagrams that were sent.
+    pub fn letters(&self) -> &[Letter]
+        ensures { map letter_of result.now ≡ self.now.letters }
+    {
+        &self.letters
+    }
+}
+
+impl Dial for MemDial {
+    type In = MemSource;
+
+    type Out = MemSink;
+
+    ghost past = { wires_of };
+
+    ghost letters = { λ d. Some d.letters };
+
+    ghost faults = { λ d. d.faults };
+
+    /// It also fails where memory has run out.
+    fn dial(&mut self, to: Peer) -> Result<MemWire, Failed>
+        ensures fresh { IfOk result IsNew }
+        ensures came { IfOk result (λ wire. Comes (Some wire.source.input) (wires_of self.old) (wires_of self.new)) }
+        ensures none { OnErr result (wires_of self.new ≡ wires_of self.old) }
+        ensures letters { Some self.new.letters ≡ Some self.old.letters }
+        ensures cause { CountsFaults self.old.faults self.new.faults result }
+        ensures fails { Contains self.old.failing self.old.calls → IsErr result }
+        ensures first { IfOk result (λ wire. self.old.waiting ≡ wire ∷ self.new.waiting) }
+        ensures others { self.new ≡ record self.old {
+          waiting = self.new.waiting;
+          came = self.new.came;
+          calls = next_count self.old.calls;
+          faults = faults_after self.old.faults result;
+        } }
+    {
+        self.plan.start_call()?;
+        let Some(wire) = self.next_wire() else {
+            return Err(count_fault(&mut self.plan.faults));
+        };
+        Ok(wire)
+    }
+
+    /// It also fails where memory has run out.
+    fn post(&mut self, to: Peer, piece: &[u8]) -> Result<(), Failed>
+        ensures sent { OnOk result (Gains (to, piece.now) (Some self.old.letters) (Some self.new.letters)) }
+        ensures none { OnErr result (Some self.new.letters ≡ Some self.old.letters) }
+        ensures past { wires_of self.new ≡ wires_of self.old }
+        ensures cause { CountsFaults self.old.faults self.new.faults result }
+        ensures fails { Contains self.old.failing self.old.calls → IsErr result }
+        ensures others { self.new ≡ record self.old {
+          letters = self.new.letters;
+          calls = next_count self.old.calls;
+          faults = faults_after self.old.faults result;
+        } }
+    {
+        self.plan.start_call()?;
+        let Ok(bytes) = Vec::from_slice(self.alloc, piece) else {
+            return Err(count_fault(&mut self.plan.faults));
+        };
+        match self.letters.push(Letter { peer: to, bytes }) {
+            Ok(()) => Ok(()),
+            Err(_) => Err(count_fault(&mut self.plan.faults)),
+        }
+    }
+
+    fn back(&mut self, wire: MemWire)
+        ensures past { GoesBack (ended_of wire) (wires_of self.old) (wires_of self.new) }
+        ensures letters { Some self.new.letters ≡ Some self.old.letters }
+        ensures faults { min (self.old.faults + wire.source.faults + wire.sink.faults) last_count ≤ self.new.faults }
+    {
+        let faults = wire.source.faults().saturating_add(wire.sink.faults());
+        self.plan.faults = self.plan.faults.saturating_add(faults);
+        if self.back.len() < self.came.len() {
+            self.back.push_reserved(wire);
+        } else {
+            self.lost = true;
+        }
+    }
+}

@@ -1,0 +1,17 @@
+-- What holds of logs and versions, whatever the publisher.
+use Rattle.std.specs.Prelude.{List, ◌∷◌, Option}
+use Rattle.std.specs.List.{AllByRecursion}
+use Rattle.yp_version.specs.Versions.{MapVersion}
+use Rattle.yp_board.specs.Logs.{starts}
+use Rattle.yp_publish.specs.Standing.{Shows}
+use Rattle.yp_publish.specs.Rising.{Moment, IsRisingLog, Follow, IsStart}
+
+-- From maps that are all level, and a log with at most one version of each, installs that aren't forced and reopens
+-- leave a log that rises.
+abbrev pub LogRises : Type 0
+LogRises = (first : Moment) (moments : List Moment) → IsStart first → Follow first moments
+    → AllByRecursion (λ moment. IsRisingLog moment.log) (first ∷ moments)
+
+-- the log that begins with versions shows exactly them
+abbrev pub StartsAreShown : Type 0
+StartsAreShown = (versions : List (Option MapVersion)) → Shows (starts 0 versions) versions

@@ -1,0 +1,22 @@
+//! Stored maps that are shown on a board: a version is installed by storing it first and then showing it.
+//!
+//! How each map stands is a fact of the type [`Publisher`]: whatever a crash may leave of a level map's file stands for
+//! the version that is shown of it, and of a map that is behind for that version or for the one whose install failed.
+//! So no board is ever ahead of its files. [`Publisher::standing`] tells it, and [`Publisher::install`] and
+//! [`Publisher::reopen`] say it of each moment inside them; they rest on the calls of `yp_slot`. [`laws`] say that logs
+//! rise.
+#![tactic(auto)]
+
+mod install;
+pub mod laws;
+mod loaded;
+mod publisher;
+mod same;
+mod spelled;
+mod stored;
+#[cfg(test)]
+mod tests;
+
+pub use install::{InstallFault, Installed, Origin};
+pub use loaded::{Loaded, StartRefused, load_all};
+pub use publisher::{Publisher, Standing};

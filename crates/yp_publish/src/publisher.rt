@@ -1,0 +1,318 @@
+//! Publishers: maps with their files, and the board on which their versions are shown.
+
+ghost use Rattle.std.specs.Prelude.{◌≡◌, ◌≢◌, ◌⊎◌, ◌+◌, ◌<◌, ◌≤◌, ◌++◌, ◌∷◌, [], ℕ, false, map, length, slice_get, OnOk, OnErr, IfOk, IfErr, IfSome, IsOk, IsSome, IsTrue, IsErrOf, Some, None, option_map};
+ghost use Rattle.std.specs.Arc.{arc_value};
+ghost use Rattle.yp_io.specs.Counts.{HasRisen};
+ghost use Rattle.yp_io.specs.Disk.{LeavesOnly};
+ghost use Rattle.yp_version.specs.Versions.{MapVersion};
+ghost use Rattle.yp_slot.specs.Bodies.{IsBody};
+ghost use Rattle.yp_board.specs.Logs.{shown};
+ghost use Rattle.yp_publish.specs.Standing.{Level, StandsAs, IsStanding, OfMap, At, IsSameElsewhere, versions, Shows, standing_name};
+ghost use Rattle.yp_publish.specs.Installs.{offer, refusal, IsCause, is_refusal, IsInstalled, IsUnsure, IsUnshown, LeavesEither, LeavesFew};
+ghost use Rattle.yp_publish.specs.Opens.{IsOutside, IsAnother, IsWhatStood, LeavesNoMore};
+ghost use Rattle.yp_publish.specs.Rising.{moment_of, with_shown, InstallsNewer, Stores, Reopens};
+
+use crate::install::{InstallFault, Installed, Origin};
+use crate::loaded::{Loaded, give_back};
+use crate::spelled::Spelled;
+use crate::stored::StoredMap;
+use std::alloc::Global;
+use std::marker::Model;
+use std::random::RandomSource;
+use std::sync::Arc;
+use yp_board::{Catalog, Show};
+use yp_io::Disk;
+use yp_slot::SlotFault;
+use yp_version::Version;
+
+/// How a map stands.
+#[derive(Clone, Copy, Debug, PartialEq, Eq)]
+pub enum Standing {
+    /// A crash leaves the version that is shown.
+    Level,
+    /// A crash leaves that version or the one whose install failed.
+    Behind,
+}
+
+/// Maps with their files, in the order of a catalogue, and the board on which their versions are shown.
+#[derive(Drop)]
+pub struct Publisher<D: Disk, B: Show> {
+    catalog: Catalog,
+    maps: Vec<StoredMap<D>>,
+    // Empty, with room for the disks.
+    disks: Vec<D>,
+    board: B,
+}
+
+impl<D: Disk, B: Show> Model for Publisher<D, B> {
+    ghost use Rattle.std.specs.Prelude.{◌≡◌, [], length, vec_capacity};
+    ghost use Rattle.yp_publish.specs.Standing.{Published};
+    ghost use Rattle.yp_publish.specs.Starts.{IsPublisher};
+
+    ghost Value = { Published D B };
+
+    ghost view = { λ p. record { catalogue = p.catalog; maps = p.maps.items; board = p.board } };
+
+    ghost invariant = { λ p. (p.disks.items ≡ [])
+        × IsPublisher p.maps.items (length p.catalog.maps) (B.log p.board) (B.maps p.board) (vec_capacity p.disks) };
+}
+
+impl<D: Disk, B: Show> Publisher<D, B> {
+    /// A publisher of what was loaded, in the order of a catalogue, on a board that shows exactly that.
+    pub fn new(loaded: Loaded<D>, catalog: Catalog, board: B) -> Publisher<D, B>
+        requires maps { length loaded ≡ length catalog.maps }
+        requires board { B.maps board ≡ length catalog.maps }
+        requires shown { Shows (B.log board) (versions loaded) }
+        ensures { result ≡ record { catalogue = catalog; maps = loaded; board = board } }
+    {
+        let Loaded { maps, disks } = loaded;
+        Publisher {
+            catalog,
+            maps,
+            disks,
+            board,
+        }
+    }
+
+    /// Its disks, in the order of their maps, and its board. It takes no memory.
+    pub fn into_parts(self) -> (Vec<D>, B)
+        ensures disks { result.0.items ≡ map (λ kept. kept.disk) self.maps }
+        ensures board { result.1 ≡ self.board }
+        ensures shown { Shows (B.log result.1) (versions self.maps) }
+        ensures standing { (number : ℕ) → OfMap number self.maps (IsStanding D.history) }
+    {
+        let Publisher {
+            catalog: _,
+            maps,
+            disks,
+            board,
+        } = self;
+        (give_back(disks, maps), board)
+    }
+
+    /// The maps that are served.
+    pub fn catalog(&self) -> &Catalog
+        ensures catalogue { result.now ≡ self.now.catalogue }
+        ensures maps { length self.now.maps ≡ length self.now.catalogue.maps }
+        ensures board { B.maps self.now.board ≡ length self.now.catalogue.maps }
+    {
+        &self.catalog
+    }
+
+    /// The version that is shown of a map.
+    pub fn shown(&self, map: u32) -> Option<&Arc<Version>>
+        requires { map < length self.now.maps }
+        ensures version { option_map (λ version. arc_value version.now) result ≡ shown map (B.log self.now.board) }
+        ensures kept { OfMap map self.now.maps (λ kept. kept.version ≡ shown map (B.log self.now.board)) }
+    {
+        let stored = &self.maps[map as usize];
+        stored.version()
+    }
+
+    /// The generation of a map's file when it was known last, and 0 where nothing was stored then.
+    pub fn generation(&self, map: u32) -> u64
+        requires { map < length self.now.maps }
+        ensures { OfMap map self.now.maps (λ kept. result ≡ kept.generation) }
+    {
+        let stored = &self.maps[map as usize];
+        stored.generation()
+    }
+
+    /// How a map stands. Whatever a crash may leave of its file now stands so.
+    pub fn standing(&self, map: u32) -> Standing
+        requires { map < length self.now.maps }
+        ensures name { OfMap map self.now.maps (λ kept. result ≡ standing_name kept.standing) }
+
+        // The board is never ahead of the file.
+        ensures standing { OfMap map self.now.maps (IsStanding D.history) }
+        ensures shown { OfMap map self.now.maps (λ kept. kept.version ≡ shown map (B.log self.now.board)) }
+    {
+        let stored = &self.maps[map as usize];
+        stored.standing()
+    }
+
+    /// Stores a version of a map, and then shows it. At each moment of the call a crash leaves a file that stands for
+    /// what is shown or for that version.
+    ///
+    /// After a fault that comes before the disk is called nothing has changed. After `DiskFault`, and where memory runs
+    /// out once the version is stored, the map is behind, and has to be opened again.
+    pub fn install(
+        &mut self,
+        alloc: Global,
+        map: u32,
+        version: Version,
+        origin: Origin,
+        force: bool,
+    ) -> Result<Installed, InstallFault>
+        requires { map < length self.old.maps }
+
+        // Why it isn't installed, the first reason that applies.
+        ensures accepted { OnOk result (OfMap map self.old.maps
+            (λ kept. refusal self.old.catalogue.own (offer version origin force) kept ≡ None)) }
+        ensures refused { IfErr result (λ fault. OfMap map self.old.maps
+            (λ kept. IsCause fault (refusal self.old.catalogue.own (offer version origin force) kept))) }
+        ensures cause { IsErrOf result InstallFault.DiskFault → At map self.old.maps self.new.maps
+            (λ before after. HasRisen (D.faults before.disk) (D.faults after.disk)) }
+        ensures never_falls { At map self.old.maps self.new.maps
+            (λ before after. D.faults before.disk ≤ D.faults after.disk) }
+
+        // After Ok the version is stored and shown.
+        ensures installed { OnOk result (At map self.old.maps self.new.maps (IsInstalled version)) }
+        ensures answer { IfOk result (λ installed. OfMap map self.old.maps
+            (λ kept. installed ≡ record { order = version.order; generation = kept.generation + 1 })) }
+        ensures log { OnOk result (B.log self.new.board ≡ with_shown map version (B.log self.old.board)) }
+        ensures showed { OnOk result (B.showed map version self.old.board self.new.board) }
+
+        // What a fault leaves.
+        ensures not_shown { OnErr result (self.new.board ≡ self.old.board) }
+        ensures unchanged { IfErr result (λ fault. IsTrue (is_refusal fault) → self.new ≡ self.old) }
+        ensures disk_fault { IsErrOf result InstallFault.DiskFault
+            → At map self.old.maps self.new.maps (IsUnsure version) }
+        ensures no_memory { IsErrOf result InstallFault.NoMemory
+            → (self.new ≡ self.old) ⊎ At map self.old.maps self.new.maps (IsUnshown version) }
+
+        // At each moment of the call, and after it.
+        ensures any_moment { At map self.old.maps self.new.maps
+            (λ before after. before.standing ≡ Level → LeavesEither D.history version before after) }
+        ensures bound { At map self.old.maps self.new.maps (LeavesFew D.history) }
+        ensures standing { OfMap map self.new.maps (IsStanding D.history) }
+        ensures shown { Shows (B.log self.new.board) (versions self.new.maps) }
+        ensures elsewhere { IsSameElsewhere map self.old.maps self.new.maps }
+        ensures catalogue { self.new.catalogue ≡ self.old.catalogue }
+
+        // Where it isn't forced, the log goes on rising.
+        ensures rising { force ≡ false
+            → InstallsNewer map version (moment_of B.log self.old) (moment_of B.log self.new) }
+    {
+        self.check(alloc, map, &version, origin, force)?;
+        let order = version.order();
+        let spelled = Spelled::new(alloc, version)?;
+        let generation = self.store(map, spelled)?;
+        Ok(Installed { order, generation })
+    }
+
+    /// Refuses what is offered of a map, for the first reason that applies.
+    fn check(
+        &self,
+        alloc: Global,
+        map: u32,
+        version: &Version,
+        origin: Origin,
+        force: bool,
+    ) -> Result<(), InstallFault>
+        requires { map < length self.now.maps }
+        ensures accepted { OnOk result (OfMap map self.now.maps
+            (λ kept. refusal self.now.catalogue.own (offer version.now origin force) kept ≡ None)) }
+        ensures refused { IfErr result (λ fault. OfMap map self.now.maps
+            (λ kept. IsCause fault (refusal self.now.catalogue.own (offer version.now origin force) kept))) }
+        ensures no_disk { IsErrOf result InstallFault.DiskFault → ⊥ }
+        ensures generation { OnOk result (OfMap map self.now.maps
+            (λ kept. kept.generation < 18446744073709551615)) }
+
+        // While nothing is done, nothing changes.
+        ensures any_moment { At map self.now.maps self.now.maps
+            (λ before after. before.standing ≡ Level → LeavesEither D.history version.now before after) }
+        ensures bound { At map self.now.maps self.now.maps (LeavesFew D.history) }
+        ensures never_falls { At map self.now.maps self.now.maps
+            (λ before after. D.faults before.disk ≤ D.faults after.disk) }
+        ensures standing { OfMap map self.now.maps (IsStanding D.history) }
+        ensures shown { Shows (B.log self.now.board) (versions self.now.maps) }
+    {
+        let stored = &self.maps[map as usize];
+        stored.rest();
+        stored.refuse(alloc, self.catalog.own(), version, origin, force)
+    }
+
+    /// Stores a version of a level map, and then shows it.
+    fn store(&mut self, map: u32, spelled: Spelled) -> Result<u64, InstallFault>
+        requires map { map < length self.old.maps }
+        requires level { OfMap map self.old.maps (λ kept. kept.standing ≡ Level) }
+        requires generation { OfMap map self.old.maps (λ kept. kept.generation < 18446744073709551615) }
+        requires body { IsBody spelled.body.items (arc_value spelled.stored) }
+        requires shown { arc_value spelled.shown ≡ arc_value spelled.stored }
+        ensures fault { IfErr result (λ fault. (fault ≡ InstallFault.DiskFault) ⊎ (fault ≡ InstallFault.NoMemory)) }
+        ensures cause { IsErrOf result InstallFault.DiskFault → At map self.old.maps self.new.maps
+            (λ before after. HasRisen (D.faults before.disk) (D.faults after.disk)) }
+        ensures never_falls { At map self.old.maps self.new.maps
+            (λ before after. D.faults before.disk ≤ D.faults after.disk) }
+        ensures installed { OnOk result
+            (At map self.old.maps self.new.maps (IsInstalled (arc_value spelled.stored))) }
+        ensures answer { IfOk result (λ generation. OfMap map self.old.maps
+            (λ kept. generation ≡ kept.generation + 1)) }
+        ensures log { OnOk result
+            (B.log self.new.board ≡ with_shown map (arc_value spelled.stored) (B.log self.old.board)) }
+        ensures showed { OnOk result
+            (B.showed map (arc_value spelled.stored) self.old.board self.new.board) }
+        ensures not_shown { OnErr result (self.new.board ≡ self.old.board) }
+        ensures disk_fault { IsErrOf result InstallFault.DiskFault
+            → At map self.old.maps self.new.maps (IsUnsure (arc_value spelled.stored)) }
+        ensures no_memory { IsErrOf result InstallFault.NoMemory
+            → At map self.old.maps self.new.maps (IsUnshown (arc_value spelled.stored)) }
+        ensures any_moment { At map self.old.maps self.new.maps
+            (LeavesEither D.history (arc_value spelled.stored)) }
+        ensures bound { At map self.old.maps self.new.maps (LeavesFew D.history) }
+        ensures standing { OfMap map self.new.maps (IsStanding D.history) }
+        ensures shown { Shows (B.log self.new.board) (versions self.new.maps) }
+        ensures elsewhere { IsSameElsewhere map self.old.maps self.new.maps }
+        ensures catalogue { self.new.catalogue ≡ self.old.catalogue }
+        ensures stores { Stores map (arc_value spelled.stored) (moment_of B.log self.old) (moment_of B.log self.new) }
+    {
+        let stored = &mut self.maps[map as usize];
+        stored.install(&mut self.board, map, spelled)
+    }
+
+    /// Opens the file of a map that is behind again, and shows what stands there where that isn't what is shown. The
+    /// map is level then. After a refusal it is still behind. Where the map is level, nothing is done.
+    pub fn reopen(
+        &mut self,
+        alloc: Global,
+        rt: &impl RandomSource,
+        map: u32,
+    ) -> Result<(), SlotFault>
+        requires { map < length self.old.maps }
+
+        // A level map stays as it is.
+        ensures level { OfMap map self.old.maps (λ kept. kept.standing ≡ Level)
+            → IsOk result × (self.new ≡ self.old) }
+
+        // After Ok the map is level with what its file stood for, and that is shown.
+        ensures ok { OnOk result (OfMap map self.new.maps (λ kept. kept.standing ≡ Level)) }
+        ensures stood { OnOk result (At map self.old.maps self.new.maps
+            (λ before after. before.standing ≢ Level → IsWhatStood D.history before.disk after)) }
+        ensures log { OnOk result (At map self.old.maps self.new.maps (λ before after.
+            ((self.new.board ≡ self.old.board) × (after.version ≡ before.version))
+            ⊎ ((version : MapVersion) × IsAnother version before after
+            × (B.log self.new.board ≡ with_shown map version (B.log self.old.board))
+            × B.showed map version self.old.board self.new.board))) }
+
+        // What a refusal leaves.
+        ensures still_behind { OnErr result (At map self.old.maps self.new.maps (λ before after.
+            after ≡ record before { disk = after.disk; generation = after.generation })) }
+        ensures not_shown { OnErr result (self.new.board ≡ self.old.board) }
+        ensures outside { IfErr result (λ fault. OfMap map self.old.maps
+            (λ kept. IsSome (D.history kept.disk) → IsOutside fault)) }
+        ensures cause { IsErrOf result SlotFault.DiskFault → At map self.old.maps self.new.maps
+            (λ before after. HasRisen (D.faults before.disk) (D.faults after.disk)) }
+        ensures never_falls { At map self.old.maps self.new.maps
+            (λ before after. D.faults before.disk ≤ D.faults after.disk) }
+
+        // At each moment of the call, and after it.
+        ensures any_moment { At map self.old.maps self.new.maps (λ before after.
+            LeavesOnly (D.history before.disk) (D.history after.disk) (StandsAs before.standing before.version)) }
+        ensures no_more { At map self.old.maps self.new.maps
+            (λ before after. LeavesNoMore D.history before.disk after.disk) }
+        ensures bound { At map self.old.maps self.new.maps (LeavesFew D.history) }
+        ensures standing { OfMap map self.new.maps (IsStanding D.history) }
+        ensures shown { Shows (B.log self.new.board) (versions self.new.maps) }
+        ensures elsewhere { IsSameElsewhere map self.old.maps self.new.maps }
+        ensures catalogue { self.new.catalogue ≡ self.old.catalogue }
+
+        // The log goes on rising, where the disk tells its history.
+        ensures rising { OfMap map self.old.maps (λ kept. IsSome (D.history kept.disk))
+            → Reopens map (moment_of B.log self.old) (moment_of B.log self.new) }
+    {
+        yp_slot::laws::file_is_bounded();
+        let stored = &mut self.maps[map as usize];
+        stored.reopen(alloc, rt, &mut self.board, map)
+    }
+}

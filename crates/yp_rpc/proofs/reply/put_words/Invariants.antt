@@ -1,8 +1,0 @@
--- How far `put_words` has come.
-use Rattle.std.proofs.Common.{take}
-use Rattle.yp_xdr.specs.Writing.{Sets}
-use Rattle.yp_rpc.specs.Reply.{words}
-use Rattle.yp_rpc.proofs.reply.put_words.Given as goal
-
-abbrev pub invariant-loop-number : goal.invariant-loop-number
-invariant-loop-number l = Sets (words (take l.number-index l.numbers)) 0 l.at l.initial.buf l.buf

@@ -1,0 +1,11 @@
+use Rattle.std.proofs.Common.{◌∙◌, ap}
+use Rattle.yp_board.specs.Catalogues.{Catalogue}
+use Rattle.yp_server.proofs.Building.{if_ok, follows_at}
+use Rattle.yp_server.proofs.local.build_for.Goals as goal
+
+pub returns-clause-follows : goal.returns-clause-follows
+returns-clause-follows g c =
+    if_ok c.build_anew.result
+    (λ version anew. follows_at _ _ _ version _ _ c.args.map _ anew
+    (c.own-own.ensures.own ∙ ap (λ (k : Catalogue). k.own) c.catalog.ensures.catalogue) c.held-shown.ensures.version c.held-shown.ensures.kept)
+    c.build_anew.ensures.anew

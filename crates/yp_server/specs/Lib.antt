@@ -1,0 +1,4 @@
+pub mod Locals
+pub mod Anew
+pub mod Steps
+pub mod Made

@@ -1,0 +1,16 @@
+//! A host over stored maps: it answers what is shown of them, and makes maps anew.
+//!
+//! What the making of a map does to the maps, their files and the board, and with which status, stands on
+//! [`LocalHost`] as a [`Host`](yp_session::Host): the relation `made` of its `make`. Its steps, one for each reason why a
+//! map isn't made, have contracts of their own.
+#![tactic(auto)]
+
+mod anew;
+mod desk;
+mod local;
+mod steps;
+#[cfg(test)]
+mod tests;
+
+pub use desk::Desk;
+pub use local::LocalHost;

@@ -1,0 +1,227 @@
+//! A host of one thread.
+
+ghost use Rattle.std.specs.Prelude.{◌≡◌, ◌<◌, false, None, length, option_map, OnOk, IfOk, IfErr, IsTrue};
+ghost use Rattle.std.proofs.Common.{ap};
+ghost use Rattle.yp_io.specs.Counts.{next_count};
+ghost use Rattle.yp_board.specs.Logs.{shown};
+ghost use Rattle.yp_board.specs.Views.{IsFront};
+ghost use Rattle.yp_publish.specs.Installs.{offer, not_following};
+ghost use Rattle.yp_publish.specs.declared.install.Origin.TheVariants.{Built};
+ghost use Rattle.yp_publish.specs.Standing.{Level, OfMap};
+ghost use Rattle.yp_session.specs.Hosts.{is_make_stat};
+ghost use Rattle.yp_server.specs.Locals.{seen_of, keeping_of, telling_of, TellsSame};
+ghost use Rattle.yp_server.specs.Anew.{IsAnew, IsUnbuilt};
+ghost use Rattle.yp_server.specs.Made.{job_of, site_at, Tries, Makes, Made};
+
+use crate::anew::build_anew;
+use crate::desk::Desk;
+use crate::steps::{install, reopen};
+use std::alloc::Global;
+use std::marker::Model;
+use std::random::RandomSource;
+use yp_board::{Catalog, Show, View};
+use yp_build::Kind;
+use yp_io::{Clock, Disk, Peer, Texts};
+use yp_msgs::{ReqMake, XfrStat};
+use yp_publish::Publisher;
+use yp_session::Host;
+use yp_version::Version;
+
+/// A host over stored maps, for one thread. What it knows is all that was shown.
+///
+/// It is seen as its maps and their board, its desk, how often it was asked, and how often it answered FILE.
+#[derive(Drop)]
+pub struct LocalHost<D: Disk, B: Show, T: Texts, C: Clock, R: RandomSource + Drop> {
+    publisher: Publisher<D, B>,
+    desk: Desk<T, C>,
+    catalog: Catalog,
+    asked: u64,
+    files: u64,
+    alloc: Global,
+    rt: R,
+}
+
+impl<D: Disk, B: Show, T: Texts, C: Clock, R: RandomSource + Drop> Model
+    for LocalHost<D, B, T, C, R> {
+    ghost use Rattle.std.specs.Prelude.{◌≡◌, length};
+    ghost use Rattle.yp_server.specs.Locals.{Local};
+
+    ghost Value = { Local D B T C };
+
+    ghost view = { λ h. record {
+      published = h.publisher;
+      desk = h.desk;
+      asked = h.asked;
+      files = h.files;
+    } };
+
+    ghost invariant = { λ h. (h.catalog ≡ h.publisher.catalogue)
+        × (length h.publisher.maps ≡ length h.catalog.maps) };
+}
+
+impl<D: Disk, B: Show, T: Texts, C: Clock, R: RandomSource + Drop> LocalHost<D, B, T, C, R> {
+    /// A host over the maps of a publisher, with a copy of the publisher's catalogue. Its memory is taken by `alloc`, and
+    /// the tables of its builds are made with the randomness of `rt`.
+    pub fn new(
+        alloc: Global,
+        rt: R,
+        publisher: Publisher<D, B>,
+        desk: Desk<T, C>,
+        catalog: Catalog,
+    ) -> LocalHost<D, B, T, C, R>
+        requires { catalog ≡ publisher.catalogue }
+        ensures { result ≡ record { published = publisher; desk = desk; asked = 0; files = 0 } }
+    {
+        prove!(publisher.catalog().len() == catalog.len());
+        LocalHost {
+            publisher,
+            desk,
+            catalog,
+            asked: 0,
+            files: 0,
+            alloc,
+            rt,
+        }
+    }
+
+    /// The publisher and the desk.
+    pub fn into_parts(self) -> (Publisher<D, B>, Desk<T, C>)
+        ensures publisher { result.0 ≡ self.published }
+        ensures desk { result.1 ≡ self.desk }
+    {
+        let LocalHost {
+            publisher,
+            desk,
+            catalog: _,
+            asked: _,
+            files: _,
+            alloc: _,
+            rt: _,
+        } = self;
+        (publisher, desk)
+    }
+
+    /// Makes a map anew, or answers why it can't be made, the first reason that applies.
+    fn make_anew(&mut self, map: u32, kind: Kind) -> Result<(), XfrStat>
+        requires { map < length self.old.published.catalogue.maps }
+        ensures made { OnOk result (Makes (keeping_of D.history D.faults B.log) (telling_of T.text T.faults C.moment)
+            (job_of map kind) XfrStat.Succ self.old self.new) }
+        ensures unmade { IfErr result (λ stat. Makes (keeping_of D.history D.faults B.log)
+            (telling_of T.text T.faults C.moment) (job_of map kind) stat self.old self.new) }
+        ensures stat { IfErr result (λ stat. IsTrue (is_make_stat stat)) }
+        ensures grown { IsFront (B.log self.old.published.board) (B.log self.new.published.board) }
+        ensures catalogue { self.new.published.catalogue ≡ self.old.published.catalogue }
+        ensures files { self.new.files ≡ self.old.files }
+    {
+        reopen(self.alloc, &self.rt, &mut self.publisher, map)?;
+        self.make_level(map, kind)
+    }
+
+    /// Makes a level map anew.
+    fn make_level(&mut self, map: u32, kind: Kind) -> Result<(), XfrStat>
+        requires map { map < length self.old.published.maps }
+        requires level { OfMap map self.old.published.maps (λ kept. kept.standing ≡ Level) }
+        ensures made { OnOk result (Tries (keeping_of D.history D.faults B.log) (telling_of T.text T.faults C.moment)
+            (job_of map kind) XfrStat.Succ self.old self.new) }
+        ensures unmade { IfErr result (λ stat. Tries (keeping_of D.history D.faults B.log)
+            (telling_of T.text T.faults C.moment) (job_of map kind) stat self.old self.new) }
+        ensures stat { IfErr result (λ stat. IsTrue (is_make_stat stat)) }
+        ensures desk { TellsSame (telling_of T.text T.faults C.moment) self.old.desk self.new.desk }
+        ensures grown { IsFront (B.log self.old.published.board) (B.log self.new.published.board) }
+        ensures catalogue { self.new.published.catalogue ≡ self.old.published.catalogue }
+        ensures asked { self.new.asked ≡ self.old.asked }
+        ensures files { self.new.files ≡ self.old.files }
+    {
+        let version = build_for(
+            self.alloc,
+            &self.rt,
+            &self.publisher,
+            &mut self.desk,
+            map,
+            kind,
+        )?;
+        install(self.alloc, &mut self.publisher, map, version)
+    }
+}
+
+/// Builds a version of a map, for what is shown of it.
+fn build_for<D: Disk, B: Show, T: Texts, C: Clock>(
+    alloc: Global,
+    rt: &impl RandomSource,
+    publisher: &Publisher<D, B>,
+    desk: &mut Desk<T, C>,
+    map: u32,
+    kind: Kind,
+) -> Result<Version, XfrStat>
+    requires { map < length publisher.now.maps }
+    ensures anew { IfOk result (IsAnew (telling_of T.text T.faults C.moment)
+        (site_at (keeping_of D.history D.faults B.log) (job_of map kind) publisher.now) desk.old) }
+    ensures follows { IfOk result (λ version. OfMap map publisher.now.maps (λ kept.
+        not_following publisher.now.catalogue.own (offer version Built false) kept.version ≡ None)) }
+    ensures unbuilt { IfErr result (λ stat. IsUnbuilt (telling_of T.text T.faults C.moment)
+        (site_at (keeping_of D.history D.faults B.log) (job_of map kind) publisher.now) stat desk.old desk.new) }
+    ensures stat { IfErr result (λ stat. IsTrue (is_make_stat stat)) }
+    ensures desk { TellsSame (telling_of T.text T.faults C.moment) desk.old desk.new }
+{
+    let shown = held(publisher, map);
+    let own = publisher.catalog().own();
+    build_anew(alloc, rt, desk, kind, own, shown)
+}
+
+/// The version that is shown of a map.
+fn held<D: Disk, B: Show>(publisher: &Publisher<D, B>, map: u32) -> Option<&Version>
+    requires { map < length publisher.now.maps }
+    ensures version { option_map (λ version. version.now) result ≡ shown map (B.log publisher.now.board) }
+    ensures kept { OfMap map publisher.now.maps (λ kept. kept.version ≡ shown map (B.log publisher.now.board)) }
+{
+    match publisher.shown(map) {
+        None => None,
+        Some(version) => Some(&**version),
+    }
+}
+
+impl<D: Disk, B: Show, T: Texts, C: Clock, R: RandomSource + Drop> View
+    for LocalHost<D, B, T, C, R> {
+    ghost seen = { λ host. seen_of B.log host };
+
+    ghost stepped = { λ old new. new ≡ record old { asked = next_count old.asked } };
+
+    fn catalog(&self) -> &Catalog {
+        &self.catalog
+    }
+
+    fn refresh(&mut self) {
+        self.asked = self.asked.saturating_add(1);
+    }
+
+    fn held(&self, map: u32) -> Option<&Version> {
+        held(&self.publisher, map)
+    }
+}
+
+impl<D: Disk, B: Show, T: Texts, C: Clock, R: RandomSource + Drop> Host
+    for LocalHost<D, B, T, C, R> {
+    ghost files = { λ host. host.files };
+
+    ghost made = { λ asked peer stat old new.
+        Made (keeping_of D.history D.faults B.log) (telling_of T.text T.faults C.moment) asked stat old new };
+
+    fn make(&mut self, request: &ReqMake<'_>, _peer: Peer) -> XfrStat {
+        let Some(kind) = Kind::of_number(request.kind) else {
+            unreachable!()
+        };
+        let Some(map) = self.catalog.find(request.domain, kind.name()) else {
+            unreachable!()
+        };
+        match self.make_anew(map, kind) {
+            Ok(()) => XfrStat::Succ,
+            Err(XfrStat::File) => {
+                self.files = self.files.saturating_add(1);
+                XfrStat::File
+            }
+            Err(stat) => stat,
+        }
+    }
+
+    ghost step_counts_nothing = { λ old new h. ap (λ host. host.files) h };
+}

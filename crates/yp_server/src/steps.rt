@@ -1,0 +1,70 @@
+//! The two steps that change a map: opening its file again, and installing a version.
+
+ghost use Rattle.std.specs.Prelude.{◌≡◌, ◌<◌, false, None, length, OnOk, IfErr, IsTrue};
+ghost use Rattle.yp_board.specs.Views.{IsFront};
+ghost use Rattle.yp_publish.specs.Standing.{Level, OfMap};
+ghost use Rattle.yp_publish.specs.Installs.{offer, not_following};
+ghost use Rattle.yp_session.specs.Hosts.{is_make_stat};
+ghost use Rattle.yp_server.specs.Locals.{keeping_of};
+ghost use Rattle.yp_server.specs.Steps.{Opens, StaysBehind, Installs};
+
+use std::alloc::Global;
+use std::random::RandomSource;
+use yp_board::Show;
+use yp_io::Disk;
+use yp_msgs::XfrStat;
+use yp_publish::{InstallFault, Origin, Publisher};
+use yp_slot::SlotFault;
+use yp_version::Version;
+
+/// Opens the file of a map that is behind again. Where that is refused, the status is FILE, or RSRC for want of memory.
+pub(crate) fn reopen<D: Disk, B: Show>(
+    alloc: Global,
+    rt: &impl RandomSource,
+    publisher: &mut Publisher<D, B>,
+    map: u32,
+) -> Result<(), XfrStat>
+    requires { map < length publisher.old.maps }
+    ensures opened { OnOk result
+        (Opens (keeping_of D.history D.faults B.log) map publisher.old publisher.new) }
+    ensures refused { IfErr result (λ stat.
+        StaysBehind (keeping_of D.history D.faults B.log) map stat publisher.old publisher.new) }
+    ensures stat { IfErr result (λ stat. IsTrue (is_make_stat stat)) }
+    ensures grown { IsFront (B.log publisher.old.board) (B.log publisher.new.board) }
+{
+    match publisher.reopen(alloc, rt, map) {
+        Ok(()) => Ok(()),
+        Err(SlotFault::NoMemory) => Err(XfrStat::Rsrc),
+        Err(SlotFault::DiskFault) => Err(XfrStat::File),
+        Err(SlotFault::Damaged { .. }) => Err(XfrStat::File),
+    }
+}
+
+/// Installs a version that was built for a level map. Where that fails, the status is FILE, or RSRC for want of memory.
+pub(crate) fn install<D: Disk, B: Show>(
+    alloc: Global,
+    publisher: &mut Publisher<D, B>,
+    map: u32,
+    version: Version,
+) -> Result<(), XfrStat>
+    requires map { map < length publisher.old.maps }
+    requires level { OfMap map publisher.old.maps (λ kept. kept.standing ≡ Level) }
+    requires follows { OfMap map publisher.old.maps
+        (λ kept. not_following publisher.old.catalogue.own (offer version Origin.Built false) kept.version ≡ None) }
+    ensures installed { OnOk result
+        (Installs (keeping_of D.history D.faults B.log) map version XfrStat.Succ publisher.old publisher.new) }
+    ensures failed { IfErr result (λ stat.
+        Installs (keeping_of D.history D.faults B.log) map version stat publisher.old publisher.new) }
+    ensures stat { IfErr result (λ stat. IsTrue (is_make_stat stat)) }
+    ensures grown { IsFront (B.log publisher.old.board) (B.log publisher.new.board) }
+{
+    match publisher.install(alloc, map, version, Origin::Built, false) {
+        Ok(_) => Ok(()),
+        Err(InstallFault::NoMemory) => Err(XfrStat::Rsrc),
+        Err(InstallFault::DiskFault) => Err(XfrStat::File),
+        Err(InstallFault::GenerationsSpent) => Err(XfrStat::File),
+        Err(InstallFault::Behind) => unreachable!(),
+        Err(InstallFault::Refused { .. }) => unreachable!(),
+        Err(InstallFault::Age { .. }) => unreachable!(),
+    }
+}
