@@ -1,10 +1,15 @@
-/* Reads a hosts text, keeps each line under each name of it, the first of equal names alone, in plain arrays sorted by
-   name, and prints how many there are. */
+/* Does what `yp build m1 lab/hosts.byname` does in an empty folder: reads a hosts text, keeps each line under each name
+   of it, the first of equal names alone, in plain arrays sorted by name, and stores them with the same writes and
+   syncs. */
 
+#include <fcntl.h>
 #include <stdint.h>
 #include <stdio.h>
 #include <stdlib.h>
 #include <string.h>
+#include <sys/stat.h>
+#include <time.h>
+#include <unistd.h>
 
 enum { TEXT_MAX = 1 << 25, ROWS_MAX = 262144, SLOTS = 1 << 19 };
 
@@ -71,6 +76,77 @@ static int by_key(const void *a, const void *b) {
     return order != 0 ? order : (x->key_len > y->key_len) - (x->key_len < y->key_len);
 }
 
+static unsigned char *put_number(unsigned char *to, uint64_t number, int len) {
+    for (int i = 0; i < len; i++)
+        to[i] = number >> 8 * (len - 1 - i);
+    return to + len;
+}
+
+static size_t padded(size_t len) {
+    return (len + 3) / 4 * 4;
+}
+
+static unsigned char *put_bytes(unsigned char *to, const char *from, size_t len) {
+    to = put_number(to, len, 4);
+    memcpy(to, from, len);
+    memset(to + len, 0, padded(len) - len);
+    return to + padded(len);
+}
+
+/* The stored body: the format, the order, the master, the count, and each row. */
+static unsigned char *body_of(uint32_t order, size_t *len) {
+    *len = 16 + padded(2);
+    for (size_t i = 0; i < count; i++)
+        *len += 8 + padded(rows[i].key_len) + padded(rows[i].value_len);
+    unsigned char *body = malloc(*len), *to = body;
+    if (body == NULL)
+        exit(7);
+    to = put_number(to, 1, 4);
+    to = put_number(to, order, 4);
+    to = put_bytes(to, "m1", 2);
+    to = put_number(to, count, 4);
+    for (size_t i = 0; i < count; i++) {
+        to = put_bytes(to, rows[i].key, rows[i].key_len);
+        to = put_bytes(to, rows[i].value, rows[i].value_len);
+    }
+    return body;
+}
+
+static void need(int is_done) {
+    if (!is_done)
+        exit(10);
+}
+
+static void put(int file, const void *from, size_t len, off_t at) {
+    need(pwrite(file, from, len, at) == (ssize_t)len);
+}
+
+static void sync_folder(const char *path) {
+    int folder = open(path, O_RDONLY);
+    need(folder >= 0 && fsync(folder) == 0 && close(folder) == 0);
+}
+
+/* Makes the file, with its folders, and stores the body at generation 1. */
+static void store(const unsigned char *body, size_t len) {
+    unsigned char zeros[63] = {0}, cell[31] = {0};
+    put_number(put_number(put_number(cell + 7, 1, 8), 64, 8), len, 8);
+    need(mkdir("ypdata", 0700) == 0 && mkdir("ypdata/lab", 0700) == 0);
+    int file = open("ypdata/lab/hosts.byname", O_RDWR | O_CREAT | O_EXCL, 0600);
+    need(file >= 0);
+    put(file, zeros, 63, 0);
+    need(fsync(file) == 0);
+    sync_folder("ypdata/lab");
+    sync_folder("ypdata");
+    sync_folder(".");
+    put(file, zeros, 1, 63);
+    need(fsync(file) == 0);
+    put(file, body, len, 64);
+    put(file, cell, 31, 1);
+    need(fsync(file) == 0);
+    put(file, "\1", 1, 0);
+    need(fsync(file) == 0);
+}
+
 int main(void) {
     char *text = malloc(TEXT_MAX);
     if (text == NULL)
@@ -84,6 +160,10 @@ int main(void) {
         line = feed + 1;
     }
     qsort(rows, count, sizeof *rows, by_key);
-    printf("%zu\n", count);
+    uint32_t order = time(NULL);
+    size_t body_len;
+    const unsigned char *body = body_of(order, &body_len);
+    store(body, body_len);
+    printf("lab/hosts.byname order %u rows %zu generation 1\n", order, count);
     return 0;
 }

@@ -1,11 +1,11 @@
-# What the benchmarks share: top, the repository; yp, the built program; and room, a new folder in memory where that can be
-# written to, which is removed at the end.
+# What the benchmarks share: top, the repository; yp, the built program; and room, a new folder in memory where that can
+# be written to, or in the folder that BENCH_ROOM names, which is removed at the end.
 set -eu
 export LC_ALL=C
 top=$(dirname -- "$(dirname -- "$(readlink -f -- "$0")")")
 yp=$top/crates/yp/out/yp # as ./yp runs it, without the shell's own start
 
-room=/dev/shm
+room=${BENCH_ROOM:-/dev/shm}
 [ -d "$room" ] && [ -w "$room" ] || room=${TMPDIR:-/tmp}
 room=$(mktemp -d "$room/yp-bench.XXXXXX")
 trap 'rm -rf -- "$room"' EXIT
@@ -14,4 +14,12 @@ echo "files in $(df --output=fstype "$room" | tail -n 1): ${room%/*}"
 # compiled NAME: the C program bench/NAME.c in the room.
 compiled() {
     gcc -O2 -Wall -Wextra -o "$room/$1" "$top/bench/$1.c"
+}
+
+# hosts: a hosts text of 262144 lines, each with a name of its own.
+hosts() {
+    python3 - <<'PYTHON'
+for i in range(262144):
+    print(f"10.{i >> 16}.{i >> 8 & 255}.{i & 255}\thost{i * 7919 % 262144:06} # rack {i % 40}")
+PYTHON
 }
