@@ -2,7 +2,7 @@
 #![tactic(auto)]
 
 ghost use Rattle.std.specs.Prelude.{◌≡◌, IfOk};
-ghost use Rattle.yp_tools.specs.Words.{disk_names, texts};
+ghost use Rattle.yp_words.specs.Words.{disk_names, texts};
 ghost use Rattle.yp_tools.specs.Disks.{names_of};
 
 use clock::SystemClock;

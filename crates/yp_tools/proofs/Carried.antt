@@ -12,7 +12,7 @@ use Rattle.yp_build.specs.declared.kind.Kind.{Kind}
 use Rattle.yp_tools.specs.declared.disks.NamedDisk.{NamedDisk}
 use Rattle.yp_tools.specs.declared.status.Status.{Status}
 use Rattle.yp_tools.specs.declared.status.Status.TheVariants.{Done, Usage, ReadFault, WriteFault, Torn, TooLong, NoMemory, Damaged, NoVersion, DiskFault, Rows, OrderSpent, Refused, GenerationsSpent, Enough}
-use Rattle.yp_tools.specs.Words.{kind_of}
+use Rattle.yp_words.specs.Words.{kind_of}
 use Rattle.yp_tools.specs.Disks.{names_of, history_of}
 use Rattle.yp_tools.specs.Check.{Checks}
 use Rattle.yp_tools.specs.Build.{Job, Site, AtSite, IsJob, planned, Builds}

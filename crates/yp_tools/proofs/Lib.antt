@@ -1,13 +1,13 @@
 pub mod Told
 pub mod Pushed
 pub mod Calls
-pub mod Numerals
 pub mod Gathered
 pub mod Counted
 pub mod Texts
-pub mod Named
 pub mod Raised
 pub mod Accepted
 pub mod OnDisk
 pub mod Telling
 pub mod Carried
+pub mod Ended
+pub mod Sessioned

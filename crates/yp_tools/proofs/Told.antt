@@ -25,7 +25,7 @@ use Rattle.yp_tools.specs.Served.{Traffic, Begins, AnswersUpTo, AnswersSome, Ans
 -- ---- told bytes
 
 -- bytes that were consumed of told ones
-taken : (a b : Option (List ℕ)) (stream bytes : List ℕ) → a ≡ Some stream → Consumes a b bytes → (rest : List ℕ) × (b ≡ Some rest) × (stream ≡ bytes ++ rest)
+pub taken : (a b : Option (List ℕ)) (stream bytes : List ℕ) → a ≡ Some stream → Consumes a b bytes → (rest : List ℕ) × (b ≡ Some rest) × (stream ≡ bytes ++ rest)
 taken None b stream bytes e h = absurd cc
 taken (Some xs) None stream bytes e h = absurd h
 taken (Some xs) (Some ys) stream bytes e h = let same : xs ≡ stream = cc in (ys, refl, sym same ∙ h)
@@ -37,12 +37,12 @@ kept (Some xs) None stream e h = absurd h
 kept (Some xs) (Some ys) stream e h = let same : xs ≡ stream = cc in ap (λ (zs : List ℕ). Some zs) (h ∙ same)
 
 -- told bytes at their end
-ended : (a : Option (List ℕ)) (rest : List ℕ) → a ≡ Some rest → IsAtEnd a → rest ≡ []
+pub ended : (a : Option (List ℕ)) (rest : List ℕ) → a ≡ Some rest → IsAtEnd a → rest ≡ []
 ended None rest e h = absurd cc
 ended (Some xs) rest e h = let same : xs ≡ rest = cc in sym same ∙ h
 
 -- kept bytes consume nothing
-nothing_taken : (a b : Option (List ℕ)) → Keeps a b → Consumes a b []
+pub nothing_taken : (a b : Option (List ℕ)) → Keeps a b → Consumes a b []
 nothing_taken None b h = tt
 nothing_taken (Some xs) None h = absurd h
 nothing_taken (Some xs) (Some ys) h = sym h
@@ -57,7 +57,7 @@ pub record ToldReads (messages : List (List ℕ)) (stream : List ℕ) (start : �
   pub few : length rest ≤ length stream
   pub place : now.place ≡ min (start + (length stream - length rest)) last_count
 
-told : (messages : List (List ℕ)) (old new : Feed) (stream : List ℕ) → old.input ≡ Some stream → old.place ≤ last_count → Reads messages old new → ToldReads messages stream old.place new
+pub told : (messages : List (List ℕ)) (old new : Feed) (stream : List ℕ) → old.input ≡ Some stream → old.place ≤ last_count → Reads messages old new → ToldReads messages stream old.place new
 told [] old new stream e within h = record {
   rest = stream;
   left = kept old.input new.input stream e h.0;
@@ -79,12 +79,12 @@ told (message ∷ messages) old new stream e within h =
     }
 
 -- records and a rest are a cut
-cut_from : (messages : List (List ℕ)) (stream rest : List ℕ) → Begins stream messages rest → IsRest call_max rest → Cut call_max stream messages rest
+pub cut_from : (messages : List (List ℕ)) (stream rest : List ℕ) → Begins stream messages rest → IsRest call_max rest → Cut call_max stream messages rest
 cut_from [] stream rest h end = (h, end)
 cut_from (message ∷ messages) stream rest h end = (h.0, h.1, h.2, h.3, cut_from messages h.1 rest h.4 end)
 
 -- the place of a rest, counted from the front
-place_is : (stream rest : List ℕ) (place : ℕ) → place ≡ min (0 + (length stream - length rest)) last_count → place ≡ place_of stream rest
+pub place_is : (stream rest : List ℕ) (place : ℕ) → place ≡ min (0 + (length stream - length rest)) last_count → place ≡ place_of stream rest
 place_is stream rest place h = omega (arith, h)
 
 -- ---- the replies
@@ -298,7 +298,7 @@ pub record CutLaws : Type 0 where
   pub rest : (limit : ℕ) (message bytes more : List ℕ) → Fragments limit message bytes → IsRest limit (bytes ++ more) → ⊥
 
 -- no more records were read than the stream has
-begins_few : CutLaws → (messages others : List (List ℕ)) (stream rest behind : List ℕ) → Begins stream others behind → Cut call_max stream messages rest → length others ≤ length messages
+pub begins_few : CutLaws → (messages others : List (List ℕ)) (stream rest behind : List ℕ) → Begins stream others behind → Cut call_max stream messages rest → length others ≤ length messages
 begins_few laws messages [] stream rest behind h cut = omega arith
 begins_few laws [] (other ∷ others) stream rest behind h cut =
     let same : h.0 ++ h.1 ≡ rest = sym h.3 ∙ cut.0 in

@@ -23,7 +23,7 @@ use Rattle.yp_publish.specs.Installs.{refusal}
 use Rattle.yp_publish.specs.Installs as installs
 use Rattle.yp_publish.specs.Standing.{Kept, Level, stands_for}
 use Rattle.yp_tools.specs.Lines.{map_text}
-use Rattle.yp_tools.specs.Words.{command_of, kind_of, Build}
+use Rattle.yp_words.specs.Words.{command_of, kind_of, Build}
 use Rattle.yp_tools.specs.declared.build.BuildJob.{BuildJob}
 use Rattle.yp_tools.specs.declared.build.Built.{Built}
 use Rattle.yp_tools.specs.declared.build.Stop.{Stop}

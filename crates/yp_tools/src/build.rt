@@ -11,7 +11,7 @@ ghost use Rattle.yp_slot.specs.Stands.{stands, Stored};
 ghost use Rattle.yp_board.specs.Logs.{starts};
 ghost use Rattle.yp_publish.specs.Standing.{Level, OfMap, At, versions};
 ghost use Rattle.yp_publish.specs.Installs.{no_further, IsInstalled};
-ghost use Rattle.yp_tools.specs.Words.{IsNamed};
+ghost use Rattle.yp_words.specs.Words.{IsNamed};
 ghost use Rattle.yp_tools.specs.Status.{IsTellable};
 ghost use Rattle.yp_tools.specs.Build.{job_view, last_view, offered, build_line, plan_of, is_early, IsForeign, Stops, StopsInstall, IsAccepted, IsBuilt, IsPlanned, IsShownOrPlanned, LeavesFew, numbered, planned, site_of, IsStopOf, IsStored, IsBeforeOrPlanned, unread_status, fault_status, IsStatusOfStop, TellsLine, IsEnd, IsShortStop, AtSite, Builds, tells_stored, may_have_written};
 

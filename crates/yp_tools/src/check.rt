@@ -5,7 +5,7 @@ ghost use Rattle.yp_io.specs.Counts.{HasRisen};
 ghost use Rattle.yp_board.specs.Catalogues.{name_view};
 ghost use Rattle.yp_tools.specs.Check.{check_line, Checks, IsUnwritten, Fails};
 ghost use Rattle.yp_tools.specs.Status.{IsTellable};
-ghost use Rattle.yp_tools.specs.Words.{IsNamed};
+ghost use Rattle.yp_words.specs.Words.{IsNamed};
 
 use crate::lines::{Line, add, add_map, add_number};
 use crate::put::put_text;

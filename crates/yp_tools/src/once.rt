@@ -4,10 +4,9 @@ ghost use Rattle.std.specs.Prelude.{◌≡◌, ◌⊎◌, [], ◌∷◌, map, No
 ghost use Rattle.std.specs.Arc.{arc_value};
 ghost use Rattle.yp_version.specs.Drafts.{with_rows, first_refused};
 ghost use Rattle.yp_board.specs.Catalogues.{name_view};
-ghost use Rattle.yp_tools.specs.Words.{row_view};
+ghost use Rattle.yp_words.specs.Words.{row_view};
 ghost use Rattle.yp_tools.specs.Once.{empty_draft, once_name, once_version, rows_fault, word_of, rule_of, IsRows};
 
-use crate::command::KeyValue;
 use crate::status::Status;
 use std::alloc::Global;
 use std::random::RandomSource;
@@ -15,6 +14,7 @@ use std::sync::Arc;
 use yp_board::{Catalog, MapName, PlainBoard};
 use yp_io::NoMemory;
 use yp_version::{Version, VersionBuilder, VersionFault};
+use yp_words::KeyValue;
 
 /// The own name of `once`, and the master of its map.
 const ONCE: &[u8] = b"once";

@@ -2,7 +2,7 @@
 
 ghost use Rattle.std.specs.Prelude.{◌≡◌, ◌<◌, IfOk};
 ghost use Rattle.yp_board.specs.Catalogues.{name_view};
-ghost use Rattle.yp_tools.specs.Words.{disk_names, texts, IsNamed};
+ghost use Rattle.yp_words.specs.Words.{disk_names, texts, IsNamed};
 ghost use Rattle.yp_tools.specs.Status.{IsTellable};
 ghost use Rattle.yp_tools.specs.Disks.{names_of};
 
@@ -12,7 +12,7 @@ use std::process::Abort;
 use std::random::RandomSource;
 use std::test::Fail;
 use yp_board::MapName;
-use yp_io::{MemDisk, MemSink, MemSource, SetClock};
+use yp_io::{MemDial, MemDisk, MemSink, MemSource, MemTexts, SetClock};
 
 /// The words that serve one row.
 const SERVED: [&str; 3] = ["once", "lab/hosts.byname", "alpha=10.0.0.1 alpha"];
@@ -159,6 +159,8 @@ fn try_words<R: RandomSource + Abort>(
         notes: MemSink::new(alloc, 4096, Vec::new(alloc)),
         disks: disks_of(alloc, words, &[], &[])?,
         clock: SetClock { moment: 100 },
+        dial: MemDial::new(alloc, Vec::new(alloc), Vec::new(alloc)),
+        texts: MemTexts::new(Vec::new(alloc), Vec::new(alloc)),
     };
     let (status, outside) = run(alloc, rt, words, outside);
     assert_eq!(rt; status.code(), case.code, "{name}");

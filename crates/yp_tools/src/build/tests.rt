@@ -1,7 +1,7 @@
 //! `build` over files in memory, laid out by hand.
 
 ghost use Rattle.std.specs.Prelude.{◌≡◌, IfOk};
-ghost use Rattle.yp_tools.specs.Words.{disk_names, texts};
+ghost use Rattle.yp_words.specs.Words.{disk_names, texts};
 ghost use Rattle.yp_tools.specs.Disks.{names_of};
 
 use crate::tests::{bytes, strings};
@@ -11,7 +11,7 @@ use std::process::Abort;
 use std::random::RandomSource;
 use std::test::Fail;
 use yp_board::MapName;
-use yp_io::{MemDisk, MemSink, MemSource, SetClock, TEXT_MAX};
+use yp_io::{MemDial, MemDisk, MemSink, MemSource, MemTexts, SetClock, TEXT_MAX};
 use yp_slot::Slot;
 
 const BUILD: [&str; 3] = ["build", "m1", "lab/hosts.byname"];
@@ -121,6 +121,8 @@ fn try_build<R: RandomSource + Abort>(
         notes: MemSink::new(alloc, 4096, Vec::new(alloc)),
         disks: disks_of(alloc, &words, site)?,
         clock: SetClock { moment: site.now },
+        dial: MemDial::new(alloc, Vec::new(alloc), Vec::new(alloc)),
+        texts: MemTexts::new(Vec::new(alloc), Vec::new(alloc)),
     };
     let (status, outside) = run(alloc, rt, &words, outside);
     assert_eq!(rt; outside.notes.taken(), note.as_bytes());

@@ -6,7 +6,7 @@ use std::alloc::Global;
 use std::process::Abort;
 use std::random::RandomSource;
 use std::test::Fail;
-use yp_io::{MemSink, MemSource, SetClock};
+use yp_io::{MemDial, MemSink, MemSource, MemTexts, SetClock};
 
 const WORDS: [&str; 2] = ["check", "lab/hosts.byname"];
 
@@ -48,6 +48,8 @@ fn try_check<R: RandomSource + Abort>(
         notes: MemSink::new(alloc, 4096, Vec::new(alloc)),
         disks: disks_of(alloc, &words, case.file, case.disk)?,
         clock: SetClock { moment: 100 },
+        dial: MemDial::new(alloc, Vec::new(alloc), Vec::new(alloc)),
+        texts: MemTexts::new(Vec::new(alloc), Vec::new(alloc)),
     };
     let (status, outside) = run(alloc, rt, &words, outside);
     let (code, output, note) = wanted;

@@ -7,7 +7,7 @@ use std::alloc::{AllocError, Global};
 use std::process::Abort;
 use std::random::RandomSource;
 use std::test::Fail;
-use yp_io::{MemSink, MemSource, SetClock};
+use yp_io::{MemDial, MemSink, MemSource, MemTexts, SetClock};
 
 /// Runs the words, with a sink whose calls of these numbers fail, and compares what is told and written.
 fn try_words<R: RandomSource + Abort>(
@@ -25,6 +25,8 @@ fn try_words<R: RandomSource + Abort>(
         notes: MemSink::new(alloc, 4096, Vec::new(alloc)),
         disks: disks_of(alloc, &owned, &[], &[])?,
         clock: SetClock { moment: 0 },
+        dial: MemDial::new(alloc, Vec::new(alloc), Vec::new(alloc)),
+        texts: MemTexts::new(Vec::new(alloc), Vec::new(alloc)),
     };
     let (ended, outside) = run(alloc, rt, &owned, outside);
     assert_eq!(rt; ended, *status);

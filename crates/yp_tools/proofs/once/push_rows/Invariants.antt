@@ -1,6 +1,6 @@
 use Rattle.std.proofs.Common.{◌≡◌, drop, map}
 use Rattle.yp_version.specs.Drafts.{with_rows, refused_from, first_refused}
-use Rattle.yp_tools.specs.Words.{row_view}
+use Rattle.yp_words.specs.Words.{row_view}
 use Rattle.yp_tools.proofs.once.push_rows.Given as goal
 
 abbrev pub invariant-loop-row : goal.invariant-loop-row

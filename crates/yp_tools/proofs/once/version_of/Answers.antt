@@ -1,5 +1,5 @@
 use Rattle.std.proofs.Common.{map}
-use Rattle.yp_tools.specs.Words.{row_view}
+use Rattle.yp_words.specs.Words.{row_view}
 use Rattle.yp_tools.proofs.Pushed.{once_finished}
 use Rattle.yp_tools.proofs.once.version_of.Goals as goal
 

@@ -4,7 +4,7 @@ use Rattle.std.specs.List.{find}
 use Rattle.yp_build.specs.Kinds.{kinds, name_of as kind_name}
 use Rattle.yp_io.specs.Disk.{History, LeavesOnly}
 use Rattle.yp_board.specs.Catalogues.{name_view}
-use Rattle.yp_tools.specs.Words.{kind_of}
+use Rattle.yp_words.specs.Words.{kind_of}
 use Rattle.yp_tools.specs.Build.{Job, AtSite, Builds, tells_stored, IsStored, IsBeforeOrPlanned}
 use Rattle.yp_tools.proofs.Carried.{one_name, carried}
 use Rattle.yp_tools.proofs.program.build_only.Goals as goal

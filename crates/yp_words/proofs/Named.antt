@@ -1,0 +1,336 @@
+-- The names of a command are within their limits, and the maps of a server make a catalogue.
+use Rattle.std.proofs.Common.{◌≡◌, ℕ, zero, suc, ◌+◌, ◌<◌, ◌≤◌, Bool, true, false, cond, not, ◌&&◌, ◌||◌, eqb, List, [], ◌∷◌, ◌++◌, length, map, take, drop, Option, Some, None, refl, sym, ap, ◌∙◌, subst, arith, rules, tests, length-append, append_assoc}
+use Rattle.std.specs.Prelude.{nat_le, nat_lt, ◌==◌, is_some, IsSome, All, filter}
+use Rattle.std.specs.List.{find, list_any, prefix_len}
+use Rattle.std.specs.Option.{option_map, option_map_or}
+use Rattle.std.proofs.lemmas.Bool.Decides.{nat_tests}
+use Rattle.std.proofs.lemmas.List.{append-nil, map-append, take_all}
+use Rattle.std.proofs.lemmas.List.Elements.{filter-append, All-append}
+use Rattle.yp_version.specs.Limits.{key_max}
+use Rattle.yp_board.specs.Catalogues.{Name, name_max, maps_max, is_same, is_map_name, is_name as is_short_name, again_from, numbered, bad_name, twice, maps_fault, catalog_fault}
+use Rattle.yp_board.specs.declared.catalog.CatalogFault.{CatalogFault}
+use Rattle.yp_board.specs.declared.catalog.CatalogFault.TheVariants.{BadName, Twice}
+use Rattle.yp_words.specs.Forms.{Form, has_form, before, after, is_name, is_store, is_kind_store, is_text, is_key, is_host}
+use Rattle.yp_words.specs.Forms as form
+use Rattle.yp_words.specs.Words.{Meaning, Question, Further, Sentence, once, session, check, build, build_flagged, sample, cat, catk, which, poll, match_key, maps, asking, sentences, further_fitting, serving_fitting, joins, is_new_store, served, fitting, is_whole, asked, name_of, kind_of, IsNamed, IsShort, HasNames}
+use Rattle.yp_words.specs.Words as meant
+
+-- words have these forms, in turn
+HaveForms : List Form → List (List ℕ) → Type 0
+HaveForms [] words = Unit {0}
+HaveForms (form ∷ forms) [] = ⊥
+HaveForms (form ∷ forms) (word ∷ words) = (has_form form word ≡ true) × HaveForms forms words
+
+-- all words behind those of the forms are further ones
+HaveFurther : Sentence → List (List ℕ) → Type 0
+HaveFurther sentence words =
+    further_fitting sentence.further (drop (length sentence.forms) words) ≡ length (drop (length sentence.forms) words)
+
+both : (a b : Bool) → (a && b) ≡ true → (a ≡ true) × (b ≡ true)
+both true b h = (refl, h)
+both false b h = absurd cc
+
+-- a word fits, and those behind it do
+fits_first : (fit : Bool) (more count : ℕ) → cond fit (more + 1) 0 ≡ count + 1 → (fit ≡ true) × (more ≡ count)
+fits_first true more count h = (refl, omega arith)
+fits_first false more count h = absurd (omega arith)
+
+forms_fit : (forms : List Form) (further : Further) (words : List (List ℕ)) → length forms ≤ length words → fitting forms further words ≡ length words → HaveForms forms words
+unfolding HaveForms
+forms_fit [] further words few fit = tt
+forms_fit (form ∷ forms) further [] few fit = absurd (omega arith)
+forms_fit (form ∷ forms) further (word ∷ words) few fit =
+    let first = fits_first (has_form form word) (fitting forms further words) (length words) (omega (arith, fit)) in
+    (first.0, forms_fit forms further words (omega arith) first.1)
+
+further_fit : (forms : List Form) (further : Further) (words : List (List ℕ)) → length forms ≤ length words → fitting forms further words ≡ length words
+    → further_fitting further (drop (length forms) words) ≡ length (drop (length forms) words)
+further_fit [] further words few fit = fit
+further_fit (form ∷ forms) further [] few fit = absurd (omega arith)
+further_fit (form ∷ forms) further (word ∷ words) few fit =
+    let first = fits_first (has_form form word) (fitting forms further words) (length words) (omega (arith, fit)) in
+    further_fit forms further words (omega arith) first.1
+
+-- whole words have the forms of their sentence, and its further words
+record Fit (sentence : Sentence) (words : List (List ℕ)) : Type 0 where
+  forms : HaveForms sentence.forms words
+  further : HaveFurther sentence words
+
+whole_fit : (words : List (List ℕ)) (sentence : Sentence) → is_whole words sentence ≡ true → Fit sentence words
+unfolding HaveFurther
+whole_fit words sentence whole =
+    let few_and_all = both (nat_le (length sentence.forms) (length words) && fitting sentence.forms sentence.further words == length words) _ whole in
+    let h = both (nat_le (length sentence.forms) (length words)) (fitting sentence.forms sentence.further words == length words) few_and_all.0 in
+    let few : length sentence.forms ≤ length words = grind (arith, nat_tests) in
+    let all : fitting sentence.forms sentence.further words ≡ length words = grind (arith, nat_tests) in
+    record {
+      forms = forms_fit sentence.forms sentence.further words few all;
+      further = further_fit sentence.forms sentence.further words few all;
+    }
+
+-- ---- names
+
+-- a name is within its limit
+name_short : (word : List ℕ) → is_name word ≡ true → length word ≤ name_max
+name_short word h = grind (arith, nat_tests)
+
+-- and has a byte
+name_some : (word : List ℕ) → is_name word ≡ true → is_short_name word ≡ true
+name_some word h = grind (arith, nat_tests)
+
+store_named : (word : List ℕ) → is_store word ≡ true → IsNamed (name_of word)
+store_named word h =
+    let parts = both (is_name (before 47 word)) (is_name (after 47 word)) h in
+    (name_short (before 47 word) parts.0, name_short (after 47 word) parts.1)
+
+store_mapped : (word : List ℕ) → is_store word ≡ true → is_map_name (name_of word) ≡ true
+store_mapped word h =
+    let parts = both (is_name (before 47 word)) (is_name (after 47 word)) h in
+    let domain = name_some (before 47 word) parts.0 in
+    let map = name_some (after 47 word) parts.1 in
+    rw (domain, map) refl
+
+kind_named : (word : List ℕ) → is_kind_store word ≡ true → IsNamed (name_of word) × IsSome (kind_of (name_of word))
+kind_named word h =
+    let parts = both (is_store word) (is_some (kind_of (name_of word))) h in
+    (store_named word parts.0, parts.1)
+
+text_short : (word : List ℕ) → is_text word ≡ true → length word ≤ name_max
+text_short word h = grind (arith, nat_tests)
+
+key_short : (word : List ℕ) → is_key word ≡ true → length word ≤ key_max
+key_short word h = grind (arith, nat_tests)
+
+-- ---- the maps of a server
+
+-- each is the name of a map
+AreMaps : List Name → Type 0
+AreMaps [] = Unit {0}
+AreMaps (store ∷ stores) = (is_map_name store ≡ true) × AreMaps stores
+
+-- each has names within their limits
+AreNamed : List Name → Type 0
+AreNamed [] = Unit {0}
+AreNamed (store ∷ stores) = IsNamed store × AreNamed stores
+
+maps_more : (stores : List Name) (store : Name) → AreMaps stores → is_map_name store ≡ true → AreMaps (stores ++ store ∷ [])
+unfolding AreMaps
+maps_more [] store are is = (is, tt)
+maps_more (other ∷ stores) store are is = (are.0, maps_more stores store are.1 is)
+
+named_more : (stores : List Name) (store : Name) → AreNamed stores → IsNamed store → AreNamed (stores ++ store ∷ [])
+unfolding AreNamed
+named_more [] store are is = (is, tt)
+named_more (other ∷ stores) store are is = (are.0, named_more stores store are.1 is)
+
+one_named : (store : Name) → IsNamed store → All IsNamed (store ∷ [])
+one_named store is zero d lt = is
+one_named store is (suc k) d lt = absurd (omega arith)
+
+all_named : (stores : List Name) → AreNamed stores → All IsNamed stores
+unfolding AreNamed
+all_named [] are = λ k d lt. absurd (omega arith)
+all_named (store ∷ stores) are = All-append IsNamed (store ∷ []) stores (one_named store are.0) (all_named stores are.1)
+
+-- a name that isn't among those before it
+again_more : (at : ℕ) (before names : List Name) (name : Name) → again_from at before names ≡ None → list_any (is_same name) (before ++ names) ≡ false → again_from at before (names ++ name ∷ []) ≡ None
+again_more at before [] name none new =
+    let new' : list_any (is_same name) before ≡ false = subst (λ (l : List Name). list_any (is_same name) l ≡ false) (append-nil before) new in
+    rw new' refl
+again_more at before (first ∷ names) name none new =
+    (elim (list_any (is_same first) before) as (λ b. cond b (Some at) (again_from (at + 1) (before ++ first ∷ []) names) ≡ None → cond b (Some at) (again_from (at + 1) (before ++ first ∷ []) (names ++ name ∷ [])) ≡ None) [
+      | true ↦ λ e. absurd cc
+      | false ↦ λ e. again_more (at + 1) (before ++ first ∷ []) names name e
+          (subst (λ (l : List Name). list_any (is_same name) l ≡ false) (sym (append_assoc before (first ∷ []) names)) new)
+    ]) none
+
+-- maps that make a catalogue
+record AreGood (stores : List Name) : Type 0 where
+  each : AreMaps stores
+  named : AreNamed stores
+  distinct : again_from 0 [] stores ≡ None
+  few : length stores ≤ maps_max
+
+no_maps : AreGood []
+unfolding AreMaps AreNamed
+no_maps = record { each = tt; named = tt; distinct = refl; few = omega arith }
+
+good_more : (stores : List Name) (store : Name) → AreGood stores → IsNamed store → is_map_name store ≡ true → is_new_store stores store ≡ true → AreGood (stores ++ store ∷ [])
+good_more stores store good named is new =
+    let parts = both (not (list_any (is_same store) stores)) (nat_lt (length stores) maps_max) new in
+    let other : list_any (is_same store) stores ≡ false = grind (arith, nat_tests) in
+    let room : length stores < maps_max = grind (arith, nat_tests) in
+    record {
+      each = maps_more stores store good.each is;
+      named = named_more stores store good.named named;
+      distinct = again_more 0 [] stores store good.distinct other;
+      few = omega (arith, length-append stores (store ∷ []));
+    }
+
+served_behind : (earlier : List (List ℕ)) (word : List ℕ) (b : Bool) → is_store word ≡ b → served (earlier ++ word ∷ []) ≡ served earlier ++ cond b (name_of word ∷ []) []
+served_behind earlier word true is =
+    ap (λ (l : List (List ℕ)). map name_of l) (filter-append is_store earlier (word ∷ [])) ∙ map-append name_of (filter is_store earlier) (filter is_store (word ∷ []))
+    ∙ ap (λ (b : Bool). served earlier ++ map name_of (cond b (word ∷ []) [])) is
+served_behind earlier word false is =
+    ap (λ (l : List (List ℕ)). map name_of l) (filter-append is_store earlier (word ∷ [])) ∙ map-append name_of (filter is_store earlier) (filter is_store (word ∷ []))
+    ∙ ap (λ (b : Bool). served earlier ++ map name_of (cond b (word ∷ []) [])) is
+
+joined_good : (earlier : List (List ℕ)) (word : List ℕ) (b : Bool) → is_store word ≡ b → AreGood (served earlier) → cond b (is_new_store (served earlier) (name_of word)) (is_host word) ≡ true
+    → AreGood (served (earlier ++ word ∷ []))
+joined_good earlier word true is good joins =
+    subst AreGood (sym (served_behind earlier word true is)) (good_more (served earlier) (name_of word) good (store_named word is) (store_mapped word is) joins)
+joined_good earlier word false is good joins =
+    subst AreGood (sym (served_behind earlier word false is ∙ append-nil (served earlier))) good
+
+served_good : (earlier words : List (List ℕ)) → AreGood (served earlier) → serving_fitting earlier words ≡ length words → AreGood (served (earlier ++ words))
+served_good earlier [] good fit = subst (λ (l : List (List ℕ)). AreGood (served l)) (sym (append-nil earlier)) good
+served_good earlier (word ∷ words) good fit =
+    let first = fits_first (joins earlier word) (serving_fitting (earlier ++ word ∷ []) words) (length words) (omega (arith, fit)) in
+    let more = joined_good earlier word (is_store word) refl good first.0 in
+    subst (λ (l : List (List ℕ)). AreGood (served l)) (append_assoc earlier (word ∷ []) words) (served_good (earlier ++ word ∷ []) words more first.1)
+
+none_at : (n len : ℕ) → n ≡ len → cond (nat_lt n len) (Some n) None ≡ None
+none_at n len e = grind (arith, nat_tests)
+
+none_bad : (stores : List Name) → AreMaps stores → prefix_len (λ store. not (not (is_map_name store))) stores ≡ length stores
+unfolding AreMaps
+none_bad [] are = refl
+none_bad (store ∷ stores) are =
+    rw are.0 (omega (arith, none_bad stores are.1))
+
+good_catalogue : (own : List ℕ) (stores : List Name) → is_short_name own ≡ true → AreGood stores → catalog_fault own stores ≡ None
+good_catalogue own stores short good =
+    let all : numbered stores ≡ stores = take_all 4294967296 stores (omega (arith, good.few)) in
+    let bad : bad_name stores ≡ None =
+    ap (λ (l : List Name). cond (nat_lt (prefix_len (λ store. not (not (is_map_name store))) l) (length l)) (Some (prefix_len (λ store. not (not (is_map_name store))) l)) None) all
+    ∙ none_at (prefix_len (λ store. not (not (is_map_name store))) stores) (length stores) (none_bad stores good.each) in
+    let once : twice stores ≡ None = ap (again_from 0 []) all ∙ good.distinct in
+    let few : nat_lt maps_max (length stores) ≡ false = grind (arith, nat_tests) in
+    rw (short, bad, once, few) refl
+
+-- ---- sentences
+
+once_named : (words : List (List ℕ)) → Fit once words → HasNames (once.asks words)
+unfolding HaveForms
+once_named [] h = absurd h.forms
+once_named (first ∷ []) h = absurd h.forms.1
+once_named (first ∷ store ∷ more) h = store_named store h.forms.1.0
+
+session_named : (words : List (List ℕ)) → Fit session words → HasNames (session.asks words)
+unfolding HaveForms HaveFurther
+session_named [] h = absurd h.forms
+session_named (first ∷ []) h = absurd h.forms.1
+session_named (first ∷ name ∷ []) h = absurd h.forms.1.1
+session_named (first ∷ name ∷ address ∷ more) h =
+    let good : AreGood (served more) = served_good [] more no_maps h.further in
+    (good_catalogue name (served more) (name_some name h.forms.1.0) good, all_named (served more) good.named, name_short name h.forms.1.0, good.few)
+
+check_named : (words : List (List ℕ)) → Fit check words → HasNames (check.asks words)
+unfolding HaveForms
+check_named [] h = absurd h.forms
+check_named (first ∷ []) h = absurd h.forms.1
+check_named (first ∷ store ∷ more) h = store_named store h.forms.1.0
+
+build_named : (words : List (List ℕ)) → Fit build words → HasNames (build.asks words)
+unfolding HaveForms
+build_named [] h = absurd h.forms
+build_named (first ∷ []) h = absurd h.forms.1
+build_named (first ∷ name ∷ []) h = absurd h.forms.1.1
+build_named (first ∷ name ∷ store ∷ more) h =
+    let named = kind_named store h.forms.1.1.0 in
+    (name_short name h.forms.1.0, named.0, named.1)
+
+flagged_named : (words : List (List ℕ)) → Fit build_flagged words → HasNames (build_flagged.asks words)
+unfolding HaveForms
+flagged_named [] h = absurd h.forms
+flagged_named (first ∷ []) h = absurd h.forms.1
+flagged_named (first ∷ name ∷ []) h = absurd h.forms.1.1
+flagged_named (first ∷ name ∷ store ∷ more) h =
+    let named = kind_named store h.forms.1.1.0 in
+    (name_short name h.forms.1.0, named.0, named.1)
+
+sample_named : (words : List (List ℕ)) → Fit sample words → HasNames (sample.asks words)
+sample_named words h = tt
+
+-- a domain and a map of a question
+asked_short : (word : List ℕ) (question : List ℕ → List ℕ → Question) (words : List (List ℕ)) → Fit (asking word question) words
+    → ((domain map : List ℕ) → IsNamed (domain, map) → IsShort (question domain map)) → HasNames ((asking word question).asks words)
+unfolding HaveForms
+asked_short word question [] h short = absurd h.forms
+asked_short word question (first ∷ []) h short = absurd h.forms.1
+asked_short word question (first ∷ address ∷ []) h short = absurd h.forms.1.1
+asked_short word question (first ∷ address ∷ domain ∷ []) h short = absurd h.forms.1.1.1
+asked_short word question (first ∷ address ∷ domain ∷ map ∷ more) h short =
+    short domain map (text_short domain h.forms.1.1.0, text_short map h.forms.1.1.1.0)
+
+match_named : (words : List (List ℕ)) → Fit match_key words → HasNames (match_key.asks words)
+unfolding HaveForms
+match_named [] h = absurd h.forms
+match_named (first ∷ []) h = absurd h.forms.1
+match_named (first ∷ address ∷ []) h = absurd h.forms.1.1
+match_named (first ∷ address ∷ domain ∷ []) h = absurd h.forms.1.1.1
+match_named (first ∷ address ∷ domain ∷ map ∷ []) h = absurd h.forms.1.1.1.1
+match_named (first ∷ address ∷ domain ∷ map ∷ key ∷ more) h =
+    ((text_short domain h.forms.1.1.0, text_short map h.forms.1.1.1.0), key_short key h.forms.1.1.1.1.0)
+
+maps_named : (words : List (List ℕ)) → Fit maps words → HasNames (maps.asks words)
+unfolding HaveForms
+maps_named [] h = absurd h.forms
+maps_named (first ∷ []) h = absurd h.forms.1
+maps_named (first ∷ address ∷ []) h = absurd h.forms.1.1
+maps_named (first ∷ address ∷ domain ∷ more) h = text_short domain h.forms.1.1.0
+
+-- each of these sentences asks for a command with such names
+AllNamed : List Sentence → Type 0
+AllNamed [] = Unit {0}
+AllNamed (sentence ∷ rows) = ((words : List (List ℕ)) → Fit sentence words → HasNames (sentence.asks words)) × AllNamed rows
+
+found_named : (sentence : Sentence) (words : List (List ℕ)) (rest : Option Sentence) (meaning : Meaning) (b : Bool) → is_whole words sentence ≡ b
+    → ((words : List (List ℕ)) → Fit sentence words → HasNames (sentence.asks words))
+    → (option_map (λ row. row.asks words) rest ≡ Some meaning → HasNames meaning)
+    → option_map (λ (row : Sentence). row.asks words) (cond b (Some sentence) rest) ≡ Some meaning → HasNames meaning
+found_named sentence words rest meaning true is here later e =
+    let same : sentence.asks words ≡ meaning = cc in
+    subst HasNames same (here words (whole_fit words sentence is))
+found_named sentence words rest meaning false is here later e = later e
+
+rows_named : (rows : List Sentence) → AllNamed rows → (words : List (List ℕ)) (meaning : Meaning) → asked rows words ≡ Some meaning → HasNames meaning
+unfolding AllNamed
+rows_named [] each words meaning e = absurd cc
+rows_named (sentence ∷ rows) each words meaning e =
+    found_named sentence words (find (is_whole words) rows) meaning (is_whole words sentence) refl each.0 (rows_named rows each.1 words meaning) e
+
+-- what the words ask for has such names
+pub asked_named : (words : List (List ℕ)) (meaning : Meaning) → asked sentences words ≡ Some meaning → HasNames meaning
+unfolding sentences AllNamed
+asked_named words meaning e = rows_named sentences (
+  once_named,
+  (
+    session_named,
+    (
+      check_named,
+      (
+        build_named,
+        (
+          flagged_named,
+          (
+            sample_named,
+            (
+              λ given fit. asked_short _ meant.Cat given fit (λ domain map short. short),
+              (
+                λ given fit. asked_short _ meant.Catk given fit (λ domain map short. short),
+                (
+                  λ given fit. asked_short _ meant.Which given fit (λ domain map short. short),
+                  (
+                    λ given fit. asked_short _ meant.Poll given fit (λ domain map short. short),
+                    (match_named, (maps_named, tt)),
+                  ),
+                ),
+              ),
+            ),
+          ),
+        ),
+      ),
+    ),
+  ),
+) words meaning e

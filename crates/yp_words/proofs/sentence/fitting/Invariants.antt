@@ -1,0 +1,12 @@
+use Rattle.std.proofs.Common.{◌≡◌, ◌+◌, ◌≤◌, drop, map, length}
+use Rattle.yp_words.specs.Forms.{form_view}
+use Rattle.yp_words.specs.Words.{fitting, further_view, texts}
+use Rattle.yp_words.proofs.sentence.fitting.Given as goal
+
+abbrev pub invariant-loop-i : goal.invariant-loop-i
+invariant-loop-i l = record {
+  within : l.i ≤ length l.words;
+  front :
+      l.i + fitting (map form_view (drop l.i l.forms)) (further_view l.further) (texts (drop l.i l.words))
+      ≡ fitting (map form_view l.forms) (further_view l.further) (texts l.words);
+}

@@ -1,0 +1,127 @@
+-- The forms of the words of the command line.
+use Rattle.std.specs.Prelude.{ℕ, ◌^◌, Bool, not, ◌&&◌, ◌||◌, nat_lt, nat_le, ◌==◌, if◌then◌else◌, List, [], ◌∷◌, length, slice_index_or, Option, Some, None, is_some, option_and_then, codes, decimal}
+use Rattle.std.specs.List.{list_all, find, before_first, after_first}
+use Rattle.std.specs.Str.{bytes_eq}
+use Rattle.std.specs.Str.Parse.{digits_value}
+use Rattle.yp_io.specs.declared.stream.Peer.{Peer}
+use Rattle.yp_version.specs.Limits.{key_max, value_max}
+use Rattle.yp_board.specs.Catalogues.{name_max}
+use Rattle.yp_build.specs.Kinds.{kinds, name_of as kind_name}
+use Rattle.yp_words.specs.declared.form.Form.{Form as CodeForm}
+use Rattle.yp_words.specs.declared.form.Form.TheVariants as code
+
+infixl 10 ◌>>=◌
+abbrev pub ◌>>=◌ : {A B : Type 0} → Option A → (A → Option B) → Option B
+found >>= f = option_and_then f found
+
+-- from the first visible character to the last, without a slash and an at sign
+abbrev pub is_name_byte : ℕ → Bool
+is_name_byte c = nat_le 0x21 c && nat_le c 0x7e && not (c == 47) && not (c == 64)
+
+-- a name: 1 to 64 such bytes, the first of which is no dot
+abbrev pub is_name : List ℕ → Bool
+is_name word = nat_le 1 (length word) && nat_le (length word) name_max && not (slice_index_or word 0 0 == 46) && list_all is_name_byte word
+
+-- what stands before and after the first such byte
+abbrev pub before : ℕ → List ℕ → List ℕ
+before c word = before_first (λ b. b == c) word
+
+abbrev pub after : ℕ → List ℕ → List ℕ
+after c word = after_first (λ b. b == c) word
+
+-- a store: the names of a domain and a map, with a slash between
+abbrev pub is_store : List ℕ → Bool
+is_store word = is_name (before 47 word) && is_name (after 47 word)
+
+-- a store whose map has the name of a kind
+abbrev pub is_kind_store : List ℕ → Bool
+is_kind_store word = is_store word && is_some (find (λ kind. bytes_eq (kind_name kind) (after 47 word)) kinds)
+
+-- a row: a key, which isn't empty, and its value behind the first equals sign
+abbrev pub is_row : List ℕ → Bool
+is_row word =
+    nat_lt (length (before 61 word)) (length word) && nat_le 1 (length (before 61 word)) && nat_le (length (before 61 word)) key_max && nat_le (length (after 61 word)) value_max
+
+-- a number of 32 bits in decimal, without a sign and without zeros in front
+abbrev pub is_number : List ℕ → Bool
+is_number word = nat_lt (digits_value 10 word) (2 ^ 32) && bytes_eq (decimal (digits_value 10 word)) word
+
+abbrev pub number_of : List ℕ → Option ℕ
+number_of word = if is_number word then Some (digits_value 10 word) else None
+
+-- a number of one byte, and a port, which isn't 0
+abbrev pub octet_of : List ℕ → Option ℕ
+octet_of word = if is_number word && nat_le (digits_value 10 word) 255 then Some (digits_value 10 word) else None
+
+abbrev pub port_of : List ℕ → Option ℕ
+port_of word = if is_number word && nat_le 1 (digits_value 10 word) && nat_le (digits_value 10 word) 65535 then Some (digits_value 10 word) else None
+
+-- an address: four numbers of a byte with dots between, a colon and a port
+abbrev pub address_of : List ℕ → Option Peer
+address_of word = do
+  a ← octet_of (before 46 word)
+  let second = after 46 word
+  b ← octet_of (before 46 second)
+  let third = after 46 second
+  c ← octet_of (before 46 third)
+  let fourth = after 46 third
+  d ← octet_of (before 58 fourth)
+  port ← port_of (after 58 fourth)
+  Some (record { addr = a ∷ b ∷ c ∷ d ∷ []; port = port })
+
+-- a host: its name and its address, with an at sign between
+abbrev pub is_host : List ℕ → Bool
+is_host word = is_name (before 64 word) && is_some (address_of (after 64 word))
+
+-- a name that a server is asked for: 1 to 64 bytes
+abbrev pub is_text : List ℕ → Bool
+is_text word = nat_le 1 (length word) && nat_le (length word) name_max
+
+-- a key that a server is asked for
+abbrev pub is_key : List ℕ → Bool
+is_key word = nat_le (length word) key_max
+
+-- the flag of a secure version, and that of another
+abbrev pub is_secure : List ℕ → Bool
+is_secure word = bytes_eq word (codes "secure")
+
+abbrev pub is_plain : List ℕ → Bool
+is_plain word = bytes_eq word (codes "plain")
+
+pub data Form : Type 0 where
+  -- this very word
+  Exactly : (text : List ℕ) → Form
+  Name : Form
+  Store : Form
+  KindStore : Form
+  Pair : Form
+  Number : Form
+  Address : Form
+  Text : Form
+  Key : Form
+  Flag : Form
+
+abbrev pub has_form : Form → List ℕ → Bool
+has_form (Exactly text) word = bytes_eq word text
+has_form Name word = is_name word
+has_form Store word = is_store word
+has_form KindStore word = is_kind_store word
+has_form Pair word = is_row word
+has_form Number word = is_number word
+has_form Address word = is_some (address_of word)
+has_form Text word = is_text word
+has_form Key word = is_key word
+has_form Flag word = is_secure word || is_plain word
+
+-- the form that a `Form` of the code is
+abbrev pub form_view : CodeForm → Form
+form_view (code.Exactly text) = Exactly text.now
+form_view code.Name = Name
+form_view code.Store = Store
+form_view code.KindStore = KindStore
+form_view code.Pair = Pair
+form_view code.Number = Number
+form_view code.Address = Address
+form_view code.Text = Text
+form_view code.Key = Key
+form_view code.Flag = Flag

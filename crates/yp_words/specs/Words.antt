@@ -1,0 +1,365 @@
+-- The command line: sentences made of words.
+use Rattle.std.specs.Prelude.{◌≡◌, ℕ, ◌+◌, ◌≤◌, Bool, true, not, nat_le, nat_lt, bytes_eq, IsSome, ⊤, ◌&&◌, ◌==◌, max, if◌then◌else◌, List, [], ◌∷◌, ◌++◌, All, length, drop, map, filter, fold, slice_index_or, Option, Some, None, unwrap_or, Result, Ok, Err, codes, string_bytes}
+use Rattle.std.specs.List.{find, list_any}
+use Rattle.std.specs.Option.{option_map, ok_or}
+use Rattle.std.specs.declared.string.String.{String}
+use Rattle.std.specs.declared.alloc.Global.{Global}
+use Rattle.yp_version.specs.Rows.{Row}
+use Rattle.yp_io.specs.declared.stream.Peer.{Peer}
+use Rattle.yp_version.specs.Limits.{key_max}
+use Rattle.yp_board.specs.Catalogues.{Name, name_max, maps_max, name_view, is_same, catalog_fault}
+use Rattle.yp_build.specs.declared.kind.Kind.{Kind}
+use Rattle.yp_build.specs.Kinds.{kinds, name_of as kind_name}
+use Rattle.yp_words.specs.declared.command.KeyValue.{KeyValue}
+use Rattle.yp_words.specs.declared.command.HostWord.{HostWord}
+use Rattle.yp_words.specs.declared.command.Command.{Command}
+use Rattle.yp_words.specs.declared.command.Command.TheVariants as command
+use Rattle.yp_words.specs.declared.sentence.Sentence.{Sentence as CodeSentence}
+use Rattle.yp_words.specs.declared.sentence.Further.{Further as CodeFurther}
+use Rattle.yp_words.specs.declared.sentence.Further.TheVariants as further
+use Rattle.yp_words.specs.declared.sentence.Task.{Task}
+use Rattle.yp_words.specs.declared.sentence.Task.TheVariants as task
+use Rattle.yp_words.specs.declared.words.ParseFault.{ParseFault}
+use Rattle.yp_words.specs.declared.words.ParseFault.TheVariants.{Usage, NoMemory}
+use Rattle.yp_words.specs.Forms.{Form, has_form, form_view, before, after, number_of, is_store, is_host, address_of, is_secure}
+use Rattle.yp_words.specs.Forms as form
+
+-- ---- what words mean
+
+-- what a client asks of a server: of a domain, and mostly of one of its maps
+pub data Question : Type 0 where
+  -- the values of all rows, and the keys with them
+  Cat : (domain map : List ℕ) → Question
+  Catk : (domain map : List ℕ) → Question
+  -- the value of a key
+  Match : (domain map key : List ℕ) → Question
+  -- the master
+  Which : (domain map : List ℕ) → Question
+  -- the order, and the master
+  Poll : (domain map : List ℕ) → Question
+  -- the maps
+  Maps : (domain : List ℕ) → Question
+
+-- a host: its name and its address
+abbrev pub Host : Type 0
+Host = List ℕ × Peer
+
+-- a command, with bytes in place of vectors
+pub data Meaning : Type 0 where
+  Once : (store : Name) (rows : List Row) → Meaning
+  -- the own name, the caller, the maps that are served, and the hosts that are known
+  Session : (own : List ℕ) (peer : Peer) (stores : List Name) (hosts : List Host) → Meaning
+  Check : (store : Name) → Meaning
+  -- the flag is true for a secure version, and none where the words don't say
+  Build : (name : List ℕ) (store : Name) (flag : Option Bool) → Meaning
+  Sample : (start count : ℕ) → Meaning
+  -- a server, and what it is asked
+  Ask : (peer : Peer) (question : Question) → Meaning
+
+-- the name of a map, of a word
+abbrev pub name_of : List ℕ → Name
+name_of word = (before 47 word, after 47 word)
+
+-- the kind of a map, by its name
+abbrev pub kind_of : Name → Option Kind
+kind_of store = find (λ kind. bytes_eq (kind_name kind) store.1) kinds
+
+-- a row, of a word
+abbrev pub row_of : List ℕ → Row
+row_of word = (before 61 word, after 61 word)
+
+-- the number that a word says, and 0 where it says none
+abbrev pub value_of : List ℕ → ℕ
+value_of word = unwrap_or (number_of word) 0
+
+-- the address that a word says, and that of nobody where it says none
+abbrev pub nobody : Peer
+nobody = record { addr = 0 ∷ 0 ∷ 0 ∷ 0 ∷ []; port = 0 }
+
+abbrev pub peer_of : List ℕ → Peer
+peer_of word = unwrap_or (address_of word) nobody
+
+-- a host, of a word
+abbrev pub host_of : List ℕ → Host
+host_of word = (before 64 word, peer_of (after 64 word))
+
+-- the word with this number, and an empty one where there is none
+abbrev pub word_at : ℕ → List (List ℕ) → List ℕ
+word_at at words = slice_index_or words at []
+
+-- ---- sentences
+
+-- the further words of a sentence: none, any number of one form, or the maps and hosts of a server
+pub data Further : Type 0 where
+  NoMore : Further
+  Each : (form : Form) → Further
+  StoresAndHosts : Further
+
+-- the forms of a sentence's words in order, its further words, and what such words ask for
+pub record Sentence : Type 0 where
+  pub forms : List Form
+  pub further : Further
+  pub asks : List (List ℕ) → Meaning
+
+abbrev pub once : Sentence
+once = record {
+  forms = form.Exactly (codes "once") ∷ form.Store ∷ [];
+  further = Each form.Pair;
+  asks = λ words. Once (name_of (word_at 1 words)) (map row_of (drop 2 words));
+}
+
+-- the maps that further words name, and the hosts
+abbrev pub served : List (List ℕ) → List Name
+served words = map name_of (filter is_store words)
+
+abbrev pub known : List (List ℕ) → List Host
+known words = map host_of (filter is_host words)
+
+abbrev pub session : Sentence
+session = record {
+  forms = form.Exactly (codes "session") ∷ form.Name ∷ form.Address ∷ [];
+  further = StoresAndHosts;
+  asks = λ words. Session (word_at 1 words) (peer_of (word_at 2 words)) (served (drop 3 words)) (known (drop 3 words));
+}
+
+abbrev pub check : Sentence
+check = record {
+  forms = form.Exactly (codes "check") ∷ form.Store ∷ [];
+  further = NoMore;
+  asks = λ words. Check (name_of (word_at 1 words));
+}
+
+abbrev pub build : Sentence
+build = record {
+  forms = form.Exactly (codes "build") ∷ form.Name ∷ form.KindStore ∷ [];
+  further = NoMore;
+  asks = λ words. Build (word_at 1 words) (name_of (word_at 2 words)) None;
+}
+
+abbrev pub build_flagged : Sentence
+build_flagged = record {
+  forms = form.Exactly (codes "build") ∷ form.Name ∷ form.KindStore ∷ form.Flag ∷ [];
+  further = NoMore;
+  asks = λ words. Build (word_at 1 words) (name_of (word_at 2 words)) (Some (is_secure (word_at 3 words)));
+}
+
+abbrev pub sample : Sentence
+sample = record {
+  forms = form.Exactly (codes "sample") ∷ form.Number ∷ form.Number ∷ [];
+  further = NoMore;
+  asks = λ words. Sample (value_of (word_at 1 words)) (value_of (word_at 2 words));
+}
+
+-- a question to a server, of a map
+abbrev pub asking : List ℕ → (List ℕ → List ℕ → Question) → Sentence
+asking word question = record {
+  forms = form.Exactly word ∷ form.Address ∷ form.Text ∷ form.Text ∷ [];
+  further = NoMore;
+  asks = λ words. Ask (peer_of (word_at 1 words)) (question (word_at 2 words) (word_at 3 words));
+}
+
+abbrev pub cat : Sentence
+cat = asking (codes "cat") Cat
+
+abbrev pub catk : Sentence
+catk = asking (codes "catk") Catk
+
+abbrev pub which : Sentence
+which = asking (codes "which") Which
+
+abbrev pub poll : Sentence
+poll = asking (codes "poll") Poll
+
+abbrev pub match_key : Sentence
+match_key = record {
+  forms = form.Exactly (codes "match") ∷ form.Address ∷ form.Text ∷ form.Text ∷ form.Key ∷ [];
+  further = NoMore;
+  asks = λ words. Ask (peer_of (word_at 1 words)) (Match (word_at 2 words) (word_at 3 words) (word_at 4 words));
+}
+
+abbrev pub maps : Sentence
+maps = record {
+  forms = form.Exactly (codes "maps") ∷ form.Address ∷ form.Text ∷ [];
+  further = NoMore;
+  asks = λ words. Ask (peer_of (word_at 1 words)) (Maps (word_at 2 words));
+}
+
+unfoldable pub sentences : List Sentence
+sentences =
+    once ∷ session ∷ check ∷ build ∷ build_flagged ∷ sample ∷ cat ∷ catk ∷ which ∷ poll ∷ match_key ∷ maps ∷ []
+
+-- how many words at the front are of a form
+abbrev pub each_fitting : Form → List (List ℕ) → ℕ
+each_fitting form [] = 0
+each_fitting form (word ∷ words) = if has_form form word then each_fitting form words + 1 else 0
+
+-- A word may stand behind these as a map or a host of a server: no map is named twice, and there are at most 64.
+abbrev pub is_new_store : List Name → Name → Bool
+is_new_store stores store = not (list_any (is_same store) stores) && nat_lt (length stores) maps_max
+
+abbrev pub joins : List (List ℕ) → List ℕ → Bool
+joins earlier word = if is_store word then is_new_store (served earlier) (name_of word) else is_host word
+
+-- how many words at the front may stand behind these as maps and hosts
+abbrev pub serving_fitting : List (List ℕ) → List (List ℕ) → ℕ
+serving_fitting earlier [] = 0
+serving_fitting earlier (word ∷ words) = if joins earlier word then serving_fitting (earlier ++ word ∷ []) words + 1 else 0
+
+-- how many words at the front are further ones
+abbrev pub further_fitting : Further → List (List ℕ) → ℕ
+further_fitting NoMore words = 0
+further_fitting (Each form) words = each_fitting form words
+further_fitting StoresAndHosts words = serving_fitting [] words
+
+-- how many words at the front are as the sentence has them
+abbrev pub fitting : List Form → Further → List (List ℕ) → ℕ
+fitting [] further words = further_fitting further words
+fitting (form ∷ forms) further [] = 0
+fitting (form ∷ forms) further (word ∷ words) = if has_form form word then fitting forms further words + 1 else 0
+
+abbrev pub fits_to : List (List ℕ) → Sentence → ℕ
+fits_to words sentence = fitting sentence.forms sentence.further words
+
+-- a server has a map
+abbrev pub has_enough : Further → List (List ℕ) → Bool
+has_enough NoMore words = true
+has_enough (Each form) words = true
+has_enough StoresAndHosts words = list_any is_store words
+
+-- the words are the whole sentence
+abbrev pub is_whole : List (List ℕ) → Sentence → Bool
+is_whole words sentence =
+    nat_le (length sentence.forms) (length words) && fits_to words sentence == length words
+    && has_enough sentence.further (drop (length sentence.forms) words)
+
+-- what the words ask for, where they are one of these sentences
+abbrev pub asked : List Sentence → List (List ℕ) → Option Meaning
+asked rows words = option_map (λ sentence. sentence.asks words) (find (is_whole words) rows)
+
+-- the first word that none of these sentences with the words before it has, or the number of words where they end too early
+abbrev pub wrong_word : List Sentence → List (List ℕ) → ℕ
+wrong_word rows words = fold max 0 (map (fits_to words) rows)
+
+-- the command that the words are, or the number of the word that is wrong
+unfoldable pub command_of : List (List ℕ) → Result Meaning ℕ
+command_of words = ok_or (asked sentences words) (wrong_word sentences words)
+
+-- ---- the maps that words name
+
+-- the maps whose files a command reads or writes, in the order of its words
+abbrev pub stores_of : Meaning → List Name
+stores_of (Once store rows) = []
+stores_of (Session own peer stores hosts) = stores
+stores_of (Check store) = store ∷ []
+stores_of (Build name store flag) = store ∷ []
+stores_of (Sample start count) = []
+stores_of (Ask peer question) = []
+
+-- those of the command that the words are, and none where they are no sentence
+abbrev pub stores_in : Result Meaning ℕ → List Name
+stores_in (Ok meaning) = stores_of meaning
+stores_in (Err word) = []
+
+abbrev pub disk_names : List (List ℕ) → List Name
+disk_names words = stores_in (command_of words)
+
+-- ---- what the code has
+
+abbrev pub row_view : KeyValue → Row
+row_view row = (row.key.items, row.value.items)
+
+abbrev pub host_view : HostWord → Host
+host_view host = (host.name.items, host.peer)
+
+abbrev pub meaning : Command → Meaning
+meaning (command.Once store rows) = Once (name_view store) (map row_view rows.items)
+meaning (command.Session name addr stores hosts) =
+    Session name.items addr (map name_view stores.items) (map host_view hosts.items)
+meaning (command.Check store) = Check (name_view store)
+meaning (command.Build name store flag) = Build name.items (name_view store) flag
+meaning (command.Sample start count) = Sample start count
+meaning (command.Cat addr domain map) = Ask addr (Cat domain.items map.items)
+meaning (command.Catk addr domain map) = Ask addr (Catk domain.items map.items)
+meaning (command.Match addr domain map key) = Ask addr (Match domain.items map.items key.items)
+meaning (command.Which addr domain map) = Ask addr (Which domain.items map.items)
+meaning (command.Poll addr domain map) = Ask addr (Poll domain.items map.items)
+meaning (command.Maps addr domain) = Ask addr (Maps domain.items)
+
+-- the bytes of each word
+abbrev pub texts : List (String Global) → List (List ℕ)
+texts words = map string_bytes words
+
+-- what the words of a sentence ask for, of its task
+abbrev pub asks_of : Task → List (List ℕ) → Meaning
+asks_of task.Once = once.asks
+asks_of task.Session = session.asks
+asks_of task.Check = check.asks
+asks_of task.Build = build.asks
+asks_of task.BuildFlagged = build_flagged.asks
+asks_of task.Sample = sample.asks
+asks_of task.Cat = cat.asks
+asks_of task.Catk = catk.asks
+asks_of task.Which = which.asks
+asks_of task.Poll = poll.asks
+asks_of task.Match = match_key.asks
+asks_of task.Maps = maps.asks
+
+-- the further words that a `Further` of the code stands for
+abbrev pub further_view : CodeFurther → Further
+further_view further.NoMore = NoMore
+further_view (further.Each form) = Each (form_view form)
+further_view further.StoresAndHosts = StoresAndHosts
+
+-- the sentence that a row of the code's table is
+abbrev pub sentence_view : CodeSentence → Sentence
+sentence_view row = record {
+  forms = map form_view row.forms.now;
+  further = further_view row.further;
+  asks = asks_of row.task;
+}
+
+-- ---- names
+
+-- the names of a domain and a map are within their limit
+abbrev pub IsNamed : Name → Type 0
+IsNamed store = (length store.0 ≤ name_max) × (length store.1 ≤ name_max)
+
+-- each name of a question is within its limit, and a key is
+abbrev pub IsShort : Question → Type 0
+IsShort (Cat domain map) = IsNamed (domain, map)
+IsShort (Catk domain map) = IsNamed (domain, map)
+IsShort (Match domain map key) = IsNamed (domain, map) × (length key ≤ key_max)
+IsShort (Which domain map) = IsNamed (domain, map)
+IsShort (Poll domain map) = IsNamed (domain, map)
+IsShort (Maps domain) = length domain ≤ name_max
+
+-- each name of a command is within its limit, and a map that is built has a kind
+abbrev pub HasNames : Meaning → Type 0
+HasNames (Once store rows) = IsNamed store
+HasNames (Session own peer stores hosts) =
+    (catalog_fault own stores ≡ None) × All IsNamed stores × (length own ≤ name_max) × (length stores ≤ maps_max)
+HasNames (Check store) = IsNamed store
+HasNames (Build name store flag) = (length name ≤ name_max) × IsNamed store × IsSome (kind_of store)
+HasNames (Sample start count) = ⊤
+HasNames (Ask peer question) = IsShort question
+
+-- ---- refusals
+
+-- The command takes over words, so that memory may run out. Numbers alone take none.
+abbrev pub TakesMemory : Meaning → Type 0
+TakesMemory (Once store rows) = Unit {0}
+TakesMemory (Session own peer stores hosts) = Unit {0}
+TakesMemory (Check store) = Unit {0}
+TakesMemory (Build name store flag) = Unit {0}
+TakesMemory (Sample start count) = ⊥
+TakesMemory (Ask peer question) = Unit {0}
+
+-- the words are a sentence whose command takes memory
+abbrev pub IsSentenceOfWords : Result Meaning ℕ → Type 0
+IsSentenceOfWords (Ok meaning) = TakesMemory meaning
+IsSentenceOfWords (Err word) = ⊥
+
+-- The fault names the word that is wrong. Memory runs out only where words are taken over.
+abbrev pub IsUsage : Result Meaning ℕ → ParseFault → Type 0
+IsUsage expected (Usage word) = expected ≡ Err word
+IsUsage expected NoMemory = IsSentenceOfWords expected

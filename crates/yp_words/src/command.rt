@@ -1,0 +1,88 @@
+//! What the program can be asked to do.
+
+use yp_board::MapName;
+use yp_io::Peer;
+
+/// A row that the words give.
+#[derive(Debug, Drop)]
+pub struct KeyValue {
+    pub key: Vec<u8>,
+    pub value: Vec<u8>,
+}
+
+/// A host that the words name, and its address.
+#[derive(Debug, Drop)]
+pub struct HostWord {
+    pub name: Vec<u8>,
+    pub peer: Peer,
+}
+
+/// What the words of the command line ask for.
+#[derive(Debug, Drop)]
+pub enum Command {
+    /// Answers the calls of the input on one map of these rows.
+    Once {
+        store: MapName,
+        rows: Vec<KeyValue>,
+    },
+    /// Answers the calls of the input over the stored versions of these maps. `name` is the host that answers, `addr`
+    /// its caller, and `hosts` the hosts that it knows.
+    Session {
+        name: Vec<u8>,
+        addr: Peer,
+        stores: Vec<MapName>,
+        hosts: Vec<HostWord>,
+    },
+    /// Says what the file of this map stands for.
+    Check {
+        store: MapName,
+    },
+    /// Builds a version of this map from the input, and installs it. `name` is its master, and `flag` is true where the
+    /// version is to be secure; without one it is as the version that is shown.
+    Build {
+        name: Vec<u8>,
+        store: MapName,
+        flag: Option<bool>,
+    },
+    /// Asks for each row of a map of `count` sample rows, made of the numbers after `start`, and for all of them.
+    Sample {
+        start: u32,
+        count: u32,
+    },
+    /// Asks the server at `addr` for the values of all rows of a map.
+    Cat {
+        addr: Peer,
+        domain: Vec<u8>,
+        map: Vec<u8>,
+    },
+    /// Asks it for all rows of a map: keys and values.
+    Catk {
+        addr: Peer,
+        domain: Vec<u8>,
+        map: Vec<u8>,
+    },
+    /// Asks it for the value of a key.
+    Match {
+        addr: Peer,
+        domain: Vec<u8>,
+        map: Vec<u8>,
+        key: Vec<u8>,
+    },
+    /// Asks it for the master of a map.
+    Which {
+        addr: Peer,
+        domain: Vec<u8>,
+        map: Vec<u8>,
+    },
+    /// Asks it for the order of a map, and for its master.
+    Poll {
+        addr: Peer,
+        domain: Vec<u8>,
+        map: Vec<u8>,
+    },
+    /// Asks it for the maps of a domain.
+    Maps {
+        addr: Peer,
+        domain: Vec<u8>,
+    },
+}

@@ -1,0 +1,14 @@
+//! The words of the command line: what they ask for, or the first that is wrong.
+//!
+//! The sentences are a table, and one reader judges the words by it. The promise stands on [`parse`]; which maps' files a
+//! command reads or writes, on [`disk_names`].
+#![tactic(auto)]
+
+mod command;
+mod form;
+mod sentence;
+mod serving;
+mod words;
+
+pub use command::{Command, HostWord, KeyValue};
+pub use words::{ParseFault, disk_names, parse};

@@ -1,0 +1,249 @@
+//! The sentences of the command line: one row of a table for each, and one reader for all of them.
+
+ghost use Rattle.std.specs.Prelude.{◌≡◌, ◌≤◌, [], length, map};
+ghost use Rattle.std.specs.Option.{option_map};
+ghost use Rattle.yp_words.specs.Forms.{form_view};
+ghost use Rattle.yp_words.specs.Words.{sentences, fits_to, fitting, each_fitting, serving_fitting, further_fitting, further_view, has_enough, joins, is_whole, asked, wrong_word, asks_of, sentence_view, texts};
+
+use crate::form::Form;
+use crate::serving::{has_store, joins};
+
+/// What the words of a sentence ask for.
+#[derive(Clone, Copy)]
+pub enum Task {
+    Once,
+    Session,
+    Check,
+    Build,
+    BuildFlagged,
+    Sample,
+    Cat,
+    Catk,
+    Which,
+    Poll,
+    Match,
+    Maps,
+}
+
+/// The words behind those whose forms a sentence lists.
+#[derive(Clone, Copy)]
+pub enum Further {
+    NoMore,
+    /// Any number of words of this form.
+    Each(Form),
+    /// The maps and hosts of a server, of which at least one is a map.
+    StoresAndHosts,
+}
+
+/// A sentence.
+#[derive(Clone, Copy)]
+struct Sentence {
+    /// What it asks for.
+    task: Task,
+    /// The forms of its words, in order.
+    forms: &'static [Form],
+    /// Its further words.
+    further: Further,
+}
+
+/// All sentences.
+const SENTENCES: [Sentence; 12] = [
+    Sentence {
+        task: Task::Once,
+        forms: &[Form::Exactly("once"), Form::Store],
+        further: Further::Each(Form::Pair),
+    },
+    Sentence {
+        task: Task::Session,
+        forms: &[Form::Exactly("session"), Form::Name, Form::Address],
+        further: Further::StoresAndHosts,
+    },
+    Sentence {
+        task: Task::Check,
+        forms: &[Form::Exactly("check"), Form::Store],
+        further: Further::NoMore,
+    },
+    Sentence {
+        task: Task::Build,
+        forms: &[Form::Exactly("build"), Form::Name, Form::KindStore],
+        further: Further::NoMore,
+    },
+    Sentence {
+        task: Task::BuildFlagged,
+        forms: &[
+            Form::Exactly("build"),
+            Form::Name,
+            Form::KindStore,
+            Form::Flag,
+        ],
+        further: Further::NoMore,
+    },
+    Sentence {
+        task: Task::Sample,
+        forms: &[Form::Exactly("sample"), Form::Number, Form::Number],
+        further: Further::NoMore,
+    },
+    Sentence {
+        task: Task::Cat,
+        forms: &[Form::Exactly("cat"), Form::Address, Form::Text, Form::Text],
+        further: Further::NoMore,
+    },
+    Sentence {
+        task: Task::Catk,
+        forms: &[Form::Exactly("catk"), Form::Address, Form::Text, Form::Text],
+        further: Further::NoMore,
+    },
+    Sentence {
+        task: Task::Which,
+        forms: &[
+            Form::Exactly("which"),
+            Form::Address,
+            Form::Text,
+            Form::Text,
+        ],
+        further: Further::NoMore,
+    },
+    Sentence {
+        task: Task::Poll,
+        forms: &[Form::Exactly("poll"), Form::Address, Form::Text, Form::Text],
+        further: Further::NoMore,
+    },
+    Sentence {
+        task: Task::Match,
+        forms: &[
+            Form::Exactly("match"),
+            Form::Address,
+            Form::Text,
+            Form::Text,
+            Form::Key,
+        ],
+        further: Further::NoMore,
+    },
+    Sentence {
+        task: Task::Maps,
+        forms: &[Form::Exactly("maps"), Form::Address, Form::Text],
+        further: Further::NoMore,
+    },
+];
+
+/// How many words at the front are of this form.
+fn each_fitting(form: Form, words: &[String]) -> usize
+    ensures value { result ≡ each_fitting (form_view form) (texts words.now) }
+    ensures within { result ≤ length words.now }
+{
+    for (i, word) in words.iter().enumerate() {
+        if !form.fits(word.as_str()) {
+            return i;
+        }
+    }
+    words.len()
+}
+
+/// How many words at the front are maps and hosts of a server.
+fn serving_fitting(words: &[String]) -> usize
+    ensures value { result ≡ serving_fitting [] (texts words.now) }
+    ensures within { result ≤ length words.now }
+{
+    for (i, word) in words.iter().enumerate() {
+        if !joins(&words[..i], word.as_str()) {
+            return i;
+        }
+    }
+    words.len()
+}
+
+impl Further {
+    /// How many words at the front are further ones.
+    fn fits(self, words: &[String]) -> usize
+        ensures value { result ≡ further_fitting (further_view self) (texts words.now) }
+        ensures within { result ≤ length words.now }
+    {
+        match self {
+            Further::NoMore => 0,
+            Further::Each(form) => each_fitting(form, words),
+            Further::StoresAndHosts => serving_fitting(words),
+        }
+    }
+
+    /// Whether these are as many as there have to be.
+    fn has_enough(self, words: &[String]) -> bool
+        ensures { result ≡ has_enough (further_view self) (texts words.now) }
+    {
+        match self {
+            Further::NoMore => true,
+            Further::Each(_) => true,
+            Further::StoresAndHosts => has_store(words),
+        }
+    }
+}
+
+/// How many words at the front have these forms in order, and then are further ones.
+fn fitting(forms: &[Form], further: Further, words: &[String]) -> usize
+    ensures value { result ≡ fitting (map form_view forms.now) (further_view further) (texts words.now) }
+    ensures within { result ≤ length words.now }
+{
+    for (i, form) in forms.iter().enumerate() {
+        if i == words.len() || !form.fits(words[i].as_str()) {
+            return i;
+        }
+    }
+    forms.len() + further.fits(&words[forms.len()..])
+}
+
+impl Sentence {
+    /// How many words at the front are as the sentence has them.
+    fn fits(&self, words: &[String]) -> usize
+        ensures value { result ≡ fits_to (texts words.now) (sentence_view self.now) }
+        ensures within { result ≤ length words.now }
+    {
+        fitting(self.forms, self.further, words)
+    }
+
+    /// Whether the words are the whole sentence.
+    fn is_whole(&self, words: &[String]) -> bool
+        ensures { result ≡ is_whole (texts words.now) (sentence_view self.now) }
+    {
+        self.forms.len() <= words.len()
+            && self.fits(words) == words.len()
+            && self.further.has_enough(&words[self.forms.len()..])
+    }
+}
+
+/// The task of the first of these sentences that the words are.
+fn whole_of(sentences: &[Sentence], words: &[String]) -> Option<Task>
+    ensures { option_map (λ task. asks_of task (texts words.now)) result ≡ asked (map sentence_view sentences.now) (texts words.now) }
+{
+    for sentence in sentences {
+        if sentence.is_whole(words) {
+            return Some(sentence.task);
+        }
+    }
+    None
+}
+
+/// How far these sentences go with the words.
+fn farthest_of(sentences: &[Sentence], words: &[String]) -> usize
+    ensures { result ≡ wrong_word (map sentence_view sentences.now) (texts words.now) }
+{
+    let mut farthest = 0;
+    for sentence in sentences {
+        farthest = farthest.max(sentence.fits(words));
+    }
+    farthest
+}
+
+/// What the words ask for, where they are a sentence.
+#[tactic(auto, unfolding(crate::specs::Words::sentences))]
+pub fn task_of(words: &[String]) -> Option<Task>
+    ensures { option_map (λ task. asks_of task (texts words.now)) result ≡ asked sentences (texts words.now) }
+{
+    whole_of(&SENTENCES, words)
+}
+
+/// The first word that no sentence with the words before it has, or the number of words where they end too early.
+#[tactic(auto, unfolding(crate::specs::Words::sentences))]
+pub fn wrong_word(words: &[String]) -> usize
+    ensures { result ≡ wrong_word sentences (texts words.now) }
+{
+    farthest_of(&SENTENCES, words)
+}

@@ -1,0 +1,347 @@
+//! The words of the command line.
+
+ghost use Rattle.std.specs.Prelude.{◌≡◌, drop, map, Ok, IfOk, IfErr, OnErr};
+ghost use Rattle.yp_board.specs.Catalogues.{name_view};
+ghost use Rattle.yp_words.specs.Words.{name_of, row_of, value_of, peer_of, host_of, served, known, word_at, command_of, disk_names, stores_of, row_view, host_view, meaning, texts, asks_of, once, session, check, sample, match_key, maps, Build, TakesMemory, IsSentenceOfWords, IsUsage, HasNames};
+
+use crate::command::{Command, HostWord, KeyValue};
+use crate::form::{SECURE, address_of, cut_at, is_host, is_store, number_of};
+use crate::sentence::{Task, task_of, wrong_word};
+use std::alloc::{AllocError, Global};
+use yp_board::MapName;
+use yp_io::{NoMemory, Peer};
+
+#[cfg(test)]
+mod tests;
+
+/// Why the words are no command.
+#[derive(Clone, Copy, Debug, PartialEq, Eq)]
+pub enum ParseFault {
+    /// This word, counted from 0, is the first that no sentence has. It is the number of words where they end too
+    /// early.
+    Usage { word: usize },
+
+    /// Memory ran out.
+    NoMemory,
+}
+
+/// The word with this number, and an empty one where there is none.
+fn word_at(words: &[String], at: usize) -> &str
+    ensures { result.now ≡ word_at at (texts words.now) }
+{
+    match words.get(at) {
+        Some(word) => word.as_str(),
+        None => "",
+    }
+}
+
+/// The words from this number on.
+fn words_from(words: &[String], at: usize) -> &[String]
+    ensures { texts result.now ≡ drop at (texts words.now) }
+{
+    if at <= words.len() { &words[at..] } else { &[] }
+}
+
+/// The number that a word says, and 0 where it says none.
+fn value_of(word: &str) -> u32
+    ensures { result ≡ value_of word.now }
+{
+    number_of(word).unwrap_or(0)
+}
+
+fn store_of(alloc: Global, word: &str) -> Result<MapName, AllocError>
+    ensures { IfOk result (λ store. name_view store ≡ name_of word.now) }
+{
+    let (domain, map) = cut_at(word, '/');
+    Ok(MapName {
+        domain: Vec::from_slice(alloc, domain.as_bytes())?,
+        map: Vec::from_slice(alloc, map.as_bytes())?,
+    })
+}
+
+fn row_of(alloc: Global, word: &str) -> Result<KeyValue, AllocError>
+    ensures { IfOk result (λ row. row_view row ≡ row_of word.now) }
+{
+    let (key, value) = cut_at(word, '=');
+    Ok(KeyValue {
+        key: Vec::from_slice(alloc, key.as_bytes())?,
+        value: Vec::from_slice(alloc, value.as_bytes())?,
+    })
+}
+
+fn rows_of(alloc: Global, words: &[String]) -> Result<Vec<KeyValue>, AllocError>
+    ensures { IfOk result (λ rows. map row_view rows.items ≡ map row_of (texts words.now)) }
+{
+    let mut rows = Vec::new(alloc);
+    for word in words {
+        rows.push(row_of(alloc, word.as_str())?)?;
+    }
+    Ok(rows)
+}
+
+fn once_of(alloc: Global, words: &[String]) -> Result<Command, AllocError>
+    ensures { IfOk result (λ command. meaning command ≡ once.asks (texts words.now)) }
+{
+    Ok(Command::Once {
+        store: store_of(alloc, word_at(words, 1))?,
+        rows: rows_of(alloc, words_from(words, 2))?,
+    })
+}
+
+/// The address that a word says, and that of nobody where it says none.
+fn peer_of(word: &str) -> Peer
+    ensures { result ≡ peer_of word.now }
+{
+    match address_of(word) {
+        Some(peer) => peer,
+        None => Peer {
+            addr: [0; 4],
+            port: 0,
+        },
+    }
+}
+
+/// The maps that the words name.
+fn served(alloc: Global, words: &[String]) -> Result<Vec<MapName>, AllocError>
+    ensures { IfOk result (λ stores. map name_view stores.items ≡ served (texts words.now)) }
+{
+    let mut stores = Vec::new(alloc);
+    for word in words {
+        if is_store(word.as_str()) {
+            stores.push(store_of(alloc, word.as_str())?)?;
+        }
+    }
+    Ok(stores)
+}
+
+fn host_of(alloc: Global, word: &str) -> Result<HostWord, AllocError>
+    ensures { IfOk result (λ host. host_view host ≡ host_of word.now) }
+{
+    let (name, address) = cut_at(word, '@');
+    Ok(HostWord {
+        name: Vec::from_slice(alloc, name.as_bytes())?,
+        peer: peer_of(address),
+    })
+}
+
+/// The hosts that the words name.
+fn known(alloc: Global, words: &[String]) -> Result<Vec<HostWord>, AllocError>
+    ensures { IfOk result (λ hosts. map host_view hosts.items ≡ known (texts words.now)) }
+{
+    let mut hosts = Vec::new(alloc);
+    for word in words {
+        if is_host(word.as_str()) {
+            hosts.push(host_of(alloc, word.as_str())?)?;
+        }
+    }
+    Ok(hosts)
+}
+
+fn session_of(alloc: Global, words: &[String]) -> Result<Command, AllocError>
+    ensures { IfOk result (λ command. meaning command ≡ session.asks (texts words.now)) }
+{
+    Ok(Command::Session {
+        name: Vec::from_slice(alloc, word_at(words, 1).as_bytes())?,
+        addr: peer_of(word_at(words, 2)),
+        stores: served(alloc, words_from(words, 3))?,
+        hosts: known(alloc, words_from(words, 3))?,
+    })
+}
+
+fn check_of(alloc: Global, words: &[String]) -> Result<Command, AllocError>
+    ensures { IfOk result (λ command. meaning command ≡ check.asks (texts words.now)) }
+{
+    Ok(Command::Check {
+        store: store_of(alloc, word_at(words, 1))?,
+    })
+}
+
+fn build_of(alloc: Global, words: &[String], flag: Option<bool>) -> Result<Command, AllocError>
+    ensures { IfOk result (λ command. meaning command
+        ≡ Build (word_at 1 (texts words.now)) (name_of (word_at 2 (texts words.now))) flag) }
+{
+    Ok(Command::Build {
+        name: Vec::from_slice(alloc, word_at(words, 1).as_bytes())?,
+        store: store_of(alloc, word_at(words, 2))?,
+        flag,
+    })
+}
+
+fn sample_of(words: &[String]) -> Command
+    ensures { meaning result ≡ sample.asks (texts words.now) }
+{
+    Command::Sample {
+        start: value_of(word_at(words, 1)),
+        count: value_of(word_at(words, 2)),
+    }
+}
+
+/// The bytes of a word.
+fn text_at(alloc: Global, words: &[String], at: usize) -> Result<Vec<u8>, AllocError>
+    ensures { IfOk result (λ text. text.items ≡ word_at at (texts words.now)) }
+{
+    Vec::from_slice(alloc, word_at(words, at).as_bytes())
+}
+
+fn match_of(alloc: Global, words: &[String]) -> Result<Command, AllocError>
+    ensures { IfOk result (λ command. meaning command ≡ match_key.asks (texts words.now)) }
+{
+    Ok(Command::Match {
+        addr: peer_of(word_at(words, 1)),
+        domain: text_at(alloc, words, 2)?,
+        map: text_at(alloc, words, 3)?,
+        key: text_at(alloc, words, 4)?,
+    })
+}
+
+fn maps_of(alloc: Global, words: &[String]) -> Result<Command, AllocError>
+    ensures { IfOk result (λ command. meaning command ≡ maps.asks (texts words.now)) }
+{
+    Ok(Command::Maps {
+        addr: peer_of(word_at(words, 1)),
+        domain: text_at(alloc, words, 2)?,
+    })
+}
+
+/// A server, and the map that it is asked for.
+#[derive(Drop)]
+struct Asked {
+    addr: Peer,
+    domain: Vec<u8>,
+    map: Vec<u8>,
+}
+
+fn asked_of(alloc: Global, words: &[String]) -> Result<Asked, AllocError>
+    ensures addr { IfOk result (λ asked. asked.addr ≡ peer_of (word_at 1 (texts words.now))) }
+    ensures domain { IfOk result (λ asked. asked.domain.items ≡ word_at 2 (texts words.now)) }
+    ensures map { IfOk result (λ asked. asked.map.items ≡ word_at 3 (texts words.now)) }
+{
+    Ok(Asked {
+        addr: peer_of(word_at(words, 1)),
+        domain: text_at(alloc, words, 2)?,
+        map: text_at(alloc, words, 3)?,
+    })
+}
+
+/// The command that the words of a sentence with this task are.
+fn command_for(alloc: Global, task: Task, words: &[String]) -> Result<Command, AllocError>
+    ensures command { IfOk result (λ command. meaning command ≡ asks_of task (texts words.now)) }
+    ensures memory { OnErr result (TakesMemory (asks_of task (texts words.now))) }
+{
+    match task {
+        Task::Once => once_of(alloc, words),
+        Task::Session => session_of(alloc, words),
+        Task::Check => check_of(alloc, words),
+        Task::Build => build_of(alloc, words, None),
+        Task::BuildFlagged => build_of(alloc, words, Some(word_at(words, 3) == SECURE)),
+        Task::Sample => Ok(sample_of(words)),
+        Task::Cat => {
+            let Asked { addr, domain, map } = asked_of(alloc, words)?;
+            Ok(Command::Cat { addr, domain, map })
+        }
+        Task::Catk => {
+            let Asked { addr, domain, map } = asked_of(alloc, words)?;
+            Ok(Command::Catk { addr, domain, map })
+        }
+        Task::Which => {
+            let Asked { addr, domain, map } = asked_of(alloc, words)?;
+            Ok(Command::Which { addr, domain, map })
+        }
+        Task::Poll => {
+            let Asked { addr, domain, map } = asked_of(alloc, words)?;
+            Ok(Command::Poll { addr, domain, map })
+        }
+        Task::Match => match_of(alloc, words),
+        Task::Maps => maps_of(alloc, words),
+    }
+}
+
+/// The command that the words are.
+pub fn parse(alloc: Global, words: &[String]) -> Result<Command, ParseFault>
+    ensures sentence { IfOk result (λ command. command_of (texts words.now) ≡ Ok (meaning command)) }
+    ensures usage { IfErr result (IsUsage (command_of (texts words.now))) }
+    ensures names { IfOk result (λ command. HasNames (meaning command)) }
+{
+    let Some(task) = task_of(words) else {
+        return Err(ParseFault::Usage {
+            word: wrong_word(words),
+        });
+    };
+    match command_for(alloc, task, words) {
+        Ok(command) => Ok(command),
+        Err(AllocError) => Err(ParseFault::NoMemory),
+    }
+}
+
+/// The maps whose files a command reads or writes.
+fn stores_of(alloc: Global, command: Command) -> Result<Vec<MapName>, AllocError>
+    ensures memory { OnErr result (TakesMemory (meaning command)) }
+    ensures stores { IfOk result (λ names. map name_view names.items ≡ stores_of (meaning command)) }
+{
+    match command {
+        Command::Check { store } => Ok(vec![in alloc; store]?),
+        Command::Build {
+            name: _name,
+            store,
+            ..
+        } => Ok(vec![in alloc; store]?),
+        Command::Once {
+            store: _store,
+            rows: _rows,
+        } => Ok(Vec::new(alloc)),
+        Command::Sample { .. } => Ok(Vec::new(alloc)),
+        Command::Session {
+            name: _name,
+            addr: _,
+            stores,
+            hosts: _hosts,
+        } => Ok(stores),
+        Command::Cat {
+            addr: _,
+            domain: _domain,
+            map: _map,
+        } => Ok(Vec::new(alloc)),
+        Command::Catk {
+            addr: _,
+            domain: _domain,
+            map: _map,
+        } => Ok(Vec::new(alloc)),
+        Command::Which {
+            addr: _,
+            domain: _domain,
+            map: _map,
+        } => Ok(Vec::new(alloc)),
+        Command::Poll {
+            addr: _,
+            domain: _domain,
+            map: _map,
+        } => Ok(Vec::new(alloc)),
+        Command::Match {
+            addr: _,
+            domain: _domain,
+            map: _map,
+            key: _key,
+        } => Ok(Vec::new(alloc)),
+        Command::Maps {
+            addr: _,
+            domain: _domain,
+        } => Ok(Vec::new(alloc)),
+    }
+}
+
+/// The maps whose files the command of these words reads or writes, in the order of the words. There are none where
+/// the words are no sentence.
+pub fn disk_names(alloc: Global, words: &[String]) -> Result<Vec<MapName>, NoMemory>
+    ensures names { IfOk result (λ names. map name_view names.items ≡ disk_names (texts words.now)) }
+    ensures memory { OnErr result (IsSentenceOfWords (command_of (texts words.now))) }
+{
+    let command = match parse(alloc, words) {
+        Ok(command) => command,
+        Err(ParseFault::Usage { .. }) => return Ok(Vec::new(alloc)),
+        Err(ParseFault::NoMemory) => return Err(NoMemory),
+    };
+    match stores_of(alloc, command) {
+        Ok(names) => Ok(names),
+        Err(AllocError) => Err(NoMemory),
+    }
+}
