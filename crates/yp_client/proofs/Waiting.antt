@@ -14,7 +14,7 @@ use Rattle.yp_rpc.specs.Records.{joined, TakesRecord}
 use Rattle.yp_rpc.specs.Pieces.{Reader, not_begun, HasGiven, Gives, HasNoPiece}
 use Rattle.yp_client.specs.declared.all.AllReply.{AllReply}
 use Rattle.yp_client.specs.Limits.{all_max}
-use Rattle.yp_client.specs.Windows.{waiting, StandsIn, Progress, progress, HasRead, HasReached, GivesMore, IsUnderway, MayCome}
+use Rattle.yp_client.specs.Windows.{waiting, StandsIn, Progress, progress, HasRead, HasReached, GivesMore, IsUnderway, MayCome, StaysWhole}
 
 -- ---- the bytes in the buffer
 
@@ -131,13 +131,14 @@ no_piece front start place before mid now input new old false fault going rose r
 -- More of the record was read into the buffer.
 pub record ReadsOn (old new : AllReply) (buf buf' : List ℕ) (was now : Progress) : Type 0 where
   pub more : List ℕ
+  pub stays : StaysWhole more old.whole new.whole
   pub given : GivesMore more was now
   pub waits : waiting new buf' ≡ waiting old buf ++ more
   pub stands : StandsIn new buf'
   pub same : new ≡ record old { end = new.end; whole = new.whole }
 
 pub reads_nothing : (reply : AllReply) (buf : List ℕ) (now : Progress) → StandsIn reply buf → ReadsOn reply reply buf buf now now
-reads_nothing reply buf now stands = record { more = []; given = gives_nothing now; waits = sym (append-nil (waiting reply buf)); stands = stands; same = refl }
+reads_nothing reply buf now stands = record { more = []; stays = λ whole. (refl, whole); given = gives_nothing now; waits = sym (append-nil (waiting reply buf)); stands = stands; same = refl }
 
 put_within : (a k n : ℕ) (xs ys : List ℕ) → a ≤ length xs → n ≤ length ys → a + n ≤ length (put_mid a k xs ys)
 put_within a k n xs ys within fits = omega (arith, length-append (take a xs) (ys ++ post_of a k xs), length-append ys (post_of a k xs), length-take-le a xs within)
@@ -156,6 +157,7 @@ reads_more old mid new k count buf buf' room was input input' reader reader' so_
     let gives : GivesMore got (progress input reader mid.whole) (progress input' reader' (count == 0)) = rw going (gives_piece got input input' reader reader' count len piece) in
     rw is (record {
       more = so_far.more ++ got;
+      stays = λ whole. absurd (let h : false ≡ true = sym going ∙ (so_far.stays whole).1 in cc);
       given = gives_then so_far.more got was (progress input reader mid.whole) (progress input' reader' (count == 0)) so_far.given gives;
       waits = waiting-read mid.start mid.end k count buf' room order within few ∙ ap (λ (xs : List ℕ). xs ++ got) so_far.waits ∙ append_assoc (waiting old buf) so_far.more got;
       stands = record { order = omega arith; fits = put_within mid.end k count buf' room within few };
@@ -168,7 +170,7 @@ reads_more old mid new k count buf buf' room was input input' reader reader' so_
 pub record Skips (was now : Progress) (at : ℕ) : Type 0 where
   pub more : List ℕ
   pub given : GivesMore more was now
-  pub ended : was.whole ≡ true → (more ≡ []) × (now.whole ≡ true)
+  pub ended : StaysWhole more was.whole now.whole
   pub underway : IsUnderway at now
 
 pub skips_nothing : (now : Progress) (at : ℕ) → IsUnderway at now → Skips now now at

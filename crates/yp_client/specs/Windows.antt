@@ -63,6 +63,10 @@ pub record IsUnderway (count : ℕ) (now : Progress) : Type 0 where
 abbrev pub MayCome : List ℕ → Bool → Type 0
 MayCome more whole = whole ≡ true → more ≡ []
 
+-- Where its end was met, nothing more was read.
+abbrev pub StaysWhole : List ℕ → Bool → Bool → Type 0
+StaysWhole more old new = old ≡ true → (more ≡ []) × (new ≡ true)
+
 -- An item stands whole in the buffer, or the record ends in it.
 abbrev pub HasItem : AllReply → List ℕ → Type 0
 HasItem reply buf = (item_max ≤ length (waiting reply buf)) ⊎ (reply.whole ≡ true)

@@ -88,7 +88,7 @@ fn push(into: &mut VersionBuilder, row: ListedRow<'_>) -> Result<(), ClientFault
 
 impl AllReply {
     ghost use Rattle.std.specs.Prelude.{slice_range};
-    ghost use Rattle.yp_client.specs.Windows.{waiting, ahead, progress, HasReached, GivesMore, IsUnderway, MayCome, StandsIn, HasItem};
+    ghost use Rattle.yp_client.specs.Windows.{waiting, ahead, progress, HasReached, GivesMore, IsUnderway, MayCome, StaysWhole, StandsIn, HasItem};
     ghost use Rattle.yp_client.specs.Windows.{Heads, Advances, Pushes, SaysSoFar};
 
     /// The reply to the call with this number, of which nothing was read.
@@ -126,7 +126,7 @@ impl AllReply {
         buf: &mut [u8],
     ) -> Result<(), RecordFault>
         requires { StandsIn self.old buf.old }
-        ensures more { OnOk result ((more : List ℕ)
+        ensures more { OnOk result ((more : List ℕ) × StaysWhole more self.old.whole self.new.whole
             × GivesMore more (progress (S.input source.old) reader.old self.old.whole) (progress (S.input source.new) reader.new self.new.whole)
             × (waiting self.new buf.new ≡ waiting self.old buf.old ++ more)) }
         ensures full { OnOk result ((self.new.end ≡ length buf.new) ⊎ (self.new.whole ≡ true)) }
@@ -153,7 +153,7 @@ impl AllReply {
     ) -> Result<(), RecordFault>
         requires stands { StandsIn self.old buf.old }
         requires room { length buf.old ≡ reply_max }
-        ensures more { OnOk result ((more : List ℕ)
+        ensures more { OnOk result ((more : List ℕ) × StaysWhole more self.old.whole self.new.whole
             × GivesMore more (progress (S.input source.old) reader.old self.old.whole) (progress (S.input source.new) reader.new self.new.whole)
             × (waiting self.new buf.new ≡ waiting self.old buf.old ++ more)) }
         ensures item { OnOk result (HasItem self.new buf.new) }

@@ -1,11 +1,11 @@
-use Rattle.std.proofs.Common.{◌≡◌, [], sym, ap}
+use Rattle.std.proofs.Common.{◌≡◌, [], refl, sym, ap}
 use Rattle.std.proofs.lemmas.List.{append-nil}
 use Rattle.yp_client.specs.declared.all.AllReply.{AllReply}
 use Rattle.yp_client.proofs.Waiting.{gives_nothing}
 use Rattle.yp_client.proofs.all.AllReply.have_item.Goals as goal
 
 pub returns-then-self-clause-more : goal.returns-then-self-clause-more
-returns-then-self-clause-more g c = ([], gives_nothing _, sym (append-nil _))
+returns-then-self-clause-more g c = ([], λ whole. (refl, whole), gives_nothing _, sym (append-nil _))
 
 pub returns-clause-more : goal.returns-clause-more
 returns-clause-more g c =
