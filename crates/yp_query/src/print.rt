@@ -56,10 +56,8 @@ fn print_standing<K: Sink>(
     ensures puts { Puts (standing_text order master.now) result text.old text.new (K.output sink.old) (K.output sink.new) }
     ensures cause { CountsFaults (K.faults sink.old) (K.faults sink.new) result }
 {
-    text.put(sink, b"order ")?;
-    text.put_line(sink, itoa::Buffer::new().format(order).as_bytes())?;
-    text.put(sink, b"master ")?;
-    text.put_line(sink, master)
+    text.put_pair(sink, b"order", itoa::Buffer::new().format(order).as_bytes())?;
+    text.put_pair(sink, b"master", master)
 }
 
 fn print_names<K: Sink>(
@@ -71,9 +69,10 @@ fn print_names<K: Sink>(
     ensures cause { CountsFaults (K.faults sink.old) (K.faults sink.new) result }
 {
     for i in 0..names.len() {
-        if let Some(name) = names.get(i) {
-            text.put_line(sink, name)?;
-        }
+        let Some(name) = names.get(i) else {
+            unreachable!()
+        };
+        text.put_line(sink, name)?;
     }
     Ok(())
 }

@@ -1,6 +1,6 @@
 //! Text that goes out through a buffer.
 
-ghost use Rattle.std.specs.Prelude.{◌≡◌, ◌+◌, ◌≤◌, [], ◌++◌, length, IsTrue, IfOk, OnOk, OnErr};
+ghost use Rattle.std.specs.Prelude.{◌≡◌, ◌+◌, ◌≤◌, [], ◌∷◌, ◌++◌, length, IsTrue, IfOk, OnOk, OnErr};
 ghost use Rattle.std.specs.Io.KnownBytes.{Appends};
 ghost use Rattle.yp_io.specs.Counts.{CountsFaults};
 ghost use Rattle.yp_query.specs.Lines.{line};
@@ -65,6 +65,21 @@ impl TextBuffer {
     {
         self.put(sink, text)?;
         self.put(sink, b"\n")
+    }
+
+    /// Puts a line of two texts, with a space between.
+    pub fn put_pair<K: Sink>(
+        &mut self,
+        sink: &mut K,
+        first: &[u8],
+        second: &[u8],
+    ) -> Result<(), Failed>
+        ensures puts { Puts (line (first.now ++ 32 ∷ second.now)) result self.old self.new (K.output sink.old) (K.output sink.new) }
+        ensures cause { CountsFaults (K.faults sink.old) (K.faults sink.new) result }
+    {
+        self.put(sink, first)?;
+        self.put(sink, b" ")?;
+        self.put_line(sink, second)
     }
 
     /// Writes what waits, and flushes.
