@@ -1,0 +1,11 @@
+use Rattle.std.proofs.Common.{◌≤◌, take, Ok}
+use Rattle.yp_io.specs.declared.stream.Failed.{Failed}
+use Rattle.yp_query.specs.Lines.{lines}
+use Rattle.yp_query.specs.Printed.{Puts}
+use Rattle.yp_query.proofs.print.print_names.Given as goal
+
+abbrev pub invariant-loop-i : goal.invariant-loop-i
+invariant-loop-i g l = record {
+  puts : Puts {E = Failed} (lines (take l.i l.names)) (Ok tt) l.initial.text l.text (g.K.Sink.output l.initial.sink) (g.K.Sink.output l.sink);
+  faults : g.K.Sink.faults l.initial.sink ≤ g.K.Sink.faults l.sink;
+}

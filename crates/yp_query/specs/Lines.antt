@@ -1,0 +1,22 @@
+-- The text of each answer.
+use Rattle.std.specs.Prelude.{ℕ, List, [], ◌∷◌, ◌++◌, codes, decimal, flat_map, Bool, if◌then◌else◌}
+use Rattle.yp_version.specs.Rows.{Row}
+
+-- a line: bytes as they are, and a line feed
+abbrev pub line : List ℕ → List ℕ
+line text = text ++ 10 ∷ []
+
+-- a line each, in their order
+abbrev pub lines : List (List ℕ) → List ℕ
+lines texts = flat_map line texts
+
+-- the value of a row, with its key and a space before it where keys are wanted
+abbrev pub row_text : Bool → Row → List ℕ
+row_text keyed row = if keyed then row.0 ++ 32 ∷ row.1 else row.1
+
+abbrev pub rows_text : Bool → List Row → List ℕ
+rows_text keyed rows = flat_map (λ row. line (row_text keyed row)) rows
+
+-- an order number, and the name of a master
+abbrev pub standing_text : ℕ → List ℕ → List ℕ
+standing_text order master = line (codes "order " ++ decimal order) ++ line (codes "master " ++ master)

@@ -1,0 +1,85 @@
+-- What a query does to its dial, and what it prints.
+use Rattle.std.specs.Prelude.{◌≡◌, ℕ, false, List, Option, Result, Ok, Err, IsOkAnd, ⊤}
+use Rattle.std.specs.Io.KnownBytes.{Keeps, Appends}
+use Rattle.yp_io.specs.Counts.{HasRisen}
+use Rattle.yp_io.specs.Dials.{Wires, Ended, Comes, GoesBack, IsFresh}
+use Rattle.yp_client.specs.declared.fault.ClientFault.TheVariants.{ReadFault, WriteFault}
+use Rattle.yp_client.specs.Moments.{Moment}
+use Rattle.yp_query.specs.declared.fault.QueryFault.{QueryFault}
+use Rattle.yp_query.specs.declared.fault.QueryFault.TheVariants.{NoKey, Client, Dial, Output, NoMemory}
+use Rattle.yp_query.specs.declared.question.Query.{Query}
+use Rattle.yp_query.specs.Printed.{AppendsFront}
+use Rattle.yp_query.specs.Asked.{Outcome, Converses}
+
+-- what a dial tells of its wires, and how often it has failed
+pub record Dialing : Type 0 where
+  pub past : Option Wires
+  pub faults : ℕ
+
+-- what a dial and a sink tell: with that, what the sink has taken, and how often it has failed
+pub record Scene : Type 0 where
+  pub dial : Dialing
+  pub output : Option (List ℕ)
+  pub faults : ℕ
+
+abbrev pub dialing_of : {A : Type 0} → (A → Option Wires) → (A → ℕ) → A → Dialing
+dialing_of past faults dial = record { past = past dial; faults = faults dial }
+
+abbrev pub scene_of : {A K : Type 0} → (A → Option Wires) → (A → ℕ) → (K → Option (List ℕ)) → (K → ℕ) → A → K → Scene
+scene_of past dial_faults output faults dial sink =
+    record { dial = dialing_of past dial_faults dial; output = output sink; faults = faults sink }
+
+-- ---- the dial
+
+-- a client of a wire that has met no fault and taken nothing, whose first call has the number 1
+pub record IsFirst (moment : Moment) : Type 0 where
+  pub fresh : IsFresh moment.reads moment.writes moment.output
+  pub xid : moment.xid ≡ 1
+  pub place : moment.place ≡ 0
+  pub spent : moment.spent ≡ false
+
+-- what its wire tells
+abbrev pub ended_of : Moment → Ended
+ended_of moment = record { input = moment.input; output = moment.output }
+
+-- One wire came, the calls of a query were made on it, and it went back.
+pub record Exchanges (query : Query) (outcome : Outcome) (old new : Option Wires) : Type 0 where
+  pub first : Moment
+  pub last : Moment
+  pub mid : Option Wires
+  pub comes : Comes first.input old mid
+  pub begins : IsFirst first
+  pub converses : Converses query outcome first last
+  pub goes_back : GoesBack (ended_of last) mid new
+
+-- No wire came; or one came and went back.
+abbrev pub Dials : Query → Outcome → Option Wires → Option Wires → Type 0
+Dials query (Err Dial) old new = new ≡ old
+Dials query outcome old new = Exchanges query outcome old new
+
+-- the count of a dial rose, where its wire failed, too
+abbrev pub DialHasCause : QueryFault → ℕ → ℕ → Type 0
+DialHasCause Dial before now = HasRisen before now
+DialHasCause (Client ReadFault) before now = HasRisen before now
+DialHasCause (Client WriteFault) before now = HasRisen before now
+DialHasCause fault before now = ⊤
+
+-- ---- both
+
+-- What is printed: the text, of which a sink that failed has taken a front, and nothing where there is none.
+abbrev pub Prints : Outcome → Result (Unit {0}) QueryFault → Option (List ℕ) → Option (List ℕ) → Type 0
+Prints outcome (Ok done) before after = IsOkAnd outcome (λ text. Appends before after text)
+Prints outcome (Err Output) before after = IsOkAnd outcome (λ text. AppendsFront text before after)
+Prints outcome (Err NoMemory) before after = Keeps before after
+Prints outcome (Err fault) before after = (outcome ≡ Err fault) × Keeps before after
+
+-- No wire came, and nothing was printed; or one came and went back, and what its calls came to was printed.
+abbrev pub Asks : Query → Result (Unit {0}) QueryFault → Scene → Scene → Type 0
+Asks query (Err Dial) old new = (new.dial.past ≡ old.dial.past) × Keeps old.output new.output
+Asks query result old new =
+    (outcome : Outcome) × Exchanges query outcome old.dial.past new.dial.past × Prints outcome result old.output new.output
+
+-- the count of what failed rose
+abbrev pub HasCause : QueryFault → Scene → Scene → Type 0
+HasCause Output old new = HasRisen old.faults new.faults
+HasCause fault old new = DialHasCause fault old.dial.faults new.dial.faults

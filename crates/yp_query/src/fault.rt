@@ -1,0 +1,58 @@
+//! Why a query has no answer.
+
+ghost use Rattle.std.specs.Prelude.{◌≡◌};
+ghost use Rattle.yp_query.specs.Refusals.{match_refusal};
+
+use yp_client::ClientFault;
+use yp_io::NoMemory;
+use yp_msgs::YpStat;
+
+/// Why a query has no answer. Nothing was printed, but after `Output`.
+#[derive(Clone, Copy, Debug, PartialEq, Eq)]
+pub enum QueryFault {
+    /// MATCH: the map has no such key.
+    NoKey,
+    /// The first call that was refused was refused so.
+    Client(ClientFault),
+    /// No wire came.
+    Dial,
+    /// The sink failed. It may have taken a front of the text.
+    Output,
+    /// Memory ran out.
+    NoMemory,
+}
+
+impl From<ClientFault> for QueryFault {
+    ghost use Rattle.std.specs.Prelude.{◌≡◌};
+    ghost use Rattle.yp_query.specs.Refusals.{refusal};
+
+    ghost from_gives = { λ fault given. given ≡ refusal fault };
+
+    fn from(fault: ClientFault) -> QueryFault {
+        match fault {
+            ClientFault::NoMemory => QueryFault::NoMemory,
+            fault => QueryFault::Client(fault),
+        }
+    }
+}
+
+impl From<NoMemory> for QueryFault {
+    ghost use Rattle.std.specs.Prelude.{◌≡◌};
+    ghost use Rattle.yp_query.specs.declared.fault.QueryFault.TheVariants as faults;
+
+    ghost from_gives = { λ _ given. given ≡ faults.NoMemory };
+
+    fn from(_memory: NoMemory) -> QueryFault {
+        QueryFault::NoMemory
+    }
+}
+
+/// The fault of a MATCH: that there is no such key is an answer of its own.
+pub fn of_match(fault: ClientFault) -> QueryFault
+    ensures { result ≡ match_refusal fault }
+{
+    match fault {
+        ClientFault::Yp(YpStat::Nokey) => QueryFault::NoKey,
+        fault => fault.into(),
+    }
+}

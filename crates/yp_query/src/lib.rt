@@ -1,0 +1,16 @@
+//! What the client commands ask of a YP server, and what they print.
+//!
+//! A query dials a server, makes its calls, gives the wire back, and prints the whole answer or nothing of it. Its promise
+//! stands on [`query`].
+#![tactic(auto)]
+
+mod answer;
+mod dialed;
+mod fault;
+mod print;
+mod question;
+mod text;
+
+pub use dialed::query;
+pub use fault::QueryFault;
+pub use question::Query;

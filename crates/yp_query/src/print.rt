@@ -1,0 +1,78 @@
+//! Answers that are printed.
+
+ghost use Rattle.std.specs.Prelude.{◌≡◌, ◌≢◌, ◌≤◌, IsTrue, Ok, Err, OnOk, IfErr};
+ghost use Rattle.yp_io.specs.Counts.{CountsFaults, HasRisen};
+ghost use Rattle.yp_query.specs.Lines.{lines, standing_text};
+ghost use Rattle.yp_query.specs.Printed.{Puts};
+ghost use Rattle.yp_query.specs.Answers.{text_of};
+ghost use Rattle.yp_query.specs.Scenes.{Prints};
+
+use crate::answer::Answer;
+use crate::fault::QueryFault;
+use crate::text::TextBuffer;
+use std::alloc::Global;
+use yp_io::{Failed, Sink};
+use yp_msgs::Names;
+
+/// Prints an answer, and flushes.
+pub fn print<K: Sink>(alloc: Global, answer: &Answer, sink: &mut K) -> Result<(), QueryFault>
+    ensures prints { Prints (Ok (text_of answer.now)) result (K.output sink.old) (K.output sink.new) }
+    ensures flushed { result ≢ Err QueryFault.Output → IsTrue (K.flushed sink.old) → IsTrue (K.flushed sink.new) }
+    ensures cause { result ≡ Err QueryFault.Output → HasRisen (K.faults sink.old) (K.faults sink.new) }
+    ensures faults { K.faults sink.old ≤ K.faults sink.new }
+{
+    let mut text = TextBuffer::new(alloc)?;
+    match print_answer(&mut text, sink, answer) {
+        Ok(()) => {}
+        Err(Failed) => return Err(QueryFault::Output),
+    }
+    match text.end(sink) {
+        Ok(()) => Ok(()),
+        Err(Failed) => Err(QueryFault::Output),
+    }
+}
+
+fn print_answer<K: Sink>(
+    text: &mut TextBuffer,
+    sink: &mut K,
+    answer: &Answer,
+) -> Result<(), Failed>
+    ensures puts { Puts (text_of answer.now) result text.old text.new (K.output sink.old) (K.output sink.new) }
+    ensures cause { CountsFaults (K.faults sink.old) (K.faults sink.new) result }
+{
+    match answer {
+        Answer::Line(line) => text.put_line(sink, line),
+        Answer::Standing { order, master } => print_standing(text, sink, *order, master),
+        Answer::Maps(names) => print_names(text, sink, names),
+    }
+}
+
+fn print_standing<K: Sink>(
+    text: &mut TextBuffer,
+    sink: &mut K,
+    order: u32,
+    master: &[u8],
+) -> Result<(), Failed>
+    ensures puts { Puts (standing_text order master.now) result text.old text.new (K.output sink.old) (K.output sink.new) }
+    ensures cause { CountsFaults (K.faults sink.old) (K.faults sink.new) result }
+{
+    text.put_pair(sink, b"order", itoa::Buffer::new().format(order).as_bytes())?;
+    text.put_pair(sink, b"master", master)
+}
+
+fn print_names<K: Sink>(
+    text: &mut TextBuffer,
+    sink: &mut K,
+    names: &Names,
+) -> Result<(), Failed>
+    ensures puts { Puts (lines names.now) result text.old text.new (K.output sink.old) (K.output sink.new) }
+    ensures cause { CountsFaults (K.faults sink.old) (K.faults sink.new) result }
+{
+    for i in 0..names.len() {
+        let Some(name) = names.get(i) else {
+            unreachable!()
+        };
+        text.put_line(sink, name)?;
+    }
+    Ok(())
+}
