@@ -1,7 +1,7 @@
 -- What a crash leaves in two times, one after the other, and facts of places in lists.
-use Rattle.std.proofs.Common.{◌≡◌, ◌⊎◌, inl, inr, ⊎_elim, ℕ, zero, suc, ◌≤◌, List, [], ◌∷◌, ◌++◌, map, length, slice_get, Option, Some, None, IfSome, IsSome, option_map, refl, sym, ◌∙◌, ap, subst, arith}
+use Rattle.std.proofs.Common.{◌≡◌, ◌⊎◌, inl, inr, ⊎_elim, ℕ, zero, suc, ◌≤◌, List, [], ◌∷◌, ◌++◌, map, length, slice_get, All, Option, Some, None, IfSome, IsSome, option_map, refl, sym, ◌∙◌, ap, subst, arith}
 use Rattle.std.specs.List.{AllZip}
-use Rattle.std.proofs.lemmas.Option.{slice_get-map}
+use Rattle.std.proofs.lemmas.Option.{slice_get_cases}
 use Rattle.yp_io.specs.Disk.{History, GoesOn, LeftBetween, LeavesOnly, MayLeave}
 use Rattle.yp_io.specs.DiskLaws.{stays, only_now, counts_now, goes_on, splits}
 
@@ -76,10 +76,6 @@ opt_second o None some f h = tt
 opt_second {A} None (Some b) some f h = let no : IsSome {T = A} None = some refl in absurd (cc)
 opt_second (Some a) (Some b) some f h = f a b refl refl h
 
-pub opt_map : {A B : Type 0} (P : B → Type 0) (f : A → B) (o : Option A) → IfSome (option_map f o) P → IfSome o (λ a. P (f a))
-opt_map P f None h = tt
-opt_map P f (Some a) h = h
-
 pub opt_at : {A : Type 0} (P : A → Type 0) (o : Option A) (a : A) → o ≡ Some a → IfSome o P → P a
 opt_at {A} P o a e h = subst (λ (q : Option A). IfSome q P) e h
 
@@ -103,3 +99,18 @@ zip_at R [] ys n all = tt
 zip_at R (x ∷ xs) [] n all = absurd all
 zip_at R (x ∷ xs) (y ∷ ys) zero all = all.0
 zip_at R (x ∷ xs) (y ∷ ys) (suc n) all = zip_at R xs ys n all.1
+
+pub all_at : {A : Type 0} (P : A → Type 0) (xs : List A) (n : ℕ) → All P xs → IfSome (slice_get xs n) P
+all_at {A} P xs n all = elim (slice_get_cases xs n).1 [
+  | inl here ↦ opt_put P (slice_get xs n) here.0 here.2 (subst P here.3 (all n here.0 here.1))
+  | inr past ↦ subst (λ (o : Option A). IfSome o P) (sym past.1) tt
+]
+
+-- the same of the second list with a part of each element
+pub opt_put_map : {A B C : Type 0} (P : A → C → Type 0) (f : B → C) (o : Option A) (p : Option B) (q : Option C) → q ≡ option_map f p
+    → IfSome o (λ a. IfSome p (λ b. P a (f b))) → IfSome o (λ a. IfSome q (P a))
+opt_put_map {A} {B} {C} P f o p q e h = subst (λ (r : Option C). IfSome o (λ a. IfSome r (P a))) (sym e) (mapped o p h) where
+  mapped : (o : Option A) (p : Option B) → IfSome o (λ a. IfSome p (λ b. P a (f b))) → IfSome o (λ a. IfSome (option_map f p) (P a))
+  mapped None p h = tt
+  mapped (Some a) None h = tt
+  mapped (Some a) (Some b) h = h

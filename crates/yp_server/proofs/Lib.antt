@@ -5,3 +5,4 @@ pub mod Growing
 pub mod Making
 pub mod Passing
 pub mod Hosting
+pub mod Serving
