@@ -1,8 +1,8 @@
 -- What a crash leaves in two times, one after the other, and facts of places in lists.
-use Rattle.std.proofs.Common.{◌≡◌, ◌⊎◌, inl, inr, ⊎_elim, ℕ, zero, suc, ◌≤◌, List, [], ◌∷◌, ◌++◌, map, length, slice_get, All, Option, Some, None, IfSome, IsSome, option_map, refl, sym, ◌∙◌, ap, subst, arith}
+use Rattle.std.proofs.Common.{◌≡◌, ◌⊎◌, inl, inr, ⊎_elim, ℕ, zero, suc, List, [], ◌∷◌, length, slice_get, All, Option, Some, None, IfSome, IsSome, option_map, refl, sym, subst}
 use Rattle.std.specs.List.{AllZip}
 use Rattle.std.proofs.lemmas.Option.{slice_get_cases}
-use Rattle.yp_io.specs.Disk.{History, GoesOn, LeftBetween, LeavesOnly, MayLeave}
+use Rattle.yp_io.specs.Disk.{History, GoesOn, LeavesOnly, MayLeave}
 use Rattle.yp_io.specs.DiskLaws.{stays, only_now, counts_now, goes_on, splits}
 
 -- ---- disks

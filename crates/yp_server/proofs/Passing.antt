@@ -1,23 +1,21 @@
 -- How published maps pass from one moment to a later one, and what each step of a making keeps.
-use Rattle.std.proofs.Common.{◌≡◌, ◌≢◌, ◌⊎◌, inl, inr, ℕ, ◌<◌, ◌≤◌, List, [], ◌∷◌, ◌++◌, map, length, slice_get, slice_set, slice_index_or, get_or, Option, Some, None, IfSome, IsSome, option_map, refl, sym, ◌∙◌, ap, subst, arith, append_assoc}
-use Rattle.std.specs.Bool.{⊤}
+use Rattle.std.proofs.Common.{◌≡◌, ◌⊎◌, inl, inr, ℕ, ◌<◌, ◌≤◌, List, [], ◌∷◌, ◌++◌, map, length, slice_get, slice_set, Option, Some, None, IfSome, IsSome, option_map, refl, sym, ◌∙◌, ap, subst, arith, append_assoc}
 use Rattle.std.proofs.lemmas.List.{append-nil, length-set, length-map, get_or-set_same}
-use Rattle.std.proofs.lemmas.Option.{slice_get_cases, slice_get_within, slice_get_read, slice_get-map, get_or_from_slice_get, same_Some}
+use Rattle.std.proofs.lemmas.Option.{slice_get_cases, slice_get_read, slice_get-map, get_or_from_slice_get, same_Some}
 use Rattle.std.proofs.lemmas.Bool.{cases_eq}
-use Rattle.yp_io.specs.Disk.{History, LeavesOnly, MayLeave}
+use Rattle.yp_io.specs.Disk.{LeavesOnly}
 use Rattle.yp_msgs.specs.declared.transfer.XfrStat.{XfrStat}
 use Rattle.yp_version.specs.Versions.{MapVersion}
-use Rattle.yp_slot.specs.Stands.{Stored, stands, file_max}
+use Rattle.yp_slot.specs.Stands.{file_max}
 use Rattle.yp_board.specs.Logs.{Log, shown}
 use Rattle.yp_board.specs.Views.{IsFront}
 use Rattle.yp_publish.specs.Standing.{MapStanding, Level, Behind, Kept, Published, StandsAs, IsStanding, OfMap, At, IsSameElsewhere, Shows, stands_for, versions}
-use Rattle.yp_publish.specs.Installs.{LeavesFew}
 use Rattle.yp_publish.specs.Opens.{IsAnother}
 use Rattle.yp_publish.specs.Rising as rising
 use Rattle.yp_publish.specs.Rising.{with_shown, Reopens, InstallsNewer}
 use Rattle.yp_server.specs.Locals.{Keeping}
 use Rattle.yp_server.specs.Steps.{Keeps, Opens, StaysBehind, Installs}
-use Rattle.yp_server.specs.Connections.{Making, AreMade, GrowsBy, IsShownOrMade, IsOfBetween, LeavesOr}
+use Rattle.yp_server.specs.Connections.{Making, AreMade, GrowsBy, IsOfBetween, IsBehindMade, LeavesOr}
 use Rattle.yp_server.proofs.Growing.{front_same, front_more, at_one}
 use Rattle.yp_server.proofs.Leaving.{weaker, left_alone, both_leave_or, told_on, told_before, opt_one, opt_both, opt_same, opt_then, opt_second, opt_at, opt_at_both, same_places}
 
@@ -53,11 +51,6 @@ grows_then Is a b c first second = record {
 }
 
 -- ---- how a map stands
-
--- a map that is behind is behind a version that was made of it behind the log
-abbrev pub IsBehindMade : Making → ℕ → Log → MapStanding → Type 0
-IsBehindMade Is number log Level = ⊤
-IsBehindMade Is number log (Behind version) = Is number log version
 
 behind_again : (Is : Making) → Respects Is → (standing : MapStanding) (number : ℕ) (log other : Log) → shown number log ≡ shown number other
     → IsBehindMade Is number log standing → IsBehindMade Is number other standing

@@ -1,26 +1,25 @@
 -- A connection, from the disks that were loaded and the session that ran.
-use Rattle.std.proofs.Common.{◌≡◌, ◌⊎◌, inl, inr, ℕ, ◌≤◌, List, [], ◌∷◌, ◌++◌, map, length, slice_get, Option, Some, IfSome, IsSome, refl, sym, ◌∙◌, ap, subst, arith}
+use Rattle.std.proofs.Common.{◌≡◌, inl, ℕ, ◌≤◌, List, [], ◌∷◌, ◌++◌, map, length, slice_get, Option, IfSome, IsSome, refl, sym, ◌∙◌, ap, subst, arith}
 use Rattle.std.specs.List.{AllZip}
 use Rattle.std.proofs.lemmas.List.{length-map}
 use Rattle.std.proofs.lemmas.Option.{slice_get-map}
 use Rattle.std.proofs.lemmas.Slice.Zip.{AllZip-long}
-use Rattle.yp_io.specs.Disk.{History, LeavesOnly, MayLeave}
+use Rattle.yp_io.specs.Disk.{History}
 use Rattle.yp_slot.specs.Stands.{file_max}
 use Rattle.yp_slot.specs.declared.fault.SlotFault.{SlotFault}
 use Rattle.yp_slot.specs.declared.fault.SlotFault.TheVariants as cause
 use Rattle.yp_board.specs.Logs.{Log, starts}
 use Rattle.yp_publish.specs.Laws.{StartsAreShown}
-use Rattle.yp_publish.specs.Standing.{MapStanding, Level, Kept, Published, At, Shows, versions}
+use Rattle.yp_publish.specs.Standing.{MapStanding, Kept, Published, At, Shows, versions}
 use Rattle.yp_publish.specs.Opens.{IsOpened, IsStopped, LeavesNoMore}
 use Rattle.yp_answer.specs.Laws.{OpenIsUnrefused}
 use Rattle.yp_session.specs.Runs.{Runs}
 use Rattle.yp_session.specs.declared.session.End.{End}
 use Rattle.yp_server.specs.declared.desk.Desk.{Desk}
 use Rattle.yp_server.specs.Locals.{Local, TellsSame}
-use Rattle.yp_server.specs.Connections.{calls_max, Service, Connection, local_conduct, moment_at, IsFirst, IsLast, IsMade, IsOfBetween, GrowsBy, AtDisk, LeavesOr, AreTold, Serves, IsUnserved, refusal}
-use Rattle.yp_server.proofs.Leaving.{weaker, left_alone, both_leave_or, told_on, opt_one, opt_both, opt_then, opt_second, opt_at, opt_put_map, same_places, zip_at, all_at}
-use Rattle.yp_server.proofs.Passing.{IsBehindMade, Sound, Passes}
-use Rattle.yp_server.proofs.Hosting.{respects, SoundHost, PassesHost, GoesOnTo, tells_same, chain_on}
+use Rattle.yp_server.specs.Connections.{calls_max, Service, Connection, local_conduct, moment_at, IsFirst, IsLast, IsMade, IsOfBetween, IsBehindMade, AtDisk, LeavesOr, AreTold, Serves, IsUnserved, refusal}
+use Rattle.yp_server.proofs.Leaving.{weaker, left_alone, both_leave_or, told_on, opt_both, opt_then, opt_second, opt_at, opt_put_map, same_places, zip_at, all_at}
+use Rattle.yp_server.proofs.Hosting.{SoundHost, GoesOnTo, tells_same, chain_on}
 
 -- ---- disks that were only opened
 
@@ -107,9 +106,9 @@ module _ {D B T C : Type 0} (service : Service D B T C) (old new : Connection D 
 
   pub went_on : OpenIsUnrefused → StartsAreShown → (end : End) (calls place : ℕ) → IsFirst service old start
       → Runs (local_conduct service.keeping service.telling) service.peer calls_max end (moment_at start old.wire 0) (moment_at finish new.wire place) calls
-      → PassesHost service old.desk start finish
+      → GoesOnTo service old.desk start finish
   went_on unrefused shown end calls place first runs =
-      (chain_on service old.desk unrefused runs.messages runs.answers start finish (first_sound shown first) runs.chain).1
+      chain_on service old.desk unrefused runs.messages runs.answers start finish (first_sound shown first) runs.chain
 
   -- what holds of a disk from its opening to its handing back
   through : (P : D → D → Type 0) (Q : Kept D → Kept D → Type 0) (number : ℕ)
@@ -140,8 +139,8 @@ module _ {D B T C : Type 0} (service : Service D B T C) (old new : Connection D 
 
   pub served : (end : End) (calls place : ℕ) → IsFirst service old start
       → Runs (local_conduct service.keeping service.telling) service.peer calls_max end (moment_at start old.wire 0) (moment_at finish new.wire place) calls
-      → PassesHost service old.desk start finish → IsLast service finish new → Serves service end old new
-  served end calls place first runs passes last = record {
+      → GoesOnTo service old.desk start finish → IsLast service finish new → Serves service end old new
+  served end calls place first runs went last = record {
     start = start;
     finish = finish;
     calls = calls;
@@ -152,28 +151,29 @@ module _ {D B T C : Type 0} (service : Service D B T C) (old new : Connection D 
     any_moment = λ number.
         through (LeavesOr service.keeping.history (IsOfBetween (IsMade service old.desk) number (service.keeping.log start.published.board) (service.keeping.log finish.published.board)))
         (λ before after. LeavesOr service.keeping.history (IsOfBetween (IsMade service old.desk) number (service.keeping.log start.published.board) (service.keeping.log finish.published.board)) before.disk after.disk)
-        number with_opening first (passes.maps.moments number) last;
-    grown = λ told. passes.maps.entries (told_maps first told);
+        number with_opening first (went.1.maps.moments number) last;
+    behind = went.0.maps.behind;
+    grown = λ told. went.1.maps.entries (told_maps first told);
   }
 
-  pub served_bound : IsFirst service old start → PassesHost service old.desk start finish → IsLast service finish new
+  pub served_bound : IsFirst service old start → GoesOnTo service old.desk start finish → IsLast service finish new
       → (number : ℕ) → AtDisk number old.disks new.disks (LeavesOr service.keeping.history (λ image. length image ≤ file_max))
-  served_bound first passes last number =
+  served_bound first went last number =
       through (LeavesOr service.keeping.history (λ image. length image ≤ file_max)) (λ before after. LeavesOr service.keeping.history (λ image. length image ≤ file_max) before.disk after.disk)
-      number with_opening first (passes.maps.bound number) last
+      number with_opening first (went.1.maps.bound number) last
 
-  pub served_falls : IsFirst service old start → PassesHost service old.desk start finish → IsLast service finish new
+  pub served_falls : IsFirst service old start → GoesOnTo service old.desk start finish → IsLast service finish new
       → (number : ℕ) → AtDisk number old.disks new.disks (λ before after. service.keeping.faults before ≤ service.keeping.faults after)
-  served_falls first passes last number =
+  served_falls first went last number =
       through (λ before after. service.keeping.faults before ≤ service.keeping.faults after) (λ before after. service.keeping.faults before.disk ≤ service.keeping.faults after.disk)
-      number (λ disk before after opened le. omega (arith, opened.never_falls)) first (passes.maps.never_falls number) last
+      number (λ disk before after opened le. omega (arith, opened.never_falls)) first (went.1.maps.never_falls number) last
 
-  pub served_count : IsFirst service old start → PassesHost service old.desk start finish → IsLast service finish new → length new.disks ≡ length old.disks
-  served_count first passes last =
-      ap length last.disks ∙ length-map finish.published.maps (λ (kept : Kept D). kept.disk) ∙ passes.maps.count
+  pub served_count : IsFirst service old start → GoesOnTo service old.desk start finish → IsLast service finish new → length new.disks ≡ length old.disks
+  served_count first went last =
+      ap length last.disks ∙ length-map finish.published.maps (λ (kept : Kept D). kept.disk) ∙ went.1.maps.count
       ∙ AllZip-long (IsOpened service.keeping.history service.keeping.faults) old.disks start.published.maps first.opened
 
-  pub served_desk : IsFirst service old start → PassesHost service old.desk start finish → IsLast service finish new → TellsSame service.telling old.desk new.desk
-  served_desk first passes last =
+  pub served_desk : IsFirst service old start → GoesOnTo service old.desk start finish → IsLast service finish new → TellsSame service.telling old.desk new.desk
+  served_desk first went last =
       subst (λ (d : Desk T C). TellsSame service.telling d new.desk) first.desk
-      (subst (λ (d : Desk T C). TellsSame service.telling start.desk d) (sym last.desk) passes.desk)
+      (subst (λ (d : Desk T C). TellsSame service.telling start.desk d) (sym last.desk) went.1.desk)

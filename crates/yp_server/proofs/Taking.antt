@@ -1,5 +1,5 @@
 -- What is handed back of a host that is taken apart.
-use Rattle.std.proofs.Common.{◌≡◌, ℕ, Option, ap, sym, subst}
+use Rattle.std.proofs.Common.{◌≡◌, ℕ, Option, subst}
 use Rattle.yp_io.specs.Disk.{History}
 use Rattle.yp_board.specs.Views.{Seen}
 use Rattle.yp_publish.specs.Standing.{Published, OfMap, IsStanding, Shows, versions}

@@ -1,6 +1,6 @@
 -- One connection over stored maps: the host that it starts with, the one that it ends with, and what a crash leaves at
 -- each moment between.
-use Rattle.std.specs.Prelude.{◌≡◌, ◌≢◌, ◌⊎◌, ◌≤◌, ℕ, List, [], ◌∷◌, ◌++◌, map, length, slice_get, All, Option, Some, None, IfSome, IsSome, ⊤}
+use Rattle.std.specs.Prelude.{◌≡◌, ◌≢◌, ◌⊎◌, ℕ, List, [], ◌∷◌, ◌++◌, map, slice_get, All, Option, Some, None, IfSome, IsSome, ⊤}
 use Rattle.std.specs.List.{AllZip}
 use Rattle.yp_io.specs.Counts.{next_count}
 use Rattle.yp_io.specs.Disk.{History, LeavesOnly, MayLeave}
@@ -14,7 +14,7 @@ use Rattle.yp_board.specs.Logs.{Log, shown, starts}
 use Rattle.yp_board.specs.Views.{Seen, IsFront}
 use Rattle.yp_build.specs.declared.kind.Kind.{Kind}
 use Rattle.yp_answer.specs.Make.{MakeRequest, kind_numbered, made_map, make_check}
-use Rattle.yp_publish.specs.Standing.{IsStanding, OfMap, Shows, stands_for, versions}
+use Rattle.yp_publish.specs.Standing.{MapStanding, Level, Behind, IsStanding, OfMap, Shows, stands_for, versions}
 use Rattle.yp_publish.specs.Opens.{IsOpened, IsStopped}
 use Rattle.yp_session.specs.Hosts.{Conduct, conduct_of}
 use Rattle.yp_session.specs.Runs.{Moment, Runs}
@@ -127,6 +127,11 @@ pub record IsOfBetween (Is : Making) (number : ℕ) (first last : Log) (image : 
   pub goes_on : IsFront log last
   pub of_log : IsShownOrMade Is number log image
 
+-- A map is level, or behind a version that was made of it behind the log.
+abbrev pub IsBehindMade : Making → ℕ → Log → MapStanding → Type 0
+IsBehindMade Is number log Level = ⊤
+IsBehindMade Is number log (Behind version) = Is number log version
+
 -- P holds of the disk with this number before and after, and nothing is said where there is none
 abbrev pub AtDisk : {D : Type 0} → ℕ → List D → List D → (D → D → Type 0) → Type 0
 AtDisk number old new P = IfSome (slice_get old number) (λ before. IfSome (slice_get new number) (P before))
@@ -155,6 +160,8 @@ pub record Serves {D B T C : Type 0} (service : Service D B T C) (end : End) (ol
   pub last : IsLast service finish new
   pub any_moment : (number : ℕ) → AtDisk number old.disks new.disks (LeavesOr service.keeping.history
       (IsOfBetween (IsMade service old.desk) number (service.keeping.log start.published.board) (service.keeping.log finish.published.board)))
+  pub behind : (number : ℕ) → OfMap number finish.published.maps (λ kept. IsSome (service.keeping.history kept.disk)
+      → IsBehindMade (IsMade service old.desk) number (service.keeping.log finish.published.board) kept.standing)
   pub grown : AreTold service.keeping.history old.disks
       → GrowsBy (IsMade service old.desk) (service.keeping.log start.published.board) (service.keeping.log finish.published.board)
 

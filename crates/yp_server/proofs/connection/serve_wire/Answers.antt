@@ -50,18 +50,18 @@ returns-in-Ok-prepare g c =
     let first = first_from service old new start finish c.in-Ok.loaded c.in-Ok-prepare.field-0.board c.new-publisher.result c.new-host.ensures c.new-publisher.ensures
         c.in-Ok.ensures.loaded (search rules) in
     let runs = c.run-end.ensures.runs in
-    let passes = went_on service old new start finish c.open_is_unrefused.ensures c.starts_are_shown.ensures c.run-end.result c.run-end.new.self.calls c.run-end.new.self.place first runs in
+    let went = went_on service old new start finish c.open_is_unrefused.ensures c.starts_are_shown.ensures c.run-end.result c.run-end.new.self.calls c.run-end.new.self.place first runs in
     let last : IsLast service finish new = record { disks = c.stock_of.ensures.disks; desk = c.stock_of.ensures.desk; shows = c.stock_of.ensures.shows; standing = c.stock_of.ensures.standing } in
     record {
-      served = served service old new start finish c.run-end.result c.run-end.new.self.calls c.run-end.new.self.place first runs passes last;
+      served = served service old new start finish c.run-end.result c.run-end.new.self.calls c.run-end.new.self.place first runs went last;
       unserved = search rules;
       untouched = search rules;
       unasked = search rules;
       unwritten = search rules;
-      bound = served_bound service old new start finish first passes last;
-      never_falls = served_falls service old new start finish first passes last;
-      count = served_count service old new start finish first passes last;
-      desk = served_desk service old new start finish first passes last;
+      bound = served_bound service old new start finish first went last;
+      never_falls = served_falls service old new start finish first went last;
+      count = served_count service old new start finish first went last;
+      desk = served_desk service old new start finish first went last;
       read_fault = search rules;
       write_fault = search rules;
       flushed = λ kept. c.run-end.ensures.flushed (λ same. kept (ap (λ (end : End). Ok end) same));
