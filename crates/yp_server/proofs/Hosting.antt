@@ -79,10 +79,13 @@ module _ {D B T C : Type 0} (service : Service D B T C) (first : Desk T C) where
       (sound, record { maps = passes_none service.keeping (IsMade service first) respects old.published; desk = tells_same service.telling old.desk })
 
   goes_twice : (old middle new : Local D B T C) → GoesOnTo old middle → GoesOnTo middle new → GoesOnTo old new
-  goes_twice old middle new f s = (s.0, record {
-    maps = passes_then service.keeping (IsMade service first) respects old.published middle.published new.published f.1.maps s.1.maps;
-    desk = tells_then service.telling old.desk middle.desk new.desk f.1.desk s.1.desk;
-  })
+  goes_twice old middle new f s = (
+    s.0,
+    record {
+      maps = passes_then service.keeping (IsMade service first) respects old.published middle.published new.published f.1.maps s.1.maps;
+      desk = tells_then service.telling old.desk middle.desk new.desk f.1.desk s.1.desk;
+    },
+  )
 
   -- a host whose maps went on, over a desk that tells the same
   with_maps : (old new : Local D B T C) → SoundHost old → TellsSame service.telling old.desk new.desk

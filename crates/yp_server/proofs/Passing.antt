@@ -240,24 +240,23 @@ module _ {D B : Type 0} (keeping : Keeping D B) (Is : Making) (same : Respects I
   pub stays_on : (number : ℕ) (stat : XfrStat) (old new : Published D B) → Sound old → StaysBehind keeping number stat old new → Sound new × Passes old new
   stays_on number stat old new sound step =
       let same_log : keeping.log new.board ≡ keeping.log old.board = ap keeping.log step.not_shown in
-      let front : IsFront (keeping.log old.board) (keeping.log new.board) = front_none (keeping.log old.board) (keeping.log new.board) same_log in
-      (
+      let front : IsFront (keeping.log old.board) (keeping.log new.board) = front_none (keeping.log old.board) (keeping.log new.board) same_log in (
         step_sound number old new sound step.kept
-        (opt_second (slice_get old.maps number) (slice_get new.maps number) (same_places new.maps old.maps number step.kept.elsewhere.count)
-        (λ before after there here is told. still_behind before after there here is told)
-        step.same),
+            (opt_second (slice_get old.maps number) (slice_get new.maps number) (same_places new.maps old.maps number step.kept.elsewhere.count)
+            (λ before after there here is told. still_behind before after there here is told)
+            step.same),
         step_passes number old new step.kept front (meanwhile number old new (λ kept. kept.standing) sound front (sound.behind number) step.meanwhile)
-        (λ told. grows_none Is (keeping.log old.board) (keeping.log new.board) same_log),
+            (λ told. grows_none Is (keeping.log old.board) (keeping.log new.board) same_log),
       ) where
         still_behind : (before after : Kept D) → slice_get old.maps number ≡ Some before → slice_get new.maps number ≡ Some after
             → after ≡ record before { disk = after.disk; generation = after.generation } → IsSome (keeping.history after.disk)
             → IsBehindMade Is number (keeping.log new.board) after.standing
         still_behind before after there here is told =
             let went = opt_at_both (λ (b a : Kept D). LeavesOnly (keeping.history b.disk) (keeping.history a.disk) (StandsAs b.standing b.version))
-                (slice_get old.maps number) (slice_get new.maps number) before after there here step.meanwhile in
+            (slice_get old.maps number) (slice_get new.maps number) before after there here step.meanwhile in
             let told_then : IsSome (keeping.history before.disk) = told_before (keeping.history before.disk) (keeping.history after.disk) went.goes_on told in
             let made : IsBehindMade Is number (keeping.log old.board) before.standing =
-                opt_at (λ (kept : Kept D). IsSome (keeping.history kept.disk) → IsBehindMade Is number (keeping.log old.board) kept.standing) (slice_get old.maps number) before there (sound.behind number) told_then in
+            opt_at (λ (kept : Kept D). IsSome (keeping.history kept.disk) → IsBehindMade Is number (keeping.log old.board) kept.standing) (slice_get old.maps number) before there (sound.behind number) told_then in
             let standing : after.standing ≡ before.standing = ap (λ (k : Kept D). k.standing) is in
             subst (λ (l : Log). IsBehindMade Is number l after.standing) (sym (ap keeping.log step.not_shown))
             (subst (λ (s : MapStanding). IsBehindMade Is number (keeping.log old.board) s) (sym standing) made)
@@ -266,26 +265,25 @@ module _ {D B : Type 0} (keeping : Keeping D B) (Is : Making) (same : Respects I
   pub opens_on : (number : ℕ) (old new : Published D B) → number < length old.maps → Sound old → Opens keeping number old new → Sound new × Passes old new
   opens_on number old new within sound step =
       let front : IsFront (keeping.log old.board) (keeping.log new.board) =
-          at_one (λ before after.
-          ((new.board ≡ old.board) × (after.version ≡ before.version))
-          ⊎ ((version : MapVersion) × IsAnother version before after × (keeping.log new.board ≡ with_shown number version (keeping.log old.board))))
-          number old.maps new.maps within step.kept.elsewhere.count
-          (λ before after one. elim one [ inl none ↦ front_same keeping.log old.board new.board none.0 | inr more ↦ front_more number more.0 (keeping.log old.board) (keeping.log new.board) more.2 ])
-          step.shown in
-      (
+      at_one (λ before after.
+      ((new.board ≡ old.board) × (after.version ≡ before.version))
+      ⊎ ((version : MapVersion) × IsAnother version before after × (keeping.log new.board ≡ with_shown number version (keeping.log old.board))))
+      number old.maps new.maps within step.kept.elsewhere.count
+      (λ before after one. elim one [ inl none ↦ front_same keeping.log old.board new.board none.0 | inr more ↦ front_more number more.0 (keeping.log old.board) (keeping.log new.board) more.2 ])
+      step.shown in (
         step_sound number old new sound step.kept
-        (opt_one (slice_get new.maps number) (λ kept there level told. subst (λ (s : MapStanding). IsBehindMade Is number (keeping.log new.board) s) (sym level) tt) step.level),
+            (opt_one (slice_get new.maps number) (λ kept there level told. subst (λ (s : MapStanding). IsBehindMade Is number (keeping.log new.board) s) (sym level) tt) step.level),
         step_passes number old new step.kept front (meanwhile number old new (λ kept. kept.standing) sound front (sound.behind number) step.meanwhile)
-        (λ told. reopened (the_map old.maps number within) told),
+            (λ told. reopened (the_map old.maps number within) told),
       ) where
         reopened : (kept : Kept D) × (slice_get old.maps number ≡ Some kept) → OfMap number old.maps (λ kept. IsSome (keeping.history kept.disk))
             → GrowsBy Is (keeping.log old.board) (keeping.log new.board)
         reopened map told =
             let told_here : IsSome (keeping.history map.0.disk) = opt_at Told (slice_get old.maps number) map.0 map.1 told in
             let made : IsBehindMade Is number (keeping.log old.board) map.0.standing =
-                opt_at (λ (kept : Kept D). IsSome (keeping.history kept.disk) → IsBehindMade Is number (keeping.log old.board) kept.standing) (slice_get old.maps number) map.0 map.1 (sound.behind number) told_here in
+            opt_at (λ (kept : Kept D). IsSome (keeping.history kept.disk) → IsBehindMade Is number (keeping.log old.board) kept.standing) (slice_get old.maps number) map.0 map.1 (sound.behind number) told_here in
             let rises : Reopens number (rising.moment_of keeping.log old) (rising.moment_of keeping.log new) =
-                opt_at (λ (kept : Kept D). IsSome (keeping.history kept.disk) → Reopens number (rising.moment_of keeping.log old) (rising.moment_of keeping.log new)) (slice_get old.maps number) map.0 map.1 step.rising told_here in
+            opt_at (λ (kept : Kept D). IsSome (keeping.history kept.disk) → Reopens number (rising.moment_of keeping.log old) (rising.moment_of keeping.log new)) (slice_get old.maps number) map.0 map.1 step.rising told_here in
             elim rises [
               | inl e ↦ grows_none Is (keeping.log old.board) (keeping.log new.board) (ap (λ (m : rising.Moment). m.log) e)
               | inr was ↦ elim was.2 [
@@ -314,14 +312,13 @@ module _ {D B : Type 0} (keeping : Keeping D B) (Is : Making) (same : Respects I
           | inl e ↦ grows_one Is number version (keeping.log old.board) (keeping.log new.board) made (ap (λ (m : rising.Moment). m.log) e)
           | inr e ↦ grows_none Is (keeping.log old.board) (keeping.log new.board) (ap (λ (m : rising.Moment). m.log) e)
         ]
-      ] in
-      (
+      ] in (
         step_sound number old new sound step.kept
-        (opt_one {P = λ kept. IsStanding keeping.history kept} (slice_get new.maps number) (λ kept there standing told. standing_so (the_map old.maps number within) kept there) step.kept.standing),
+            (opt_one {P = λ kept. IsStanding keeping.history kept} (slice_get new.maps number) (λ kept there standing told. standing_so (the_map old.maps number within) kept there) step.kept.standing),
         step_passes number old new step.kept front
-        (meanwhile number old new (λ kept. Behind version) sound front
-        (opt_one (slice_get old.maps number) (λ kept there level told. made) level) step.meanwhile)
-        (λ told. grows),
+            (meanwhile number old new (λ kept. Behind version) sound front
+            (opt_one (slice_get old.maps number) (λ kept there level told. made) level) step.meanwhile)
+            (λ told. grows),
       ) where
         -- a map that stands as before is level
         level_so : (was : (kept : Kept D) × (slice_get old.maps number ≡ Some kept)) (kept : Kept D) → slice_get new.maps number ≡ Some kept
@@ -329,7 +326,7 @@ module _ {D B : Type 0} (keeping : Keeping D B) (Is : Making) (same : Respects I
         level_so was kept there e =
             let before : was.0.standing ≡ Level = opt_at (λ (k : Kept D). k.standing ≡ Level) (slice_get old.maps number) was.0 was.1 level in
             let now : kept.standing ≡ was.0.standing =
-                same_Some kept.standing was.0.standing (sym (standing_there new.maps number kept there) ∙ ap (λ (l : List MapStanding). slice_get l number) e ∙ standing_there old.maps number was.0 was.1) in
+            same_Some kept.standing was.0.standing (sym (standing_there new.maps number kept there) ∙ ap (λ (l : List MapStanding). slice_get l number) e ∙ standing_there old.maps number was.0 was.1) in
             subst (λ (s : MapStanding). IsBehindMade Is number (keeping.log new.board) s) (sym (now ∙ before)) tt
 
         standing_so : (kept : Kept D) × (slice_get old.maps number ≡ Some kept) → (kept : Kept D) → slice_get new.maps number ≡ Some kept → IsBehindMade Is number (keeping.log new.board) kept.standing
@@ -340,7 +337,7 @@ module _ {D B : Type 0} (keeping : Keeping D B) (Is : Making) (same : Respects I
             | inr e ↦
                 let long : number < length (map (λ (k : Kept D). k.standing) old.maps) = subst (λ (n : ℕ). number < n) (sym (length-map old.maps (λ (k : Kept D). k.standing))) within in
                 let now : kept.standing ≡ Behind version =
-                    same_Some kept.standing (Behind version) (sym (standing_there new.maps number kept there) ∙ ap (λ (m : rising.Moment). slice_get m.standings number) e ∙ put_there (map (λ (k : Kept D). k.standing) old.maps) number (Behind version) long) in
+                same_Some kept.standing (Behind version) (sym (standing_there new.maps number kept there) ∙ ap (λ (m : rising.Moment). slice_get m.standings number) e ∙ put_there (map (λ (k : Kept D). k.standing) old.maps) number (Behind version) long) in
                 subst (λ (s : MapStanding). IsBehindMade Is number (keeping.log new.board) s) (sym now)
                 (subst (λ (l : Log). Is number l version) (sym (ap (λ (m : rising.Moment). m.log) e)) made)
           ]

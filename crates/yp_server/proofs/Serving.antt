@@ -53,7 +53,7 @@ module _ {D : Type 0} (history : D → Option History) (faults : D → ℕ) wher
   stopped_zip old new number fault stopped =
       let refused : Unwritten stopped.before stopped.after = record { moments = stopped.refused.moments; never_falls = stopped.refused.never_falls } in
       let all = zip_then stopped.front (map (λ kept. kept.disk) stopped.opened) (stopped.before ∷ stopped.rest) (stopped.after ∷ stopped.rest)
-          (opened_zip stopped.front stopped.opened stopped.each) (refused, uncalled_zip stopped.rest) in
+      (opened_zip stopped.front stopped.opened stopped.each) (refused, uncalled_zip stopped.rest) in
       subst (λ (l : List D). AllZip Unwritten l new) (sym stopped.old_is)
       (subst (λ (l : List D). AllZip Unwritten (stopped.front ++ stopped.before ∷ stopped.rest) l) (sym stopped.new_is) all)
 
@@ -86,7 +86,7 @@ module _ {D B T C : Type 0} (service : Service D B T C) (old new : Connection D 
       → AllZip (IsOpened service.keeping.history service.keeping.faults) old.disks loaded → service.keeping.log board ≡ starts 0 (versions loaded) → IsFirst service old start
   first_from loaded board published is parts opened log =
       let whole : start ≡ record { published = record { catalogue = service.catalogue; maps = loaded; board = board }; desk = old.desk; asked = 0; files = 0 } =
-          is ∙ ap (λ (p : Published D B). record { published = p; desk = old.desk; asked = 0; files = 0 }) parts in
+      is ∙ ap (λ (p : Published D B). record { published = p; desk = old.desk; asked = 0; files = 0 }) parts in
       subst (λ (host : Local D B T C). IsFirst service old host) (sym whole)
       record { catalogue = refl; opened = opened; log = log; desk = refl; asked = refl; files = refl }
 

@@ -63,28 +63,28 @@ pub fn serve_wire<S: Source, K: Sink, D: Disk, T: Texts, C: Clock>(
         (connection_of (wire_of S.input S.faults K.output K.flushed K.faults wire.old) stock)
         (connection_of (wire_of S.input S.faults K.output K.flushed K.faults wire.new) result.1)) }
 
-        // What a refusal leaves: the wire and the desk as they were, and nothing was written.
-        ensures unserved { IfErr result.0 (λ why. IsUnserved D.history D.faults why stock.disks.items result.1.disks.items) }
-        ensures untouched { OnErr result.0 (wire.new ≡ wire.old) }
-        ensures unasked { OnErr result.0 (result.1.desk ≡ stock.desk) }
-        ensures unwritten { OnErr result.0
-            ((number : ℕ) → AtDisk number stock.disks.items result.1.disks.items (LeavesNoMore D.history)) }
+    // What a refusal leaves: the wire and the desk as they were, and nothing was written.
+    ensures unserved { IfErr result.0 (λ why. IsUnserved D.history D.faults why stock.disks.items result.1.disks.items) }
+    ensures untouched { OnErr result.0 (wire.new ≡ wire.old) }
+    ensures unasked { OnErr result.0 (result.1.desk ≡ stock.desk) }
+    ensures unwritten { OnErr result.0
+        ((number : ℕ) → AtDisk number stock.disks.items result.1.disks.items (LeavesNoMore D.history)) }
 
-        // With every outcome: no disk is ever over the most bytes of a file, unless it was so before; none is lost.
-        ensures bound { (number : ℕ) → AtDisk number stock.disks.items result.1.disks.items
-            (LeavesOr D.history (λ image. length image ≤ file_max)) }
-        ensures never_falls { (number : ℕ) → AtDisk number stock.disks.items result.1.disks.items
-            (λ before after. D.faults before ≤ D.faults after) }
-        ensures count { length result.1.disks.items ≡ length stock.disks.items }
-        ensures desk { TellsSame (telling_of T.text T.faults C.moment) stock.desk result.1.desk }
+    // With every outcome: no disk is ever over the most bytes of a file, unless it was so before; none is lost.
+    ensures bound { (number : ℕ) → AtDisk number stock.disks.items result.1.disks.items
+        (LeavesOr D.history (λ image. length image ≤ file_max)) }
+    ensures never_falls { (number : ℕ) → AtDisk number stock.disks.items result.1.disks.items
+        (λ before after. D.faults before ≤ D.faults after) }
+    ensures count { length result.1.disks.items ≡ length stock.disks.items }
+    ensures desk { TellsSame (telling_of T.text T.faults C.moment) stock.desk result.1.desk }
 
-        // A fault of the wire, and its output.
-        ensures read_fault { result.0 ≡ Ok End.ReadFault
-            → HasRisen (S.faults wire.old.source) (S.faults wire.new.source) }
-        ensures write_fault { result.0 ≡ Ok End.WriteFault
-            → HasRisen (K.faults wire.old.sink) (K.faults wire.new.sink) }
-        ensures flushed { result.0 ≢ Ok End.WriteFault
-            → IsTrue (K.flushed wire.old.sink) → IsTrue (K.flushed wire.new.sink) }
+    // A fault of the wire, and its output.
+    ensures read_fault { result.0 ≡ Ok End.ReadFault
+        → HasRisen (S.faults wire.old.source) (S.faults wire.new.source) }
+    ensures write_fault { result.0 ≡ Ok End.WriteFault
+        → HasRisen (K.faults wire.old.sink) (K.faults wire.new.sink) }
+    ensures flushed { result.0 ≢ Ok End.WriteFault
+        → IsTrue (K.flushed wire.old.sink) → IsTrue (K.flushed wire.new.sink) }
 {
     let Stock { disks, desk } = stock;
     prove!(disks.len() <= catalog.len() as usize);
@@ -95,11 +95,13 @@ pub fn serve_wire<S: Source, K: Sink, D: Disk, T: Texts, C: Clock>(
         }
     };
     match prepare(alloc, &catalog, &loaded) {
-        Ok(Ready {
-            mut session,
-            board,
-            catalog: of_host,
-        }) => {
+        Ok(
+            Ready {
+                mut session,
+                board,
+                catalog: of_host,
+            },
+        ) => {
             starts_are_shown();
             let publisher = Publisher::new(loaded, catalog, board);
             let mut host = LocalHost::new(alloc, rt, publisher, desk, of_host);
@@ -125,11 +127,7 @@ fn refusal_of(map: u32, fault: SlotFault) -> Unserved
 }
 
 /// Makes a session, a board that shows what was loaded, and a copy of the catalogue.
-fn prepare<D: Disk>(
-    alloc: Global,
-    catalog: &Catalog,
-    loaded: &Loaded<D>,
-) -> Result<Ready, NoMemory>
+fn prepare<D: Disk>(alloc: Global, catalog: &Catalog, loaded: &Loaded<D>) -> Result<Ready, NoMemory>
     requires { length loaded.now ≡ length catalog.now.maps }
     ensures board { IfOk result (λ ready. ready.board
         ≡ record { catalogue = catalog.now; known = starts 0 (versions loaded.now); asked = 0 }) }

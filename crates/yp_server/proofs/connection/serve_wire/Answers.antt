@@ -48,7 +48,7 @@ returns-in-Ok-prepare g c =
     let start = c.new-host.result in
     let finish = c.run-end.new.host in
     let first = first_from service old new start finish c.in-Ok.loaded c.in-Ok-prepare.field-0.board c.new-publisher.result c.new-host.ensures c.new-publisher.ensures
-        c.in-Ok.ensures.loaded (search rules) in
+    c.in-Ok.ensures.loaded (search rules) in
     let runs = c.run-end.ensures.runs in
     let went = went_on service old new start finish c.open_is_unrefused.ensures c.starts_are_shown.ensures c.run-end.result c.run-end.new.self.calls c.run-end.new.self.place first runs in
     let last : IsLast service finish new = record { disks = c.stock_of.ensures.disks; desk = c.stock_of.ensures.desk; shows = c.stock_of.ensures.shows; standing = c.stock_of.ensures.standing } in
