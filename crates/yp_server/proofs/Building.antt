@@ -1,7 +1,6 @@
 -- A version that is built follows the one that is shown, and why one isn't built.
-use Rattle.std.proofs.Common.{◌≡◌, ◌⊎◌, inl, inr, ℕ, ◌+◌, ◌<◌, ◌≤◌, max, Bool, true, false, not, List, [], ◌∷◌, fold, Option, Some, None, Result, Ok, Err, IfSome, OnOk, IfOk, IfErr, slice_get, if◌then◌else◌, ◌==◌, eqb, nat_le, bytes_eq, option_map, arith, refl, sym, ◌∙◌, ap, subst, cond, is_some}
+use Rattle.std.proofs.Common.{◌≡◌, ◌⊎◌, inl, inr, ℕ, ◌+◌, ◌<◌, max, Bool, true, false, List, [], ◌∷◌, Option, Some, None, Result, Ok, Err, IfSome, OnOk, IfOk, IfErr, slice_get, if◌then◌else◌, ◌==◌, nat_le, option_map, arith, refl, sym, ◌∙◌, ap, subst, is_some}
 use Rattle.std.specs.Option.{option_map_or}
-use Rattle.std.proofs.lemmas.Bool.{cases_eq}
 use Rattle.yp_msgs.specs.declared.transfer.XfrStat.{XfrStat}
 use Rattle.yp_version.specs.Rows.{Row, value_of}
 use Rattle.yp_version.specs.Versions.{MapVersion}
@@ -17,7 +16,7 @@ use Rattle.yp_publish.specs.Installs.{offer, not_following}
 use Rattle.yp_publish.specs.Standing.{Kept, OfMap}
 use Rattle.yp_server.specs.declared.desk.Desk.{Desk}
 use Rattle.yp_server.specs.Locals.{Telling}
-use Rattle.yp_server.specs.Anew.{Site, Material, IsFrom, is_of_another, last_order, marked_as, built_for, stat_of, IsMarked, IsRefusedBuild, IsUnbuilt, HasBadRow, IsAnew}
+use Rattle.yp_server.specs.Anew.{Site, Material, IsFrom, is_of_another, last_order, built_for, stat_of, IsMarked, IsRefusedBuild, IsUnbuilt, HasBadRow, IsAnew}
 
 -- ---- the order
 

@@ -1,5 +1,5 @@
 -- The making of a map from its steps.
-use Rattle.std.proofs.Common.{◌≡◌, ◌⊎◌, inl, inr, ℕ, sym, subst}
+use Rattle.std.proofs.Common.{◌≡◌, inl, inr, ℕ, sym, subst}
 use Rattle.yp_msgs.specs.declared.transfer.XfrStat.{XfrStat}
 use Rattle.yp_publish.specs.Standing.{Published}
 use Rattle.yp_server.specs.Locals.{Local, Keeping, Telling, TellsSame}

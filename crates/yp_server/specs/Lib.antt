@@ -2,3 +2,4 @@ pub mod Locals
 pub mod Anew
 pub mod Steps
 pub mod Made
+pub mod Connections

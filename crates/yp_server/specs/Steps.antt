@@ -1,5 +1,5 @@
 -- What the two steps do to the maps: a map that is behind is opened again, and a new version of it is installed.
-use Rattle.std.specs.Prelude.{◌≡◌, ◌≢◌, ◌⊎◌, ◌≤◌, ℕ, Option, Some, None, IsSome, IsNone}
+use Rattle.std.specs.Prelude.{◌≡◌, ◌≢◌, ◌⊎◌, ◌≤◌, ℕ, IsSome, IsNone}
 use Rattle.yp_io.specs.Counts.{HasRisen}
 use Rattle.yp_io.specs.Disk.{LeavesOnly}
 use Rattle.yp_msgs.specs.declared.transfer.XfrStat.{XfrStat}

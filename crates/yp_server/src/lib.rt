@@ -6,11 +6,13 @@
 #![tactic(auto)]
 
 mod anew;
+mod connection;
 mod desk;
 mod local;
 mod steps;
 #[cfg(test)]
 mod tests;
 
+pub use connection::{Stock, Unserved, serve_wire};
 pub use desk::Desk;
 pub use local::LocalHost;

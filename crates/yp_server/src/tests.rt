@@ -1,6 +1,8 @@
 //! Sessions over stored maps that are made anew. Calls, replies and files are written out by hand, from RFC 5531
 //! sections 9 and 11, yp.x and docs/FORMATS.md.
 
+mod connection;
+
 use super::*;
 use std::alloc::Global;
 use std::process::Abort;

@@ -1,6 +1,5 @@
-use Rattle.std.proofs.Common.{rules, ap, subst}
+use Rattle.std.proofs.Common.{rules}
 use Rattle.yp_server.proofs.Building.{if_err, unbuilt}
-use Rattle.yp_server.specs.Anew.{IsFrom}
 use Rattle.yp_server.proofs.anew.build_anew.Goals as goal
 
 pub returns-clause-unbuilt : goal.returns-clause-unbuilt

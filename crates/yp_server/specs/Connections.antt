@@ -1,0 +1,177 @@
+-- One connection over stored maps: the host that it starts with, the one that it ends with, and what a crash leaves at
+-- each moment between.
+use Rattle.std.specs.Prelude.{◌≡◌, ◌≢◌, ◌⊎◌, ℕ, List, [], ◌∷◌, ◌++◌, map, slice_get, All, Option, Some, None, IfSome, IsSome, ⊤}
+use Rattle.std.specs.List.{AllZip}
+use Rattle.yp_io.specs.Counts.{next_count}
+use Rattle.yp_io.specs.Disk.{History, LeavesOnly, MayLeave}
+use Rattle.yp_io.specs.declared.stream.Peer.{Peer}
+use Rattle.yp_version.specs.Versions.{MapVersion}
+use Rattle.yp_slot.specs.Stands.{Stored, stands}
+use Rattle.yp_slot.specs.declared.fault.SlotFault.{SlotFault}
+use Rattle.yp_slot.specs.declared.fault.SlotFault.TheVariants as cause
+use Rattle.yp_board.specs.Catalogues.{Catalogue}
+use Rattle.yp_board.specs.Logs.{Log, shown, starts}
+use Rattle.yp_board.specs.Views.{Seen, IsFront}
+use Rattle.yp_build.specs.declared.kind.Kind.{Kind}
+use Rattle.yp_answer.specs.Make.{MakeRequest, kind_numbered, made_map, make_check}
+use Rattle.yp_publish.specs.Standing.{MapStanding, Level, Behind, IsStanding, OfMap, Shows, stands_for, versions}
+use Rattle.yp_publish.specs.Opens.{IsOpened, IsStopped}
+use Rattle.yp_session.specs.Hosts.{Conduct, conduct_of}
+use Rattle.yp_session.specs.Runs.{Moment, Runs}
+use Rattle.yp_session.specs.Wires.{Wire}
+use Rattle.yp_session.specs.declared.session.End.{End}
+use Rattle.yp_server.specs.declared.connection.Stock.{Stock}
+use Rattle.yp_server.specs.declared.connection.Unserved.{Unserved}
+use Rattle.yp_server.specs.declared.connection.Unserved.TheVariants.{Refused, NoMemory}
+use Rattle.yp_server.specs.declared.desk.Desk.{Desk}
+use Rattle.yp_server.specs.Locals.{Local, Keeping, Telling, seen_of}
+use Rattle.yp_server.specs.Anew.{site_of, IsAnew}
+use Rattle.yp_server.specs.Made.{Made}
+
+-- the most records of a connection
+abbrev pub calls_max : ℕ
+calls_max = 1000000000
+
+-- what was shown on a plain board
+abbrev pub plain_log : Seen → Log
+plain_log board = board.known
+
+-- what a connection is served by, and to whom: what its disks and its board tell, what its texts and its clock tell,
+-- the maps, and the caller
+pub record Service (D B T C : Type 0) : Type 0 where
+  pub keeping : Keeping D B
+  pub telling : Telling T C
+  pub catalogue : Catalogue
+  pub peer : Peer
+
+abbrev pub service_of : {D B T C : Type 0} → Keeping D B → Telling T C → Catalogue → Peer → Service D B T C
+service_of keeping telling catalogue peer =
+    record { keeping = keeping; telling = telling; catalogue = catalogue; peer = peer }
+
+-- a connection at a moment: what its wire tells, its disks in the order of the maps, and its desk
+pub record Connection (D T C : Type 0) : Type 0 where
+  pub wire : Wire
+  pub disks : List D
+  pub desk : Desk T C
+
+abbrev pub connection_of : {D T C : Type 0} → Wire → Stock D T C → Connection D T C
+connection_of wire stock = record { wire = wire; disks = stock.disks.items; desk = stock.desk }
+
+-- what a host over stored maps tells and does: a read step counts, and the making of a map is `Made`
+abbrev pub local_conduct : {D B T C : Type 0} → Keeping D B → Telling T C → Conduct (Local D B T C)
+local_conduct keeping telling =
+    conduct_of (seen_of keeping.log) (λ host. host.files) (λ old new. new ≡ record old { asked = next_count old.asked })
+    (λ asked peer stat old new. Made keeping telling asked stat old new)
+
+-- ---- its first and its last host
+
+-- The host that it starts with: each map is level with what its disk stood for, and exactly that is shown.
+pub record IsFirst {D B T C : Type 0} (service : Service D B T C) (old : Connection D T C) (start : Local D B T C) : Type 0 where
+  pub catalogue : start.published.catalogue ≡ service.catalogue
+  pub opened : AllZip (IsOpened service.keeping.history service.keeping.faults) old.disks start.published.maps
+  pub log : service.keeping.log start.published.board ≡ starts 0 (versions start.published.maps)
+  pub desk : start.desk ≡ old.desk
+  pub asked : start.asked ≡ 0
+  pub files : start.files ≡ 0
+
+-- The host that it ends with, of which the disks and the desk are handed back: what is shown of each map agrees with
+-- what a crash may leave of its disk now.
+pub record IsLast {D B T C : Type 0} (service : Service D B T C) (finish : Local D B T C) (new : Connection D T C) : Type 0 where
+  pub disks : new.disks ≡ map (λ kept. kept.disk) finish.published.maps
+  pub desk : new.desk ≡ finish.desk
+  pub shows : Shows (service.keeping.log finish.published.board) (versions finish.published.maps)
+  pub standing : (number : ℕ) → OfMap number finish.published.maps (IsStanding service.keeping.history)
+
+-- a moment of the session that a host and a wire are at
+abbrev pub moment_at : {H : Type 0} → H → Wire → ℕ → Moment H
+moment_at host wire place = record { host = host; wire = wire; place = place }
+
+-- ---- versions that were made
+
+-- A version was made of a map behind a log: a call that isn't refused asked for this map, and the version was built,
+-- of what the desk tells, for what the log shows of the map.
+pub record IsMade {D B T C : Type 0} (service : Service D B T C) (desk : Desk T C) (number : ℕ) (log : Log) (version : MapVersion) : Type 0 where
+  pub asked : MakeRequest
+  pub kind : Kind
+  pub allowed : make_check service.catalogue service.peer asked ≡ None
+  pub of_map : made_map service.catalogue asked ≡ Some number
+  pub of_kind : kind_numbered asked.1 ≡ Some kind
+  pub anew : IsAnew service.telling (site_of kind service.catalogue.own (shown number log)) desk version
+
+-- what it is that a version was made of a map behind a log
+abbrev pub Making : Type 1
+Making = ℕ → Log → MapVersion → Type 0
+
+-- Each of these entries was made behind the log and the entries before it.
+abbrev pub AreMade : Making → Log → Log → Type 0
+AreMade Is log [] = ⊤
+AreMade Is log (entry ∷ more) = Is entry.0 log entry.1 × AreMade Is (log ++ entry ∷ []) more
+
+-- A log grew by versions that were made, each behind the log before it.
+pub record GrowsBy (Is : Making) (first last : Log) : Type 0 where
+  pub more : Log
+  pub last_is : last ≡ first ++ more
+  pub made : AreMade Is first more
+
+-- ---- what a crash leaves
+
+-- The bytes stand for what the log shows of a map, or for a version that was made of it behind the log.
+abbrev pub IsShownOrMade : Making → ℕ → Log → List ℕ → Type 0
+IsShownOrMade Is number log image =
+    (stands image ≡ stands_for (shown number log)) ⊎ ((version : MapVersion) × Is number log version × (stands image ≡ Stored version))
+
+-- The bytes are so by a log of which the first is a front, and which is a front of the last.
+pub record IsOfBetween (Is : Making) (number : ℕ) (first last : Log) (image : List ℕ) : Type 0 where
+  pub log : Log
+  pub begins : IsFront first log
+  pub goes_on : IsFront log last
+  pub of_log : IsShownOrMade Is number log image
+
+-- A map is level, or behind a version that was made of it behind the log.
+abbrev pub IsBehindMade : Making → ℕ → Log → MapStanding → Type 0
+IsBehindMade Is number log Level = ⊤
+IsBehindMade Is number log (Behind version) = Is number log version
+
+-- P holds of the disk with this number before and after, and nothing is said where there is none
+abbrev pub AtDisk : {D : Type 0} → ℕ → List D → List D → (D → D → Type 0) → Type 0
+AtDisk number old new P = IfSome (slice_get old number) (λ before. IfSome (slice_get new number) (P before))
+
+-- At each moment a crash leaves of a disk what it might have left at the start, or bytes with P.
+abbrev pub LeavesOr : {D : Type 0} → (D → Option History) → (List ℕ → Type 0) → D → D → Type 0
+LeavesOr history P before after =
+    LeavesOnly (history before) (history after) (λ image. MayLeave (history before) image ⊎ P image)
+
+-- every disk tells its history
+abbrev pub AreTold : {D : Type 0} → (D → Option History) → List D → Type 0
+AreTold history disks = All (λ disk. IsSome (history disk)) disks
+
+-- ---- the whole
+
+-- A connection was served, and ended so. From its first host to its last the records of its wire were answered in turn.
+-- At each moment a crash leaves of each map what was shown of it or what was being installed, and only versions that
+-- were made were shown.
+pub record Serves {D B T C : Type 0} (service : Service D B T C) (end : End) (old new : Connection D T C) : Type 0 where
+  pub start : Local D B T C
+  pub finish : Local D B T C
+  pub calls : ℕ
+  pub place : ℕ
+  pub first : IsFirst service old start
+  pub runs : Runs (local_conduct service.keeping service.telling) service.peer calls_max end (moment_at start old.wire 0) (moment_at finish new.wire place) calls
+  pub last : IsLast service finish new
+  pub any_moment : (number : ℕ) → AtDisk number old.disks new.disks (LeavesOr service.keeping.history
+      (IsOfBetween (IsMade service old.desk) number (service.keeping.log start.published.board) (service.keeping.log finish.published.board)))
+  pub behind : (number : ℕ) → OfMap number finish.published.maps (λ kept. IsSome (service.keeping.history kept.disk)
+      → IsBehindMade (IsMade service old.desk) number (service.keeping.log finish.published.board) kept.standing)
+  pub grown : AreTold service.keeping.history old.disks
+      → GrowsBy (IsMade service old.desk) (service.keeping.log start.published.board) (service.keeping.log finish.published.board)
+
+-- what a connection isn't served for, where the disk of a map isn't loaded
+abbrev pub refusal : ℕ → SlotFault → Unserved
+refusal number cause.NoMemory = NoMemory
+refusal number cause.DiskFault = Refused number cause.DiskFault
+refusal number (cause.Damaged at rule) = Refused number (cause.Damaged at rule)
+
+-- Why a connection wasn't served: a map's disk was refused, the first one; or memory ran out.
+abbrev pub IsUnserved : {D : Type 0} → (D → Option History) → (D → ℕ) → Unserved → List D → List D → Type 0
+IsUnserved history faults (Refused number fault) old new = (fault ≢ cause.NoMemory) × IsStopped history faults old new number fault
+IsUnserved history faults NoMemory old new = ⊤
