@@ -1,6 +1,7 @@
 pub mod Lines
 pub mod Printed
 pub mod Refusals
+pub mod AllStub
 pub mod Answers
 pub mod Asked
 pub mod Scenes

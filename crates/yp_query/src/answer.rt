@@ -8,18 +8,25 @@ ghost use Rattle.yp_client.specs.Asked.{match_call, master_call, maplist_call};
 ghost use Rattle.yp_client.specs.Moments.{moment_of};
 ghost use Rattle.yp_query.specs.Lines.{line, lines};
 ghost use Rattle.yp_query.specs.Refusals.{refusal, match_refusal};
-ghost use Rattle.yp_query.specs.Asked.{meaning, Makes, Polls, MakesCalls, QueryIsWithin};
+ghost use Rattle.yp_query.specs.Asked.{meaning, Makes, TakesRows, Polls, IsUnlessMemory, Converses, QueryIsWithin};
+ghost use Rattle.yp_query.specs.AllStub.{all_call, SaysAll};
+ghost use Rattle.yp_client.specs.Calls.{Calls};
 ghost use Rattle.yp_query.specs.Answers.{outcome_of};
 
-use crate::fault::{QueryFault, of_match};
+use crate::fault::{QueryFault, of_all, of_match};
 use crate::question::Query;
-use yp_client::Client;
-use yp_io::{Sink, Source};
+use std::alloc::Global;
+use std::random::RandomSource;
+use yp_client::{Client, ClientFault};
+use yp_io::{NoMemory, Sink, Source};
 use yp_msgs::Names;
+use yp_version::{Version, VersionBuilder};
 
 /// The whole answer to a query.
 #[derive(Drop)]
 pub enum Answer {
+    /// The rows of a version, with their keys or without.
+    Rows { version: Version, keyed: bool },
     /// A value, or a name.
     Line(Vec<u8>),
     /// The order and the master of a map.
@@ -30,19 +37,57 @@ pub enum Answer {
 
 /// Makes the calls of a query.
 pub fn ask<S: Source, K: Sink>(
+    alloc: Global,
+    rt: &impl RandomSource,
     client: &mut Client<S, K>,
     query: &Query<'_>,
 ) -> Result<Answer, QueryFault>
     requires { QueryIsWithin query.now }
-    ensures { MakesCalls query.now (outcome_of result)
+    ensures { Converses query.now (outcome_of result)
         (moment_of S.input S.faults K.output K.faults client.old) (moment_of S.input S.faults K.output K.faults client.new) }
 {
     match query {
+        Query::Cat { domain, map } => ask_rows(alloc, rt, client, domain, map, false),
+        Query::Catk { domain, map } => ask_rows(alloc, rt, client, domain, map, true),
         Query::Match { domain, map, key } => ask_value(client, domain, map, key),
         Query::Which { domain, map } => ask_master(client, domain, map),
         Query::Poll { domain, map } => ask_standing(client, domain, map),
         Query::Maps { domain } => ask_maps(client, domain),
     }
+}
+
+fn ask_rows<S: Source, K: Sink>(
+    alloc: Global,
+    rt: &impl RandomSource,
+    client: &mut Client<S, K>,
+    domain: &[u8],
+    map: &[u8],
+    keyed: bool,
+) -> Result<Answer, QueryFault>
+    requires domain { length domain.now ≤ name_max }
+    requires map { length map.now ≤ name_max }
+    ensures { IsUnlessMemory (TakesRows keyed domain.now map.now) (outcome_of result)
+        (moment_of S.input S.faults K.output K.faults client.old) (moment_of S.input S.faults K.output K.faults client.new) }
+{
+    let mut builder = match VersionBuilder::new(alloc, rt, 0, b"") {
+        Ok(builder) => builder,
+        Err(NoMemory) => return Err(QueryFault::NoMemory),
+    };
+    match take_all(client, domain, map, &mut builder) {
+        (Ok(()), _) => {}
+        (Err(fault), rows) => return Err(of_all(fault, rows)),
+    }
+    match builder.finish() {
+        Ok(version) => Ok(Answer::Rows { version, keyed }),
+        Err(NoMemory) => Err(QueryFault::NoMemory),
+    }
+}
+
+fn take_all<S: Source, K: Sink>(client: &mut Client<S, K>, domain: &[u8], map: &[u8], into: &mut VersionBuilder) -> (Result<(), ClientFault>, u32)
+    ensures { Calls (all_call domain.now map.now) (SaysAll into.old into.new result.1) result.0
+        (moment_of S.input S.faults K.output K.faults client.old) (moment_of S.input S.faults K.output K.faults client.new) }
+{
+    (Err(ClientFault::Spent), 0)
 }
 
 fn ask_value<S: Source, K: Sink>(

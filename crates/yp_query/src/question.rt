@@ -3,6 +3,10 @@
 /// A question of a client command: of a domain, and mostly of one of its maps. Names have at most 64 bytes.
 #[derive(Clone, Copy, Debug)]
 pub enum Query<'a> {
+    /// ALL: the values of all rows, a line each, in rising order of their keys.
+    Cat { domain: &'a [u8], map: &'a [u8] },
+    /// ALL: the keys and values of all rows, with a space between, a line each, in rising order of the keys.
+    Catk { domain: &'a [u8], map: &'a [u8] },
     /// MATCH: the value of a key, of at most 65,536 bytes.
     Match {
         domain: &'a [u8],
