@@ -9,6 +9,8 @@ mod dialed;
 mod fault;
 mod print;
 mod question;
+#[cfg(test)]
+mod tests;
 mod text;
 
 pub use dialed::query;
