@@ -83,7 +83,12 @@ fn ask_rows<S: Source, K: Sink>(
     }
 }
 
-fn take_all<S: Source, K: Sink>(client: &mut Client<S, K>, domain: &[u8], map: &[u8], into: &mut VersionBuilder) -> (Result<(), ClientFault>, u32)
+fn take_all<S: Source, K: Sink>(
+    client: &mut Client<S, K>,
+    domain: &[u8],
+    map: &[u8],
+    into: &mut VersionBuilder,
+) -> (Result<(), ClientFault>, u32)
     ensures { Calls (all_call domain.now map.now) (SaysAll into.old into.new result.1) result.0
         (moment_of S.input S.faults K.output K.faults client.old) (moment_of S.input S.faults K.output K.faults client.new) }
 {

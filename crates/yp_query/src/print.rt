@@ -33,11 +33,7 @@ pub fn print<K: Sink>(alloc: Global, answer: &Answer, sink: &mut K) -> Result<()
     }
 }
 
-fn print_answer<K: Sink>(
-    text: &mut TextBuffer,
-    sink: &mut K,
-    answer: &Answer,
-) -> Result<(), Failed>
+fn print_answer<K: Sink>(text: &mut TextBuffer, sink: &mut K, answer: &Answer) -> Result<(), Failed>
     ensures puts { Puts (text_of answer.now) result text.old text.new (K.output sink.old) (K.output sink.new) }
     ensures cause { CountsFaults (K.faults sink.old) (K.faults sink.new) result }
 {
@@ -97,11 +93,7 @@ fn print_standing<K: Sink>(
     text.put_pair(sink, b"master", master)
 }
 
-fn print_names<K: Sink>(
-    text: &mut TextBuffer,
-    sink: &mut K,
-    names: &Names,
-) -> Result<(), Failed>
+fn print_names<K: Sink>(text: &mut TextBuffer, sink: &mut K, names: &Names) -> Result<(), Failed>
     ensures puts { Puts (lines names.now) result text.old text.new (K.output sink.old) (K.output sink.new) }
     ensures cause { CountsFaults (K.faults sink.old) (K.faults sink.new) result }
 {

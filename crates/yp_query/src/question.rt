@@ -10,9 +10,15 @@ use yp_msgs::protocol::{KEY_MAX, NAME_MAX};
 #[derive(Clone, Copy, Debug)]
 pub enum Query<'a> {
     /// ALL: the values of all rows, a line each, in rising order of their keys.
-    Cat { domain: &'a [u8], map: &'a [u8] },
+    Cat {
+        domain: &'a [u8],
+        map: &'a [u8],
+    },
     /// ALL: the keys and values of all rows, with a space between, a line each, in rising order of the keys.
-    Catk { domain: &'a [u8], map: &'a [u8] },
+    Catk {
+        domain: &'a [u8],
+        map: &'a [u8],
+    },
     /// MATCH: the value of a key.
     Match {
         domain: &'a [u8],
@@ -20,11 +26,19 @@ pub enum Query<'a> {
         key: &'a [u8],
     },
     /// MASTER: the name of the master of a map.
-    Which { domain: &'a [u8], map: &'a [u8] },
+    Which {
+        domain: &'a [u8],
+        map: &'a [u8],
+    },
     /// ORDER and MASTER: `order N`, and then `master NAME`, a line each.
-    Poll { domain: &'a [u8], map: &'a [u8] },
+    Poll {
+        domain: &'a [u8],
+        map: &'a [u8],
+    },
     /// MAPLIST: the names of the maps, a line each, in the order of the reply.
-    Maps { domain: &'a [u8] },
+    Maps {
+        domain: &'a [u8],
+    },
 }
 
 impl Query<'_> {

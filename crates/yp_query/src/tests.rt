@@ -47,7 +47,11 @@ fn new_wire(alloc: Global, input: &[u8], weather: Weather<'_>) -> Result<MemWire
     ensures { IfOk result IsNew }
 {
     Ok(Pair {
-        source: MemSource::new(Vec::from_slice(alloc, input)?, 9, Vec::from_slice(alloc, weather.reads)?),
+        source: MemSource::new(
+            Vec::from_slice(alloc, input)?,
+            9,
+            Vec::from_slice(alloc, weather.reads)?,
+        ),
         sink: MemSink::new(alloc, 16, Vec::from_slice(alloc, weather.writes)?),
     })
 }
@@ -102,7 +106,8 @@ const MAPS: Query<'static> = Query::Maps { domain: b"lab" };
 /// The names of the domain `lab` and of its map `hosts.byname`.
 const NAMES: &str = "00000003 6c616200 0000000c 686f7374 732e6279 6e616d65";
 
-const ALPHA_CALL: &str = "8000004c 00000001 00000000 00000002 000186a4 00000002 00000003 00000000 00000000 \
+const ALPHA_CALL: &str =
+    "8000004c 00000001 00000000 00000002 000186a4 00000002 00000003 00000000 00000000 \
     00000000 00000000 00000003 6c616200 0000000c 686f7374 732e6279 6e616d65 00000005 616c7068 61000000";
 
 const ALPHA_REPLY: &str = "80000030 00000001 00000001 00000000 00000000 00000000 00000000 00000001 \
@@ -119,22 +124,38 @@ fn answers_are_printed(rt: HostRuntime) -> Result<(), Fail> {
     let alloc = rt.alloc();
     let master_reply =
         "80000024 00000001 00000001 00000000 00000000 00000000 00000000 00000001 00000002 6d310000";
-    let standing = format!(in alloc; "{ORDER_REPLY} 80000024 00000002 00000001 00000000 00000000 00000000 00000000 \
-        00000001 00000002 6d310000")?;
-    let order_call = format!(in alloc; "80000040 00000001 00000000 00000002 000186a4 00000002 0000000a {NO_AUTH} {NAMES}")?;
-    let master_call = format!(in alloc; "80000040 00000001 00000000 00000002 000186a4 00000002 00000009 {NO_AUTH} {NAMES}")?;
-    let later_call = format!(in alloc; "{order_call} 80000040 00000002 00000000 00000002 000186a4 00000002 00000009 {NO_AUTH} {NAMES}")?;
-    let maps_call = format!(in alloc; "80000030 00000001 00000000 00000002 000186a4 00000002 0000000b {NO_AUTH} 00000003 6c616200")?;
+    let standing = format!(in alloc;
+        "{ORDER_REPLY} 80000024 00000002 00000001 00000000 00000000 00000000 00000000 \
+        00000001 00000002 6d310000"
+    )?;
+    let order_call = format!(in alloc;
+        "80000040 00000001 00000000 00000002 000186a4 00000002 0000000a {NO_AUTH} {NAMES}"
+    )?;
+    let master_call = format!(in alloc;
+        "80000040 00000001 00000000 00000002 000186a4 00000002 00000009 {NO_AUTH} {NAMES}"
+    )?;
+    let later_call = format!(in alloc;
+        "{order_call} 80000040 00000002 00000000 00000002 000186a4 00000002 00000009 {NO_AUTH} {NAMES}"
+    )?;
+    let maps_call = format!(in alloc;
+        "80000030 00000001 00000000 00000002 000186a4 00000002 0000000b {NO_AUTH} 00000003 6c616200"
+    )?;
     let maps_reply = "80000038 00000001 00000001 00000000 00000000 00000000 00000000 00000001 \
         00000001 00000001 62000000 00000001 00000001 61000000 00000000";
-    let binary_reply = "80000024 00000001 00000001 00000000 00000000 00000000 00000000 00000001 00000003 000aff00";
+    let binary_reply =
+        "80000024 00000001 00000001 00000000 00000000 00000000 00000000 00000001 00000003 000aff00";
     let cases: [(Query<'_>, &str, &str, &[u8]); 6] = [
         (ALPHA, ALPHA_REPLY, ALPHA_CALL, b"10.0.0.1 alpha\n"),
         (ALPHA, binary_reply, ALPHA_CALL, b"\x00\n\xff\n"),
         (WHICH, master_reply, &master_call, b"m1\n"),
         (POLL, &standing, &later_call, b"order 100\nmaster m1\n"),
         (MAPS, maps_reply, &maps_call, b"b\na\n"),
-        (MAPS, "80000020 00000001 00000001 00000000 00000000 00000000 00000000 00000001 00000000", &maps_call, b""),
+        (
+            MAPS,
+            "80000020 00000001 00000001 00000000 00000000 00000000 00000000 00000001 00000000",
+            &maps_call,
+            b"",
+        ),
     ];
     for (question, input, calls, printed) in cases {
         let asked = ask(&rt, alloc, &question, &bytes(alloc, input)?, 4, FAIR)?;
@@ -142,7 +163,11 @@ fn answers_are_printed(rt: HostRuntime) -> Result<(), Fail> {
         assert_eq!(rt; asked.sink.taken(), printed, "{input}");
         assert_eq!(rt; asked.dial.past().len(), 1, "{input}");
         for wire in asked.dial.past() {
-            assert_eq!(rt; wire.sink.taken(), bytes(alloc, calls)?.as_slice(), "{input}");
+            assert_eq!(rt;
+                wire.sink.taken(),
+                bytes(alloc, calls)?.as_slice(),
+                "{input}"
+            );
         }
     }
     Ok(())
@@ -153,19 +178,60 @@ fn refusals_print_nothing(rt: HostRuntime) -> Result<(), Fail> {
     let alloc = rt.alloc();
     let nokey = "80000020 00000001 00000001 00000000 00000000 00000000 00000000 fffffffd 00000000";
     let nomap = "80000020 00000001 00000001 00000000 00000000 00000000 00000000 ffffffff 00000000";
-    let other_xid = "80000020 00000009 00000001 00000000 00000000 00000000 00000000 00000001 00000064";
+    let other_xid =
+        "80000020 00000009 00000001 00000000 00000000 00000000 00000000 00000001 00000064";
     let denied = "80000014 00000001 00000001 00000001 00000001 00000002";
     // The question, the input, the fault, and how many bytes were sent. A call has 68 bytes, or 80 with the key.
     let cases = [
         (ALPHA, nokey, QueryFault::NoKey, 80),
-        (ALPHA, nomap, QueryFault::Client(ClientFault::Yp(YpStat::Nomap)), 80),
-        (WHICH, nokey, QueryFault::Client(ClientFault::Yp(YpStat::Nokey)), 68),
-        (POLL, nomap, QueryFault::Client(ClientFault::Yp(YpStat::Nomap)), 68),
-        (POLL, ORDER_REPLY, QueryFault::Client(ClientFault::Torn { at: 36 }), 136),
-        (POLL, other_xid, QueryFault::Client(ClientFault::BadXid { want: 1, got: 9 }), 68),
-        (MAPS, "", QueryFault::Client(ClientFault::Torn { at: 0 }), 52),
-        (MAPS, denied, QueryFault::Client(ClientFault::Denied(ReplyHead::AuthError { stat: 2 })), 52),
-        (MAPS, nokey, QueryFault::Client(ClientFault::Yp(YpStat::Nokey)), 52),
+        (
+            ALPHA,
+            nomap,
+            QueryFault::Client(ClientFault::Yp(YpStat::Nomap)),
+            80,
+        ),
+        (
+            WHICH,
+            nokey,
+            QueryFault::Client(ClientFault::Yp(YpStat::Nokey)),
+            68,
+        ),
+        (
+            POLL,
+            nomap,
+            QueryFault::Client(ClientFault::Yp(YpStat::Nomap)),
+            68,
+        ),
+        (
+            POLL,
+            ORDER_REPLY,
+            QueryFault::Client(ClientFault::Torn { at: 36 }),
+            136,
+        ),
+        (
+            POLL,
+            other_xid,
+            QueryFault::Client(ClientFault::BadXid { want: 1, got: 9 }),
+            68,
+        ),
+        (
+            MAPS,
+            "",
+            QueryFault::Client(ClientFault::Torn { at: 0 }),
+            52,
+        ),
+        (
+            MAPS,
+            denied,
+            QueryFault::Client(ClientFault::Denied(ReplyHead::AuthError { stat: 2 })),
+            52,
+        ),
+        (
+            MAPS,
+            nokey,
+            QueryFault::Client(ClientFault::Yp(YpStat::Nokey)),
+            52,
+        ),
     ];
     for (question, input, fault, sent) in cases {
         let asked = ask(&rt, alloc, &question, &bytes(alloc, input)?, 4, FAIR)?;
@@ -182,26 +248,97 @@ fn refusals_print_nothing(rt: HostRuntime) -> Result<(), Fail> {
 #[test]
 fn one_failing_call(rt: HostRuntime) -> Result<(), Fail> {
     let alloc = rt.alloc();
-    let text = b"10.0.0.1 alpha\n";
     let read_fault = QueryFault::Client(ClientFault::ReadFault);
     let write_fault = QueryFault::Client(ClientFault::WriteFault);
     // The text goes out in four writes of at most four bytes, and a flush.
-    let cases: [(Weather<'_>, QueryFault, usize, usize); 9] = [
-        (Weather { dials: &[0], ..FAIR }, QueryFault::Dial, 0, 0),
-        (Weather { reads: &[0], ..FAIR }, read_fault, 1, 0),
-        (Weather { reads: &[4], ..FAIR }, read_fault, 1, 0),
-        (Weather { writes: &[0], ..FAIR }, write_fault, 1, 0),
-        (Weather { writes: &[3], ..FAIR }, write_fault, 1, 0),
-        (Weather { prints: &[0], ..FAIR }, QueryFault::Output, 1, 0),
-        (Weather { prints: &[1], ..FAIR }, QueryFault::Output, 1, 4),
-        (Weather { prints: &[3], ..FAIR }, QueryFault::Output, 1, 12),
-        (Weather { prints: &[4], ..FAIR }, QueryFault::Output, 1, 15),
+    let cases: [(Weather<'_>, QueryFault, usize, &[u8]); 9] = [
+        (
+            Weather {
+                dials: &[0],
+                ..FAIR
+            },
+            QueryFault::Dial,
+            0,
+            b"",
+        ),
+        (
+            Weather {
+                reads: &[0],
+                ..FAIR
+            },
+            read_fault,
+            1,
+            b"",
+        ),
+        (
+            Weather {
+                reads: &[4],
+                ..FAIR
+            },
+            read_fault,
+            1,
+            b"",
+        ),
+        (
+            Weather {
+                writes: &[0],
+                ..FAIR
+            },
+            write_fault,
+            1,
+            b"",
+        ),
+        (
+            Weather {
+                writes: &[3],
+                ..FAIR
+            },
+            write_fault,
+            1,
+            b"",
+        ),
+        (
+            Weather {
+                prints: &[0],
+                ..FAIR
+            },
+            QueryFault::Output,
+            1,
+            b"",
+        ),
+        (
+            Weather {
+                prints: &[1],
+                ..FAIR
+            },
+            QueryFault::Output,
+            1,
+            b"10.0",
+        ),
+        (
+            Weather {
+                prints: &[3],
+                ..FAIR
+            },
+            QueryFault::Output,
+            1,
+            b"10.0.0.1 alp",
+        ),
+        (
+            Weather {
+                prints: &[4],
+                ..FAIR
+            },
+            QueryFault::Output,
+            1,
+            b"10.0.0.1 alpha\n",
+        ),
     ];
     for (weather, fault, wires, printed) in cases {
         let asked = ask(&rt, alloc, &ALPHA, &bytes(alloc, ALPHA_REPLY)?, 4, weather)?;
         assert_eq!(rt; asked.result, Err(fault));
         assert_eq!(rt; asked.dial.past().len(), wires, "{fault:?}");
-        assert_eq!(rt; asked.sink.taken(), &text[..printed], "{fault:?}");
+        assert_eq!(rt; asked.sink.taken(), printed, "{fault:?}");
     }
     Ok(())
 }
@@ -210,7 +347,10 @@ fn one_failing_call(rt: HostRuntime) -> Result<(), Fail> {
 fn long_text_in_full_buffers(rt: HostRuntime) -> Result<(), Fail> {
     let alloc = rt.alloc();
     // A value as long as the buffer, behind which the line feed has no room.
-    let mut input = bytes(alloc, "80010020 00000001 00000001 00000000 00000000 00000000 00000000 00000001 00010000")?;
+    let mut input = bytes(
+        alloc,
+        "80010020 00000001 00000001 00000000 00000000 00000000 00000000 00000001 00010000",
+    )?;
     input.extend_from_slice(&vec![in alloc; b'v'; 65_536]?)?;
     let cases: [(&[u64], Result<(), QueryFault>, usize); 4] = [
         (&[], Ok(()), 65_537),
@@ -219,7 +359,14 @@ fn long_text_in_full_buffers(rt: HostRuntime) -> Result<(), Fail> {
         (&[2], Err(QueryFault::Output), 65_537),
     ];
     for (prints, result, printed) in cases {
-        let asked = ask(&rt, alloc, &ALPHA, &input, 100_000, Weather { prints, ..FAIR })?;
+        let asked = ask(
+            &rt,
+            alloc,
+            &ALPHA,
+            &input,
+            100_000,
+            Weather { prints, ..FAIR },
+        )?;
         assert_eq!(rt; asked.result, result, "{prints:?}");
         assert_eq!(rt; asked.sink.taken().len(), printed, "{prints:?}");
     }

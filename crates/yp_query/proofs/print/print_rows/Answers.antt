@@ -30,6 +30,6 @@ loop-i-preserved g c =
     let output = g.K.Sink.output in
     record {
       puts = rw (flat_map-next (row_line keyed) rows i row there)
-      (puts_more {E = Failed} (rows_text keyed (take i rows)) (row_line keyed row) (Ok tt) c.args.text.now c.loop-i.text c.print_row.new.text (output c.args.sink.now) (output c.loop-i.sink) (output c.print_row.new.sink) c.loop-i.invariant.puts c.in_ok-print_row.ensures.puts);
+          (puts_more {E = Failed} (rows_text keyed (take i rows)) (row_line keyed row) (Ok tt) c.args.text.now c.loop-i.text c.print_row.new.text (output c.args.sink.now) (output c.loop-i.sink) (output c.print_row.new.sink) c.loop-i.invariant.puts c.in_ok-print_row.ensures.puts);
       faults = omega (arith, c.loop-i.invariant.faults, c.in_ok-print_row.ensures.cause.never_falls);
     }
