@@ -44,7 +44,8 @@ pub fn ask<S: Source, K: Sink>(
 ) -> Result<Answer, QueryFault>
     requires { QueryIsWithin query.now }
     ensures { Converses query.now (outcome_of result)
-        (moment_of S.input S.faults K.output K.faults client.old) (moment_of S.input S.faults K.output K.faults client.new) }
+        (moment_of S.input S.faults K.output K.faults client.old)
+        (moment_of S.input S.faults K.output K.faults client.new) }
 {
     match query {
         Query::Cat { domain, map } => ask_rows(alloc, rt, client, domain, map, false),
@@ -67,7 +68,8 @@ fn ask_rows<S: Source, K: Sink>(
     requires domain { length domain.now ≤ name_max }
     requires map { length map.now ≤ name_max }
     ensures { IsUnlessMemory (TakesRows keyed domain.now map.now) (outcome_of result)
-        (moment_of S.input S.faults K.output K.faults client.old) (moment_of S.input S.faults K.output K.faults client.new) }
+        (moment_of S.input S.faults K.output K.faults client.old)
+        (moment_of S.input S.faults K.output K.faults client.new) }
 {
     let mut builder = match VersionBuilder::new(alloc, rt, 0, b"") {
         Ok(builder) => builder,
@@ -90,7 +92,8 @@ fn take_all<S: Source, K: Sink>(
     into: &mut VersionBuilder,
 ) -> (Result<(), ClientFault>, u32)
     ensures { Calls (all_call domain.now map.now) (SaysAll into.old into.new result.1) result.0
-        (moment_of S.input S.faults K.output K.faults client.old) (moment_of S.input S.faults K.output K.faults client.new) }
+        (moment_of S.input S.faults K.output K.faults client.old)
+        (moment_of S.input S.faults K.output K.faults client.new) }
 {
     (Err(ClientFault::Spent), 0)
 }
@@ -106,7 +109,8 @@ fn ask_value<S: Source, K: Sink>(
     requires key { length key.now ≤ key_max }
     ensures { Makes (match_call domain.now map.now key.now) (SaysBytes value_of)
         (meaning match_refusal (λ value. line value.items)) (outcome_of result)
-        (moment_of S.input S.faults K.output K.faults client.old) (moment_of S.input S.faults K.output K.faults client.new) }
+        (moment_of S.input S.faults K.output K.faults client.old)
+        (moment_of S.input S.faults K.output K.faults client.new) }
 {
     match client.match_key(domain, map, key) {
         Ok(value) => Ok(Answer::Line(value)),
@@ -123,7 +127,8 @@ fn ask_master<S: Source, K: Sink>(
     requires map { length map.now ≤ name_max }
     ensures { Makes (master_call domain.now map.now) (SaysBytes master_of)
         (meaning refusal (λ master. line master.items)) (outcome_of result)
-        (moment_of S.input S.faults K.output K.faults client.old) (moment_of S.input S.faults K.output K.faults client.new) }
+        (moment_of S.input S.faults K.output K.faults client.old)
+        (moment_of S.input S.faults K.output K.faults client.new) }
 {
     match client.master(domain, map) {
         Ok(master) => Ok(Answer::Line(master)),
@@ -140,7 +145,8 @@ fn ask_standing<S: Source, K: Sink>(
     requires domain { length domain.now ≤ name_max }
     requires map { length map.now ≤ name_max }
     ensures { Polls domain.now map.now (outcome_of result)
-        (moment_of S.input S.faults K.output K.faults client.old) (moment_of S.input S.faults K.output K.faults client.new) }
+        (moment_of S.input S.faults K.output K.faults client.old)
+        (moment_of S.input S.faults K.output K.faults client.new) }
 {
     let order = match client.order(domain, map) {
         Ok(order) => order,
@@ -159,7 +165,8 @@ fn ask_maps<S: Source, K: Sink>(
     requires { length domain.now ≤ name_max }
     ensures { Makes (maplist_call domain.now) (SaysNames maps_of)
         (meaning refusal (λ list. lines list.maps)) (outcome_of result)
-        (moment_of S.input S.faults K.output K.faults client.old) (moment_of S.input S.faults K.output K.faults client.new) }
+        (moment_of S.input S.faults K.output K.faults client.old)
+        (moment_of S.input S.faults K.output K.faults client.new) }
 {
     match client.maplist(domain) {
         Ok(list) => Ok(Answer::Maps(list.maps)),

@@ -20,8 +20,8 @@ use yp_io::{Dial, Failed, Pair, Peer, Sink, Source};
 /// The number of the first call on a wire.
 const FIRST_XID: u32 = 1;
 
-/// Asks a server at `to`, and prints the whole answer, or nothing of it. Where a wire came, it is given back with every
-/// outcome, before anything is printed.
+/// Asks a server at `to`, and prints the whole answer, or nothing of it. Where a wire came, it is given back with
+/// every outcome, before anything is printed.
 pub fn query<A: Dial, K: Sink>(
     alloc: Global,
     rt: &impl RandomSource,
@@ -32,9 +32,11 @@ pub fn query<A: Dial, K: Sink>(
 ) -> Result<(), QueryFault>
     requires { QueryIsWithin query.now }
     ensures asks { Asks query.now result
-        (scene_of A.past A.faults K.output K.faults dial.old sink.old) (scene_of A.past A.faults K.output K.faults dial.new sink.new) }
+        (scene_of A.past A.faults K.output K.faults dial.old sink.old)
+        (scene_of A.past A.faults K.output K.faults dial.new sink.new) }
     ensures cause { IfErr result (λ fault. HasCause fault
-        (scene_of A.past A.faults K.output K.faults dial.old sink.old) (scene_of A.past A.faults K.output K.faults dial.new sink.new)) }
+        (scene_of A.past A.faults K.output K.faults dial.old sink.old)
+        (scene_of A.past A.faults K.output K.faults dial.new sink.new)) }
     ensures tellable { IfErr result IsTellable }
     ensures flushed { result ≢ Err QueryFault.Output → IsTrue (K.flushed sink.old) → IsTrue (K.flushed sink.new) }
     ensures letters { A.letters dial.new ≡ A.letters dial.old }

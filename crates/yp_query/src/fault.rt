@@ -15,7 +15,8 @@ pub enum QueryFault {
     NoKey,
     /// The first call that was refused was refused so: never `Spent`, `Rows` or `NoMemory`.
     Client(ClientFault),
-    /// This row of the reply to ALL, counted from 1 with those of repeated keys, is the first that a version doesn't take.
+    /// This row of the reply to ALL, counted from 1 with those of repeated keys, is the first that a version doesn't
+    /// take: never for want of memory.
     Row { row: u32, fault: VersionFault },
     /// No wire came.
     Dial,

@@ -51,7 +51,8 @@ fn print_rows<K: Sink>(
     version: &Version,
     keyed: bool,
 ) -> Result<(), Failed>
-    ensures puts { Puts (rows_text keyed version.now.rows) result text.old text.new (K.output sink.old) (K.output sink.new) }
+    ensures puts { Puts (rows_text keyed version.now.rows) result text.old text.new
+        (K.output sink.old) (K.output sink.new) }
     ensures cause { CountsFaults (K.faults sink.old) (K.faults sink.new) result }
 {
     for i in 0..version.len() {
@@ -70,7 +71,8 @@ fn print_row<K: Sink>(
     value: &[u8],
     keyed: bool,
 ) -> Result<(), Failed>
-    ensures puts { Puts (row_line keyed (key.now, value.now)) result text.old text.new (K.output sink.old) (K.output sink.new) }
+    ensures puts { Puts (row_line keyed (key.now, value.now)) result text.old text.new
+        (K.output sink.old) (K.output sink.new) }
     ensures cause { CountsFaults (K.faults sink.old) (K.faults sink.new) result }
 {
     if keyed {
@@ -86,7 +88,8 @@ fn print_standing<K: Sink>(
     order: u32,
     master: &[u8],
 ) -> Result<(), Failed>
-    ensures puts { Puts (standing_text order master.now) result text.old text.new (K.output sink.old) (K.output sink.new) }
+    ensures puts { Puts (standing_text order master.now) result text.old text.new
+        (K.output sink.old) (K.output sink.new) }
     ensures cause { CountsFaults (K.faults sink.old) (K.faults sink.new) result }
 {
     text.put_pair(sink, b"order", itoa::Buffer::new().format(order).as_bytes())?;

@@ -18,7 +18,8 @@ const SERVER: Peer = Peer {
     port: 834,
 };
 
-/// The calls that fail, counted from 0: of the dial, of the wire's source and sink, and of the sink that is printed to.
+/// The calls that fail, counted from 0: of the dial, of the wire's source and sink, and of the sink that is printed
+/// to.
 #[derive(Clone, Copy)]
 struct Weather<'a> {
     dials: &'a [u64],
