@@ -22,8 +22,9 @@ use Rattle.yp_client.specs.declared.fault.ClientFault.{ClientFault}
 use Rattle.yp_client.specs.declared.fault.ClientFault.TheVariants as client_faults
 use Rattle.yp_client.specs.Results.{◌>>=◌, of_reply, item, by_head, by_xid, by_stat, stat_with, results_of, behind_true, value_of, master_of, order_of, maps_of, Says, SaysInMemory}
 use Rattle.yp_client.specs.Said.{SaysNumber, SaysBytes, SaysNames}
-use Rattle.yp_client.specs.Asked.{match_call, master_call, order_call, maplist_call}
-use Rattle.yp_query.specs.AllStub.{all_call, SaysAll}
+use Rattle.yp_client.specs.Asked.{all_call, match_call, master_call, order_call, maplist_call}
+use Rattle.yp_client.specs.Limits.{reply_max, all_max}
+use Rattle.yp_client.specs.All.{SaysAll}
 use Rattle.yp_client.specs.Moments.{Moment}
 use Rattle.yp_client.specs.Calls.{Calls}
 use Rattle.yp_query.specs.declared.fault.QueryFault.{QueryFault}
@@ -110,14 +111,14 @@ says_in_memory view said fault none is = tt
 abbrev RefusesNoRow : {X : Type 0} → (ℕ → List ℕ → Result X ClientFault → Type 0) → Type 0
 RefusesNoRow answers = (number : ℕ) (message : List ℕ) (fault : VersionFault) → answers number message (Err (client_faults.Rows fault)) → ⊥
 
-unspent : {X : Type 0} (call : ℕ → List ℕ) (answers : ℕ → List ℕ → Result X ClientFault → Type 0) (fault : ClientFault) (old new : Moment)
-    → old.spent ≡ false → Calls call answers (Err fault) old new → fault ≡ client_faults.Spent → ⊥
-unspent call answers fault old new fresh calls is = let e : true ≡ false = sym (calls.exactly.0 (rw is refl)) ∙ fresh in cc
+unspent : {X : Type 0} (limit : ℕ) (call : ℕ → List ℕ) (answers : ℕ → List ℕ → Result X ClientFault → Type 0) (fault : ClientFault) (old new : Moment)
+    → old.spent ≡ false → Calls limit call answers (Err fault) old new → fault ≡ client_faults.Spent → ⊥
+unspent limit call answers fault old new fresh calls is = let e : true ≡ false = sym (calls.exactly.0 (rw is refl)) ∙ fresh in cc
 
-no_row : {X : Type 0} (call : ℕ → List ℕ) (answers : ℕ → List ℕ → Result X ClientFault → Type 0) (fault : ClientFault) (old new : Moment)
-    → RefusesNoRow answers → Calls call answers (Err fault) old new → TellsNoRow fault
-no_row call answers (client_faults.Rows fault) old new none calls = none old.xid calls.answered.reply fault calls.answered.answered
-no_row call answers fault old new none calls = tt
+no_row : {X : Type 0} (limit : ℕ) (call : ℕ → List ℕ) (answers : ℕ → List ℕ → Result X ClientFault → Type 0) (fault : ClientFault) (old new : Moment)
+    → RefusesNoRow answers → Calls limit call answers (Err fault) old new → TellsNoRow fault
+no_row limit call answers (client_faults.Rows fault) old new none calls = none old.xid calls.answered.reply fault calls.answered.answered
+no_row limit call answers fault old new none calls = tt
 
 refused : (fault : ClientFault) → (fault ≡ client_faults.Spent → ⊥) → TellsNoRow fault → IsTellable (refusal fault)
 refused client_faults.Spent fresh none = absurd (fresh refl)
@@ -148,16 +149,16 @@ meant_tells refused text answer (Err NoMemory) k h = tt
 meant_tells refused text (Ok x) (Err fault) k h = subst Tells (sym h) tt
 meant_tells refused text (Err f) (Err fault) k h = subst Tells (sym h) (k f refl)
 
-makes_tells : {X : Type 0} (call : ℕ → List ℕ) (answers : ℕ → List ℕ → Result X ClientFault → Type 0) (refused : ClientFault → QueryFault) (text : X → List ℕ) (outcome : Outcome)
-    (old new : Moment) → ((fault : ClientFault) → Calls call answers (Err fault) old new → IsTellable (refused fault)) → Makes call answers (meaning refused text) outcome old new → Tells outcome
-makes_tells {X} call answers refused text outcome old new k h =
-    let P : Result X ClientFault → Type 0 = λ r. Calls call answers r old new in
+makes_tells : {X : Type 0} (limit : ℕ) (call : ℕ → List ℕ) (answers : ℕ → List ℕ → Result X ClientFault → Type 0) (refused : ClientFault → QueryFault) (text : X → List ℕ) (outcome : Outcome)
+    (old new : Moment) → ((fault : ClientFault) → Calls limit call answers (Err fault) old new → IsTellable (refused fault)) → Makes limit call answers (meaning refused text) outcome old new → Tells outcome
+makes_tells {X} limit call answers refused text outcome old new k h =
+    let P : Result X ClientFault → Type 0 = λ r. Calls limit call answers r old new in
     meant_tells refused text h.answer outcome (λ fault is. k fault (subst P is h.calls)) h.meant
 
-plain_tells : {X : Type 0} (call : ℕ → List ℕ) (answers : ℕ → List ℕ → Result X ClientFault → Type 0) (text : X → List ℕ) (outcome : Outcome) (old new : Moment)
-    → old.spent ≡ false → RefusesNoRow answers → Makes call answers (meaning refusal text) outcome old new → Tells outcome
-plain_tells call answers text outcome old new fresh none h =
-    makes_tells call answers refusal text outcome old new (λ fault calls. refused fault (unspent call answers fault old new fresh calls) (no_row call answers fault old new none calls)) h
+plain_tells : {X : Type 0} (limit : ℕ) (call : ℕ → List ℕ) (answers : ℕ → List ℕ → Result X ClientFault → Type 0) (text : X → List ℕ) (outcome : Outcome) (old new : Moment)
+    → old.spent ≡ false → RefusesNoRow answers → Makes limit call answers (meaning refusal text) outcome old new → Tells outcome
+plain_tells limit call answers text outcome old new fresh none h =
+    makes_tells limit call answers refusal text outcome old new (λ fault calls. refused fault (unspent limit call answers fault old new fresh calls) (no_row limit call answers fault old new none calls)) h
 
 value_never : RefusesNoRow (SaysBytes value_of)
 value_never xid message fault is = says_in_memory (λ (v : Vec ℕ Global). v.items) (value_of xid message) (client_faults.Rows fault) (value_says (Opaque value_max) xid message) is
@@ -175,16 +176,16 @@ rows_tell : (keyed : Bool) (domain map : List ℕ) (outcome : Outcome) (old new 
 rows_tell keyed domain map outcome old new fresh h =
     let call = all_call domain map in
     let answers = SaysAll no_rows h.draft h.rows in
-    makes_tells call answers (all_refusal h.rows) _ outcome old new (λ fault calls. all_refused h.rows fault (unspent call answers fault old new fresh calls)) h.makes
+    makes_tells all_max call answers (all_refusal h.rows) _ outcome old new (λ fault calls. all_refused h.rows fault (unspent all_max call answers fault old new fresh calls)) h.makes
 
 master_tells : (domain map : List ℕ) (order : Result ℕ ClientFault) (outcome : Outcome) (old mid new : Moment) → old.spent ≡ false
-    → Calls (order_call domain map) (SaysNumber order_of) order old mid → MakesMaster domain map order outcome mid new → Tells outcome
+    → Calls reply_max (order_call domain map) (SaysNumber order_of) order old mid → MakesMaster domain map order outcome mid new → Tells outcome
 master_tells domain map (Ok order) outcome old mid new fresh calls h =
-    plain_tells (master_call domain map) (SaysBytes master_of) _ outcome mid new calls.spent master_never h
+    plain_tells reply_max (master_call domain map) (SaysBytes master_of) _ outcome mid new calls.spent master_never h
 master_tells domain map (Err fault) outcome old mid new fresh calls h =
     let call = order_call domain map in
     let answers = SaysNumber order_of in
-    subst Tells (sym h.0) (refused fault (unspent call answers fault old mid fresh calls) (no_row call answers fault old mid order_never calls))
+    subst Tells (sym h.0) (refused fault (unspent reply_max call answers fault old mid fresh calls) (no_row reply_max call answers fault old mid order_never calls))
 
 calls_tell : (query : Query) (outcome : Outcome) (old new : Moment) → old.spent ≡ false → MakesCalls query outcome old new → Tells outcome
 calls_tell (Cat domain map) outcome old new fresh h = rows_tell false domain.now map.now outcome old new fresh h
@@ -192,10 +193,10 @@ calls_tell (Catk domain map) outcome old new fresh h = rows_tell true domain.now
 calls_tell (Match domain map key) outcome old new fresh h =
     let call = match_call domain.now map.now key.now in
     let answers = SaysBytes value_of in
-    makes_tells call answers match_refusal _ outcome old new (λ fault calls. match_refused fault (unspent call answers fault old new fresh calls) (no_row call answers fault old new value_never calls)) h
-calls_tell (Which domain map) outcome old new fresh h = plain_tells (master_call domain.now map.now) (SaysBytes master_of) _ outcome old new fresh master_never h
+    makes_tells reply_max call answers match_refusal _ outcome old new (λ fault calls. match_refused fault (unspent reply_max call answers fault old new fresh calls) (no_row reply_max call answers fault old new value_never calls)) h
+calls_tell (Which domain map) outcome old new fresh h = plain_tells reply_max (master_call domain.now map.now) (SaysBytes master_of) _ outcome old new fresh master_never h
 calls_tell (Poll domain map) outcome old new fresh h = master_tells domain.now map.now h.order outcome old h.mid new fresh h.calls h.follows
-calls_tell (Maps domain) outcome old new fresh h = plain_tells (maplist_call domain.now) (SaysNames maps_of) _ outcome old new fresh maps_never h
+calls_tell (Maps domain) outcome old new fresh h = plain_tells reply_max (maplist_call domain.now) (SaysNames maps_of) _ outcome old new fresh maps_never h
 
 converses_tell : (query : Query) (outcome : Outcome) (old new : Moment) → old.spent ≡ false → Converses query outcome old new → Tells outcome
 converses_tell query outcome old new fresh (inl h) = calls_tell query outcome old new fresh h

@@ -1,7 +1,6 @@
 pub mod Lines
 pub mod Printed
 pub mod Refusals
-pub mod AllStub
 pub mod Answers
 pub mod Asked
 pub mod Scenes

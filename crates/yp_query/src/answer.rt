@@ -4,12 +4,13 @@ ghost use Rattle.std.specs.Prelude.{◌≡◌, ◌≤◌, length};
 ghost use Rattle.yp_msgs.specs.Numbers.{name_max, key_max};
 ghost use Rattle.yp_client.specs.Results.{value_of, master_of, maps_of};
 ghost use Rattle.yp_client.specs.Said.{SaysBytes, SaysNames};
-ghost use Rattle.yp_client.specs.Asked.{match_call, master_call, maplist_call};
+ghost use Rattle.yp_client.specs.Asked.{all_call, match_call, master_call, maplist_call};
 ghost use Rattle.yp_client.specs.Moments.{moment_of};
 ghost use Rattle.yp_query.specs.Lines.{line, lines};
 ghost use Rattle.yp_query.specs.Refusals.{refusal, match_refusal};
 ghost use Rattle.yp_query.specs.Asked.{meaning, Makes, TakesRows, Polls, IsUnlessMemory, Converses, QueryIsWithin};
-ghost use Rattle.yp_query.specs.AllStub.{all_call, SaysAll};
+ghost use Rattle.yp_client.specs.Limits.{reply_max, all_max};
+ghost use Rattle.yp_client.specs.All.{SaysAll};
 ghost use Rattle.yp_client.specs.Calls.{Calls};
 ghost use Rattle.yp_query.specs.Answers.{outcome_of};
 
@@ -91,7 +92,7 @@ fn take_all<S: Source, K: Sink>(
     map: &[u8],
     into: &mut VersionBuilder,
 ) -> (Result<(), ClientFault>, u32)
-    ensures { Calls (all_call domain.now map.now) (SaysAll into.old into.new result.1) result.0
+    ensures { Calls all_max (all_call domain.now map.now) (SaysAll into.old into.new result.1) result.0
         (moment_of S.input S.faults K.output K.faults client.old)
         (moment_of S.input S.faults K.output K.faults client.new) }
 {
@@ -107,7 +108,7 @@ fn ask_value<S: Source, K: Sink>(
     requires domain { length domain.now ≤ name_max }
     requires map { length map.now ≤ name_max }
     requires key { length key.now ≤ key_max }
-    ensures { Makes (match_call domain.now map.now key.now) (SaysBytes value_of)
+    ensures { Makes reply_max (match_call domain.now map.now key.now) (SaysBytes value_of)
         (meaning match_refusal (λ value. line value.items)) (outcome_of result)
         (moment_of S.input S.faults K.output K.faults client.old)
         (moment_of S.input S.faults K.output K.faults client.new) }
@@ -125,7 +126,7 @@ fn ask_master<S: Source, K: Sink>(
 ) -> Result<Answer, QueryFault>
     requires domain { length domain.now ≤ name_max }
     requires map { length map.now ≤ name_max }
-    ensures { Makes (master_call domain.now map.now) (SaysBytes master_of)
+    ensures { Makes reply_max (master_call domain.now map.now) (SaysBytes master_of)
         (meaning refusal (λ master. line master.items)) (outcome_of result)
         (moment_of S.input S.faults K.output K.faults client.old)
         (moment_of S.input S.faults K.output K.faults client.new) }
@@ -163,7 +164,7 @@ fn ask_maps<S: Source, K: Sink>(
     domain: &[u8],
 ) -> Result<Answer, QueryFault>
     requires { length domain.now ≤ name_max }
-    ensures { Makes (maplist_call domain.now) (SaysNames maps_of)
+    ensures { Makes reply_max (maplist_call domain.now) (SaysNames maps_of)
         (meaning refusal (λ list. lines list.maps)) (outcome_of result)
         (moment_of S.input S.faults K.output K.faults client.old)
         (moment_of S.input S.faults K.output K.faults client.new) }

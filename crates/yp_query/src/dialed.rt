@@ -79,7 +79,7 @@ fn ask_over<S: Source, K: Sink>(
 ) -> (Result<Answer, QueryFault>, Pair<S, K>)
     requires { QueryIsWithin query.now }
     ensures { (last : Held S K) × (last.wire ≡ result.1) × Converses query.now (outcome_of result.0)
-        (moment_of S.input S.faults K.output K.faults (record { wire = wire; xid = 1; place = 0; spent = false }))
+        (moment_of S.input S.faults K.output K.faults (record { wire = wire; xid = 1; place = 0; spent = false; rows = 0 }))
         (moment_of S.input S.faults K.output K.faults last) }
 {
     let mut client = match Client::new(alloc, wire, FIRST_XID) {

@@ -6,7 +6,7 @@ use Rattle.yp_query.proofs.dialed.ask_over.Goals as goal
 
 pub returns-in-Err : goal.returns-in-Err
 returns-in-Err g c =
-    (record { wire = c.args.wire; xid = 1; place = 0; spent = false }, sym c.in-Err.ensures, inr (refl, refl))
+    (record { wire = c.args.wire; xid = 1; place = 0; spent = false; rows = 0 }, sym c.in-Err.ensures, inr (refl, refl))
 
 pub returns : goal.returns
 returns g c =
