@@ -1,3 +1,9 @@
 pub mod Sending
 pub mod Calling
 pub mod Judging
+pub mod Local
+pub mod LocalHead
+pub mod LocalItem
+pub mod Waiting
+pub mod Passing
+pub mod Filling

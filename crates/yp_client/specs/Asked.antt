@@ -2,7 +2,7 @@
 use Rattle.std.specs.Prelude.{ℕ, List, []}
 use Rattle.yp_xdr.specs.Kind.{Fixed, Value}
 use Rattle.yp_rpc.specs.Called.{call_of}
-use Rattle.yp_msgs.specs.Numbers.{program, version, null_procedure, domain_procedure, match_procedure, first_procedure, next_procedure, xfr_procedure, clear_procedure, master_procedure, order_procedure, maplist_procedure, make_program, make_version, make_procedure}
+use Rattle.yp_msgs.specs.Numbers.{program, version, null_procedure, domain_procedure, match_procedure, first_procedure, next_procedure, xfr_procedure, clear_procedure, all_procedure, master_procedure, order_procedure, maplist_procedure, make_program, make_version, make_procedure}
 use Rattle.yp_msgs.specs.Messages.{req_domain, req_key, req_nokey}
 use Rattle.yp_msgs.specs.Transfers.{req_xfr, req_make}
 
@@ -29,6 +29,9 @@ master_call domain map xid = call_of req_nokey xid program version master_proced
 
 abbrev pub order_call : List ℕ → List ℕ → ℕ → List ℕ
 order_call domain map xid = call_of req_nokey xid program version order_procedure (domain, map)
+
+abbrev pub all_call : List ℕ → List ℕ → ℕ → List ℕ
+all_call domain map xid = call_of req_nokey xid program version all_procedure (domain, map)
 
 -- of a key
 abbrev pub match_call : List ℕ → List ℕ → List ℕ → ℕ → List ℕ

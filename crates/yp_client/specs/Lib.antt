@@ -4,3 +4,6 @@ pub mod Said
 pub mod Asked
 pub mod Moments
 pub mod Calls
+pub mod All
+pub mod Windows
+pub mod Listed

@@ -1,6 +1,6 @@
 -- What a reply says to a call: the value of its results, or the first refusal that its bytes meet, in the order of the reply (RFC 5531
 -- section 9, yp.x).
-use Rattle.std.specs.Prelude.{◌≡◌, ℕ, ℤ, pos, negsuc, Bool, List, Result, Ok, Err, ⊤, ◌==◌, if◌then◌else◌}
+use Rattle.std.specs.Prelude.{◌≡◌, ℕ, ◌+◌, ◌≤◌, ℤ, pos, negsuc, Bool, List, Result, Ok, Err, ⊤, ◌==◌, if◌then◌else◌}
 use Rattle.std.specs.Ordering.{int_eq}
 use Rattle.yp_xdr.specs.declared.fault.XdrFault.{XdrFault}
 use Rattle.yp_xdr.specs.declared.fault.XdrFault.TheVariants.{Short, TooLong as OverLimit, Pad, BadBool, BadEnum}
@@ -32,6 +32,16 @@ place_of (OverLimit at len) = at
 place_of (Pad at) = at
 place_of (BadBool at) = at
 place_of (BadEnum at) = at
+
+-- a fault that was found behind so many bytes of a reply
+abbrev pub further : ℕ → ClientFault → ClientFault
+further n (BadReply at) = BadReply (n + at)
+further n fault = fault
+
+-- a fault has its place among so many bytes
+abbrev pub IsIn : ℕ → ClientFault → Type 0
+IsIn end (BadReply at) = at ≤ end
+IsIn end fault = ⊤
 
 -- what was read of a reply, where an item that can't be read is a bad reply
 abbrev pub of_reply : {A : Type 0} → Result A XdrFault → Result A ClientFault

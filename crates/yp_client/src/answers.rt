@@ -37,7 +37,7 @@ pub trait Answer {
 }
 
 /// A cursor at the results of the reply to a call.
-fn read_results<'a>(message: &'a [u8], xid: u32) -> Result<Cursor<'a>, ClientFault>
+pub fn read_results<'a>(message: &'a [u8], xid: u32) -> Result<Cursor<'a>, ClientFault>
     ensures says { Says unread (results_of xid message.now) result }
     ensures of_reply { IsOfReply result }
 {

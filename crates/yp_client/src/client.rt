@@ -25,7 +25,8 @@ pub struct ClientRefused<S, K> {
 
 /// A client of a YP server, over a wire of its own. It has one buffer, for its calls and their replies.
 ///
-/// It is seen as its wire, the number of its next call, the place up to which it has read, and whether it is spent.
+/// It is seen as its wire, the number of its next call, the place up to which it has read, whether it is spent,
+/// and how many rows the last ALL has read.
 #[derive(Drop)]
 pub struct Client<S: Source, K: Sink> {
     alloc: Global,
@@ -35,6 +36,7 @@ pub struct Client<S: Source, K: Sink> {
     buf: Vec<u8>,
     xid: u32,
     spent: bool,
+    rows: u32,
 }
 
 impl<S: Source, K: Sink> Model for Client<S, K> {
@@ -42,13 +44,13 @@ impl<S: Source, K: Sink> Model for Client<S, K> {
 
     ghost Value = { Held S K };
 
-    ghost use Rattle.std.specs.Prelude.{◌≡◌, [], length};
+    ghost use Rattle.std.specs.Prelude.{◌≡◌, false, [], length};
     ghost use Rattle.yp_rpc.specs.Pieces.{not_begun};
     ghost use Rattle.yp_client.specs.Limits.{reply_max};
 
-    ghost view = { λ c. record { wire = c.wire; xid = c.xid; place = c.reader.place; spent = c.spent } };
+    ghost view = { λ c. record { wire = c.wire; xid = c.xid; place = c.reader.place; spent = c.spent; rows = c.rows } };
 
-    ghost invariant = { λ c. (c.reader.part ≡ not_begun) × (c.writer ≡ []) × (length c.buf.items ≡ reply_max) };
+    ghost invariant = { λ c. (c.spent ≡ false → c.reader.part ≡ not_begun) × (c.writer ≡ []) × (length c.buf.items ≡ reply_max) };
 }
 
 impl<S: Source, K: Sink> Client<S, K> {
@@ -59,7 +61,7 @@ impl<S: Source, K: Sink> Client<S, K> {
         xid: u32,
     ) -> Result<Client<S, K>, ClientRefused<S, K>>
         ensures { MatchResult result
-            (λ client. client ≡ record { wire = wire; xid = xid; place = 0; spent = false })
+            (λ client. client ≡ record { wire = wire; xid = xid; place = 0; spent = false; rows = 0 })
             (λ refused. refused.wire ≡ wire) }
     {
         let Ok(writer) = RecordWriter::new(alloc) else {
@@ -76,6 +78,7 @@ impl<S: Source, K: Sink> Client<S, K> {
             buf,
             xid,
             spent: false,
+            rows: 0,
         })
     }
 
@@ -95,8 +98,9 @@ impl<S: Source, K: Sink> Client<S, K> {
     ) -> Result<A::Value, ClientFault>
         requires within { M.is_within arguments.now }
         requires room { 40 + length (spelling M.kind (M.view arguments.now)) ≤ reply_max }
-        ensures { Calls (λ xid. call_of M.kind xid called.prog called.vers called.procedure (M.view arguments.now)) A.answers result
+        ensures calls { Calls reply_max (λ xid. call_of M.kind xid called.prog called.vers called.procedure (M.view arguments.now)) A.answers result
             (moment_of S.input S.faults K.output K.faults self.old) (moment_of S.input S.faults K.output K.faults self.new) }
+        ensures rows { self.new.rows ≡ self.old.rows }
     {
         if self.spent {
             return Err(ClientFault::Spent);

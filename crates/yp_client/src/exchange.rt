@@ -76,9 +76,9 @@ pub fn exchange<S: Source, K: Sink, M: Message>(
     ensures within { IfOk result (λ len. len ≤ length buf.new) }
     ensures taken { IfOk result (λ len. TakesRecord reply_max (take len buf.new)
         (S.input wire.old.source) (S.input wire.new.source) reader.old.place reader.new.place) }
-    ensures cause { IfErr result (λ fault. NoReply fault
-        (moment_of S.input S.faults K.output K.faults (record { wire = wire.old; xid = xid; place = reader.old.place; spent = false }))
-        (moment_of S.input S.faults K.output K.faults (record { wire = wire.new; xid = xid; place = reader.new.place; spent = false }))) }
+    ensures cause { IfErr result (λ fault. NoReply reply_max fault
+        (moment_of S.input S.faults K.output K.faults (record { wire = wire.old; xid = xid; place = reader.old.place; spent = false; rows = 0 }))
+        (moment_of S.input S.faults K.output K.faults (record { wire = wire.new; xid = xid; place = reader.new.place; spent = false; rows = 0 }))) }
     ensures reads { S.faults wire.old.source ≤ S.faults wire.new.source }
     ensures writes { K.faults wire.old.sink ≤ K.faults wire.new.sink }
 {

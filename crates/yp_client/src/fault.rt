@@ -35,6 +35,22 @@ pub enum ClientFault {
     NoMemory,
 }
 
+impl ClientFault {
+    ghost use Rattle.std.specs.Prelude.{◌≡◌, ℕ, ◌+◌, ◌<◌, ◌^◌};
+    ghost use Rattle.yp_client.specs.Results.{further, IsIn};
+
+    /// The fault of an item that was read from this place of the reply on.
+    pub(crate) fn further(self, at: usize) -> ClientFault
+        requires { (end : ℕ) × IsIn end self × (at + end < 2 ^ 64) }
+        ensures { result ≡ further at self }
+    {
+        match self {
+            ClientFault::BadReply { at: behind } => ClientFault::BadReply { at: at + behind },
+            fault => fault,
+        }
+    }
+}
+
 impl From<XdrFault> for ClientFault {
     ghost use Rattle.std.specs.Prelude.{◌≡◌};
     ghost use Rattle.yp_client.specs.Results.{place_of};

@@ -5,6 +5,7 @@
 //! of results.
 #![tactic(auto)]
 
+mod all;
 mod answers;
 mod client;
 mod exchange;

@@ -8,6 +8,7 @@ ghost use Rattle.yp_client.specs.Results.{nothing_of, served_of, value_of, row_o
 ghost use Rattle.yp_client.specs.Said.{SaysNothing, SaysBool, SaysNumber, SaysBytes, SaysRow, SaysNames, SaysStat};
 ghost use Rattle.yp_client.specs.Asked.{null_call, clear_call, domain_call, maplist_call, first_call, master_call, order_call};
 ghost use Rattle.yp_client.specs.Asked.{match_call, next_call, xfr_call, make_call};
+ghost use Rattle.yp_client.specs.Limits.{reply_max};
 ghost use Rattle.yp_client.specs.Moments.{moment_of};
 ghost use Rattle.yp_client.specs.Calls.{Calls};
 
@@ -47,8 +48,9 @@ impl Message for NoArguments {
 impl<S: Source, K: Sink> Client<S, K> {
     /// NULL: whether the server answers.
     pub fn ping(&mut self) -> Result<(), ClientFault>
-        ensures { Calls (null_call) (SaysNothing nothing_of) result
+        ensures calls { Calls reply_max (null_call) (SaysNothing nothing_of) result
             (moment_of S.input S.faults K.output K.faults self.old) (moment_of S.input S.faults K.output K.faults self.new) }
+        ensures rows { self.new.rows ≡ self.old.rows }
     {
         self.call(
             Called {
@@ -64,8 +66,9 @@ impl<S: Source, K: Sink> Client<S, K> {
     /// DOMAIN: whether the domain is served.
     pub fn domain(&mut self, domain: &[u8]) -> Result<bool, ClientFault>
         requires { length domain.now ≤ name_max }
-        ensures { Calls (domain_call domain.now) (SaysBool served_of) result
+        ensures calls { Calls reply_max (domain_call domain.now) (SaysBool served_of) result
             (moment_of S.input S.faults K.output K.faults self.old) (moment_of S.input S.faults K.output K.faults self.new) }
+        ensures rows { self.new.rows ≡ self.old.rows }
     {
         self.call(
             Called {
@@ -88,8 +91,9 @@ impl<S: Source, K: Sink> Client<S, K> {
         requires domain { length domain.now ≤ name_max }
         requires map { length map.now ≤ name_max }
         requires key { length key.now ≤ key_max }
-        ensures { Calls (match_call domain.now map.now key.now) (SaysBytes value_of) result
+        ensures calls { Calls reply_max (match_call domain.now map.now key.now) (SaysBytes value_of) result
             (moment_of S.input S.faults K.output K.faults self.old) (moment_of S.input S.faults K.output K.faults self.new) }
+        ensures rows { self.new.rows ≡ self.old.rows }
     {
         self.call(
             Called {
@@ -106,8 +110,9 @@ impl<S: Source, K: Sink> Client<S, K> {
     pub fn first(&mut self, domain: &[u8], map: &[u8]) -> Result<Row, ClientFault>
         requires domain { length domain.now ≤ name_max }
         requires map { length map.now ≤ name_max }
-        ensures { Calls (first_call domain.now map.now) (SaysRow row_of) result
+        ensures calls { Calls reply_max (first_call domain.now map.now) (SaysRow row_of) result
             (moment_of S.input S.faults K.output K.faults self.old) (moment_of S.input S.faults K.output K.faults self.new) }
+        ensures rows { self.new.rows ≡ self.old.rows }
     {
         self.call(
             Called {
@@ -125,8 +130,9 @@ impl<S: Source, K: Sink> Client<S, K> {
         requires domain { length domain.now ≤ name_max }
         requires map { length map.now ≤ name_max }
         requires key { length key.now ≤ key_max }
-        ensures { Calls (next_call domain.now map.now key.now) (SaysRow row_of) result
+        ensures calls { Calls reply_max (next_call domain.now map.now key.now) (SaysRow row_of) result
             (moment_of S.input S.faults K.output K.faults self.old) (moment_of S.input S.faults K.output K.faults self.new) }
+        ensures rows { self.new.rows ≡ self.old.rows }
     {
         self.call(
             Called {
@@ -143,8 +149,9 @@ impl<S: Source, K: Sink> Client<S, K> {
     pub fn master(&mut self, domain: &[u8], map: &[u8]) -> Result<Vec<u8>, ClientFault>
         requires domain { length domain.now ≤ name_max }
         requires map { length map.now ≤ name_max }
-        ensures { Calls (master_call domain.now map.now) (SaysBytes master_of) result
+        ensures calls { Calls reply_max (master_call domain.now map.now) (SaysBytes master_of) result
             (moment_of S.input S.faults K.output K.faults self.old) (moment_of S.input S.faults K.output K.faults self.new) }
+        ensures rows { self.new.rows ≡ self.old.rows }
     {
         self.call(
             Called {
@@ -161,8 +168,9 @@ impl<S: Source, K: Sink> Client<S, K> {
     pub fn order(&mut self, domain: &[u8], map: &[u8]) -> Result<u32, ClientFault>
         requires domain { length domain.now ≤ name_max }
         requires map { length map.now ≤ name_max }
-        ensures { Calls (order_call domain.now map.now) (SaysNumber order_of) result
+        ensures calls { Calls reply_max (order_call domain.now map.now) (SaysNumber order_of) result
             (moment_of S.input S.faults K.output K.faults self.old) (moment_of S.input S.faults K.output K.faults self.new) }
+        ensures rows { self.new.rows ≡ self.old.rows }
     {
         self.call(
             Called {
@@ -178,8 +186,9 @@ impl<S: Source, K: Sink> Client<S, K> {
     /// MAPLIST: the maps of a domain.
     pub fn maplist(&mut self, domain: &[u8]) -> Result<MapList, ClientFault>
         requires { length domain.now ≤ name_max }
-        ensures { Calls (maplist_call domain.now) (SaysNames maps_of) result
+        ensures calls { Calls reply_max (maplist_call domain.now) (SaysNames maps_of) result
             (moment_of S.input S.faults K.output K.faults self.old) (moment_of S.input S.faults K.output K.faults self.new) }
+        ensures rows { self.new.rows ≡ self.old.rows }
     {
         self.call(
             Called {
@@ -194,8 +203,9 @@ impl<S: Source, K: Sink> Client<S, K> {
 
     /// CLEAR: has the server close its maps.
     pub fn clear(&mut self) -> Result<(), ClientFault>
-        ensures { Calls (clear_call) (SaysNothing nothing_of) result
+        ensures calls { Calls reply_max (clear_call) (SaysNothing nothing_of) result
             (moment_of S.input S.faults K.output K.faults self.old) (moment_of S.input S.faults K.output K.faults self.new) }
+        ensures rows { self.new.rows ≡ self.old.rows }
     {
         self.call(
             Called {
@@ -211,8 +221,9 @@ impl<S: Source, K: Sink> Client<S, K> {
     /// XFR: has the server fetch a map.
     pub fn xfr(&mut self, request: &ReqXfr<'_>) -> Result<XfrStat, ClientFault>
         requires { ReqXfrIsWithin request.now }
-        ensures { Calls (xfr_call (req_xfr_view request.now)) (SaysStat taken_of) result
+        ensures calls { Calls reply_max (xfr_call (req_xfr_view request.now)) (SaysStat taken_of) result
             (moment_of S.input S.faults K.output K.faults self.old) (moment_of S.input S.faults K.output K.faults self.new) }
+        ensures rows { self.new.rows ≡ self.old.rows }
     {
         self.call(
             Called {
@@ -228,8 +239,9 @@ impl<S: Source, K: Sink> Client<S, K> {
     /// MAKE of the make program: has the server make a map anew, by the number of its kind.
     pub fn make(&mut self, domain: &[u8], kind: u32) -> Result<XfrStat, ClientFault>
         requires { length domain.now ≤ name_max }
-        ensures { Calls (make_call domain.now kind) (SaysStat made_of) result
+        ensures calls { Calls reply_max (make_call domain.now kind) (SaysStat made_of) result
             (moment_of S.input S.faults K.output K.faults self.old) (moment_of S.input S.faults K.output K.faults self.new) }
+        ensures rows { self.new.rows ≡ self.old.rows }
     {
         self.call(
             Called {

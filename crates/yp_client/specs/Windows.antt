@@ -1,0 +1,102 @@
+-- A reply that is read piece by piece: what its record has given, and what of it stands in the buffer.
+use Rattle.std.specs.Prelude.{◌≡◌, ℕ, ◌+◌, ◌≤◌, ◌⊎◌, Bool, true, false, List, [], ◌++◌, length, slice_range, Option, Some, Result, Ok, Err, ⊤}
+use Rattle.yp_xdr.specs.Reading.{Unread}
+use Rattle.yp_rpc.specs.Records.{TakesRecord}
+use Rattle.yp_rpc.specs.Pieces.{Reader, not_begun, HasGiven}
+use Rattle.yp_version.specs.declared.builder.VersionFault.{VersionFault}
+use Rattle.yp_version.specs.Drafts.{Draft}
+use Rattle.yp_client.specs.declared.fault.ClientFault.{ClientFault}
+use Rattle.yp_client.specs.declared.fault.ClientFault.TheVariants.{Rows, NoMemory}
+use Rattle.yp_client.specs.declared.all.AllReply.{AllReply}
+use Rattle.yp_client.specs.Limits.{all_max}
+use Rattle.yp_client.specs.Results.{results_of}
+use Rattle.yp_client.specs.All.{filled, all_said, IsSaid}
+
+-- the most bytes of an item: two words, and a value and a key of 65536 bytes, each behind its length
+abbrev pub item_max : ℕ
+item_max = 131088
+
+-- Some bytes stand in the buffer.
+pub record StandsIn (reply : AllReply) (buf : List ℕ) : Type 0 where
+  pub order : reply.start ≤ reply.end
+  pub fits : reply.end ≤ length buf
+
+-- the bytes that stand in the buffer and are still to be read
+abbrev pub waiting : AllReply → List ℕ → List ℕ
+waiting reply buf = slice_range buf reply.start reply.end
+
+-- what is left to read, where so much more of the record comes
+abbrev pub ahead : AllReply → List ℕ → List ℕ → Unread
+ahead reply buf more = record { at = reply.at; bytes = waiting reply buf ++ more }
+
+-- how far a record was read: what its source has left, the reader, and whether the end was met
+pub record Progress : Type 0 where
+  pub input : Option (List ℕ)
+  pub reader : Reader
+  pub whole : Bool
+
+abbrev pub progress : Option (List ℕ) → Reader → Bool → Progress
+progress input reader whole = record { input = input; reader = reader; whole = whole }
+
+-- These bytes were given of the record that begins at a place, where the source stood at the start. Where its end was met, they are the
+-- record.
+abbrev pub HasRead : List ℕ → Option (List ℕ) → ℕ → Option (List ℕ) → Reader → Bool → Type 0
+HasRead front start place input reader false = HasGiven all_max front start input reader.part × (reader.place ≡ place)
+HasRead front start place input reader true = TakesRecord all_max front start input place reader.place × (reader.part ≡ not_begun)
+
+abbrev pub HasReached : List ℕ → Option (List ℕ) → ℕ → Progress → Type 0
+HasReached front start place now = HasRead front start place now.input now.reader now.whole
+
+-- Of whatever record it is, so much more was given.
+abbrev pub GivesMore : List ℕ → Progress → Progress → Type 0
+GivesMore more old new = (front : List ℕ) (start : Option (List ℕ)) (place : ℕ) → HasReached front start place old → HasReached (front ++ more) start place new
+
+-- Some record is being read, of which so many bytes were given.
+pub record IsUnderway (count : ℕ) (now : Progress) : Type 0 where
+  pub front : List ℕ
+  pub start : Option (List ℕ)
+  pub place : ℕ
+  pub reached : HasReached front start place now
+  pub counted : length front ≡ count
+
+-- Behind the end of a record nothing more comes.
+abbrev pub MayCome : List ℕ → Bool → Type 0
+MayCome more whole = whole ≡ true → more ≡ []
+
+-- Where its end was met, nothing more was read.
+abbrev pub StaysWhole : List ℕ → Bool → Bool → Type 0
+StaysWhole more old new = old ≡ true → (more ≡ []) × (new ≡ true)
+
+-- An item stands whole in the buffer, or the record ends in it.
+abbrev pub HasItem : AllReply → List ℕ → Type 0
+HasItem reply buf = (item_max ≤ length (waiting reply buf)) ⊎ (reply.whole ≡ true)
+
+-- The results begin at what is left, or the fault is that of the head.
+abbrev pub Heads : {X : Type 0} → ℕ → List ℕ → Result X ClientFault → Unread → Type 0
+Heads xid message (Ok done) left = results_of xid message ≡ Ok left
+Heads xid message (Err fault) left = results_of xid message ≡ Err fault
+
+-- Why a row was refused: by its cause, or for want of memory.
+abbrev pub IsRefusal : Option VersionFault → ClientFault → Type 0
+IsRefusal cause (Rows fault) = cause ≡ Some fault
+IsRefusal cause NoMemory = ⊤
+IsRefusal cause fault = ⊥
+
+-- One item was read, and a row was pushed: what was said from there on is said from here on. Or it is the end of the rows, or a refusal.
+abbrev pub Advances : Draft → Draft → ℕ → ℕ → Result Bool ClientFault → ℕ → Unread → Unread → Type 0
+Advances before after rows rows' (Ok true) n old new = filled (n + 1) before rows old ≡ filled n after rows' new
+Advances before after rows rows' (Ok false) n old new = IsSaid (filled (n + 1) before rows old) after rows' (Ok tt)
+Advances before after rows rows' (Err fault) n old new = IsSaid (filled (n + 1) before rows old) after rows' (Err fault)
+
+-- More of the record was read, and all rows that it says were pushed, up to the end or the first refusal, whatever comes behind.
+pub record Pushes (before after : Draft) (old new : AllReply) (buf : List ℕ) (was now : Progress) (end : Result (Unit {0}) ClientFault) : Type 0 where
+  pub more : List ℕ
+  pub given : GivesMore more was now
+  pub said : (rest : List ℕ) (n : ℕ) → MayCome rest new.whole → length (waiting old buf ++ (more ++ rest)) ≤ n
+      → IsSaid (filled n before old.rows (ahead old buf (more ++ rest))) after new.rows end
+
+-- A reply was read from its start, as far as its rows go, and says this, whatever comes behind.
+pub record SaysSoFar (before after : Draft) (rows xid : ℕ) (end : Result (Unit {0}) ClientFault) (start : Option (List ℕ)) (place : ℕ) (now : Progress) : Type 0 where
+  pub front : List ℕ
+  pub reached : HasReached front start place now
+  pub said : (rest : List ℕ) → MayCome rest now.whole → IsSaid (all_said before xid (front ++ rest)) after rows end

@@ -1,0 +1,357 @@
+//! The reply to ALL (yp.x), which may be longer than the buffer. It is read piece by piece, and its rows go to a builder.
+
+ghost use Rattle.std.specs.Prelude.{◌≡◌, ℕ, ◌+◌, ◌-◌, ◌*◌, ◌^◌, ◌<◌, ◌≤◌, ◌⊎◌, true, false, [], ◌++◌, List, Option, length, take, drop, IfOk, IfErr, OnOk, OnErr, option_map, Ok, Err};
+ghost use Rattle.yp_xdr.specs.Reading.{end_of};
+ghost use Rattle.yp_xdr.specs.Cursor.{unread};
+ghost use Rattle.yp_rpc.specs.Pieces.{not_begun, HasNoPiece};
+ghost use Rattle.yp_rpc.specs.Records.{TakesRecord};
+ghost use Rattle.yp_version.specs.Drafts.{refused, with_row};
+ghost use Rattle.yp_client.specs.Limits.{reply_max, all_max};
+ghost use Rattle.yp_client.specs.Results.{Says};
+ghost use Rattle.yp_client.specs.Calls.{IsOfReply};
+ghost use Rattle.yp_client.specs.All.{row_at, all_item_at, Grows, SaysAll};
+ghost use Rattle.yp_client.specs.Listed.{row_view};
+ghost use Rattle.yp_client.specs.Windows.{IsRefusal};
+
+use crate::answers::{read_results};
+use crate::fault::ClientFault;
+use crate::limits::ALL_MAX;
+use yp_io::Source;
+use yp_msgs::protocol::{KEY_MAX, VALUE_MAX};
+use yp_msgs::{ReadMessage, YpStat};
+use yp_rpc::{RecordFault, RecordReader};
+use yp_version::{VersionBuilder, VersionFault};
+use yp_xdr::Cursor;
+
+/// The most bytes of an item: two words, and a value and a key, each behind its length.
+const ITEM_MAX: usize = 8 + (4 + VALUE_MAX as usize) + (4 + KEY_MAX as usize);
+
+/// The reply to a call of ALL while it is read: where its next bytes stand in the buffer, their place in the record,
+/// whether the record was read to its end, and how many rows it has given.
+#[derive(Drop)]
+pub struct AllReply {
+    xid: u32,
+    start: usize,
+    end: usize,
+    at: usize,
+    whole: bool,
+    pub rows: u32,
+}
+
+/// A row as it stands in the reply.
+#[derive(Clone, Copy)]
+struct ListedRow<'a> {
+    key: &'a [u8],
+    value: &'a [u8],
+}
+
+/// Reads a value, and then its key.
+#[tactic(auto, unfolding(crate::specs::All::row_at))]
+fn read_row<'a>(cursor: &mut Cursor<'a>) -> Result<ListedRow<'a>, ClientFault>
+    ensures says { Says (λ row. (Some (row_view row), unread cursor.new)) (row_at (unread cursor.old)) result }
+    ensures of_reply { IsOfReply result }
+{
+    let value = cursor.opaque(VALUE_MAX)?;
+    let key = cursor.opaque(KEY_MAX)?;
+    Ok(ListedRow { key, value })
+}
+
+/// Reads an item: a row, or that there are no more.
+#[tactic(auto, unfolding(crate::specs::All::all_item_at, crate::specs::All::status_at))]
+fn read_item<'a>(cursor: &mut Cursor<'a>) -> Result<Option<ListedRow<'a>>, ClientFault>
+    ensures says { Says (λ found. (option_map row_view found, unread cursor.new)) (all_item_at (unread cursor.old)) result }
+    ensures of_reply { IsOfReply result }
+{
+    if !cursor.bool()? {
+        return Ok(None);
+    }
+    match YpStat::read(cursor)? {
+        YpStat::True => Ok(Some(read_row(cursor)?)),
+        YpStat::Nomore => Ok(None),
+        stat => Err(ClientFault::Yp(stat)),
+    }
+}
+
+/// Pushes a row.
+fn push(into: &mut VersionBuilder, row: ListedRow<'_>) -> Result<(), ClientFault>
+    ensures fits { OnOk result (refused into.old (row_view row.entry) ≡ None) }
+    ensures rows { OnOk result (into.new ≡ with_row into.old (row_view row.entry)) }
+    ensures cause { IfErr result (IsRefusal (refused into.old (row_view row.entry))) }
+    ensures err { OnErr result (into.new ≡ into.old) }
+{
+    match into.push(row.key, row.value) {
+        Ok(_) => Ok(()),
+        Err(VersionFault::NoMemory) => Err(ClientFault::NoMemory),
+        Err(fault) => Err(ClientFault::Rows(fault)),
+    }
+}
+
+impl AllReply {
+    ghost use Rattle.std.specs.Prelude.{slice_range};
+    ghost use Rattle.yp_client.specs.Windows.{waiting, ahead, progress, HasReached, GivesMore, IsUnderway, MayCome, StaysWhole, StandsIn, HasItem};
+    ghost use Rattle.yp_client.specs.Windows.{Heads, Advances, Pushes, SaysSoFar};
+
+    /// The reply to the call with this number, of which nothing was read.
+    pub fn new(xid: u32) -> AllReply
+        ensures { result ≡ record { xid = xid; start = 0; end = 0; at = 0; whole = false; rows = 0 } }
+    {
+        AllReply {
+            xid,
+            start: 0,
+            end: 0,
+            at: 0,
+            whole: false,
+            rows: 0,
+        }
+    }
+
+    /// Moves what is still to be read to the front of the buffer.
+    fn to_front(&mut self, buf: &mut [u8])
+        requires { StandsIn self.old buf.old }
+        ensures waiting { waiting self.new buf.new ≡ waiting self.old buf.old }
+        ensures front { self.new.start ≡ 0 }
+        ensures stands { StandsIn self.new buf.new }
+        ensures same { self.new ≡ record self.old { start = self.new.start; end = self.new.end } }
+    {
+        buf.copy_within(self.start..self.end, 0);
+        self.end -= self.start;
+        self.start = 0;
+    }
+
+    /// Reads until the buffer is full or the record ends.
+    fn read_on<S: Source>(
+        &mut self,
+        source: &mut S,
+        reader: &mut RecordReader,
+        buf: &mut [u8],
+    ) -> Result<(), RecordFault>
+        requires { StandsIn self.old buf.old }
+        ensures more { OnOk result ((more : List ℕ) × StaysWhole more self.old.whole self.new.whole
+            × GivesMore more (progress (S.input source.old) reader.old self.old.whole) (progress (S.input source.new) reader.new self.new.whole)
+            × (waiting self.new buf.new ≡ waiting self.old buf.old ++ more)) }
+        ensures full { OnOk result ((self.new.end ≡ length buf.new) ⊎ (self.new.whole ≡ true)) }
+        ensures cause { (front : List ℕ) (start : Option (List ℕ)) (place : ℕ) → HasReached front start place (progress (S.input source.old) reader.old self.old.whole)
+            → IfErr result (HasNoPiece all_max place start (S.input source.new) (S.faults source.old) (S.faults source.new)) }
+        ensures stands { StandsIn self.new buf.new }
+        ensures same { self.new ≡ record self.old { end = self.new.end; whole = self.new.whole } }
+        ensures counted { S.faults source.old ≤ S.faults source.new }
+    {
+        while !self.whole && self.end < buf.len() {
+            let count = reader.piece(source, &mut buf[self.end..], ALL_MAX)?;
+            self.end += count;
+            self.whole = count == 0;
+        }
+        Ok(())
+    }
+
+    /// Has an item stand whole in the buffer, or all that is left of the record.
+    fn have_item<S: Source>(
+        &mut self,
+        source: &mut S,
+        reader: &mut RecordReader,
+        buf: &mut [u8],
+    ) -> Result<(), RecordFault>
+        requires stands { StandsIn self.old buf.old }
+        requires room { length buf.old ≡ reply_max }
+        ensures more { OnOk result ((more : List ℕ) × StaysWhole more self.old.whole self.new.whole
+            × GivesMore more (progress (S.input source.old) reader.old self.old.whole) (progress (S.input source.new) reader.new self.new.whole)
+            × (waiting self.new buf.new ≡ waiting self.old buf.old ++ more)) }
+        ensures item { OnOk result (HasItem self.new buf.new) }
+        ensures cause { (front : List ℕ) (start : Option (List ℕ)) (place : ℕ) → HasReached front start place (progress (S.input source.old) reader.old self.old.whole)
+            → IfErr result (HasNoPiece all_max place start (S.input source.new) (S.faults source.old) (S.faults source.new)) }
+        ensures stands { StandsIn self.new buf.new }
+        ensures same { self.new ≡ record self.old { start = self.new.start; end = self.new.end; whole = self.new.whole } }
+        ensures counted { S.faults source.old ≤ S.faults source.new }
+    {
+        if self.whole || self.end - self.start >= ITEM_MAX {
+            return Ok(());
+        }
+        self.to_front(buf);
+        self.read_on(source, reader, buf)
+    }
+
+    /// Passes bytes that were read.
+    fn pass(&mut self, count: usize)
+        requires within { self.old.start + count ≤ self.old.end }
+        requires place { self.old.at + count < 2 ^ 64 }
+        ensures { self.new ≡ record self.old { start = self.old.start + count; at = self.old.at + count } }
+    {
+        self.start += count;
+        self.at += count;
+    }
+
+    /// Reads the head, and passes it.
+    fn read_head(&mut self, buf: &[u8]) -> Result<(), ClientFault>
+        requires stands { StandsIn self.old buf.now }
+        requires begin { self.old.at ≡ 0 }
+        requires item { HasItem self.old buf.now }
+        ensures says { (more : List ℕ) → MayCome more self.old.whole → Heads self.old.xid (waiting self.old buf.now ++ more) result (ahead self.new buf.now more) }
+        ensures of_reply { IsOfReply result }
+        ensures total { self.new.at + length (waiting self.new buf.now) ≡ self.old.at + length (waiting self.old buf.now) }
+        ensures stands { StandsIn self.new buf.now }
+        ensures same { self.new ≡ record self.old { start = self.new.start; at = self.new.at } }
+    {
+        let results = read_results(&buf[self.start..self.end], self.xid)?;
+        self.pass(results.at());
+        Ok(())
+    }
+
+    /// Reads the next item, which stands whole in the buffer, and passes it.
+    fn next_row<'a>(&mut self, buf: &'a [u8]) -> Result<Option<ListedRow<'a>>, ClientFault>
+        requires stands { StandsIn self.old buf.now }
+        requires item { HasItem self.old buf.now }
+        requires count { self.old.at + length (waiting self.old buf.now) ≤ all_max }
+        ensures says { (more : List ℕ) → MayCome more self.old.whole
+            → Says (λ found. (option_map row_view found, ahead self.new buf.now more)) (all_item_at (ahead self.old buf.now more)) result }
+        ensures of_reply { IsOfReply result }
+        ensures never_back { self.old.at ≤ self.new.at }
+        ensures forward { OnOk result (self.old.at < self.new.at) }
+        ensures total { self.new.at + length (waiting self.new buf.now) ≡ self.old.at + length (waiting self.old buf.now) }
+        ensures stands { StandsIn self.new buf.now }
+        ensures same { self.new ≡ record self.old { start = self.new.start; at = self.new.at } }
+    {
+        let mut cursor = Cursor::new(&buf[self.start..self.end]);
+        match read_item(&mut cursor) {
+            Ok(found) => {
+                self.pass(cursor.at());
+                Ok(found)
+            }
+            Err(fault) => Err(fault.further(self.at)),
+        }
+    }
+
+    /// Reads the next item, and pushes a row. It answers whether it was one, or that there are no more.
+    fn push_next(&mut self, buf: &[u8], into: &mut VersionBuilder) -> Result<bool, ClientFault>
+        requires stands { StandsIn self.old buf.now }
+        requires item { HasItem self.old buf.now }
+        requires count { self.old.at + length (waiting self.old buf.now) ≤ all_max }
+        requires few { self.old.rows ≤ self.old.at }
+        ensures advances { (more : List ℕ) (n : ℕ) → MayCome more self.old.whole
+            → Advances into.old into.new self.old.rows self.new.rows result n (ahead self.old buf.now more) (ahead self.new buf.now more) }
+        ensures kept { Grows into.old into.new }
+        ensures of_reply { IsOfReply result }
+        ensures forward { OnOk result (self.old.at < self.new.at) }
+        ensures total { self.new.at + length (waiting self.new buf.now) ≡ self.old.at + length (waiting self.old buf.now) }
+        ensures few { self.new.rows ≤ self.new.at }
+        ensures stands { StandsIn self.new buf.now }
+        ensures same { self.new ≡ record self.old { start = self.new.start; at = self.new.at; rows = self.new.rows } }
+    {
+        let Some(row) = self.next_row(buf)? else {
+            return Ok(false);
+        };
+        self.rows += 1;
+        push(into, row)?;
+        Ok(true)
+    }
+
+    /// Reads on, and pushes the rows up to the end of them or the first refusal.
+    fn push_rows<S: Source>(
+        &mut self,
+        source: &mut S,
+        reader: &mut RecordReader,
+        buf: &mut [u8],
+        into: &mut VersionBuilder,
+    ) -> Result<Result<(), ClientFault>, RecordFault>
+        requires stands { StandsIn self.old buf.old }
+        requires room { length buf.old ≡ reply_max }
+        requires underway { IsUnderway (self.old.at + length (waiting self.old buf.old)) (progress (S.input source.old) reader.old self.old.whole) }
+        requires few { self.old.rows ≤ self.old.at }
+        ensures pushes { IfOk result (Pushes into.old into.new self.old self.new buf.old (progress (S.input source.old) reader.old self.old.whole)
+            (progress (S.input source.new) reader.new self.new.whole)) }
+        ensures kept { Grows into.old into.new }
+        ensures of_reply { IfOk result IsOfReply }
+        ensures underway { OnOk result (IsUnderway (self.new.at + length (waiting self.new buf.new)) (progress (S.input source.new) reader.new self.new.whole)) }
+        ensures cause { (front : List ℕ) (start : Option (List ℕ)) (place : ℕ) → HasReached front start place (progress (S.input source.old) reader.old self.old.whole)
+            → IfErr result (HasNoPiece all_max place start (S.input source.new) (S.faults source.old) (S.faults source.new)) }
+        ensures stands { StandsIn self.new buf.new }
+        ensures counted { S.faults source.old ≤ S.faults source.new }
+    {
+        loop {
+            self.have_item(source, reader, buf)?;
+            match self.push_next(buf, into) {
+                Ok(true) => {}
+                Ok(false) => return Ok(Ok(())),
+                Err(fault) => return Ok(Err(fault)),
+            }
+        }
+    }
+
+    /// Reads the head and the rows, as far as they go.
+    fn read_rows<S: Source>(
+        &mut self,
+        source: &mut S,
+        reader: &mut RecordReader,
+        buf: &mut [u8],
+        into: &mut VersionBuilder,
+    ) -> Result<Result<(), ClientFault>, RecordFault>
+        requires new { self.old ≡ record { xid = self.old.xid; start = 0; end = 0; at = 0; whole = false; rows = 0 } }
+        requires room { length buf.old ≡ reply_max }
+        requires between { reader.old.part ≡ not_begun }
+        ensures says { IfOk result (λ end. SaysSoFar into.old into.new self.new.rows self.old.xid end (S.input source.old) reader.old.place
+            (progress (S.input source.new) reader.new self.new.whole)) }
+        ensures kept { Grows into.old into.new }
+        ensures of_reply { IfOk result IsOfReply }
+        ensures underway { OnOk result (IsUnderway (self.new.at + length (waiting self.new buf.new)) (progress (S.input source.new) reader.new self.new.whole)) }
+        ensures cause { IfErr result (HasNoPiece all_max reader.old.place (S.input source.old) (S.input source.new) (S.faults source.old) (S.faults source.new)) }
+        ensures stands { StandsIn self.new buf.new }
+        ensures counted { S.faults source.old ≤ S.faults source.new }
+    {
+        self.have_item(source, reader, buf)?;
+        match self.read_head(buf) {
+            Ok(()) => self.push_rows(source, reader, buf, into),
+            Err(fault) => Ok(Err(fault)),
+        }
+    }
+
+    /// Skips the rest of the record.
+    fn skip<S: Source>(
+        &mut self,
+        source: &mut S,
+        reader: &mut RecordReader,
+        buf: &mut [u8],
+    ) -> Result<(), RecordFault>
+        requires stands { StandsIn self.old buf.old }
+        requires room { 0 < length buf.old }
+        requires underway { IsUnderway (self.old.at + length (waiting self.old buf.old)) (progress (S.input source.old) reader.old self.old.whole) }
+        ensures more { OnOk result ((more : List ℕ) × (MayCome more self.old.whole)
+            × GivesMore more (progress (S.input source.old) reader.old self.old.whole) (progress (S.input source.new) reader.new true)) }
+        ensures cause { (front : List ℕ) (start : Option (List ℕ)) (place : ℕ) → HasReached front start place (progress (S.input source.old) reader.old self.old.whole)
+            → IfErr result (HasNoPiece all_max place start (S.input source.new) (S.faults source.old) (S.faults source.new)) }
+        ensures rows { self.new.rows ≡ self.old.rows }
+        ensures counted { S.faults source.old ≤ S.faults source.new }
+    {
+        self.pass(self.end - self.start);
+        while !self.whole {
+            let count = reader.piece(source, buf, ALL_MAX)?;
+            self.at += count;
+            self.whole = count == 0;
+        }
+        Ok(())
+    }
+
+    /// Reads the whole reply, and pushes its rows up to the end of them or the first refusal. It answers what the reply says, or
+    /// why there is none.
+    pub fn read<S: Source>(
+        &mut self,
+        source: &mut S,
+        reader: &mut RecordReader,
+        buf: &mut [u8],
+        into: &mut VersionBuilder,
+    ) -> Result<Result<(), ClientFault>, RecordFault>
+        requires new { self.old ≡ record { xid = self.old.xid; start = 0; end = 0; at = 0; whole = false; rows = 0 } }
+        requires room { length buf.old ≡ reply_max }
+        requires between { reader.old.part ≡ not_begun }
+        ensures says { IfOk result (λ end. (message : List ℕ)
+            × TakesRecord all_max message (S.input source.old) (S.input source.new) reader.old.place reader.new.place
+            × SaysAll into.old into.new self.new.rows self.old.xid message end) }
+        ensures kept { Grows into.old into.new }
+        ensures of_reply { IfOk result IsOfReply }
+        ensures between { OnOk result (reader.new.part ≡ not_begun) }
+        ensures cause { IfErr result (HasNoPiece all_max reader.old.place (S.input source.old) (S.input source.new) (S.faults source.old) (S.faults source.new)) }
+        ensures counted { S.faults source.old ≤ S.faults source.new }
+    {
+        let said = self.read_rows(source, reader, buf, into)?;
+        self.skip(source, reader, buf)?;
+        Ok(said)
+    }
+}
