@@ -124,18 +124,20 @@ filled_more (suc n) draft rows left enough = (n, ap (λ (k : ℕ). filled k draf
 -- More of the record was read, and some rows were pushed: what was said at first is what is said now, whatever comes behind.
 pub record PushedSoFar (before after : Draft) (old new : AllReply) (buf buf' : List ℕ) (was now : Progress) : Type 0 where
   pub more : List ℕ
+  pub stays : StaysWhole more was.whole now.whole
   pub given : GivesMore more was now
   pub said : (rest : List ℕ) (n : ℕ) → MayCome rest now.whole → length (waiting old buf ++ (more ++ rest)) ≤ n
       → (m : ℕ) × (length (waiting new buf' ++ rest) ≤ m) × (filled n before old.rows (ahead old buf (more ++ rest)) ≡ filled m after new.rows (ahead new buf' rest))
 
 pub pushed_nothing : (draft : Draft) (reply : AllReply) (buf : List ℕ) (now : Progress) → PushedSoFar draft draft reply reply buf buf now now
-pushed_nothing draft reply buf now = record { more = []; given = gives_nothing now; said = λ rest n may enough. (n, enough, refl) }
+pushed_nothing draft reply buf now = record { more = []; stays = λ whole. (refl, whole); given = gives_nothing now; said = λ rest n may enough. (n, enough, refl) }
 
 -- more of the record is read
 pub so_far_read : (before after : Draft) (old mid new : AllReply) (buf buf' buf'' : List ℕ) (was now now' : Progress) (more : List ℕ) → PushedSoFar before after old mid buf buf' was now → GivesMore more now now'
     → StaysWhole more now.whole now'.whole → waiting new buf'' ≡ waiting mid buf' ++ more → new.at ≡ mid.at → new.rows ≡ mid.rows → PushedSoFar before after old new buf buf'' was now'
 so_far_read before after old mid new buf buf' buf'' was now now' more so_far given stays waits at rows = record {
   more = so_far.more ++ more;
+  stays = λ whole. let first = so_far.stays whole in let second = stays first.1 in (rw (first.0, second.0) refl, second.1);
   given = gives_then so_far.more more was now now' so_far.given given;
   said = λ rest n may enough.
       let joined : so_far.more ++ more ++ rest ≡ so_far.more ++ (more ++ rest) = append_assoc so_far.more more rest in
@@ -155,6 +157,7 @@ pub so_far_pushed : (before mid after : Draft) (old half new : AllReply) (buf bu
     → half.at < new.at → new.at + length (waiting new buf') ≡ half.at + length (waiting half buf') → PushedSoFar before after old new buf buf' was now
 so_far_pushed before mid after old half new buf buf' was now so_far advances forward total = record {
   more = so_far.more;
+  stays = so_far.stays;
   given = so_far.given;
   said = λ rest n may enough.
       let h = so_far.said rest n may enough in
@@ -169,6 +172,7 @@ pub so_far_ended : (before mid after : Draft) (old half new : AllReply) (buf buf
     → Pushes before after old new buf was now end
 so_far_ended before mid after old half new buf buf' was now end so_far same ends = record {
   more = so_far.more;
+  stays = so_far.stays;
   given = so_far.given;
   said = λ rest n may enough.
       let may' : now.whole ≡ true → rest ≡ [] = λ whole. may (sym same ∙ whole) in

@@ -1,5 +1,5 @@
 -- What a call does, by its reply or by the lack of one.
-use Rattle.std.proofs.Common.{◌≡◌, ℕ, ◌+◌, ◌≤◌, ◌%◌, ◌^◌, Bool, true, false, List, take, Option, Result, Ok, Err, refl, sym, ap, ◌∙◌}
+use Rattle.std.proofs.Common.{◌≡◌, ℕ, ◌+◌, ◌≤◌, ◌%◌, ◌^◌, Bool, true, false, List, take, Option, Result, Ok, Err, refl, sym, ap, ◌∙◌, subst}
 use Rattle.std.specs.Prelude.{◌↔◌}
 use Rattle.std.specs.Io.KnownBytes.{Keeps, Appends}
 use Rattle.yp_rpc.specs.Records.{sent, TakesRecord}
@@ -101,3 +101,15 @@ called_err X limit call answers fault old new fresh none out spent xid reads wri
   reads = reads;
   writes = writes;
 }
+
+-- what was sent, by a number that is written otherwise
+pub sends_at : (X : Type 0) (call : ℕ → List ℕ) (number number' : ℕ) (fault : ClientFault) (before after : Option (List ℕ)) → number ≡ number' → Sends {X = X} (call number) (Err fault) before after → Sends {X = X} (call number') (Err fault) before after
+sends_at X call number number' fault before after same h = subst (λ (n : ℕ). Sends {X = X} (call n) (Err fault) before after) same h
+
+-- as called_err, by a number that is written otherwise
+pub called_err_at : (X Y : Type 0) (limit : ℕ) (call : ℕ → List ℕ) (answers : ℕ → List ℕ → Result X ClientFault → Type 0) (fault : ClientFault) (old new : Moment) (number : ℕ) → number ≡ old.xid
+    → old.spent ≡ false → NoReply limit fault (record old { xid = number; spent = false }) (record new { xid = number; spent = false }) → Sends {X = Y} (call number) (Err fault) old.output new.output
+    → new.spent ≡ spends {X = X} (Err fault) → new.xid ≡ (old.xid + 1) % 2 ^ 32 → old.reads ≤ new.reads → old.writes ≤ new.writes → Calls limit call answers (Err fault) old new
+called_err_at X Y limit call answers fault old new number same fresh none out spent xid reads writes =
+    called_err X limit call answers fault old new fresh (subst (λ (n : ℕ). NoReply limit fault (record old { xid = n; spent = false }) (record new { xid = n; spent = false })) same none)
+    (sends_none Y ℕ (call old.xid) fault old.output new.output (sends_at Y call number old.xid fault old.output new.output same out)) spent xid reads writes

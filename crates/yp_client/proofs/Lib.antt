@@ -7,3 +7,4 @@ pub mod LocalItem
 pub mod Waiting
 pub mod Passing
 pub mod Filling
+pub mod Opening

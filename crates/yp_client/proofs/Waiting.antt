@@ -1,6 +1,6 @@
 -- What stands in the buffer of a reply that is read piece by piece, and what its record has given.
 use Rattle.std.proofs.Common.{◌≡◌, ℕ, ◌+◌, ◌-◌, ◌<◌, ◌≤◌, Bool, true, false, cond, eqb, ◌==◌, List, [], ◌∷◌, ◌++◌, length, take, drop, Option, Result, Ok, Err, refl, sym, ap, ◌∙◌, subst, append_assoc, arith, inl, inr}
-use Rattle.std.specs.Prelude.{◌⊎◌, slice_range}
+use Rattle.std.specs.Prelude.{◌⊎◌, slice_range, IfErr}
 use Rattle.std.specs.Io.KnownBytes.{Consumes}
 use Rattle.std.proofs.KnownBytes.{Consumes-nil}
 use Rattle.std.proofs.lemmas.Bool.Decides.{eqb_tells}
@@ -113,6 +113,12 @@ no_piece_earlier place before mid now start new (Torn at) rose cause = cause
 no_piece_earlier place before mid now start new (TooLong at) rose cause = cause
 no_piece_earlier place before mid now start new ReadFault rose (inl cause) = inl (omega (arith, cause.0), cause.1, cause.2, cause.3)
 no_piece_earlier place before mid now start new ReadFault rose (inr cause) = inr cause
+
+-- the same of an error
+pub err_earlier : {T : Type 0} (place before mid now : ℕ) (start new : Option (List ℕ)) (result : Result T RecordFault) → before ≤ mid → IfErr result (HasNoPiece all_max place start new mid now)
+    → IfErr result (HasNoPiece all_max place start new before now)
+err_earlier place before mid now start new (Ok x) rose cause = tt
+err_earlier place before mid now start new (Err fault) rose cause = no_piece_earlier place before mid now start new fault rose cause
 
 no_piece_at : (place place' before mid now : ℕ) (start new : Option (List ℕ)) (fault : RecordFault) → place ≡ place' → before ≤ mid → HasNoPiece all_max place start new mid now fault
     → HasNoPiece all_max place' start new before now fault

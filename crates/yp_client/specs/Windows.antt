@@ -91,6 +91,7 @@ Advances before after rows rows' (Err fault) n old new = IsSaid (filled (n + 1) 
 -- More of the record was read, and all rows that it says were pushed, up to the end or the first refusal, whatever comes behind.
 pub record Pushes (before after : Draft) (old new : AllReply) (buf : List ℕ) (was now : Progress) (end : Result (Unit {0}) ClientFault) : Type 0 where
   pub more : List ℕ
+  pub stays : StaysWhole more was.whole now.whole
   pub given : GivesMore more was now
   pub said : (rest : List ℕ) (n : ℕ) → MayCome rest new.whole → length (waiting old buf ++ (more ++ rest)) ≤ n
       → IsSaid (filled n before old.rows (ahead old buf (more ++ rest))) after new.rows end

@@ -8,18 +8,22 @@ ghost use Rattle.yp_rpc.specs.Records.{TakesRecord};
 ghost use Rattle.yp_version.specs.Drafts.{refused, with_row};
 ghost use Rattle.yp_client.specs.Limits.{reply_max, all_max};
 ghost use Rattle.yp_client.specs.Results.{Says};
-ghost use Rattle.yp_client.specs.Calls.{IsOfReply};
+ghost use Rattle.yp_client.specs.Calls.{IsOfReply, Sends, NoReply};
+ghost use Rattle.yp_client.specs.Moments.{moment_of};
+ghost use Rattle.yp_client.specs.Asked.{all_call};
+ghost use Rattle.yp_msgs.specs.Messages.{ReqNokeyIsWithin};
 ghost use Rattle.yp_client.specs.All.{row_at, all_item_at, Grows, SaysAll};
 ghost use Rattle.yp_client.specs.Listed.{row_view};
 ghost use Rattle.yp_client.specs.Windows.{IsRefusal};
 
-use crate::answers::{read_results};
+use crate::answers::read_results;
+use crate::exchange::{Called, ask};
 use crate::fault::ClientFault;
 use crate::limits::ALL_MAX;
-use yp_io::Source;
-use yp_msgs::protocol::{KEY_MAX, VALUE_MAX};
-use yp_msgs::{ReadMessage, YpStat};
-use yp_rpc::{RecordFault, RecordReader};
+use yp_io::{Failed, Pair, Sink, Source};
+use yp_msgs::protocol::{ALL, KEY_MAX, VALUE_MAX, YPPROG, YPVERS};
+use yp_msgs::{ReadMessage, ReqNokey, YpStat};
+use yp_rpc::{RecordFault, RecordReader, RecordWriter};
 use yp_version::{VersionBuilder, VersionFault};
 use yp_xdr::Cursor;
 
@@ -354,4 +358,45 @@ impl AllReply {
         self.skip(source, reader, buf)?;
         Ok(said)
     }
+}
+
+/// Sends a call of ALL, reads its reply to the end, and pushes the rows of it. It answers what the reply says, or why there is
+/// none.
+pub fn fetch<S: Source, K: Sink>(
+    wire: &mut Pair<S, K>,
+    reader: &mut RecordReader,
+    writer: &mut RecordWriter,
+    buf: &mut [u8],
+    asked: &ReqNokey<'_>,
+    reply: &mut AllReply,
+    into: &mut VersionBuilder,
+) -> Result<Result<(), ClientFault>, ClientFault>
+    requires idle { writer.old ≡ [] }
+    requires between { reader.old.part ≡ not_begun }
+    requires within { ReqNokeyIsWithin asked.now }
+    requires room { length buf.old ≡ reply_max }
+    requires new { reply.old ≡ record { xid = reply.old.xid; start = 0; end = 0; at = 0; whole = false; rows = 0 } }
+    ensures idle { writer.new ≡ [] }
+    ensures between { OnOk result (reader.new.part ≡ not_begun) }
+    ensures sent { Sends (all_call asked.now.domain.now asked.now.map.now reply.old.xid) result (K.output wire.old.sink) (K.output wire.new.sink) }
+    ensures says { IfOk result (λ said. (message : List ℕ)
+        × TakesRecord all_max message (S.input wire.old.source) (S.input wire.new.source) reader.old.place reader.new.place
+        × SaysAll into.old into.new reply.new.rows reply.old.xid message said) }
+    ensures kept { Grows into.old into.new }
+    ensures of_reply { IfOk result IsOfReply }
+    ensures cause { IfErr result (λ fault. NoReply all_max fault
+        (moment_of S.input S.faults K.output K.faults (record { wire = wire.old; xid = reply.old.xid; place = reader.old.place; spent = false; rows = 0 }))
+        (moment_of S.input S.faults K.output K.faults (record { wire = wire.new; xid = reply.old.xid; place = reader.new.place; spent = false; rows = 0 }))) }
+    ensures reads { S.faults wire.old.source ≤ S.faults wire.new.source }
+    ensures writes { K.faults wire.old.sink ≤ K.faults wire.new.sink }
+{
+    let called = Called {
+        prog: YPPROG,
+        vers: YPVERS,
+        procedure: ALL,
+    };
+    if let Err(Failed) = ask(&mut wire.sink, writer, buf, reply.xid, called, asked) {
+        return Err(ClientFault::WriteFault);
+    }
+    Ok(reply.read(&mut wire.source, reader, buf, into)?)
 }

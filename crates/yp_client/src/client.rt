@@ -1,12 +1,18 @@
 //! The client.
 
-ghost use Rattle.std.specs.Prelude.{◌≡◌, ℕ, ◌+◌, ◌≤◌, ◌<◌, false, [], length, take, MatchResult};
+ghost use Rattle.std.specs.Prelude.{◌≡◌, ℕ, ◌+◌, ◌≤◌, ◌<◌, true, false, [], List, None, length, take, MatchResult};
 ghost use Rattle.yp_xdr.specs.Spelling.{spelling};
 ghost use Rattle.yp_rpc.specs.Called.{call_of};
-ghost use Rattle.yp_client.specs.Limits.{reply_max};
+ghost use Rattle.yp_version.specs.Rows.{Row};
+ghost use Rattle.yp_version.specs.Drafts.{with_rows, first_refused};
+ghost use Rattle.yp_msgs.specs.Numbers.{name_max};
+ghost use Rattle.yp_client.specs.Limits.{reply_max, all_max};
+ghost use Rattle.yp_client.specs.Asked.{all_call};
+ghost use Rattle.yp_client.specs.All.{SaysAll};
 ghost use Rattle.yp_client.specs.Moments.{moment_of};
 ghost use Rattle.yp_client.specs.Calls.{Calls};
 
+use crate::all::{AllReply, fetch};
 use crate::answers::Answer;
 use crate::exchange::{Called, exchange};
 use crate::fault::{ClientFault, is_spent_by};
@@ -14,8 +20,9 @@ use crate::limits::REPLY_MAX;
 use std::alloc::Global;
 use std::marker::Model;
 use yp_io::{Pair, Sink, Source};
-use yp_msgs::Message;
+use yp_msgs::{Message, ReqNokey};
 use yp_rpc::{RecordReader, RecordWriter};
+use yp_version::VersionBuilder;
 
 /// Memory ran out. The wire is handed back.
 #[derive(Drop)]
@@ -87,6 +94,51 @@ impl<S: Source, K: Sink> Client<S, K> {
         ensures { result ≡ self.wire }
     {
         self.wire
+    }
+
+    /// How many rows the last ALL has read, those of repeated keys and a refused one among them. At first there are none.
+    pub fn rows(&self) -> u32
+        ensures { result ≡ self.now.rows }
+    {
+        self.rows
+    }
+
+    /// ALL: pushes the rows of a map onto a builder, up to the end of them or the first that is refused. The reply is read piece
+    /// by piece, and to its end before the answer.
+    pub fn all(
+        &mut self,
+        domain: &[u8],
+        map: &[u8],
+        into: &mut VersionBuilder,
+    ) -> Result<(), ClientFault>
+        requires domain { length domain.now ≤ name_max }
+        requires map { length map.now ≤ name_max }
+        ensures calls { Calls all_max (all_call domain.now map.now) (SaysAll into.old into.new self.new.rows) result
+            (moment_of S.input S.faults K.output K.faults self.old) (moment_of S.input S.faults K.output K.faults self.new) }
+        ensures kept { (rows : List Row) × (into.new ≡ with_rows into.old rows) × (first_refused into.old rows ≡ None) }
+        ensures spent { self.old.spent ≡ true → (self.new ≡ self.old) × (into.new ≡ into.old) }
+    {
+        if self.spent {
+            return Err(ClientFault::Spent);
+        }
+        let mut reply = AllReply::new(self.xid);
+        self.xid = self.xid.wrapping_add(1);
+        let fetched = fetch(
+            &mut self.wire,
+            &mut self.reader,
+            &mut self.writer,
+            &mut self.buf,
+            &ReqNokey { domain, map },
+            &mut reply,
+            into,
+        );
+        self.rows = reply.rows;
+        let said = match fetched {
+            Ok(said) => said,
+            Err(fault) => Err(fault),
+        };
+        self.spent = is_spent_by(&said);
+        said
     }
 
     /// One call: it is sent, its reply is read whole, and judged.

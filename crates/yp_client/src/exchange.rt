@@ -54,6 +54,29 @@ fn send<K: Sink>(writer: &mut RecordWriter, sink: &mut K, message: &[u8]) -> Res
     writer.end(sink)
 }
 
+/// Sends a call, which is put together in the buffer.
+pub fn ask<K: Sink, M: Message>(
+    sink: &mut K,
+    writer: &mut RecordWriter,
+    buf: &mut [u8],
+    xid: u32,
+    called: Called,
+    arguments: &M,
+) -> Result<(), Failed>
+    requires idle { writer.old ≡ [] }
+    requires within { M.is_within arguments.now }
+    requires room { 40 + length (spelling M.kind (M.view arguments.now)) ≤ length buf.old }
+    ensures sent { OnOk result (Appends (K.output sink.old) (K.output sink.new)
+        (sent (call_of M.kind xid called.prog called.vers called.procedure (M.view arguments.now)))) }
+    ensures prefix { OnErr result ((n : ℕ) × Appends (K.output sink.old) (K.output sink.new)
+        (take n (sent (call_of M.kind xid called.prog called.vers called.procedure (M.view arguments.now))))) }
+    ensures idle { writer.new ≡ [] }
+    ensures cause { CountsFaults (K.faults sink.old) (K.faults sink.new) result }
+{
+    let len = set_call(buf, xid, called, arguments);
+    send(writer, sink, &buf[..len])
+}
+
 /// Sends a call and reads its reply to the front of the buffer. It answers the length of the reply.
 pub fn exchange<S: Source, K: Sink, M: Message>(
     wire: &mut Pair<S, K>,
@@ -82,10 +105,8 @@ pub fn exchange<S: Source, K: Sink, M: Message>(
     ensures reads { S.faults wire.old.source ≤ S.faults wire.new.source }
     ensures writes { K.faults wire.old.sink ≤ K.faults wire.new.sink }
 {
-    let len = set_call(buf, xid, called, arguments);
-    match send(writer, &mut wire.sink, &buf[..len]) {
-        Err(Failed) => return Err(ClientFault::WriteFault),
-        Ok(()) => {}
+    if let Err(Failed) = ask(&mut wire.sink, writer, buf, xid, called, arguments) {
+        return Err(ClientFault::WriteFault);
     }
     match reader.next(&mut wire.source, buf) {
         Ok(Some(len)) => Ok(len),
