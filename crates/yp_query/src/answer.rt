@@ -4,21 +4,19 @@ ghost use Rattle.std.specs.Prelude.{◌≡◌, ◌≤◌, length};
 ghost use Rattle.yp_msgs.specs.Numbers.{name_max, key_max};
 ghost use Rattle.yp_client.specs.Results.{value_of, master_of, maps_of};
 ghost use Rattle.yp_client.specs.Said.{SaysBytes, SaysNames};
-ghost use Rattle.yp_client.specs.Asked.{all_call, match_call, master_call, maplist_call};
+ghost use Rattle.yp_client.specs.Asked.{match_call, master_call, maplist_call};
 ghost use Rattle.yp_client.specs.Moments.{moment_of};
 ghost use Rattle.yp_query.specs.Lines.{line, lines};
 ghost use Rattle.yp_query.specs.Refusals.{refusal, match_refusal};
 ghost use Rattle.yp_query.specs.Asked.{meaning, Makes, TakesRows, Polls, IsUnlessMemory, Converses, QueryIsWithin};
-ghost use Rattle.yp_client.specs.Limits.{reply_max, all_max};
-ghost use Rattle.yp_client.specs.All.{SaysAll};
-ghost use Rattle.yp_client.specs.Calls.{Calls};
+ghost use Rattle.yp_client.specs.Limits.{reply_max};
 ghost use Rattle.yp_query.specs.Answers.{outcome_of};
 
 use crate::fault::{QueryFault, of_all, of_match};
 use crate::question::Query;
 use std::alloc::Global;
 use std::random::RandomSource;
-use yp_client::{Client, ClientFault};
+use yp_client::Client;
 use yp_io::{NoMemory, Sink, Source};
 use yp_msgs::Names;
 use yp_version::{Version, VersionBuilder};
@@ -76,27 +74,14 @@ fn ask_rows<S: Source, K: Sink>(
         Ok(builder) => builder,
         Err(NoMemory) => return Err(QueryFault::NoMemory),
     };
-    match take_all(client, domain, map, &mut builder) {
-        (Ok(()), _) => {}
-        (Err(fault), rows) => return Err(of_all(fault, rows)),
+    match client.all(domain, map, &mut builder) {
+        Ok(()) => {}
+        Err(fault) => return Err(of_all(fault, client.rows())),
     }
     match builder.finish() {
         Ok(version) => Ok(Answer::Rows { version, keyed }),
         Err(NoMemory) => Err(QueryFault::NoMemory),
     }
-}
-
-fn take_all<S: Source, K: Sink>(
-    client: &mut Client<S, K>,
-    domain: &[u8],
-    map: &[u8],
-    into: &mut VersionBuilder,
-) -> (Result<(), ClientFault>, u32)
-    ensures { Calls all_max (all_call domain.now map.now) (SaysAll into.old into.new result.1) result.0
-        (moment_of S.input S.faults K.output K.faults client.old)
-        (moment_of S.input S.faults K.output K.faults client.new) }
-{
-    (Err(ClientFault::Spent), 0)
 }
 
 fn ask_value<S: Source, K: Sink>(
