@@ -34,12 +34,12 @@ pub puts_more : {E : Type 0} (piece more : List ℕ) (result : Result (Unit {0})
     → Puts {E = E} piece (Ok tt) waited waits before between → Puts more result waits now between after → Puts (piece ++ more) result waited now before after
 puts_more piece more (Ok done) waited waits now before between after first second =
     let whole : waited ++ (piece ++ more) ≡ (first.0 ++ second.0) ++ now =
-        sym (append_assoc waited piece more) ∙ ap (λ (xs : List ℕ). xs ++ more) first.2 ∙ append_assoc first.0 waits more
-        ∙ ap (λ (xs : List ℕ). first.0 ++ xs) second.2 ∙ sym (append_assoc first.0 second.0 now) in
+    sym (append_assoc waited piece more) ∙ ap (λ (xs : List ℕ). xs ++ more) first.2 ∙ append_assoc first.0 waits more
+    ∙ ap (λ (xs : List ℕ). first.0 ++ xs) second.2 ∙ sym (append_assoc first.0 second.0 now) in
     (first.0 ++ second.0, Appends-trans before between after first.0 second.0 first.1 second.1, whole)
 puts_more piece more (Err fault) waited waits now before between after first second =
     let whole : waited ++ (piece ++ more) ≡ first.0 ++ (waits ++ more) =
-        sym (append_assoc waited piece more) ∙ ap (λ (xs : List ℕ). xs ++ more) first.2 ∙ append_assoc first.0 waits more in
+    sym (append_assoc waited piece more) ∙ ap (λ (xs : List ℕ). xs ++ more) first.2 ∙ append_assoc first.0 waits more in
     rw whole (front_behind first.0 (waits ++ more) before between after first.1 second)
 
 -- a piece that the sink didn't take whole, and what was to come

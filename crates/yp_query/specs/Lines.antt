@@ -11,11 +11,11 @@ abbrev pub lines : List (List ℕ) → List ℕ
 lines texts = flat_map line texts
 
 -- the value of a row, with its key and a space before it where keys are wanted
-abbrev pub row_text : Bool → Row → List ℕ
-row_text keyed row = if keyed then row.0 ++ 32 ∷ row.1 else row.1
+abbrev pub row_line : Bool → Row → List ℕ
+row_line keyed row = if keyed then line (row.0 ++ 32 ∷ row.1) else line row.1
 
 abbrev pub rows_text : Bool → List Row → List ℕ
-rows_text keyed rows = flat_map (λ row. line (row_text keyed row)) rows
+rows_text keyed rows = flat_map (row_line keyed) rows
 
 -- an order number, and the name of a master
 abbrev pub standing_text : ℕ → List ℕ → List ℕ

@@ -6,7 +6,7 @@ use Rattle.yp_io.specs.Dials.{Wires, Ended, Comes, GoesBack, IsFresh}
 use Rattle.yp_client.specs.declared.fault.ClientFault.TheVariants.{ReadFault, WriteFault}
 use Rattle.yp_client.specs.Moments.{Moment}
 use Rattle.yp_query.specs.declared.fault.QueryFault.{QueryFault}
-use Rattle.yp_query.specs.declared.fault.QueryFault.TheVariants.{NoKey, Client, Dial, Output, NoMemory}
+use Rattle.yp_query.specs.declared.fault.QueryFault.TheVariants.{Client, Dial, Output, NoMemory}
 use Rattle.yp_query.specs.declared.question.Query.{Query}
 use Rattle.yp_query.specs.Printed.{AppendsFront}
 use Rattle.yp_query.specs.Asked.{Outcome, Converses}

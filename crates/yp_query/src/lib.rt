@@ -1,7 +1,7 @@
 //! What the client commands ask of a YP server, and what they print.
 //!
-//! A query dials a server, makes its calls, gives the wire back, and prints the whole answer or nothing of it. Its promise
-//! stands on [`query`].
+//! A query dials a server, makes its calls, gives the wire back, and prints the whole answer or nothing of it. Its
+//! promise stands on [`query`].
 #![tactic(auto)]
 
 mod answer;
@@ -9,6 +9,8 @@ mod dialed;
 mod fault;
 mod print;
 mod question;
+#[cfg(test)]
+mod tests;
 mod text;
 
 pub use dialed::query;

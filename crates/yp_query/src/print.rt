@@ -2,7 +2,7 @@
 
 ghost use Rattle.std.specs.Prelude.{◌≡◌, ◌≢◌, ◌≤◌, IsTrue, Ok, Err, OnOk, IfErr};
 ghost use Rattle.yp_io.specs.Counts.{CountsFaults, HasRisen};
-ghost use Rattle.yp_query.specs.Lines.{lines, standing_text};
+ghost use Rattle.yp_query.specs.Lines.{lines, row_line, rows_text, standing_text};
 ghost use Rattle.yp_query.specs.Printed.{Puts};
 ghost use Rattle.yp_query.specs.Answers.{text_of};
 ghost use Rattle.yp_query.specs.Scenes.{Prints};
@@ -13,6 +13,7 @@ use crate::text::TextBuffer;
 use std::alloc::Global;
 use yp_io::{Failed, Sink};
 use yp_msgs::Names;
+use yp_version::Version;
 
 /// Prints an answer, and flushes.
 pub fn print<K: Sink>(alloc: Global, answer: &Answer, sink: &mut K) -> Result<(), QueryFault>
@@ -32,18 +33,52 @@ pub fn print<K: Sink>(alloc: Global, answer: &Answer, sink: &mut K) -> Result<()
     }
 }
 
-fn print_answer<K: Sink>(
-    text: &mut TextBuffer,
-    sink: &mut K,
-    answer: &Answer,
-) -> Result<(), Failed>
+fn print_answer<K: Sink>(text: &mut TextBuffer, sink: &mut K, answer: &Answer) -> Result<(), Failed>
     ensures puts { Puts (text_of answer.now) result text.old text.new (K.output sink.old) (K.output sink.new) }
     ensures cause { CountsFaults (K.faults sink.old) (K.faults sink.new) result }
 {
     match answer {
+        Answer::Rows { version, keyed } => print_rows(text, sink, version, *keyed),
         Answer::Line(line) => text.put_line(sink, line),
         Answer::Standing { order, master } => print_standing(text, sink, *order, master),
         Answer::Maps(names) => print_names(text, sink, names),
+    }
+}
+
+fn print_rows<K: Sink>(
+    text: &mut TextBuffer,
+    sink: &mut K,
+    version: &Version,
+    keyed: bool,
+) -> Result<(), Failed>
+    ensures puts { Puts (rows_text keyed version.now.rows) result text.old text.new
+        (K.output sink.old) (K.output sink.new) }
+    ensures cause { CountsFaults (K.faults sink.old) (K.faults sink.new) result }
+{
+    for i in 0..version.len() {
+        let Some((key, value)) = version.row(i) else {
+            unreachable!()
+        };
+        print_row(text, sink, key, value, keyed)?;
+    }
+    Ok(())
+}
+
+fn print_row<K: Sink>(
+    text: &mut TextBuffer,
+    sink: &mut K,
+    key: &[u8],
+    value: &[u8],
+    keyed: bool,
+) -> Result<(), Failed>
+    ensures puts { Puts (row_line keyed (key.now, value.now)) result text.old text.new
+        (K.output sink.old) (K.output sink.new) }
+    ensures cause { CountsFaults (K.faults sink.old) (K.faults sink.new) result }
+{
+    if keyed {
+        text.put_pair(sink, key, value)
+    } else {
+        text.put_line(sink, value)
     }
 }
 
@@ -53,18 +88,15 @@ fn print_standing<K: Sink>(
     order: u32,
     master: &[u8],
 ) -> Result<(), Failed>
-    ensures puts { Puts (standing_text order master.now) result text.old text.new (K.output sink.old) (K.output sink.new) }
+    ensures puts { Puts (standing_text order master.now) result text.old text.new
+        (K.output sink.old) (K.output sink.new) }
     ensures cause { CountsFaults (K.faults sink.old) (K.faults sink.new) result }
 {
     text.put_pair(sink, b"order", itoa::Buffer::new().format(order).as_bytes())?;
     text.put_pair(sink, b"master", master)
 }
 
-fn print_names<K: Sink>(
-    text: &mut TextBuffer,
-    sink: &mut K,
-    names: &Names,
-) -> Result<(), Failed>
+fn print_names<K: Sink>(text: &mut TextBuffer, sink: &mut K, names: &Names) -> Result<(), Failed>
     ensures puts { Puts (lines names.now) result text.old text.new (K.output sink.old) (K.output sink.new) }
     ensures cause { CountsFaults (K.faults sink.old) (K.faults sink.new) result }
 {

@@ -74,7 +74,8 @@ impl TextBuffer {
         first: &[u8],
         second: &[u8],
     ) -> Result<(), Failed>
-        ensures puts { Puts (line (first.now ++ 32 ∷ second.now)) result self.old self.new (K.output sink.old) (K.output sink.new) }
+        ensures puts { Puts (line (first.now ++ 32 ∷ second.now)) result self.old self.new
+            (K.output sink.old) (K.output sink.new) }
         ensures cause { CountsFaults (K.faults sink.old) (K.faults sink.new) result }
     {
         self.put(sink, first)?;

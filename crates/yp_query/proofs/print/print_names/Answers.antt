@@ -25,6 +25,6 @@ loop-i-preserved g c =
     let output = g.K.Sink.output in
     record {
       puts = rw (flat_map-next line names i name (sym c.in-Some.ensures))
-      (puts_more {E = Failed} (lines (take i names)) (line name) (Ok tt) c.args.text.now c.loop-i.text c.put_line.new.self (output c.args.sink.now) (output c.loop-i.sink) (output c.put_line.new.sink) c.loop-i.invariant.puts c.in_ok-put_line.ensures.puts);
+          (puts_more {E = Failed} (lines (take i names)) (line name) (Ok tt) c.args.text.now c.loop-i.text c.put_line.new.self (output c.args.sink.now) (output c.loop-i.sink) (output c.put_line.new.sink) c.loop-i.invariant.puts c.in_ok-put_line.ensures.puts);
       faults = omega (arith, c.loop-i.invariant.faults, c.in_ok-put_line.ensures.cause.never_falls);
     }
