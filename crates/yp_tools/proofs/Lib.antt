@@ -11,3 +11,4 @@ pub mod Telling
 pub mod Carried
 pub mod Ended
 pub mod Sessioned
+pub mod Completed

@@ -450,6 +450,7 @@ pub(crate) fn build<S: Source, K: Sink, D: Disk, C: Clock>(
     ensures write_fault { result.0 ≡ Status.WriteFault → HasRisen (K.faults wire.old.sink) (K.faults wire.new.sink) }
     ensures disk_fault { (map : MapName) → result.0 ≡ Status.DiskFault map → HasRisen (D.faults disk) (D.faults result.1) }
     ensures sentence { (word : ℕ) → result.0 ≢ Status.Usage word }
+    ensures no_dial { result.0 ≢ Status.DialFault }
     ensures tellable { IsTellable result.0 }
     ensures clock { C.moment clock.new ≡ C.moment clock.old }
 {

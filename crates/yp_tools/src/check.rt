@@ -65,6 +65,7 @@ pub fn check<D: Disk, K: Sink>(
     requires { IsNamed (name_view store) }
     ensures checks { IfSome (D.history disk) (λ h.
         Checks (name_view store) h.state.reads result.0 (K.output sink.old) (K.output sink.new)) }
+    ensures no_dial { result.0 ≢ Status.DialFault }
     ensures tellable { IsTellable result.0 }
 
     ensures unwritten { IsUnwritten (D.history disk) (D.history result.1) }

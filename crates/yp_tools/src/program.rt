@@ -23,7 +23,7 @@ ghost use Rattle.yp_tools.specs.Check.{Checks, IsUnwritten};
 ghost use Rattle.yp_tools.specs.Sample.{Tells};
 ghost use Rattle.yp_tools.specs.Once.{once_maps, rows_fault};
 ghost use Rattle.yp_tools.specs.Session.{Sessions, connection_at, IsSound};
-ghost use Rattle.yp_tools.specs.Questions.{Answers};
+ghost use Rattle.yp_tools.specs.Questions.{AnswersInMemory};
 ghost use Rattle.yp_tools.specs.Status.{note, IsTellable};
 ghost use Rattle.yp_tools.specs.Served.{IsStatusOf, Serves};
 
@@ -99,6 +99,7 @@ fn serve<S: Source, K: Sink>(alloc: Global, board: PlainBoard, wire: &mut Pair<S
     ensures sound { (row rule : ℕ) → result ≢ Status.Rows row rule }
     ensures sentence { (word : ℕ) → result ≢ Status.Usage word }
     ensures no_disk { (map : MapName) → result ≢ Status.DiskFault map }
+    ensures no_dial { result ≢ Status.DialFault }
     ensures tellable { IsTellable result }
 {
     yp_answer::laws::open_is_from_own_host();
@@ -127,6 +128,7 @@ fn once<S: Source, K: Sink>(
     ensures write_fault { result ≡ Status.WriteFault → HasRisen (K.faults wire.old.sink) (K.faults wire.new.sink) }
     ensures sentence { (word : ℕ) → result ≢ Status.Usage word }
     ensures no_disk { (map : MapName) → result ≢ Status.DiskFault map }
+    ensures no_dial { result ≢ Status.DialFault }
     ensures tellable { IsTellable result }
 {
     let version = match version_of(alloc, rt, rows) {
@@ -159,6 +161,7 @@ fn check_only<D: Disk, K: Sink>(
         → HasRisen (faults_of D.faults disks.old.items) (faults_of D.faults disks.new.items) }
     ensures reads { result ≢ Status.ReadFault }
     ensures sentence { (word : ℕ) → result ≢ Status.Usage word }
+    ensures no_dial { result ≢ Status.DialFault }
     ensures tellable { IsTellable result }
 {
     let NamedDisk { name, disk } = take_only(disks);
@@ -202,6 +205,7 @@ fn build_only<S: Source, K: Sink, D: Disk, C: Clock>(
         → HasRisen (faults_of D.faults disks.old.items) (faults_of D.faults disks.new.items) }
     ensures names { names_of disks.new.items ≡ names_of disks.old.items }
     ensures sentence { (word : ℕ) → result ≢ Status.Usage word }
+    ensures no_dial { result ≢ Status.DialFault }
     ensures tellable { IsTellable result }
     ensures clock { C.moment clock.new ≡ C.moment clock.old }
 {
@@ -272,7 +276,7 @@ fn run_words<S: Source, K: Sink, D: Disk, C: Clock, A: Dial, T: Texts>(
     ensures session_bound { (own : List ℕ) (peer : Peer) (stores : List Name) (hosts : List Host) → command_of (texts words.now) ≡ Ok (SessionOf own peer stores hosts)
         → (number : ℕ) → AtDisk number (disks_of disks.old.items) (disks_of disks.new.items) (LeavesOr D.history (λ image. length image ≤ file_max)) }
     ensures ask { (peer : Peer) (question : Question) → command_of (texts words.now) ≡ Ok (Ask peer question)
-        → Answers question result.0 (scene_of A.past A.faults K.output K.faults dial.old wire.old.sink) (scene_of A.past A.faults K.output K.faults dial.new wire.new.sink)
+        → AnswersInMemory question result.0 (scene_of A.past A.faults K.output K.faults dial.old wire.old.sink) (scene_of A.past A.faults K.output K.faults dial.new wire.new.sink)
         × (wire.new.source ≡ wire.old.source) }
     ensures dialed { ((peer : Peer) (question : Question) → command_of (texts words.now) ≢ Ok (Ask peer question)) → dial.new ≡ dial.old }
     ensures read_fault { ((peer : Peer) (question : Question) → command_of (texts words.now) ≢ Ok (Ask peer question)) → result.0 ≡ Status.ReadFault
@@ -288,7 +292,6 @@ fn run_words<S: Source, K: Sink, D: Disk, C: Clock, A: Dial, T: Texts>(
         → HasRisen (faults_of D.faults disks.old.items) (faults_of D.faults disks.new.items) }
     ensures tellable { IsTellable result.0 }
 {
-    let mut desk = desk;
     let command = match parse(alloc, words) {
         Err(ParseFault::Usage { word }) => return (Status::Usage { word }, desk),
         Err(ParseFault::NoMemory) => return (Status::NoMemory, desk),
@@ -297,19 +300,22 @@ fn run_words<S: Source, K: Sink, D: Disk, C: Clock, A: Dial, T: Texts>(
     if let Some(status) = answer(alloc, rt, &command, dial, &mut wire.sink) {
         return (status, desk);
     }
-    let status = match command {
-        Command::Once { store, rows } => once(alloc, rt, store, &rows, wire),
-        Command::Sample { start, count } => sample(alloc, rt, start, count, &mut wire.sink),
-        Command::Check { store } => check_only(alloc, rt, store, disks, &mut wire.sink),
+    match command {
+        Command::Once { store, rows } => (once(alloc, rt, store, &rows, wire), desk),
+        Command::Sample { start, count } => (sample(alloc, rt, start, count, &mut wire.sink), desk),
+        Command::Check { store } => (check_only(alloc, rt, store, disks, &mut wire.sink), desk),
         Command::Build { name, store, flag } => {
-            build_only(alloc, rt, name, store, flag, wire, disks, &mut desk.clock)
+            let mut desk = desk;
+            let clock = &mut desk.clock;
+            let status = build_only(alloc, rt, name, store, flag, wire, disks, clock);
+            (status, desk)
         }
         Command::Session {
             name,
             addr,
             stores,
             hosts: _hosts,
-        } => return session(alloc, rt, name, addr, stores, wire, disks, desk),
+        } => session(alloc, rt, name, addr, stores, wire, disks, desk),
         Command::Cat {
             addr: _,
             domain: _domain,
@@ -340,8 +346,7 @@ fn run_words<S: Source, K: Sink, D: Disk, C: Clock, A: Dial, T: Texts>(
             addr: _,
             domain: _domain,
         } => unreachable!(),
-    };
-    (status, desk)
+    }
 }
 
 /// Tells a status in one line, if it has one. A failed write is dropped.
@@ -420,7 +425,7 @@ pub fn run<S: Source, K: Sink, D: Disk, C: Clock, A: Dial, T: Texts>(
     // A client command asks one server, on one connection, and prints what its replies say, or tells the first refusal. The
     // other commands leave the dial as it was.
     ensures ask { (peer : Peer) (question : Question) → command_of (texts words.now) ≡ Ok (Ask peer question)
-        → Answers question result.0 (scene_of A.past A.faults K.output K.faults outside.dial outside.output) (scene_of A.past A.faults K.output K.faults result.1.dial result.1.output)
+        → AnswersInMemory question result.0 (scene_of A.past A.faults K.output K.faults outside.dial outside.output) (scene_of A.past A.faults K.output K.faults result.1.dial result.1.output)
         × (result.1.input ≡ outside.input) }
     ensures dialed { ((peer : Peer) (question : Question) → command_of (texts words.now) ≢ Ok (Ask peer question)) → result.1.dial ≡ outside.dial }
 
