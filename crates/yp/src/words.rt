@@ -6,48 +6,56 @@ use std::env::{Env, FillError};
 /// The most bytes of a word: no system hands over more.
 const WORD_MAX: usize = 131_072;
 
-/// What stands in for a word that no sentence can have, since it isn't text.
-const NO_TEXT: &str = "\u{fffd}";
+// What is found at a number.
+enum Word<'a> {
+    Text(&'a str),
+    // not UTF-8, or longer than any word can be
+    NoText,
+    End,
+}
 
-/// The words behind the program's name, in order. One that isn't UTF-8, or is longer than any word can be, is handed
-/// on as one that no sentence has.
+/// The words behind the program's name, in order. A word that isn't UTF-8, or is longer than any can be, is handed on
+/// as one that no sentence has, and ends them: a sentence that fails there fails whatever comes behind.
 pub fn words(rt: &impl Env, alloc: Global) -> Result<Vec<String>, AllocError> {
     let mut buf = vec![in alloc; 0; WORD_MAX]?;
     let mut words = Vec::new(alloc);
     for i in 1..usize::MAX {
-        let Some(word) = word_at(rt, alloc, i, &mut buf)? else {
-            break;
-        };
-        words.push(word)?;
+        match word_at(rt, i, &mut buf) {
+            Word::Text(text) => words.push(String::from_str(alloc, text)?)?,
+            Word::NoText => {
+                words.push(no_text(alloc)?)?;
+                break;
+            }
+            Word::End => break,
+        }
     }
     Ok(words)
 }
 
-// The word of this number, where there is one.
-fn word_at(
-    rt: &impl Env,
-    alloc: Global,
-    i: usize,
-    buf: &mut [u8],
-) -> Result<Option<String>, AllocError> {
+fn word_at<'a>(rt: &impl Env, i: usize, buf: &'a mut [u8]) -> Word<'a> {
     match rt.arg(i, buf) {
-        Ok(len) => Ok(Some(text_of(alloc, &buf[..len])?)),
-        Err(FillError::TooLong) => Ok(Some(String::from_str(alloc, NO_TEXT)?)),
-        Err(FillError::NotPresent) => Ok(None),
+        Ok(len) => match str::from_utf8(&buf[..len]) {
+            Ok(text) => Word::Text(text),
+            Err(_) => Word::NoText,
+        },
+        Err(FillError::TooLong) => Word::NoText,
+        Err(FillError::NotPresent) => Word::End,
     }
 }
 
-fn text_of(alloc: Global, bytes: &[u8]) -> Result<String, AllocError> {
-    match str::from_utf8(bytes) {
-        Ok(text) => String::from_str(alloc, text),
-        Err(_) => String::from_str(alloc, NO_TEXT),
-    }
+// What stands in for a word that isn't text: U+FFFD until it is longer than any word. A short one would be text itself,
+// which a sentence may take as a key or as a name of any bytes.
+fn no_text(alloc: Global) -> Result<String, AllocError> {
+    "\u{fffd}".repeat(alloc, WORD_MAX)
 }
 
 #[cfg(test)]
 mod tests {
     use super::*;
     use std::test::Fail;
+
+    // The text of which what is no word is made.
+    const NO_WORD: &str = "\u{fffd}";
 
     // A program that was started with these words.
     #[derive(Drop)]
@@ -79,14 +87,26 @@ mod tests {
     #[test]
     fn words_and_what_is_no_text(rt: HostRuntime) -> Result<(), Fail> {
         let long = vec![in rt.alloc(); b'k'; WORD_MAX + 1]?;
-        let script = Script {
-            words: &[b"yp", b"once", b"k=\xff", b"", "\u{e9}=1".as_bytes(), &long],
-        };
-        let came = words(&script, rt.alloc())?;
-        let want = ["once", NO_TEXT, "", "\u{e9}=1", NO_TEXT];
-        assert_eq!(rt; came.len(), want.len());
-        for (word, want) in came.iter().zip(&want) {
-            assert_eq!(rt; word.as_str(), *want);
+        let cases: [(&[&[u8]], &[&str]); 4] = [
+            (
+                &[b"yp", b"once", b"", "\u{e9}=1".as_bytes()],
+                &["once", "", "\u{e9}=1"],
+            ),
+            (&[b"yp", b"cat", b"k=\xff", b"maps"], &["cat", NO_WORD]),
+            (&[b"yp", &long, b"maps"], &[NO_WORD]),
+            (&[], &[]),
+        ];
+        for (given, want) in cases {
+            let came = words(&Script { words: given }, rt.alloc())?;
+            assert_eq!(rt; came.len(), want.len());
+            for (word, want) in came.iter().zip(want) {
+                if *want == NO_WORD {
+                    // no form of a word takes as many bytes
+                    assert!(rt; word.len() > WORD_MAX && word.starts_with(NO_WORD));
+                } else {
+                    assert_eq!(rt; word.as_str(), *want);
+                }
+            }
         }
         Ok(())
     }
