@@ -80,7 +80,7 @@ impl<R: Files + Drop> Texts for TextFolder<R> {
 #[cfg(test)]
 mod tests {
     use super::*;
-    use std::alloc::{Allocator, Global};
+    use std::alloc::Allocator;
     use std::fs::{Metadata, OpenFile, OpenOptions};
     use std::io::{Empty, Seek, SeekFrom, Write};
     use std::test::Fail;
@@ -117,7 +117,7 @@ mod tests {
 
     impl Write for Reads {
         fn write(&mut self, _buf: &[u8]) -> io::Result<usize> {
-            unsupported()
+            Err(ErrorKind::Unsupported.into())
         }
 
         fn flush(&mut self) -> io::Result<()> {

@@ -54,9 +54,6 @@ mod tests {
     use super::*;
     use std::test::Fail;
 
-    // The text of which what is no word is made.
-    const NO_WORD: &str = "\u{fffd}";
-
     // A program that was started with these words.
     #[derive(Drop)]
     struct Script<'a> {
@@ -87,25 +84,26 @@ mod tests {
     #[test]
     fn words_and_what_is_no_text(rt: HostRuntime) -> Result<(), Fail> {
         let long = vec![in rt.alloc(); b'k'; WORD_MAX + 1]?;
-        let cases: [(&[&[u8]], &[&str]); 4] = [
-            (
-                &[b"yp", b"once", b"", "\u{e9}=1".as_bytes()],
-                &["once", "", "\u{e9}=1"],
-            ),
-            (&[b"yp", b"cat", b"k=\xff", b"maps"], &["cat", NO_WORD]),
-            (&[b"yp", &long, b"maps"], &[NO_WORD]),
-            (&[], &[]),
+        let cases = [
+            (b"once".as_slice(), true),
+            (b"", true),
+            ("\u{e9}=1".as_bytes(), true),
+            (&long[1..], true),
+            (b"k=\xff", false),
+            (&long, false),
         ];
-        for (given, want) in cases {
-            let came = words(&Script { words: given }, rt.alloc())?;
-            assert_eq!(rt; came.len(), want.len());
-            for (word, want) in came.iter().zip(want) {
-                if *want == NO_WORD {
-                    // no form of a word takes as many bytes
-                    assert!(rt; word.len() > WORD_MAX && word.starts_with(NO_WORD));
-                } else {
-                    assert_eq!(rt; word.as_str(), *want);
+        for (case, (word, is_text)) in cases.into_iter().enumerate() {
+            let script = Script {
+                words: &[b"yp", word, b"maps"],
+            };
+            let came = words(&script, rt.alloc())?;
+            match came.as_slice() {
+                [first, last] if is_text => {
+                    assert_eq!(rt; first.as_bytes(), word, "in case {case}");
+                    assert_eq!(rt; last.as_str(), "maps", "in case {case}");
                 }
+                [only] if !is_text => assert!(rt; only.len() > WORD_MAX, "in case {case}"),
+                _ => return Err(Fail::new("not as many words as there must be")),
             }
         }
         Ok(())
