@@ -1,6 +1,8 @@
 //! Connections and datagrams of the system.
 
 ghost use Rattle.std.specs.Prelude.{◌≡◌, ◌+◌, ◌≤◌, min, None, IfOk};
+ghost use Rattle.std.specs.Net.Addr.{ipv4_octets};
+ghost use Rattle.std.specs.Net.Socket.{v4_ip, v4_port};
 ghost use Rattle.yp_io.specs.Counts.{last_count};
 ghost use Rattle.yp_io.specs.Dials.{GoesBack, IsFresh};
 
@@ -8,7 +10,7 @@ use crate::streams::{BlockReader, DirectWriter};
 use std::alloc::Global;
 use std::io;
 use std::io::ErrorKind;
-use std::net::{Ipv4Addr, Net, OpenStream, SocketAddr, TcpStream, UdpSocket};
+use std::net::{Ipv4Addr, Net, SocketAddrV4, TcpStream, UdpSocket};
 use yp_io::{Dial, Failed, Pair, Peer, Sink, Source, count_fault};
 
 /// A connection by TCP, whose two halves tell nothing of their bytes.
@@ -35,8 +37,11 @@ impl<R: Net<Stream = TcpStream> + Drop> TcpDial<R> {
     }
 }
 
-fn address_of(peer: Peer) -> SocketAddr {
-    SocketAddr::from((Ipv4Addr::from(peer.addr), peer.port))
+fn address_of(peer: Peer) -> SocketAddrV4
+    ensures ip { ipv4_octets (v4_ip result) ≡ peer.addr }
+    ensures port { v4_port result ≡ peer.port }
+{
+    SocketAddrV4::new(Ipv4Addr::from(peer.addr), peer.port)
 }
 
 // Connects. What is written goes out at once, since each call is small and waits for its reply.
@@ -59,7 +64,7 @@ fn connect<R: Net<Stream = TcpStream>>(net: &R, alloc: Global, to: Peer) -> io::
 
 // Sends one datagram, and tries again where a signal interrupted that. One is sent whole or not at all.
 fn send<R: Net>(net: &R, to: Peer, piece: &[u8]) -> io::Result<()> {
-    let socket = UdpSocket::bind(net, SocketAddr::from((Ipv4Addr::UNSPECIFIED, 0)))?;
+    let socket = UdpSocket::bind(net, SocketAddrV4::new(Ipv4Addr::UNSPECIFIED, 0))?;
     for _ in 0..u64::MAX {
         match socket.send_to(piece, address_of(to)) {
             Err(error) if error.kind() == ErrorKind::Interrupted => {}

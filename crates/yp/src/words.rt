@@ -1,5 +1,7 @@
 //! The words that the program was started with.
 
+ghost use Rattle.std.specs.Prelude.{◌<◌, IfOk, string_len};
+
 use std::alloc::{AllocError, Global};
 use std::env::{Env, FillError};
 
@@ -45,7 +47,9 @@ fn word_at<'a>(rt: &impl Env, i: usize, buf: &'a mut [u8]) -> Word<'a> {
 
 // What stands in for a word that isn't text: U+FFFD until it is longer than any word. A short one would be text itself,
 // which a sentence may take as a key or as a name of any bytes.
-fn no_text(alloc: Global) -> Result<String, AllocError> {
+fn no_text(alloc: Global) -> Result<String, AllocError>
+    ensures { IfOk result (λ text. 131072 < string_len text) }
+{
     "\u{fffd}".repeat(alloc, WORD_MAX)
 }
 
