@@ -84,6 +84,7 @@ mod tests {
     use std::fs::{Metadata, OpenFile, OpenOptions};
     use std::io::{Empty, Seek, SeekFrom, Write};
     use std::test::Fail;
+    use yp_io::TextFile::{Group, Hosts, Netgroup, Passwd, Protocols, Services, Ypservers};
 
     fn unsupported<T>() -> io::Result<T> {
         Err(ErrorKind::Unsupported.into())
@@ -212,66 +213,20 @@ mod tests {
 
     #[test]
     fn texts_and_what_is_none(rt: HostRuntime) -> Result<(), Fail> {
-        let (long, denied) = (TEXT_MAX as u64 + 1, Some(ErrorKind::PermissionDenied));
+        let (failed, no_memory) = (Err(TextFault::Failed), Err(TextFault::NoMemory));
+        let denied = Some(ErrorKind::PermissionDenied);
+        let full = Some(ErrorKind::OutOfMemory);
+        let long = TEXT_MAX as u64 + 1;
         let cases = [
-            (TextFile::Passwd, "ypsrc/passwd", Some(5), 5, None, Ok(5)),
-            (TextFile::Group, "ypsrc/group", Some(0), 0, None, Ok(0)),
-            (
-                TextFile::Hosts,
-                "ypsrc/hosts",
-                Some(0),
-                TEXT_MAX,
-                None,
-                Ok(TEXT_MAX),
-            ),
-            (
-                TextFile::Services,
-                "ypsrc/services",
-                None,
-                5,
-                None,
-                Err(TextFault::Failed),
-            ),
-            (
-                TextFile::Protocols,
-                "ypsrc/protocols",
-                Some(long),
-                5,
-                None,
-                Err(TextFault::Failed),
-            ),
-            (
-                TextFile::Netgroup,
-                "ypsrc/netgroup",
-                Some(9),
-                5,
-                denied,
-                Err(TextFault::Failed),
-            ),
-            (
-                TextFile::Ypservers,
-                "ypsrc/ypservers",
-                Some(9),
-                5,
-                Some(ErrorKind::OutOfMemory),
-                Err(TextFault::NoMemory),
-            ),
-            (
-                TextFile::Hosts,
-                "ypsrc/hosts",
-                Some(5),
-                TEXT_MAX + 1,
-                None,
-                Err(TextFault::Failed),
-            ),
-            (
-                TextFile::Hosts,
-                "hosts",
-                Some(5),
-                5,
-                None,
-                Err(TextFault::Failed),
-            ),
+            (Passwd, "ypsrc/passwd", Some(5), 5, None, Ok(5)),
+            (Group, "ypsrc/group", Some(0), 0, None, Ok(0)),
+            (Hosts, "ypsrc/hosts", Some(0), TEXT_MAX, None, Ok(TEXT_MAX)),
+            (Hosts, "ypsrc/hosts", Some(5), TEXT_MAX + 1, None, failed),
+            (Hosts, "hosts", Some(5), 5, None, failed),
+            (Services, "ypsrc/services", None, 5, None, failed),
+            (Protocols, "ypsrc/protocols", Some(long), 5, None, failed),
+            (Netgroup, "ypsrc/netgroup", Some(9), 5, denied, failed),
+            (Ypservers, "ypsrc/ypservers", Some(9), 5, full, no_memory),
         ];
         for (case, (which, path, len, bytes, fault, want)) in cases.into_iter().enumerate() {
             let reads = Reads {
@@ -283,8 +238,8 @@ mod tests {
             let mut into = Vec::new(rt.alloc());
             let came = texts.read(which, &mut into);
             assert_eq!(rt; came.map(|()| into.len()), want, "in case {case}");
-            let failed = want == Err(TextFault::Failed);
-            assert_eq!(rt; texts.faults, u64::from(failed), "in case {case}");
+            let faults = u64::from(want == failed);
+            assert_eq!(rt; texts.faults, faults, "in case {case}");
             assert_eq!(rt; into.len(), want.unwrap_or(0), "in case {case}");
         }
         Ok(())
