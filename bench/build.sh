@@ -7,7 +7,7 @@ rounds=${1:-7}
 
 "$top/yp" once lab/hosts.byname </dev/null # builds it
 compiled build
-hosts >"$room/hosts"
+hosts 262144 >"$room/hosts"
 
 echo "a hosts text of 262144 lines"
 cd "$room"

@@ -16,10 +16,13 @@ compiled() {
     gcc -O2 -Wall -Wextra -o "$room/$1" "$top/bench/$1.c"
 }
 
-# hosts: a hosts text of 262144 lines, each with a name of its own.
+# hosts ROWS: a hosts text of so many lines, each with a name of its own. ROWS is no multiple of 7919.
 hosts() {
-    python3 - <<'PYTHON'
-for i in range(262144):
-    print(f"10.{i >> 16}.{i >> 8 & 255}.{i & 255}\thost{i * 7919 % 262144:06} # rack {i % 40}")
+    python3 - "$1" <<'PYTHON'
+import sys
+
+rows = int(sys.argv[1])
+for i in range(rows):
+    print(f"10.{i >> 16}.{i >> 8 & 255}.{i & 255}\thost{i * 7919 % rows:06} # rack {i % 40}")
 PYTHON
 }

@@ -8,7 +8,7 @@ file=ypdata/lab/hosts.byname
 
 "$top/yp" once lab/hosts.byname </dev/null # builds it
 compiled store
-hosts >"$room/hosts"
+hosts 262144 >"$room/hosts"
 cd "$room"
 "$yp" build m1 lab/hosts.byname <hosts
 cp "$file" before

@@ -16,8 +16,10 @@ use yp_io::{NoMemory, Sink};
 use yp_tools::{NamedDisk, Outside, Status, disk_names, named_disks, run, tell};
 
 mod clock;
+mod dial;
 mod disk;
 mod streams;
+mod texts;
 mod words;
 
 /// The files of the maps that the words name.

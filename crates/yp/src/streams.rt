@@ -31,6 +31,13 @@ impl<R: Read + Drop> BlockReader<R> {
             Err(_) => Err(NoMemory),
         }
     }
+
+    /// How often it has failed.
+    pub fn faults(&self) -> u64
+        ensures { result ≡ ⟦<BlockReader<R> as Source>⟧.faults self.now }
+    {
+        self.faults
+    }
 }
 
 impl<R: Read + Drop> Source for BlockReader<R> {
@@ -96,6 +103,13 @@ impl<W: Write> DirectWriter<W> {
             flushed: true,
             faults: 0,
         }
+    }
+
+    /// How often it has failed.
+    pub fn faults(&self) -> u64
+        ensures { result ≡ ⟦<DirectWriter<W> as Sink>⟧.faults self.now }
+    {
+        self.faults
     }
 }
 

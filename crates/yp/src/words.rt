@@ -1,47 +1,56 @@
 //! The words that the program was started with.
 
+ghost use Rattle.std.specs.Prelude.{◌<◌, IfOk, string_len};
+
 use std::alloc::{AllocError, Global};
 use std::env::{Env, FillError};
 
 /// The most bytes of a word: no system hands over more.
 const WORD_MAX: usize = 131_072;
 
-/// What stands in for a word that no sentence can have, since it isn't text.
-const NO_TEXT: &str = "\u{fffd}";
+// What is found at a number.
+enum Word<'a> {
+    Text(&'a str),
+    // not UTF-8, or longer than any word can be
+    NoText,
+    End,
+}
 
-/// The words behind the program's name, in order. One that isn't UTF-8, or is longer than any word can be, is handed
-/// on as one that no sentence has.
+/// The words behind the program's name, in order. A word that isn't UTF-8, or is longer than any can be, is handed on
+/// as one that no sentence has, and ends them: a sentence that fails there fails whatever comes behind.
 pub fn words(rt: &impl Env, alloc: Global) -> Result<Vec<String>, AllocError> {
     let mut buf = vec![in alloc; 0; WORD_MAX]?;
     let mut words = Vec::new(alloc);
     for i in 1..usize::MAX {
-        let Some(word) = word_at(rt, alloc, i, &mut buf)? else {
-            break;
-        };
-        words.push(word)?;
+        match word_at(rt, i, &mut buf) {
+            Word::Text(text) => words.push(String::from_str(alloc, text)?)?,
+            Word::NoText => {
+                words.push(no_text(alloc)?)?;
+                break;
+            }
+            Word::End => break,
+        }
     }
     Ok(words)
 }
 
-// The word of this number, where there is one.
-fn word_at(
-    rt: &impl Env,
-    alloc: Global,
-    i: usize,
-    buf: &mut [u8],
-) -> Result<Option<String>, AllocError> {
+fn word_at<'a>(rt: &impl Env, i: usize, buf: &'a mut [u8]) -> Word<'a> {
     match rt.arg(i, buf) {
-        Ok(len) => Ok(Some(text_of(alloc, &buf[..len])?)),
-        Err(FillError::TooLong) => Ok(Some(String::from_str(alloc, NO_TEXT)?)),
-        Err(FillError::NotPresent) => Ok(None),
+        Ok(len) => match str::from_utf8(&buf[..len]) {
+            Ok(text) => Word::Text(text),
+            Err(_) => Word::NoText,
+        },
+        Err(FillError::TooLong) => Word::NoText,
+        Err(FillError::NotPresent) => Word::End,
     }
 }
 
-fn text_of(alloc: Global, bytes: &[u8]) -> Result<String, AllocError> {
-    match str::from_utf8(bytes) {
-        Ok(text) => String::from_str(alloc, text),
-        Err(_) => String::from_str(alloc, NO_TEXT),
-    }
+// What stands in for a word that isn't text: U+FFFD until it is longer than any word. A short one would be text itself,
+// which a sentence may take as a key or as a name of any bytes.
+fn no_text(alloc: Global) -> Result<String, AllocError>
+    ensures { IfOk result (λ text. 131072 < string_len text) }
+{
+    "\u{fffd}".repeat(alloc, WORD_MAX)
 }
 
 #[cfg(test)]
@@ -79,14 +88,27 @@ mod tests {
     #[test]
     fn words_and_what_is_no_text(rt: HostRuntime) -> Result<(), Fail> {
         let long = vec![in rt.alloc(); b'k'; WORD_MAX + 1]?;
-        let script = Script {
-            words: &[b"yp", b"once", b"k=\xff", b"", "\u{e9}=1".as_bytes(), &long],
-        };
-        let came = words(&script, rt.alloc())?;
-        let want = ["once", NO_TEXT, "", "\u{e9}=1", NO_TEXT];
-        assert_eq!(rt; came.len(), want.len());
-        for (word, want) in came.iter().zip(&want) {
-            assert_eq!(rt; word.as_str(), *want);
+        let cases = [
+            (b"once".as_slice(), true),
+            (b"", true),
+            ("\u{e9}=1".as_bytes(), true),
+            (&long[1..], true),
+            (b"k=\xff", false),
+            (&long, false),
+        ];
+        for (case, (word, is_text)) in cases.into_iter().enumerate() {
+            let script = Script {
+                words: &[b"yp", word, b"maps"],
+            };
+            let came = words(&script, rt.alloc())?;
+            match came.as_slice() {
+                [first, last] if is_text => {
+                    assert_eq!(rt; first.as_bytes(), word, "in case {case}");
+                    assert_eq!(rt; last.as_str(), "maps", "in case {case}");
+                }
+                [only] if !is_text => assert!(rt; only.len() > WORD_MAX, "in case {case}"),
+                _ => return Err(Fail::new("not as many words as there must be")),
+            }
         }
         Ok(())
     }

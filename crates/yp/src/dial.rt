@@ -1,0 +1,197 @@
+//! Connections and datagrams of the system.
+
+ghost use Rattle.std.specs.Prelude.{◌≡◌, ◌+◌, ◌≤◌, min, None, IfOk};
+ghost use Rattle.std.specs.Net.Addr.{ipv4_octets};
+ghost use Rattle.std.specs.Net.Socket.{v4_ip, v4_port};
+ghost use Rattle.yp_io.specs.Counts.{last_count};
+ghost use Rattle.yp_io.specs.Dials.{GoesBack, IsFresh};
+
+use crate::streams::{BlockReader, DirectWriter};
+use std::alloc::Global;
+use std::io;
+use std::io::ErrorKind;
+use std::net::{Ipv4Addr, Net, SocketAddrV4, TcpStream, UdpSocket};
+use yp_io::{Dial, Failed, Pair, Peer, Sink, Source, count_fault};
+
+/// A connection by TCP, whose two halves tell nothing of their bytes.
+pub type TcpWire = Pair<BlockReader<TcpStream>, DirectWriter<TcpStream>>;
+
+/// What connects by TCP and sends datagrams by UDP, over IPv4. It tells nothing of them.
+#[derive(Drop)]
+pub struct TcpDial<R: Net<Stream = TcpStream> + Drop> {
+    alloc: Global,
+    net: R,
+    faults: u64,
+}
+
+impl<R: Net<Stream = TcpStream> + Drop> TcpDial<R> {
+    /// Nothing is opened yet.
+    pub fn new(alloc: Global, net: R) -> TcpDial<R>
+        ensures { ⟦<TcpDial<R> as Dial>⟧.faults result ≡ 0 }
+    {
+        TcpDial {
+            alloc,
+            net,
+            faults: 0,
+        }
+    }
+}
+
+fn address_of(peer: Peer) -> SocketAddrV4
+    ensures ip { ipv4_octets (v4_ip result) ≡ peer.addr }
+    ensures port { v4_port result ≡ peer.port }
+{
+    SocketAddrV4::new(Ipv4Addr::from(peer.addr), peer.port)
+}
+
+// Connects. What is written goes out at once, since each call is small and waits for its reply.
+fn connect<R: Net<Stream = TcpStream>>(net: &R, alloc: Global, to: Peer) -> io::Result<TcpWire>
+    ensures { IfOk result (λ wire. IsFresh
+        (⟦<BlockReader<TcpStream> as Source>⟧.faults wire.source)
+        (⟦<DirectWriter<TcpStream> as Sink>⟧.faults wire.sink)
+        (⟦<DirectWriter<TcpStream> as Sink>⟧.output wire.sink)) }
+{
+    let stream = TcpStream::connect(net, address_of(to))?;
+    stream.set_nodelay(true)?;
+    let Ok(source) = BlockReader::new(alloc, stream.try_clone()?) else {
+        return Err(ErrorKind::OutOfMemory.into());
+    };
+    Ok(Pair {
+        source,
+        sink: DirectWriter::new(stream),
+    })
+}
+
+// Sends one datagram, and tries again where a signal interrupted that. One is sent whole or not at all.
+fn send<R: Net>(net: &R, to: Peer, piece: &[u8]) -> io::Result<()> {
+    let socket = UdpSocket::bind(net, SocketAddrV4::new(Ipv4Addr::UNSPECIFIED, 0))?;
+    for _ in 0..u64::MAX {
+        match socket.send_to(piece, address_of(to)) {
+            Err(error) if error.kind() == ErrorKind::Interrupted => {}
+            answer => return answer.map(|_| ()),
+        }
+    }
+    Err(ErrorKind::TimedOut.into())
+}
+
+impl<R: Net<Stream = TcpStream> + Drop> Dial for TcpDial<R> {
+    type In = BlockReader<TcpStream>;
+
+    type Out = DirectWriter<TcpStream>;
+
+    ghost past = { λ _. None };
+
+    ghost letters = { λ _. None };
+
+    ghost faults = { λ d. d.faults };
+
+    /// It also fails where memory has run out.
+    fn dial(&mut self, to: Peer) -> Result<TcpWire, Failed> {
+        match connect(&self.net, self.alloc, to) {
+            Ok(wire) => Ok(wire),
+            Err(_) => Err(count_fault(&mut self.faults)),
+        }
+    }
+
+    fn post(&mut self, to: Peer, piece: &[u8]) -> Result<(), Failed> {
+        match send(&self.net, to, piece) {
+            Ok(()) => Ok(()),
+            Err(_) => Err(count_fault(&mut self.faults)),
+        }
+    }
+
+    fn back(&mut self, wire: TcpWire)
+        ensures past { GoesBack
+            (record {
+              input = ⟦<BlockReader<TcpStream> as Source>⟧.input wire.source;
+              output = ⟦<DirectWriter<TcpStream> as Sink>⟧.output wire.sink;
+            })
+            (⟦<TcpDial<R> as Dial>⟧.past self.old)
+            (⟦<TcpDial<R> as Dial>⟧.past self.new) }
+        ensures letters { ⟦<TcpDial<R> as Dial>⟧.letters self.new ≡ ⟦<TcpDial<R> as Dial>⟧.letters self.old }
+        ensures faults { min
+            (⟦<TcpDial<R> as Dial>⟧.faults self.old
+            + ⟦<BlockReader<TcpStream> as Source>⟧.faults wire.source
+            + ⟦<DirectWriter<TcpStream> as Sink>⟧.faults wire.sink)
+            last_count ≤ ⟦<TcpDial<R> as Dial>⟧.faults self.new }
+    {
+        let faults = wire.source.faults().saturating_add(wire.sink.faults());
+        self.faults = self.faults.saturating_add(faults);
+    }
+}
+
+#[cfg(test)]
+mod tests {
+    use super::*;
+    use std::io::{Read, Write};
+    use std::net::{Shutdown, TcpListener};
+    use std::test::Fail;
+
+    // Any free port of this machine.
+    const ANY: Peer = Peer {
+        addr: [127, 0, 0, 1],
+        port: 0,
+    };
+
+    fn local(port: u16) -> Peer {
+        Peer { port, ..ANY }
+    }
+
+    #[test]
+    fn what_comes_and_goes_by_a_wire(rt: HostRuntime) -> Result<(), Fail> {
+        let listener = TcpListener::bind(&rt, address_of(ANY))?;
+        let mut dial = TcpDial::new(rt.alloc(), rt);
+        let mut wire = dial.dial(local(listener.local_addr()?.port()))?;
+        let (mut peer, _) = listener.accept()?;
+        let mut buf = [0; 8];
+        assert_eq!(rt; wire.sink.write(b"call"), Ok(4));
+        assert_eq!(rt; wire.sink.flush(), Ok(()));
+        peer.read_exact(&mut buf[..4])?;
+        assert_eq!(rt; &buf[..4], b"call".as_slice());
+        peer.write_all(b"reply")?;
+        for want in [&b"rep"[..], b"ly"] {
+            assert_eq!(rt; wire.source.read(&mut buf[..3]), Ok(want.len()));
+            assert_eq!(rt; &buf[..want.len()], want);
+        }
+        peer.shutdown(Shutdown::Write)?;
+        assert_eq!(rt; wire.source.read(&mut buf), Ok(0));
+        dial.back(wire);
+        assert_eq!(rt; peer.read(&mut buf)?, 0);
+        assert_eq!(rt; dial.faults, 0);
+        Ok(())
+    }
+
+    #[test]
+    fn nobody_listens_and_a_peer_resets(rt: HostRuntime) -> Result<(), Fail> {
+        let listener = TcpListener::bind(&rt, address_of(ANY))?;
+        let to = local(listener.local_addr()?.port());
+        let mut dial = TcpDial::new(rt.alloc(), rt);
+        let mut wire = dial.dial(to)?;
+        assert_eq!(rt; wire.sink.write(b"call"), Ok(4));
+        // A connection that ends with bytes unread is reset.
+        let (peer, _) = listener.accept()?;
+        drop(peer);
+        assert_eq!(rt; wire.source.read(&mut [0; 8]), Err(Failed));
+        assert_eq!(rt; wire.sink.write(b"call"), Err(Failed));
+        dial.back(wire);
+        assert_eq!(rt; dial.faults, 2);
+        drop(listener);
+        assert!(rt; dial.dial(to).is_err());
+        assert_eq!(rt; dial.faults, 3);
+        Ok(())
+    }
+
+    #[test]
+    fn letters_arrive(rt: HostRuntime) -> Result<(), Fail> {
+        let inbox = UdpSocket::bind(&rt, address_of(ANY))?;
+        let to = local(inbox.local_addr()?.port());
+        let mut dial = TcpDial::new(rt.alloc(), rt);
+        for letter in [&b"first"[..], b"", b"third"] {
+            dial.post(to, letter)?;
+            let mut buf = [0; 8];
+            let (len, _) = inbox.recv_from(&mut buf)?;
+            assert_eq!(rt; &buf[..len], letter);
+        }
+        Ok(())
+    }
+}

@@ -1,0 +1,247 @@
+//! The texts that maps are built of, as files of the system.
+
+ghost use Rattle.std.specs.Prelude.{◌≡◌, ◌≤◌, [], length, None, OnOk};
+ghost use Rattle.yp_io.specs.Texts.{text_max};
+
+use std::fs::File;
+use std::io::{ErrorKind, Read};
+use std::rt::Files;
+use std::{fs, io};
+use yp_io::{TEXT_MAX, TextFault, TextFile, Texts, count_fault};
+
+/// The files of the folder `ypsrc`, in the folder that the program was started in, as texts. They tell nothing of their
+/// bytes. What isn't a file, as a folder, is no text, and neither is a file over [`TEXT_MAX`] bytes.
+#[derive(Drop)]
+pub struct TextFolder<R: Files + Drop> {
+    files: R,
+    faults: u64,
+}
+
+impl<R: Files + Drop> TextFolder<R> {
+    pub fn new(files: R) -> TextFolder<R>
+        ensures { ⟦<TextFolder<R> as Texts>⟧.faults result ≡ 0 }
+    {
+        TextFolder { files, faults: 0 }
+    }
+}
+
+fn path_of(which: TextFile) -> &'static str {
+    match which {
+        TextFile::Passwd => "ypsrc/passwd",
+        TextFile::Group => "ypsrc/group",
+        TextFile::Hosts => "ypsrc/hosts",
+        TextFile::Services => "ypsrc/services",
+        TextFile::Protocols => "ypsrc/protocols",
+        TextFile::Netgroup => "ypsrc/netgroup",
+        TextFile::Ypservers => "ypsrc/ypservers",
+    }
+}
+
+// Puts the bytes of a file into `into`, read in place. After an error some of them may stand there.
+fn read_file<R: Files>(files: &R, path: &str, into: &mut Vec<u8>) -> io::Result<()>
+    requires { into.old.items ≡ [] }
+    ensures { OnOk result (length into.new.items ≤ text_max) }
+{
+    let found = fs::metadata(files, path)?;
+    let most = TEXT_MAX as u64;
+    // A pipe isn't opened, since that would wait for its writer.
+    if !found.is_file() || found.len() > most {
+        return Err(ErrorKind::InvalidInput.into());
+    }
+    let file = File::open(files, path)?;
+    // One byte more, so that the read which finds the end needs no further room.
+    into.reserve_exact(found.len() as usize + 1)?;
+    file.take(most + 1).read_to_end(into)?;
+    if into.len() > TEXT_MAX {
+        return Err(ErrorKind::InvalidInput.into());
+    }
+    Ok(())
+}
+
+impl<R: Files + Drop> Texts for TextFolder<R> {
+    ghost text = { λ _ _. None };
+
+    ghost faults = { λ t. t.faults };
+
+    fn read(&mut self, which: TextFile, into: &mut Vec<u8>) -> Result<(), TextFault> {
+        match read_file(&self.files, path_of(which), into) {
+            Ok(()) => Ok(()),
+            Err(error) => {
+                into.clear();
+                match error.kind() {
+                    ErrorKind::OutOfMemory => Err(TextFault::NoMemory),
+                    _ => Err(count_fault(&mut self.faults).into()),
+                }
+            }
+        }
+    }
+}
+
+#[cfg(test)]
+mod tests {
+    use super::*;
+    use std::alloc::Allocator;
+    use std::fs::{Metadata, OpenFile, OpenOptions};
+    use std::io::{Empty, Seek, SeekFrom, Write};
+    use std::test::Fail;
+    use yp_io::TextFile::{Group, Hosts, Netgroup, Passwd, Protocols, Services, Ypservers};
+
+    fn unsupported<T>() -> io::Result<T> {
+        Err(ErrorKind::Unsupported.into())
+    }
+
+    // An open file. Its first read is interrupted, the next ones give its bytes, and then it fails or ends.
+    #[derive(Clone, Copy)]
+    struct Reads {
+        interrupted: bool,
+        bytes: usize,
+        fault: Option<ErrorKind>,
+    }
+
+    impl Read for Reads {
+        fn read(&mut self, buf: &mut [u8]) -> io::Result<usize> {
+            if !self.interrupted {
+                self.interrupted = true;
+                return Err(ErrorKind::Interrupted.into());
+            }
+            match self.fault {
+                Some(kind) if self.bytes == 0 => Err(kind.into()),
+                _ => {
+                    let count = self.bytes.min(buf.len());
+                    buf[..count].fill(b'x');
+                    self.bytes -= count;
+                    Ok(count)
+                }
+            }
+        }
+    }
+
+    impl Write for Reads {
+        fn write(&mut self, _buf: &[u8]) -> io::Result<usize> {
+            Err(ErrorKind::Unsupported.into())
+        }
+
+        fn flush(&mut self) -> io::Result<()> {
+            unsupported()
+        }
+    }
+
+    impl Seek for Reads {
+        fn seek(&mut self, _to: SeekFrom) -> io::Result<u64> {
+            unsupported()
+        }
+    }
+
+    impl OpenFile for Reads {
+        fn metadata(&self) -> io::Result<Metadata> {
+            unsupported()
+        }
+
+        fn set_len(&self, _size: u64) -> io::Result<()> {
+            unsupported()
+        }
+
+        fn sync_all(&self) -> io::Result<()> {
+            unsupported()
+        }
+
+        fn sync_data(&self) -> io::Result<()> {
+            unsupported()
+        }
+    }
+
+    // A system with one file, which is a folder where no length is given.
+    #[derive(Clone, Copy)]
+    struct OneFile<'a> {
+        path: &'a str,
+        len: Option<u64>,
+        reads: Reads,
+    }
+
+    impl Files for OneFile<'_> {
+        type File = Reads;
+
+        type Dir = Empty;
+
+        fn open_file(&self, _how: &OpenOptions, path: &str) -> io::Result<Reads> {
+            match self.len {
+                Some(_) if path == self.path => Ok(self.reads),
+                _ => Err(ErrorKind::NotFound.into()),
+            }
+        }
+
+        fn metadata(&self, path: &str) -> io::Result<Metadata> {
+            match self.len {
+                _ if path != self.path => Err(ErrorKind::NotFound.into()),
+                Some(len) => Ok(Metadata::of_file(len)),
+                None => Ok(Metadata::of_dir()),
+            }
+        }
+
+        fn open_dir(&self, _path: &str) -> io::Result<Empty> {
+            unsupported()
+        }
+
+        fn symlink_metadata(&self, _path: &str) -> io::Result<Metadata> {
+            unsupported()
+        }
+
+        fn copy(&self, _from: &str, _to: &str) -> io::Result<u64> {
+            unsupported()
+        }
+
+        fn rename(&self, _from: &str, _to: &str) -> io::Result<()> {
+            unsupported()
+        }
+
+        fn remove_file(&self, _path: &str) -> io::Result<()> {
+            unsupported()
+        }
+
+        fn create_dir(&self, _path: &str) -> io::Result<()> {
+            unsupported()
+        }
+
+        fn remove_dir(&self, _path: &str) -> io::Result<()> {
+            unsupported()
+        }
+
+        fn remove_dir_all<B: Allocator>(&self, _alloc: B, _path: &str) -> io::Result<()> {
+            unsupported()
+        }
+    }
+
+    #[test]
+    fn texts_and_what_is_none(rt: HostRuntime) -> Result<(), Fail> {
+        let (failed, no_memory) = (Err(TextFault::Failed), Err(TextFault::NoMemory));
+        let denied = Some(ErrorKind::PermissionDenied);
+        let full = Some(ErrorKind::OutOfMemory);
+        let long = TEXT_MAX as u64 + 1;
+        let cases = [
+            (Passwd, "ypsrc/passwd", Some(5), 5, None, Ok(5)),
+            (Group, "ypsrc/group", Some(0), 0, None, Ok(0)),
+            (Hosts, "ypsrc/hosts", Some(0), TEXT_MAX, None, Ok(TEXT_MAX)),
+            (Hosts, "ypsrc/hosts", Some(5), TEXT_MAX + 1, None, failed),
+            (Hosts, "hosts", Some(5), 5, None, failed),
+            (Services, "ypsrc/services", None, 5, None, failed),
+            (Protocols, "ypsrc/protocols", Some(long), 5, None, failed),
+            (Netgroup, "ypsrc/netgroup", Some(9), 5, denied, failed),
+            (Ypservers, "ypsrc/ypservers", Some(9), 5, full, no_memory),
+        ];
+        for (case, (which, path, len, bytes, fault, want)) in cases.into_iter().enumerate() {
+            let reads = Reads {
+                interrupted: false,
+                bytes,
+                fault,
+            };
+            let mut texts = TextFolder::new(OneFile { path, len, reads });
+            let mut into = Vec::new(rt.alloc());
+            let came = texts.read(which, &mut into);
+            assert_eq!(rt; came.map(|()| into.len()), want, "in case {case}");
+            let faults = u64::from(want == failed);
+            assert_eq!(rt; texts.faults, faults, "in case {case}");
+            assert_eq!(rt; into.len(), want.unwrap_or(0), "in case {case}");
+        }
+        Ok(())
+    }
+}
