@@ -1,4 +1,4 @@
-//! The program: its words, the standard streams, the files of maps and the clock.
+//! The program: its words, the standard streams, the files of maps, the clock, connections and the texts of maps.
 #![tactic(auto)]
 
 ghost use Rattle.std.specs.Prelude.{◌≡◌, IfOk};
@@ -6,10 +6,12 @@ ghost use Rattle.yp_words.specs.Words.{disk_names, texts};
 ghost use Rattle.yp_tools.specs.Disks.{names_of};
 
 use clock::SystemClock;
+use dial::TcpDial;
 use disk::FileDisk;
 use std::alloc::{AllocError, Global};
 use std::process::ExitCode;
 use streams::{BlockReader, DirectWriter, StandardStream};
+use texts::TextFolder;
 use words::words;
 use yp_board::MapName;
 use yp_io::{NoMemory, Sink};
@@ -59,6 +61,8 @@ fn main(rt: HostRuntime) -> ExitCode {
         notes,
         disks,
         clock: SystemClock::new(&rt),
+        dial: TcpDial::new(alloc, rt),
+        texts: TextFolder::new(rt),
     };
     let (status, _outside) = run(alloc, &rt, &words, outside);
     ExitCode::from(status.code())

@@ -13,6 +13,7 @@ use std::random::RandomSource;
 use std::test::Fail;
 use yp_board::MapName;
 use yp_io::{MemDial, MemDisk, MemSink, MemSource, MemTexts, SetClock};
+use yp_msgs::YpStat;
 
 /// The words that serve one row.
 const SERVED: [&str; 3] = ["once", "lab/hosts.byname", "alpha=10.0.0.1 alpha"];
@@ -616,6 +617,29 @@ fn codes_and_notes(rt: HostRuntime) -> Result<(), Fail> {
     try_note(&rt, alloc, &status, 17, b"yp: row 4294967295 rule 3\n")?;
     try_note(&rt, alloc, &Status::OrderSpent, 18, b"yp: order spent\n")?;
     try_note(&rt, alloc, &Status::Enough, 23, b"yp: enough calls\n")?;
+    Ok(())
+}
+
+#[test]
+fn answers_in_notes(rt: HostRuntime) -> Result<(), Fail> {
+    let alloc = rt.alloc();
+    try_note(&rt, alloc, &Status::No, 1, b"")?;
+    let status = Status::Yp { stat: YpStat::Vers };
+    try_note(&rt, alloc, &status, 11, b"yp: server says -8\n")?;
+    let status = Status::Yp {
+        stat: YpStat::Nomore,
+    };
+    try_note(&rt, alloc, &status, 11, b"yp: server says 2\n")?;
+    try_note(&rt, alloc, &Status::Denied, 12, b"yp: refused by rpc\n")?;
+    let status = Status::BadReply { at: 47 };
+    try_note(&rt, alloc, &status, 13, b"yp: bad reply at 47\n")?;
+    let status = Status::BadXid {
+        want: u32::MAX,
+        got: 0,
+    };
+    let note = b"yp: wrong xid 0 wanted 4294967295\n";
+    try_note(&rt, alloc, &status, 14, note)?;
+    try_note(&rt, alloc, &Status::DialFault, 15, b"yp: cannot dial\n")?;
     Ok(())
 }
 

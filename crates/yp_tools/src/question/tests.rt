@@ -16,6 +16,7 @@ const ADDRESS: &str = "00000001 0000000e 31302e30 2e302e31 20616c70 68610000";
 const MATCH: [&str; 5] = ["match", "10.0.0.1:834", "lab", "hosts.byname", "alpha"];
 
 /// A client command, what comes in on its wire, and what must come of it: the code, the output and the note.
+#[derive(Clone, Copy)]
 struct Case<'a> {
     words: &'a [&'a str],
     input: &'a [&'a str],
