@@ -1,6 +1,6 @@
 -- The faults that a query may tell.
 use Rattle.std.proofs.Common.{◌≡◌, ◌==◌, ℕ, ℤ, pos, Bool, true, false, List, Option, Result, Ok, Err, refl, sym, ◌∙◌, subst, inl, inr}
-use Rattle.std.specs.Prelude.{◌⊎◌, Vec, IfErr, ⊤, if◌then◌else◌}
+use Rattle.std.specs.Prelude.{Vec, IfErr, ⊤, if◌then◌else◌}
 use Rattle.std.specs.declared.alloc.Global.{Global}
 use Rattle.std.specs.Ordering.{int_eq}
 use Rattle.yp_io.specs.Dials.{Wires}
@@ -28,7 +28,7 @@ use Rattle.yp_client.specs.All.{SaysAll}
 use Rattle.yp_client.specs.Moments.{Moment}
 use Rattle.yp_client.specs.Calls.{Calls}
 use Rattle.yp_query.specs.declared.fault.QueryFault.{QueryFault}
-use Rattle.yp_query.specs.declared.fault.QueryFault.TheVariants.{NoKey, Client, Row, Dial, Output, NoMemory}
+use Rattle.yp_query.specs.declared.fault.QueryFault.TheVariants.{Dial, Output, NoMemory}
 use Rattle.yp_query.specs.declared.question.Query.{Query}
 use Rattle.yp_query.specs.declared.question.Query.TheVariants.{Cat, Catk, Match, Which, Poll, Maps}
 use Rattle.yp_query.specs.Refusals.{refusal, match_refusal, all_refusal, IsTellable}

@@ -1,5 +1,5 @@
 -- What the calls of a query came to.
-use Rattle.std.specs.Prelude.{ℕ, List, map, Result, Ok, Err}
+use Rattle.std.specs.Prelude.{ℕ, List, Result, Ok, Err}
 use Rattle.yp_query.specs.declared.fault.QueryFault.{QueryFault}
 use Rattle.yp_query.specs.declared.answer.Answer.{Answer}
 use Rattle.yp_query.specs.declared.answer.Answer.TheVariants.{Rows, Line, Standing, Maps}

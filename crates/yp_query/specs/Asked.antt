@@ -1,7 +1,5 @@
 -- The calls of each query, and what they come to.
-use Rattle.std.specs.Prelude.{◌≡◌, ◌≤◌, ◌⊎◌, ℕ, Bool, true, false, List, [], length, Option, Result, Ok, Err, Vec, ⊤}
-use Rattle.std.specs.declared.alloc.Global.{Global}
-use Rattle.yp_msgs.specs.declared.maplist.MapList.{MapList}
+use Rattle.std.specs.Prelude.{◌≡◌, ◌≤◌, ◌⊎◌, ℕ, Bool, true, false, List, [], length, Result, Ok, Err, ⊤}
 use Rattle.yp_msgs.specs.Numbers.{name_max, key_max}
 use Rattle.yp_version.specs.Rows.{listed}
 use Rattle.yp_version.specs.Drafts.{Draft}

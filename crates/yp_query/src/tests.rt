@@ -12,6 +12,7 @@ use yp_client::ClientFault;
 use yp_io::{MemDial, MemSink, MemSource, MemWire, Pair, Peer};
 use yp_msgs::YpStat;
 use yp_rpc::ReplyHead;
+use yp_version::VersionFault;
 
 const SERVER: Peer = Peer {
     addr: [10, 0, 0, 1],
@@ -86,6 +87,16 @@ fn bytes(alloc: Global, text: &str) -> Result<Vec<u8>, Fail> {
     Ok(bytes)
 }
 
+const CAT: Query<'static> = Query::Cat {
+    domain: b"lab",
+    map: b"hosts.byname",
+};
+
+const CATK: Query<'static> = Query::Catk {
+    domain: b"lab",
+    map: b"hosts.byname",
+};
+
 const ALPHA: Query<'static> = Query::Match {
     domain: b"lab",
     map: b"hosts.byname",
@@ -114,6 +125,11 @@ const ALPHA_CALL: &str =
 const ALPHA_REPLY: &str = "80000030 00000001 00000001 00000000 00000000 00000000 00000000 00000001 \
     0000000e 31302e30 2e302e31 20616c70 68610000";
 
+/// A reply of ALL: `b` with the value `2`, `a` with `1`, and `b` again with `3`.
+const ROWS_REPLY: &str = "80000064 00000001 00000001 00000000 00000000 00000000 00000000 \
+    00000001 00000001 00000001 32000000 00000001 62000000 00000001 00000001 00000001 31000000 00000001 61000000 \
+    00000001 00000001 00000001 33000000 00000001 62000000 00000000";
+
 const ORDER_REPLY: &str =
     "80000020 00000001 00000001 00000000 00000000 00000000 00000000 00000001 00000064";
 
@@ -123,6 +139,10 @@ const NO_AUTH: &str = "00000000 00000000 00000000 00000000";
 #[test]
 fn answers_are_printed(rt: HostRuntime) -> Result<(), Fail> {
     let alloc = rt.alloc();
+    let all_call = format!(in alloc;
+        "80000040 00000001 00000000 00000002 000186a4 00000002 00000008 {NO_AUTH} {NAMES}"
+    )?;
+    let no_rows = "8000001c 00000001 00000001 00000000 00000000 00000000 00000000 00000000";
     let master_reply =
         "80000024 00000001 00000001 00000000 00000000 00000000 00000000 00000001 00000002 6d310000";
     let standing = format!(in alloc;
@@ -145,7 +165,10 @@ fn answers_are_printed(rt: HostRuntime) -> Result<(), Fail> {
         00000001 00000001 62000000 00000001 00000001 61000000 00000000";
     let binary_reply =
         "80000024 00000001 00000001 00000000 00000000 00000000 00000000 00000001 00000003 000aff00";
-    let cases: [(Query<'_>, &str, &str, &[u8]); 6] = [
+    let cases: [(Query<'_>, &str, &str, &[u8]); 9] = [
+        (CAT, ROWS_REPLY, &all_call, b"1\n2\n"),
+        (CATK, ROWS_REPLY, &all_call, b"a 1\nb 2\n"),
+        (CATK, no_rows, &all_call, b""),
         (ALPHA, ALPHA_REPLY, ALPHA_CALL, b"10.0.0.1 alpha\n"),
         (ALPHA, binary_reply, ALPHA_CALL, b"\x00\n\xff\n"),
         (WHICH, master_reply, &master_call, b"m1\n"),
@@ -183,7 +206,22 @@ fn refusals_print_nothing(rt: HostRuntime) -> Result<(), Fail> {
         "80000020 00000009 00000001 00000000 00000000 00000000 00000000 00000001 00000064";
     let denied = "80000014 00000001 00000001 00000001 00000001 00000002";
     // The question, the input, the fault, and how many bytes were sent. A call has 68 bytes, or 80 with the key.
+    let no_map =
+        "8000002c 00000001 00000001 00000000 00000000 00000000 00000000 00000001 ffffffff 00000000 00000000 00000000";
+    let half_a_reply = ROWS_REPLY.get(..200).unwrap_or("");
     let cases = [
+        (
+            CAT,
+            no_map,
+            QueryFault::Client(ClientFault::Yp(YpStat::Nomap)),
+            68,
+        ),
+        (
+            CATK,
+            half_a_reply,
+            QueryFault::Client(ClientFault::Torn { at: 0 }),
+            68,
+        ),
         (ALPHA, nokey, QueryFault::NoKey, 80),
         (
             ALPHA,
@@ -371,5 +409,28 @@ fn long_text_in_full_buffers(rt: HostRuntime) -> Result<(), Fail> {
         assert_eq!(rt; asked.result, result, "{prints:?}");
         assert_eq!(rt; asked.sink.taken().len(), printed, "{prints:?}");
     }
+    Ok(())
+}
+
+#[test]
+fn first_row_that_no_version_takes(rt: HostRuntime) -> Result<(), Fail> {
+    let alloc = rt.alloc();
+    // One row more than a version may have, of 20 bytes each.
+    let mut input = bytes(
+        alloc,
+        "80500030 00000001 00000001 00000000 00000000 00000000 00000000",
+    )?;
+    for i in 0..262_145u32 {
+        input.extend_from_slice(&[0, 0, 0, 1, 0, 0, 0, 1, 0, 0, 0, 0, 0, 0, 0, 4])?;
+        input.extend_from_slice(&i.to_be_bytes())?;
+    }
+    input.extend_from_slice(&[0; 4])?;
+    let asked = ask(&rt, alloc, &CAT, &input, 100_000, FAIR)?;
+    let fault = QueryFault::Row {
+        row: 262_145,
+        fault: VersionFault::TooManyRows,
+    };
+    assert_eq!(rt; asked.result, Err(fault));
+    assert_eq!(rt; asked.sink.taken().len(), 0);
     Ok(())
 }

@@ -1,4 +1,4 @@
-use Rattle.std.proofs.Common.{◌≡◌, false, refl, sym, subst, inr}
+use Rattle.std.proofs.Common.{false, refl, sym, subst, inr}
 use Rattle.yp_client.specs.Moments.{moment_of, Held}
 use Rattle.yp_query.specs.Asked.{Converses}
 use Rattle.yp_query.specs.Answers.{outcome_of}

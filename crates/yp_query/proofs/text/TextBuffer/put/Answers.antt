@@ -1,4 +1,3 @@
-use Rattle.std.proofs.Common.{◌∙◌}
 use Rattle.yp_query.proofs.Putting.{puts_written}
 use Rattle.yp_query.proofs.text.TextBuffer.put.Goals as goal
 
