@@ -160,7 +160,7 @@ module _ {D B T C : Type 0} (service : Service D B T C) (calls : List (List ℕ)
   carried_on law message (Bytes bytes) answer old new among sound is carried = goes_nowhere old new carried.1 sound
   carried_on law message (Open xid asked) answer old new among sound is carried =
       let called : IsCalledFor service calls asked =
-          record { call = message; among = among; maps = maps_of (seen_of service.keeping.log old); of_catalogue = sound.catalogue; xid = xid; left_open = is } in
+      record { call = message; among = among; maps = maps_of (seen_of service.keeping.log old); of_catalogue = sound.catalogue; xid = xid; left_open = is } in
       let allowed : make_check old.published.catalogue service.peer asked ≡ None = law Stream (maps_of (seen_of service.keeping.log old)) service.peer message xid asked is in
       made_on asked carried.0 old new called (subst (λ (k : Catalogue). make_check k service.peer asked ≡ None) sound.catalogue allowed) sound carried.2.made
 

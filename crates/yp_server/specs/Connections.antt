@@ -66,13 +66,17 @@ local_conduct keeping telling =
     conduct_of (seen_of keeping.log) (λ host. host.files) (λ old new. new ≡ record old { asked = next_count old.asked })
     (λ asked peer stat old new. Made keeping telling asked stat old new)
 
+-- what was shown on the board of a host
+abbrev pub log_of : {D B T C : Type 0} → Service D B T C → Local D B T C → Log
+log_of service host = service.keeping.log host.published.board
+
 -- ---- its first and its last host
 
 -- The host that it starts with: each map is level with what its disk stood for, and exactly that is shown.
 pub record IsFirst {D B T C : Type 0} (service : Service D B T C) (old : Connection D T C) (start : Local D B T C) : Type 0 where
   pub catalogue : start.published.catalogue ≡ service.catalogue
   pub opened : AllZip (IsOpened service.keeping.history service.keeping.faults) old.disks start.published.maps
-  pub log : service.keeping.log start.published.board ≡ starts 0 (versions start.published.maps)
+  pub log : log_of service start ≡ starts 0 (versions start.published.maps)
   pub desk : start.desk ≡ old.desk
   pub asked : start.asked ≡ 0
   pub files : start.files ≡ 0
@@ -82,7 +86,7 @@ pub record IsFirst {D B T C : Type 0} (service : Service D B T C) (old : Connect
 pub record IsLast {D B T C : Type 0} (service : Service D B T C) (finish : Local D B T C) (new : Connection D T C) : Type 0 where
   pub disks : new.disks ≡ map (λ kept. kept.disk) finish.published.maps
   pub desk : new.desk ≡ finish.desk
-  pub shows : Shows (service.keeping.log finish.published.board) (versions finish.published.maps)
+  pub shows : Shows (log_of service finish) (versions finish.published.maps)
   pub standing : (number : ℕ) → OfMap number finish.published.maps (IsStanding service.keeping.history)
 
 -- a moment of the session that a host and a wire are at
@@ -169,14 +173,15 @@ pub record Serves {D B T C : Type 0} (service : Service D B T C) (end : End) (ol
   pub calls : ℕ
   pub place : ℕ
   pub first : IsFirst service old start
-  pub runs : Runs (local_conduct service.keeping service.telling) service.peer calls_max end (moment_at start old.wire 0) (moment_at finish new.wire place) calls
+  pub runs : Runs (local_conduct service.keeping service.telling) service.peer calls_max end
+      (moment_at start old.wire 0) (moment_at finish new.wire place) calls
   pub last : IsLast service finish new
   pub any_moment : (number : ℕ) → AtDisk number old.disks new.disks (LeavesOr service.keeping.history
-      (IsOfBetween (IsMade service runs.messages old.desk) number (service.keeping.log start.published.board) (service.keeping.log finish.published.board)))
+      (IsOfBetween (IsMade service runs.messages old.desk) number (log_of service start) (log_of service finish)))
   pub behind : (number : ℕ) → OfMap number finish.published.maps (λ kept. IsSome (service.keeping.history kept.disk)
-      → IsBehindMade (IsMade service runs.messages old.desk) number (service.keeping.log finish.published.board) kept.standing)
+      → IsBehindMade (IsMade service runs.messages old.desk) number (log_of service finish) kept.standing)
   pub grown : AreTold service.keeping.history old.disks
-      → GrowsBy (IsMade service runs.messages old.desk) (service.keeping.log start.published.board) (service.keeping.log finish.published.board)
+      → GrowsBy (IsMade service runs.messages old.desk) (log_of service start) (log_of service finish)
 
 -- what a connection isn't served for, where the disk of a map isn't loaded
 abbrev pub refusal : ℕ → SlotFault → Unserved
