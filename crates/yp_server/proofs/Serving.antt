@@ -19,7 +19,7 @@ use Rattle.yp_server.specs.declared.desk.Desk.{Desk}
 use Rattle.yp_server.specs.Locals.{Local, TellsSame}
 use Rattle.yp_server.specs.Connections.{calls_max, Service, Connection, local_conduct, moment_at, IsFirst, IsLast, IsMade, IsOfBetween, IsBehindMade, AtDisk, LeavesOr, AreTold, Serves, IsUnserved, refusal}
 use Rattle.yp_server.proofs.Leaving.{weaker, left_alone, both_leave_or, told_on, opt_both, opt_then, opt_second, opt_at, opt_put_map, same_places, zip_at, all_at}
-use Rattle.yp_server.proofs.Hosting.{SoundHost, GoesOnTo, tells_same, chain_on}
+use Rattle.yp_server.proofs.Hosting.{SoundHost, GoesOnTo, tells_same, session_on}
 
 -- ---- disks that were only opened
 
@@ -90,14 +90,14 @@ module _ {D B T C : Type 0} (service : Service D B T C) (old new : Connection D 
       subst (λ (host : Local D B T C). IsFirst service old host) (sym whole)
       record { catalogue = refl; opened = opened; log = log; desk = refl; asked = refl; files = refl }
 
-  first_sound : StartsAreShown → IsFirst service old start → SoundHost service old.desk start
-  first_sound law first = record {
+  first_sound : (calls : List (List ℕ)) → StartsAreShown → IsFirst service old start → SoundHost service calls old.desk start
+  first_sound calls law first = record {
     maps = record {
       shows = subst (λ (l : Log). Shows l (versions start.published.maps)) (sym first.log) (law (versions start.published.maps));
       behind = λ number.
           opt_second {P = IsOpened service.keeping.history service.keeping.faults} (slice_get old.disks number) (slice_get start.published.maps number)
           (same_places start.published.maps old.disks number (AllZip-long (IsOpened service.keeping.history service.keeping.faults) old.disks start.published.maps first.opened))
-          (λ disk kept there here opened told. subst (λ (s : MapStanding). IsBehindMade (IsMade service old.desk) number (service.keeping.log start.published.board) s) (sym opened.level) tt)
+          (λ disk kept there here opened told. subst (λ (s : MapStanding). IsBehindMade (IsMade service calls old.desk) number (service.keeping.log start.published.board) s) (sym opened.level) tt)
           (zip_at (IsOpened service.keeping.history service.keeping.faults) old.disks start.published.maps number first.opened);
     };
     catalogue = first.catalogue;
@@ -105,10 +105,10 @@ module _ {D B T C : Type 0} (service : Service D B T C) (old new : Connection D 
   }
 
   pub went_on : OpenIsUnrefused → StartsAreShown → (end : End) (calls place : ℕ) → IsFirst service old start
-      → Runs (local_conduct service.keeping service.telling) service.peer calls_max end (moment_at start old.wire 0) (moment_at finish new.wire place) calls
-      → GoesOnTo service old.desk start finish
+      → (runs : Runs (local_conduct service.keeping service.telling) service.peer calls_max end (moment_at start old.wire 0) (moment_at finish new.wire place) calls)
+      → GoesOnTo service runs.messages old.desk start finish
   went_on unrefused shown end calls place first runs =
-      chain_on service old.desk unrefused runs.messages runs.answers start finish (first_sound shown first) runs.chain
+      session_on service old.desk unrefused runs.messages runs.answers start finish (first_sound runs.messages shown first) runs.chain
 
   -- what holds of a disk from its opening to its handing back
   through : (P : D → D → Type 0) (Q : Kept D → Kept D → Type 0) (number : ℕ)
@@ -138,8 +138,8 @@ module _ {D B T C : Type 0} (service : Service D B T C) (old new : Connection D 
       (zip_at (IsOpened service.keeping.history service.keeping.faults) old.disks start.published.maps number first.opened)
 
   pub served : (end : End) (calls place : ℕ) → IsFirst service old start
-      → Runs (local_conduct service.keeping service.telling) service.peer calls_max end (moment_at start old.wire 0) (moment_at finish new.wire place) calls
-      → GoesOnTo service old.desk start finish → IsLast service finish new → Serves service end old new
+      → (runs : Runs (local_conduct service.keeping service.telling) service.peer calls_max end (moment_at start old.wire 0) (moment_at finish new.wire place) calls)
+      → GoesOnTo service runs.messages old.desk start finish → IsLast service finish new → Serves service end old new
   served end calls place first runs went last = record {
     start = start;
     finish = finish;
@@ -149,31 +149,31 @@ module _ {D B T C : Type 0} (service : Service D B T C) (old new : Connection D 
     runs = runs;
     last = last;
     any_moment = λ number.
-        through (LeavesOr service.keeping.history (IsOfBetween (IsMade service old.desk) number (service.keeping.log start.published.board) (service.keeping.log finish.published.board)))
-        (λ before after. LeavesOr service.keeping.history (IsOfBetween (IsMade service old.desk) number (service.keeping.log start.published.board) (service.keeping.log finish.published.board)) before.disk after.disk)
+        through (LeavesOr service.keeping.history (IsOfBetween (IsMade service runs.messages old.desk) number (service.keeping.log start.published.board) (service.keeping.log finish.published.board)))
+        (λ before after. LeavesOr service.keeping.history (IsOfBetween (IsMade service runs.messages old.desk) number (service.keeping.log start.published.board) (service.keeping.log finish.published.board)) before.disk after.disk)
         number with_opening first (went.1.maps.moments number) last;
     behind = went.0.maps.behind;
     grown = λ told. went.1.maps.entries (told_maps first told);
   }
 
-  pub served_bound : IsFirst service old start → GoesOnTo service old.desk start finish → IsLast service finish new
+  pub served_bound : {messages : List (List ℕ)} → IsFirst service old start → GoesOnTo service messages old.desk start finish → IsLast service finish new
       → (number : ℕ) → AtDisk number old.disks new.disks (LeavesOr service.keeping.history (λ image. length image ≤ file_max))
   served_bound first went last number =
       through (LeavesOr service.keeping.history (λ image. length image ≤ file_max)) (λ before after. LeavesOr service.keeping.history (λ image. length image ≤ file_max) before.disk after.disk)
       number with_opening first (went.1.maps.bound number) last
 
-  pub served_falls : IsFirst service old start → GoesOnTo service old.desk start finish → IsLast service finish new
+  pub served_falls : {messages : List (List ℕ)} → IsFirst service old start → GoesOnTo service messages old.desk start finish → IsLast service finish new
       → (number : ℕ) → AtDisk number old.disks new.disks (λ before after. service.keeping.faults before ≤ service.keeping.faults after)
   served_falls first went last number =
       through (λ before after. service.keeping.faults before ≤ service.keeping.faults after) (λ before after. service.keeping.faults before.disk ≤ service.keeping.faults after.disk)
       number (λ disk before after opened le. omega (arith, opened.never_falls)) first (went.1.maps.never_falls number) last
 
-  pub served_count : IsFirst service old start → GoesOnTo service old.desk start finish → IsLast service finish new → length new.disks ≡ length old.disks
+  pub served_count : {messages : List (List ℕ)} → IsFirst service old start → GoesOnTo service messages old.desk start finish → IsLast service finish new → length new.disks ≡ length old.disks
   served_count first went last =
       ap length last.disks ∙ length-map finish.published.maps (λ (kept : Kept D). kept.disk) ∙ went.1.maps.count
       ∙ AllZip-long (IsOpened service.keeping.history service.keeping.faults) old.disks start.published.maps first.opened
 
-  pub served_desk : IsFirst service old start → GoesOnTo service old.desk start finish → IsLast service finish new → TellsSame service.telling old.desk new.desk
+  pub served_desk : {messages : List (List ℕ)} → IsFirst service old start → GoesOnTo service messages old.desk start finish → IsLast service finish new → TellsSame service.telling old.desk new.desk
   served_desk first went last =
       subst (λ (d : Desk T C). TellsSame service.telling d new.desk) first.desk
       (subst (λ (d : Desk T C). TellsSame service.telling start.desk d) (sym last.desk) went.1.desk)

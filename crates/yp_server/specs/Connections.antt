@@ -1,6 +1,6 @@
 -- One connection over stored maps: the host that it starts with, the one that it ends with, and what a crash leaves at
 -- each moment between.
-use Rattle.std.specs.Prelude.{◌≡◌, ◌≢◌, ◌⊎◌, ℕ, List, [], ◌∷◌, ◌++◌, map, slice_get, All, Option, Some, None, IfSome, IsSome, ⊤}
+use Rattle.std.specs.Prelude.{◌≡◌, ◌≢◌, ◌⊎◌, ℕ, List, [], ◌∷◌, ◌++◌, map, slice_get, All, Contains, Option, Some, None, IfSome, IsSome, ⊤}
 use Rattle.std.specs.List.{AllZip}
 use Rattle.yp_io.specs.Counts.{next_count}
 use Rattle.yp_io.specs.Disk.{History, LeavesOnly, MayLeave}
@@ -13,6 +13,9 @@ use Rattle.yp_board.specs.Catalogues.{Catalogue}
 use Rattle.yp_board.specs.Logs.{Log, shown, starts}
 use Rattle.yp_board.specs.Views.{Seen, IsFront}
 use Rattle.yp_build.specs.declared.kind.Kind.{Kind}
+use Rattle.yp_answer.specs.declared.procedure.Path.TheVariants.{Stream}
+use Rattle.yp_answer.specs.Maps.{Maps}
+use Rattle.yp_answer.specs.Reply.{Open, reply}
 use Rattle.yp_answer.specs.Make.{MakeRequest, kind_numbered, made_map, make_check}
 use Rattle.yp_publish.specs.Standing.{MapStanding, Level, Behind, IsStanding, OfMap, Shows, stands_for, versions}
 use Rattle.yp_publish.specs.Opens.{IsOpened, IsStopped}
@@ -63,13 +66,17 @@ local_conduct keeping telling =
     conduct_of (seen_of keeping.log) (λ host. host.files) (λ old new. new ≡ record old { asked = next_count old.asked })
     (λ asked peer stat old new. Made keeping telling asked stat old new)
 
+-- what was shown on the board of a host
+abbrev pub log_of : {D B T C : Type 0} → Service D B T C → Local D B T C → Log
+log_of service host = service.keeping.log host.published.board
+
 -- ---- its first and its last host
 
 -- The host that it starts with: each map is level with what its disk stood for, and exactly that is shown.
 pub record IsFirst {D B T C : Type 0} (service : Service D B T C) (old : Connection D T C) (start : Local D B T C) : Type 0 where
   pub catalogue : start.published.catalogue ≡ service.catalogue
   pub opened : AllZip (IsOpened service.keeping.history service.keeping.faults) old.disks start.published.maps
-  pub log : service.keeping.log start.published.board ≡ starts 0 (versions start.published.maps)
+  pub log : log_of service start ≡ starts 0 (versions start.published.maps)
   pub desk : start.desk ≡ old.desk
   pub asked : start.asked ≡ 0
   pub files : start.files ≡ 0
@@ -79,7 +86,7 @@ pub record IsFirst {D B T C : Type 0} (service : Service D B T C) (old : Connect
 pub record IsLast {D B T C : Type 0} (service : Service D B T C) (finish : Local D B T C) (new : Connection D T C) : Type 0 where
   pub disks : new.disks ≡ map (λ kept. kept.disk) finish.published.maps
   pub desk : new.desk ≡ finish.desk
-  pub shows : Shows (service.keeping.log finish.published.board) (versions finish.published.maps)
+  pub shows : Shows (log_of service finish) (versions finish.published.maps)
   pub standing : (number : ℕ) → OfMap number finish.published.maps (IsStanding service.keeping.history)
 
 -- a moment of the session that a host and a wire are at
@@ -88,11 +95,21 @@ moment_at host wire place = record { host = host; wire = wire; place = place }
 
 -- ---- versions that were made
 
--- A version was made of a map behind a log: a call that isn't refused asked for this map, and the version was built,
--- of what the desk tells, for what the log shows of the map.
-pub record IsMade {D B T C : Type 0} (service : Service D B T C) (desk : Desk T C) (number : ℕ) (log : Log) (version : MapVersion) : Type 0 where
+-- One of these calls asked for the making of a map, and its reply was left open.
+pub record IsCalledFor {D B T C : Type 0} (service : Service D B T C) (calls : List (List ℕ)) (asked : MakeRequest) : Type 0 where
+  pub call : List ℕ
+  pub among : Contains calls call
+  pub maps : Maps
+  pub of_catalogue : maps.catalogue ≡ service.catalogue
+  pub xid : ℕ
+  pub left_open : reply Stream maps service.peer call ≡ Open xid asked
+
+-- A version was made of a map behind a log: one of these calls asked for this map, which isn't refused, and the version
+-- was built, of what the desk tells, for what the log shows of the map.
+pub record IsMade {D B T C : Type 0} (service : Service D B T C) (calls : List (List ℕ)) (desk : Desk T C) (number : ℕ) (log : Log) (version : MapVersion) : Type 0 where
   pub asked : MakeRequest
   pub kind : Kind
+  pub called : IsCalledFor service calls asked
   pub allowed : make_check service.catalogue service.peer asked ≡ None
   pub of_map : made_map service.catalogue asked ≡ Some number
   pub of_kind : kind_numbered asked.1 ≡ Some kind
@@ -156,14 +173,15 @@ pub record Serves {D B T C : Type 0} (service : Service D B T C) (end : End) (ol
   pub calls : ℕ
   pub place : ℕ
   pub first : IsFirst service old start
-  pub runs : Runs (local_conduct service.keeping service.telling) service.peer calls_max end (moment_at start old.wire 0) (moment_at finish new.wire place) calls
+  pub runs : Runs (local_conduct service.keeping service.telling) service.peer calls_max end
+      (moment_at start old.wire 0) (moment_at finish new.wire place) calls
   pub last : IsLast service finish new
   pub any_moment : (number : ℕ) → AtDisk number old.disks new.disks (LeavesOr service.keeping.history
-      (IsOfBetween (IsMade service old.desk) number (service.keeping.log start.published.board) (service.keeping.log finish.published.board)))
+      (IsOfBetween (IsMade service runs.messages old.desk) number (log_of service start) (log_of service finish)))
   pub behind : (number : ℕ) → OfMap number finish.published.maps (λ kept. IsSome (service.keeping.history kept.disk)
-      → IsBehindMade (IsMade service old.desk) number (service.keeping.log finish.published.board) kept.standing)
+      → IsBehindMade (IsMade service runs.messages old.desk) number (log_of service finish) kept.standing)
   pub grown : AreTold service.keeping.history old.disks
-      → GrowsBy (IsMade service old.desk) (service.keeping.log start.published.board) (service.keeping.log finish.published.board)
+      → GrowsBy (IsMade service runs.messages old.desk) (log_of service start) (log_of service finish)
 
 -- what a connection isn't served for, where the disk of a map isn't loaded
 abbrev pub refusal : ℕ → SlotFault → Unserved

@@ -47,8 +47,9 @@ struct Ready {
     catalog: Catalog,
 }
 
-/// Serves one connection from stored maps, to a caller at `peer`. The disks, in their order, and the desk come back with
-/// every outcome.
+/// Serves one connection from stored maps, to a caller at `peer`: loads the files of all disks, shows what they stand for,
+/// and answers at most [`CALLS_MAX`] records of the wire. The disks, in their order, and the desk come back with every
+/// outcome.
 pub fn serve_wire<S: Source, K: Sink, D: Disk, T: Texts, C: Clock>(
     alloc: Global,
     rt: &impl RandomSource,
@@ -87,6 +88,7 @@ pub fn serve_wire<S: Source, K: Sink, D: Disk, T: Texts, C: Clock>(
         → IsTrue (K.flushed wire.old.sink) → IsTrue (K.flushed wire.new.sink) }
 {
     let Stock { disks, desk } = stock;
+    // A catalogue has at most 64 maps.
     prove!(disks.len() <= catalog.len() as usize);
     let loaded = match load_all(alloc, rt, disks) {
         Ok(loaded) => loaded,

@@ -157,7 +157,47 @@ fn damaged_disk_is_refused(rt: HostRuntime) -> Result<(), Fail> {
     Ok(())
 }
 
-// The replies to the calls `TWICE` where both have FILE, and where the second has.
+// Two calls of MAKE, with a call of MATCH before, between and behind them.
+const TWICE: &[&str] = &[
+    "8000004c 00000001",
+    MATCH,
+    "80000034 00000002",
+    MAKE,
+    "00000005 8000004c 00000003",
+    MATCH,
+    "80000034 00000004",
+    MAKE,
+    "00000005 8000004c 00000005",
+    MATCH,
+];
+
+// The replies where both succeed, where the first has FILE, where both have, and where the second has.
+const BOTH: &[&str] = &[
+    "80000020 00000001",
+    NO_MAP_OF,
+    "8000001c 00000002",
+    MADE,
+    "00000001 80000030 00000003",
+    VALUE_OF,
+    "8000001c 00000004",
+    MADE,
+    "00000001 80000030 00000005",
+    VALUE_OF,
+];
+
+const SECOND: &[&str] = &[
+    "80000020 00000001",
+    NO_MAP_OF,
+    "8000001c 00000002",
+    MADE,
+    "fffffff7 80000020 00000003",
+    NO_MAP_OF,
+    "8000001c 00000004",
+    MADE,
+    "00000001 80000030 00000005",
+    VALUE_OF,
+];
+
 const NEITHER: &[&str] = &[
     "80000020 00000001",
     NO_MAP_OF,
