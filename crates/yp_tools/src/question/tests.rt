@@ -67,7 +67,12 @@ fn try_case<R: RandomSource + Abort>(
     let (status, outside) = run(alloc, rt, &words, outside);
     assert_eq!(rt; outside.notes.taken(), case.note.as_bytes());
     assert_eq!(rt; status.code(), case.code, "{}", case.note);
-    assert_eq!(rt; outside.output.taken(), case.output.as_bytes(), "{}", case.note);
+    assert_eq!(rt;
+        outside.output.taken(),
+        case.output.as_bytes(),
+        "{}",
+        case.note
+    );
     Ok(())
 }
 

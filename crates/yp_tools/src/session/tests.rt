@@ -24,7 +24,8 @@ const SECURE: &str = "00000002";
 const TEXT: &[u8] = b"10.0.0.1 alpha\n";
 
 /// MATCH of `alpha` in that map, behind the word of its number.
-const MATCH: &str = "00000000 00000002 000186a4 00000002 00000003 00000000 00000000 00000000 00000000
+const MATCH: &str =
+    "00000000 00000002 000186a4 00000002 00000003 00000000 00000000 00000000 00000000
     00000003 6c616200 0000000c 686f7374 732e6279 6e616d65 00000005 616c7068 61000000";
 
 /// MAKE of the map of hosts by name, number 2, and of one of no kind.
@@ -92,7 +93,10 @@ fn try_session<R: RandomSource + Abort>(
     let (status, outside) = run(alloc, rt, &words, outside);
     assert_eq!(rt; outside.notes.taken(), wanted.note.as_bytes());
     assert_eq!(rt; status.code(), wanted.code, "{}", wanted.note);
-    assert_eq!(rt; outside.output.taken(), bytes(alloc, wanted.output)?.as_slice());
+    assert_eq!(rt;
+        outside.output.taken(),
+        bytes(alloc, wanted.output)?.as_slice()
+    );
     let file = bytes(alloc, wanted.file)?;
     for named in &outside.disks {
         assert_eq!(rt; named.disk.bytes(), file.as_slice());
@@ -125,7 +129,13 @@ fn make_then_match(rt: HostRuntime) -> Result<(), Fail> {
 #[test]
 fn refused_makes(rt: HostRuntime) -> Result<(), Fail> {
     let alloc = rt.alloc();
-    let unknown = ["8000004c 00000001", MATCH, MAKE_UNKNOWN, "8000004c 00000003", MATCH];
+    let unknown = [
+        "8000004c 00000001",
+        MATCH,
+        MAKE_UNKNOWN,
+        "8000004c 00000003",
+        MATCH,
+    ];
     let far = ["session", "m1", "10.0.0.9:40000", "lab/hosts.byname"];
     let cases = [
         (
