@@ -39,10 +39,11 @@ none_behind at at' draft (row ∷ rows) others none none' =
     (λ first. none_behind (at + 1) at' (with_row draft row) rows others first none') none
 
 pub grows_then : (before mid after : Draft) → Grows before mid → Grows mid after → Grows before after
-grows_then before mid after one other =
-    (one.0 ++ other.0,
-    other.1 ∙ ap (λ (d : Draft). with_rows d other.0) one.1 ∙ sym (fold-append with_row before one.0 other.0),
-    none_behind 0 0 before one.0 other.0 one.2 (subst (λ (d : Draft). refused_from 0 d other.0 ≡ None) one.1 other.2))
+grows_then before mid after one other = (
+  one.0 ++ other.0,
+  other.1 ∙ ap (λ (d : Draft). with_rows d other.0) one.1 ∙ sym (fold-append with_row before one.0 other.0),
+  none_behind 0 0 before one.0 other.0 one.2 (subst (λ (d : Draft). refused_from 0 d other.0 ≡ None) one.1 other.2),
+)
 
 pub grows_by : (before after : Draft) (row : Row) → refused before row ≡ None → after ≡ with_row before row → Grows before after
 grows_by before after row fits is = (row ∷ [], is, rw fits refl)
@@ -143,12 +144,14 @@ so_far_read before after old mid new buf buf' buf'' was now now' more so_far giv
       let joined : so_far.more ++ more ++ rest ≡ so_far.more ++ (more ++ rest) = append_assoc so_far.more more rest in
       let none : now.whole ≡ true → more ++ rest ≡ [] = λ whole. ap (λ (xs : List ℕ). xs ++ rest) (stays whole).0 ∙ may (stays whole).1 in
       let h = so_far.said (more ++ rest) n none (subst (λ (xs : List ℕ). length (waiting old buf ++ xs) ≤ n) joined enough) in
-      let here : waiting mid buf' ++ (more ++ rest) ≡ waiting new buf'' ++ rest = sym (append_assoc (waiting mid buf') more rest) ∙ ap (λ (xs : List ℕ). xs ++ rest) (sym waits) in
-      (h.0, subst (λ (xs : List ℕ). length xs ≤ h.0) here h.1,
-      ap (λ (xs : List ℕ). filled n before old.rows (ahead old buf xs)) joined ∙ h.2
-      ∙ ap (λ (xs : List ℕ). filled h.0 after mid.rows (record { at = mid.at; bytes = xs })) here
-      ∙ ap (λ (k : ℕ). filled h.0 after mid.rows (record { at = k; bytes = waiting new buf'' ++ rest })) (sym at)
-      ∙ ap (λ (k : ℕ). filled h.0 after k (ahead new buf'' rest)) (sym rows));
+      let here : waiting mid buf' ++ (more ++ rest) ≡ waiting new buf'' ++ rest = sym (append_assoc (waiting mid buf') more rest) ∙ ap (λ (xs : List ℕ). xs ++ rest) (sym waits) in (
+        h.0,
+        subst (λ (xs : List ℕ). length xs ≤ h.0) here h.1,
+        ap (λ (xs : List ℕ). filled n before old.rows (ahead old buf xs)) joined ∙ h.2
+            ∙ ap (λ (xs : List ℕ). filled h.0 after mid.rows (record { at = mid.at; bytes = xs })) here
+            ∙ ap (λ (k : ℕ). filled h.0 after mid.rows (record { at = k; bytes = waiting new buf'' ++ rest })) (sym at)
+            ∙ ap (λ (k : ℕ). filled h.0 after k (ahead new buf'' rest)) (sym rows),
+      );
 }
 
 -- one row more is pushed

@@ -1,4 +1,4 @@
-//! The procedures of YP version 2 (yp.x), but for ALL, and of the make program.
+//! The procedures of YP version 2 (yp.x) whose replies fit the buffer, which are all but ALL, and of the make program.
 
 ghost use Rattle.std.specs.Prelude.{◌≡◌, ◌≤◌, [], length};
 ghost use Rattle.yp_xdr.specs.Kind.{Fixed};

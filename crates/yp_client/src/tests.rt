@@ -1,5 +1,7 @@
 //! Calls and replies written out by hand, from RFC 5531 and yp.x.
 
+mod all;
+
 use super::*;
 use std::alloc::Global;
 use std::process::Abort;
