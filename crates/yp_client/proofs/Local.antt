@@ -1,5 +1,5 @@
 -- Readings that look at no more than some bytes: they give the same where more is behind these, and at another place.
-use Rattle.std.proofs.Common.{◌≡◌, ℕ, zero, suc, ◌+◌, ◌-◌, ◌*◌, ◌%◌, ◌<◌, ◌≤◌, ℤ, Bool, true, false, cond, eqb, ltb, List, [], ◌++◌, length, take, drop, Option, Some, None, Result, Ok, Err, refl, sym, ap, add-zero, add_assoc, ◌∙◌, subst, arith, inl, inr}
+use Rattle.std.proofs.Common.{◌≡◌, ℕ, ◌+◌, ◌-◌, ◌<◌, ◌≤◌, ℤ, Bool, true, false, cond, eqb, ltb, List, [], ◌++◌, length, take, drop, Option, Some, None, Result, Ok, Err, refl, sym, ap, add-zero, ◌∙◌, subst, arith, inl, inr}
 use Rattle.std.specs.Prelude.{◌⊎◌}
 use Rattle.std.specs.Int.{w32, from_be_bytes, cast_signed}
 use Rattle.std.proofs.lemmas.Bool.{le-ltb, lt-ltb, ltb-false, ltb-true}
@@ -7,7 +7,7 @@ use Rattle.std.proofs.lemmas.List.{length-append, length-take, length-drop, take
 use Rattle.std.proofs.lemmas.List.Quantifiers.{position-Some}
 use Rattle.yp_xdr.specs.declared.fault.XdrFault.{XdrFault}
 use Rattle.yp_xdr.specs.declared.fault.XdrFault.TheVariants.{Short, TooLong, Pad, BadBool, BadEnum}
-use Rattle.yp_xdr.specs.Kind.{Kind, U32, Boolean, Enum, Opaque, Sequence, Value}
+use Rattle.yp_xdr.specs.Kind.{Kind, Sequence}
 use Rattle.yp_xdr.specs.Spelling.{is_one_of, padding_len}
 use Rattle.yp_xdr.specs.Reading.{Unread, past, end_of, ◌>>=◌, word_at, bool_at, one_of_at, first_nonzero, padded, content_at, opaque_at, reading}
 use Rattle.yp_client.specs.Results.{place_of}

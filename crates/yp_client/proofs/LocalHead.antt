@@ -1,8 +1,7 @@
 -- The head of a reply is read from its first 432 bytes.
-use Rattle.std.proofs.Common.{◌≡◌, ℕ, ◌+◌, ◌%◌, ◌≤◌, ℤ, pos, negsuc, List, [], ◌∷◌, Result, Ok, Err, arith}
-use Rattle.yp_xdr.specs.declared.fault.XdrFault.{XdrFault}
+use Rattle.std.proofs.Common.{ℕ, ℤ, pos, [], ◌∷◌, Ok, arith}
 use Rattle.yp_xdr.specs.Kind.{U32, Enum, Opaque, Sequence}
-use Rattle.yp_xdr.specs.Reading.{Unread, ◌>>=◌, reading}
+use Rattle.yp_xdr.specs.Reading.{◌>>=◌, reading}
 use Rattle.yp_rpc.specs.declared.reply.ReplyHead.{ReplyHead}
 use Rattle.yp_rpc.specs.declared.reply.ReplyHead.TheVariants.{Success, ProgUnavail, ProgMismatch, ProcUnavail, GarbageArgs, SystemErr, RpcMismatch, AuthError}
 use Rattle.yp_rpc.specs.Call.{auth_kind}

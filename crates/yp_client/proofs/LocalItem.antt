@@ -1,11 +1,10 @@
 -- An item of the reply to ALL is read from its first 131088 bytes, and the results of a reply begin in its first 432.
-use Rattle.std.proofs.Common.{◌≡◌, ◌≢◌, ℕ, zero, suc, ◌+◌, ◌-◌, ◌%◌, ◌<◌, ◌≤◌, ℤ, pos, Bool, true, false, cond, eqb, List, [], ◌∷◌, ◌++◌, length, take, drop, Option, Some, None, Result, Ok, Err, refl, sym, ap, ◌∙◌, subst, add-zero, zero-add, arith}
-use Rattle.std.specs.Ordering.{int_eq}
-use Rattle.std.proofs.lemmas.List.{append-nil, length-append, length-drop}
+use Rattle.std.proofs.Common.{◌≡◌, ℕ, ◌+◌, ◌≤◌, ℤ, Bool, true, false, cond, eqb, List, ◌++◌, length, Option, Some, None, Result, Ok, Err, refl, sym, ap, ◌∙◌, subst, add-zero, zero-add, arith}
+use Rattle.std.proofs.lemmas.List.{length-drop}
 use Rattle.yp_xdr.specs.declared.fault.XdrFault.{XdrFault}
 use Rattle.yp_xdr.specs.declared.fault.XdrFault.TheVariants.{Short, TooLong as OverLimit, Pad, BadBool, BadEnum}
-use Rattle.yp_xdr.specs.Kind.{Kind, Boolean, Opaque, Value}
-use Rattle.yp_xdr.specs.Reading.{Unread, past, end_of, reading}
+use Rattle.yp_xdr.specs.Kind.{Boolean, Opaque}
+use Rattle.yp_xdr.specs.Reading.{Unread, end_of, reading}
 use Rattle.yp_rpc.specs.declared.reply.ReplyHead.{ReplyHead}
 use Rattle.yp_rpc.specs.declared.reply.ReplyHead.TheVariants.{Success, ProgUnavail, ProgMismatch, ProcUnavail, GarbageArgs, SystemErr, RpcMismatch, AuthError}
 use Rattle.yp_rpc.specs.Read.{reply_at}
@@ -13,10 +12,9 @@ use Rattle.yp_msgs.specs.Numbers.{key_max, value_max}
 use Rattle.yp_msgs.specs.Statuses.{stat}
 use Rattle.yp_version.specs.Rows.{Row}
 use Rattle.yp_client.specs.declared.fault.ClientFault.{ClientFault}
-use Rattle.yp_client.specs.declared.fault.ClientFault.TheVariants.{Yp, Denied, BadReply, BadXid}
+use Rattle.yp_client.specs.declared.fault.ClientFault.TheVariants.{Yp, BadReply}
 use Rattle.yp_client.specs.Results.{◌>>=◌, place_of, of_reply, item, by_head, by_xid, results_of, stat_with, further, IsIn}
 use Rattle.yp_client.specs.All.{row_at, by_row_stat, status_at, all_item_at}
-use Rattle.yp_client.specs.Windows.{item_max}
 use Rattle.yp_client.proofs.Local.{Enough, enough_less, enough_behind, onward, shifted, moved, IsCut, Cuts, IsLocal, Takes, cuts_behind, cuts_wider, local_bool, local_one_of, local_opaque}
 use Rattle.yp_client.proofs.LocalHead.{local_reply}
 

@@ -1,15 +1,14 @@
 -- Bytes that stand in the buffer and are read: the head, and an item.
-use Rattle.std.proofs.Common.{◌≡◌, ℕ, ◌+◌, ◌-◌, ◌<◌, ◌≤◌, Bool, true, false, List, [], ◌++◌, length, drop, Option, Some, None, Result, Ok, Err, refl, sym, ap, ◌∙◌, subst, add-zero, zero-add, arith, inl, inr}
-use Rattle.std.specs.Prelude.{◌⊎◌}
+use Rattle.std.proofs.Common.{◌≡◌, ℕ, ◌+◌, ◌≤◌, List, ◌++◌, length, drop, Option, Ok, Err, refl, sym, ap, ◌∙◌, subst, add-zero, zero-add, arith, inl, inr}
 use Rattle.std.proofs.lemmas.List.{length-drop}
-use Rattle.yp_xdr.specs.Reading.{Unread, past, end_of}
+use Rattle.yp_xdr.specs.Reading.{Unread}
 use Rattle.yp_version.specs.Rows.{Row}
 use Rattle.yp_client.specs.declared.fault.ClientFault.{ClientFault}
 use Rattle.yp_client.specs.declared.all.AllReply.{AllReply}
 use Rattle.yp_client.specs.Results.{results_of, further, IsIn}
 use Rattle.yp_client.specs.All.{ItemRead, all_item_at}
 use Rattle.yp_client.specs.Windows.{item_max, waiting, ahead, StandsIn, HasItem, MayCome}
-use Rattle.yp_client.proofs.Local.{Enough, onward, IsCut}
+use Rattle.yp_client.proofs.Local.{Enough, IsCut}
 use Rattle.yp_client.proofs.LocalItem.{moved_reply, CutsReply, local_item, moved_head, results_moved, results_cut}
 use Rattle.yp_client.proofs.Waiting.{length-waiting, waiting-passed}
 

@@ -1,12 +1,12 @@
 -- What a call of a client does, by the most bytes that the record of its reply may have.
-use Rattle.std.specs.Prelude.{◌≡◌, ◌↔◌, ◌⊎◌, ℕ, ◌+◌, ◌≤◌, ◌%◌, ◌^◌, Bool, true, false, List, [], take, Option, Result, Ok, Err, if◌then◌else◌}
+use Rattle.std.specs.Prelude.{◌≡◌, ◌↔◌, ◌⊎◌, ℕ, ◌+◌, ◌≤◌, ◌%◌, ◌^◌, Bool, true, false, List, take, Option, Result, Ok, Err, if◌then◌else◌}
 use Rattle.std.specs.Io.KnownBytes.{Keeps, Appends}
 use Rattle.yp_io.specs.Counts.{HasRisen}
 use Rattle.yp_rpc.specs.declared.record.RecordFault.{RecordFault}
 use Rattle.yp_rpc.specs.declared.record.RecordFault.TheVariants as record_faults
 use Rattle.yp_rpc.specs.Records.{sent, IsEmpty, TakesRecord, HasCause}
 use Rattle.yp_client.specs.declared.fault.ClientFault.{ClientFault}
-use Rattle.yp_client.specs.declared.fault.ClientFault.TheVariants.{Yp, Denied, BadReply, BadXid, Torn, TooLong, ReadFault, WriteFault, Spent, Rows, NoMemory}
+use Rattle.yp_client.specs.declared.fault.ClientFault.TheVariants.{Yp, Denied, Torn, TooLong, ReadFault, WriteFault, Spent, Rows, NoMemory}
 use Rattle.yp_client.specs.Moments.{Moment}
 
 -- What the output took: the record of the call, a front of it where it failed, and nothing of a spent client.

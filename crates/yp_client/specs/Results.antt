@@ -4,19 +4,18 @@ use Rattle.std.specs.Prelude.{◌≡◌, ℕ, ◌+◌, ◌≤◌, ℤ, pos, negs
 use Rattle.std.specs.Ordering.{int_eq}
 use Rattle.yp_xdr.specs.declared.fault.XdrFault.{XdrFault}
 use Rattle.yp_xdr.specs.declared.fault.XdrFault.TheVariants.{Short, TooLong as OverLimit, Pad, BadBool, BadEnum}
-use Rattle.yp_xdr.specs.Kind.{Kind, U32, Boolean, Opaque, Sequence, Value}
+use Rattle.yp_xdr.specs.Kind.{Kind, U32, Boolean, Opaque, Value}
 use Rattle.yp_xdr.specs.Reading.{Unread, reading}
 use Rattle.yp_rpc.specs.declared.reply.ReplyHead.{ReplyHead}
 use Rattle.yp_rpc.specs.declared.reply.ReplyHead.TheVariants.{Success}
 use Rattle.yp_rpc.specs.Read.{reply_at}
 use Rattle.yp_msgs.specs.declared.stat.YpStat.{YpStat}
 use Rattle.yp_msgs.specs.declared.stat.YpStat.TheVariants as stats
-use Rattle.yp_msgs.specs.declared.transfer.XfrStat.{XfrStat}
 use Rattle.yp_msgs.specs.Numbers.{key_max, value_max}
 use Rattle.yp_msgs.specs.Statuses.{stat}
 use Rattle.yp_msgs.specs.Messages.{name}
 use Rattle.yp_msgs.specs.MapLists.{map_list}
-use Rattle.yp_msgs.specs.Transfers.{resp_xfr, resp_make, xfr_number}
+use Rattle.yp_msgs.specs.Transfers.{resp_xfr, resp_make}
 use Rattle.yp_client.specs.declared.fault.ClientFault.{ClientFault}
 use Rattle.yp_client.specs.declared.fault.ClientFault.TheVariants.{Yp, Denied, BadReply, BadXid, NoMemory}
 

@@ -1,4 +1,3 @@
-use Rattle.std.proofs.Common.{◌≡◌, ◌+◌, ◌≤◌, length, arith}
 use Rattle.yp_client.proofs.Calling.{room_map}
 use Rattle.yp_client.proofs.all.fetch.Goals as goal
 

@@ -1,4 +1,4 @@
-use Rattle.std.proofs.Common.{◌++◌, ◌∙◌, arith, append_assoc}
+use Rattle.std.proofs.Common.{◌∙◌, arith, append_assoc}
 use Rattle.yp_xdr.specs.Spelling.{spelling, opaque, fixed}
 use Rattle.yp_rpc.specs.Call.{front_kind, procedure_kind}
 use Rattle.yp_rpc.specs.Called.{front, heading, called}

@@ -1,4 +1,4 @@
-use Rattle.std.proofs.Common.{◌≡◌, ◌+◌, ◌≤◌, length, ap, refl, arith}
+use Rattle.std.proofs.Common.{◌+◌, ◌≤◌, length, ap, arith}
 use Rattle.yp_client.specs.declared.all.AllReply.{AllReply}
 use Rattle.yp_client.specs.Limits.{all_max}
 use Rattle.yp_client.specs.Windows.{waiting}

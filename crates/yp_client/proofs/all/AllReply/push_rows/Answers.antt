@@ -1,7 +1,7 @@
-use Rattle.std.proofs.Common.{◌≡◌, ℕ, ◌+◌, length, refl, sym, ap, ◌∙◌, arith}
+use Rattle.std.proofs.Common.{◌≡◌, length, ap, arith}
 use Rattle.std.proofs.lemmas.Result.{err_from_is_err_and}
 use Rattle.yp_client.specs.declared.all.AllReply.{AllReply}
-use Rattle.yp_client.specs.Windows.{waiting, Progress, progress, IsUnderway, Pushes}
+use Rattle.yp_client.specs.Windows.{waiting, progress}
 use Rattle.yp_client.proofs.Waiting.{no_piece_earlier, underway_within, underway_same}
 use Rattle.yp_client.proofs.Filling.{grows_nothing, grows_then, pushed_nothing, ready, ready_next, ready_ended, ready_underway, at_falls}
 use Rattle.yp_client.proofs.all.AllReply.push_rows.Goals as goal

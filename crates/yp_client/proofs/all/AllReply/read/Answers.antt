@@ -1,4 +1,4 @@
-use Rattle.std.proofs.Common.{◌≡◌, ◌++◌, ap, refl, arith}
+use Rattle.std.proofs.Common.{◌++◌}
 use Rattle.std.proofs.lemmas.Result.{err_from_is_err_and}
 use Rattle.yp_client.proofs.Waiting.{no_piece_earlier}
 use Rattle.yp_client.proofs.all.AllReply.read.Goals as goal

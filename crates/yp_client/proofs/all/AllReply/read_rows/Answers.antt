@@ -1,7 +1,7 @@
-use Rattle.std.proofs.Common.{◌≡◌, ap, refl, arith}
+use Rattle.std.proofs.Common.{◌≡◌, ap, refl}
 use Rattle.std.proofs.lemmas.Result.{err_from_is_err_and, IfOk-weaker}
 use Rattle.yp_client.specs.declared.all.AllReply.{AllReply}
-use Rattle.yp_client.specs.Windows.{waiting, progress}
+use Rattle.yp_client.specs.Windows.{progress}
 use Rattle.yp_client.proofs.Waiting.{err_earlier}
 use Rattle.yp_client.proofs.Opening.{opened, opened_cause, opened_reached, opened_underway, head_says, rows_say}
 use Rattle.yp_client.proofs.all.AllReply.read_rows.Goals as goal

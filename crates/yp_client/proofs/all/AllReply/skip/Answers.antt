@@ -1,4 +1,4 @@
-use Rattle.std.proofs.Common.{◌≡◌, ◌+◌, ◌-◌, length, true, false, refl, arith}
+use Rattle.std.proofs.Common.{◌+◌, ◌-◌, refl, arith}
 use Rattle.std.proofs.lemmas.Result.{err_from_is_err_and}
 use Rattle.yp_client.proofs.Waiting.{length-waiting, skips_nothing, skips_more, skip_falls, underway_same, no_piece, whole_reached}
 use Rattle.yp_client.proofs.all.AllReply.skip.Goals as goal

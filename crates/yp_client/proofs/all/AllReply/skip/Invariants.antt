@@ -1,5 +1,5 @@
 -- How far `skip` has come.
-use Rattle.std.proofs.Common.{◌≡◌, ◌+◌, ◌-◌, ◌≤◌, cond, length}
+use Rattle.std.proofs.Common.{◌≡◌, ◌+◌, ◌-◌, ◌≤◌, cond}
 use Rattle.yp_client.specs.Limits.{all_max}
 use Rattle.yp_client.specs.Windows.{progress}
 use Rattle.yp_client.proofs.Waiting.{Skips}

@@ -1,9 +1,7 @@
-use Rattle.std.proofs.Common.{◌≡◌, ℕ, ◌++◌, ◌∙◌, ap, refl, arith, length, take, drop}
+use Rattle.std.proofs.Common.{◌≡◌, ◌++◌, ◌∙◌, ap, refl, arith, length, take, drop}
 use Rattle.std.proofs.lemmas.List.{take_at}
 use Rattle.std.proofs.lemmas.Grind.{common_steps}
-use Rattle.yp_rpc.specs.Called.{call_of}
 use Rattle.yp_client.specs.Calls.{spends}
-use Rattle.yp_client.specs.Moments.{moment_of}
 use Rattle.yp_client.proofs.Judging.{called_ok, called_err}
 use Rattle.yp_client.proofs.client.Client.call.Goals as goal
 use Rattle.yp_client.proofs.client.Client.call.Goals.{in-Ok, in-Err}
