@@ -1,3 +1,4 @@
 pub mod Putting
 pub mod Listing
 pub mod Telling
+pub mod Completing

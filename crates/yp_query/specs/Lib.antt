@@ -4,3 +4,4 @@ pub mod Refusals
 pub mod Answers
 pub mod Asked
 pub mod Scenes
+pub mod Complete

@@ -1,11 +1,11 @@
-use Rattle.std.proofs.lemmas.Result.{err_from_is_err_and}
-use Rattle.yp_query.proofs.Telling.{dials_tells, prints_tells}
+use Rattle.yp_query.specs.Scenes.{scene_of}
+use Rattle.yp_query.proofs.Completing.{query_completes}
 use Rattle.yp_query.proofs.dialed.query.Goals as goal
 
-pub returns-in_err-answer-clause-tellable : goal.returns-in_err-answer-clause-tellable
-returns-in_err-answer-clause-tellable g c =
-    let p = err_from_is_err_and c.from_residual.result c.from_residual.ensures.1 in
-    rw (p.1, p.2) (dials_tells c.args.query.now c.in_err-answer.field-0.0 _ _ c.in_err-answer.ensures.dials)
-
-pub returns-clause-tellable : goal.returns-clause-tellable
-returns-clause-tellable g c = prints_tells _ c.print.result _ _ c.print.ensures.prints
+pub returns-clause-complete : goal.returns-clause-complete
+returns-clause-complete g c = λ stream good came dial sink.
+    let did = c.ask_and_print in
+    query_completes (record { first = c.first_is_one.ensures; rest = c.rest_is_not_whole.ensures }) c.args.query.now stream
+    (scene_of g.A.Dial.past g.A.Dial.faults g.K.Sink.output g.K.Sink.faults c.args.dial.now c.args.sink.now)
+    (scene_of g.A.Dial.past g.A.Dial.faults g.K.Sink.output g.K.Sink.faults did.new.dial did.new.sink)
+    good came dial sink did.result did.ensures.asks did.ensures.cause
