@@ -7,6 +7,7 @@ use Rattle.yp_query.specs.declared.fault.QueryFault.TheVariants as fault
 use Rattle.yp_query.specs.declared.question.Query.{Query}
 use Rattle.yp_query.specs.declared.question.Query.TheVariants as query
 use Rattle.yp_query.specs.Scenes.{Scene, Asks}
+use Rattle.yp_query.specs.Complete.{HasAnswer}
 use Rattle.yp_words.specs.Words.{Meaning, Question, Cat, Catk, Match, Which, Poll, Maps, Ask}
 use Rattle.yp_tools.specs.Once.{rule_of}
 use Rattle.yp_tools.specs.declared.status.Status.{Status}
@@ -58,14 +59,12 @@ abbrev pub AnswersInMemory : Question → Status → Scene → Scene → Type 0
 AnswersInMemory question status old new =
     Answers question status old new ⊎ ((status ≡ NoMemory) × (new.dial ≡ old.dial) × (new.output ≡ old.output))
 
--- ---- causes
+-- ---- completeness
 
--- Which count has risen where reading failed: that of the dial, whose wire it is, where a server was asked.
-abbrev pub ReadCause : Result Meaning ℕ → Type 0 → Type 0 → Type 0
-ReadCause (Ok (Ask peer question)) input dial = dial
-ReadCause command input dial = input
+-- a wire's bytes begin with replies that answer whatever asks this question
+abbrev pub HasAnswerTo : Question → List ℕ → Type 0
+HasAnswerTo question stream = (asked : Query) → IsOf question asked → HasAnswer asked stream
 
--- The same where writing failed: that of the dial or the output.
-abbrev pub WriteCause : Result Meaning ℕ → Type 0 → Type 0 → Type 0
-WriteCause (Ok (Ask peer question)) output dial = output ⊎ dial
-WriteCause command output dial = output
+-- an answer, that there is no such key, or want of memory
+abbrev pub IsAnswer : Status → Type 0
+IsAnswer status = (status ≡ Done) ⊎ (status ≡ No) ⊎ (status ≡ NoMemory)

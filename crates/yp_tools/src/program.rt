@@ -13,6 +13,7 @@ ghost use Rattle.yp_slot.specs.Stands.{stands, Stored, file_max};
 ghost use Rattle.yp_session.specs.Wires.{wire_of};
 ghost use Rattle.yp_server.specs.Locals.{keeping_of, telling_of};
 ghost use Rattle.yp_server.specs.Connections.{plain_log, service_of, AtDisk, LeavesOr};
+ghost use Rattle.yp_query.specs.Complete.{HasCome};
 ghost use Rattle.yp_query.specs.Scenes.{scene_of};
 ghost use Rattle.yp_io.specs.Disk.{LeavesOnly, MayLeave};
 ghost use Rattle.yp_version.specs.Versions.{MapVersion};
@@ -23,7 +24,7 @@ ghost use Rattle.yp_tools.specs.Check.{Checks, IsUnwritten};
 ghost use Rattle.yp_tools.specs.Sample.{Tells};
 ghost use Rattle.yp_tools.specs.Once.{once_maps, rows_fault};
 ghost use Rattle.yp_tools.specs.Session.{Sessions, connection_at, IsSound};
-ghost use Rattle.yp_tools.specs.Questions.{AnswersInMemory};
+ghost use Rattle.yp_tools.specs.Questions.{AnswersInMemory, HasAnswerTo, IsAnswer};
 ghost use Rattle.yp_tools.specs.Status.{note, IsTellable};
 ghost use Rattle.yp_tools.specs.Served.{IsStatusOf, Serves};
 
@@ -278,6 +279,10 @@ fn run_words<S: Source, K: Sink, D: Disk, C: Clock, A: Dial, T: Texts>(
     ensures ask { (peer : Peer) (question : Question) → command_of (texts words.now) ≡ Ok (Ask peer question)
         → AnswersInMemory question result.0 (scene_of A.past A.faults K.output K.faults dial.old wire.old.sink) (scene_of A.past A.faults K.output K.faults dial.new wire.new.sink)
         × (wire.new.source ≡ wire.old.source) }
+    ensures complete_ask { (peer : Peer) (question : Question) (stream : List ℕ) → command_of (texts words.now) ≡ Ok (Ask peer question)
+        → HasAnswerTo question stream → HasCome stream (A.past dial.old) (A.past dial.new)
+        → ¬ HasRisen (A.faults dial.old) (A.faults dial.new) → ¬ HasRisen (K.faults wire.old.sink) (K.faults wire.new.sink)
+        → IsAnswer result.0 }
     ensures dialed { ((peer : Peer) (question : Question) → command_of (texts words.now) ≢ Ok (Ask peer question)) → dial.new ≡ dial.old }
     ensures read_fault { ((peer : Peer) (question : Question) → command_of (texts words.now) ≢ Ok (Ask peer question)) → result.0 ≡ Status.ReadFault
         → HasRisen (S.faults wire.old.source) (S.faults wire.new.source) }
@@ -475,6 +480,13 @@ pub fn run<S: Source, K: Sink, D: Disk, C: Clock, A: Dial, T: Texts>(
         → ¬ HasRisen (S.faults outside.input) (S.faults result.1.input) → ¬ HasRisen (K.faults outside.output) (K.faults result.1.output)
         → ¬ HasRisen (faults_of D.faults outside.disks.items) (faults_of D.faults result.1.disks.items)
         → IsStatusOf stream messages rest result.0 ⊎ (result.0 ≡ Status.NoMemory) }
+
+    // A client command is answered where the wire that came gives whole replies that answer its calls, but for faults and
+    // want of memory.
+    ensures complete_ask { (peer : Peer) (question : Question) (stream : List ℕ) → command_of (texts words.now) ≡ Ok (Ask peer question)
+        → HasAnswerTo question stream → HasCome stream (A.past outside.dial) (A.past result.1.dial)
+        → ¬ HasRisen (A.faults outside.dial) (A.faults result.1.dial) → ¬ HasRisen (K.faults outside.output) (K.faults result.1.output)
+        → IsAnswer result.0 }
 
     // The status is told.
     ensures note { ¬ HasRisen (K.faults outside.notes) (K.faults result.1.notes)

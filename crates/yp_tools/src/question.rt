@@ -1,13 +1,14 @@
 //! The client commands: a server is asked, and its answer printed.
 
-ghost use Rattle.std.specs.Prelude.{◌≡◌, ◌≢◌, ◌⊎◌, ℕ, IsTrue, Err, IfSome, IfNone};
+ghost use Rattle.std.specs.Prelude.{◌≡◌, ◌≢◌, ◌⊎◌, ℕ, IsTrue, List, Err, IfSome, IfNone};
 ghost use Rattle.yp_io.specs.Counts.{HasRisen};
 ghost use Rattle.yp_query.specs.Asked.{QueryIsWithin};
 ghost use Rattle.yp_query.specs.Refusals.{IsTellable as MayBeTold};
+ghost use Rattle.yp_query.specs.Complete.{HasAnswer, HasCome};
 ghost use Rattle.yp_query.specs.Scenes.{scene_of};
 ghost use Rattle.yp_words.specs.Words.{Question, Ask, meaning, HasNames};
 ghost use Rattle.yp_tools.specs.Once.{rule_of};
-ghost use Rattle.yp_tools.specs.Questions.{AsksAs, Answers, IsOf, IsStatusOf};
+ghost use Rattle.yp_tools.specs.Questions.{AsksAs, Answers, IsOf, IsStatusOf, HasAnswerTo, IsAnswer};
 ghost use Rattle.yp_tools.specs.Status.{IsTellable};
 
 use crate::status::Status;
@@ -105,6 +106,8 @@ fn ask<A: Dial, K: Sink>(
     requires { QueryIsWithin asked.now }
     ensures asks { AsksAs asked.now result
         (scene_of A.past A.faults K.output K.faults dial.old sink.old) (scene_of A.past A.faults K.output K.faults dial.new sink.new) }
+    ensures complete { (stream : List ℕ) → HasAnswer asked.now stream → HasCome stream (A.past dial.old) (A.past dial.new)
+        → ¬ HasRisen (A.faults dial.old) (A.faults dial.new) → ¬ HasRisen (K.faults sink.old) (K.faults sink.new) → IsAnswer result }
     ensures flushed { result ≢ Status.WriteFault → IsTrue (K.flushed sink.old) → IsTrue (K.flushed sink.new) }
     ensures read_fault { result ≡ Status.ReadFault → HasRisen (A.faults dial.old) (A.faults dial.new) }
     ensures write_fault { result ≡ Status.WriteFault
@@ -133,6 +136,9 @@ pub fn answer<A: Dial, K: Sink>(
     ensures unasked { IfNone result ((dial.new ≡ dial.old) × (sink.new ≡ sink.old)) }
     ensures answers { IfSome result (λ status. (peer : Peer) × (question : Question) × (meaning command.now ≡ Ask peer question) × Answers question status
         (scene_of A.past A.faults K.output K.faults dial.old sink.old) (scene_of A.past A.faults K.output K.faults dial.new sink.new)) }
+    ensures complete { IfSome result (λ status. (peer : Peer) (question : Question) (stream : List ℕ) → meaning command.now ≡ Ask peer question
+        → HasAnswerTo question stream → HasCome stream (A.past dial.old) (A.past dial.new)
+        → ¬ HasRisen (A.faults dial.old) (A.faults dial.new) → ¬ HasRisen (K.faults sink.old) (K.faults sink.new) → IsAnswer status) }
     ensures flushed { IfSome result (λ status. status ≢ Status.WriteFault → IsTrue (K.flushed sink.old) → IsTrue (K.flushed sink.new)) }
     ensures read_fault { IfSome result (λ status. status ≡ Status.ReadFault → HasRisen (A.faults dial.old) (A.faults dial.new)) }
     ensures write_fault { IfSome result (λ status. status ≡ Status.WriteFault

@@ -1,7 +1,7 @@
 use Rattle.std.proofs.Common.{◌≡◌, ◌⊎◌, ℕ, Bool, List, Option, Some, Result, Ok, inl, refl, false, subst, rules}
 use Rattle.std.specs.Prelude.{IsTrue}
 use Rattle.yp_board.specs.Catalogues.{Name, name_view}
-use Rattle.yp_words.specs.Words.{Meaning, Build, command_of, kind_of, texts}
+use Rattle.yp_words.specs.Words.{Meaning, Build, Ask, command_of, kind_of, texts}
 use Rattle.yp_io.specs.Disk.{LeavesOnly}
 use Rattle.yp_tools.specs.declared.status.Status.TheVariants.{NoMemory}
 use Rattle.yp_tools.specs.Disks.{history_of}
@@ -43,3 +43,10 @@ returns-in-Build-clause-build g c = λ job is.
     let of_job = one_build (command_of (texts c.args.words.now)) job c.in-Build.name.items (name_view c.in-Build.store) c.in-Build.flag is.command this is.kind in
     subst (λ (sink : g.row.K.Denot). AtSite (g.S.Source.input c.args.wire.now.source) (history_of g.D.Disk.history c.args.disks.now.items) (g.C.Clock.moment c.args.desk.clock)
     (λ site. Builds job site did.result (g.K.Sink.output sink) (g.K.Sink.output did.new.wire.sink))) c.in_default.ensures.unasked.1 (did.ensures.builds job of_job)
+
+same_meaning : (command : Result Meaning ℕ) (meaning other : Meaning) → command ≡ Ok meaning → command ≡ Ok other → meaning ≡ other
+same_meaning command meaning other is this = cc
+
+pub returns-in-Some-clause-complete_ask : goal.returns-in-Some-clause-complete_ask
+returns-in-Some-clause-complete_ask g c = λ peer question stream is good came dial sink.
+    c.in-Some.ensures.complete peer question stream (same_meaning (command_of (texts c.args.words.now)) _ (Ask peer question) c.in-Ok.ensures.sentence is) good came dial sink
