@@ -199,7 +199,7 @@ fn try_ended<R: RandomSource + Abort>(
 }
 
 /// Calls that are answered well, and the replies.
-const ANSWERED: [(&str, &[&str], &[&str]); 10] = [
+pub(crate) const ANSWERED: [(&str, &[&str], &[&str]); 10] = [
     ("no call", &[], &[]),
     ("two calls", &[MATCH, MATCH], &[MATCH_REPLY, MATCH_REPLY]),
     (

@@ -26,9 +26,10 @@ struct Case<'a> {
 }
 
 /// A wire that gives these bytes, some reads of which fail.
-fn wire(alloc: Global, input: &[&str], failing: &[u64]) -> Result<MemWire, Fail> {
+fn wire(alloc: Global, input: &[u8], failing: &[u64]) -> Result<MemWire, Fail> {
+    let input = Vec::from_slice(alloc, input)?;
     Ok(Pair {
-        source: MemSource::new(bytes(alloc, input)?, 80, Vec::from_slice(alloc, failing)?),
+        source: MemSource::new(input, 65_536, Vec::from_slice(alloc, failing)?),
         sink: MemSink::new(alloc, 4096, Vec::new(alloc)),
     })
 }
@@ -47,14 +48,16 @@ const FAIR: Weather<'static> = Weather {
     writes: &[],
 };
 
-fn try_case<R: RandomSource + Abort>(
+/// Runs the words of a case over a wire that gives these bytes.
+fn try_input<R: RandomSource + Abort>(
     rt: &R,
     alloc: Global,
     case: &Case<'_>,
+    input: &[u8],
     weather: Weather<'_>,
 ) -> Result<(), Fail> {
     let words = strings(alloc, case.words)?;
-    let wires = vec![in alloc; wire(alloc, case.input, weather.reads)?]?;
+    let wires = vec![in alloc; wire(alloc, input, weather.reads)?]?;
     let outside = Outside {
         input: MemSource::new(Vec::new(alloc), 1, Vec::new(alloc)),
         output: MemSink::new(alloc, 4096, Vec::from_slice(alloc, weather.writes)?),
@@ -74,6 +77,15 @@ fn try_case<R: RandomSource + Abort>(
         case.note
     );
     Ok(())
+}
+
+fn try_case<R: RandomSource + Abort>(
+    rt: &R,
+    alloc: Global,
+    case: &Case<'_>,
+    weather: Weather<'_>,
+) -> Result<(), Fail> {
+    try_input(rt, alloc, case, &bytes(alloc, case.input)?, weather)
 }
 
 /// Answers, and refusals of which nothing is printed.
@@ -253,4 +265,33 @@ fn one_failing_call(rt: HostRuntime) -> Result<(), Fail> {
         try_case(&rt, alloc, &case, weather)?;
     }
     Ok(())
+}
+
+/// The head of a reply with number 1, and rows with these keys of four bytes and empty values, 20 bytes each.
+fn rows(alloc: Global, count: u32) -> Result<Vec<u8>, Fail> {
+    let mut reply = bytes(alloc, &[SUCCESS])?;
+    let front = bytes(alloc, &["00000001 00000001 00000000 00000004"])?;
+    for key in 0..count {
+        reply.extend_from_slice(&front)?;
+        reply.extend_from_slice(&key.to_be_bytes())?;
+    }
+    reply.extend_from_slice(&[0; 4])?;
+    Ok(reply)
+}
+
+#[test]
+fn one_row_too_many(rt: HostRuntime) -> Result<(), Fail> {
+    let alloc = rt.alloc();
+    // 24 bytes of the head, 262,145 rows and the end are 5,242,928 bytes.
+    let mut input = bytes(alloc, &["80500030"])?;
+    input.extend_from_slice(&rows(alloc, 262_145)?)?;
+    assert_eq!(rt; input.len(), 5_242_932);
+    let case = Case {
+        words: &["cat", "10.0.0.1:834", "lab", "hosts.byname"],
+        input: &[],
+        code: 17,
+        output: "",
+        note: "yp: row 262145 rule 3\n",
+    };
+    try_input(&rt, alloc, &case, &input, FAIR)
 }

@@ -1,6 +1,6 @@
 //! Sessions over memory: their calls, replies and files written out by hand, from RFC 5531, yp.x and docs/FORMATS.md.
 
-use crate::tests::{bytes, disks_of, strings};
+use crate::tests::{ANSWERED, bytes, disks_of, strings};
 use crate::{Outside, run};
 use std::alloc::Global;
 use std::process::Abort;
@@ -229,4 +229,31 @@ fn damaged_file_not_served(rt: HostRuntime) -> Result<(), Fail> {
         file: &damaged,
     };
     try_session(&rt, rt.alloc(), &site, &wanted)
+}
+
+/// The row of the words of `once`, at its order and with its master.
+const ONCE_BODY: &str = "00000001 00000004 6f6e6365 00000001 00000005 616c7068 61000000
+    0000000e 31302e30 2e302e31 20616c70 68610000";
+
+#[test]
+fn look_ups_answered_as_by_once(rt: HostRuntime) -> Result<(), Fail> {
+    let alloc = rt.alloc();
+    let file = [CELLS, PLAIN, ONCE_BODY];
+    for (name, input, output) in ANSWERED {
+        let site = Site {
+            words: &["session", "once", "10.0.0.9:700", "lab/hosts.byname"],
+            file: &file,
+            input,
+            failing: &[],
+        };
+        let wanted = Wanted {
+            code: 0,
+            output,
+            note: "",
+            file: &file,
+        };
+        assert!(rt; !name.is_empty());
+        try_session(&rt, alloc, &site, &wanted)?;
+    }
+    Ok(())
 }
