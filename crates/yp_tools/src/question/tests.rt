@@ -1,8 +1,11 @@
 //! Client commands over wires in memory: replies written out by hand, from RFC 5531 and yp.x.
 
+ghost use Rattle.std.specs.Prelude.{IfOk};
+ghost use Rattle.yp_io.specs.MemDial.{IsNew};
+
 use crate::tests::{bytes, strings};
 use crate::{Outside, run};
-use std::alloc::Global;
+use std::alloc::{AllocError, Global};
 use std::process::Abort;
 use std::random::RandomSource;
 use std::test::Fail;
@@ -26,7 +29,9 @@ struct Case<'a> {
 }
 
 /// A wire that gives these bytes, some reads of which fail.
-fn wire(alloc: Global, input: &[u8], failing: &[u64]) -> Result<MemWire, Fail> {
+fn wire(alloc: Global, input: &[u8], failing: &[u64]) -> Result<MemWire, AllocError>
+    ensures { IfOk result IsNew }
+{
     let input = Vec::from_slice(alloc, input)?;
     Ok(Pair {
         source: MemSource::new(input, 65_536, Vec::from_slice(alloc, failing)?),
@@ -57,7 +62,8 @@ fn try_input<R: RandomSource + Abort>(
     weather: Weather<'_>,
 ) -> Result<(), Fail> {
     let words = strings(alloc, case.words)?;
-    let wires = vec![in alloc; wire(alloc, input, weather.reads)?]?;
+    let mut wires = Vec::new(alloc);
+    wires.push(wire(alloc, input, weather.reads)?)?;
     let outside = Outside {
         input: MemSource::new(Vec::new(alloc), 1, Vec::new(alloc)),
         output: MemSink::new(alloc, 4096, Vec::from_slice(alloc, weather.writes)?),

@@ -101,7 +101,7 @@ fn try_session<R: RandomSource + Abort>(
     for named in &outside.disks {
         assert_eq!(rt; named.disk.bytes(), file.as_slice());
     }
-    assert_eq!(rt; outside.disks.len(), site.words.len() - 3);
+    assert_eq!(rt; Some(outside.disks.len()), site.words.len().checked_sub(3));
     Ok(())
 }
 
