@@ -15,8 +15,6 @@ mod look_up;
 mod make;
 mod procedure;
 mod stream;
-#[cfg(test)]
-mod tests;
 
 pub use calls::{Answered, answer, answer_datagram};
 pub use limits::{DATAGRAM_MAX, RECORD_MAX};

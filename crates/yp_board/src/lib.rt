@@ -9,8 +9,6 @@ mod catalog;
 mod faults;
 mod order;
 mod plain;
-#[cfg(test)]
-mod tests;
 mod view;
 
 pub use catalog::{Catalog, CatalogFault, MAPS_MAX, MapName, NAME_MAX};

@@ -11,8 +11,6 @@ mod order;
 mod push;
 mod row;
 mod samples;
-#[cfg(test)]
-mod tests;
 mod versions;
 mod words;
 

@@ -12,8 +12,6 @@ mod exchange;
 mod fault;
 pub mod limits;
 mod procedures;
-#[cfg(test)]
-mod tests;
 
 pub use answers::Row;
 pub use client::{Client, ClientRefused};

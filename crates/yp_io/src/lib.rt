@@ -15,8 +15,6 @@ mod mem_disk;
 mod mem_texts;
 mod plan;
 mod stream;
-#[cfg(test)]
-mod tests;
 mod texts;
 
 pub use clock::{Clock, SetClock};

@@ -15,6 +15,3 @@ pub use requests::{ReqDomain, ReqKey, ReqNokey};
 pub use results::{AllItem, KeyVal, RespMaster, RespOrder, RespVal};
 pub use stat::YpStat;
 pub use transfer::{ReqMake, ReqXfr, RespMake, RespXfr, XfrStat};
-
-#[cfg(test)]
-mod tests;

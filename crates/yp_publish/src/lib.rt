@@ -14,8 +14,6 @@ mod publisher;
 mod same;
 mod spelled;
 mod stored;
-#[cfg(test)]
-mod tests;
 
 pub use install::{InstallFault, Installed, Origin};
 pub use loaded::{Loaded, StartRefused, load_all};

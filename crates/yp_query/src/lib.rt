@@ -9,8 +9,6 @@ mod dialed;
 mod fault;
 mod print;
 mod question;
-#[cfg(test)]
-mod tests;
 mod text;
 
 pub use dialed::query;

@@ -169,6 +169,3 @@ pub fn write_call(
         ],
     )
 }
-
-#[cfg(test)]
-mod tests;

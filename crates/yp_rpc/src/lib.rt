@@ -11,8 +11,6 @@ pub mod protocol;
 mod put;
 mod record;
 mod reply;
-#[cfg(test)]
-mod spelled;
 
 pub use call::{CallHead, Heard, read_call, write_call};
 pub use record::{RecordFault, RecordReader, RecordWriter};

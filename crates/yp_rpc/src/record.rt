@@ -6,8 +6,6 @@ ghost use Rattle.yp_rpc.specs.declared.record.RecordFault.TheVariants.{ReadFault
 mod batch;
 mod head;
 mod reader;
-#[cfg(test)]
-mod tests;
 mod writer;
 
 pub use reader::RecordReader;

@@ -205,6 +205,3 @@ pub fn read_reply(bytes: &[u8]) -> Result<ReplyRead, XdrFault>
         ..read
     })
 }
-
-#[cfg(test)]
-mod tests;

@@ -13,8 +13,6 @@ mod connection;
 mod desk;
 mod local;
 mod steps;
-#[cfg(test)]
-mod tests;
 
 pub use connection::{Stock, Unserved, serve_wire};
 pub use desk::Desk;

@@ -8,8 +8,6 @@
 mod host;
 mod send;
 mod session;
-#[cfg(test)]
-mod tests;
 
 pub use host::Host;
 pub use session::{CALLS_MAX, End, Session, Step};

@@ -20,6 +20,3 @@ pub use fault::SlotFault;
 pub use known::Stage;
 pub use slot::Slot;
 pub use write::body_of;
-
-#[cfg(test)]
-mod tests;

@@ -462,6 +462,3 @@ pub(crate) fn build<S: Source, K: Sink, D: Disk, C: Clock>(
     let (built, disk) = build_on(alloc, rt, &job, &text, now, disk);
     (tell_end(&mut wire.sink, job.store, built), disk)
 }
-
-#[cfg(test)]
-mod tests;

@@ -89,6 +89,3 @@ pub fn check<D: Disk, K: Sink>(
     };
     (status, disk)
 }
-
-#[cfg(test)]
-mod tests;

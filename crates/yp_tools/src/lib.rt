@@ -18,8 +18,6 @@ mod sample;
 mod session;
 mod status;
 mod tally;
-#[cfg(test)]
-mod tests;
 mod text;
 
 pub use disks::{NamedDisk, named_disks};

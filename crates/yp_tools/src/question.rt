@@ -151,6 +151,3 @@ pub fn answer<A: Dial, K: Sink>(
     let (peer, query) = question_of(command)?;
     Some(ask(alloc, rt, dial, peer, &query, sink))
 }
-
-#[cfg(test)]
-mod tests;

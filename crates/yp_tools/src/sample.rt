@@ -191,6 +191,3 @@ pub fn sample<K: Sink>(
         },
     }
 }
-
-#[cfg(test)]
-mod tests;

@@ -105,6 +105,3 @@ pub fn session<S: Source, K: Sink, D: Disk, T: Texts, C: Clock>(
     put_together(disks, apart);
     (status, desk)
 }
-
-#[cfg(test)]
-mod tests;

@@ -8,8 +8,6 @@
 mod builder;
 pub mod laws;
 mod limits;
-#[cfg(test)]
-mod tests;
 mod version;
 
 pub use builder::{VersionBuilder, VersionFault};

@@ -11,9 +11,6 @@ use std::alloc::{AllocError, Global};
 use yp_board::MapName;
 use yp_io::{NoMemory, Peer};
 
-#[cfg(test)]
-mod tests;
-
 /// Why the words are no command.
 #[derive(Clone, Copy, Debug, PartialEq, Eq)]
 pub enum ParseFault {

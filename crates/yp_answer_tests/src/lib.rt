@@ -1,0 +1,5 @@
+//! Tests of `yp_answer`.
+#![tactic(auto)]
+
+#[cfg(test)]
+mod calls;

@@ -1,0 +1,5 @@
+//! Tests of `yp_board`.
+#![tactic(auto)]
+
+#[cfg(test)]
+mod board;

@@ -1,0 +1,5 @@
+//! Tests of `yp_build`.
+#![tactic(auto)]
+
+#[cfg(test)]
+mod texts;

@@ -1,0 +1,5 @@
+//! Tests of `yp_client`.
+#![tactic(auto)]
+
+#[cfg(test)]
+mod calls;

@@ -1,0 +1,5 @@
+//! Tests of `yp_io`.
+#![tactic(auto)]
+
+#[cfg(test)]
+mod forms;

@@ -1,0 +1,5 @@
+//! Tests of `yp_msgs`.
+#![tactic(auto)]
+
+#[cfg(test)]
+mod messages;

@@ -1,0 +1,5 @@
+//! Tests of `yp_publish`.
+#![tactic(auto)]
+
+#[cfg(test)]
+mod publisher;

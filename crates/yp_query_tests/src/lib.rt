@@ -1,0 +1,5 @@
+//! Tests of `yp_query`.
+#![tactic(auto)]
+
+#[cfg(test)]
+mod queries;

@@ -1,0 +1,9 @@
+//! Tests of `yp_rpc`.
+#![tactic(auto)]
+
+#[cfg(test)]
+mod call;
+#[cfg(test)]
+mod record;
+#[cfg(test)]
+mod reply;

@@ -1,0 +1,5 @@
+//! Tests of `yp_server`.
+#![tactic(auto)]
+
+#[cfg(test)]
+mod host;

@@ -1,0 +1,5 @@
+//! Tests of `yp_session`.
+#![tactic(auto)]
+
+#[cfg(test)]
+mod session;

@@ -1,0 +1,5 @@
+//! Tests of `yp_slot`.
+#![tactic(auto)]
+
+#[cfg(test)]
+mod slot;

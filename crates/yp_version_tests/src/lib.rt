@@ -1,0 +1,5 @@
+//! Tests of `yp_version`.
+#![tactic(auto)]
+
+#[cfg(test)]
+mod version;

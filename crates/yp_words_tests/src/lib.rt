@@ -1,0 +1,5 @@
+//! Tests of `yp_words`.
+#![tactic(auto)]
+
+#[cfg(test)]
+mod words;

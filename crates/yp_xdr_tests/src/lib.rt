@@ -1,0 +1,5 @@
+//! Tests of `yp_xdr`.
+#![tactic(auto)]
+
+#[cfg(test)]
+mod values;
