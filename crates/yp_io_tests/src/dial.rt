@@ -30,7 +30,7 @@ fn two_wires(rt: &impl Abort, alloc: Global) -> Vec<MemWire>
     Vec::from_array(alloc, wires).expect(rt, "memory for two wires")
 }
 
-// What comes of a wire of a dial: two bytes that it gives and takes. It is given back after a further read, which fails.
+// What comes of a wire of a dial: two bytes that it gives and takes. A further read fails before it is given back.
 fn call(dial: &mut MemDial) -> Result<[u8; 2], Failed> {
     let mut wire = dial.dial(PEER)?;
     let (_, buf) = read_two(&mut wire.source);
@@ -41,12 +41,12 @@ fn call(dial: &mut MemDial) -> Result<[u8; 2], Failed> {
 }
 
 // What was taken by two wires that were given back, and by no more.
-fn two_taken(rt: &impl Abort, alloc: Global, wires: &[MemWire]) -> Option<[Vec<u8>; 2]> {
+fn two_taken(rt: &impl Abort, alloc: Global, wires: &[MemWire]) -> Option<(Vec<u8>, Vec<u8>)> {
     match wires {
-        [first, second] => Some([
+        [first, second] => Some((
             taken(rt, alloc, &first.sink),
             taken(rt, alloc, &second.sink),
-        ]),
+        )),
         _ => None,
     }
 }
@@ -64,7 +64,7 @@ fn one_letter(rt: &impl Abort, alloc: Global, letters: &[Letter]) -> Option<(Pee
 struct Dialled {
     calls: [Result<[u8; 2], Failed>; 4],
     posts: [Result<(), Failed>; 2],
-    taken: Option<[Vec<u8>; 2]>,
+    taken: Option<(Vec<u8>, Vec<u8>)>,
     letter: Option<(Peer, Vec<u8>)>,
 }
 
@@ -77,7 +77,7 @@ fn dial_in_turn(rt: &impl Abort, alloc: Global, dial: &mut MemDial) -> Dialled {
     }
 }
 
-// A dial whose calls 1 and 4 fail.
+// The same over two wires, where these calls fail.
 fn dial_over(rt: &impl Abort, alloc: Global, failing: &[u64]) -> Dialled {
     let mut dial = sent(MemDial::new(alloc, two_wires(rt, alloc), listed(rt, alloc, failing)));
     dial_in_turn(rt, alloc, &mut dial)
@@ -89,7 +89,7 @@ fn dial_in_memory(rt: HostRuntime) {
     let wanted = Dialled {
         calls: [Ok(*b"on"), Err(Failed), Ok(*b"tw"), Err(Failed)],
         posts: [Err(Failed), Ok(())],
-        taken: Some([owned(&rt, rt.alloc(), b"on"), owned(&rt, rt.alloc(), b"tw")]),
+        taken: Some((owned(&rt, rt.alloc(), b"on"), owned(&rt, rt.alloc(), b"tw"))),
         letter: Some((PEER, owned(&rt, rt.alloc(), b"kept"))),
     };
     assert_eq!(rt; dial_over(&rt, rt.alloc(), &[1, 4]), wanted);

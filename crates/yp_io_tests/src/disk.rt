@@ -127,7 +127,9 @@ fn writes_before(rt: &impl Abort, alloc: Global, stop: u64, failing: u64) -> (u3
 }
 
 // Up to which call a disk works, which call fails, how many of its calls are done, and what a crash leaves.
-const STOPS: [(u64, u64, u32, &str); 5] = [
+type Stop = (u64, u64, u32, &'static str);
+
+const STOPS: [Stop; 5] = [
     (9, 9, 8, "03"),
     (0, 9, 0, ""),
     (3, 9, 3, "00"),
@@ -135,12 +137,18 @@ const STOPS: [(u64, u64, u32, &str); 5] = [
     (9, 7, 7, "02"),
 ];
 
+fn check_stop(rt: &impl Abort, alloc: Global, row: &Stop) -> Result<(), Fail> {
+    let (stop, failing, done, left) = *row;
+    let wanted = (done, bytes(alloc, &[left])?);
+    let came = writes_before(rt, alloc, stop, failing);
+    assert_eq!(rt; came, wanted, "up to {stop}, but for {failing}");
+    Ok(())
+}
+
 #[test]
 fn disk_stops(rt: HostRuntime) -> Result<(), Fail> {
-    for (stop, failing, done, left) in &STOPS {
-        let wanted = (*done, bytes(rt.alloc(), &[*left])?);
-        let came = writes_before(&rt, rt.alloc(), *stop, *failing);
-        assert_eq!(rt; came, wanted, "up to {stop}, but for {failing}");
+    for row in &STOPS {
+        check_stop(&rt, rt.alloc(), row)?;
     }
     Ok(())
 }

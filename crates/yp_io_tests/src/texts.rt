@@ -8,7 +8,7 @@ use yp_io::*;
 // The answer to a read of a text, and the bytes that came.
 type Text = (Result<(), TextFault>, Vec<u8>);
 
-fn read_text(rt: &impl Abort, alloc: Global, texts: &mut MemTexts, which: TextFile) -> Text {
+fn read_text(alloc: Global, texts: &mut MemTexts, which: TextFile) -> Text {
     let mut bytes = Vec::new(alloc);
     let answer = texts.read(which, &mut bytes);
     (answer, bytes)
@@ -28,33 +28,34 @@ fn two_texts(
     Vec::from_array(alloc, texts).expect(rt, "memory for two texts")
 }
 
-fn four_reads(rt: &impl Abort, alloc: Global, texts: &mut MemTexts) -> [Text; 4] {
-    [
-        read_text(rt, alloc, texts, TextFile::Group),
-        read_text(rt, alloc, texts, TextFile::Hosts),
-        read_text(rt, alloc, texts, TextFile::Hosts),
-        read_text(rt, alloc, texts, TextFile::Passwd),
-    ]
+// Reads in turn, and what comes of them.
+const READS: [(TextFile, Result<(), TextFault>, &[u8]); 4] = [
+    (TextFile::Group, Ok(()), b"two"),
+    (TextFile::Hosts, Err(TextFault::Failed), b""),
+    (TextFile::Hosts, Ok(()), b"one"),
+    (TextFile::Passwd, Err(TextFault::Failed), b""),
+];
+
+fn check_reads(rt: &impl Abort, alloc: Global, texts: &mut MemTexts) {
+    for (which, answer, bytes) in &READS {
+        let (answered, came) = read_text(alloc, texts, *which);
+        assert_eq!(rt;
+            (answered, came.as_slice()),
+            (*answer, *bytes),
+            "at {which:?}"
+        );
+    }
 }
 
-// Reads of texts of which the call with this number fails.
-fn reads_of(rt: &impl Abort, alloc: Global, failing: u64) -> [Text; 4] {
-    let mut texts = sent(MemTexts::new(
-        two_texts(rt, alloc, b"one", b"two"),
-        listed(rt, alloc, &[failing]),
-    ));
-    four_reads(rt, alloc, &mut texts)
+// The same over texts of which the call with this number fails.
+fn check_texts(rt: &impl Abort, alloc: Global, failing: u64) {
+    let texts = two_texts(rt, alloc, b"one", b"two");
+    let mut texts = sent(MemTexts::new(texts, listed(rt, alloc, &[failing])));
+    check_reads(rt, alloc, &mut texts);
 }
 
 #[test]
 fn texts_and_clock_in_memory(rt: HostRuntime) {
-    let alloc = rt.alloc();
-    let wanted = [
-        (Ok(()), owned(&rt, alloc, b"two")),
-        (Err(TextFault::Failed), Vec::new(alloc)),
-        (Ok(()), owned(&rt, alloc, b"one")),
-        (Err(TextFault::Failed), Vec::new(alloc)),
-    ];
-    assert_eq!(rt; reads_of(&rt, alloc, 1), wanted);
+    check_texts(&rt, rt.alloc(), 1);
     assert_eq!(rt; sent(SetClock { moment: 100 }).now(), 100);
 }
