@@ -291,7 +291,7 @@ fn three_installs(rt: HostRuntime) {
     play_failing(&rt, rt.alloc(), &[], &[LOOKED, FIRST, SECOND, THIRD, level]);
 }
 
-// What crashes leave of the disks.
+// What a crash leaves of the one disk.
 fn left_of(rt: &impl Abort, disks: &[MemDisk], kept: u64) -> Vec<u8> {
     assert_eq!(rt; disks.len(), 1);
     disks[0].crashed(kept).expect(rt, "a file")
