@@ -5,7 +5,6 @@ use std::alloc::Global;
 use std::process::Abort;
 use std::random::RandomSource;
 use std::test::Fail;
-use yp_answer::RECORD_MAX;
 use yp_board::PlainBoard;
 use yp_for_tests::bytes;
 
@@ -17,12 +16,12 @@ const LONG_KEYS: &[(&str, usize, &[&str])] = &[
 ];
 
 fn assert_long_keys(rt: &impl Abort, alloc: Global, board: &mut PlainBoard) -> Result<(), Fail> {
-    for &(length, count, words) in LONG_KEYS {
-        let wanted = reply(alloc, words)?;
-        let mut call = call(alloc, MATCH, &[LAB, HOSTS, length])?;
-        call.extend_from_slice(&vec![in alloc; 0; count]?)?;
-        let by_record = record_reply(rt, alloc, board, OPEN_PORT, &call);
-        assert_eq!(rt; by_record, wanted, "key {length}");
+    for &(length, count, texts) in LONG_KEYS {
+        let mut call = call(rt, alloc, MATCH, &[LAB, HOSTS, length])?;
+        extend_with(rt, alloc, &mut call, 0, count);
+        let wanted = reply(rt, alloc, texts)?;
+        let came = record_reply(rt, alloc, board, OPEN_PORT, &call);
+        assert_eq!(rt; came, wanted, "key {length}");
     }
     Ok(())
 }
@@ -35,24 +34,28 @@ fn long_keys(rt: HostRuntime) -> Result<(), Fail> {
 }
 
 // A success of the status YP_TRUE with a value of so many bytes `x`.
-fn value_reply(alloc: Global, length: &str, count: usize, rest: &[&str]) -> Result<Vec<u8>, Fail> {
-    let mut value = reply(alloc, &[SUCCESS, YP_TRUE, length])?;
-    value.extend_from_slice(&vec![in alloc; b'x'; count]?)?;
-    value.extend_from_slice(&bytes(alloc, rest)?)?;
+fn value_reply(
+    rt: &impl Abort,
+    alloc: Global,
+    length: &str,
+    count: usize,
+    rest: &str,
+) -> Result<Vec<u8>, Fail> {
+    let mut value = reply(rt, alloc, &[SUCCESS, YP_TRUE, length])?;
+    extend_with(rt, alloc, &mut value, b'x', count);
+    extend(rt, &mut value, &bytes(alloc, &[rest])?);
     Ok(value)
 }
 
-// The replies to a call where the map has one row with this value, as a record and as a datagram.
+// The replies to a call where the map has one row with this value.
 fn replies_on_value<R: RandomSource + Abort>(
     rt: &R,
     alloc: Global,
     value: &[u8],
     call: &[u8],
-) -> (Vec<u8>, Vec<u8>) {
+) -> Replies {
     let mut board = board_of(rt, alloc, version(rt, alloc, &[(b"alpha", value)]));
-    let by_record = record_reply(rt, alloc, &mut board, OPEN_PORT, call);
-    let by_datagram = datagram_reply(rt, alloc, &mut board, OPEN_PORT, call);
-    (by_record, by_datagram)
+    answers_to(rt, alloc, &mut board, OPEN_PORT, call)
 }
 
 // A value: its length, as a word and as a number, its padding, the length of the reply, and whether a datagram has it.
@@ -65,16 +68,16 @@ const VALUES: &[(&str, usize, &str, usize, bool)] = &[
 #[test]
 fn values_too_long_for_a_datagram(rt: HostRuntime) -> Result<(), Fail> {
     let alloc = rt.alloc();
-    let refused = reply(alloc, &[SUCCESS, YP_YPERR, EMPTY])?;
-    let call = call(alloc, MATCH, &[LAB, HOSTS, ALPHA])?;
+    let call = call(&rt, alloc, MATCH, &[LAB, HOSTS, ALPHA])?;
+    let refused = reply(&rt, alloc, &[SUCCESS, YP_YPERR, EMPTY])?;
     for &(length, count, padding, len, fits) in VALUES {
-        let value = vec![in alloc; b'x'; count]?;
-        let whole = value_reply(alloc, length, count, &[padding])?;
+        let value = filled(&rt, alloc, b'x', count);
+        let whole = value_reply(&rt, alloc, length, count, padding)?;
         assert_eq!(rt; whole.len(), len);
-        let (by_record, by_datagram) = replies_on_value(&rt, alloc, &value, &call);
-        assert!(rt; by_record == whole, "{count} bytes");
+        let came = replies_on_value(&rt, alloc, &value, &call);
+        assert!(rt; came.by_record == whole, "{count} bytes");
         let wanted = if fits { &whole } else { &refused };
-        assert!(rt; &by_datagram == wanted, "{count} bytes, in a datagram");
+        assert!(rt; &came.by_datagram == wanted, "{count} bytes, in a datagram");
     }
     Ok(())
 }
@@ -97,12 +100,12 @@ fn datagram_replies<R: RandomSource + Abort>(
 fn rows_too_long_for_a_datagram(rt: HostRuntime) -> Result<(), Fail> {
     let alloc = rt.alloc();
     // With a key of 5 bytes the reply has 8,196 bytes, with one of 1 byte 8,192.
-    let value = vec![in alloc; b'x'; 8_152]?;
+    let value = filled(&rt, alloc, b'x', 8_152);
     let rows: [Row<'_>; 2] = [(b"alpha", &value), (b"b", &value)];
-    let asks_first = call(alloc, FIRST, &[LAB, HOSTS])?;
-    let refused = reply(alloc, &[SUCCESS, YP_YPERR, EMPTY, EMPTY])?;
-    let asks_next = call(alloc, NEXT, &[LAB, HOSTS, ALPHA])?;
-    let whole = value_reply(alloc, "00001fd8", 8_152, &["00000001 62000000"])?;
+    let asks_first = call(&rt, alloc, FIRST, &[LAB, HOSTS])?;
+    let refused = reply(&rt, alloc, &[SUCCESS, YP_YPERR, EMPTY, EMPTY])?;
+    let asks_next = call(&rt, alloc, NEXT, &[LAB, HOSTS, ALPHA])?;
+    let whole = value_reply(&rt, alloc, "00001fd8", 8_152, "00000001 62000000")?;
     assert_eq!(rt; whole.len(), 8_192);
     let (to_first, to_next) = datagram_replies(&rt, alloc, &rows, &asks_first, &asks_next);
     assert_eq!(rt; to_first, refused);
@@ -110,17 +113,20 @@ fn rows_too_long_for_a_datagram(rt: HostRuntime) -> Result<(), Fail> {
     Ok(())
 }
 
-// An item of ALL: a value of so many bytes `x`, and a key of one word.
-fn extend_with_item(
-    reply: &mut Vec<u8>,
+// Items of ALL: of each key, of one word, a value of so many bytes `x`.
+fn extend_with_items(
+    rt: &impl Abort,
     alloc: Global,
+    reply: &mut Vec<u8>,
     length: &str,
     count: usize,
-    key: &str,
+    keys: &[&str],
 ) -> Result<(), Fail> {
-    reply.extend_from_slice(&bytes(alloc, &[MORE, YP_TRUE, length])?)?;
-    reply.extend_from_slice(&vec![in alloc; b'x'; count]?)?;
-    reply.extend_from_slice(&bytes(alloc, &[key])?)?;
+    for key in keys {
+        extend(rt, reply, &bytes(alloc, &[MORE, YP_TRUE, length])?);
+        extend_with(rt, alloc, reply, b'x', count);
+        extend(rt, reply, &bytes(alloc, &[*key])?);
+    }
     Ok(())
 }
 
@@ -131,42 +137,42 @@ fn pieces_on<R: RandomSource + Abort>(
     rows: &[Row<'_>],
     call: &[u8],
 ) -> Vec<Vec<u8>> {
-    let mut buf = vec![in alloc; 9; RECORD_MAX].expect(rt, "a buffer");
     let mut board = board_of(rt, alloc, version(rt, alloc, rows));
-    pieces(rt, alloc, &mut board, caller(OPEN_PORT), call, &mut buf)
+    pieces(rt, alloc, &mut board, OPEN_PORT, call)
 }
+
+const FIRST_KEYS: &[&str] = &[
+    "00000001 31000000",
+    "00000001 32000000",
+    "00000001 33000000",
+];
+
+const SECOND_KEYS: &[&str] = &["00000001 34000000", "00000001 35000000"];
 
 #[test]
 fn pieces_are_whole_items(rt: HostRuntime) -> Result<(), Fail> {
     let alloc = rt.alloc();
     // A head of 24 bytes, and items of 65,556: three fit into 262,144 bytes beside the head, then two and the end.
-    let value = vec![in alloc; b'x'; 65_536]?;
-    let keys: [&[u8]; 5] = [b"1", b"2", b"3", b"4", b"5"];
-    let mut rows = Vec::new(alloc);
-    for key in keys {
-        rows.push((key, value.as_slice()))?;
-    }
-    let mut first = reply(alloc, &[SUCCESS])?;
-    for key in [
-        "00000001 31000000",
-        "00000001 32000000",
-        "00000001 33000000",
-    ] {
-        extend_with_item(&mut first, alloc, "00010000", 65_536, key)?;
-    }
+    let value = filled(&rt, alloc, b'x', 65_536);
+    let rows: [Row<'_>; 5] = [
+        (b"1", &value),
+        (b"2", &value),
+        (b"3", &value),
+        (b"4", &value),
+        (b"5", &value),
+    ];
+    let mut first = reply(&rt, alloc, &[SUCCESS])?;
+    extend_with_items(&rt, alloc, &mut first, "00010000", 65_536, FIRST_KEYS)?;
     assert_eq!(rt; first.len(), 24 + 3 * 65_556);
     let mut second = Vec::new(alloc);
-    for key in ["00000001 34000000", "00000001 35000000"] {
-        extend_with_item(&mut second, alloc, "00010000", 65_536, key)?;
-    }
-    second.extend_from_slice(&bytes(alloc, &[END])?)?;
-    let wanted = vec![in alloc; first, second, Vec::new(alloc)]?;
-    let call = call(alloc, ALL, &[LAB, HOSTS])?;
+    extend_with_items(&rt, alloc, &mut second, "00010000", 65_536, SECOND_KEYS)?;
+    extend(&rt, &mut second, &bytes(alloc, &[END])?);
+    let call = call(&rt, alloc, ALL, &[LAB, HOSTS])?;
     let pieces = pieces_on(&rt, alloc, &rows, &call);
     assert_eq!(rt; pieces.len(), 3);
-    for (i, (piece, wanted)) in pieces.iter().zip(&wanted).enumerate() {
-        assert!(rt; piece == wanted, "piece {i}");
-    }
+    assert!(rt; pieces[0] == first, "the first piece");
+    assert!(rt; pieces[1] == second, "the second piece");
+    assert!(rt; pieces[2].is_empty(), "the third piece");
     Ok(())
 }
 
@@ -181,33 +187,37 @@ fn reply_on<R: RandomSource + Abort>(
     record_reply(rt, alloc, &mut board, OPEN_PORT, call)
 }
 
+const KEYS: &[&str] = &[
+    "00000004 6b303031",
+    "00000004 6b303032",
+    "00000004 6b303033",
+    "00000004 6b303034",
+    "00000004 6b303035",
+    "00000004 6b303036",
+    "00000004 6b303037",
+];
+
+const LAST_KEY: &[&str] = &["00000004 6b303038"];
+
 #[test]
 fn all_in_two_fragments(rt: HostRuntime) -> Result<(), Fail> {
     let alloc = rt.alloc();
-    let value = vec![in alloc; b'x'; 1_024]?;
-    let keys: [&[u8]; 7] = [
-        b"k001", b"k002", b"k003", b"k004", b"k005", b"k006", b"k007",
+    let value: &[u8] = &[b'x'; 1_024];
+    let rows: [Row<'_>; 8] = [
+        (b"k001", value),
+        (b"k002", value),
+        (b"k003", value),
+        (b"k004", value),
+        (b"k005", value),
+        (b"k006", value),
+        (b"k007", value),
+        (b"k008", &value[..840]),
     ];
-    let mut rows = Vec::new(alloc);
-    for key in keys {
-        rows.push((key, value.as_slice()))?;
-    }
-    rows.push((b"k008".as_slice(), &value[..840]))?;
-    let call = call(alloc, ALL, &[LAB, HOSTS])?;
-    let mut wanted = reply(alloc, &[SUCCESS])?;
-    for key in [
-        "00000004 6b303031",
-        "00000004 6b303032",
-        "00000004 6b303033",
-        "00000004 6b303034",
-        "00000004 6b303035",
-        "00000004 6b303036",
-        "00000004 6b303037",
-    ] {
-        extend_with_item(&mut wanted, alloc, "00000400", 1_024, key)?;
-    }
-    extend_with_item(&mut wanted, alloc, "00000348", 840, "00000004 6b303038")?;
-    wanted.extend_from_slice(&bytes(alloc, &[END])?)?;
+    let call = call(&rt, alloc, ALL, &[LAB, HOSTS])?;
+    let mut wanted = reply(&rt, alloc, &[SUCCESS])?;
+    extend_with_items(&rt, alloc, &mut wanted, "00000400", 1_024, KEYS)?;
+    extend_with_items(&rt, alloc, &mut wanted, "00000348", 840, LAST_KEY)?;
+    extend(&rt, &mut wanted, &bytes(alloc, &[END])?);
     assert_eq!(rt; wanted.len(), 8_196);
     assert!(rt; reply_on(&rt, alloc, &rows, &call) == wanted);
     Ok(())

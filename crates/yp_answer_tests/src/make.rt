@@ -57,7 +57,25 @@ fn asked<'a>(
     }
 }
 
-// The reply to a call that isn't left open.
+// The reply to a call that isn't left open, put into this buffer.
+fn replied_by(
+    rt: &impl Abort,
+    alloc: Global,
+    path: Path,
+    board: &mut PlainBoard,
+    addr: [u8; 4],
+    call: &[u8],
+    buf: &mut [u8],
+) -> Vec<u8>
+    requires { record_max ≤ length buf.old }
+{
+    match asked(path, board, addr, call, buf) {
+        Answered::Reply { len } => front(rt, alloc, buf, len),
+        _ => panic!(rt; "no reply"),
+    }
+}
+
+// The same, with a buffer of its own.
 fn replied(
     rt: &impl Abort,
     alloc: Global,
@@ -66,11 +84,29 @@ fn replied(
     addr: [u8; 4],
     call: &[u8],
 ) -> Vec<u8> {
-    let mut buf = vec![in alloc; 9; RECORD_MAX].expect(rt, "a buffer");
-    match asked(path, board, addr, call, &mut buf) {
-        Answered::Reply { len } => front(rt, alloc, &buf, len),
-        _ => panic!(rt; "no reply"),
+    let mut buf = filled(rt, alloc, 9, RECORD_MAX);
+    replied_by(rt, alloc, path, board, addr, call, &mut buf)
+}
+
+// The replies to a caller at this address.
+fn replies_to(
+    rt: &impl Abort,
+    alloc: Global,
+    board: &mut PlainBoard,
+    addr: [u8; 4],
+    call: &[u8],
+) -> Replies {
+    Replies {
+        by_record: replied(rt, alloc, Path::Stream, board, addr, call),
+        by_datagram: replied(rt, alloc, Path::Datagram, board, addr, call),
     }
+}
+
+// MAKE with these arguments.
+fn make_of(rt: &impl Abort, alloc: Global, arguments: &[&str]) -> Result<Vec<u8>, Fail> {
+    let mut call = bytes(alloc, &[MAKE])?;
+    extend(rt, &mut call, &bytes(alloc, arguments)?);
+    Ok(call)
 }
 
 // Who calls, what is asked for, and the status of the reply.
@@ -141,13 +177,13 @@ fn assert_refuses_makes(
     board: &mut PlainBoard,
 ) -> Result<(), Fail> {
     for &(row, addr, arguments, stat) in REFUSED_MAKES {
-        let mut call = bytes(alloc, &[MAKE])?;
-        call.extend_from_slice(&bytes(alloc, arguments)?)?;
-        let wanted = bytes(alloc, &[MADE, stat])?;
-        for path in [Path::Stream, Path::Datagram] {
-            let reply = replied(rt, alloc, path, board, addr, &call);
-            assert_eq!(rt; reply, wanted, "{row}, on {path:?}");
-        }
+        let call = make_of(rt, alloc, arguments)?;
+        let wanted = Replies {
+            by_record: bytes(alloc, &[MADE, stat])?,
+            by_datagram: bytes(alloc, &[MADE, stat])?,
+        };
+        let came = replies_to(rt, alloc, board, addr, &call);
+        assert_eq!(rt; came, wanted, "{row}");
     }
     Ok(())
 }
@@ -197,16 +233,30 @@ const OTHER_CALLS: &[(&str, &str, &str)] = &[
     ),
 ];
 
+// Compares the replies to such a call from this address.
+fn assert_other_call(
+    rt: &impl Abort,
+    alloc: Global,
+    board: &mut PlainBoard,
+    addr: [u8; 4],
+    row: &str,
+    call: &str,
+    wanted: &str,
+) -> Result<(), Fail> {
+    let call = bytes(alloc, &[call])?;
+    let wanted = Replies {
+        by_record: bytes(alloc, &[wanted])?,
+        by_datagram: bytes(alloc, &[wanted])?,
+    };
+    let came = replies_to(rt, alloc, board, addr, &call);
+    assert_eq!(rt; came, wanted, "{row}");
+    Ok(())
+}
+
 fn assert_other_calls(rt: &impl Abort, alloc: Global, board: &mut PlainBoard) -> Result<(), Fail> {
     for &(row, call, wanted) in OTHER_CALLS {
-        let call = bytes(alloc, &[call])?;
-        let wanted = bytes(alloc, &[wanted])?;
-        for addr in [OWN_HOST, OTHER_HOST] {
-            for path in [Path::Stream, Path::Datagram] {
-                let reply = replied(rt, alloc, path, board, addr, &call);
-                assert_eq!(rt; reply, wanted, "{row}, on {path:?}");
-            }
-        }
+        assert_other_call(rt, alloc, board, OWN_HOST, row, call, wanted)?;
+        assert_other_call(rt, alloc, board, OTHER_HOST, row, call, wanted)?;
     }
     Ok(())
 }
@@ -218,21 +268,42 @@ fn other_calls_of_the_make_program(rt: HostRuntime) -> Result<(), Fail> {
 }
 
 // The xid, the kind and the domain of a call that is left open.
-fn opened(
+#[derive(Debug, PartialEq, Eq, Drop)]
+struct Opened {
+    xid: u32,
+    kind: u32,
+    domain: Vec<u8>,
+}
+
+fn opened_by(
     rt: &impl Abort,
     alloc: Global,
     path: Path,
     board: &mut PlainBoard,
     call: &[u8],
-) -> (u32, u32, Vec<u8>) {
-    let mut buf = vec![in alloc; 9; RECORD_MAX].expect(rt, "a buffer");
-    match asked(path, board, OWN_HOST, call, &mut buf) {
-        Answered::Make { xid, request } => {
-            let domain = Vec::from_slice(alloc, request.domain).expect(rt, "bytes");
-            (xid, request.kind, domain)
-        }
+    buf: &mut [u8],
+) -> Opened
+    requires { record_max ≤ length buf.old }
+{
+    match asked(path, board, OWN_HOST, call, buf) {
+        Answered::Make { xid, request } => Opened {
+            xid,
+            kind: request.kind,
+            domain: Vec::from_slice(alloc, request.domain).expect(rt, "bytes"),
+        },
         _ => panic!(rt; "the MAKE isn't open"),
     }
+}
+
+fn open_make(
+    rt: &impl Abort,
+    alloc: Global,
+    path: Path,
+    board: &mut PlainBoard,
+    call: &[u8],
+) -> Opened {
+    let mut buf = filled(rt, alloc, 9, RECORD_MAX);
+    opened_by(rt, alloc, path, board, call, &mut buf)
 }
 
 // The arguments of calls that are left open, and their domains.
@@ -248,12 +319,15 @@ const OPEN: &[(&str, &[&str], &[u8])] = &[
 
 fn assert_open(rt: &impl Abort, alloc: Global, board: &mut PlainBoard) -> Result<(), Fail> {
     for &(row, arguments, domain) in OPEN {
-        let mut call = bytes(alloc, &[MAKE])?;
-        call.extend_from_slice(&bytes(alloc, arguments)?)?;
+        let call = make_of(rt, alloc, arguments)?;
         for path in [Path::Stream, Path::Datagram] {
-            let (xid, kind, asked) = opened(rt, alloc, path, board, &call);
-            assert_eq!(rt; (xid, kind), (2, 5), "{row}, on {path:?}");
-            assert_eq!(rt; asked.as_slice(), domain, "{row}, on {path:?}");
+            let wanted = Opened {
+                xid: 2,
+                kind: 5,
+                domain: Vec::from_slice(alloc, domain).expect(rt, "bytes"),
+            };
+            let came = open_make(rt, alloc, path, board, &call);
+            assert_eq!(rt; came, wanted, "{row}, on {path:?}");
         }
     }
     Ok(())
@@ -265,21 +339,29 @@ fn open_makes(rt: HostRuntime) -> Result<(), Fail> {
     assert_open(&rt, rt.alloc(), &mut board)
 }
 
+// The statuses of a MAKE that was tried.
+const STATUSES: &[(XfrStat, &str)] = &[
+    (XfrStat::Succ, "00000001"),
+    (XfrStat::Age, "00000002"),
+    (XfrStat::Rsrc, "fffffffd"),
+    (XfrStat::Dbm, "fffffff8"),
+    (XfrStat::File, "fffffff7"),
+    (XfrStat::Refused, "fffffff2"),
+];
+
+// The reply to a MAKE of this status.
+fn made(rt: &impl Abort, alloc: Global, stat: XfrStat) -> Vec<u8> {
+    let mut buf = filled(rt, alloc, 9, DATAGRAM_MAX);
+    let len = make_reply(&mut buf, 2, stat);
+    front(rt, alloc, &buf, len)
+}
+
 #[test]
 fn replies_to_makes(rt: HostRuntime) -> Result<(), Fail> {
     let alloc = rt.alloc();
-    let mut buf = vec![in alloc; 9; DATAGRAM_MAX]?;
-    for (stat, word) in [
-        (XfrStat::Succ, "00000001"),
-        (XfrStat::Age, "00000002"),
-        (XfrStat::Rsrc, "fffffffd"),
-        (XfrStat::Dbm, "fffffff8"),
-        (XfrStat::File, "fffffff7"),
-        (XfrStat::Refused, "fffffff2"),
-    ] {
+    for &(stat, word) in STATUSES {
         let wanted = bytes(alloc, &[MADE, word])?;
-        let len = make_reply(&mut buf, 2, stat);
-        assert_eq!(rt; &buf[..len], wanted.as_slice(), "{stat:?}");
+        assert_eq!(rt; made(&rt, alloc, stat), wanted, "{stat:?}");
     }
     Ok(())
 }

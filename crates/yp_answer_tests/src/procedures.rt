@@ -248,12 +248,13 @@ const ON_BOTH_PATHS: &[Case] = &[
 
 fn assert_answers(rt: &impl Abort, alloc: Global, board: &mut PlainBoard) -> Result<(), Fail> {
     for case in ON_BOTH_PATHS {
-        let call = call(alloc, case.procedure, case.arguments)?;
-        let wanted = reply(alloc, case.words)?;
-        let by_record = record_reply(rt, alloc, board, OPEN_PORT, &call);
-        assert_eq!(rt; by_record, wanted, "{}", case.row);
-        let by_datagram = datagram_reply(rt, alloc, board, OPEN_PORT, &call);
-        assert_eq!(rt; by_datagram, wanted, "{}, in a datagram", case.row);
+        let call = call(rt, alloc, case.procedure, case.arguments)?;
+        let wanted = Replies {
+            by_record: reply(rt, alloc, case.words)?,
+            by_datagram: reply(rt, alloc, case.words)?,
+        };
+        let came = answers_to(rt, alloc, board, OPEN_PORT, &call);
+        assert_eq!(rt; came, wanted, "{}", case.row);
     }
     Ok(())
 }
@@ -316,14 +317,14 @@ const ALL_OF: &[Case] = &[
 ];
 
 fn assert_answers_all(rt: &impl Abort, alloc: Global, board: &mut PlainBoard) -> Result<(), Fail> {
-    let unknown = reply(alloc, &[PROC_UNAVAIL])?;
     for case in ALL_OF {
-        let call = call(alloc, case.procedure, case.arguments)?;
-        let wanted = reply(alloc, case.words)?;
-        let by_record = record_reply(rt, alloc, board, OPEN_PORT, &call);
-        assert_eq!(rt; by_record, wanted, "{}", case.row);
-        let by_datagram = datagram_reply(rt, alloc, board, OPEN_PORT, &call);
-        assert_eq!(rt; by_datagram, unknown, "{}, in a datagram", case.row);
+        let call = call(rt, alloc, case.procedure, case.arguments)?;
+        let wanted = Replies {
+            by_record: reply(rt, alloc, case.words)?,
+            by_datagram: reply(rt, alloc, &[PROC_UNAVAIL])?,
+        };
+        let came = answers_to(rt, alloc, board, OPEN_PORT, &call);
+        assert_eq!(rt; came, wanted, "{}", case.row);
     }
     Ok(())
 }

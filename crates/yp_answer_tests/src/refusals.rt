@@ -71,11 +71,12 @@ const REFUSED: &[(&str, &str, &str)] = &[
 fn assert_refuses(rt: &impl Abort, alloc: Global, board: &mut PlainBoard) -> Result<(), Fail> {
     for &(row, record, wanted) in REFUSED {
         let record = bytes(alloc, &[record])?;
-        let wanted = bytes(alloc, &[wanted])?;
-        let by_record = record_reply(rt, alloc, board, RESERVED_PORT, &record);
-        assert_eq!(rt; by_record, wanted, "{row}");
-        let by_datagram = datagram_reply(rt, alloc, board, RESERVED_PORT, &record);
-        assert_eq!(rt; by_datagram, wanted, "{row}, in a datagram");
+        let wanted = Replies {
+            by_record: bytes(alloc, &[wanted])?,
+            by_datagram: bytes(alloc, &[wanted])?,
+        };
+        let came = answers_to(rt, alloc, board, RESERVED_PORT, &record);
+        assert_eq!(rt; came, wanted, "{row}");
     }
     Ok(())
 }

@@ -160,25 +160,45 @@ pub fn two_domains<R: RandomSource + Abort>(rt: &R, alloc: Global) -> PlainBoard
 
 // ---- calls and replies
 
+// Adds bytes.
+pub fn extend(rt: &impl Abort, bytes: &mut Vec<u8>, more: &[u8]) {
+    bytes.extend_from_slice(more).expect(rt, "memory");
+}
+
+// Adds so many bytes.
+pub fn extend_with(rt: &impl Abort, alloc: Global, bytes: &mut Vec<u8>, byte: u8, count: usize) {
+    extend(rt, bytes, &filled(rt, alloc, byte, count));
+}
+
+// So many bytes.
+pub fn filled(rt: &impl Abort, alloc: Global, byte: u8, count: usize) -> Vec<u8>
+    ensures { length result.items ≡ count }
+{
+    vec![in alloc; byte; count].expect(rt, "memory")
+}
+
 // A call with the xid 7 of a procedure, without credential or verifier.
-pub fn call(alloc: Global, procedure: &str, arguments: &[&str]) -> Result<Vec<u8>, Fail> {
-    let head = [
-        "00000007 00000000 00000002 000186a4 00000002",
-        procedure,
-        "00000000 00000000 00000000 00000000",
-    ];
-    let mut call = bytes(alloc, &head)?;
-    call.extend_from_slice(&bytes(alloc, arguments)?)?;
+pub fn call(
+    rt: &impl Abort,
+    alloc: Global,
+    procedure: &str,
+    arguments: &[&str],
+) -> Result<Vec<u8>, Fail> {
+    let head = "00000007 00000000 00000002 000186a4 00000002";
+    let unchecked = "00000000 00000000 00000000 00000000";
+    let mut call = bytes(alloc, &[head, procedure, unchecked])?;
+    let arguments = bytes(alloc, arguments)?;
+    extend(rt, &mut call, &arguments);
     Ok(call)
 }
 
 // The reply to it, from its status on, or silence where there is nothing.
-pub fn reply(alloc: Global, words: &[&str]) -> Result<Vec<u8>, Fail> {
-    if words.is_empty() {
+pub fn reply(rt: &impl Abort, alloc: Global, texts: &[&str]) -> Result<Vec<u8>, Fail> {
+    if texts.is_empty() {
         return Ok(Vec::new(alloc));
     }
     let mut reply = bytes(alloc, &["00000007 00000001 00000000 00000000 00000000"])?;
-    reply.extend_from_slice(&bytes(alloc, words)?)?;
+    extend(rt, &mut reply, &bytes(alloc, texts)?);
     Ok(reply)
 }
 
@@ -217,18 +237,18 @@ fn piece(
     front(rt, alloc, buf, len)
 }
 
-// The answer to a record of a stream, in the pieces in which it goes out. Behind the last one they are empty.
-pub fn pieces(
+// The answer to a record of a stream, in the pieces in which it goes out, each put into this buffer.
+fn pieces_by(
     rt: &impl Abort,
     alloc: Global,
     board: &mut PlainBoard,
-    peer: Peer,
+    port: u16,
     record: &[u8],
     buf: &mut [u8],
 ) -> Vec<Vec<u8>>
     requires { record_max ≤ length buf.old }
 {
-    match answer(board, record, peer, buf) {
+    match answer(board, record, caller(port), buf) {
         Answered::Silent => Vec::new(alloc),
         Answered::Reply { len } => {
             vec![in alloc; front(rt, alloc, buf, len)].expect(rt, "a piece")
@@ -244,6 +264,18 @@ pub fn pieces(
     }
 }
 
+// The same, with a buffer of its own. Behind the last piece they are empty.
+pub fn pieces(
+    rt: &impl Abort,
+    alloc: Global,
+    board: &mut PlainBoard,
+    port: u16,
+    record: &[u8],
+) -> Vec<Vec<u8>> {
+    let mut buf = filled(rt, alloc, 9, RECORD_MAX);
+    pieces_by(rt, alloc, board, port, record, &mut buf)
+}
+
 // The whole answer to a record of a stream.
 pub fn record_reply(
     rt: &impl Abort,
@@ -252,15 +284,33 @@ pub fn record_reply(
     port: u16,
     record: &[u8],
 ) -> Vec<u8> {
-    let mut buf = vec![in alloc; 9; RECORD_MAX].expect(rt, "a buffer");
     let mut reply = Vec::new(alloc);
-    for piece in &pieces(rt, alloc, board, caller(port), record, &mut buf) {
-        reply.extend_from_slice(piece).expect(rt, "bytes");
+    for piece in &pieces(rt, alloc, board, port, record) {
+        extend(rt, &mut reply, piece);
     }
     reply
 }
 
-// The answer to a call in a datagram.
+// The answer to a call in a datagram, put into this buffer.
+fn datagram_reply_by(
+    rt: &impl Abort,
+    alloc: Global,
+    board: &mut PlainBoard,
+    port: u16,
+    call: &[u8],
+    buf: &mut [u8],
+) -> Vec<u8>
+    requires { datagram_max ≤ length buf.old }
+{
+    match answer_datagram(board, call, caller(port), buf) {
+        Answered::Silent => Vec::new(alloc),
+        Answered::Reply { len } => front(rt, alloc, buf, len),
+        Answered::Stream(_) => panic!(rt; "a stream for a datagram"),
+        Answered::Make { .. } => panic!(rt; "a MAKE that is left open"),
+    }
+}
+
+// The same, with a buffer of its own.
 pub fn datagram_reply(
     rt: &impl Abort,
     alloc: Global,
@@ -268,11 +318,26 @@ pub fn datagram_reply(
     port: u16,
     call: &[u8],
 ) -> Vec<u8> {
-    let mut buf = vec![in alloc; 9; DATAGRAM_MAX].expect(rt, "a buffer");
-    match answer_datagram(board, call, caller(port), &mut buf) {
-        Answered::Silent => Vec::new(alloc),
-        Answered::Reply { len } => front(rt, alloc, &buf, len),
-        Answered::Stream(_) => panic!(rt; "a stream for a datagram"),
-        Answered::Make { .. } => panic!(rt; "a MAKE that is left open"),
+    let mut buf = filled(rt, alloc, 9, DATAGRAM_MAX);
+    datagram_reply_by(rt, alloc, board, port, call, &mut buf)
+}
+
+// What a call is answered as a record and as a datagram.
+#[derive(Debug, PartialEq, Eq, Drop)]
+pub struct Replies {
+    pub by_record: Vec<u8>,
+    pub by_datagram: Vec<u8>,
+}
+
+pub fn answers_to(
+    rt: &impl Abort,
+    alloc: Global,
+    board: &mut PlainBoard,
+    port: u16,
+    call: &[u8],
+) -> Replies {
+    Replies {
+        by_record: record_reply(rt, alloc, board, port, call),
+        by_datagram: datagram_reply(rt, alloc, board, port, call),
     }
 }

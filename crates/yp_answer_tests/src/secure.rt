@@ -68,20 +68,28 @@ const SECURE: &[Case] = &[
     },
 ];
 
+// Compares the reply to a caller at this port.
+fn assert_shown(
+    rt: &impl Abort,
+    alloc: Global,
+    board: &mut PlainBoard,
+    case: &Case,
+    port: u16,
+    texts: &[&str],
+) -> Result<(), Fail> {
+    let call = call(rt, alloc, case.procedure, case.arguments)?;
+    let wanted = reply(rt, alloc, texts)?;
+    let came = record_reply(rt, alloc, board, port, &call);
+    assert_eq!(rt; came, wanted, "{} from port {port}", case.row);
+    Ok(())
+}
+
 fn assert_secure_rows(rt: &impl Abort, alloc: Global, board: &mut PlainBoard) -> Result<(), Fail> {
     for case in SECURE {
-        let call = call(alloc, case.procedure, case.arguments)?;
-        let open = reply(alloc, case.open)?;
-        let reserved = reply(alloc, case.reserved)?;
-        for (port, wanted) in [
-            (1_024, &open),
-            (65_535, &open),
-            (1_023, &reserved),
-            (0, &reserved),
-        ] {
-            let by_record = record_reply(rt, alloc, board, port, &call);
-            assert_eq!(rt; &by_record, wanted, "{} from port {port}", case.row);
-        }
+        assert_shown(rt, alloc, board, case, 1_024, case.open)?;
+        assert_shown(rt, alloc, board, case, 65_535, case.open)?;
+        assert_shown(rt, alloc, board, case, 1_023, case.reserved)?;
+        assert_shown(rt, alloc, board, case, 0, case.reserved)?;
     }
     Ok(())
 }

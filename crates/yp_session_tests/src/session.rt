@@ -221,8 +221,24 @@ fn ends(rt: HostRuntime) -> Result<(), Fail> {
     assert_ends(&rt, alloc, &mut session, &mut host)
 }
 
-// What comes of each step over a wire of three records and a torn one, and how many records and bytes of replies there
-// are then.
+// What comes of a step, and how many records and bytes of replies there are then.
+#[derive(Clone, Copy, Debug, PartialEq, Eq)]
+struct Stepped {
+    step: Step,
+    calls: u64,
+    taken: usize,
+}
+
+fn step(session: &mut Session, host: &mut TestHost, wire: &mut MemWire) -> Stepped {
+    let step = session.step(wire, host, PEER);
+    Stepped {
+        step,
+        calls: session.calls(),
+        taken: wire.sink.taken().len(),
+    }
+}
+
+// The steps over a wire of three records and a torn one.
 const STEPS: &[(Step, u64, usize)] = &[
     (Step::Answered, 1, 28),
     (Step::Answered, 2, 28),
@@ -231,15 +247,35 @@ const STEPS: &[(Step, u64, usize)] = &[
 ];
 
 fn assert_steps(rt: &impl Abort, session: &mut Session, host: &mut TestHost, wire: &mut MemWire) {
-    assert_eq!(rt; session.calls(), 0);
-    for (step, calls, taken) in STEPS {
-        assert_eq!(rt; session.step(wire, host, PEER), *step);
-        assert_eq!(rt; session.calls(), *calls, "behind {step:?}");
-        assert_eq!(rt; wire.sink.taken().len(), *taken, "behind {step:?}");
+    for &(step_wanted, calls, taken) in STEPS {
+        let wanted = Stepped {
+            step: step_wanted,
+            calls,
+            taken,
+        };
+        assert_eq!(rt; step(session, host, wire), wanted);
     }
+}
+
+// What comes of a step behind a new beginning: the records before it, and the step.
+fn step_anew(session: &mut Session, host: &mut TestHost, wire: &mut MemWire) -> (u64, Step) {
     session.begin();
-    assert_eq!(rt; session.calls(), 0);
-    assert_eq!(rt; session.step(wire, host, PEER), Step::Ended(End::Clean));
+    let calls = session.calls();
+    (calls, session.step(wire, host, PEER))
+}
+
+fn assert_calls(rt: &impl Abort, session: &Session, calls: u64) {
+    assert_eq!(rt; session.calls(), calls);
+}
+
+fn assert_begins_anew(
+    rt: &impl Abort,
+    session: &mut Session,
+    host: &mut TestHost,
+    wire: &mut MemWire,
+) {
+    let came = step_anew(session, host, wire);
+    assert_eq!(rt; came, (0, Step::Ended(End::Clean)));
 }
 
 #[test]
@@ -249,22 +285,34 @@ fn step_by_step(rt: HostRuntime) -> Result<(), Fail> {
     let mut session = Session::new(alloc).expect(&rt, "a session");
     let mut host = host_with(&rt, alloc, &[]);
     let mut wire = wire(&rt, alloc, input, NEVER, NEVER);
+    assert_calls(&rt, &session, 0);
     assert_steps(&rt, &mut session, &mut host, &mut wire);
+    assert_begins_anew(&rt, &mut session, &mut host, &mut wire);
     Ok(())
 }
 
+fn extend(rt: &impl Abort, bytes: &mut Vec<u8>, more: &[u8]) {
+    bytes.extend_from_slice(more).expect(rt, "memory");
+}
+
+// Adds an item of ALL, whose key has 4 bytes.
+fn extend_with_item(rt: &impl Abort, output: &mut Vec<u8>, key: &[u8], value: &[u8]) {
+    extend(rt, output, &[0, 0, 0, 1, 0, 0, 0, 1]);
+    extend(rt, output, &(value.len() as u64).to_be_bytes()[4..]);
+    extend(rt, output, value);
+    extend(rt, output, &[0, 0, 0, 4]);
+    extend(rt, output, key);
+}
+
 // The 8,196 bytes of the reply to `ALL` where these are the rows, in two fragments.
-fn two_fragments(alloc: Global, rows: &[(&[u8], &[u8])]) -> Result<Vec<u8>, Fail> {
+fn two_fragments(rt: &impl Abort, alloc: Global, rows: &[(&[u8], &[u8])]) -> Result<Vec<u8>, Fail> {
     let head = "00002000 00000004 00000001 00000000 00000000 00000000 00000000";
     let mut output = bytes(alloc, &[head])?;
+    let last = bytes(alloc, &["80000004 00000000"])?;
     for (key, value) in rows {
-        output.extend_from_slice(&[0, 0, 0, 1, 0, 0, 0, 1])?;
-        output.extend_from_slice(&(value.len() as u64).to_be_bytes()[4..])?;
-        output.extend_from_slice(*value)?;
-        output.extend_from_slice(&[0, 0, 0, 4])?;
-        output.extend_from_slice(*key)?;
+        extend_with_item(rt, &mut output, *key, *value);
     }
-    output.extend_from_slice(&bytes(alloc, &["80000004 00000000"])?)?;
+    extend(rt, &mut output, &last);
     Ok(output)
 }
 
@@ -299,7 +347,7 @@ fn all_in_two_fragments(rt: HostRuntime) -> Result<(), Fail> {
         end: End::Clean,
         calls: 1,
         left: 0,
-        output: two_fragments(alloc, &rows)?,
+        output: two_fragments(&rt, alloc, &rows)?,
     };
     assert_eq!(rt; wanted.output.len(), 4 + 8_192 + 4 + 4);
     assert_eq!(rt; run_over(&rt, alloc, &rows, input), wanted);
