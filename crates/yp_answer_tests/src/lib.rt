@@ -2,4 +2,14 @@
 #![tactic(auto)]
 
 #[cfg(test)]
-mod calls;
+mod lengths;
+#[cfg(test)]
+mod make;
+#[cfg(test)]
+mod procedures;
+#[cfg(test)]
+mod refusals;
+#[cfg(test)]
+mod sample;
+#[cfg(test)]
+mod secure;

@@ -2,4 +2,8 @@
 #![tactic(auto)]
 
 #[cfg(test)]
-mod board;
+mod catalog;
+#[cfg(test)]
+mod plain;
+#[cfg(test)]
+mod sample;

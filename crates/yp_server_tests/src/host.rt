@@ -1,55 +1,222 @@
-//! Sessions over stored maps that are made anew. Calls, replies and files are written out by hand, from RFC 5531
-//! sections 9 and 11, yp.x and docs/FORMATS.md.
+//! Sessions over stored maps that are made anew.
 
-mod connection;
-
+use crate::sample::*;
 use std::alloc::Global;
 use std::process::Abort;
 use std::test::Fail;
-use yp_board::{Catalog, MapName, PlainBoard};
-use yp_io::{MemDisk, MemSink, MemSource, MemTexts, Pair, Peer, SetClock, TextFile};
+use yp_board::{Catalog, PlainBoard};
+use yp_for_tests::bytes;
+use yp_io::{MemDisk, MemTexts, Peer, SetClock};
 use yp_publish::{Publisher, laws, load_all};
 use yp_server::*;
 use yp_session::{End, Session};
 use yp_slot::Slot;
 
-// MATCH of `alpha` in hosts.byname of `lab`, behind its transaction, and the replies to it.
-const MATCH: &str = "00000000 00000002 000186a4 00000002 00000003 00000000 00000000 00000000
-    00000000 00000003 6c616200 0000000c 686f7374 732e6279 6e616d65 00000005 616c7068 61000000";
+type MemHost = LocalHost<MemDisk, PlainBoard, MemTexts, SetClock, HostRuntime>;
 
-const VALUE_OF: &str = "00000001 00000000 00000000 00000000 00000000 00000001 0000000e 31302e30
-    2e302e31 20616c70 68610000";
+// A host over the one map of a catalogue, with its file on a disk.
+fn host_of(
+    rt: &impl Abort,
+    runtime: HostRuntime,
+    alloc: Global,
+    catalog: Catalog,
+    disk: MemDisk,
+    desk: MemDesk,
+) -> MemHost {
+    let disks = vec![in alloc; disk].expect(rt, "a disk");
+    let loaded = load_all(alloc, &runtime, disks).expect(rt, "a loaded disk");
+    let start = loaded.shown(alloc).expect(rt, "versions");
+    assert_fits(rt, start.len(), &catalog);
+    let of_board = catalog.copy(alloc).expect(rt, "a catalogue");
+    let of_host = catalog.copy(alloc).expect(rt, "a catalogue");
+    laws::starts_are_shown();
+    let board = PlainBoard::new(alloc, of_board, start).expect(rt, "a board");
+    let publisher = Publisher::new(loaded, catalog, board);
+    LocalHost::new(alloc, runtime, publisher, desk, of_host)
+}
 
+// How a session ended, and what it wrote.
+#[derive(Debug, PartialEq, Eq, Drop)]
+struct Replied {
+    end: End,
+    output: Vec<u8>,
+}
+
+// Runs a session over a wire with this input.
+fn run_session(
+    rt: &impl Abort,
+    alloc: Global,
+    session: &mut Session,
+    host: &mut MemHost,
+    peer: Peer,
+    input: Vec<u8>,
+) -> Replied {
+    let mut wire = wire_of(alloc, input);
+    let end = session.run(&mut wire, host, peer, 9);
+    let output = Vec::from_slice(alloc, wire.sink.taken()).expect(rt, "bytes");
+    Replied { end, output }
+}
+
+// What a file stands for: the order of its version and whether that is secure, and its generation.
+#[derive(Clone, Copy, Debug, PartialEq, Eq)]
+struct Stored {
+    version: Option<(u32, bool)>,
+    generation: u64,
+}
+
+fn load_stored(
+    rt: &impl Abort,
+    runtime: HostRuntime,
+    alloc: Global,
+    slot: &mut Slot<MemDisk>,
+) -> Stored {
+    let version = slot.load(alloc, &runtime).expect(rt, "a file");
+    Stored {
+        version: version.map(|version| (version.order(), version.secure())),
+        generation: slot.generation(),
+    }
+}
+
+// What the file of a host stands for.
+fn stored_by(rt: &impl Abort, runtime: HostRuntime, alloc: Global, host: MemHost) -> Stored {
+    let (publisher, _) = host.into_parts();
+    let (mut disks, _) = publisher.into_parts();
+    let mut slot = Slot::new(disks.pop().expect(rt, "a disk"));
+    load_stored(rt, runtime, alloc, &mut slot)
+}
+
+// A host, a call of MAKE and what is wanted of it: the status, the reply to MATCH behind it, and what the file stands
+// for then.
+#[derive(Clone, Copy)]
+struct Making<'a> {
+    row: &'a str,
+    own: &'a [u8],
+    file: &'a [&'a str],
+    text: &'a [u8],
+    // The read of the text that fails.
+    failing: u64,
+    moment: u32,
+    peer: Peer,
+    kind: &'a str,
+    stat: &'a str,
+    answer: &'a [&'a str],
+    stored: Stored,
+}
+
+// What a making takes.
+#[derive(Drop)]
+struct Taken {
+    file: Vec<u8>,
+    text: Vec<u8>,
+    make: Vec<u8>,
+    look_up: Vec<u8>,
+}
+
+fn taken_by(alloc: Global, making: &Making<'_>) -> Result<Taken, Fail> {
+    Ok(Taken {
+        file: bytes(alloc, making.file)?,
+        text: Vec::from_slice(alloc, making.text)?,
+        make: bytes(alloc, &["80000034 00000002", MAKE, making.kind])?,
+        look_up: bytes(alloc, &["8000004c 00000003", MATCH])?,
+    })
+}
+
+// What came of a making.
+#[derive(Debug, PartialEq, Eq, Drop)]
+struct Came {
+    made: Replied,
+    looked_up: Replied,
+    stored: Stored,
+}
+
+fn wanted_of(alloc: Global, making: &Making<'_>) -> Result<Came, Fail> {
+    let made = bytes(alloc, &["8000001c 00000002", MADE, making.stat])?;
+    let looked_up = bytes(alloc, making.answer)?;
+    Ok(Came {
+        made: Replied {
+            end: End::Clean,
+            output: made,
+        },
+        looked_up: Replied {
+            end: End::Clean,
+            output: looked_up,
+        },
+        stored: making.stored,
+    })
+}
+
+// Makes a map, looks up a key of it, and looks at its file.
+fn came_of(
+    rt: &impl Abort,
+    runtime: HostRuntime,
+    alloc: Global,
+    making: &Making<'_>,
+    taken: Taken,
+) -> Came {
+    let Taken {
+        file,
+        text,
+        make,
+        look_up,
+    } = taken;
+    let disk = MemDisk::new(alloc, file, None, Vec::new(alloc));
+    let desk = desk_of(rt, alloc, text, making.moment, making.failing);
+    let catalog = catalog_of(rt, alloc, making.own, &[b"lab"]);
+    let mut session = Session::new(alloc).expect(rt, "a session");
+    let mut host = host_of(rt, runtime, alloc, catalog, disk, desk);
+    let made = run_session(rt, alloc, &mut session, &mut host, making.peer, make);
+    let looked_up = run_session(rt, alloc, &mut session, &mut host, making.peer, look_up);
+    let stored = stored_by(rt, runtime, alloc, host);
+    Came {
+        made,
+        looked_up,
+        stored,
+    }
+}
+
+// Makes maps, each over a host of its own, and compares what comes.
+fn assert_makes(
+    rt: &impl Abort,
+    runtime: HostRuntime,
+    alloc: Global,
+    makings: &[Making<'_>],
+) -> Result<(), Fail> {
+    for making in makings {
+        let taken = taken_by(alloc, making)?;
+        let wanted = wanted_of(alloc, making)?;
+        let came = came_of(rt, runtime, alloc, making, taken);
+        assert_eq!(rt; came, wanted, "{}", making.row);
+    }
+    Ok(())
+}
+
+// The numbers of hosts.byname, and of no kind.
+const HOSTS: &str = "00000005";
+
+const NO_KIND: &str = "00000063";
+
+// The statuses of MAKE.
+const SUCC: &str = "00000001";
+
+const AGE: &str = "00000002";
+
+const NOMAP: &str = "ffffffff";
+
+const DBM: &str = "fffffff8";
+
+const FILE: &str = "fffffff7";
+
+const REFUSED: &str = "fffffff2";
+
+// The replies to MATCH.
 const VALUE: &[&str] = &["80000030 00000003", VALUE_OF];
 
 const NO_MAP: &[&str] = &["80000020 00000003", NO_MAP_OF];
 
-// A secure map has YPERR for callers at ports from 1024 on.
-const YPERR: &[&str] = &[
-    "80000020 00000003",
-    "00000001 00000000 00000000 00000000 00000000 fffffffa 00000000",
-];
+const YPERR: &[&str] = &["80000020 00000003", YPERR_OF];
 
-const NO_MAP_OF: &str = "00000001 00000000 00000000 00000000 00000000 ffffffff 00000000";
-
-// MAKE in `lab`, behind its transaction and up to the kind, and the reply up to the status.
-const MAKE: &str = "00000000 00000002 20004e49 00000001 00000001 00000000 00000000 00000000
-    00000000 00000003 6c616200";
-
-const MADE: &str = "00000001 00000000 00000000 00000000 00000000";
-
-// The first cell of a file of 116 bytes, at generation 1 and at the last one, and its second cell.
-const FIRST_CELL: &str = "01000000 00000000 00000000 00000001 00000000 00000040 00000000 00000034";
-
+// The first cell of a file at the last generation.
 const LAST_CELL: &str = "01000000 00000000 ffffffff ffffffff 00000000 00000040 00000000 00000034";
-
-const SECOND_CELL: &str = "00000000 00000000 00000000 00000000 00000000 00000000 00000000 00000000";
-
-// Master `m1` and the row `alpha`, `10.0.0.1 alpha`, behind the format of a body and its order.
-const REST: &str = "00000002 6d310000 00000001 00000005 616c7068 61000000
-    0000000e 31302e30 2e302e31 20616c70 68610000";
-
-const HOSTS_FILE: &[&str] = &[FIRST_CELL, SECOND_CELL, "00000001 00000064", REST];
 
 const SECURE_FILE: &[&str] = &[FIRST_CELL, SECOND_CELL, "00000002 00000064", REST];
 
@@ -57,297 +224,141 @@ const LAST_ORDER: &[&str] = &[FIRST_CELL, SECOND_CELL, "00000001 ffffffff", REST
 
 const LAST_GENERATION: &[&str] = &[LAST_CELL, SECOND_CELL, "00000001 00000064", REST];
 
-const TEXT: &[u8] = b"10.0.0.1 alpha\n";
-
-const OWN_HOST: Peer = Peer {
-    addr: [127, 0, 0, 1],
-    port: 40000,
+// A map that is made, on an empty file.
+const EMPTY: Making<'static> = Making {
+    row: "made on an empty file",
+    own: b"m1",
+    file: &[],
+    text: TEXT,
+    failing: NEVER,
+    moment: 100,
+    peer: OWN_HOST,
+    kind: HOSTS,
+    stat: SUCC,
+    answer: VALUE,
+    stored: Stored {
+        version: Some((100, false)),
+        generation: 1,
+    },
 };
 
-type MemHost = LocalHost<MemDisk, PlainBoard, MemTexts, SetClock, HostRuntime>;
+// One that isn't.
+const UNMADE: Making<'static> = Making {
+    answer: NO_MAP,
+    stored: Stored {
+        version: None,
+        generation: 0,
+    },
+    ..EMPTY
+};
 
-// The bytes of texts of hexadecimal words.
-fn bytes_of(alloc: Global, texts: &[&str]) -> Result<Vec<u8>, Fail> {
-    let mut bytes = Vec::new(alloc);
-    for word in texts.iter().flat_map(|text| text.split_whitespace()) {
-        bytes.extend_from_slice(&hex::decode(alloc, word)?)?;
-    }
-    Ok(bytes)
-}
-
-// A desk with this text of hosts, at a moment. A read of it with this number fails.
-fn desk_of(
-    alloc: Global,
-    text: &[u8],
-    moment: u32,
-    failing: u64,
-) -> Result<Desk<MemTexts, SetClock>, Fail> {
-    let hosts = (TextFile::Hosts, Vec::from_slice(alloc, text)?);
-    Ok(Desk {
-        texts: MemTexts::new(vec![in alloc; hosts]?, vec![in alloc; failing]?),
-        clock: SetClock { moment },
-    })
-}
-
-// A host of this name over hosts.byname of `lab`, with its file on a disk.
-fn host_of(
-    rt: &impl Abort,
-    runtime: HostRuntime,
-    alloc: Global,
-    own: &[u8],
-    disk: MemDisk,
-    desk: Desk<MemTexts, SetClock>,
-) -> Result<MemHost, Fail> {
-    let loaded = load_all(alloc, &runtime, vec![in alloc; disk]?).expect(rt, "a loaded disk");
-    let start = loaded.shown(alloc).expect(rt, "versions");
-    let name = MapName {
-        domain: Vec::from_slice(alloc, b"lab")?,
-        map: Vec::from_slice(alloc, b"hosts.byname")?,
-    };
-    let own = Vec::from_slice(alloc, own)?;
-    let catalog = Catalog::new(alloc, own, vec![in alloc; name]?).expect(rt, "a catalogue");
-    let of_board = catalog.copy(alloc).expect(rt, "a catalogue");
-    let of_host = catalog.copy(alloc).expect(rt, "a catalogue");
-    assert_eq!(rt; start.len(), catalog.len() as usize);
-    laws::starts_are_shown();
-    let board = PlainBoard::new(alloc, of_board, start).expect(rt, "a board");
-    let publisher = Publisher::new(loaded, catalog, board);
-    Ok(LocalHost::new(alloc, runtime, publisher, desk, of_host))
-}
-
-// Runs a session, and gives what it wrote.
-fn written(
-    rt: &impl Abort,
-    alloc: Global,
-    host: &mut MemHost,
-    peer: Peer,
-    input: &[&str],
-) -> Result<Vec<u8>, Fail> {
-    let mut wire = Pair {
-        source: MemSource::new(bytes_of(alloc, input)?, 1000, Vec::new(alloc)),
-        sink: MemSink::new(alloc, 1000, Vec::new(alloc)),
-    };
-    let mut session = Session::new(alloc)?;
-    assert_eq!(rt; session.run(&mut wire, host, peer, 9), End::Clean);
-    Ok(Vec::from_slice(alloc, wire.sink.taken())?)
-}
-
-// What the file of a host stands for: its order, whether it is secure, and its generation.
-fn stored(
-    rt: &impl Abort,
-    runtime: HostRuntime,
-    alloc: Global,
-    host: MemHost,
-) -> Result<(Option<(u32, bool)>, u64), Fail> {
-    let (publisher, _) = host.into_parts();
-    let (mut disks, _) = publisher.into_parts();
-    let mut slot = Slot::new(disks.pop().expect(rt, "a disk"));
-    let version = slot.load(alloc, &runtime).expect(rt, "a file");
-    let found = version.map(|version| (version.order(), version.secure()));
-    Ok((found, slot.generation()))
-}
-
-const NEVER: u64 = u64::MAX;
-
-// Whether the reply to MAKE has this status.
-fn is_made(
-    rt: &impl Abort,
-    alloc: Global,
-    host: &mut MemHost,
-    peer: Peer,
-    kind: &str,
-    stat: &str,
-) -> Result<bool, Fail> {
-    let output = written(rt, alloc, host, peer, &["80000034 00000002", MAKE, kind])?;
-    let reply = bytes_of(alloc, &["8000001c 00000002", MADE, stat])?;
-    Ok(output == reply)
-}
-
-// Whether the reply to MATCH is this.
-fn is_answered(
-    rt: &impl Abort,
-    alloc: Global,
-    host: &mut MemHost,
-    peer: Peer,
-    answer: &[&str],
-) -> Result<bool, Fail> {
-    let output = written(rt, alloc, host, peer, &["8000004c 00000003", MATCH])?;
-    Ok(output == bytes_of(alloc, answer)?)
-}
-
-// What a call of MAKE is answered, the reply to MATCH behind it, and what the file stands for then.
-#[derive(Clone, Copy)]
-struct Wanted<'a> {
-    stat: &'a str,
-    answer: &'a [&'a str],
-    stored: (Option<(u32, bool)>, u64),
-}
-
-// Makes a map of this kind for a caller.
-fn try_make(
-    rt: &impl Abort,
-    runtime: HostRuntime,
-    alloc: Global,
-    mut host: MemHost,
-    peer: Peer,
-    kind: &str,
-    wanted: &Wanted<'_>,
-) -> Result<(), Fail> {
-    assert!(rt; is_made(rt, alloc, &mut host, peer, kind, wanted.stat)?);
-    assert!(rt; is_answered(rt, alloc, &mut host, peer, wanted.answer)?);
-    assert_eq!(rt; stored(rt, runtime, alloc, host)?, wanted.stored);
-    Ok(())
-}
-
-// A host of this name over a file, at a moment.
-fn host_over(
-    rt: &impl Abort,
-    runtime: HostRuntime,
-    alloc: Global,
-    own: &[u8],
-    file: &[&str],
-    moment: u32,
-) -> Result<MemHost, Fail> {
-    let disk = MemDisk::new(alloc, bytes_of(alloc, file)?, None, Vec::new(alloc));
-    let desk = desk_of(alloc, TEXT, moment, NEVER)?;
-    host_of(rt, runtime, alloc, own, disk, desk)
-}
-
-// The kind of hosts.byname.
-const HOSTS: &str = "00000005";
-
-#[test]
-fn made_on_an_empty_file(rt: HostRuntime) -> Result<(), Fail> {
-    let host = host_over(&rt, rt, rt.alloc(), b"m1", &[], 100)?;
-    let wanted = Wanted {
-        stat: "00000001",
-        answer: VALUE,
-        stored: (Some((100, false)), 1),
-    };
-    try_make(&rt, rt, rt.alloc(), host, OWN_HOST, HOSTS, &wanted)
-}
-
-#[test]
-fn order_rises_where_the_clock_does_not(rt: HostRuntime) -> Result<(), Fail> {
-    let host = host_over(&rt, rt, rt.alloc(), b"m1", HOSTS_FILE, 100)?;
-    let wanted = Wanted {
-        stat: "00000001",
-        answer: VALUE,
-        stored: (Some((101, false)), 2),
-    };
-    try_make(&rt, rt, rt.alloc(), host, OWN_HOST, HOSTS, &wanted)
-}
-
-#[test]
-fn order_follows_the_clock(rt: HostRuntime) -> Result<(), Fail> {
-    let host = host_over(&rt, rt, rt.alloc(), b"m1", HOSTS_FILE, 200)?;
-    let wanted = Wanted {
-        stat: "00000001",
-        answer: VALUE,
-        stored: (Some((200, false)), 2),
-    };
-    try_make(&rt, rt, rt.alloc(), host, OWN_HOST, HOSTS, &wanted)
-}
-
-#[test]
-fn secure_map_stays_secure(rt: HostRuntime) -> Result<(), Fail> {
-    let host = host_over(&rt, rt, rt.alloc(), b"m1", SECURE_FILE, 100)?;
-    let wanted = Wanted {
-        stat: "00000001",
+const MADE_MAPS: &[Making<'static>] = &[
+    EMPTY,
+    Making {
+        row: "the order rises where the clock does not",
+        file: HOSTS_FILE,
+        stored: Stored {
+            version: Some((101, false)),
+            generation: 2,
+        },
+        ..EMPTY
+    },
+    Making {
+        row: "the order follows the clock",
+        file: HOSTS_FILE,
+        moment: 200,
+        stored: Stored {
+            version: Some((200, false)),
+            generation: 2,
+        },
+        ..EMPTY
+    },
+    Making {
+        row: "a secure map stays secure",
+        file: SECURE_FILE,
         answer: YPERR,
-        stored: (Some((101, true)), 2),
-    };
-    try_make(&rt, rt, rt.alloc(), host, OWN_HOST, HOSTS, &wanted)
-}
+        stored: Stored {
+            version: Some((101, true)),
+            generation: 2,
+        },
+        ..EMPTY
+    },
+];
 
 #[test]
-fn make_from_another_host(rt: HostRuntime) -> Result<(), Fail> {
-    let host = host_over(&rt, rt, rt.alloc(), b"m1", &[], 100)?;
-    let other = Peer {
-        addr: [10, 0, 0, 9],
-        port: 40000,
-    };
-    let wanted = Wanted {
-        stat: "fffffff2",
-        answer: NO_MAP,
-        stored: (None, 0),
-    };
-    try_make(&rt, rt, rt.alloc(), host, other, HOSTS, &wanted)
+fn made_maps(rt: HostRuntime) -> Result<(), Fail> {
+    assert_makes(&rt, rt, rt.alloc(), MADE_MAPS)
 }
 
-#[test]
-fn make_of_unknown_kind(rt: HostRuntime) -> Result<(), Fail> {
-    let host = host_over(&rt, rt, rt.alloc(), b"m1", &[], 100)?;
-    let wanted = Wanted {
-        stat: "ffffffff",
-        answer: NO_MAP,
-        stored: (None, 0),
-    };
-    try_make(&rt, rt, rt.alloc(), host, OWN_HOST, "00000063", &wanted)
-}
+const UNMADE_MAPS: &[Making<'static>] = &[
+    Making {
+        row: "a call from another host",
+        peer: Peer {
+            addr: [10, 0, 0, 9],
+            port: 40000,
+        },
+        stat: REFUSED,
+        ..UNMADE
+    },
+    Making {
+        row: "an unknown kind",
+        kind: NO_KIND,
+        stat: NOMAP,
+        ..UNMADE
+    },
+    Making {
+        row: "a text that is not read",
+        failing: 0,
+        stat: FILE,
+        ..UNMADE
+    },
+    Making {
+        row: "another master",
+        own: b"m2",
+        file: HOSTS_FILE,
+        stat: REFUSED,
+        ..EMPTY
+    },
+    Making {
+        row: "the orders are spent",
+        file: LAST_ORDER,
+        stat: AGE,
+        stored: Stored {
+            version: Some((u32::MAX, false)),
+            generation: 1,
+        },
+        ..EMPTY
+    },
+    Making {
+        row: "the generations are spent",
+        file: LAST_GENERATION,
+        stat: FILE,
+        stored: Stored {
+            version: Some((100, false)),
+            generation: u64::MAX,
+        },
+        ..EMPTY
+    },
+];
 
 #[test]
-fn text_that_is_not_read(rt: HostRuntime) -> Result<(), Fail> {
-    let alloc = rt.alloc();
-    let disk = MemDisk::new(alloc, Vec::new(alloc), None, Vec::new(alloc));
-    let desk = desk_of(alloc, TEXT, 100, 0)?;
-    let host = host_of(&rt, rt, alloc, b"m1", disk, desk)?;
-    let wanted = Wanted {
-        stat: "fffffff7",
-        answer: NO_MAP,
-        stored: (None, 0),
-    };
-    try_make(&rt, rt, alloc, host, OWN_HOST, HOSTS, &wanted)
+fn unmade_maps(rt: HostRuntime) -> Result<(), Fail> {
+    assert_makes(&rt, rt, rt.alloc(), UNMADE_MAPS)
 }
 
-#[test]
-fn make_by_another_master(rt: HostRuntime) -> Result<(), Fail> {
-    let host = host_over(&rt, rt, rt.alloc(), b"m2", HOSTS_FILE, 100)?;
-    let wanted = Wanted {
-        stat: "fffffff2",
-        answer: VALUE,
-        stored: (Some((100, false)), 1),
-    };
-    try_make(&rt, rt, rt.alloc(), host, OWN_HOST, HOSTS, &wanted)
-}
-
-#[test]
-fn order_spent(rt: HostRuntime) -> Result<(), Fail> {
-    let host = host_over(&rt, rt, rt.alloc(), b"m1", LAST_ORDER, 100)?;
-    let wanted = Wanted {
-        stat: "00000002",
-        answer: VALUE,
-        stored: (Some((u32::MAX, false)), 1),
-    };
-    try_make(&rt, rt, rt.alloc(), host, OWN_HOST, HOSTS, &wanted)
-}
-
-#[test]
-fn generations_spent(rt: HostRuntime) -> Result<(), Fail> {
-    let host = host_over(&rt, rt, rt.alloc(), b"m1", LAST_GENERATION, 100)?;
-    let wanted = Wanted {
-        stat: "fffffff7",
-        answer: VALUE,
-        stored: (Some((100, false)), u64::MAX),
-    };
-    try_make(&rt, rt, rt.alloc(), host, OWN_HOST, HOSTS, &wanted)
-}
+// One byte more than a key may have.
+const LONG_KEY: &[u8] = &[b'a'; 65_537];
 
 #[test]
 fn row_past_a_limit(rt: HostRuntime) -> Result<(), Fail> {
     let alloc = rt.alloc();
     let mut text = Vec::from_slice(alloc, b"10.0.0.1 ")?;
-    text.extend_from_slice(&vec![in alloc; b'a'; 65_537]?)?;
-    let disk = MemDisk::new(alloc, Vec::new(alloc), None, Vec::new(alloc));
-    let mut host = host_of(
-        &rt,
-        rt,
-        alloc,
-        b"m1",
-        disk,
-        desk_of(alloc, &text, 100, NEVER)?,
-    )?;
-    assert!(&rt; is_made(&rt, alloc, &mut host, OWN_HOST, "00000005", "fffffff8")?);
-    assert_eq!(&rt; stored(&rt, rt, alloc, host)?, (None, 0));
-    Ok(())
+    text.extend_from_slice(LONG_KEY)?;
+    let making = Making {
+        row: "a row past a limit",
+        text: &text,
+        stat: DBM,
+        ..UNMADE
+    };
+    assert_makes(&rt, rt, alloc, &[making])
 }

@@ -2,4 +2,10 @@
 #![tactic(auto)]
 
 #[cfg(test)]
+mod host;
+#[cfg(test)]
+mod make;
+#[cfg(test)]
+mod sample;
+#[cfg(test)]
 mod session;

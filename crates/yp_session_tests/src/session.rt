@@ -1,26 +1,14 @@
 //! Wires written out by hand, from RFC 5531 sections 9 and 11 and yp.x.
 
-mod host;
-mod make;
-
-use host::TestHost;
-use std::alloc::{AllocError, Global};
+use crate::host::TestHost;
+use crate::sample::*;
+use std::alloc::Global;
 use std::process::Abort;
 use std::random::RandomSource;
-use std::sync::Arc;
 use std::test::Fail;
-use yp_board::{Catalog, MapName, PlainBoard};
-use yp_io::{MemSink, MemSource, MemWire, Pair, Peer, Source};
+use yp_for_tests::bytes;
+use yp_io::MemWire;
 use yp_session::*;
-use yp_version::{Version, VersionBuilder};
-
-const PEER: Peer = Peer {
-    addr: [127, 0, 0, 1],
-    port: 700,
-};
-
-// The number of a call that is never reached.
-const NEVER: u64 = u64::MAX;
 
 // NULL, in a record of 44 bytes.
 const NULL: &str = "80000028 00000001 00000000 00000002 000186a4 00000002 00000000
@@ -43,83 +31,12 @@ const NONACK: &str = "80000030 00000003 00000000 00000002 000186a4 00000002 0000
 const ALL: &str = "80000038 00000004 00000000 00000002 000186a4 00000002 00000008
     00000000 00000000 00000000 00000000 00000001 64000000 00000001 6d000000";
 
-// The bytes of texts of hexadecimal words.
-fn bytes(alloc: Global, texts: &[&str]) -> Result<Vec<u8>, Fail> {
-    let mut bytes = Vec::new(alloc);
-    for word in texts.iter().flat_map(|text| text.split_whitespace()) {
-        bytes.extend_from_slice(&hex::decode(alloc, word)?)?;
-    }
-    Ok(bytes)
-}
-
-// A wire with this input, whose sink takes at most 10 bytes in a write. These calls of its halves fail.
-fn wire(alloc: Global, input: &[&str], read: u64, write: u64) -> Result<MemWire, Fail> {
-    Ok(Pair {
-        source: MemSource::new(bytes(alloc, input)?, 1000, vec![in alloc; read]?),
-        sink: MemSink::new(alloc, 10, vec![in alloc; write]?),
-    })
-}
-
-// How many bytes of the input of a wire are left, up to 1000.
-fn left(rt: &impl Abort, wire: &mut MemWire) -> usize {
-    let mut buf = [0; 1000];
-    wire.source.read(&mut buf).expect(rt, "a read")
-}
-
-// A version of order 7 with these rows.
-fn version<R: RandomSource + Abort>(rt: &R, alloc: Global, rows: &[(&[u8], &[u8])]) -> Version {
-    let mut builder = VersionBuilder::new(alloc, rt, 7, b"m1").expect(rt, "a builder");
-    for (key, value) in rows {
-        assert_eq!(rt; builder.push(*key, *value), Ok(true));
-    }
-    builder.finish().expect(rt, "a version")
-}
-
-// A host of these maps of the domain `d`, which shows these versions and has another one to show.
-fn host_of(
-    rt: &impl Abort,
-    alloc: Global,
-    maps: &[&[u8]],
-    start: Vec<Option<Arc<Version>>>,
-    next: Option<Arc<Version>>,
-) -> Result<TestHost, AllocError> {
-    let mut names = Vec::new(alloc);
-    for map in maps {
-        names.push(MapName {
-            domain: Vec::from_slice(alloc, b"d")?,
-            map: Vec::from_slice(alloc, *map)?,
-        })?;
-    }
-    let own = Vec::from_slice(alloc, b"m1")?;
-    let catalog = Catalog::new(alloc, own, names).expect(rt, "a catalogue");
-    assert_eq!(rt; start.len(), catalog.len() as usize);
-    Ok(TestHost {
-        board: PlainBoard::new(alloc, catalog, start).expect(rt, "a board"),
-        next,
-        makes: 0,
-        files: 0,
-    })
-}
-
-// A host that shows a version with these rows of the map `m`.
-fn host_with<R: RandomSource + Abort>(
-    rt: &R,
-    alloc: Global,
-    rows: &[(&[u8], &[u8])],
-) -> Result<TestHost, AllocError> {
-    let version = version(rt, alloc, rows);
-    let start = vec![in alloc; Some(Arc::new(alloc, version)?)]?;
-    host_of(rt, alloc, &[b"m"], start, None)
-}
-
 // A wire, and what comes of a session over it.
 #[derive(Clone, Copy)]
 struct Row {
+    name: &'static str,
     input: &'static [&'static str],
-    // The call of the source that fails, and that of the sink.
-    read: u64,
-    write: u64,
-    most: u8,
+    bounds: Bounds,
     end: End,
     calls: u64,
     // The bytes of the input that are left.
@@ -128,30 +45,32 @@ struct Row {
 }
 
 const CLEAN: Row = Row {
+    name: "three records",
     input: &[NULL, NONACK, DOMAIN],
-    read: NEVER,
-    write: NEVER,
-    most: 9,
+    bounds: UNBOUNDED,
     end: End::Clean,
     calls: 3,
     left: 0,
     output: &[NULL_REPLY, DOMAIN_REPLY],
 };
 
-const ROWS: [Row; 14] = [
+const ROWS: &[Row] = &[
     CLEAN,
     Row {
+        name: "no record",
         input: &[],
         calls: 0,
         output: &[],
         ..CLEAN
     },
     Row {
+        name: "a torn head",
         input: &[NULL, NONACK, DOMAIN, "800000"],
         end: End::Torn { at: 148 },
         ..CLEAN
     },
     Row {
+        name: "a torn body",
         input: &["80000028 0000"],
         end: End::Torn { at: 0 },
         calls: 0,
@@ -159,6 +78,7 @@ const ROWS: [Row; 14] = [
         ..CLEAN
     },
     Row {
+        name: "a record that is too long",
         input: &[NULL, "80040001 6162"],
         end: End::TooLong { at: 44 },
         calls: 1,
@@ -168,7 +88,11 @@ const ROWS: [Row; 14] = [
     },
     // A head is a call of the source, and so is a body. The three records have 44, 52 and 52 bytes.
     Row {
-        read: 0,
+        name: "the first head isn't read",
+        bounds: Bounds {
+            read: 0,
+            ..UNBOUNDED
+        },
         end: End::ReadFault,
         calls: 0,
         left: 148,
@@ -176,7 +100,11 @@ const ROWS: [Row; 14] = [
         ..CLEAN
     },
     Row {
-        read: 2,
+        name: "the second head isn't read",
+        bounds: Bounds {
+            read: 2,
+            ..UNBOUNDED
+        },
         end: End::ReadFault,
         calls: 1,
         left: 104,
@@ -184,7 +112,11 @@ const ROWS: [Row; 14] = [
         ..CLEAN
     },
     Row {
-        read: 5,
+        name: "the third body isn't read",
+        bounds: Bounds {
+            read: 5,
+            ..UNBOUNDED
+        },
         end: End::ReadFault,
         calls: 2,
         left: 48,
@@ -193,7 +125,11 @@ const ROWS: [Row; 14] = [
     },
     // A reply of 28 bytes is three writes and a flush, one of 32 is four and a flush.
     Row {
-        write: 1,
+        name: "the second write fails",
+        bounds: Bounds {
+            write: 1,
+            ..UNBOUNDED
+        },
         end: End::WriteFault,
         calls: 1,
         left: 104,
@@ -201,7 +137,11 @@ const ROWS: [Row; 14] = [
         ..CLEAN
     },
     Row {
-        write: 3,
+        name: "the flush fails",
+        bounds: Bounds {
+            write: 3,
+            ..UNBOUNDED
+        },
         end: End::WriteFault,
         calls: 1,
         left: 104,
@@ -209,18 +149,30 @@ const ROWS: [Row; 14] = [
         ..CLEAN
     },
     Row {
-        write: 6,
+        name: "the third write of the second reply fails",
+        bounds: Bounds {
+            write: 6,
+            ..UNBOUNDED
+        },
         end: End::WriteFault,
         output: &[NULL_REPLY, "8000001c 00000002 00000001 00000000 00000000"],
         ..CLEAN
     },
     Row {
-        most: 3,
+        name: "as many records as there are",
+        bounds: Bounds {
+            most: 3,
+            ..UNBOUNDED
+        },
         end: End::Enough,
         ..CLEAN
     },
     Row {
-        most: 1,
+        name: "fewer records",
+        bounds: Bounds {
+            most: 1,
+            ..UNBOUNDED
+        },
         end: End::Enough,
         calls: 1,
         left: 104,
@@ -228,7 +180,11 @@ const ROWS: [Row; 14] = [
         ..CLEAN
     },
     Row {
-        most: 0,
+        name: "no record is to be read",
+        bounds: Bounds {
+            most: 0,
+            ..UNBOUNDED
+        },
         end: End::Enough,
         calls: 0,
         left: 148,
@@ -237,74 +193,139 @@ const ROWS: [Row; 14] = [
     },
 ];
 
-fn assert_row(
+fn assert_ends(
     rt: &impl Abort,
     alloc: Global,
     session: &mut Session,
     host: &mut TestHost,
-    row: Row,
 ) -> Result<(), Fail> {
-    let mut wire = wire(alloc, row.input, row.read, row.write)?;
-    let end = session.run(&mut wire, host, PEER, u64::from(row.most));
-    assert_eq!(rt; end, row.end);
-    assert_eq!(rt; session.calls(), row.calls, "at {end:?}");
-    assert_eq!(rt; left(rt, &mut wire), row.left, "at {end:?}");
-    let output = bytes(alloc, row.output)?;
-    assert_eq!(rt; wire.sink.taken(), output.as_slice(), "at {end:?}");
+    for row in ROWS {
+        let input = bytes(alloc, row.input)?;
+        let wanted = Came {
+            end: row.end,
+            calls: row.calls,
+            left: row.left,
+            output: bytes(alloc, row.output)?,
+        };
+        let came = run(rt, alloc, session, host, PEER, input, row.bounds);
+        assert_eq!(rt; came, wanted, "{}", row.name);
+    }
     Ok(())
 }
 
 #[test]
 fn ends(rt: HostRuntime) -> Result<(), Fail> {
     let alloc = rt.alloc();
-    let mut host = host_with(&rt, alloc, &[])?;
-    let mut session = Session::new(alloc)?;
-    for row in ROWS {
-        assert_row(&rt, alloc, &mut session, &mut host, row)?;
+    let mut session = Session::new(alloc).expect(&rt, "a session");
+    let mut host = host_with(&rt, alloc, &[]);
+    assert_ends(&rt, alloc, &mut session, &mut host)
+}
+
+// What comes of a step, and how many records and bytes of replies there are then.
+#[derive(Clone, Copy, Debug, PartialEq, Eq)]
+struct Stepped {
+    step: Step,
+    calls: u64,
+    taken: usize,
+}
+
+fn step(session: &mut Session, host: &mut TestHost, wire: &mut MemWire) -> Stepped {
+    let step = session.step(wire, host, PEER);
+    Stepped {
+        step,
+        calls: session.calls(),
+        taken: wire.sink.taken().len(),
     }
-    Ok(())
+}
+
+// The steps over a wire of three records and a torn one.
+const STEPS: &[(Step, u64, usize)] = &[
+    (Step::Answered, 1, 28),
+    (Step::Answered, 2, 28),
+    (Step::Answered, 3, 60),
+    (Step::Ended(End::Torn { at: 148 }), 3, 60),
+];
+
+fn assert_steps(rt: &impl Abort, session: &mut Session, host: &mut TestHost, wire: &mut MemWire) {
+    for &(step_wanted, calls, taken) in STEPS {
+        let wanted = Stepped {
+            step: step_wanted,
+            calls,
+            taken,
+        };
+        assert_eq!(rt; step(session, host, wire), wanted);
+    }
+}
+
+// What comes of a step behind a new beginning: the records before it, and the step.
+fn step_anew(session: &mut Session, host: &mut TestHost, wire: &mut MemWire) -> (u64, Step) {
+    session.begin();
+    let calls = session.calls();
+    (calls, session.step(wire, host, PEER))
+}
+
+fn assert_calls(rt: &impl Abort, session: &Session, calls: u64) {
+    assert_eq!(rt; session.calls(), calls);
+}
+
+fn assert_begins_anew(
+    rt: &impl Abort,
+    session: &mut Session,
+    host: &mut TestHost,
+    wire: &mut MemWire,
+) {
+    let came = step_anew(session, host, wire);
+    assert_eq!(rt; came, (0, Step::Ended(End::Clean)));
 }
 
 #[test]
 fn step_by_step(rt: HostRuntime) -> Result<(), Fail> {
     let alloc = rt.alloc();
-    let mut host = host_with(&rt, alloc, &[])?;
-    let mut session = Session::new(alloc)?;
-    assert_eq!(rt; session.calls(), 0);
-    let mut wire = wire(alloc, &[NULL, NONACK, DOMAIN, "800000"], NEVER, NEVER)?;
-    // What comes of each step, and how many records and bytes of replies there are then.
-    for (step, calls, taken) in [
-        (Step::Answered, 1, 28),
-        (Step::Answered, 2, 28),
-        (Step::Answered, 3, 60),
-        (Step::Ended(End::Torn { at: 148 }), 3, 60),
-    ] {
-        assert_eq!(rt; session.step(&mut wire, &mut host, PEER), step);
-        assert_eq!(rt; session.calls(), calls);
-        assert_eq!(rt; wire.sink.taken().len(), taken);
-    }
-    session.begin();
-    assert_eq!(rt; session.calls(), 0);
-    assert_eq!(rt;
-        session.step(&mut wire, &mut host, PEER),
-        Step::Ended(End::Clean)
-    );
+    let input = bytes(alloc, &[NULL, NONACK, DOMAIN, "800000"])?;
+    let mut session = Session::new(alloc).expect(&rt, "a session");
+    let mut host = host_with(&rt, alloc, &[]);
+    let mut wire = wire(&rt, alloc, input, NEVER, NEVER);
+    assert_calls(&rt, &session, 0);
+    assert_steps(&rt, &mut session, &mut host, &mut wire);
+    assert_begins_anew(&rt, &mut session, &mut host, &mut wire);
     Ok(())
 }
 
+fn extend(rt: &impl Abort, bytes: &mut Vec<u8>, more: &[u8]) {
+    bytes.extend_from_slice(more).expect(rt, "memory");
+}
+
+// Adds an item of ALL, whose key has 4 bytes.
+fn extend_with_item(rt: &impl Abort, output: &mut Vec<u8>, key: &[u8], value: &[u8]) {
+    extend(rt, output, &[0, 0, 0, 1, 0, 0, 0, 1]);
+    extend(rt, output, &(value.len() as u64).to_be_bytes()[4..]);
+    extend(rt, output, value);
+    extend(rt, output, &[0, 0, 0, 4]);
+    extend(rt, output, key);
+}
+
 // The 8,196 bytes of the reply to `ALL` where these are the rows, in two fragments.
-fn two_fragments(alloc: Global, rows: &[(&[u8], &[u8])]) -> Result<Vec<u8>, Fail> {
+fn two_fragments(rt: &impl Abort, alloc: Global, rows: &[(&[u8], &[u8])]) -> Result<Vec<u8>, Fail> {
     let head = "00002000 00000004 00000001 00000000 00000000 00000000 00000000";
     let mut output = bytes(alloc, &[head])?;
+    let last = bytes(alloc, &["80000004 00000000"])?;
     for (key, value) in rows {
-        output.extend_from_slice(&[0, 0, 0, 1, 0, 0, 0, 1])?;
-        output.extend_from_slice(&(value.len() as u64).to_be_bytes()[4..])?;
-        output.extend_from_slice(*value)?;
-        output.extend_from_slice(&[0, 0, 0, 4])?;
-        output.extend_from_slice(*key)?;
+        extend_with_item(rt, &mut output, *key, *value);
     }
-    output.extend_from_slice(&bytes(alloc, &["80000004 00000000"])?)?;
+    extend(rt, &mut output, &last);
     Ok(output)
+}
+
+// Runs a session over a wire with this input, where these are the rows.
+fn run_over<R: RandomSource + Abort>(
+    rt: &R,
+    alloc: Global,
+    rows: &[(&[u8], &[u8])],
+    input: Vec<u8>,
+) -> Came {
+    let mut session = Session::new(alloc).expect(rt, "a session");
+    let mut host = host_with(rt, alloc, rows);
+    run(rt, alloc, &mut session, &mut host, PEER, input, UNBOUNDED)
 }
 
 #[test]
@@ -321,38 +342,53 @@ fn all_in_two_fragments(rt: HostRuntime) -> Result<(), Fail> {
         (b"k007", value),
         (b"k008", &value[..840]),
     ];
-    let mut host = host_with(&rt, alloc, &rows)?;
-    let mut session = Session::new(alloc)?;
-    let mut wire = wire(alloc, &[ALL], NEVER, NEVER)?;
-    assert_eq!(rt; session.run(&mut wire, &mut host, PEER, 9), End::Clean);
-    assert_eq!(rt; wire.sink.taken().len(), 4 + 8_192 + 4 + 4);
-    assert_eq!(rt; wire.sink.taken(), two_fragments(alloc, &rows)?.as_slice());
+    let input = bytes(alloc, &[ALL])?;
+    let wanted = Came {
+        end: End::Clean,
+        calls: 1,
+        left: 0,
+        output: two_fragments(&rt, alloc, &rows)?,
+    };
+    assert_eq!(rt; wanted.output.len(), 4 + 8_192 + 4 + 4);
+    assert_eq!(rt; run_over(&rt, alloc, &rows, input), wanted);
+    Ok(())
+}
+
+// The call of a first sink that fails, how its session ends, and how many bytes of its 60 were taken.
+const FIRST_WIRES: &[(u64, End, usize)] = &[
+    (NEVER, End::Torn { at: 96 }, 60),
+    (6, End::WriteFault, 48),
+];
+
+fn assert_two_wires(
+    rt: &impl Abort,
+    alloc: Global,
+    session: &mut Session,
+    host: &mut TestHost,
+) -> Result<(), Fail> {
+    // Nothing of the first wire is left in the session.
+    let wanted = Came {
+        end: End::Torn { at: 52 },
+        calls: 1,
+        left: 0,
+        output: bytes(alloc, &[DOMAIN_REPLY])?,
+    };
+    for &(write, end, taken) in FIRST_WIRES {
+        let first = bytes(alloc, &[NULL, DOMAIN, "80"])?;
+        let second = bytes(alloc, &[DOMAIN, "80"])?;
+        let bounds = Bounds { write, ..UNBOUNDED };
+        let came = run(rt, alloc, session, host, PEER, first, bounds);
+        assert_eq!(rt; (came.end, came.calls, came.output.len()), (end, 2, taken));
+        let came = run(rt, alloc, session, host, PEER, second, UNBOUNDED);
+        assert_eq!(rt; came, wanted, "behind {end:?}");
+    }
     Ok(())
 }
 
 #[test]
 fn two_wires(rt: HostRuntime) -> Result<(), Fail> {
     let alloc = rt.alloc();
-    let mut host = host_with(&rt, alloc, &[])?;
-    let mut session = Session::new(alloc)?;
-    // The call of the first sink that fails, and how many bytes of its 60 were taken.
-    for (write, end, taken) in [(NEVER, End::Torn { at: 96 }, 60), (6, End::WriteFault, 48)] {
-        let mut first = wire(alloc, &[NULL, DOMAIN, "80"], NEVER, write)?;
-        assert_eq!(rt; session.run(&mut first, &mut host, PEER, 9), end);
-        assert_eq!(rt; session.calls(), 2);
-        assert_eq!(rt; first.sink.taken().len(), taken);
-
-        // Nothing of the first wire is left in the session.
-        let mut second = wire(alloc, &[DOMAIN, "80"], NEVER, NEVER)?;
-        assert_eq!(rt;
-            session.run(&mut second, &mut host, PEER, 9),
-            End::Torn { at: 52 }
-        );
-        assert_eq!(rt; session.calls(), 1);
-        assert_eq!(rt;
-            second.sink.taken(),
-            bytes(alloc, &[DOMAIN_REPLY])?.as_slice()
-        );
-    }
-    Ok(())
+    let mut session = Session::new(alloc).expect(&rt, "a session");
+    let mut host = host_with(&rt, alloc, &[]);
+    assert_two_wires(&rt, alloc, &mut session, &mut host)
 }

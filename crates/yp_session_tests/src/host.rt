@@ -6,11 +6,11 @@ ghost use Rattle.yp_io.specs.Counts.{next_count};
 ghost use Rattle.yp_msgs.specs.declared.transfer.XfrStat.TheVariants.{Succ, Rsrc};
 ghost use Rattle.yp_board.specs.Views.{IsFront};
 
-use crate::Host;
 use std::sync::Arc;
 use yp_board::{Catalog, PlainBoard, Show, View};
 use yp_io::Peer;
 use yp_msgs::{ReqMake, XfrStat};
+use yp_session::Host;
 use yp_version::Version;
 
 // MAKE of the kinds 1 to 5 has SUCC, REFUSED, AGE, DBM and FILE, and of the others RSRC. SUCC shows the next version of

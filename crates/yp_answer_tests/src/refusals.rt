@@ -1,0 +1,89 @@
+//! Records that are refused before a procedure answers them.
+
+use crate::sample::*;
+use std::alloc::Global;
+use std::process::Abort;
+use std::test::Fail;
+use yp_board::PlainBoard;
+use yp_for_tests::bytes;
+
+// Records, and the whole replies to them.
+const REFUSED: &[(&str, &str, &str)] = &[
+    ("under 12 bytes", "00000002 00000000", ""),
+    ("a reply", "00000002 00000001 00000003", ""),
+    (
+        "a head that isn't whole",
+        "00000002 00000000 00000002 000186a4 00000002 00000000 00000006",
+        "",
+    ),
+    (
+        "the third version of RPC",
+        "00000002 00000000 00000003",
+        "00000002 00000001 00000001 00000000 00000002 00000002",
+    ),
+    (
+        "the flavor 6, before an unknown program",
+        "00000002 00000000 00000002 000186a5 00000001 0000000c 00000006 00000000 00000000 00000000",
+        "00000002 00000001 00000001 00000001 00000002",
+    ),
+    (
+        "AUTH_SYS with a body that isn't looked into",
+        "00000002 00000000 00000002 000186a4 00000002 00000000 00000001 00000003 61626300 00000000 00000000",
+        "00000002 00000001 00000000 00000000 00000000 00000000",
+    ),
+    (
+        "an unknown program, before a wrong version",
+        "00000002 00000000 00000002 000186a5 00000001 0000000c 00000000 00000000 00000000 00000000",
+        "00000002 00000001 00000000 00000000 00000000 00000001",
+    ),
+    (
+        "a wrong version, before an unknown procedure",
+        "00000003 00000000 00000002 000186a4 00000001 0000000c 00000000 00000000 00000000 00000000",
+        "00000003 00000001 00000000 00000000 00000000 00000002 00000002 00000002",
+    ),
+    (
+        "the procedure 12, before its arguments",
+        "00000002 00000000 00000002 000186a4 00000002 0000000c 00000000 00000000 00000000 00000000",
+        "00000002 00000001 00000000 00000000 00000000 00000003",
+    ),
+    (
+        "XFR, before its arguments",
+        "00000002 00000000 00000002 000186a4 00000002 00000006 00000000 00000000 00000000 00000000",
+        "00000002 00000001 00000000 00000000 00000000 00000003",
+    ),
+    (
+        "DOMAIN without arguments",
+        "00000002 00000000 00000002 000186a4 00000002 00000001 00000000 00000000 00000000 00000000",
+        "00000002 00000001 00000000 00000000 00000000 00000004",
+    ),
+    (
+        "DOMAIN_NONACK without arguments",
+        "00000002 00000000 00000002 000186a4 00000002 00000002 00000000 00000000 00000000 00000000",
+        "00000002 00000001 00000000 00000000 00000000 00000004",
+    ),
+    (
+        "MATCH with a name of 65 bytes",
+        "00000002 00000000 00000002 000186a4 00000002 00000003 00000000 00000000 00000000 00000000 00000041",
+        "00000002 00000001 00000000 00000000 00000000 00000004",
+    ),
+];
+
+fn assert_refuses(rt: &impl Abort, alloc: Global, board: &mut PlainBoard) -> Result<(), Fail> {
+    for &(row, record, wanted) in REFUSED {
+        let record = bytes(alloc, &[record])?;
+        let wanted = Replies {
+            by_record: bytes(alloc, &[wanted])?,
+            by_datagram: bytes(alloc, &[wanted])?,
+        };
+        let came = answers_to(rt, alloc, board, RESERVED_PORT, &record);
+        assert_eq!(rt; came, wanted, "{row}");
+    }
+    Ok(())
+}
+
+#[test]
+fn refusal_heads(rt: HostRuntime) -> Result<(), Fail> {
+    let alloc = rt.alloc();
+    let mut board = board_of(&rt, alloc, version(&rt, alloc, &[HOST]));
+    assert_refuses(&rt, alloc, &mut board)
+}

@@ -1,0 +1,175 @@
+//! What a catalogue finds, and which maps make none.
+
+use crate::sample::*;
+use std::alloc::Global;
+use std::process::Abort;
+use yp_board::*;
+
+// Maps that a catalogue of `MAPS` doesn't have.
+const ABSENT: &[Pair<'static>] = &[
+    (b"e", b"b"),
+    (b"", b"a"),
+    (b"e", b""),
+    (b"e", b"aa"),
+    (b"E", b"a"),
+];
+
+// Domains, and whether it serves them.
+const DOMAINS: &[(&[u8], bool)] = &[
+    (b"d", true),
+    (b"e", true),
+    (b"", false),
+    (b"D", false),
+    (b"de", false),
+    (b"a", false),
+];
+
+fn assert_has_no_more(rt: &impl Abort, catalog: &Catalog) {
+    for (domain, map) in ABSENT {
+        assert_eq!(rt; catalog.find(*domain, *map), None, "{domain:?}, {map:?}");
+    }
+    for (domain, served) in DOMAINS {
+        assert_eq!(rt; catalog.serves(*domain), *served, "{domain:?}");
+    }
+}
+
+#[test]
+fn looks_up_maps(rt: HostRuntime) {
+    let catalog = catalog_of(&rt, rt.alloc(), MAPS);
+    assert_looks_up(&rt, &catalog);
+    assert_has_no_more(&rt, &catalog);
+}
+
+#[test]
+fn copies_a_catalogue(rt: HostRuntime) {
+    let alloc = rt.alloc();
+    let catalog = catalog_of(&rt, alloc, MAPS);
+    let copy = catalog.copy(alloc).expect(&rt, "a copy");
+    assert_looks_up(&rt, &copy);
+}
+
+fn assert_empty(rt: &impl Abort, catalog: &Catalog) {
+    assert!(rt; catalog.is_empty());
+    assert_eq!(rt; catalog.len(), 0);
+    assert_eq!(rt; catalog.listed().len(), 0);
+    assert_eq!(rt; catalog.find(b"d", b"m"), None);
+    assert!(rt; !catalog.serves(b"d"));
+}
+
+#[test]
+fn serves_no_map(rt: HostRuntime) {
+    let catalog = catalog_of(&rt, rt.alloc(), &[]);
+    assert_empty(&rt, &catalog);
+}
+
+// How many maps a catalogue of a host has, or why there is none.
+fn count_or_fault(
+    rt: &impl Abort,
+    alloc: Global,
+    own: &[u8],
+    maps: Vec<MapName>,
+) -> Result<u32, CatalogFault> {
+    let own = Vec::from_slice(alloc, own).expect(rt, "a name");
+    match Catalog::new(alloc, own, maps) {
+        Ok(catalog) => Ok(catalog.len()),
+        Err(fault) => Err(fault),
+    }
+}
+
+const LONG: &[u8] = &[b'n'; 65];
+
+const FULL: &[u8] = &[b'n'; 64];
+
+// An own name, maps, and how many there are or the fault that they have.
+const FAULTS: &[(&str, &[u8], &[Pair<'static>], Result<u32, CatalogFault>)] = &[
+    (
+        "no own name, before a bad one",
+        b"",
+        &[(b"", b"m")],
+        Err(CatalogFault::OwnName),
+    ),
+    (
+        "an own name that is too long",
+        LONG,
+        &[],
+        Err(CatalogFault::OwnName),
+    ),
+    ("names as long as they may be", FULL, &[(FULL, FULL)], Ok(1)),
+    (
+        "a map without a name, before a domain without one",
+        b"h",
+        &[(b"d", b"m"), (b"d", b""), (b"", b"m")],
+        Err(CatalogFault::BadName { index: 1 }),
+    ),
+    (
+        "a domain that is too long",
+        b"h",
+        &[(LONG, b"m")],
+        Err(CatalogFault::BadName { index: 0 }),
+    ),
+    (
+        "a map that is too long",
+        b"h",
+        &[(b"d", LONG)],
+        Err(CatalogFault::BadName { index: 0 }),
+    ),
+    (
+        "a bad name behind one that stands twice",
+        b"h",
+        &[(b"d", b"m"), (b"d", b"m"), (b"", b"m")],
+        Err(CatalogFault::BadName { index: 2 }),
+    ),
+    (
+        "a name that stands twice",
+        b"h",
+        &[(b"d", b"m"), (b"e", b"m"), (b"d", b"n"), (b"d", b"m")],
+        Err(CatalogFault::Twice { index: 3 }),
+    ),
+    (
+        "a domain and a map in each other's place",
+        b"h",
+        &[(b"d", b"m"), (b"e", b"m"), (b"d", b"n"), (b"m", b"d")],
+        Ok(4),
+    ),
+];
+
+#[test]
+fn refuses_maps(rt: HostRuntime) {
+    let alloc = rt.alloc();
+    for (row, own, pairs, wanted) in FAULTS {
+        let maps = names(&rt, alloc, *pairs);
+        let made = count_or_fault(&rt, alloc, *own, maps);
+        assert_eq!(rt; made, *wanted, "{row}");
+    }
+}
+
+// Names of maps of the domain `d`, each of one byte: 0, 1, and so on.
+fn numbered(rt: &impl Abort, alloc: Global, count: u8) -> Vec<MapName> {
+    let mut names = Vec::new(alloc);
+    for byte in 0..count {
+        names
+            .push(name(rt, alloc, (b"d", &[byte])))
+            .expect(rt, "a name");
+    }
+    names
+}
+
+// So many numbered maps, with the map 5 once more behind them.
+fn numbered_and_five(rt: &impl Abort, alloc: Global, count: u8) -> Vec<MapName> {
+    let mut names = numbered(rt, alloc, count);
+    names
+        .push(name(rt, alloc, (b"d", b"\x05")))
+        .expect(rt, "a name");
+    names
+}
+
+#[test]
+fn at_most_64_maps(rt: HostRuntime) {
+    let alloc = rt.alloc();
+    let full = count_or_fault(&rt, alloc, b"h", numbered(&rt, alloc, 64));
+    assert_eq!(rt; full, Ok(64));
+    let over = count_or_fault(&rt, alloc, b"h", numbered(&rt, alloc, 65));
+    assert_eq!(rt; over, Err(CatalogFault::TooMany));
+    let twice = count_or_fault(&rt, alloc, b"h", numbered_and_five(&rt, alloc, 65));
+    assert_eq!(rt; twice, Err(CatalogFault::Twice { index: 65 }));
+}

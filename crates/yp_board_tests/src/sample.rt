@@ -1,0 +1,59 @@
+//! Maps of two domains, and what is looked up in a catalogue of them.
+
+use std::alloc::Global;
+use std::process::Abort;
+use yp_board::*;
+
+// A map, by its domain and its name.
+pub type Pair<'a> = (&'a [u8], &'a [u8]);
+
+pub fn name(rt: &impl Abort, alloc: Global, (domain, map): Pair<'_>) -> MapName {
+    MapName {
+        domain: Vec::from_slice(alloc, domain).expect(rt, "a domain"),
+        map: Vec::from_slice(alloc, map).expect(rt, "a map"),
+    }
+}
+
+pub fn names(rt: &impl Abort, alloc: Global, pairs: &[Pair<'_>]) -> Vec<MapName> {
+    let mut names = Vec::new(alloc);
+    for pair in pairs {
+        names.push(name(rt, alloc, *pair)).expect(rt, "a name");
+    }
+    names
+}
+
+// Maps out of order. The byte 128 comes behind all letters.
+pub const MAPS: &[Pair<'static>] = &[
+    (b"e", b"a"),
+    (b"d", b"b\x80"),
+    (b"d", b"z"),
+    (b"d", b"bz"),
+    (b"d", b"b"),
+];
+
+// A catalogue of these maps, of the host `m1`.
+pub fn catalog_of(rt: &impl Abort, alloc: Global, pairs: &[Pair<'_>]) -> Catalog {
+    let own = Vec::from_slice(alloc, b"m1").expect(rt, "a name");
+    Catalog::new(alloc, own, names(rt, alloc, pairs)).expect(rt, "a catalogue")
+}
+
+// The map with this number of a catalogue, and its name.
+fn assert_finds(rt: &impl Abort, catalog: &Catalog, number: u32, pair: Pair<'_>) {
+    let (domain, map) = pair;
+    assert_eq!(rt; catalog.find(domain, map), Some(number));
+    assert!(rt; number < catalog.len());
+    let name = catalog.name(number);
+    assert_eq!(rt; name.domain.as_slice(), domain, "at {number}");
+    assert_eq!(rt; name.map.as_slice(), map, "at {number}");
+}
+
+// What is looked up in a catalogue of `MAPS`.
+pub fn assert_looks_up(rt: &impl Abort, catalog: &Catalog) {
+    assert_eq!(rt; catalog.own(), b"m1".as_slice());
+    assert!(rt; !catalog.is_empty());
+    assert_eq!(rt; catalog.len(), 5);
+    assert_eq!(rt; catalog.listed(), [4, 3, 1, 2, 0].as_slice());
+    for (place, pair) in MAPS.iter().enumerate() {
+        assert_finds(rt, catalog, place as u32, *pair);
+    }
+}
