@@ -2,18 +2,11 @@
 
 ghost use Rattle.std.specs.Prelude.{◌≡◌};
 
+use std::alloc::Global;
 use std::test::*;
+use yp_for_tests::bytes;
 use yp_msgs::*;
 use yp_xdr::{Cursor, NoRoom, XdrFault};
-
-/// The bytes of a text of hexadecimal words.
-fn bytes_of(rt: HostRuntime, text: &str) -> Result<Vec<u8>, Fail> {
-    let mut bytes = Vec::new(rt.alloc());
-    for word in text.split_whitespace() {
-        bytes.extend_from_slice(&hex::decode(rt.alloc(), word)?)?;
-    }
-    Ok(bytes)
-}
 
 const LAB: &str = "00000003 6c616200";
 
@@ -27,10 +20,7 @@ const ADDRESS: &str = "0000000e 31302e30 2e302e31 20616c70 68610000";
 fn is_written<M: Message>(rt: HostRuntime, message: &M, parts: &[&str]) -> Result<bool, Fail>
     requires { M.is_within message.now }
 {
-    let mut bytes = Vec::new(rt.alloc());
-    for part in parts {
-        bytes.extend_from_slice(&bytes_of(rt, part)?)?;
-    }
+    let bytes = bytes(rt.alloc(), parts)?;
     let mut buf = [9; 96];
     let len = message.len();
     let end = message.write(&mut buf, 0);
@@ -98,21 +88,30 @@ fn transfers_written(rt: HostRuntime) -> Result<(), Fail> {
     Ok(())
 }
 
+// The status, the value and the key of a row, whether the end follows, and how far the cursor is then.
+type RowAndEnd<'a> = (Option<(YpStat, &'a [u8], &'a [u8])>, bool, usize);
+
+fn read_row_and_end(bytes: &[u8]) -> RowAndEnd<'_> {
+    let mut cursor = Cursor::new(bytes);
+    let row = match AllItem::read(&mut cursor) {
+        Ok(AllItem::More(row)) => Some((row.stat, row.val, row.key)),
+        _ => None,
+    };
+    let is_end = matches!(AllItem::read(&mut cursor), Ok(AllItem::End));
+    (row, is_end, cursor.at())
+}
+
 #[test]
 fn value_before_key(rt: HostRuntime) -> Result<(), Fail> {
-    let bytes = bytes_of(
-        rt,
-        "00000001 00000001 0000000e 31302e30 2e302e31 20616c70 68610000 00000005 616c7068 61000000 00000000",
-    )?;
-    let mut cursor = Cursor::new(&bytes);
-    let Ok(AllItem::More(row)) = AllItem::read(&mut cursor) else {
-        return Err("an item".into());
-    };
-    assert_eq!(rt; row.stat, YpStat::True);
-    assert_eq!(rt; row.val, b"10.0.0.1 alpha".as_slice());
-    assert_eq!(rt; row.key, b"alpha".as_slice());
-    assert!(rt; matches!(AllItem::read(&mut cursor), Ok(AllItem::End)));
-    assert_eq!(rt; cursor.at(), 44);
+    let items =
+        "00000001 00000001 0000000e 31302e30 2e302e31 20616c70 68610000 00000005 616c7068 61000000 00000000";
+    let bytes = bytes(rt.alloc(), &[items])?;
+    let row = (
+        YpStat::True,
+        b"10.0.0.1 alpha".as_slice(),
+        b"alpha".as_slice(),
+    );
+    assert_eq!(rt; read_row_and_end(&bytes), (Some(row), true, 44));
     Ok(())
 }
 
@@ -131,11 +130,11 @@ fn statuses(rt: HostRuntime) -> Result<(), Fail> {
         (YpStat::Badargs, "fffffff9"),
         (YpStat::Vers, "fffffff8"),
     ] {
-        let bytes = bytes_of(rt, text)?;
+        let bytes = bytes(rt.alloc(), &[text])?;
         assert_eq!(rt; YpStat::read(&mut Cursor::new(&bytes)), Ok(stat));
     }
     for text in ["00000003", "fffffff7"] {
-        let bytes = bytes_of(rt, text)?;
+        let bytes = bytes(rt.alloc(), &[text])?;
         assert_eq!(rt;
             YpStat::read(&mut Cursor::new(&bytes)),
             Err(XdrFault::BadEnum { at: 0 })
@@ -144,39 +143,68 @@ fn statuses(rt: HostRuntime) -> Result<(), Fail> {
     Ok(())
 }
 
+// The status of a list, how many names it has, and the first three.
+#[derive(Debug, PartialEq, Eq, Drop)]
+struct Listed {
+    stat: YpStat,
+    len: usize,
+    names: [Option<Vec<u8>>; 3],
+}
+
+// The name with this number.
+fn name(alloc: Global, list: &MapList, i: usize) -> Option<Vec<u8>> {
+    list.maps.get(i).and_then(|name| name.to_vec(alloc).ok())
+}
+
+// A list of maps, and how far the cursor is then.
+fn read_list(alloc: Global, bytes: &[u8]) -> (Result<Listed, MapListFault>, usize) {
+    let mut cursor = Cursor::new(bytes);
+    let listed = MapList::read(alloc, &mut cursor).map(|list| Listed {
+        stat: list.stat,
+        len: list.maps.len(),
+        names: [
+            name(alloc, &list, 0),
+            name(alloc, &list, 1),
+            name(alloc, &list, 2),
+        ],
+    });
+    (listed, cursor.at())
+}
+
 #[test]
 fn names_of_maps(rt: HostRuntime) -> Result<(), Fail> {
-    let bytes = bytes_of(
-        rt,
-        "00000001 00000001 00000002 6d310000 00000001 0000000c 686f7374 732e6279 6e616d65 00000000",
-    )?;
-    let mut cursor = Cursor::new(&bytes);
-    let Ok(list) = MapList::read(rt.alloc(), &mut cursor) else {
-        return Err("a list".into());
-    };
-    assert_eq!(rt; list.stat, YpStat::True);
-    assert_eq!(rt; list.maps.len(), 2);
-    assert_eq!(rt; list.maps.get(0), Some(b"m1".as_slice()));
-    assert_eq!(rt; list.maps.get(1), Some(b"hosts.byname".as_slice()));
-    assert_eq!(rt; list.maps.get(2), None);
-    assert_eq!(rt; cursor.at(), 40);
+    let alloc = rt.alloc();
+    let items =
+        "00000001 00000001 00000002 6d310000 00000001 0000000c 686f7374 732e6279 6e616d65 00000000";
+    let whole = bytes(alloc, &[items])?;
     // The list isn't ended.
-    let bytes = bytes_of(rt, "00000001 00000001 00000002 6d310000")?;
-    let mut cursor = Cursor::new(&bytes);
-    let read = MapList::read(rt.alloc(), &mut cursor);
-    assert!(rt; matches!(read, Err(MapListFault::Xdr(XdrFault::Short { at: 16 }))));
-    assert_eq!(rt; cursor.at(), 0);
+    let short = bytes(alloc, &["00000001 00000001 00000002 6d310000"])?;
+    let listed = Listed {
+        stat: YpStat::True,
+        len: 2,
+        names: [
+            Some(b"m1".to_vec(alloc)?),
+            Some(b"hosts.byname".to_vec(alloc)?),
+            None,
+        ],
+    };
+    let fault = MapListFault::Xdr(XdrFault::Short { at: 16 });
+    assert_eq!(rt; read_list(alloc, &whole), (Ok(listed), 40));
+    assert_eq!(rt; read_list(alloc, &short), (Err(fault), 0));
     Ok(())
 }
 
 #[test]
 fn limits(rt: HostRuntime) -> Result<(), Fail> {
     // A name of 65 bytes, a key of 65,537.
-    let bytes = bytes_of(rt, "00000041")?;
-    let read = ReqDomain::read(&mut Cursor::new(&bytes));
+    let name = bytes(rt.alloc(), &["00000041"])?;
+    let read = ReqDomain::read(&mut Cursor::new(&name));
     assert!(rt; matches!(read, Err(XdrFault::TooLong { at: 0, len: 65 })));
-    let bytes = bytes_of(rt, "00000003 6c616200 00000002 6d310000 00010001")?;
-    let read = ReqKey::read(&mut Cursor::new(&bytes));
+    let key = bytes(
+        rt.alloc(),
+        &["00000003 6c616200 00000002 6d310000 00010001"],
+    )?;
+    let read = ReqKey::read(&mut Cursor::new(&key));
     assert!(rt;
         matches!(
             read,

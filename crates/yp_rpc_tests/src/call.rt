@@ -1,8 +1,11 @@
 //! Records written out by hand, from RFC 5531 sections 8.2 and 9.
 
-use crate::spelled;
+ghost use Rattle.std.specs.Prelude.{◌≤◌};
+
 use std::test::Fail;
+use yp_for_tests::bytes;
 use yp_rpc::*;
+use yp_xdr::NoRoom;
 
 // A call of YPPROC_MATCH for the key "alpha" of the map "hosts.byname" in the domain "lab".
 const MATCH: &str = "00000001 00000000 00000002 000186a4 00000002 00000003 00000000 00000000 \
@@ -11,6 +14,9 @@ const MATCH: &str = "00000001 00000000 00000002 000186a4 00000002 00000003 00000
 
 // The words of a call of YPPROC_NULL in front of its credential.
 const NULL: &str = "ffffffff 00000000 00000002 000186a4 00000001 00000000";
+
+// No credential and no verifier.
+const NO_AUTH: &str = "00000000 00000000 00000000 00000000";
 
 // What is heard of it, with this flavor of the credential, and this place of the arguments.
 fn null_call(flavor: u32, body: usize) -> Heard {
@@ -26,7 +32,7 @@ fn null_call(flavor: u32, body: usize) -> Heard {
 
 #[test]
 fn a_call_of_match(rt: HostRuntime) -> Result<(), Fail> {
-    let bytes = spelled::bytes(rt.alloc(), MATCH)?;
+    let bytes = bytes(rt.alloc(), &[MATCH])?;
     let call = Heard::Call(CallHead {
         xid: 1,
         prog: 100_004,
@@ -78,8 +84,7 @@ fn credentials_and_verifiers(rt: HostRuntime) -> Result<(), Fail> {
         ),
     ];
     for (text, heard) in cases {
-        let mut bytes = spelled::bytes(rt.alloc(), NULL)?;
-        bytes.extend_from_slice(&spelled::bytes(rt.alloc(), text)?)?;
+        let bytes = bytes(rt.alloc(), &[NULL, text])?;
         assert_eq!(rt; read_call(&bytes), heard, "of {text}");
     }
     Ok(())
@@ -96,8 +101,7 @@ fn at_the_limit_of_a_body(rt: HostRuntime) -> Result<(), Fail> {
         ("00000000 00000000 00000001 80000000", Heard::Noise),
     ];
     for (text, heard) in cases {
-        let mut bytes = spelled::bytes(rt.alloc(), NULL)?;
-        bytes.extend_from_slice(&spelled::bytes(rt.alloc(), text)?)?;
+        let mut bytes = bytes(rt.alloc(), &[NULL, text])?;
         // Zeros, enough for 401 bytes with their padding and for a verifier behind them.
         bytes.extend_from_slice(&[0; 800])?;
         assert_eq!(rt; read_call(&bytes), heard, "of {text}");
@@ -145,45 +149,51 @@ fn other_versions_and_noise(rt: HostRuntime) -> Result<(), Fail> {
         ),
     ];
     for (text, heard) in cases {
-        let bytes = spelled::bytes(rt.alloc(), text)?;
+        let bytes = bytes(rt.alloc(), &[text])?;
         assert_eq!(rt; read_call(&bytes), heard, "of {text}");
     }
     Ok(())
 }
 
+// The answer to writing a head into so much room, and the whole buffer, of which each byte was 9.
+fn write_head(numbers: [u32; 4], room: usize) -> (Result<usize, NoRoom>, [u8; 44])
+    requires { room ≤ 44 }
+{
+    let [xid, prog, vers, procedure] = numbers;
+    let mut buf = [9; 44];
+    let answer = write_call(&mut buf[..room], xid, prog, vers, procedure);
+    (answer, buf)
+}
+
 #[test]
 fn heads_written(rt: HostRuntime) -> Result<(), Fail> {
     let alloc = rt.alloc();
-    for (xid, prog, vers, procedure, front) in [
+    // The number of a call, the program, its version and the procedure, and what stands before the credential.
+    for (numbers, front) in [
         (
-            1,
-            100_004,
-            2,
-            3,
+            [1, 100_004, 2, 3],
             "00000001 00000000 00000002 000186a4 00000002 00000003",
         ),
-        (u32::MAX, 100_004, 1, 0, NULL),
+        ([u32::MAX, 100_004, 1, 0], NULL),
         (
-            2,
-            536_890_953,
-            1,
-            1,
+            [2, 536_890_953, 1, 1],
             "00000002 00000000 00000002 20004e49 00000001 00000001",
         ),
     ] {
-        let mut want = spelled::bytes(alloc, front)?;
-        want.extend_from_slice(&[0; 16])?;
+        let mut whole = [9; 44];
+        let want = bytes(alloc, &[front, NO_AUTH])?;
+        assert_eq!(rt; want.len(), 40, "{front}");
+        for (byte, to) in want.iter().zip(whole.iter_mut()) {
+            *to = *byte;
+        }
         for room in 0..=44 {
-            let mut buf = [9; 44];
-            let answer = write_call(&mut buf[..room], xid, prog, vers, procedure);
-            if room < 40 {
-                assert_eq!(rt; answer, Err(NoRoom), "{front} in {room} bytes");
-                assert_eq!(rt; buf, [9; 44], "{front} in {room} bytes");
+            let wanted = if room < 40 {
+                (Err(NoRoom), [9; 44])
             } else {
-                assert_eq!(rt; answer, Ok(40), "{front} in {room} bytes");
-                assert!(rt; buf.starts_with(&want), "{front} in {room} bytes");
-                assert!(rt; buf.ends_with(&[9; 4]), "{front} in {room} bytes");
-            }
+                (Ok(40), whole)
+            };
+            let came = write_head(numbers, room);
+            assert_eq!(rt; came, wanted, "{front} in {room} bytes");
         }
     }
     Ok(())

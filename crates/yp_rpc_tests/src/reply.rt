@@ -1,8 +1,11 @@
 //! Heads of replies written out by hand, from RFC 5531 section 9.
 
-use crate::spelled;
+ghost use Rattle.std.specs.Prelude.{◌≤◌};
+
 use std::test::Fail;
+use yp_for_tests::bytes;
 use yp_rpc::*;
+use yp_xdr::{NoRoom, XdrFault};
 
 // Each head for a call's number, and its words.
 const HEADS: [(u32, ReplyHead, &str); 11] = [
@@ -63,22 +66,31 @@ const HEADS: [(u32, ReplyHead, &str); 11] = [
     ),
 ];
 
+// The answer to writing a head into so much room, and the whole buffer, of which each byte was 9.
+fn write_head(xid: u32, head: &ReplyHead, room: usize) -> (Result<usize, NoRoom>, [u8; 40])
+    requires { room ≤ 40 }
+{
+    let mut buf = [9; 40];
+    let answer = write_reply(&mut buf[..room], xid, head);
+    (answer, buf)
+}
+
 #[test]
 fn heads(rt: HostRuntime) -> Result<(), Fail> {
     for (xid, head, text) in HEADS {
-        let want = spelled::bytes(rt.alloc(), text)?;
+        let want = bytes(rt.alloc(), &[text])?;
+        let mut whole = [9; 40];
+        for (byte, to) in want.iter().zip(whole.iter_mut()) {
+            *to = *byte;
+        }
         for room in 0..=40 {
-            let mut buf = [9; 40];
-            let answer = write_reply(&mut buf[..room], xid, &head);
-            if room < want.len() {
-                assert_eq!(rt; answer, Err(NoRoom), "{head:?} in {room} bytes");
-                assert_eq!(rt; buf, [9; 40], "{head:?} in {room} bytes");
+            let wanted = if room < want.len() {
+                (Err(NoRoom), [9; 40])
             } else {
-                assert_eq!(rt; answer, Ok(want.len()), "{head:?} in {room} bytes");
-                assert!(rt; buf.starts_with(&want), "{head:?} in {room} bytes");
-                let mut behind = buf.iter().skip(want.len());
-                assert!(rt; behind.all(|byte| *byte == 9), "{head:?} in {room} bytes");
-            }
+                (Ok(want.len()), whole)
+            };
+            let came = write_head(xid, &head, room);
+            assert_eq!(rt; came, wanted, "{head:?} in {room} bytes");
         }
     }
     Ok(())
@@ -87,7 +99,7 @@ fn heads(rt: HostRuntime) -> Result<(), Fail> {
 #[test]
 fn heads_read(rt: HostRuntime) -> Result<(), Fail> {
     for (xid, head, text) in HEADS {
-        let mut bytes = spelled::bytes(rt.alloc(), text)?;
+        let mut bytes = bytes(rt.alloc(), &[text])?;
         let body = bytes.len();
         let read = ReplyRead { xid, head, body };
         assert_eq!(rt; read_reply(&bytes), Ok(read), "{head:?}");
@@ -109,8 +121,7 @@ fn any_verifier(rt: HostRuntime) -> Result<(), Fail> {
         // AUTH_SYS of the most bytes that there may be.
         ("00000001 00000190", 404, 424),
     ] {
-        let mut bytes = spelled::bytes(rt.alloc(), ACCEPTED)?;
-        bytes.extend_from_slice(&spelled::bytes(rt.alloc(), text)?)?;
+        let mut bytes = bytes(rt.alloc(), &[ACCEPTED, text])?;
         bytes.extend_from_slice(&vec![in rt.alloc(); 0; zeros]?)?;
         let read = ReplyRead {
             xid: 1,
@@ -122,85 +133,81 @@ fn any_verifier(rt: HostRuntime) -> Result<(), Fail> {
     Ok(())
 }
 
+// The two parts of replies that can't be read, and why.
+const REFUSALS: [(&str, &str, XdrFault); 22] = [
+    // The number, the type of the message and reply_stat.
+    ("", "", XdrFault::Short { at: 0 }),
+    ("000000", "", XdrFault::Short { at: 0 }),
+    ("00000001 0000", "", XdrFault::Short { at: 4 }),
+    (
+        "00000001 00000000 00000000",
+        "",
+        XdrFault::BadEnum { at: 4 },
+    ),
+    (
+        "00000001 00000002 00000000",
+        "",
+        XdrFault::BadEnum { at: 4 },
+    ),
+    ("00000001 00000001", "", XdrFault::Short { at: 8 }),
+    (
+        "00000001 00000001 00000002",
+        "",
+        XdrFault::BadEnum { at: 8 },
+    ),
+    // The verifier.
+    (ACCEPTED, "", XdrFault::Short { at: 12 }),
+    (ACCEPTED, "00000000", XdrFault::Short { at: 16 }),
+    (
+        ACCEPTED,
+        "00000000 00000191",
+        XdrFault::TooLong { at: 16, len: 401 },
+    ),
+    (
+        ACCEPTED,
+        "00000000 00000005 01020304 050000",
+        XdrFault::Short { at: 16 },
+    ),
+    (
+        ACCEPTED,
+        "00000000 00000005 01020304 05000100 00000000",
+        XdrFault::Pad { at: 26 },
+    ),
+    // accept_stat, and the versions behind it.
+    (ACCEPTED, "00000000 00000000", XdrFault::Short { at: 20 }),
+    (
+        ACCEPTED,
+        "00000000 00000000 00000006",
+        XdrFault::BadEnum { at: 20 },
+    ),
+    (
+        ACCEPTED,
+        "00000000 00000000 ffffffff",
+        XdrFault::BadEnum { at: 20 },
+    ),
+    (
+        ACCEPTED,
+        "00000000 00000000 00000002",
+        XdrFault::Short { at: 24 },
+    ),
+    (
+        ACCEPTED,
+        "00000000 00000000 00000002 00000002 000000",
+        XdrFault::Short { at: 28 },
+    ),
+    // reject_stat, the versions of RPC and auth_stat.
+    (DENIED, "", XdrFault::Short { at: 12 }),
+    (DENIED, "00000002", XdrFault::BadEnum { at: 12 }),
+    (DENIED, "00000000", XdrFault::Short { at: 16 }),
+    (DENIED, "00000000 00000002", XdrFault::Short { at: 20 }),
+    (DENIED, "00000001 0000", XdrFault::Short { at: 16 }),
+];
+
 #[test]
 fn places_of_refusals(rt: HostRuntime) -> Result<(), Fail> {
-    let alloc = rt.alloc();
-    let cases = [
-        // The number, the type of the message and reply_stat.
-        ("", "", Err(XdrFault::Short { at: 0 })),
-        ("000000", "", Err(XdrFault::Short { at: 0 })),
-        ("00000001 0000", "", Err(XdrFault::Short { at: 4 })),
-        (
-            "00000001 00000000 00000000",
-            "",
-            Err(XdrFault::BadEnum { at: 4 }),
-        ),
-        (
-            "00000001 00000002 00000000",
-            "",
-            Err(XdrFault::BadEnum { at: 4 }),
-        ),
-        ("00000001 00000001", "", Err(XdrFault::Short { at: 8 })),
-        (
-            "00000001 00000001 00000002",
-            "",
-            Err(XdrFault::BadEnum { at: 8 }),
-        ),
-        // The verifier.
-        (ACCEPTED, "", Err(XdrFault::Short { at: 12 })),
-        (ACCEPTED, "00000000", Err(XdrFault::Short { at: 16 })),
-        (
-            ACCEPTED,
-            "00000000 00000191",
-            Err(XdrFault::TooLong { at: 16, len: 401 }),
-        ),
-        (
-            ACCEPTED,
-            "00000000 00000005 01020304 050000",
-            Err(XdrFault::Short { at: 16 }),
-        ),
-        (
-            ACCEPTED,
-            "00000000 00000005 01020304 05000100 00000000",
-            Err(XdrFault::Pad { at: 26 }),
-        ),
-        // accept_stat, and the versions behind it.
-        (
-            ACCEPTED,
-            "00000000 00000000",
-            Err(XdrFault::Short { at: 20 }),
-        ),
-        (
-            ACCEPTED,
-            "00000000 00000000 00000006",
-            Err(XdrFault::BadEnum { at: 20 }),
-        ),
-        (
-            ACCEPTED,
-            "00000000 00000000 ffffffff",
-            Err(XdrFault::BadEnum { at: 20 }),
-        ),
-        (
-            ACCEPTED,
-            "00000000 00000000 00000002",
-            Err(XdrFault::Short { at: 24 }),
-        ),
-        (
-            ACCEPTED,
-            "00000000 00000000 00000002 00000002 000000",
-            Err(XdrFault::Short { at: 28 }),
-        ),
-        // reject_stat, the versions of RPC and auth_stat.
-        (DENIED, "", Err(XdrFault::Short { at: 12 })),
-        (DENIED, "00000002", Err(XdrFault::BadEnum { at: 12 })),
-        (DENIED, "00000000", Err(XdrFault::Short { at: 16 })),
-        (DENIED, "00000000 00000002", Err(XdrFault::Short { at: 20 })),
-        (DENIED, "00000001 0000", Err(XdrFault::Short { at: 16 })),
-    ];
-    for (front, text, answer) in cases {
-        let mut bytes = spelled::bytes(alloc, front)?;
-        bytes.extend_from_slice(&spelled::bytes(alloc, text)?)?;
-        assert_eq!(rt; read_reply(&bytes), answer, "{front} {text}");
+    for (front, text, fault) in REFUSALS {
+        let bytes = bytes(rt.alloc(), &[front, text])?;
+        assert_eq!(rt; read_reply(&bytes), Err(fault), "{front} {text}");
     }
     Ok(())
 }

@@ -1,15 +1,16 @@
 //! Spellings written out by hand from RFC 4506, and the place of each refusal.
 
 use std::test::*;
+use yp_for_tests::bytes;
 use yp_xdr::*;
 
-/// The bytes of a text of hexadecimal words.
-fn bytes_of(rt: HostRuntime, text: &str) -> Result<Vec<u8>, Fail> {
-    let mut bytes = Vec::new(rt.alloc());
-    for word in text.split_whitespace() {
-        bytes.extend_from_slice(&hex::decode(rt.alloc(), word)?)?;
-    }
-    Ok(bytes)
+// What came of writing a word, the bytes that were written, and what the spelling is read as.
+type Word<T> = (Result<usize, NoRoom>, [u8; 4], Result<T, XdrFault>);
+
+fn unsigned_word(value: u32, word: &[u8]) -> Word<u32> {
+    let mut buf = [9; 4];
+    let end = put_u32(&mut buf, 0, value);
+    (end, buf, Cursor::new(word).u32())
 }
 
 #[test]
@@ -20,13 +21,23 @@ fn unsigned_words(rt: HostRuntime) -> Result<(), Fail> {
         (0x0102_0304, "01020304"),
         (u32::MAX, "ffffffff"),
     ] {
-        let bytes = bytes_of(rt, text)?;
-        let mut buf = [9; 4];
-        assert_eq!(rt; put_u32(&mut buf, 0, value), Ok(4));
-        assert_eq!(rt; buf.as_slice(), &bytes[..]);
-        assert_eq!(rt; Cursor::new(&bytes).u32(), Ok(value));
+        let bytes = bytes(rt.alloc(), &[text])?;
+        let (end, buf, read) = unsigned_word(value, &bytes);
+        let came = (end, buf.as_slice(), read);
+        assert_eq!(rt; came, (Ok(4), bytes.as_slice(), Ok(value)), "{text}");
     }
     Ok(())
+}
+
+// The same, and what the spelling is as a number of 7 and the value, and of 7 alone.
+fn signed_word(value: i32, word: &[u8]) -> (Word<i32>, [Result<i32, XdrFault>; 2]) {
+    let mut buf = [9; 4];
+    let end = put_i32(&mut buf, 0, value);
+    let one_of = [
+        Cursor::new(word).one_of(&[7, value]),
+        Cursor::new(word).one_of(&[7]),
+    ];
+    ((end, buf, Cursor::new(word).i32()), one_of)
 }
 
 #[test]
@@ -38,35 +49,37 @@ fn signed_words(rt: HostRuntime) -> Result<(), Fail> {
         (i32::MAX, "7fffffff"),
         (i32::MIN, "80000000"),
     ] {
-        let bytes = bytes_of(rt, text)?;
-        let mut buf = [9; 4];
-        assert_eq!(rt; put_i32(&mut buf, 0, value), Ok(4));
-        assert_eq!(rt; buf.as_slice(), &bytes[..]);
-        assert_eq!(rt; Cursor::new(&bytes).i32(), Ok(value));
-        assert_eq!(rt; Cursor::new(&bytes).one_of(&[7, value]), Ok(value));
+        let bytes = bytes(rt.alloc(), &[text])?;
+        let one_of = [Ok(value), Err(XdrFault::BadEnum { at: 0 })];
+        let ((end, buf, read), read_of) = signed_word(value, &bytes);
+        let came = (end, buf.as_slice(), read, read_of);
         assert_eq!(rt;
-            Cursor::new(&bytes).one_of(&[7]),
-            Err(XdrFault::BadEnum { at: 0 })
+            came,
+            (Ok(4), bytes.as_slice(), Ok(value), one_of),
+            "{text}"
         );
     }
     Ok(())
 }
 
+fn boolean(value: bool, word: &[u8]) -> Word<bool> {
+    let mut buf = [9; 4];
+    let end = put_bool(&mut buf, 0, value);
+    (end, buf, Cursor::new(word).bool())
+}
+
 #[test]
 fn booleans(rt: HostRuntime) -> Result<(), Fail> {
     for (value, text) in [(false, "00000000"), (true, "00000001")] {
-        let bytes = bytes_of(rt, text)?;
-        let mut buf = [9; 4];
-        assert_eq!(rt; put_bool(&mut buf, 0, value), Ok(4));
-        assert_eq!(rt; buf.as_slice(), &bytes[..]);
-        assert_eq!(rt; Cursor::new(&bytes).bool(), Ok(value));
+        let bytes = bytes(rt.alloc(), &[text])?;
+        let (end, buf, read) = boolean(value, &bytes);
+        let came = (end, buf.as_slice(), read);
+        assert_eq!(rt; came, (Ok(4), bytes.as_slice(), Ok(value)), "{text}");
     }
     for text in ["00000002", "01000000", "ffffffff"] {
-        let bytes = bytes_of(rt, text)?;
-        assert_eq!(rt;
-            Cursor::new(&bytes).bool(),
-            Err(XdrFault::BadBool { at: 0 })
-        );
+        let bytes = bytes(rt.alloc(), &[text])?;
+        let read = Cursor::new(&bytes).bool();
+        assert_eq!(rt; read, Err(XdrFault::BadBool { at: 0 }), "{text}");
     }
     Ok(())
 }
@@ -80,15 +93,17 @@ fn opaque_bytes(rt: HostRuntime) -> Result<(), Fail> {
         (b"four", "00000004 666f7572"),
         (b"alpha", "00000005 616c7068 61000000"),
     ] {
-        let bytes = bytes_of(rt, text)?;
+        let bytes = bytes(rt.alloc(), &[text])?;
         let mut buf = [9; 16];
-        assert_eq!(rt; opaque_len(content), bytes.len());
-        assert_eq!(rt; put_opaque(&mut buf, 0, content), Ok(bytes.len()));
-        assert!(rt; buf.starts_with(&bytes));
+        let end = put_opaque(&mut buf, 0, content);
+        let is_written = buf.starts_with(&bytes);
         // The limit is met exactly.
+        let read = Cursor::new(&bytes).opaque(content.len() as u32);
+        let len = bytes.len();
         assert_eq!(rt;
-            Cursor::new(&bytes).opaque(content.len() as u32),
-            Ok(content)
+            (opaque_len(content), end, is_written, read),
+            (len, Ok(len), true, Ok(content)),
+            "{text}"
         );
     }
     Ok(())
@@ -101,14 +116,26 @@ fn fixed_bytes(rt: HostRuntime) -> Result<(), Fail> {
         (b"lab", "6c616200"),
         (b"alpha", "616c7068 61000000"),
     ] {
-        let bytes = bytes_of(rt, text)?;
+        let bytes = bytes(rt.alloc(), &[text])?;
         let mut buf = [9; 16];
-        assert_eq!(rt; fixed_len(content), bytes.len());
-        assert_eq!(rt; put_fixed(&mut buf, 0, content), Ok(bytes.len()));
-        assert!(rt; buf.starts_with(&bytes));
-        assert_eq!(rt; Cursor::new(&bytes).fixed(content.len()), Ok(content));
+        let end = put_fixed(&mut buf, 0, content);
+        let is_written = buf.starts_with(&bytes);
+        let read = Cursor::new(&bytes).fixed(content.len());
+        let len = bytes.len();
+        assert_eq!(rt;
+            (fixed_len(content), end, is_written, read),
+            (len, Ok(len), true, Ok(content)),
+            "{text}"
+        );
     }
     Ok(())
+}
+
+// What a string of at most three bytes is read as, and how far the cursor is then.
+fn string(bytes: &[u8]) -> (Result<&[u8], XdrFault>, usize) {
+    let mut cursor = Cursor::new(bytes);
+    let read = cursor.string(3);
+    (read, cursor.at())
 }
 
 #[test]
@@ -133,30 +160,78 @@ fn refusals(rt: HostRuntime) -> Result<(), Fail> {
         ("00000001 6c000302", XdrFault::Pad { at: 6 }),
         ("00000001 6cff0302", XdrFault::Pad { at: 5 }),
     ] {
-        let bytes = bytes_of(rt, text)?;
-        let mut cursor = Cursor::new(&bytes);
-        assert_eq!(rt; cursor.string(3), Err(fault));
-        assert_eq!(rt; cursor.at(), 0);
+        let bytes = bytes(rt.alloc(), &[text])?;
+        assert_eq!(rt; string(&bytes), (Err(fault), 0), "{text}");
     }
     Ok(())
 }
 
+// What is read behind another item: what is refused, and how far the cursor is then.
+#[derive(Debug, PartialEq, Eq, Drop)]
+struct Behind<'a> {
+    first: Result<u32, XdrFault>,
+    opaque: [Result<&'a [u8], XdrFault>; 2],
+    boolean: Result<bool, XdrFault>,
+    one_of: Result<i32, XdrFault>,
+    fixed: Result<&'a [u8], XdrFault>,
+    at: usize,
+}
+
+fn read_behind<'a>(cursor: &mut Cursor<'a>) -> Behind<'a> {
+    Behind {
+        first: cursor.u32(),
+        opaque: [cursor.opaque(2), cursor.opaque(3)],
+        boolean: cursor.bool(),
+        one_of: cursor.one_of(&[0, 7]),
+        fixed: cursor.fixed(11),
+        at: cursor.at(),
+    }
+}
+
+// The same of what stands behind the next item.
+#[derive(Debug, PartialEq, Eq, Drop)]
+struct Further<'a> {
+    second: Result<u32, XdrFault>,
+    fixed: Result<&'a [u8], XdrFault>,
+    third: Result<i32, XdrFault>,
+    fourth: Result<i32, XdrFault>,
+    at: usize,
+}
+
+fn read_further<'a>(cursor: &mut Cursor<'a>) -> Further<'a> {
+    Further {
+        second: cursor.u32(),
+        fixed: cursor.fixed(3),
+        third: cursor.i32(),
+        fourth: cursor.i32(),
+        at: cursor.at(),
+    }
+}
+
 #[test]
 fn behind_another_item(rt: HostRuntime) -> Result<(), Fail> {
-    let bytes = bytes_of(rt, "00000007 00000003 6c616201 0000")?;
+    let bytes = bytes(rt.alloc(), &["00000007 00000003 6c616201 0000"])?;
     let mut cursor = Cursor::new(&bytes);
-    assert_eq!(rt; cursor.u32(), Ok(7));
-    assert_eq!(rt; cursor.opaque(2), Err(XdrFault::TooLong { at: 4, len: 3 }));
-    assert_eq!(rt; cursor.opaque(3), Err(XdrFault::Pad { at: 11 }));
-    assert_eq!(rt; cursor.bool(), Err(XdrFault::BadBool { at: 4 }));
-    assert_eq!(rt; cursor.one_of(&[0, 7]), Err(XdrFault::BadEnum { at: 4 }));
-    assert_eq!(rt; cursor.fixed(11), Err(XdrFault::Short { at: 4 }));
-    assert_eq!(rt; cursor.at(), 4);
-    assert_eq!(rt; cursor.u32(), Ok(3));
-    assert_eq!(rt; cursor.fixed(3), Err(XdrFault::Pad { at: 11 }));
-    assert_eq!(rt; cursor.i32(), Ok(0x6c61_6201));
-    assert_eq!(rt; cursor.i32(), Err(XdrFault::Short { at: 12 }));
-    assert_eq!(rt; cursor.at(), 12);
+    let behind = Behind {
+        first: Ok(7),
+        opaque: [
+            Err(XdrFault::TooLong { at: 4, len: 3 }),
+            Err(XdrFault::Pad { at: 11 }),
+        ],
+        boolean: Err(XdrFault::BadBool { at: 4 }),
+        one_of: Err(XdrFault::BadEnum { at: 4 }),
+        fixed: Err(XdrFault::Short { at: 4 }),
+        at: 4,
+    };
+    assert_eq!(rt; read_behind(&mut cursor), behind);
+    let further = Further {
+        second: Ok(3),
+        fixed: Err(XdrFault::Pad { at: 11 }),
+        third: Ok(0x6c61_6201),
+        fourth: Err(XdrFault::Short { at: 12 }),
+        at: 12,
+    };
+    assert_eq!(rt; read_further(&mut cursor), further);
     Ok(())
 }
 
@@ -174,26 +249,59 @@ fn no_room(rt: HostRuntime) {
     assert_eq!(rt; buf, [9, 9, 9, 0, 0, 0, 1]);
 }
 
+// Items one behind another behind three bytes, and the ends of them.
+fn put_items(buf: &mut [u8; 32]) -> [Result<usize, NoRoom>; 5] {
+    [
+        Ok(set_u32(buf, 3, 7)),
+        put_opaque(buf, 7, b"alpha"),
+        Ok(set_i32(buf, 19, -3)),
+        Ok(set_bool(buf, 23, true)),
+        put_fixed(buf, 27, b"m1"),
+    ]
+}
+
+// What the same are read as, and how far the cursor is then.
+#[derive(Debug, PartialEq, Eq, Drop)]
+struct Items<'a> {
+    first: Result<u32, XdrFault>,
+    text: Result<&'a [u8], XdrFault>,
+    second: Result<i32, XdrFault>,
+    third: Result<bool, XdrFault>,
+    fixed: Result<&'a [u8], XdrFault>,
+    at: usize,
+}
+
+fn read_items(bytes: &[u8]) -> Items<'_> {
+    let mut cursor = Cursor::new(bytes);
+    Items {
+        first: cursor.u32(),
+        text: cursor.string(64),
+        second: cursor.i32(),
+        third: cursor.bool(),
+        fixed: cursor.fixed(2),
+        at: cursor.at(),
+    }
+}
+
 #[test]
 fn one_behind_another(rt: HostRuntime) -> Result<(), Fail> {
-    let bytes = bytes_of(
-        rt,
-        "090909 00000007 00000005 616c7068 61000000 fffffffd 00000001 6d310000 09",
+    let bytes = bytes(
+        rt.alloc(),
+        &["090909 00000007 00000005 616c7068 61000000 fffffffd 00000001 6d310000 09"],
     )?;
     let mut buf = [9; 32];
-    assert_eq!(rt; set_u32(&mut buf, 3, 7), 7);
-    assert_eq!(rt; put_opaque(&mut buf, 7, b"alpha"), Ok(19));
-    assert_eq!(rt; set_i32(&mut buf, 19, -3), 23);
-    assert_eq!(rt; set_bool(&mut buf, 23, true), 27);
-    assert_eq!(rt; put_fixed(&mut buf, 27, b"m1"), Ok(31));
+    let ends = put_items(&mut buf);
+    assert_eq!(rt; ends, [Ok(7), Ok(19), Ok(23), Ok(27), Ok(31)]);
     assert_eq!(rt; buf.as_slice(), &bytes[..]);
-    let mut cursor = Cursor::new(&buf[3..]);
-    assert_eq!(rt; cursor.u32(), Ok(7));
-    assert_eq!(rt; cursor.string(64), Ok(b"alpha".as_slice()));
-    assert_eq!(rt; cursor.i32(), Ok(-3));
-    assert_eq!(rt; cursor.bool(), Ok(true));
-    assert_eq!(rt; cursor.fixed(2), Ok(b"m1".as_slice()));
-    assert_eq!(rt; cursor.at(), 28);
+    let items = Items {
+        first: Ok(7),
+        text: Ok(b"alpha"),
+        second: Ok(-3),
+        third: Ok(true),
+        fixed: Ok(b"m1"),
+        at: 28,
+    };
+    assert_eq!(rt; read_items(&buf[3..]), items);
     Ok(())
 }
 
