@@ -1,5 +1,5 @@
-# For a script of an example that runs a row of words after the other, and so compares what comes of all of them at once.
-# It begins with . "${0%/*}/../rows.sh" and then has these:
+# For a script of an example that runs a row of words after the other, so that what comes of all is compared at once. It
+# begins with . "${0%/*}/../rows.sh" and then has these:
 #
 #     bytes HEX ..      gives the bytes that texts of hexadecimal words spell, as "8000004c 00000001"
 #     row NAME WORD ..  runs yp with these words on what comes in, and prints NAME with the status, then the output by
