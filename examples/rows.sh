@@ -1,5 +1,5 @@
-# For a script of an example that runs a row of words after the other, so that what comes of all is compared at once. It
-# begins with . "${0%/*}/../rows.sh" and then has these:
+# For a script that runs many rows, each with its words and its input, and prints what came of each. The script reads
+# this file by . "${0%/*}/../rows.sh" and then has these:
 #
 #     bytes HEX ..      gives the bytes that texts of hexadecimal words spell, as "8000004c 00000001"
 #     row NAME WORD ..  runs yp with these words on what comes in, and prints NAME with the status, then the output by

@@ -19,6 +19,9 @@ const HOSTS: &[u8] = b"10.0.0.1 alpha\n";
 
 const MAP: &[u8] = b"hosts.byname";
 
+/// A crash may keep each of the last three writes, or drop it.
+const CRASHES: u64 = 8;
+
 const DISK_FAULT: &str = "yp: disk fault in lab/hosts.byname\n";
 
 /// The first cell is open: generation 1, a body of 52 bytes at 64. The second is closed.
@@ -187,27 +190,26 @@ fn try_fault<R: RandomSource + Abort>(
     };
     let came = play(rt, alloc, words, scene);
     assert_eq!(rt; came.told(), told, "call {call}, stop {:?}", scene.stop);
-    assert_eq!(rt; came.images.len(), 8);
+    assert_eq!(rt; came.images.len() as u64, CRASHES);
     for (kept, image) in came.images.iter().enumerate() {
         let stands = stands_of(rt, alloc, image);
-        assert!(rt; allowed.contains(&stands), "call {call}, stop {:?}, kept {kept}", scene.stop);
+        assert!(rt;
+            allowed.contains(&stands),
+            "call {call}, stop {:?}, kept {kept}",
+            scene.stop
+        );
     }
 }
 
 /// The same for each call up to the last.
-fn try_faults<R: RandomSource + Abort>(
-    rt: &R,
-    alloc: Global,
-    words: &[String],
-    site: &Site<'_>,
-) {
+fn try_faults<R: RandomSource + Abort>(rt: &R, alloc: Global, words: &[String], site: &Site<'_>) {
     let before = stands_of(rt, alloc, site.file);
     for call in 0..=site.last {
         let from = Scene {
             input: HOSTS,
             file: site.file,
             stop: Some(call),
-            crashes: 8,
+            crashes: CRASHES,
             ..FAIR
         };
         let only = Scene {

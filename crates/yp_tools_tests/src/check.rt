@@ -6,8 +6,8 @@ use yp_for_tests::bytes;
 
 const WORDS: [&str; 2] = ["check", "lab/hosts.byname"];
 
-/// The first cell is open: generation 1, a body of 52 bytes at 64. The second is closed. The version has order 100, master
-/// `m1` and the row of `alpha`.
+/// The first cell is open: generation 1, a body of 52 bytes at 64. The second is closed. The version has order 100,
+/// master `m1` and the row of `alpha`.
 const FILE: &str = "01000000 00000000 00000000 00000001 00000000 00000040 00000000 00000034
     00000000 00000000 00000000 00000000 00000000 00000000 00000000 00000000
     00000001 00000064 00000002 6d310000 00000001 00000005 616c7068 61000000
@@ -19,24 +19,24 @@ const DISK_FAULT: &str = "yp: disk fault in lab/hosts.byname\n";
 
 const WRITE_FAULT: &str = "yp: write fault\n";
 
+/// Calls of the disk and of the output that fail, and the code, the output and the note that come. Of the disk there
+/// are the sync, the length, the cells and the body, and no fifth call, and of the output the write and the flush.
+const FAULTS: [(&[u64], &[u64], u8, &str, &str); 7] = [
+    (&[0], &[], 10, "", DISK_FAULT),
+    (&[1], &[], 10, "", DISK_FAULT),
+    (&[2], &[], 10, "", DISK_FAULT),
+    (&[3], &[], 10, "", DISK_FAULT),
+    (&[4], &[], 0, TOLD, ""),
+    (&[], &[0], 4, "", WRITE_FAULT),
+    (&[], &[1], 4, TOLD, WRITE_FAULT),
+];
+
 #[test]
 fn one_failing_call_of_check(rt: HostRuntime) -> Result<(), Fail> {
     let alloc = rt.alloc();
     let words = strings(alloc, &WORDS)?;
     let file = bytes(alloc, &[FILE])?;
-    let none: &[u64] = &[];
-    // Of the disk the sync, the length, the cells and the body; there is no fifth call. Of the output the write and the
-    // flush.
-    let cases: [(&[u64], &[u64], u8, &str, &str); 7] = [
-        (&[0], none, 10, "", DISK_FAULT),
-        (&[1], none, 10, "", DISK_FAULT),
-        (&[2], none, 10, "", DISK_FAULT),
-        (&[3], none, 10, "", DISK_FAULT),
-        (&[4], none, 0, TOLD, ""),
-        (none, &[0], 4, "", WRITE_FAULT),
-        (none, &[1], 4, TOLD, WRITE_FAULT),
-    ];
-    for (disk, writes, code, output, note) in cases {
+    for (disk, writes, code, output, note) in FAULTS {
         let ended = wanted_of(alloc, code, output.as_bytes(), note, b"hosts.byname", &file)?;
         let scene = Scene {
             input: b"left",

@@ -96,6 +96,44 @@ fn long_row(alloc: Global, key: &[u8], len: usize) -> Result<String, AllocError>
     Ok(row)
 }
 
+/// The reply to MATCH with the longest value: eight fragments of 8,192 bytes, the first of which begins with 32 bytes
+/// before the value, and one of 32.
+fn reply_of_nine_fragments(alloc: Global) -> Result<Vec<u8>, Fail> {
+    let full = bytes(alloc, &["00002000"])?;
+    let last = bytes(alloc, &["80000020"])?;
+    let mut reply = bytes(
+        alloc,
+        &["00002000 00000001 00000001 00000000 00000000 00000000 00000000 00000001 00010000"],
+    )?;
+    for i in 32..65_568 {
+        if i == 65_536 {
+            reply.extend_from_slice(&last)?;
+        } else if i % 8192 == 0 {
+            reply.extend_from_slice(&full)?;
+        }
+        reply.push(b'x')?;
+    }
+    Ok(reply)
+}
+
+#[test]
+fn value_in_nine_fragments(rt: HostRuntime) -> Result<(), Fail> {
+    let alloc = rt.alloc();
+    let mut words = strings(alloc, &["once", "lab/hosts.byname"])?;
+    words.push(long_row(alloc, b"alpha", VALUE_MAX)?)?;
+    let call = bytes(alloc, &[MATCH])?;
+    let reply = reply_of_nine_fragments(alloc)?;
+    assert_eq!(rt; reply.len(), 65_604);
+    let answered = wanted(alloc, 0, &reply, "")?;
+    // A write takes 4,096 bytes at most.
+    let scene = Scene {
+        input: &call,
+        ..FAIR
+    };
+    assert_eq!(rt; play(&rt, alloc, &words, &scene), answered);
+    Ok(())
+}
+
 /// Words that serve 256 rows with keys of two letters and the longest values.
 fn longest_rows(alloc: Global) -> Result<Vec<String>, AllocError> {
     let mut words = strings(alloc, &["once", "lab/hosts.byname"])?;
@@ -127,24 +165,25 @@ fn rows_past_a_limit(rt: HostRuntime) -> Result<(), Fail> {
     Ok(())
 }
 
+/// Reads and writes that fail, and whether the first reply is written. Each record takes a read for its head and one for
+/// its body, each reply a write and a flush.
+const FAULTS: [(&[u64], &[u64], bool); 7] = [
+    (&[0], &[], false),
+    (&[1], &[], false),
+    (&[2], &[], true),
+    (&[3], &[], true),
+    (&[], &[0], false),
+    (&[], &[1], true),
+    (&[], &[2], true),
+];
+
 #[test]
 fn one_failing_call(rt: HostRuntime) -> Result<(), Fail> {
     let alloc = rt.alloc();
     let words = strings(alloc, &SERVED)?;
     let calls = bytes(alloc, &[MATCH, MATCH])?;
     let reply = bytes(alloc, &[MATCH_REPLY])?;
-    let none: &[u64] = &[];
-    // Each record takes a read for its head and one for its body, each reply a write and a flush.
-    let faults: [(&[u64], &[u64], bool); 7] = [
-        (&[0], none, false),
-        (&[1], none, false),
-        (&[2], none, true),
-        (&[3], none, true),
-        (none, &[0], false),
-        (none, &[1], true),
-        (none, &[2], true),
-    ];
-    for (reads, writes, replied) in faults {
+    for (reads, writes, replied) in FAULTS {
         let (code, note) = if writes.is_empty() {
             (3, "yp: read fault\n")
         } else {

@@ -82,7 +82,12 @@ impl Came {
 }
 
 /// What is to come of a run of words that name no map.
-pub(crate) fn wanted(alloc: Global, code: u8, output: &[u8], notes: &str) -> Result<Came, AllocError> {
+pub(crate) fn wanted(
+    alloc: Global,
+    code: u8,
+    output: &[u8],
+    notes: &str,
+) -> Result<Came, AllocError> {
     wanted_of(alloc, code, output, notes, &[], &[])
 }
 
@@ -204,7 +209,8 @@ fn came_of<R: Abort>(
     let mut images = Vec::new(alloc);
     for named in &outside.disks {
         maps.extend_from_slice(&named.name.map).expect(rt, "memory");
-        file.extend_from_slice(named.disk.bytes()).expect(rt, "memory");
+        file.extend_from_slice(named.disk.bytes())
+            .expect(rt, "memory");
         for kept in 0..crashes {
             let image = named.disk.crashed(kept).expect(rt, "memory");
             images.push(image).expect(rt, "memory");
