@@ -1,18 +1,13 @@
 //! `build` over files in memory, laid out by hand.
 
-ghost use Rattle.std.specs.Prelude.{◌≡◌, IfOk};
-ghost use Rattle.yp_words.specs.Words.{disk_names, texts};
-ghost use Rattle.yp_tools.specs.Disks.{names_of};
-
-use crate::tests::{bytes, strings};
-use std::alloc::{AllocError, Global};
+use crate::stage::{FAIR, Scene, play, strings, wanted_of};
+use std::alloc::Global;
 use std::process::Abort;
 use std::random::RandomSource;
 use std::test::Fail;
-use yp_board::MapName;
-use yp_io::{MemDial, MemDisk, MemSink, MemSource, MemTexts, SetClock, TEXT_MAX};
+use yp_for_tests::bytes;
+use yp_io::MemDisk;
 use yp_slot::Slot;
-use yp_tools::{NamedDisk, Outside, disk_names, named_disks, run};
 
 const BUILD: [&str; 3] = ["build", "m1", "lab/hosts.byname"];
 
@@ -20,304 +15,233 @@ const SECURE: [&str; 4] = ["build", "m1", "lab/hosts.byname", "secure"];
 
 const PLAIN: [&str; 4] = ["build", "m1", "lab/hosts.byname", "plain"];
 
-const OTHER: [&str; 3] = ["build", "m2", "lab/hosts.byname"];
-
 const HOSTS: &[u8] = b"10.0.0.1 alpha\n";
+
+const MAP: &[u8] = b"hosts.byname";
+
+/// A crash may keep each of the last three writes, or drop it.
+const CRASHES: u64 = 8;
+
+const DISK_FAULT: &str = "yp: disk fault in lab/hosts.byname\n";
 
 /// The first cell is open: generation 1, a body of 52 bytes at 64. The second is closed.
 const CELLS: &str = "01000000 00000000 00000000 00000001 00000000 00000040 00000000 00000034
     00000000 00000000 00000000 00000000 00000000 00000000 00000000 00000000";
 
-/// The same, with the last generation.
-const LAST_CELLS: &str = "01000000 00000000 ffffffff ffffffff 00000000 00000040 00000000 00000034
-    00000000 00000000 00000000 00000000 00000000 00000000 00000000 00000000";
+/// Both are open, the second with generation 2 and a body of 52 bytes at 116.
+const BOTH_CELLS: &str = "01000000 00000000 00000000 00000001 00000000 00000040 00000000 00000034
+    01000000 00000000 00000000 00000002 00000000 00000074 00000000 00000034";
 
-/// Order 100, master `m1`, and the row of `alpha`, behind the format.
-const BODY: &str = "00000064 00000002 6d310000 00000001
+/// The format of a version, and of a secure one.
+const OPEN: &str = "00000001";
+
+const SHUT: &str = "00000002";
+
+/// Order 100, behind the format.
+const ORDER: &str = "00000064";
+
+/// Master `m1`, and the row of `alpha`, behind the order.
+const REST: &str = "00000002 6d310000 00000001
     00000005 616c7068 61000000 0000000e 31302e30 2e302e31 20616c70 68610000";
-
-/// The same with the last order.
-const LAST_ORDER: &str = "ffffffff 00000002 6d310000 00000001
-    00000005 616c7068 61000000 0000000e 31302e30 2e302e31 20616c70 68610000";
-
-/// The same with a byte of padding that isn't zero.
-const BAD_PADDING: &str = "00000064 00000002 6d310001 00000001
-    00000005 616c7068 61000000 0000000e 31302e30 2e302e31 20616c70 68610000";
-
-/// What a build finds.
-#[derive(Clone, Copy)]
-struct Site<'a> {
-    words: &'a [&'a str],
-    text: &'a [u8],
-    now: u32,
-    file: &'a [u8],
-    stop: Option<u64>,
-    failing: &'a [u64],
-}
-
-/// A text of one line.
-fn one_line<'a>(words: &'a [&'a str], now: u32, file: &'a [u8]) -> Site<'a> {
-    with_text(words, HOSTS, now, file)
-}
-
-/// A disk without a failing call.
-fn with_text<'a>(words: &'a [&'a str], text: &'a [u8], now: u32, file: &'a [u8]) -> Site<'a> {
-    Site {
-        words,
-        text,
-        now,
-        file,
-        stop: None,
-        failing: &[],
-    }
-}
-
-/// A disk that stops at a call, and one with failing calls.
-fn with_faults<'a>(file: &'a [u8], stop: Option<u64>, failing: &'a [u64]) -> Site<'a> {
-    Site {
-        words: &BUILD,
-        text: HOSTS,
-        now: 100,
-        file,
-        stop,
-        failing,
-    }
-}
-
-/// The disks that the words name.
-fn disks_of(
-    alloc: Global,
-    words: &[String],
-    site: &Site<'_>,
-) -> Result<Vec<NamedDisk<MemDisk>>, AllocError>
-    ensures { IfOk result (λ disks. names_of disks.items ≡ disk_names (texts words.now)) }
-{
-    let Ok(names) = disk_names(alloc, words) else {
-        return Err(AllocError);
-    };
-    let make = |_: &MapName| disk_of(alloc, site);
-    named_disks(alloc, names, make)
-}
-
-fn disk_of(alloc: Global, site: &Site<'_>) -> Result<MemDisk, AllocError> {
-    let bytes = Vec::from_slice(alloc, site.file)?;
-    let failing = Vec::from_slice(alloc, site.failing)?;
-    Ok(MemDisk::new(alloc, bytes, site.stop, failing))
-}
-
-/// Builds, compares the code, the output and the note, and hands the disk back.
-fn try_build<R: RandomSource + Abort>(
-    rt: &R,
-    alloc: Global,
-    site: &Site<'_>,
-    code: u8,
-    output: &str,
-    note: &str,
-) -> Result<MemDisk, Fail> {
-    let words = strings(alloc, site.words)?;
-    let outside = Outside {
-        input: MemSource::new(Vec::from_slice(alloc, site.text)?, 65_536, Vec::new(alloc)),
-        output: MemSink::new(alloc, 4096, Vec::new(alloc)),
-        notes: MemSink::new(alloc, 4096, Vec::new(alloc)),
-        disks: disks_of(alloc, &words, site)?,
-        clock: SetClock { moment: site.now },
-        dial: MemDial::new(alloc, Vec::new(alloc), Vec::new(alloc)),
-        texts: MemTexts::new(Vec::new(alloc), Vec::new(alloc)),
-    };
-    let (status, outside) = run(alloc, rt, &words, outside);
-    assert_eq!(rt; outside.notes.taken(), note.as_bytes());
-    assert_eq!(rt; status.code(), code);
-    assert_eq!(rt; outside.output.taken(), output.as_bytes());
-    let mut disks = outside.disks;
-    match disks.pop() {
-        Some(named) => Ok(named.disk),
-        None => Err("no disk came back".into()),
-    }
-}
 
 /// The order of the version that a file stands for, and whether it is secure.
-fn order_of<R: RandomSource>(
-    rt: &R,
-    alloc: Global,
-    file: &[u8],
-) -> Result<Option<(u32, bool)>, Fail> {
-    let disk = MemDisk::new(alloc, Vec::from_slice(alloc, file)?, None, Vec::new(alloc));
-    match Slot::new(disk).load(alloc, rt) {
-        Ok(Some(version)) => Ok(Some((version.order(), version.secure()))),
-        Ok(None) => Ok(None),
-        Err(_) => Err("the file is damaged".into()),
+type Stands = Option<(u32, bool)>;
+
+fn stands_of<R: RandomSource + Abort>(rt: &R, alloc: Global, file: &[u8]) -> Stands {
+    let bytes = Vec::from_slice(alloc, file).expect(rt, "memory");
+    let disk = MemDisk::new(alloc, bytes, None, Vec::new(alloc));
+    match Slot::new(disk).load(alloc, rt).expect(rt, "a sound file") {
+        Some(version) => Some((version.order(), version.secure())),
+        None => None,
     }
 }
 
 #[test]
 fn built_on_an_empty_file(rt: HostRuntime) -> Result<(), Fail> {
     let alloc = rt.alloc();
-    let line = "lab/hosts.byname order 100 rows 1 generation 1\n";
-    let hosts = bytes(alloc, &[CELLS, "00000001", BODY])?;
-    let disk = try_build(&rt, alloc, &one_line(&BUILD, 100, &[]), 0, line, "")?;
-    assert_eq!(rt; disk.bytes(), hosts.as_slice());
-    let secure = bytes(alloc, &[CELLS, "00000002", BODY])?;
-    let disk = try_build(&rt, alloc, &one_line(&SECURE, 100, &[]), 0, line, "")?;
-    assert_eq!(rt; disk.bytes(), secure.as_slice());
+    let line = b"lab/hosts.byname order 100 rows 1 generation 1\n";
+    let scene = Scene {
+        input: HOSTS,
+        ..FAIR
+    };
+    let cases: [(&[&str], &str); 2] = [(&BUILD, OPEN), (&SECURE, SHUT)];
+    for (words, format) in cases {
+        let words = strings(alloc, words)?;
+        let file = bytes(alloc, &[CELLS, format, ORDER, REST])?;
+        let built = wanted_of(alloc, 0, line, "", MAP, &file)?;
+        let came = play(&rt, alloc, &words, &scene);
+        assert_eq!(rt; came, built, "format {format}");
+    }
     Ok(())
 }
+
+/// A build behind the version of order 100.
+#[derive(Clone, Copy)]
+struct Behind<'a> {
+    words: &'a [&'a str],
+    moment: u32,
+    /// The format that stood.
+    stood: &'a str,
+    line: &'a str,
+    /// The format and the order that come.
+    new: [&'a str; 2],
+    stands: (u32, bool),
+}
+
+const LINE_101: &str = "lab/hosts.byname order 101 rows 1 generation 2\n";
+
+const LINE_500: &str = "lab/hosts.byname order 500 rows 1 generation 2\n";
+
+/// The order rises where the clock went back, and follows it else. The mark stays, but for the flag.
+const BEHIND: [Behind<'static>; 5] = [
+    Behind {
+        words: &BUILD,
+        moment: 50,
+        stood: OPEN,
+        line: LINE_101,
+        new: [OPEN, "00000065"],
+        stands: (101, false),
+    },
+    Behind {
+        words: &BUILD,
+        moment: 500,
+        stood: OPEN,
+        line: LINE_500,
+        new: [OPEN, "000001f4"],
+        stands: (500, false),
+    },
+    Behind {
+        words: &BUILD,
+        moment: 100,
+        stood: SHUT,
+        line: LINE_101,
+        new: [SHUT, "00000065"],
+        stands: (101, true),
+    },
+    Behind {
+        words: &PLAIN,
+        moment: 100,
+        stood: SHUT,
+        line: LINE_101,
+        new: [OPEN, "00000065"],
+        stands: (101, false),
+    },
+    Behind {
+        words: &SECURE,
+        moment: 100,
+        stood: OPEN,
+        line: LINE_101,
+        new: [SHUT, "00000065"],
+        stands: (101, true),
+    },
+];
 
 #[test]
 fn built_behind_a_version(rt: HostRuntime) -> Result<(), Fail> {
     let alloc = rt.alloc();
-    let hosts = bytes(alloc, &[CELLS, "00000001", BODY])?;
-    let secure = bytes(alloc, &[CELLS, "00000002", BODY])?;
-    // The order rises where the clock went back, and follows it else. The mark stays, but for the flag.
-    let cases: [(&[&str], u32, &[u8], &str, (u32, bool)); 5] = [
-        (&BUILD, 50, &hosts, "101", (101, false)),
-        (&BUILD, 500, &hosts, "500", (500, false)),
-        (&BUILD, 100, &secure, "101", (101, true)),
-        (&PLAIN, 100, &secure, "101", (101, false)),
-        (&SECURE, 100, &hosts, "101", (101, true)),
-    ];
-    for (words, now, file, order, wanted) in cases {
-        let line = format!(in alloc; "lab/hosts.byname order {order} rows 1 generation 2\n")?;
-        let disk = try_build(&rt, alloc, &one_line(words, now, file), 0, &line, "")?;
-        assert_eq!(rt; order_of(&rt, alloc, disk.bytes())?, Some(wanted));
+    for (row, case) in BEHIND.iter().enumerate() {
+        let words = strings(alloc, case.words)?;
+        let before = bytes(alloc, &[CELLS, case.stood, ORDER, REST])?;
+        let [format, order] = case.new;
+        let after = bytes(
+            alloc,
+            &[BOTH_CELLS, case.stood, ORDER, REST, format, order, REST],
+        )?;
+        let built = wanted_of(alloc, 0, case.line.as_bytes(), "", MAP, &after)?;
+        let scene = Scene {
+            input: HOSTS,
+            file: &before,
+            moment: case.moment,
+            ..FAIR
+        };
+        let came = play(&rt, alloc, &words, &scene);
+        assert_eq!(rt; came, built, "row {row}");
+        let stands = stands_of(&rt, alloc, &came.file);
+        assert_eq!(rt; stands, Some(case.stands), "row {row}");
     }
     Ok(())
 }
 
-/// A build that is refused writes nothing.
-fn try_refused<R: RandomSource + Abort>(
-    rt: &R,
-    alloc: Global,
-    site: &Site<'_>,
-    code: u8,
-    note: &str,
-) -> Result<(), Fail> {
-    let disk = try_build(rt, alloc, site, code, "", note)?;
-    assert_eq!(rt; disk.bytes(), site.file, "{note}");
-    Ok(())
-}
-
-const MASTERED: &str = "yp: mastered by m1\n";
-
-const DAMAGED: &str = "yp: damaged lab/hosts.byname at 79 rule 5\n";
-
-const ORDER_SPENT: &str = "yp: order spent\n";
-
-const ROW_REFUSED: &str = "yp: row 2 rule 1\n";
-
-const GENERATIONS_SPENT: &str = "yp: generations spent in lab/hosts.byname\n";
-
-#[test]
-fn refused_in_order(rt: HostRuntime) -> Result<(), Fail> {
-    let alloc = rt.alloc();
-    let hosts = bytes(alloc, &[CELLS, "00000001", BODY])?;
-    let bad = bytes(alloc, &[CELLS, "00000001", BAD_PADDING])?;
-    let spent = bytes(alloc, &[CELLS, "00000001", LAST_ORDER])?;
-    let last = bytes(alloc, &[LAST_CELLS, "00000001", BODY])?;
-    let mut long = Vec::from_slice(alloc, b"10.0.0.1 ok\n10.0.0.2 ")?;
-    for _ in 0..65_537 {
-        long.push(b'k')?;
-    }
-    try_refused(&rt, alloc, &one_line(&OTHER, 100, &hosts), 19, MASTERED)?;
-    try_refused(&rt, alloc, &one_line(&BUILD, 100, &bad), 8, DAMAGED)?;
-    try_refused(&rt, alloc, &one_line(&BUILD, 100, &spent), 18, ORDER_SPENT)?;
-    try_refused(
-        &rt,
-        alloc,
-        &with_text(&BUILD, &long, 100, &[]),
-        17,
-        ROW_REFUSED,
-    )?;
-    try_refused(
-        &rt,
-        alloc,
-        &one_line(&BUILD, 100, &last),
-        20,
-        GENERATIONS_SPENT,
-    )?;
-    // Damage goes before a foreign master, that before a spent order, that before a row, and that before a spent
-    // generation.
-    try_refused(&rt, alloc, &with_text(&OTHER, &long, 100, &bad), 8, DAMAGED)?;
-    try_refused(&rt, alloc, &one_line(&OTHER, 100, &spent), 19, MASTERED)?;
-    try_refused(
-        &rt,
-        alloc,
-        &with_text(&BUILD, &long, 100, &spent),
-        18,
-        ORDER_SPENT,
-    )?;
-    try_refused(
-        &rt,
-        alloc,
-        &with_text(&BUILD, &long, 100, &last),
-        17,
-        ROW_REFUSED,
-    )
-}
-
-#[test]
-fn longest_text(rt: HostRuntime) -> Result<(), Fail> {
-    let alloc = rt.alloc();
-    // Comments make no row.
-    let text = vec![in alloc; b'#'; TEXT_MAX + 1]?;
-    let site = with_text(&BUILD, &text, 100, &[]);
-    let disk = try_build(&rt, alloc, &site, 6, "", "yp: too long at 33554432\n")?;
-    assert!(rt; disk.bytes().is_empty());
-    let site = with_text(&BUILD, &text[1..], 100, &[]);
-    let line = "lab/hosts.byname order 100 rows 0 generation 1\n";
-    try_build(&rt, alloc, &site, 0, line, "")?;
-    Ok(())
-}
-
-const DISK_FAULT: &str = "yp: disk fault in lab/hosts.byname\n";
-
-/// A build whose disk fails at a call, or from it on, for each call up to the last: it is told, and each file that a crash
-/// may leave stands for what stood or for the new version; once the last call was done, for that alone.
-fn try_faults<R: RandomSource + Abort>(
-    rt: &R,
-    alloc: Global,
-    file: &[u8],
+/// A file, the last of the calls of its disk when a version is stored on it, and the line and the version that come.
+#[derive(Clone, Copy)]
+struct Site<'a> {
+    file: &'a [u8],
     last: u64,
-    line: &str,
+    line: &'a str,
     new: (u32, bool),
-) -> Result<(), Fail> {
-    let before = order_of(rt, alloc, file)?;
-    for call in 0..=last {
-        let none: &[u64] = &[];
-        let only: &[u64] = &[call];
-        for (stop, failing) in [(Some(call), none), (None, only)] {
-            let site = with_faults(file, stop, failing);
-            let done = call == last;
-            let (code, output, note) = if done {
-                (0, line, "")
-            } else {
-                (10, "", DISK_FAULT)
-            };
-            let disk = try_build(rt, alloc, &site, code, output, note)?;
-            for kept in 0..8 {
-                let Ok(left) = disk.crashed(kept) else {
-                    return Err("no memory".into());
-                };
-                let stands = order_of(rt, alloc, &left)?;
-                let is_new = stands == Some(new);
-                assert!(rt;
-                    is_new || !done && stands == before,
-                    "call {call}, kept {kept}"
-                );
-            }
-        }
+}
+
+/// A build whose disk fails at a call, or from it on. It is told, and each file that a crash may leave stands for what
+/// stood or for the new version; once the last call was done, for that alone.
+fn try_fault<R: RandomSource + Abort>(
+    rt: &R,
+    alloc: Global,
+    words: &[String],
+    site: &Site<'_>,
+    before: Stands,
+    call: u64,
+    scene: &Scene<'_>,
+) {
+    let new = Some(site.new);
+    let (told, allowed) = if call == site.last {
+        ((0, site.line.as_bytes(), [].as_slice()), [new, new])
+    } else {
+        ((10, [].as_slice(), DISK_FAULT.as_bytes()), [before, new])
+    };
+    let came = play(rt, alloc, words, scene);
+    assert_eq!(rt; came.told(), told, "call {call}, stop {:?}", scene.stop);
+    assert_eq!(rt; came.images.len() as u64, CRASHES);
+    for (kept, image) in came.images.iter().enumerate() {
+        let stands = stands_of(rt, alloc, image);
+        assert!(rt;
+            allowed.contains(&stands),
+            "call {call}, stop {:?}, kept {kept}",
+            scene.stop
+        );
     }
-    Ok(())
+}
+
+/// The same for each call up to the last.
+fn try_faults<R: RandomSource + Abort>(rt: &R, alloc: Global, words: &[String], site: &Site<'_>) {
+    let before = stands_of(rt, alloc, site.file);
+    for call in 0..=site.last {
+        let from = Scene {
+            input: HOSTS,
+            file: site.file,
+            stop: Some(call),
+            crashes: CRASHES,
+            ..FAIR
+        };
+        let only = Scene {
+            stop: None,
+            disk: &[call],
+            ..from
+        };
+        try_fault(rt, alloc, words, site, before, call, &from);
+        try_fault(rt, alloc, words, site, before, call, &only);
+    }
 }
 
 #[test]
 fn each_disk_call_fails(rt: HostRuntime) -> Result<(), Fail> {
     let alloc = rt.alloc();
+    let words = strings(alloc, &BUILD)?;
     // Two calls load an empty file, and nine store a version on it.
-    let line = "lab/hosts.byname order 100 rows 1 generation 1\n";
-    try_faults(&rt, alloc, &[], 11, line, (100, false))?;
+    let empty = Site {
+        file: &[],
+        last: 11,
+        line: "lab/hosts.byname order 100 rows 1 generation 1\n",
+        new: (100, false),
+    };
+    try_faults(&rt, alloc, &words, &empty);
     // Four calls load this one, and five store a version on it.
-    let hosts = bytes(alloc, &[CELLS, "00000001", BODY])?;
-    let line = "lab/hosts.byname order 101 rows 1 generation 2\n";
-    try_faults(&rt, alloc, &hosts, 9, line, (101, false))?;
+    let file = bytes(alloc, &[CELLS, OPEN, ORDER, REST])?;
+    let stored = Site {
+        file: &file,
+        last: 9,
+        line: LINE_101,
+        new: (101, false),
+    };
+    try_faults(&rt, alloc, &words, &stored);
     Ok(())
 }

@@ -1,4 +1,4 @@
-//! Tests of `yp_tools`.
+//! Tests of `yp_tools`: what memory alone can show, as calls that fail, crashes and moments. The rest is in examples/.
 #![tactic(auto)]
 
 #[cfg(test)]
@@ -13,3 +13,7 @@ mod question;
 mod sample;
 #[cfg(test)]
 mod session;
+#[cfg(test)]
+mod stage;
+#[cfg(test)]
+mod status;

@@ -1,0 +1,239 @@
+//! Runs of the program over memory.
+
+ghost use Rattle.std.specs.Prelude.{◌≡◌, All, IfOk};
+ghost use Rattle.yp_io.specs.MemDial.{IsNew};
+ghost use Rattle.yp_words.specs.Words.{disk_names, texts};
+ghost use Rattle.yp_tools.specs.Disks.{names_of};
+
+use std::alloc::{AllocError, Global};
+use std::process::Abort;
+use std::random::RandomSource;
+use yp_board::MapName;
+use yp_io::{MemDial, MemDisk, MemSink, MemSource, MemTexts, MemWire, Pair, SetClock, TextFile};
+use yp_tools::{NamedDisk, Outside, Status, disk_names, named_disks, run};
+
+/// The outside in memory.
+type Memory = Outside<MemSource, MemSink, MemDisk, SetClock, MemDial, MemTexts>;
+
+/// What a run finds outside. Calls that fail are told by their numbers, from 0.
+#[derive(Clone, Copy)]
+pub(crate) struct Scene<'a> {
+    pub input: &'a [u8],
+    /// The most bytes of a read of the input.
+    pub read: usize,
+    pub reads: &'a [u64],
+    /// The most bytes of a write to the output.
+    pub write: usize,
+    pub writes: &'a [u64],
+    /// The file of each map that the words name.
+    pub file: &'a [u8],
+    /// The call from which on a disk fails, and the further ones that fail.
+    pub stop: Option<u64>,
+    pub disk: &'a [u64],
+    pub moment: u32,
+    /// What the only wire gives, where there is one, and the reads of it that fail.
+    pub wire: Option<&'a [u8]>,
+    pub wire_reads: &'a [u64],
+    pub dials: &'a [u64],
+    /// The text of hosts, and the reads of texts that fail.
+    pub hosts: &'a [u8],
+    pub texts: &'a [u64],
+    /// How many crashes of the disk are tried afterwards.
+    pub crashes: u64,
+}
+
+/// Nothing outside fails.
+pub(crate) const FAIR: Scene<'static> = Scene {
+    input: &[],
+    read: 65_536,
+    reads: &[],
+    write: 4096,
+    writes: &[],
+    file: &[],
+    stop: None,
+    disk: &[],
+    moment: 100,
+    wire: None,
+    wire_reads: &[],
+    dials: &[],
+    hosts: &[],
+    texts: &[],
+    crashes: 0,
+};
+
+/// What came of a run.
+#[derive(Debug, PartialEq, Eq, Drop)]
+pub(crate) struct Came {
+    pub code: u8,
+    pub output: Vec<u8>,
+    pub notes: Vec<u8>,
+    /// The maps whose disks came back, and the bytes of these, each behind the one before.
+    pub maps: Vec<u8>,
+    pub file: Vec<u8>,
+    /// What crashes may leave of the disks.
+    pub images: Vec<Vec<u8>>,
+}
+
+impl Came {
+    /// The code, the output and the notes.
+    pub(crate) fn told(&self) -> (u8, &[u8], &[u8]) {
+        (self.code, &self.output, &self.notes)
+    }
+}
+
+/// What is to come of a run of words that name no map.
+pub(crate) fn wanted(
+    alloc: Global,
+    code: u8,
+    output: &[u8],
+    notes: &str,
+) -> Result<Came, AllocError> {
+    wanted_of(alloc, code, output, notes, &[], &[])
+}
+
+/// What is to come of a run of words that name one map, and what its file then holds.
+pub(crate) fn wanted_of(
+    alloc: Global,
+    code: u8,
+    output: &[u8],
+    notes: &str,
+    map: &[u8],
+    file: &[u8],
+) -> Result<Came, AllocError> {
+    Ok(Came {
+        code,
+        output: Vec::from_slice(alloc, output)?,
+        notes: Vec::from_slice(alloc, notes.as_bytes())?,
+        maps: Vec::from_slice(alloc, map)?,
+        file: Vec::from_slice(alloc, file)?,
+        images: Vec::new(alloc),
+    })
+}
+
+pub(crate) fn strings(alloc: Global, words: &[&str]) -> Result<Vec<String>, AllocError> {
+    let mut owned = Vec::new(alloc);
+    for word in words {
+        owned.push(String::from_str(alloc, word)?)?;
+    }
+    Ok(owned)
+}
+
+/// The bytes, or the numbers of calls, of a scene.
+fn copied<R: Abort, T: Copy>(rt: &R, alloc: Global, items: &[T]) -> Vec<T> {
+    Vec::from_slice(alloc, items).expect(rt, "memory")
+}
+
+fn disk_of(alloc: Global, scene: &Scene<'_>) -> Result<MemDisk, AllocError> {
+    let bytes = Vec::from_slice(alloc, scene.file)?;
+    let failing = Vec::from_slice(alloc, scene.disk)?;
+    Ok(MemDisk::new(alloc, bytes, scene.stop, failing))
+}
+
+/// The disks that the words name.
+fn disks_of(
+    alloc: Global,
+    words: &[String],
+    scene: &Scene<'_>,
+) -> Result<Vec<NamedDisk<MemDisk>>, AllocError>
+    ensures { IfOk result (λ disks. names_of disks.items ≡ disk_names (texts words.now)) }
+{
+    let Ok(names) = disk_names(alloc, words) else {
+        return Err(AllocError);
+    };
+    let make = |_: &MapName| disk_of(alloc, scene);
+    named_disks(alloc, names, make)
+}
+
+/// The wires that come.
+fn wires_of<R: Abort>(rt: &R, alloc: Global, scene: &Scene<'_>) -> Vec<MemWire>
+    ensures { All IsNew result.items }
+{
+    let mut wires = Vec::new(alloc);
+    if let Some(input) = scene.wire {
+        let wire = Pair {
+            source: MemSource::new(
+                copied(rt, alloc, input),
+                65_536,
+                copied(rt, alloc, scene.wire_reads),
+            ),
+            sink: MemSink::new(alloc, 4096, Vec::new(alloc)),
+        };
+        wires.push(wire).expect(rt, "memory");
+    }
+    wires
+}
+
+/// The texts that maps are made of.
+fn texts_of<R: Abort>(rt: &R, alloc: Global, scene: &Scene<'_>) -> MemTexts {
+    let hosts = (TextFile::Hosts, copied(rt, alloc, scene.hosts));
+    let mut texts = Vec::new(alloc);
+    texts.push(hosts).expect(rt, "memory");
+    MemTexts::new(texts, copied(rt, alloc, scene.texts))
+}
+
+/// The outside of a scene.
+fn memory_of<R: Abort>(rt: &R, alloc: Global, words: &[String], scene: &Scene<'_>) -> Memory
+    ensures { names_of result.disks.items ≡ disk_names (texts words.now) }
+{
+    Outside {
+        input: MemSource::new(
+            copied(rt, alloc, scene.input),
+            scene.read.max(1),
+            copied(rt, alloc, scene.reads),
+        ),
+        output: MemSink::new(alloc, scene.write.max(1), copied(rt, alloc, scene.writes)),
+        notes: MemSink::new(alloc, 4096, Vec::new(alloc)),
+        disks: disks_of(alloc, words, scene).expect(rt, "disks"),
+        clock: SetClock {
+            moment: scene.moment,
+        },
+        dial: MemDial::new(
+            alloc,
+            wires_of(rt, alloc, scene),
+            copied(rt, alloc, scene.dials),
+        ),
+        texts: texts_of(rt, alloc, scene),
+    }
+}
+
+/// What is found outside after a run.
+fn came_of<R: Abort>(
+    rt: &R,
+    alloc: Global,
+    status: &Status,
+    outside: &Memory,
+    crashes: u64,
+) -> Came {
+    let mut maps = Vec::new(alloc);
+    let mut file = Vec::new(alloc);
+    let mut images = Vec::new(alloc);
+    for named in &outside.disks {
+        maps.extend_from_slice(&named.name.map).expect(rt, "memory");
+        file.extend_from_slice(named.disk.bytes())
+            .expect(rt, "memory");
+        for kept in 0..crashes {
+            let image = named.disk.crashed(kept).expect(rt, "memory");
+            images.push(image).expect(rt, "memory");
+        }
+    }
+    Came {
+        code: status.code(),
+        output: copied(rt, alloc, outside.output.taken()),
+        notes: copied(rt, alloc, outside.notes.taken()),
+        maps,
+        file,
+        images,
+    }
+}
+
+/// Runs these words.
+pub(crate) fn play<R: RandomSource + Abort>(
+    rt: &R,
+    alloc: Global,
+    words: &[String],
+    scene: &Scene<'_>,
+) -> Came {
+    let outside = memory_of(rt, alloc, words, scene);
+    let (status, outside) = run(alloc, rt, words, outside);
+    came_of(rt, alloc, &status, &outside, scene.crashes)
+}

@@ -1,0 +1,108 @@
+//! The codes of statuses, and the notes that tell them.
+
+ghost use Rattle.yp_board.specs.Catalogues.{name_view};
+ghost use Rattle.yp_words.specs.Words.{IsNamed};
+ghost use Rattle.yp_tools.specs.Status.{IsTellable};
+
+use std::alloc::Global;
+use std::process::Abort;
+use yp_board::MapName;
+use yp_io::MemSink;
+use yp_msgs::YpStat;
+use yp_tools::{Status, tell};
+
+/// The code of a status, and the note that tells it.
+fn told_of<R: Abort>(rt: &R, alloc: Global, status: &Status) -> (u8, Vec<u8>)
+    requires { IsTellable status.now }
+{
+    let mut notes = MemSink::new(alloc, 4096, Vec::new(alloc));
+    tell(&mut notes, status);
+    let note = Vec::from_slice(alloc, notes.taken()).expect(rt, "memory");
+    (status.code(), note)
+}
+
+/// Compares the code of a status, and the note that tells it.
+fn try_note<R: Abort>(rt: &R, alloc: Global, status: &Status, code: u8, note: &[u8])
+    requires { IsTellable status.now }
+{
+    let (told, line) = told_of(rt, alloc, status);
+    assert_eq!(rt; (told, line.as_slice()), (code, note), "{status:?}");
+}
+
+#[test]
+fn codes_and_notes(rt: HostRuntime) {
+    let alloc = rt.alloc();
+    try_note(&rt, alloc, &Status::Done, 0, b"");
+    let status = Status::Usage { word: 12 };
+    try_note(&rt, alloc, &status, 2, b"yp: usage at word 12\n");
+    try_note(&rt, alloc, &Status::ReadFault, 3, b"yp: read fault\n");
+    try_note(&rt, alloc, &Status::WriteFault, 4, b"yp: write fault\n");
+    let status = Status::Torn { at: u64::MAX };
+    let note = b"yp: torn record at 18446744073709551615\n";
+    try_note(&rt, alloc, &status, 5, note);
+    let status = Status::TooLong { at: 80 };
+    try_note(&rt, alloc, &status, 6, b"yp: too long at 80\n");
+    try_note(&rt, alloc, &Status::NoMemory, 7, b"yp: no memory\n");
+    let status = Status::Rows {
+        row: u32::MAX,
+        rule: 3,
+    };
+    try_note(&rt, alloc, &status, 17, b"yp: row 4294967295 rule 3\n");
+    try_note(&rt, alloc, &Status::OrderSpent, 18, b"yp: order spent\n");
+    try_note(&rt, alloc, &Status::Enough, 23, b"yp: enough calls\n");
+}
+
+#[test]
+fn answers_in_notes(rt: HostRuntime) {
+    let alloc = rt.alloc();
+    try_note(&rt, alloc, &Status::No, 1, b"");
+    let status = Status::Yp { stat: YpStat::Vers };
+    try_note(&rt, alloc, &status, 11, b"yp: server says -8\n");
+    let status = Status::Yp {
+        stat: YpStat::Nomore,
+    };
+    try_note(&rt, alloc, &status, 11, b"yp: server says 2\n");
+    try_note(&rt, alloc, &Status::Denied, 12, b"yp: refused by rpc\n");
+    let status = Status::BadReply { at: 47 };
+    try_note(&rt, alloc, &status, 13, b"yp: bad reply at 47\n");
+    let status = Status::BadXid {
+        want: u32::MAX,
+        got: 0,
+    };
+    let note = b"yp: wrong xid 0 wanted 4294967295\n";
+    try_note(&rt, alloc, &status, 14, note);
+    try_note(&rt, alloc, &Status::DialFault, 15, b"yp: cannot dial\n");
+}
+
+/// The map `hosts.byname` of the domain `lab`.
+fn hosts<R: Abort>(rt: &R, alloc: Global) -> MapName
+    ensures { IsNamed (name_view result) }
+{
+    let domain = Vec::from_slice(alloc, b"lab").expect(rt, "memory");
+    let map = Vec::from_slice(alloc, b"hosts.byname").expect(rt, "memory");
+    MapName { domain, map }
+}
+
+#[test]
+fn names_in_notes(rt: HostRuntime) {
+    let alloc = rt.alloc();
+    let status = Status::Damaged {
+        map: hosts(&rt, alloc),
+        at: u64::MAX,
+        rule: 9,
+    };
+    let note = b"yp: damaged lab/hosts.byname at 18446744073709551615 rule 9\n";
+    try_note(&rt, alloc, &status, 8, note);
+    let map = hosts(&rt, alloc);
+    let note = b"yp: no version of lab/hosts.byname\n";
+    try_note(&rt, alloc, &Status::NoVersion { map }, 9, note);
+    let map = hosts(&rt, alloc);
+    let note = b"yp: disk fault in lab/hosts.byname\n";
+    try_note(&rt, alloc, &Status::DiskFault { map }, 10, note);
+    let master = Vec::from_slice(alloc, b"m\xff").expect(&rt, "memory");
+    let note = b"yp: mastered by m\xff\n";
+    try_note(&rt, alloc, &Status::Refused { master }, 19, note);
+    let map = hosts(&rt, alloc);
+    let note = b"yp: generations spent in lab/hosts.byname\n";
+    try_note(&rt, alloc, &Status::GenerationsSpent { map }, 20, note);
+}
