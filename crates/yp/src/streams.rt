@@ -208,45 +208,65 @@ mod tests {
         }
     }
 
+    // The answers to five reads, and how many failed.
+    fn read_in_turn(source: &mut BlockReader<Script>) -> ([Result<usize, Failed>; 5], u64) {
+        let mut answers = [Ok(0); 5];
+        for answer in &mut answers {
+            *answer = source.read(&mut [0; 2]);
+        }
+        (answers, source.faults)
+    }
+
+    // The same of a reader, where there is memory.
+    fn reads_of(alloc: Global, script: Script) -> Option<([Result<usize, Failed>; 5], u64)> {
+        match BlockReader::new(alloc, script) {
+            Ok(mut source) => Some(read_in_turn(&mut source)),
+            Err(_) => None,
+        }
+    }
+
     #[test]
     fn reads(rt: HostRuntime) -> Result<(), Fail> {
-        let script = Script {
-            answers: vec![in rt.alloc();
-                Err(ErrorKind::Interrupted),
-                Ok(3),
-                Err(ErrorKind::PermissionDenied),
-                Ok(1),
-            ]?,
-            calls: 0,
-        };
-        let mut source = BlockReader::new(rt.alloc(), script)?;
-        for (call, answer) in [Ok(2), Ok(1), Err(Failed), Ok(1), Ok(0)].iter().enumerate() {
-            assert_eq!(rt; source.read(&mut [0; 2]), *answer, "at call {call}");
-        }
-        assert_eq!(rt; source.faults, 1);
+        let answers = vec![in rt.alloc();
+            Err(ErrorKind::Interrupted),
+            Ok(3),
+            Err(ErrorKind::PermissionDenied),
+            Ok(1),
+        ]?;
+        let came = reads_of(rt.alloc(), Script { answers, calls: 0 });
+        assert_eq!(rt; came, Some(([Ok(2), Ok(1), Err(Failed), Ok(1), Ok(0)], 1)));
         Ok(())
+    }
+
+    // What four writes and two flushes answer, and how many failed.
+    type Written = ([Result<usize, Failed>; 4], [Result<(), Failed>; 2], u64);
+
+    fn write_in_turn(sink: &mut DirectWriter<Script>) -> Written {
+        let mut answers = [Ok(0); 4];
+        for answer in &mut answers {
+            *answer = sink.write(b"text");
+        }
+        (answers, [sink.flush(), sink.flush()], sink.faults)
+    }
+
+    fn writes_of(script: Script) -> Written {
+        let mut sink = DirectWriter::new(script);
+        write_in_turn(&mut sink)
     }
 
     #[test]
     fn writes(rt: HostRuntime) -> Result<(), Fail> {
-        let script = Script {
-            answers: vec![in rt.alloc();
-                Ok(3),
-                Ok(0),
-                Err(ErrorKind::BrokenPipe),
-                Ok(9),
-                Ok(0),
-                Err(ErrorKind::StorageFull),
-            ]?,
-            calls: 0,
-        };
-        let mut sink = DirectWriter::new(script);
-        for (call, answer) in [Ok(3), Err(Failed), Err(Failed), Ok(4)].iter().enumerate() {
-            assert_eq!(rt; sink.write(b"text"), *answer, "at call {call}");
-        }
-        assert_eq!(rt; sink.flush(), Ok(()));
-        assert_eq!(rt; sink.flush(), Err(Failed));
-        assert_eq!(rt; sink.faults, 3);
+        let answers = vec![in rt.alloc();
+            Ok(3),
+            Ok(0),
+            Err(ErrorKind::BrokenPipe),
+            Ok(9),
+            Ok(0),
+            Err(ErrorKind::StorageFull),
+        ]?;
+        let came = writes_of(Script { answers, calls: 0 });
+        let written = [Ok(3), Err(Failed), Err(Failed), Ok(4)];
+        assert_eq!(rt; came, (written, [Ok(()), Err(Failed)], 3));
         Ok(())
     }
 }

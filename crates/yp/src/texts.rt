@@ -80,10 +80,9 @@ impl<R: Files + Drop> Texts for TextFolder<R> {
 #[cfg(test)]
 mod tests {
     use super::*;
-    use std::alloc::Allocator;
+    use std::alloc::{Allocator, Global};
     use std::fs::{Metadata, OpenFile, OpenOptions};
     use std::io::{Empty, Seek, SeekFrom, Write};
-    use std::test::Fail;
     use yp_io::TextFile::{Group, Hosts, Netgroup, Passwd, Protocols, Services, Ypservers};
 
     fn unsupported<T>() -> io::Result<T> {
@@ -211,37 +210,67 @@ mod tests {
         }
     }
 
+    // The answer to a read of a text of this system, how many bytes came, and how often it failed.
+    fn read_text(
+        alloc: Global,
+        files: OneFile<'_>,
+        which: TextFile,
+    ) -> (Result<(), TextFault>, usize, u64) {
+        let mut texts = TextFolder::new(files);
+        let mut into = Vec::new(alloc);
+        let answer = texts.read(which, &mut into);
+        (answer, into.len(), texts.faults)
+    }
+
+    const FAILED: Result<usize, TextFault> = Err(TextFault::Failed);
+
+    const NO_MEMORY: Result<usize, TextFault> = Err(TextFault::NoMemory);
+
+    const DENIED: Option<ErrorKind> = Some(ErrorKind::PermissionDenied);
+
+    const FULL: Option<ErrorKind> = Some(ErrorKind::OutOfMemory);
+
+    const LONG: u64 = TEXT_MAX as u64 + 1;
+
+    // A text, the one file, its length, how many bytes its reads give, how they end, and how many must come.
+    type Case = (
+        TextFile,
+        &'static str,
+        Option<u64>,
+        usize,
+        Option<ErrorKind>,
+        Result<usize, TextFault>,
+    );
+
+    const CASES: [Case; 9] = [
+        (Passwd, "ypsrc/passwd", Some(5), 5, None, Ok(5)),
+        (Group, "ypsrc/group", Some(0), 0, None, Ok(0)),
+        (Hosts, "ypsrc/hosts", Some(0), TEXT_MAX, None, Ok(TEXT_MAX)),
+        (Hosts, "ypsrc/hosts", Some(5), TEXT_MAX + 1, None, FAILED),
+        (Hosts, "hosts", Some(5), 5, None, FAILED),
+        (Services, "ypsrc/services", None, 5, None, FAILED),
+        (Protocols, "ypsrc/protocols", Some(LONG), 5, None, FAILED),
+        (Netgroup, "ypsrc/netgroup", Some(9), 5, DENIED, FAILED),
+        (Ypservers, "ypsrc/ypservers", Some(9), 5, FULL, NO_MEMORY),
+    ];
+
     #[test]
-    fn texts_and_what_is_none(rt: HostRuntime) -> Result<(), Fail> {
-        let (failed, no_memory) = (Err(TextFault::Failed), Err(TextFault::NoMemory));
-        let denied = Some(ErrorKind::PermissionDenied);
-        let full = Some(ErrorKind::OutOfMemory);
-        let long = TEXT_MAX as u64 + 1;
-        let cases = [
-            (Passwd, "ypsrc/passwd", Some(5), 5, None, Ok(5)),
-            (Group, "ypsrc/group", Some(0), 0, None, Ok(0)),
-            (Hosts, "ypsrc/hosts", Some(0), TEXT_MAX, None, Ok(TEXT_MAX)),
-            (Hosts, "ypsrc/hosts", Some(5), TEXT_MAX + 1, None, failed),
-            (Hosts, "hosts", Some(5), 5, None, failed),
-            (Services, "ypsrc/services", None, 5, None, failed),
-            (Protocols, "ypsrc/protocols", Some(long), 5, None, failed),
-            (Netgroup, "ypsrc/netgroup", Some(9), 5, denied, failed),
-            (Ypservers, "ypsrc/ypservers", Some(9), 5, full, no_memory),
-        ];
-        for (case, (which, path, len, bytes, fault, want)) in cases.into_iter().enumerate() {
+    fn texts_and_what_is_none(rt: HostRuntime) {
+        for (which, path, len, bytes, fault, want) in &CASES {
             let reads = Reads {
                 interrupted: false,
-                bytes,
-                fault,
+                bytes: *bytes,
+                fault: *fault,
             };
-            let mut texts = TextFolder::new(OneFile { path, len, reads });
-            let mut into = Vec::new(rt.alloc());
-            let came = texts.read(which, &mut into);
-            assert_eq!(rt; came.map(|()| into.len()), want, "in case {case}");
-            let faults = u64::from(want == failed);
-            assert_eq!(rt; texts.faults, faults, "in case {case}");
-            assert_eq!(rt; into.len(), want.unwrap_or(0), "in case {case}");
+            let file = OneFile {
+                path: *path,
+                len: *len,
+                reads,
+            };
+            let came = read_text(rt.alloc(), file, *which);
+            let faults = u64::from(*want == FAILED);
+            let wanted = (want.map(|_| ()), want.unwrap_or(0), faults);
+            assert_eq!(rt; came, wanted, "{which:?} at {path}, of {len:?} bytes");
         }
-        Ok(())
     }
 }

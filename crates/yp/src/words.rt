@@ -56,6 +56,7 @@ fn no_text(alloc: Global) -> Result<String, AllocError>
 #[cfg(test)]
 mod tests {
     use super::*;
+    use std::process::Abort;
     use std::test::Fail;
 
     // A program that was started with these words.
@@ -85,6 +86,18 @@ mod tests {
         }
     }
 
+    // The word and the one behind it must have come, or where it is no text, one that is longer than any.
+    fn assert_words(rt: &impl Abort, case: usize, came: &[String], word: &[u8], is_text: bool) {
+        match came {
+            [first, last] if is_text => {
+                let found = (first.as_bytes(), last.as_str());
+                assert_eq!(rt; found, (word, "maps"), "in case {case}");
+            }
+            [only] if !is_text => assert!(rt; only.len() > WORD_MAX, "in case {case}"),
+            _ => assert!(rt; false, "{} words in case {case}", came.len()),
+        }
+    }
+
     #[test]
     fn words_and_what_is_no_text(rt: HostRuntime) -> Result<(), Fail> {
         let long = vec![in rt.alloc(); b'k'; WORD_MAX + 1]?;
@@ -96,19 +109,12 @@ mod tests {
             (b"k=\xff", false),
             (&long, false),
         ];
-        for (case, (word, is_text)) in cases.into_iter().enumerate() {
+        for (case, (word, is_text)) in cases.iter().enumerate() {
             let script = Script {
-                words: &[b"yp", word, b"maps"],
+                words: &[b"yp", *word, b"maps"],
             };
             let came = words(&script, rt.alloc())?;
-            match came.as_slice() {
-                [first, last] if is_text => {
-                    assert_eq!(rt; first.as_bytes(), word, "in case {case}");
-                    assert_eq!(rt; last.as_str(), "maps", "in case {case}");
-                }
-                [only] if !is_text => assert!(rt; only.len() > WORD_MAX, "in case {case}"),
-                _ => return Err(Fail::new("not as many words as there must be")),
-            }
+            assert_words(&rt, case, &came, *word, *is_text);
         }
         Ok(())
     }

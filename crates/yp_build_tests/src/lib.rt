@@ -2,4 +2,10 @@
 #![tactic(auto)]
 
 #[cfg(test)]
-mod texts;
+mod given;
+#[cfg(test)]
+mod kinds;
+#[cfg(test)]
+mod rows;
+#[cfg(test)]
+mod versions;

@@ -2,4 +2,12 @@
 #![tactic(auto)]
 
 #[cfg(test)]
-mod forms;
+mod dial;
+#[cfg(test)]
+mod disk;
+#[cfg(test)]
+mod given;
+#[cfg(test)]
+mod streams;
+#[cfg(test)]
+mod texts;

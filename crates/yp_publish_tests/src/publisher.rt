@@ -6,6 +6,7 @@ use std::random::RandomSource;
 use std::sync::Arc;
 use std::test::Fail;
 use yp_board::{Catalog, MapName, PlainBoard};
+use yp_for_tests::bytes;
 use yp_io::MemDisk;
 use yp_publish::*;
 use yp_slot::SlotFault;
@@ -29,55 +30,67 @@ const DAMAGED_FILE: &str = "01000000 00000009 00000000 00000001 00000000 0000004
     00000001 00000064 00000002 6d310000 00000001 00000005 616c7068 61000000
     0000000e 31302e30 2e302e31 20616c70 68610000";
 
-// The bytes of a text of hexadecimal words.
-fn bytes_of(alloc: Global, text: &str) -> Result<Vec<u8>, Fail> {
-    let mut bytes = Vec::new(alloc);
-    for word in text.split_whitespace() {
-        bytes.extend_from_slice(&hex::decode(alloc, word)?)?;
+// The files of these texts.
+fn files_of(alloc: Global, texts: &[&str]) -> Result<Vec<Vec<u8>>, Fail> {
+    let mut files = Vec::new(alloc);
+    for text in texts {
+        files.push(bytes(alloc, &[*text])?)?;
     }
-    Ok(bytes)
+    Ok(files)
 }
 
 // Disks with these files.
-fn disks_of(alloc: Global, files: &[&str]) -> Result<Vec<MemDisk>, Fail> {
+fn disks_of(rt: &impl Abort, alloc: Global, files: Vec<Vec<u8>>) -> Vec<MemDisk> {
     let mut disks = Vec::new(alloc);
     for file in files {
-        let bytes = bytes_of(alloc, *file)?;
-        disks.push(MemDisk::new(alloc, bytes, None, Vec::new(alloc)))?;
+        disks
+            .push(MemDisk::new(alloc, file, None, Vec::new(alloc)))
+            .expect(rt, "memory for disks");
     }
-    Ok(disks)
+    disks
 }
 
-// A version of this order and master with the row of the hosts file.
-fn version<R: RandomSource + Abort>(rt: &R, alloc: Global, order: u32, master: &[u8]) -> Version {
-    assert!(rt; master.len() <= 64);
-    let mut builder = VersionBuilder::new(alloc, rt, order, master).expect(rt, "a builder");
+fn put_row(rt: &impl Abort, builder: &mut VersionBuilder) {
     assert_eq!(rt; builder.push(b"alpha", b"10.0.0.1 alpha"), Ok(true));
+}
+
+// A version of this order with the row of the hosts file.
+fn version<R: RandomSource + Abort>(
+    rt: &R,
+    alloc: Global,
+    order: u32,
+    master: &[u8; 2],
+) -> Version {
+    let mut builder = VersionBuilder::new(alloc, rt, order, master).expect(rt, "a builder");
+    put_row(rt, &mut builder);
     builder.finish().expect(rt, "a version")
 }
 
-// The catalogue of a host, with so many maps of the domain `lab`.
-fn catalog(rt: &impl Abort, alloc: Global, own: &[u8], count: u8) -> Result<Catalog, Fail> {
-    let mut maps = Vec::new(alloc);
-    for number in 0..count {
-        maps.push(MapName {
-            domain: Vec::from_slice(alloc, b"lab")?,
-            map: Vec::from_slice(alloc, &[number])?,
-        })?;
-    }
-    Ok(Catalog::new(alloc, Vec::from_slice(alloc, own)?, maps).expect(rt, "a catalogue"))
+fn owned(rt: &impl Abort, alloc: Global, bytes: &[u8]) -> Vec<u8> {
+    bytes.to_vec(alloc).expect(rt, "memory for bytes")
 }
 
-// The orders that files stand for.
-fn orders(alloc: Global, shown: &[Option<Arc<Version>>]) -> Result<Vec<Option<u32>>, Fail> {
-    let mut orders = Vec::new(alloc);
-    for version in shown {
-        orders.push(version.as_ref().map(|version| version.order()))?;
+// The catalogue of a host, with so many maps of the domain `lab`.
+fn catalog(rt: &impl Abort, alloc: Global, own: &[u8], count: u8) -> Catalog {
+    let mut maps = Vec::new(alloc);
+    for number in 0..count {
+        let (domain, map) = (owned(rt, alloc, b"lab"), owned(rt, alloc, &[number]));
+        maps.push(MapName { domain, map })
+            .expect(rt, "memory for names");
     }
-    Ok(orders)
+    Catalog::new(alloc, owned(rt, alloc, own), maps).expect(rt, "a catalogue")
 }
 
 type Maps = Publisher<MemDisk, PlainBoard>;
+
+fn load(
+    rt: &(impl RandomSource + Abort),
+    alloc: Global,
+    disks: Vec<MemDisk>,
+) -> Result<Loaded<MemDisk>, StartRefused<MemDisk>> {
+    assert!(rt; disks.len() <= 64);
+    load_all(alloc, rt, disks)
+}
 
 // A publisher of these disks on a host of this name.
 fn published<R: RandomSource + Abort>(
@@ -85,46 +98,22 @@ fn published<R: RandomSource + Abort>(
     alloc: Global,
     own: &[u8],
     disks: Vec<MemDisk>,
-) -> Result<Maps, Fail> {
-    assert!(rt; disks.len() <= 64);
-    let loaded = load_all(alloc, rt, disks).expect(rt, "loaded disks");
+) -> Maps {
+    let loaded = load(rt, alloc, disks).expect(rt, "loaded disks");
     let start = loaded.shown(alloc).expect(rt, "versions");
     assert!(rt; start.len() <= 64);
-    let catalog = catalog(rt, alloc, own, start.len() as u8)?;
+    let catalog = catalog(rt, alloc, own, start.len() as u8);
     assert_eq!(rt; start.len(), catalog.len() as usize);
     let copy = catalog.copy(alloc).expect(rt, "a catalogue");
     laws::starts_are_shown();
     let board = PlainBoard::new(alloc, copy, start).expect(rt, "a board");
-    Ok(Publisher::new(loaded, catalog, board))
-}
-
-// Offers a version of a map.
-fn install<R: RandomSource + Abort>(
-    rt: &R,
-    maps: &mut Maps,
-    map: u32,
-    version: Version,
-    origin: Origin,
-    force: bool,
-    alloc: Global,
-) -> Result<Installed, InstallFault> {
-    assert!(rt; map < maps.catalog().len());
-    maps.install(alloc, map, version, origin, force)
-}
-
-// Builds a version of map 0.
-fn build<R: RandomSource + Abort>(
-    rt: &R,
-    alloc: Global,
-    maps: &mut Maps,
-    order: u32,
-) -> Result<Installed, InstallFault> {
-    let version = version(rt, alloc, order, b"m1");
-    install(rt, maps, 0, version, Origin::Built, false, alloc)
+    Publisher::new(loaded, catalog, board)
 }
 
 // The order that is shown of a map, its generation, and how it stands.
-fn state(rt: &impl Abort, maps: &Maps, map: u32) -> (Option<u32>, u64, Standing) {
+type State = (Option<u32>, u64, Standing);
+
+fn state(rt: &impl Abort, maps: &Maps, map: u32) -> State {
     assert!(rt; map < maps.catalog().len());
     let order = match maps.shown(map) {
         Some(version) => Some(version.order()),
@@ -133,45 +122,196 @@ fn state(rt: &impl Abort, maps: &Maps, map: u32) -> (Option<u32>, u64, Standing)
     (order, maps.generation(map), maps.standing(map))
 }
 
-fn reopen<R: RandomSource + Abort>(
+// What is offered of a map.
+#[derive(Clone, Copy)]
+struct Offer {
+    map: u32,
+    order: u32,
+    master: &'static [u8; 2],
+    origin: Origin,
+    force: bool,
+}
+
+fn install<R: RandomSource + Abort>(
     rt: &R,
     alloc: Global,
     maps: &mut Maps,
-) -> Result<(), SlotFault> {
-    assert!(rt; 0 < maps.catalog().len());
-    maps.reopen(alloc, rt, 0)
+    offer: Offer,
+) -> Result<Installed, InstallFault> {
+    assert!(rt; offer.map < maps.catalog().len());
+    let version = version(rt, alloc, offer.order, offer.master);
+    maps.install(alloc, offer.map, version, offer.origin, offer.force)
 }
 
 fn done(order: u32, generation: u64) -> Result<Installed, InstallFault> {
     Ok(Installed { order, generation })
 }
 
-// A publisher of an empty disk, which stops at a call or fails at one, after two builds.
-fn built_twice<R: RandomSource + Abort>(
+// A call of map 0.
+#[derive(Clone, Copy, Debug)]
+enum Call {
+    Look,
+    Build(u32),
+    Reopen,
+}
+
+// What it answers.
+#[derive(Clone, Copy, Debug, PartialEq, Eq)]
+enum Answer {
+    Looked,
+    Done { order: u32, generation: u64 },
+    Reopened,
+    DiskFault,
+    Behind,
+    Other,
+}
+
+fn build<R: RandomSource + Abort>(rt: &R, alloc: Global, maps: &mut Maps, order: u32) -> Answer {
+    let offer = Offer {
+        map: 0,
+        order,
+        master: b"m1",
+        origin: Origin::Built,
+        force: false,
+    };
+    match install(rt, alloc, maps, offer) {
+        Ok(Installed { order, generation }) => Answer::Done { order, generation },
+        Err(InstallFault::DiskFault) => Answer::DiskFault,
+        Err(InstallFault::Behind) => Answer::Behind,
+        Err(_) => Answer::Other,
+    }
+}
+
+fn reopen<R: RandomSource + Abort>(rt: &R, alloc: Global, maps: &mut Maps) -> Answer {
+    assert!(rt; 0 < maps.catalog().len());
+    match maps.reopen(alloc, rt, 0) {
+        Ok(()) => Answer::Reopened,
+        Err(SlotFault::DiskFault) => Answer::DiskFault,
+        Err(_) => Answer::Other,
+    }
+}
+
+fn make_call<R: RandomSource + Abort>(
+    rt: &R,
+    alloc: Global,
+    maps: &mut Maps,
+    call: Call,
+) -> Answer {
+    match call {
+        Call::Look => Answer::Looked,
+        Call::Build(order) => build(rt, alloc, maps, order),
+        Call::Reopen => reopen(rt, alloc, maps),
+    }
+}
+
+// A call, its answer, and the state behind it.
+type Row = (Call, Answer, State);
+
+const LOOKED: Row = (Call::Look, Answer::Looked, (None, 0, Standing::Level));
+
+const FIRST: Row = (
+    Call::Build(100),
+    Answer::Done {
+        order: 100,
+        generation: 1,
+    },
+    (Some(100), 1, Standing::Level),
+);
+
+const SECOND: Row = (
+    Call::Build(101),
+    Answer::Done {
+        order: 101,
+        generation: 2,
+    },
+    (Some(101), 2, Standing::Level),
+);
+
+const THIRD: Row = (
+    Call::Build(102),
+    Answer::Done {
+        order: 102,
+        generation: 3,
+    },
+    (Some(102), 3, Standing::Level),
+);
+
+// The third build where the disk stops or fails.
+const FAULT: Row = (
+    Call::Build(102),
+    Answer::DiskFault,
+    (Some(101), 2, Standing::Behind),
+);
+
+// Makes the calls in turn.
+fn play<R: RandomSource + Abort>(rt: &R, alloc: Global, maps: &mut Maps, rows: &[Row], what: u64) {
+    for (made, answer, after) in rows {
+        let came = make_call(rt, alloc, maps, *made);
+        let found = state(rt, maps, 0);
+        assert_eq!(rt;
+            (came, found),
+            (*answer, *after),
+            "at {made:?} with call {what}"
+        );
+    }
+}
+
+fn one_disk(rt: &impl Abort, alloc: Global, disk: MemDisk) -> Vec<MemDisk> {
+    vec![in alloc; disk].expect(rt, "memory for a disk")
+}
+
+// A publisher of an empty disk, which stops at a call or fails at some.
+fn empty<R: RandomSource + Abort>(
     rt: &R,
     alloc: Global,
     stop: Option<u64>,
-    failing: Vec<u64>,
-) -> Result<Maps, Fail> {
-    let disks = vec![in alloc; MemDisk::new(alloc, Vec::new(alloc), stop, failing)]?;
-    let mut maps = published(rt, alloc, b"m1", disks)?;
-    assert_eq!(rt; state(rt, &maps, 0), (None, 0, Standing::Level));
-    assert_eq!(rt; build(rt, alloc, &mut maps, 100), done(100, 1));
-    assert_eq!(rt; state(rt, &maps, 0), (Some(100), 1, Standing::Level));
-    assert_eq!(rt; build(rt, alloc, &mut maps, 101), done(101, 2));
-    Ok(maps)
+    failing: &[u64],
+) -> Maps {
+    let failing = failing.to_vec(alloc).expect(rt, "memory for numbers");
+    let disk = MemDisk::new(alloc, Vec::new(alloc), stop, failing);
+    published(rt, alloc, b"m1", one_disk(rt, alloc, disk))
+}
+
+// Makes the calls in turn over an empty disk of which these calls fail.
+fn play_failing<R: RandomSource + Abort>(rt: &R, alloc: Global, failing: &[u64], rows: &[Row]) {
+    let mut maps = empty(rt, alloc, None, failing);
+    play(
+        rt,
+        alloc,
+        &mut maps,
+        rows,
+        failing.first().copied().unwrap_or(0),
+    );
 }
 
 #[test]
-fn three_installs(rt: HostRuntime) -> Result<(), Fail> {
-    let alloc = rt.alloc();
-    let mut maps = built_twice(&rt, alloc, None, Vec::new(alloc))?;
-    assert_eq!(rt; build(&rt, alloc, &mut maps, 102), done(102, 3));
-    assert_eq!(rt; state(&rt, &maps, 0), (Some(102), 3, Standing::Level));
-    // On a level map nothing is done.
-    assert_eq!(rt; reopen(&rt, alloc, &mut maps), Ok(()));
-    assert_eq!(rt; state(&rt, &maps, 0), (Some(102), 3, Standing::Level));
-    Ok(())
+fn three_installs(rt: HostRuntime) {
+    // On a level map a reopen does nothing.
+    let level = (Call::Reopen, Answer::Reopened, THIRD.2);
+    play_failing(&rt, rt.alloc(), &[], &[LOOKED, FIRST, SECOND, THIRD, level]);
+}
+
+// What a crash leaves of the one disk.
+fn left_of(rt: &impl Abort, disks: &[MemDisk], kept: u64) -> Vec<u8> {
+    assert_eq!(rt; disks.len(), 1);
+    disks[0].crashed(kept).expect(rt, "a file")
+}
+
+fn stopped<R: RandomSource + Abort>(rt: &R, alloc: Global, stop: u64, kept: u64) -> Vec<u8> {
+    let mut maps = empty(rt, alloc, Some(stop), &[]);
+    play(rt, alloc, &mut maps, &[LOOKED, FIRST, SECOND, FAULT], stop);
+    let (disks, _board) = maps.into_parts();
+    left_of(rt, &disks, kept)
+}
+
+// The orders that files stand for.
+fn orders(rt: &impl Abort, alloc: Global, shown: &[Option<Arc<Version>>]) -> Vec<Option<u32>> {
+    let mut orders = Vec::new(alloc);
+    for version in shown {
+        let order = version.as_ref().map(|version| version.order());
+        orders.push(order).expect(rt, "memory for orders");
+    }
+    orders
 }
 
 // The orders of the files that these disks have, loaded anew.
@@ -179,81 +319,78 @@ fn loaded_orders<R: RandomSource + Abort>(
     rt: &R,
     alloc: Global,
     disks: Vec<MemDisk>,
-) -> Result<Vec<Option<u32>>, Fail> {
-    assert!(rt; disks.len() <= 64);
-    let loaded = load_all(alloc, rt, disks).expect(rt, "loaded disks");
+) -> Vec<Option<u32>> {
+    let loaded = load(rt, alloc, disks).expect(rt, "loaded disks");
     let shown = loaded.shown(alloc).expect(rt, "versions");
-    orders(alloc, &shown)
+    orders(rt, alloc, &shown)
+}
+
+// The order of a file, loaded anew.
+fn order_of<R: RandomSource + Abort>(rt: &R, alloc: Global, file: Vec<u8>) -> Vec<Option<u32>> {
+    let disk = MemDisk::new(alloc, file, None, Vec::new(alloc));
+    loaded_orders(rt, alloc, one_disk(rt, alloc, disk))
 }
 
 #[test]
-fn third_install_stopped(rt: HostRuntime) -> Result<(), Fail> {
+fn third_install_stopped(rt: HostRuntime) {
     let alloc = rt.alloc();
     // Two calls load an empty disk. Nine, five and seven calls install a version.
     for stop in 16..23 {
-        let mut maps = built_twice(&rt, alloc, Some(stop), Vec::new(alloc))?;
-        let third = build(&rt, alloc, &mut maps, 102);
-        assert_eq!(rt; third, Err(InstallFault::DiskFault), "at {stop}");
-        assert_eq!(rt;
-            state(&rt, &maps, 0),
-            (Some(101), 2, Standing::Behind),
-            "at {stop}"
-        );
-        let (disks, _board) = maps.into_parts();
-        for disk in &disks {
-            for kept in 0..4 {
-                let file = disk.crashed(kept).expect(&rt, "a file");
-                let left = vec![in alloc; MemDisk::new(alloc, file, None, Vec::new(alloc))]?;
-                let found = loaded_orders(&rt, alloc, left)?;
-                let third = stop == 22 && kept % 2 == 1;
-                let order = if third { 102 } else { 101 };
-                assert_eq!(rt;
-                    found.as_slice(),
-                    [Some(order)].as_slice(),
-                    "at {stop}, kept {kept}"
-                );
-            }
+        for kept in 0..4 {
+            let found = order_of(&rt, alloc, stopped(&rt, alloc, stop, kept));
+            let third = stop == 22 && kept % 2 == 1;
+            let order = if third { 102 } else { 101 };
+            assert_eq!(rt;
+                found.as_slice(),
+                [Some(order)].as_slice(),
+                "at {stop}, kept {kept}"
+            );
         }
     }
-    Ok(())
 }
 
 #[test]
-fn reopens_behind(rt: HostRuntime) -> Result<(), Fail> {
-    let alloc = rt.alloc();
+fn reopens_behind(rt: HostRuntime) {
+    let behind = (Call::Build(103), Answer::Behind, FAULT.2);
     // The first call of the third install fails, which writes nothing, or its last sync does.
-    for (failing, order, generation) in [(16, 101, 2), (22, 102, 3)] {
-        let mut maps = built_twice(&rt, alloc, None, vec![in alloc; failing]?)?;
-        let third = build(&rt, alloc, &mut maps, 102);
-        assert_eq!(rt; third, Err(InstallFault::DiskFault));
-        assert_eq!(rt; state(&rt, &maps, 0), (Some(101), 2, Standing::Behind));
-        let again = build(&rt, alloc, &mut maps, 103);
-        assert_eq!(rt; again, Err(InstallFault::Behind));
-        assert_eq!(rt; reopen(&rt, alloc, &mut maps), Ok(()));
-        let opened = (Some(order), generation, Standing::Level);
-        assert_eq!(rt; state(&rt, &maps, 0), opened, "call {failing}");
-        let next = build(&rt, alloc, &mut maps, 103);
-        assert_eq!(rt; next, done(103, generation + 1), "call {failing}");
+    for (failing, order, generation, next) in [(16, 101, 2, 3), (22, 102, 3, 4)] {
+        let level = (Some(order), generation, Standing::Level);
+        let rows = [
+            LOOKED,
+            FIRST,
+            SECOND,
+            FAULT,
+            behind,
+            (Call::Reopen, Answer::Reopened, level),
+            (
+                Call::Build(103),
+                Answer::Done {
+                    order: 103,
+                    generation: next,
+                },
+                (Some(103), next, Standing::Level),
+            ),
+        ];
+        play_failing(&rt, rt.alloc(), &[failing], &rows);
     }
-    Ok(())
 }
 
 #[test]
-fn reopen_that_fails(rt: HostRuntime) -> Result<(), Fail> {
-    let alloc = rt.alloc();
+fn reopen_that_fails(rt: HostRuntime) {
     // The sync of the reopen fails, too.
-    let mut maps = built_twice(&rt, alloc, None, vec![in alloc; 22, 23]?)?;
-    let third = build(&rt, alloc, &mut maps, 102);
-    assert_eq!(rt; third, Err(InstallFault::DiskFault));
-    assert_eq!(rt; reopen(&rt, alloc, &mut maps), Err(SlotFault::DiskFault));
-    assert_eq!(rt; state(&rt, &maps, 0), (Some(101), 2, Standing::Behind));
-    assert_eq!(rt; reopen(&rt, alloc, &mut maps), Ok(()));
-    assert_eq!(rt; state(&rt, &maps, 0), (Some(102), 3, Standing::Level));
-    Ok(())
+    let rows = [
+        LOOKED,
+        FIRST,
+        SECOND,
+        FAULT,
+        (Call::Reopen, Answer::DiskFault, FAULT.2),
+        (Call::Reopen, Answer::Reopened, THIRD.2),
+    ];
+    play_failing(&rt, rt.alloc(), &[22, 23], &rows);
 }
 
 // What is offered to a host of this name whose map has the file of order 100 and master `m1`, and what comes of it.
-type Offered = (&'static [u8], &'static str, Origin, u32, bool, Outcome);
+type Offered = (&'static [u8; 2], &'static str, Origin, u32, bool, Outcome);
 
 #[derive(Clone, Copy)]
 enum Outcome {
@@ -263,154 +400,168 @@ enum Outcome {
     Spent,
 }
 
+const BUILT: Origin = Origin::Built;
+
+const FETCHED: Origin = Origin::Fetched;
+
 const OFFERS: [Offered; 14] = [
-    (
-        b"m1",
-        HOSTS_FILE,
-        Origin::Built,
-        101,
-        false,
-        Outcome::Installs,
-    ),
-    (b"m1", HOSTS_FILE, Origin::Built, 100, false, Outcome::Ages),
-    (b"m1", HOSTS_FILE, Origin::Built, 99, false, Outcome::Ages),
-    (
-        b"m1",
-        HOSTS_FILE,
-        Origin::Built,
-        100,
-        true,
-        Outcome::Installs,
-    ),
-    (
-        b"m1",
-        HOSTS_FILE,
-        Origin::Built,
-        99,
-        true,
-        Outcome::Installs,
-    ),
-    (
-        b"m1",
-        HOSTS_FILE,
-        Origin::Fetched,
-        101,
-        false,
-        Outcome::Refuses,
-    ),
-    (
-        b"m1",
-        HOSTS_FILE,
-        Origin::Fetched,
-        99,
-        true,
-        Outcome::Refuses,
-    ),
-    (
-        b"m2",
-        HOSTS_FILE,
-        Origin::Fetched,
-        101,
-        false,
-        Outcome::Installs,
-    ),
-    (
-        b"m2",
-        HOSTS_FILE,
-        Origin::Fetched,
-        100,
-        false,
-        Outcome::Ages,
-    ),
-    (
-        b"m2",
-        HOSTS_FILE,
-        Origin::Built,
-        99,
-        false,
-        Outcome::Refuses,
-    ),
-    (b"m1", LAST_FILE, Origin::Built, 101, false, Outcome::Spent),
-    (b"m1", LAST_FILE, Origin::Built, 99, true, Outcome::Spent),
-    (b"m1", LAST_FILE, Origin::Built, 99, false, Outcome::Ages),
-    (
-        b"m1",
-        LAST_FILE,
-        Origin::Fetched,
-        101,
-        false,
-        Outcome::Refuses,
-    ),
+    (b"m1", HOSTS_FILE, BUILT, 101, false, Outcome::Installs),
+    (b"m1", HOSTS_FILE, BUILT, 100, false, Outcome::Ages),
+    (b"m1", HOSTS_FILE, BUILT, 99, false, Outcome::Ages),
+    (b"m1", HOSTS_FILE, BUILT, 100, true, Outcome::Installs),
+    (b"m1", HOSTS_FILE, BUILT, 99, true, Outcome::Installs),
+    (b"m1", HOSTS_FILE, FETCHED, 101, false, Outcome::Refuses),
+    (b"m1", HOSTS_FILE, FETCHED, 99, true, Outcome::Refuses),
+    (b"m2", HOSTS_FILE, FETCHED, 101, false, Outcome::Installs),
+    (b"m2", HOSTS_FILE, FETCHED, 100, false, Outcome::Ages),
+    (b"m2", HOSTS_FILE, BUILT, 99, false, Outcome::Refuses),
+    (b"m1", LAST_FILE, BUILT, 101, false, Outcome::Spent),
+    (b"m1", LAST_FILE, BUILT, 99, true, Outcome::Spent),
+    (b"m1", LAST_FILE, BUILT, 99, false, Outcome::Ages),
+    (b"m1", LAST_FILE, FETCHED, 101, false, Outcome::Refuses),
 ];
+
+// The state before an offer of map 0, what it answers, and the state behind it.
+type Came = (State, Result<Installed, InstallFault>, State);
+
+fn offer_to<R: RandomSource + Abort>(rt: &R, alloc: Global, maps: &mut Maps, offer: Offer) -> Came {
+    let before = state(rt, maps, 0);
+    let answer = install(rt, alloc, maps, offer);
+    (before, answer, state(rt, maps, 0))
+}
+
+fn offer_over<R: RandomSource + Abort>(
+    rt: &R,
+    alloc: Global,
+    own: &[u8],
+    file: Vec<u8>,
+    offer: Offer,
+) -> Came {
+    let disk = MemDisk::new(alloc, file, None, Vec::new(alloc));
+    let mut maps = published(rt, alloc, own, one_disk(rt, alloc, disk));
+    offer_to(rt, alloc, &mut maps, offer)
+}
+
+// What must come of an offer of this order over a file of this generation.
+fn offer_wanted(rt: &impl Abort, alloc: Global, order: u32, outcome: Outcome, last: bool) -> Came {
+    let generation = if last { u64::MAX } else { 1 };
+    let before = (Some(100), generation, Standing::Level);
+    let answer = match outcome {
+        Outcome::Installs => return (before, done(order, 2), (Some(order), 2, Standing::Level)),
+        Outcome::Refuses => InstallFault::Refused {
+            master: owned(rt, alloc, b"m1"),
+        },
+        Outcome::Ages => InstallFault::Age {
+            shown: 100,
+            offered: order,
+        },
+        Outcome::Spent => InstallFault::GenerationsSpent,
+    };
+    (before, Err(answer), before)
+}
+
+fn check_offer<R: RandomSource + Abort>(
+    rt: &R,
+    alloc: Global,
+    number: usize,
+    row: &Offered,
+) -> Result<(), Fail> {
+    let (own, text, origin, order, force, outcome) = *row;
+    let offer = Offer {
+        map: 0,
+        order,
+        master: b"m3",
+        origin,
+        force,
+    };
+    let came = offer_over(rt, alloc, own, bytes(alloc, &[text])?, offer);
+    let wanted = offer_wanted(rt, alloc, order, outcome, text == LAST_FILE);
+    assert_eq!(rt; came, wanted, "in row {number}");
+    Ok(())
+}
 
 #[test]
 fn refusals_in_order(rt: HostRuntime) -> Result<(), Fail> {
-    let alloc = rt.alloc();
-    for (row, (own, file, origin, order, force, outcome)) in OFFERS.iter().enumerate() {
-        let mut maps = published(&rt, alloc, *own, disks_of(alloc, &[*file])?)?;
-        let before = state(&rt, &maps, 0);
-        let offered = version(&rt, alloc, *order, b"m3");
-        let answer = install(&rt, &mut maps, 0, offered, *origin, *force, alloc);
-        let expected = match outcome {
-            Outcome::Installs => done(*order, 2),
-            Outcome::Refuses => Err(InstallFault::Refused {
-                master: Vec::from_slice(alloc, b"m1")?,
-            }),
-            Outcome::Ages => Err(InstallFault::Age {
-                shown: 100,
-                offered: *order,
-            }),
-            Outcome::Spent => Err(InstallFault::GenerationsSpent),
-        };
-        let after = match outcome {
-            Outcome::Installs => (Some(*order), 2, Standing::Level),
-            _ => before,
-        };
-        assert_eq!(rt; answer, expected, "in row {row}");
-        assert_eq!(rt; state(&rt, &maps, 0), after, "in row {row}");
+    for (number, row) in OFFERS.iter().enumerate() {
+        check_offer(&rt, rt.alloc(), number, row)?;
     }
     Ok(())
+}
+
+// The bytes of each disk.
+fn bytes_on(rt: &impl Abort, alloc: Global, disks: &[MemDisk]) -> Vec<Vec<u8>> {
+    let mut files = Vec::new(alloc);
+    for disk in disks {
+        files
+            .push(owned(rt, alloc, disk.bytes()))
+            .expect(rt, "memory for files");
+    }
+    files
+}
+
+// Which map was refused, for what, and what the disks that were handed back have.
+type Refused = (u32, SlotFault, Vec<Vec<u8>>);
+
+fn refused<R: RandomSource + Abort>(rt: &R, alloc: Global, files: Vec<Vec<u8>>) -> Refused {
+    let refused = load(rt, alloc, disks_of(rt, alloc, files))
+        .err()
+        .expect(rt, "a refusal");
+    (
+        refused.map,
+        refused.fault,
+        bytes_on(rt, alloc, &refused.disks),
+    )
 }
 
 #[test]
 fn damaged_disk_refused(rt: HostRuntime) -> Result<(), Fail> {
     let alloc = rt.alloc();
-    let files = [HOSTS_FILE, DAMAGED_FILE, "", HOSTS_FILE];
-    let disks = disks_of(alloc, &files)?;
-    assert!(rt; disks.len() <= 64);
-    let refused = load_all(alloc, &rt, disks).err().expect(&rt, "a refusal");
-    assert_eq!(rt; refused.map, 1);
-    assert_eq!(rt; refused.fault, SlotFault::Damaged { at: 7, rule: 3 });
-    assert_eq!(rt; refused.disks.len(), 4);
-    for (number, disk) in refused.disks.iter().enumerate() {
-        if let Some(file) = files.get(number) {
-            let bytes = bytes_of(alloc, *file)?;
-            assert_eq!(rt; disk.bytes(), bytes.as_slice(), "disk {number}");
-        }
-    }
+    let texts = [HOSTS_FILE, DAMAGED_FILE, "", HOSTS_FILE];
+    let wanted = (
+        1,
+        SlotFault::Damaged { at: 7, rule: 3 },
+        files_of(alloc, &texts)?,
+    );
+    assert_eq!(rt; refused(&rt, alloc, files_of(alloc, &texts)?), wanted);
     Ok(())
+}
+
+// What a version for map 1 answers, and the states of maps 0 and 2 behind it.
+type Second = (Result<Installed, InstallFault>, State, State);
+
+fn offer_second<R: RandomSource + Abort>(rt: &R, alloc: Global, maps: &mut Maps) -> Second {
+    let offer = Offer {
+        map: 1,
+        order: 7,
+        master: b"m1",
+        origin: Origin::Fetched,
+        force: false,
+    };
+    let answer = install(rt, alloc, maps, offer);
+    (answer, state(rt, maps, 0), state(rt, maps, 2))
+}
+
+// The same over disks that were loaded and handed back before, with the orders that they have then.
+fn second_over<R: RandomSource + Abort>(
+    rt: &R,
+    alloc: Global,
+    files: Vec<Vec<u8>>,
+) -> (Second, Vec<Option<u32>>) {
+    let loaded = load(rt, alloc, disks_of(rt, alloc, files)).expect(rt, "loaded disks");
+    let mut maps = published(rt, alloc, b"m1", loaded.into_disks());
+    let came = offer_second(rt, alloc, &mut maps);
+    let (disks, _board) = maps.into_parts();
+    (came, loaded_orders(rt, alloc, disks))
 }
 
 #[test]
 fn disks_in_order(rt: HostRuntime) -> Result<(), Fail> {
     let alloc = rt.alloc();
-    let disks = disks_of(alloc, &[HOSTS_FILE, "", LAST_FILE])?;
-    assert!(rt; disks.len() <= 64);
-    let disks = load_all(alloc, &rt, disks)
-        .expect(&rt, "loaded disks")
-        .into_disks();
-    assert_eq!(rt; disks.len(), 3);
-    let mut maps = published(&rt, alloc, b"m1", disks)?;
-    let second = version(&rt, alloc, 7, b"m1");
-    let answer = install(&rt, &mut maps, 1, second, Origin::Fetched, false, alloc);
-    assert_eq!(rt; answer, done(7, 1));
-    assert_eq!(rt; state(&rt, &maps, 0), (Some(100), 1, Standing::Level));
-    assert_eq!(rt;
-        state(&rt, &maps, 2),
-        (Some(100), u64::MAX, Standing::Level)
-    );
-    let (disks, _board) = maps.into_parts();
-    let found = loaded_orders(&rt, alloc, disks)?;
+    let files = files_of(alloc, &[HOSTS_FILE, "", LAST_FILE])?;
+    let (second, found) = second_over(&rt, alloc, files);
+    let first = (Some(100), 1, Standing::Level);
+    let third = (Some(100), u64::MAX, Standing::Level);
+    assert_eq!(rt; second, (done(7, 1), first, third));
     assert_eq!(rt;
         found.as_slice(),
         [Some(100), Some(7), Some(100)].as_slice()
@@ -419,9 +570,7 @@ fn disks_in_order(rt: HostRuntime) -> Result<(), Fail> {
 }
 
 #[test]
-fn no_disks(rt: HostRuntime) -> Result<(), Fail> {
+fn no_disks(rt: HostRuntime) {
     let alloc = rt.alloc();
-    let disks = disks_of(alloc, &[])?;
-    assert_eq!(rt; loaded_orders(&rt, alloc, disks)?.len(), 0);
-    Ok(())
+    assert_eq!(rt; loaded_orders(&rt, alloc, Vec::new(alloc)).len(), 0);
 }

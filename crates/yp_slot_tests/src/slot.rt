@@ -6,6 +6,7 @@ use std::alloc::Global;
 use std::process::Abort;
 use std::random::RandomSource;
 use std::test::Fail;
+use yp_for_tests::bytes;
 use yp_io::MemDisk;
 use yp_slot::*;
 use yp_version::{Version, VersionBuilder};
@@ -26,15 +27,19 @@ const THIRD_FILE: &str = "01000000 00000000 00000000 00000003 00000000 00000040 
 
 // The bytes of a text of hexadecimal words, some of them with other values.
 fn file_of(alloc: Global, text: &str, changes: &[(usize, u8)]) -> Result<Vec<u8>, Fail> {
-    let mut bytes = Vec::new(alloc);
-    for word in text.split_whitespace() {
-        bytes.extend_from_slice(&hex::decode(alloc, word)?)?;
-    }
+    let mut bytes = bytes(alloc, &[text])?;
     for (place, byte) in changes {
         if let Some(old) = bytes.get_mut(*place) {
             *old = *byte;
         }
     }
+    Ok(bytes)
+}
+
+// The first bytes of a text of hexadecimal words.
+fn front_of(alloc: Global, text: &str, len: usize) -> Result<Vec<u8>, Fail> {
+    let mut bytes = bytes(alloc, &[text])?;
+    bytes.truncate(len);
     Ok(bytes)
 }
 
@@ -50,9 +55,7 @@ enum Found {
     Fault(SlotFault),
 }
 
-// What is loaded of a disk.
-fn found_on<R: RandomSource>(rt: &R, alloc: Global, disk: MemDisk) -> Found {
-    let mut slot = Slot::new(disk);
+fn load<R: RandomSource>(rt: &R, alloc: Global, slot: &mut Slot<MemDisk>) -> Found {
     match slot.load(alloc, rt) {
         Ok(None) => Found::Nothing,
         Ok(Some(version)) => Found::Stored {
@@ -62,6 +65,12 @@ fn found_on<R: RandomSource>(rt: &R, alloc: Global, disk: MemDisk) -> Found {
         },
         Err(fault) => Found::Fault(fault),
     }
+}
+
+// What is loaded of a disk with this file, some of whose calls fail.
+fn found_in<R: RandomSource>(rt: &R, alloc: Global, file: Vec<u8>, failing: Vec<u64>) -> Found {
+    let mut slot = Slot::new(MemDisk::new(alloc, file, None, failing));
+    load(rt, alloc, &mut slot)
 }
 
 fn damaged(at: u64, rule: u8) -> Found {
@@ -76,14 +85,42 @@ fn stored(order: u32, generation: u64) -> Found {
     }
 }
 
+// Looks at what is loaded of a text of hexadecimal words, some of whose bytes have other values.
+fn check_file<R: RandomSource + Abort>(
+    rt: &R,
+    alloc: Global,
+    text: &str,
+    changes: &[(usize, u8)],
+    found: Found,
+) -> Result<(), Fail> {
+    let file = file_of(alloc, text, changes)?;
+    let came = found_in(rt, alloc, file, Vec::new(alloc));
+    assert_eq!(rt; came, found, "with {changes:?}");
+    Ok(())
+}
+
+// Looks at what is loaded of the first bytes of the hosts file, where the call with this number fails.
+fn check_front<R: RandomSource + Abort>(
+    rt: &R,
+    alloc: Global,
+    len: usize,
+    failing: u64,
+    found: Found,
+) -> Result<(), Fail> {
+    let file = front_of(alloc, HOSTS_FILE, len)?;
+    let came = found_in(rt, alloc, file, vec![in alloc; failing]?);
+    assert_eq!(rt; came, found, "{len} bytes, call {failing}");
+    Ok(())
+}
+
+const SECURE: Found = Found::Stored {
+    order: 100,
+    secure: true,
+    generation: 1,
+};
+
 #[test]
 fn check_files(rt: HostRuntime) -> Result<(), Fail> {
-    let alloc = rt.alloc();
-    let secure = Found::Stored {
-        order: 100,
-        secure: true,
-        generation: 1,
-    };
     let cases: [(&[(usize, u8)], Found); 12] = [
         (&[], stored(100, 1)),
         // The first cell is closed.
@@ -96,14 +133,12 @@ fn check_files(rt: HostRuntime) -> Result<(), Fail> {
         (&[(23, 63)], damaged(16, 4)),
         (&[(79, 1)], damaged(79, 5)),
         (&[(83, 2)], damaged(116, 5)),
-        (&[(67, 2)], secure),
+        (&[(67, 2)], SECURE),
         (&[(67, 3)], damaged(64, 6)),
         (&[(83, 0)], damaged(84, 9)),
     ];
-    for (number, (changes, found)) in cases.iter().enumerate() {
-        let file = file_of(alloc, HOSTS_FILE, *changes)?;
-        let disk = MemDisk::new(alloc, file, None, Vec::new(alloc));
-        assert_eq!(rt; found_on(&rt, alloc, disk), *found, "case {number}");
+    for (changes, found) in &cases {
+        check_file(&rt, rt.alloc(), HOSTS_FILE, *changes, *found)?;
     }
     Ok(())
 }
@@ -116,7 +151,6 @@ const FALLING_FILE: &str = "01000000 00000000 00000000 00000001 00000000 0000004
 
 #[test]
 fn check_keys_and_counts(rt: HostRuntime) -> Result<(), Fail> {
-    let alloc = rt.alloc();
     let cases: [(&[(usize, u8)], Found); 5] = [
         (&[], damaged(96, 8)),
         (&[(100, b'b')], damaged(96, 8)),
@@ -125,72 +159,86 @@ fn check_keys_and_counts(rt: HostRuntime) -> Result<(), Fail> {
         (&[(101, 1)], damaged(101, 5)),
         (&[(81, 4), (83, 1)], damaged(80, 7)),
     ];
-    for (number, (changes, found)) in cases.iter().enumerate() {
-        let file = file_of(alloc, FALLING_FILE, *changes)?;
-        let disk = MemDisk::new(alloc, file, None, Vec::new(alloc));
-        assert_eq!(rt; found_on(&rt, alloc, disk), *found, "case {number}");
+    for (changes, found) in &cases {
+        check_file(&rt, rt.alloc(), FALLING_FILE, *changes, *found)?;
     }
     Ok(())
 }
 
+// The number of a call that isn't made.
+const NO_CALL: u64 = 1000;
+
 #[test]
 fn check_short_files(rt: HostRuntime) -> Result<(), Fail> {
-    let alloc = rt.alloc();
-    for (len, found) in [
+    let cases = [
         (0, Found::Nothing),
         (1, Found::Nothing),
         (63, Found::Nothing),
         (64, damaged(16, 4)),
         (115, damaged(16, 4)),
         (116, stored(100, 1)),
-    ] {
-        let mut file = file_of(alloc, HOSTS_FILE, &[])?;
-        file.truncate(len);
-        let disk = MemDisk::new(alloc, file, None, Vec::new(alloc));
-        assert_eq!(rt; found_on(&rt, alloc, disk), found, "{len} bytes");
+    ];
+    for (len, found) in &cases {
+        check_front(&rt, rt.alloc(), *len, NO_CALL, *found)?;
     }
     Ok(())
 }
+
+const FAULT: Found = Found::Fault(SlotFault::DiskFault);
 
 #[test]
 fn calls_of_a_load(rt: HostRuntime) -> Result<(), Fail> {
-    let alloc = rt.alloc();
-    let fault = Found::Fault(SlotFault::DiskFault);
     // The call with this number fails, if it is made: two calls on an empty disk, four on a file with a version.
-    for (bytes, failing, found) in [
-        (0, 0, fault),
-        (0, 1, fault),
+    let cases = [
+        (0, 0, FAULT),
+        (0, 1, FAULT),
         (0, 2, Found::Nothing),
-        (116, 0, fault),
-        (116, 1, fault),
-        (116, 2, fault),
-        (116, 3, fault),
+        (116, 0, FAULT),
+        (116, 1, FAULT),
+        (116, 2, FAULT),
+        (116, 3, FAULT),
         (116, 4, stored(100, 1)),
-    ] {
-        let mut file = file_of(alloc, HOSTS_FILE, &[])?;
-        file.truncate(bytes);
-        let disk = MemDisk::new(alloc, file, None, vec![in alloc; failing]?);
-        assert_eq!(rt;
-            found_on(&rt, alloc, disk),
-            found,
-            "{bytes} bytes, call {failing}"
-        );
+    ];
+    for (len, failing, found) in &cases {
+        check_front(&rt, rt.alloc(), *len, *failing, *found)?;
     }
     Ok(())
 }
 
-// Stores a version of this order with the row of the hosts file, where the slot is ready for it.
+fn put_row(rt: &impl Abort, builder: &mut VersionBuilder) {
+    assert_eq!(rt; builder.push(b"alpha", b"10.0.0.1 alpha"), Ok(true));
+}
+
+// A version of this order with the row of the hosts file.
+fn version<R: RandomSource + Abort>(rt: &R, alloc: Global, order: u32) -> Version {
+    let mut builder = VersionBuilder::new(alloc, rt, order, b"m1").expect(rt, "a builder");
+    put_row(rt, &mut builder);
+    builder.finish().expect(rt, "a version")
+}
+
+// Stores such a version, where the slot is ready for it.
 fn store<R: RandomSource + Abort>(
     rt: &R,
     alloc: Global,
     slot: &mut Slot<MemDisk>,
     order: u32,
 ) -> bool {
-    let mut builder = VersionBuilder::new(alloc, rt, order, b"m1").expect(rt, "a builder");
-    assert_eq!(rt; builder.push(b"alpha", b"10.0.0.1 alpha"), Ok(true));
-    let version: Version = builder.finish().expect(rt, "a version");
+    let version = version(rt, alloc, order);
     let body = body_of(alloc, &version).expect(rt, "a body");
     slot.ready() && slot.generation() < u64::MAX && slot.commit(&body).is_ok()
+}
+
+// How many of three commits after a load are done.
+fn commit_three<R: RandomSource + Abort>(rt: &R, alloc: Global, slot: &mut Slot<MemDisk>) -> u32 {
+    let mut done = 0;
+    if slot.load(alloc, rt).is_ok() {
+        for order in 100..103 {
+            if store(rt, alloc, slot, order) {
+                done = order - 99;
+            }
+        }
+    }
+    done
 }
 
 // A value that a thread may be given.
@@ -198,33 +246,57 @@ fn sent<T: Send>(value: T) -> T {
     value
 }
 
-// What three commits after a load leave of an empty disk that stops at a call, and how many of them were done.
-fn three_commits<R: RandomSource + Abort>(
-    rt: &R,
-    alloc: Global,
-    stop: Option<u64>,
-) -> (MemDisk, u32) {
-    let mut slot = sent(Slot::new(MemDisk::new(alloc, Vec::new(alloc), stop, Vec::new(alloc))));
-    let mut done = 0;
-    if slot.load(alloc, rt).is_ok() {
-        for order in 100..103 {
-            if store(rt, alloc, &mut slot, order) {
-                done = order - 99;
-            }
-        }
+// What is loaded of the file that a crash leaves.
+fn after_crash<R: RandomSource + Abort>(rt: &R, alloc: Global, disk: &MemDisk, kept: u64) -> Found {
+    let file = disk.crashed(kept).expect(rt, "a file");
+    found_in(rt, alloc, file, Vec::new(alloc))
+}
+
+// How many of three commits were done, what the disk has then, and what crashes leave that keep the writes 0 to 3.
+#[derive(Drop)]
+struct Left {
+    commits: u32,
+    bytes: Vec<u8>,
+    found: [Found; 4],
+}
+
+fn left_on<R: RandomSource + Abort>(rt: &R, alloc: Global, commits: u32, disk: &MemDisk) -> Left {
+    Left {
+        commits,
+        bytes: disk.bytes().to_vec(alloc).expect(rt, "memory for a file"),
+        found: [
+            after_crash(rt, alloc, disk, 0),
+            after_crash(rt, alloc, disk, 1),
+            after_crash(rt, alloc, disk, 2),
+            after_crash(rt, alloc, disk, 3),
+        ],
     }
-    (slot.into_disk(), done)
+}
+
+// What three commits after a load leave of an empty disk that stops at a call.
+fn three_commits<R: RandomSource + Abort>(rt: &R, alloc: Global, stop: Option<u64>) -> Left {
+    let mut slot = sent(Slot::new(MemDisk::new(alloc, Vec::new(alloc), stop, Vec::new(alloc))));
+    let commits = commit_three(rt, alloc, &mut slot);
+    let disk = slot.into_disk();
+    left_on(rt, alloc, commits, &disk)
+}
+
+// The same without the bytes.
+fn found_after<R: RandomSource + Abort>(rt: &R, alloc: Global, stop: u64) -> (u32, [Found; 4]) {
+    let left = three_commits(rt, alloc, Some(stop));
+    let found = left.found;
+    (left.commits, found)
 }
 
 #[test]
 fn first_commit(rt: HostRuntime) -> Result<(), Fail> {
     let alloc = rt.alloc();
+    let file = bytes(alloc, &[HOSTS_FILE])?;
     // Two calls to load, and nine to commit.
-    for (stop, done) in [(10, 0), (11, 1)] {
-        let (disk, commits) = three_commits(&rt, alloc, Some(stop));
-        assert_eq!(rt; commits, done, "stopped at call {stop}");
-        let file = file_of(alloc, HOSTS_FILE, &[])?;
-        assert_eq!(rt; disk.bytes(), &file[..], "stopped at call {stop}");
+    for (stop, done) in &[(10, 0), (11, 1)] {
+        let left = three_commits(&rt, alloc, Some(*stop));
+        let came = (left.commits, left.bytes.as_slice());
+        assert_eq!(rt; came, (*done, file.as_slice()), "stopped at call {stop}");
     }
     Ok(())
 }
@@ -232,38 +304,29 @@ fn first_commit(rt: HostRuntime) -> Result<(), Fail> {
 #[test]
 fn three_installs(rt: HostRuntime) -> Result<(), Fail> {
     let alloc = rt.alloc();
-    let (disk, commits) = three_commits(&rt, alloc, None);
-    assert_eq!(rt; commits, 3);
-    let file = file_of(alloc, THIRD_FILE, &[])?;
-    assert_eq!(rt; disk.bytes(), &file[..]);
+    let file = bytes(alloc, &[THIRD_FILE])?;
+    let left = three_commits(&rt, alloc, None);
+    assert_eq!(rt; (left.commits, left.bytes.as_slice()), (3, file.as_slice()));
     // Two calls to load, nine for the first commit, five for the second and seven for the third.
-    for (stop, done) in [(10, 0), (11, 1), (15, 1), (16, 2), (22, 2), (23, 3)] {
-        let (_disk, commits) = three_commits(&rt, alloc, Some(stop));
-        assert_eq!(rt; commits, done, "stopped at call {stop}");
+    for (stop, done) in &[(10, 0), (11, 1), (15, 1), (16, 2), (22, 2), (23, 3)] {
+        let (commits, _found) = found_after(&rt, alloc, *stop);
+        assert_eq!(rt; commits, *done, "stopped at call {stop}");
     }
     Ok(())
 }
 
-// What is loaded of each file that a crash may leave.
-fn after_crash<R: RandomSource + Abort>(rt: &R, alloc: Global, disk: &MemDisk, kept: u64) -> Found {
-    let file = disk.crashed(kept).expect(rt, "a file");
-    found_on(rt, alloc, MemDisk::new(alloc, file, None, Vec::new(alloc)))
-}
-
 #[test]
 fn third_install_stopped(rt: HostRuntime) {
-    let alloc = rt.alloc();
-    // The calls of the third commit have the numbers 16 to 22.
-    for stop in 16..22 {
-        let (disk, _commits) = three_commits(&rt, alloc, Some(stop));
-        for kept in 0..4 {
-            let found = after_crash(&rt, alloc, &disk, kept);
-            assert_eq!(rt; found, stored(101, 2), "stopped at {stop}, kept {kept}");
-        }
+    let (second, third) = (stored(101, 2), stored(102, 3));
+    // The calls of the third commit have the numbers 16 to 22. The last would sync the write that opens the cell.
+    for stop in 16..23 {
+        let wanted = match stop {
+            22 => [second, third, second, third],
+            _ => [second; 4],
+        };
+        let (_commits, found) = found_after(&rt, rt.alloc(), stop);
+        assert_eq!(rt; found, wanted, "stopped at {stop}");
     }
-    let (disk, _commits) = three_commits(&rt, alloc, Some(22));
-    assert_eq!(rt; after_crash(&rt, alloc, &disk, 0), stored(101, 2));
-    assert_eq!(rt; after_crash(&rt, alloc, &disk, 1), stored(102, 3));
 }
 
 // What stands after so many commits.
@@ -279,16 +342,13 @@ fn stands_after(commits: u32) -> Found
 
 #[test]
 fn every_stop(rt: HostRuntime) {
-    let alloc = rt.alloc();
     for stop in 0..24 {
-        let (disk, commits) = three_commits(&rt, alloc, Some(stop));
-        if commits > 3 {
-            continue;
-        }
-        for kept in 0..4 {
-            let found = after_crash(&rt, alloc, &disk, kept);
-            let either = found == stands_after(commits) || found == stands_after(commits + 1);
-            assert!(rt; either, "stopped at {stop}, kept {kept}");
+        let (commits, found) = found_after(&rt, rt.alloc(), stop);
+        assert!(rt; commits <= 3, "stopped at {stop}");
+        let (before, after) = (stands_after(commits), stands_after(commits + 1));
+        for kept in &found {
+            let either = *kept == before || *kept == after;
+            assert!(rt; either, "stopped at {stop}: {found:?}");
         }
     }
 }

@@ -2,29 +2,39 @@
 
 ghost use Rattle.std.specs.Prelude.{◌≤◌};
 
-use std::alloc::{AllocError, Global};
+use std::alloc::Global;
 use std::process::Abort;
-use std::test::Fail;
 use yp_board::MapName;
 use yp_io::Peer;
-use yp_words::{Command, ParseFault, disk_names, parse};
+use yp_words::{Command, HostWord, KeyValue, ParseFault, disk_names, parse};
 
-fn strings(alloc: Global, words: &[&str]) -> Result<Vec<String>, AllocError> {
+fn strings(rt: &impl Abort, alloc: Global, words: &[&str]) -> Vec<String> {
     let mut owned = Vec::new(alloc);
     for word in words {
-        owned.push(String::from_str(alloc, word)?)?;
+        let word = String::from_str(alloc, *word).expect(rt, "memory for a word");
+        owned.push(word).expect(rt, "memory for words");
     }
-    Ok(owned)
+    owned
 }
 
-/// Compares a map's name with a domain and a map.
-fn expect_store<R: Abort>(rt: &R, store: &MapName, name: (&str, &str)) {
-    assert_eq!(rt; store.domain.as_slice(), name.0.as_bytes());
-    assert_eq!(rt; store.map.as_slice(), name.1.as_bytes());
+/// Whether words are those of a session, where they are a sentence.
+fn is_session(alloc: Global, words: &[String]) -> Result<bool, ParseFault> {
+    match parse(alloc, words) {
+        Ok(command) => Ok(matches!(command, Command::Session { .. })),
+        Err(fault) => Err(fault),
+    }
+}
+
+/// What words ask for.
+fn parsed(rt: &impl Abort, alloc: Global, words: &[&str]) -> Command {
+    let words = strings(rt, alloc, words);
+    parse(alloc, &words).expect(rt, "the words are a sentence")
 }
 
 /// A name of 64 bytes, and one of 65.
 const LONGEST: &str = "0123456789abcdef0123456789abcdef0123456789abcdef0123456789abcdef";
+
+const LONGEST_BYTES: &[u8] = b"0123456789abcdef0123456789abcdef0123456789abcdef0123456789abcdef";
 
 const TOO_LONG: &str = "0123456789abcdef0123456789abcdef0123456789abcdef0123456789abcdefg";
 
@@ -101,109 +111,125 @@ const WRONG_ADDRESSES: [(&[&str], usize); 24] = [
     (&["session", "m@1", "127.0.0.1:40000", "lab/a"], 1),
 ];
 
+fn check_wrong(rt: &impl Abort, alloc: Global, words: &[&str], word: usize) {
+    let owned = strings(rt, alloc, words);
+    let came = is_session(alloc, &owned);
+    assert_eq!(rt; came, Err(ParseFault::Usage { word }), "{words:?}");
+}
+
 #[test]
-fn wrong_addresses(rt: HostRuntime) -> Result<(), Fail> {
-    let alloc = rt.alloc();
-    for (words, word) in WRONG_ADDRESSES {
-        let owned = strings(alloc, words)?;
-        let Err(fault) = parse(alloc, &owned) else {
-            return Err("the words are no sentence".into());
-        };
-        assert_eq!(rt; fault, ParseFault::Usage { word }, "{words:?}");
+fn wrong_addresses(rt: HostRuntime) {
+    for (words, word) in &WRONG_ADDRESSES {
+        check_wrong(&rt, rt.alloc(), *words, *word);
     }
-    Ok(())
 }
 
 #[test]
-fn wrong_words(rt: HostRuntime) -> Result<(), Fail> {
-    let alloc = rt.alloc();
-    for (words, word) in WRONG {
-        let owned = strings(alloc, words)?;
-        let Err(fault) = parse(alloc, &owned) else {
-            return Err("the words are no sentence".into());
-        };
-        assert_eq!(rt; fault, ParseFault::Usage { word }, "{words:?}");
+fn wrong_words(rt: HostRuntime) {
+    for (words, word) in &WRONG {
+        check_wrong(&rt, rt.alloc(), *words, *word);
     }
-    Ok(())
 }
 
-#[test]
-fn once_parsed(rt: HostRuntime) -> Result<(), Fail> {
-    let alloc = rt.alloc();
-    let words = strings(alloc, &["once", "lab/hosts.byname", "a=b=c", "x="])?;
-    let Ok(Command::Once { store, rows }) = parse(alloc, &words) else {
-        return Err("the words are a sentence".into());
-    };
-    expect_store(&rt, &store, ("lab", "hosts.byname"));
-    assert_eq!(rt; rows.len(), 2);
-    for (row, (key, value)) in rows.iter().zip(&[("a", "b=c"), ("x", "")]) {
-        assert_eq!(rt; row.key.as_slice(), key.as_bytes());
-        assert_eq!(rt; row.value.as_slice(), value.as_bytes());
+/// A domain and a map, or a key and a value.
+type Names<'a> = (&'a [u8], &'a [u8]);
+
+fn names_of(store: &MapName) -> Names<'_> {
+    (&store.domain, &store.map)
+}
+
+fn row_of(row: &KeyValue) -> Names<'_> {
+    (&row.key, &row.value)
+}
+
+fn two_rows(command: &Command) -> Option<(Names<'_>, [Names<'_>; 2])> {
+    match command {
+        Command::Once { store, rows } => match rows.as_slice() {
+            [first, second] => Some((names_of(store), [row_of(first), row_of(second)])),
+            _ => None,
+        },
+        _ => None,
     }
-    Ok(())
 }
 
 #[test]
-fn check_parsed(rt: HostRuntime) -> Result<(), Fail> {
-    let alloc = rt.alloc();
-    let words = strings(alloc, &["check", "lab/nokind"])?;
-    let Ok(Command::Check { store }) = parse(alloc, &words) else {
-        return Err("the words are a sentence".into());
-    };
-    expect_store(&rt, &store, ("lab", "nokind"));
-    Ok(())
+fn once_parsed(rt: HostRuntime) {
+    let command = parsed(
+        &rt,
+        rt.alloc(),
+        &["once", "lab/hosts.byname", "a=b=c", "x="],
+    );
+    let named: Names = (b"lab", b"hosts.byname");
+    let rows: [Names; 2] = [(b"a", b"b=c"), (b"x", b"")];
+    assert_eq!(rt; two_rows(&command), Some((named, rows)));
 }
 
-#[test]
-fn build_parsed(rt: HostRuntime) -> Result<(), Fail> {
-    let alloc = rt.alloc();
-    let cases: [(&[&str], &str, &str, Option<bool>); 4] = [
-        (
-            &["build", "m1", "lab/hosts.byname"],
-            "m1",
-            "hosts.byname",
-            None,
-        ),
-        (
-            &["build", LONGEST, "lab/ypservers"],
-            LONGEST,
-            "ypservers",
-            None,
-        ),
-        (
-            &["build", "m1", "lab/passwd.byuid", "secure"],
-            "m1",
-            "passwd.byuid",
-            Some(true),
-        ),
-        (
-            &["build", "build", "lab/netgroup", "plain"],
-            "build",
-            "netgroup",
-            Some(false),
-        ),
-    ];
-    for (words, master, map, mark) in cases {
-        let words = strings(alloc, words)?;
-        let Ok(Command::Build { name, store, flag }) = parse(alloc, &words) else {
-            return Err("the words are a sentence".into());
-        };
-        assert_eq!(rt; name.as_slice(), master.as_bytes());
-        expect_store(&rt, &store, ("lab", map));
-        assert_eq!(rt; flag, mark);
+fn checked(command: &Command) -> Option<Names<'_>> {
+    match command {
+        Command::Check { store } => Some(names_of(store)),
+        _ => None,
     }
-    Ok(())
 }
 
 #[test]
-fn sample_parsed(rt: HostRuntime) -> Result<(), Fail> {
-    let alloc = rt.alloc();
-    let words = strings(alloc, &["sample", "4294967295", "0"])?;
-    let Ok(Command::Sample { start, count }) = parse(alloc, &words) else {
-        return Err("the words are a sentence".into());
-    };
-    assert_eq!(rt; (start, count), (4_294_967_295, 0));
-    Ok(())
+fn check_parsed(rt: HostRuntime) {
+    let command = parsed(&rt, rt.alloc(), &["check", "lab/nokind"]);
+    let named: Names = (b"lab", b"nokind");
+    assert_eq!(rt; checked(&command), Some(named));
+}
+
+/// The master, the map and the mark of a version to be built.
+type Built<'a> = (&'a [u8], Names<'a>, Option<bool>);
+
+const BUILT: [(&[&str], Built); 4] = [
+    (
+        &["build", "m1", "lab/hosts.byname"],
+        (b"m1", (b"lab", b"hosts.byname"), None),
+    ),
+    (
+        &["build", LONGEST, "lab/ypservers"],
+        (LONGEST_BYTES, (b"lab", b"ypservers"), None),
+    ),
+    (
+        &["build", "m1", "lab/passwd.byuid", "secure"],
+        (b"m1", (b"lab", b"passwd.byuid"), Some(true)),
+    ),
+    (
+        &["build", "build", "lab/netgroup", "plain"],
+        (b"build", (b"lab", b"netgroup"), Some(false)),
+    ),
+];
+
+fn built(command: &Command) -> Option<Built<'_>> {
+    match command {
+        Command::Build { name, store, flag } => Some((name, names_of(store), *flag)),
+        _ => None,
+    }
+}
+
+fn check_built(rt: &impl Abort, alloc: Global, words: &[&str], wanted: Built) {
+    let command = parsed(rt, alloc, words);
+    assert_eq!(rt; built(&command), Some(wanted));
+}
+
+#[test]
+fn build_parsed(rt: HostRuntime) {
+    for (words, wanted) in &BUILT {
+        check_built(&rt, rt.alloc(), *words, *wanted);
+    }
+}
+
+fn sampled(command: Command) -> Option<(u32, u32)> {
+    match command {
+        Command::Sample { start, count } => Some((start, count)),
+        _ => None,
+    }
+}
+
+#[test]
+fn sample_parsed(rt: HostRuntime) {
+    let command = parsed(&rt, rt.alloc(), &["sample", "4294967295", "0"]);
+    assert_eq!(rt; sampled(command), Some((4_294_967_295, 0)));
 }
 
 /// The address of a peer on port 700.
@@ -212,163 +238,189 @@ const PEER: Peer = Peer {
     port: 700,
 };
 
-#[test]
-fn session_parsed(rt: HostRuntime) -> Result<(), Fail> {
-    let alloc = rt.alloc();
-    let words = strings(
-        alloc,
-        &[
-            "session",
-            "m1",
-            "127.0.0.1:700",
-            "lab/a",
-            "m2@10.0.0.255:65535",
-            "dom/a",
-            "m2@127.0.0.1:700",
-        ],
-    )?;
-    let Ok(
+const FAR: Peer = Peer {
+    addr: [10, 0, 0, 255],
+    port: 65_535,
+};
+
+fn host_of(host: &HostWord) -> (&[u8], Peer) {
+    (&host.name, host.peer)
+}
+
+/// The name of the host that answers and its caller, two maps, and two hosts.
+type Session<'a> = ((&'a [u8], Peer), [Names<'a>; 2], [(&'a [u8], Peer); 2]);
+
+fn two_and_two(command: &Command) -> Option<Session<'_>> {
+    match command {
         Command::Session {
             name,
             addr,
             stores,
             hosts,
+        } => match (stores.as_slice(), hosts.as_slice()) {
+            ([first, second], [far, near]) => Some((
+                (name, *addr),
+                [names_of(first), names_of(second)],
+                [host_of(far), host_of(near)],
+            )),
+            _ => None,
         },
-    ) = parse(alloc, &words)
-    else {
-        return Err("the words are a sentence".into());
-    };
-    assert_eq!(rt; name.as_slice(), "m1".as_bytes());
-    assert_eq!(rt; addr, PEER);
-    assert_eq!(rt; stores.len(), 2);
-    expect_store(&rt, &stores[0], ("lab", "a"));
-    expect_store(&rt, &stores[1], ("dom", "a"));
-    let far = Peer {
-        addr: [10, 0, 0, 255],
-        port: 65_535,
-    };
-    assert_eq!(rt; hosts.len(), 2);
-    for (host, peer) in hosts.iter().zip(&[far, PEER]) {
-        assert_eq!(rt; host.name.as_slice(), "m2".as_bytes());
-        assert_eq!(rt; host.peer, *peer);
+        _ => None,
     }
-    Ok(())
+}
+
+const SESSION: [&str; 7] = [
+    "session",
+    "m1",
+    "127.0.0.1:700",
+    "lab/a",
+    "m2@10.0.0.255:65535",
+    "dom/a",
+    "m2@127.0.0.1:700",
+];
+
+#[test]
+fn session_parsed(rt: HostRuntime) {
+    let command = parsed(&rt, rt.alloc(), &SESSION);
+    let wanted: Session = (
+        (b"m1", PEER),
+        [(b"lab", b"a"), (b"dom", b"a")],
+        [(b"m2", FAR), (b"m2", PEER)],
+    );
+    assert_eq!(rt; two_and_two(&command), Some(wanted));
 }
 
 /// The words of a session of this many maps.
-fn session_of(alloc: Global, count: usize) -> Result<Vec<String>, AllocError>
+fn session_of(rt: &impl Abort, alloc: Global, count: usize) -> Vec<String>
     requires { count ≤ 1000 }
 {
-    let mut words = strings(alloc, &["session", "m1", "127.0.0.1:700"])?;
+    let mut words = strings(rt, alloc, &["session", "m1", "127.0.0.1:700"]);
     for i in 0..count {
-        words.push(format!(in alloc; "lab/m{i}")?)?;
+        let map = format!(in alloc; "lab/m{i}").expect(rt, "memory for a word");
+        words.push(map).expect(rt, "memory for words");
     }
-    Ok(words)
+    words
+}
+
+/// Whether the words of a session of this many maps are one, and how many files they name.
+fn session_judged(rt: &impl Abort, alloc: Global, count: usize) -> (Result<bool, ParseFault>, usize)
+    requires { count ≤ 1000 }
+{
+    let words = session_of(rt, alloc, count);
+    let names = disk_names(alloc, &words).expect(rt, "memory for names");
+    (is_session(alloc, &words), names.len())
 }
 
 #[test]
-fn at_most_64_maps(rt: HostRuntime) -> Result<(), Fail> {
-    let alloc = rt.alloc();
-    let words = session_of(alloc, 64)?;
-    assert!(rt; matches!(parse(alloc, &words), Ok(Command::Session { .. })));
-    let Ok(names) = disk_names(alloc, &words) else {
-        return Err("memory is ample".into());
-    };
-    assert_eq!(rt; names.len(), 64);
-    let words = session_of(alloc, 65)?;
-    let Err(fault) = parse(alloc, &words) else {
-        return Err("the words are no sentence".into());
-    };
-    assert_eq!(rt; fault, ParseFault::Usage { word: 67 });
-    Ok(())
+fn at_most_64_maps(rt: HostRuntime) {
+    assert_eq!(rt; session_judged(&rt, rt.alloc(), 64), (Ok(true), 64));
+    let (judged, _names) = session_judged(&rt, rt.alloc(), 65);
+    assert_eq!(rt; judged, Err(ParseFault::Usage { word: 67 }));
 }
 
-/// Compares what is asked of a map with an address and the names.
-fn expect_asked<R: Abort>(rt: &R, addr: Peer, domain: &[u8], map: &[u8]) {
-    assert_eq!(rt; addr, PEER);
-    assert_eq!(rt; domain, "lab".as_bytes());
-    assert_eq!(rt; map, "hosts.byname".as_bytes());
+/// What a question is, whom it asks, and the domain, the map and the key.
+type Question<'a> = (&'static str, Peer, [&'a [u8]; 3]);
+
+/// The question that a command asks. What it doesn't name is empty.
+fn question_of(command: &Command) -> Option<Question<'_>> {
+    match command {
+        Command::Cat { addr, domain, map } => Some(("cat", *addr, [domain, map, b""])),
+        Command::Catk { addr, domain, map } => Some(("catk", *addr, [domain, map, b""])),
+        Command::Which { addr, domain, map } => Some(("which", *addr, [domain, map, b""])),
+        Command::Poll { addr, domain, map } => Some(("poll", *addr, [domain, map, b""])),
+        Command::Match {
+            addr,
+            domain,
+            map,
+            key,
+        } => Some(("match", *addr, [domain, map, key])),
+        Command::Maps { addr, domain } => Some(("maps", *addr, [domain, b"", b""])),
+        _ => None,
+    }
+}
+
+const HOSTS: [&[u8]; 3] = [b"lab", b"hosts.byname", b""];
+
+const QUESTIONS: [(&[&str], Question); 6] = [
+    (
+        &["cat", "127.0.0.1:700", "lab", "hosts.byname"],
+        ("cat", PEER, HOSTS),
+    ),
+    (
+        &["catk", "127.0.0.1:700", "lab", "hosts.byname"],
+        ("catk", PEER, HOSTS),
+    ),
+    (
+        &["which", "127.0.0.1:700", "lab", "hosts.byname"],
+        ("which", PEER, HOSTS),
+    ),
+    (
+        &["poll", "127.0.0.1:700", "lab", "hosts.byname"],
+        ("poll", PEER, HOSTS),
+    ),
+    (
+        &["match", "127.0.0.1:700", "lab", "hosts.byname", ""],
+        ("match", PEER, HOSTS),
+    ),
+    (
+        &["maps", "127.0.0.1:700", "lab"],
+        ("maps", PEER, [b"lab", b"", b""]),
+    ),
+];
+
+fn check_question(rt: &impl Abort, alloc: Global, words: &[&str], question: Question) {
+    let command = parsed(rt, alloc, words);
+    assert_eq!(rt; question_of(&command), Some(question));
 }
 
 #[test]
-fn questions_parsed(rt: HostRuntime) -> Result<(), Fail> {
-    let alloc = rt.alloc();
-    for word in ["cat", "catk", "which", "poll", "match"] {
-        let mut words = strings(alloc, &[word, "127.0.0.1:700", "lab", "hosts.byname"])?;
-        if word == "match" {
-            words.push(String::from_str(alloc, "")?)?;
-        }
-        match (word, parse(alloc, &words)) {
-            ("cat", Ok(Command::Cat { addr, domain, map })) => {
-                expect_asked(&rt, addr, &domain, &map);
-            }
-            ("catk", Ok(Command::Catk { addr, domain, map })) => {
-                expect_asked(&rt, addr, &domain, &map);
-            }
-            ("which", Ok(Command::Which { addr, domain, map })) => {
-                expect_asked(&rt, addr, &domain, &map);
-            }
-            ("poll", Ok(Command::Poll { addr, domain, map })) => {
-                expect_asked(&rt, addr, &domain, &map);
-            }
-            (
-                "match",
-                Ok(
-                    Command::Match {
-                        addr,
-                        domain,
-                        map,
-                        key,
-                    },
-                ),
-            ) => {
-                expect_asked(&rt, addr, &domain, &map);
-                assert!(rt; key.is_empty());
-            }
-            _ => return Err("the words are this sentence".into()),
-        }
+fn questions_parsed(rt: HostRuntime) {
+    for (words, question) in &QUESTIONS {
+        check_question(&rt, rt.alloc(), *words, *question);
     }
-    let words = strings(alloc, &["maps", "127.0.0.1:700", "lab"])?;
-    let Ok(Command::Maps { addr, domain }) = parse(alloc, &words) else {
-        return Err("the words are a sentence".into());
-    };
-    expect_asked(&rt, addr, &domain, b"hosts.byname");
-    Ok(())
 }
 
 /// Words, and the map whose file their command reads or writes.
-const NAMED: [(&[&str], Option<(&str, &str)>); 11] = [
+const NAMED: [(&[&str], Option<(&[u8], &[u8])>); 11] = [
     (&[], None),
     (&["frob"], None),
     (&["check", "lab"], None),
-    (&["check", "lab/nokind"], Some(("lab", "nokind"))),
+    (&["check", "lab/nokind"], Some((b"lab", b"nokind"))),
     (&["build", "m1", "lab/nokind"], None),
-    (&["build", "m1", "lab/netgroup"], Some(("lab", "netgroup"))),
+    (
+        &["build", "m1", "lab/netgroup"],
+        Some((b"lab", b"netgroup")),
+    ),
     (
         &["build", "m1", "lab/netgroup", "plain"],
-        Some(("lab", "netgroup")),
+        Some((b"lab", b"netgroup")),
     ),
     (&["once", "lab/hosts.byname", "a=b"], None),
     (&["cat", "127.0.0.1:700", "lab", "hosts.byname"], None),
     (&["session", "m1", "127.0.0.1:700"], None),
     (
         &["session", "m1", "127.0.0.1:700", "m2@127.0.0.1:7", "lab/a"],
-        Some(("lab", "a")),
+        Some((b"lab", b"a")),
     ),
 ];
 
-#[test]
-fn disks_named(rt: HostRuntime) -> Result<(), Fail> {
-    let alloc = rt.alloc();
-    for (words, named) in NAMED {
-        let owned = strings(alloc, words)?;
-        let Ok(names) = disk_names(alloc, &owned) else {
-            return Err("memory is ample".into());
-        };
-        assert_eq!(rt; names.len(), usize::from(named.is_some()), "{words:?}");
-        for (store, name) in names.iter().zip(named) {
-            expect_store(&rt, store, name);
-        }
+fn first_of(names: &[MapName]) -> Option<Names<'_>> {
+    match names {
+        [first, ..] => Some(names_of(first)),
+        [] => None,
     }
-    Ok(())
+}
+
+fn check_names(rt: &impl Abort, alloc: Global, words: &[&str], named: Option<Names>) {
+    let owned = strings(rt, alloc, words);
+    let names = disk_names(alloc, &owned).expect(rt, "memory for names");
+    let wanted = (usize::from(named.is_some()), named);
+    assert_eq!(rt; (names.len(), first_of(&names)), wanted, "{words:?}");
+}
+
+#[test]
+fn disks_named(rt: HostRuntime) {
+    for (words, named) in &NAMED {
+        check_names(&rt, rt.alloc(), *words, *named);
+    }
 }

@@ -11,5 +11,5 @@ new-requires-2-clause-maps g c =
     let start = c.expect-start.result.items in
     let loaded = c.expect-loaded.result in
     let same : map (option_map arc_value) start ≡ versions loaded = search rules in
-    let named : length start ≡ length c.in_ok-catalog.catalog.maps = search rules in
+    let named : length start ≡ length c.catalog-catalog.result.maps = search rules in
     sym (length-map loaded (λ (kept : Kept Platter). kept.version)) ∙ sym (ap length same) ∙ length-map start (option_map arc_value) ∙ named

@@ -1,0 +1,44 @@
+//! Kinds of maps: their numbers, their names, and the texts that they are built of.
+
+use std::process::Abort;
+use yp_build::*;
+use yp_io::TextFile;
+
+const KINDS: [(u32, &[u8], TextFile); 10] = [
+    (1, b"passwd.byname", TextFile::Passwd),
+    (2, b"passwd.byuid", TextFile::Passwd),
+    (3, b"group.byname", TextFile::Group),
+    (4, b"group.bygid", TextFile::Group),
+    (5, b"hosts.byname", TextFile::Hosts),
+    (6, b"hosts.byaddr", TextFile::Hosts),
+    (7, b"services.byname", TextFile::Services),
+    (8, b"protocols.bynumber", TextFile::Protocols),
+    (9, b"netgroup", TextFile::Netgroup),
+    (10, b"ypservers", TextFile::Ypservers),
+];
+
+fn check_kind(rt: &impl Abort, number: u32, name: &[u8], text: TextFile) {
+    let kind = Kind::of_number(number).expect(rt, "a kind");
+    let came = (kind.name(), kind.text(), Kind::of_name(name));
+    assert_eq!(rt; came, (name, text, Some(kind)), "kind {number}");
+}
+
+#[test]
+fn kinds(rt: HostRuntime) {
+    for (number, name, text) in &KINDS {
+        check_kind(&rt, *number, *name, *text);
+    }
+    let numbers = [
+        Kind::of_number(0),
+        Kind::of_number(11),
+        Kind::of_number(u32::MAX),
+    ];
+    assert_eq!(rt; numbers, [None; 3]);
+    let names = [
+        Kind::of_name(b""),
+        Kind::of_name(b"passwd"),
+        Kind::of_name(b"netgroup "),
+        Kind::of_name(b"Netgroup"),
+    ];
+    assert_eq!(rt; names, [None; 4]);
+}

@@ -1,0 +1,320 @@
+//! Texts and their rows, written out by hand.
+
+use crate::given::long_text;
+use std::alloc::Global;
+use std::process::Abort;
+use std::random::RandomSource;
+use std::test::Fail;
+use yp_build::*;
+use yp_io::TEXT_MAX;
+use yp_version::{Version, VersionBuilder};
+
+/// A kind, a text, and the rows that it makes, by rising keys.
+type Made = (
+    Kind,
+    &'static [u8],
+    &'static [(&'static [u8], &'static [u8])],
+);
+
+const USERS: &[u8] =
+    b"# users\nroot:x:0:0::/root:/bin/sh\n\n \t\n+::::::\n-joe::::::\nann:x:10:1:#1 user:/home/ann:/bin/sh";
+
+/// Fields that lack, that are empty, and that have blanks.
+const SHORT_USERS: &[u8] = b"a:x:10\nb:y\nc:z:\n d:x:11 \n:x:12\na:again:13\n";
+
+const GROUPS: &[u8] = b"wheel:*:0:root\n#old:*:1:\n staff:*:50:ann,joe\nnone\n";
+
+const HOSTS: &[u8] =
+    b"10.0.0.1 alpha al # first\n\t10.0.0.2\tbeta \n#10.0.0.3 gamma\n10.0.0.4\n \t \n\n10.0.0.5 alpha # again";
+
+const MADE: [Made; 22] = [
+    (
+        Kind::PasswdByname,
+        USERS,
+        &[
+            (b"ann", b"ann:x:10:1:#1 user:/home/ann:/bin/sh"),
+            (b"root", b"root:x:0:0::/root:/bin/sh"),
+        ],
+    ),
+    (
+        Kind::PasswdByuid,
+        USERS,
+        &[
+            (b"0", b"root:x:0:0::/root:/bin/sh"),
+            (b"10", b"ann:x:10:1:#1 user:/home/ann:/bin/sh"),
+        ],
+    ),
+    (
+        Kind::PasswdByname,
+        SHORT_USERS,
+        &[
+            (b" d", b" d:x:11 "),
+            (b"a", b"a:x:10"),
+            (b"b", b"b:y"),
+            (b"c", b"c:z:"),
+        ],
+    ),
+    (
+        Kind::PasswdByuid,
+        SHORT_USERS,
+        &[
+            (b"10", b"a:x:10"),
+            (b"11 ", b" d:x:11 "),
+            (b"12", b":x:12"),
+            (b"13", b"a:again:13"),
+        ],
+    ),
+    (
+        Kind::GroupByname,
+        GROUPS,
+        &[
+            (b" staff", b" staff:*:50:ann,joe"),
+            (b"none", b"none"),
+            (b"wheel", b"wheel:*:0:root"),
+        ],
+    ),
+    (
+        Kind::GroupBygid,
+        GROUPS,
+        &[(b"0", b"wheel:*:0:root"), (b"50", b" staff:*:50:ann,joe")],
+    ),
+    (
+        Kind::HostsByname,
+        HOSTS,
+        &[
+            (b"al", b"10.0.0.1 alpha al"),
+            (b"alpha", b"10.0.0.1 alpha al"),
+            (b"beta", b"10.0.0.2\tbeta"),
+        ],
+    ),
+    (
+        Kind::HostsByaddr,
+        HOSTS,
+        &[
+            (b"10.0.0.1", b"10.0.0.1 alpha al"),
+            (b"10.0.0.2", b"10.0.0.2\tbeta"),
+            (b"10.0.0.4", b"10.0.0.4"),
+            (b"10.0.0.5", b"10.0.0.5 alpha"),
+        ],
+    ),
+    (
+        Kind::ServicesByname,
+        b"smtp 25/tcp mail\nsmtp  25/udp\n\ndomain\n http\t80/tcp#www\nsubmit 25/tcp\n",
+        &[
+            (b"25/tcp", b"smtp 25/tcp mail"),
+            (b"25/udp", b"smtp  25/udp"),
+            (b"80/tcp", b"http\t80/tcp"),
+        ],
+    ),
+    (
+        Kind::ProtocolsBynumber,
+        b"tcp 6 TCP # x\nip 0 IP\nicmp # 1\n",
+        &[(b"0", b"ip 0 IP"), (b"6", b"tcp 6 TCP")],
+    ),
+    (
+        Kind::Ypservers,
+        b" m1 main\ns1\n#s2\n m1\n",
+        &[(b"m1", b"m1"), (b"s1", b"s1")],
+    ),
+    // Several lines are one before its comment is cut. A group may have no members.
+    (
+        Kind::Netgroup,
+        b"a b c \\\n  d # e \\\nf\nall\ng\t (h,,) \\",
+        &[(b"a", b"b c    d"), (b"all", b""), (b"g", b"(h,,) \\")],
+    ),
+    // No line follows a line feed at the end of the text.
+    (Kind::Netgroup, b"x y\\\n", &[(b"x", b"y\\")]),
+    // An empty line follows.
+    (
+        Kind::Netgroup,
+        b"x y\\\n\n\\\nz",
+        &[(b"x", b"y"), (b"z", b"")],
+    ),
+    // A blank stands behind the backslash.
+    (
+        Kind::Netgroup,
+        b"p q\\ \nr s\n",
+        &[(b"p", b"q\\"), (b"r", b"s")],
+    ),
+    (Kind::Netgroup, b"gr\\\nou p", &[(b"gr", b"ou p")]),
+    // Other texts have no continuation lines.
+    (
+        Kind::HostsByaddr,
+        b"1 a\\\n2 b",
+        &[(b"1", b"1 a\\"), (b"2", b"2 b")],
+    ),
+    (
+        Kind::HostsByname,
+        b"1 \x00a\xff\x0b\r\n",
+        &[(b"\x00a\xff\x0b\r", b"1 \x00a\xff\x0b\r")],
+    ),
+    (
+        Kind::PasswdByname,
+        b"\x00:\xff\n",
+        &[(b"\x00", b"\x00:\xff")],
+    ),
+    (Kind::PasswdByname, b"", &[]),
+    (Kind::HostsByname, b"\n \n\t", &[]),
+    (Kind::Netgroup, b"\\\n\n", &[]),
+];
+
+fn built<R: RandomSource + Abort>(rt: &R, alloc: Global, kind: Kind, text: &[u8]) -> Version {
+    assert!(rt; text.len() <= TEXT_MAX);
+    build(alloc, rt, kind, text, None, 7, b"m1").expect(rt, "a version")
+}
+
+fn assert_rows(rt: &impl Abort, version: &Version, n: usize, rows: &[(&[u8], &[u8])]) {
+    for i in 0..=rows.len() {
+        let wanted = (rows.len(), rows.get(i).copied());
+        assert_eq!(rt;
+            (version.len(), version.row(i)),
+            wanted,
+            "row {i} of text {n}"
+        );
+    }
+}
+
+fn check_text<R: RandomSource + Abort>(rt: &R, alloc: Global, n: usize, row: &Made) {
+    let (kind, text, rows) = *row;
+    let version = built(rt, alloc, kind, text);
+    assert_rows(rt, &version, n, rows);
+}
+
+#[test]
+fn rows_of_texts(rt: HostRuntime) {
+    for (n, row) in MADE.iter().enumerate() {
+        check_text(&rt, rt.alloc(), n, row);
+    }
+}
+
+/// Adds the line of one of 38 users, of whom the last has the number of the first.
+fn put_user(alloc: Global, text: &mut Vec<u8>, n: u8) -> Result<(), Fail> {
+    let uid = if n == 38 { 1001 } else { 1000 + u32::from(n) };
+    let (tens, ones) = (n / 10, n % 10);
+    let user = format!(in alloc; "u{tens}{ones}")?;
+    let line = format!(in alloc; "{user}:x:{uid}:100::/home/{user}:/bin/sh\n")?;
+    text.extend_from_slice(line.as_bytes())?;
+    Ok(())
+}
+
+fn users(alloc: Global) -> Result<Vec<u8>, Fail> {
+    let mut text = b"# users\n".to_vec(alloc)?;
+    for n in 1..39 {
+        put_user(alloc, &mut text, n)?;
+    }
+    text.extend_from_slice(b"+::::::\n")?;
+    Ok(text)
+}
+
+fn assert_users(rt: &impl Abort, version: &Version, len: usize, first: Option<&[u8]>) {
+    assert_eq!(rt; (version.len(), version.get(b"1001")), (len, first));
+}
+
+#[test]
+fn passwd_rows(rt: HostRuntime) -> Result<(), Fail> {
+    let text = users(rt.alloc())?;
+    let by_name = built(&rt, rt.alloc(), Kind::PasswdByname, &text);
+    assert_users(&rt, &by_name, 38, None);
+    let by_uid = built(&rt, rt.alloc(), Kind::PasswdByuid, &text);
+    assert_users(&rt, &by_uid, 37, Some(b"u01:x:1001:100::/home/u01:/bin/sh"));
+    Ok(())
+}
+
+/// How a text with long lines is made, its fault, and how many rows come before. Each line has this front, and is
+/// filled with `x` to this length.
+type Long = (Kind, &'static [(&'static [u8], usize)], BuildFault, usize);
+
+const LONG: [Long; 5] = [
+    (
+        Kind::PasswdByname,
+        &[(b"a:", 65536), (b"b:", 65537), (b"c", 65537)],
+        BuildFault::ValueLong { line: 2 },
+        1,
+    ),
+    (
+        Kind::PasswdByname,
+        &[(b"", 0), (b"#", 70000), (b"c", 65537), (b"d:", 65537)],
+        BuildFault::KeyLong { line: 3 },
+        0,
+    ),
+    // The line is over the limit, and so each of its rows.
+    (
+        Kind::HostsByname,
+        &[(b"1 a ", 65541)],
+        BuildFault::ValueLong { line: 1 },
+        0,
+    ),
+    // The number of a line is that of its first part.
+    (
+        Kind::Netgroup,
+        &[
+            (b"a b \\", 5),
+            (b"c", 1),
+            (b"d \\", 3),
+            (b"\\", 1),
+            (b"e", 65537),
+        ],
+        BuildFault::ValueLong { line: 3 },
+        1,
+    ),
+    (
+        Kind::Ypservers,
+        &[(b"a", 65536), (b"a", 1), (b"b", 65537)],
+        BuildFault::KeyLong { line: 3 },
+        2,
+    ),
+];
+
+/// What the rows of a text come to in a new builder, and how many it has then.
+fn rows_told<R: RandomSource + Abort>(
+    rt: &R,
+    alloc: Global,
+    kind: Kind,
+    text: &[u8],
+) -> (Result<(), BuildFault>, usize) {
+    assert!(rt; text.len() <= TEXT_MAX);
+    let mut builder = VersionBuilder::new(alloc, rt, 1, b"m1").expect(rt, "a builder");
+    let answer = rows_of(alloc, kind, text, &mut builder);
+    (answer, builder.len())
+}
+
+fn check_long<R: RandomSource + Abort>(
+    rt: &R,
+    alloc: Global,
+    n: usize,
+    row: &Long,
+) -> Result<(), Fail> {
+    let (kind, lines, fault, rows) = *row;
+    let text = long_text(alloc, lines)?;
+    let came = rows_told(rt, alloc, kind, &text);
+    assert_eq!(rt; came, (Err(fault), rows), "at text {n}");
+    Ok(())
+}
+
+#[test]
+fn lines_of_faults(rt: HostRuntime) -> Result<(), Fail> {
+    for (n, row) in LONG.iter().enumerate() {
+        check_long(&rt, rt.alloc(), n, row)?;
+    }
+    Ok(())
+}
+
+/// 256 lines with keys of four bytes, each of 65536 bytes.
+fn big_text(alloc: Global) -> Result<Vec<u8>, Fail> {
+    let mut text = Vec::new(alloc);
+    for n in 0..256u32 {
+        let front = format!(in alloc; "{}:", 1000 + n)?;
+        text.extend_from_slice(&long_text(alloc, &[(front.as_bytes(), 65536)])?)?;
+    }
+    Ok(text)
+}
+
+#[test]
+fn too_big_at_a_line(rt: HostRuntime) -> Result<(), Fail> {
+    let text = big_text(rt.alloc())?;
+    assert!(rt; text.len() <= TEXT_MAX);
+    let fault = build(rt.alloc(), &rt, Kind::PasswdByname, &text, None, 7, b"m1").err();
+    // 16 bytes, 4 of the master and 255 rows of 8, 4 and 65,536 are 16,714,760; one more row is over 16,777,216.
+    assert_eq!(rt; fault, Some(BuildFault::TooBig { line: 256 }));
+    Ok(())
+}

@@ -1,0 +1,104 @@
+//! Orders of versions, and versions of sample rows.
+
+use crate::given::long_text;
+use std::alloc::Global;
+use std::process::Abort;
+use std::random::RandomSource;
+use std::test::Fail;
+use yp_build::*;
+use yp_io::TEXT_MAX;
+use yp_version::Version;
+
+/// The order before, the moment, and the order that follows.
+const ORDERS: [(Option<u32>, u32, Result<u32, OrderSpent>); 7] = [
+    (None, 7, Ok(7)),
+    (Some(100), 100, Ok(101)),
+    (Some(100), 50, Ok(101)),
+    (Some(100), 500, Ok(500)),
+    (Some(u32::MAX), 5, Err(OrderSpent)),
+    (Some(u32::MAX - 1), 5, Ok(u32::MAX)),
+    (None, u32::MAX, Ok(u32::MAX)),
+];
+
+fn assert_head(rt: &impl Abort, version: &Version, order: u32, master: &[u8]) {
+    let came = (version.order(), version.master(), version.secure());
+    assert_eq!(rt; came, (order, master, false));
+}
+
+/// Why no version of the hosts that serve is built of a text.
+fn fault_of<R: RandomSource + Abort>(
+    rt: &R,
+    alloc: Global,
+    text: &[u8],
+    previous: Option<u32>,
+) -> Option<BuildFault> {
+    assert!(rt; text.len() <= TEXT_MAX);
+    build(alloc, rt, Kind::Ypservers, text, previous, 7, b"m1").err()
+}
+
+#[test]
+fn orders(rt: HostRuntime) -> Result<(), Fail> {
+    let alloc = rt.alloc();
+    for (previous, now, order) in &ORDERS {
+        assert_eq!(rt; next_order(*previous, *now), *order);
+    }
+    // A spent order goes before a row that is refused.
+    let text = long_text(alloc, &[(b"a", 65537)])?;
+    let spent = fault_of(&rt, alloc, &text, Some(u32::MAX));
+    let long = fault_of(&rt, alloc, &text, Some(7));
+    let wanted = (
+        Some(BuildFault::OrderSpent),
+        Some(BuildFault::KeyLong { line: 1 }),
+    );
+    assert_eq!(rt; (spent, long), wanted);
+    let version = build(alloc, &rt, Kind::Ypservers, b"m1", Some(100), 50, b"m1");
+    assert_head(&rt, &version.expect(&rt, "a version"), 101, b"m1");
+    Ok(())
+}
+
+/// How many rows a version of sample rows has, and how many bytes its body.
+fn size_of<R: RandomSource>(
+    rt: &R,
+    alloc: Global,
+    start: u32,
+    count: u32,
+) -> Result<(usize, usize), BuildFault> {
+    match sample(alloc, rt, start, count) {
+        Ok(version) => Ok((version.len(), version.body_len())),
+        Err(fault) => Err(fault),
+    }
+}
+
+/// A start, how many rows there are, and the size or the fault.
+type Size = (u32, u32, Result<(usize, usize), BuildFault>);
+
+const SIZES: [Size; 6] = [
+    (0, 0, Ok((0, 24))),
+    (0, 1, Ok((1, 48))),
+    (0, 3, Ok((3, 96))),
+    (0, 1000, Ok((1000, 24024))),
+    (7, 262144, Ok((262144, 7336056))),
+    (0, 262145, Err(BuildFault::TooManyRows { line: 262145 })),
+];
+
+fn assert_sample(rt: &impl Abort, version: &Version) {
+    let rows: [(&[u8], &[u8]); 3] = [
+        (b"k3c6ef35f", b"v0"),
+        (b"k47502932", b"v1"),
+        (b"kd1ccf6e9", b"v2"),
+    ];
+    for (i, row) in rows.iter().enumerate() {
+        assert_eq!(rt; version.row(i), Some(*row), "row {i}");
+    }
+    assert_head(rt, version, 1, b"sample");
+}
+
+#[test]
+fn sample_lines(rt: HostRuntime) {
+    let version = sample(rt.alloc(), &rt, 0, 3).expect(&rt, "a version");
+    assert_sample(&rt, &version);
+    for (start, count, size) in &SIZES {
+        let came = size_of(&rt, rt.alloc(), *start, *count);
+        assert_eq!(rt; came, *size, "{count} rows");
+    }
+}
