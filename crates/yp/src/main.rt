@@ -24,6 +24,8 @@ mod dial;
 mod disk;
 mod locked;
 mod patient;
+#[cfg(test)]
+mod scripted;
 mod streams;
 mod texts;
 mod words;
