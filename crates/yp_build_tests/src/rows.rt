@@ -191,8 +191,7 @@ fn rows_of_texts(rt: HostRuntime) {
 fn put_user(alloc: Global, text: &mut Vec<u8>, n: u8) -> Result<(), Fail> {
     let uid = if n == 38 { 1001 } else { 1000 + u32::from(n) };
     let (tens, ones) = (n / 10, n % 10);
-    let user = format!(in alloc; "u{tens}{ones}")?;
-    let line = format!(in alloc; "{user}:x:{uid}:100::/home/{user}:/bin/sh\n")?;
+    let line = format!(in alloc; "u{tens}{ones}:x:{uid}:100::/home/u{tens}{ones}:/bin/sh\n")?;
     text.extend_from_slice(line.as_bytes())?;
     Ok(())
 }

@@ -36,23 +36,28 @@ fn fault_of<R: RandomSource + Abort>(
     build(alloc, rt, Kind::Ypservers, text, previous, 7, b"m1").err()
 }
 
+// A spent order goes before a row that is refused.
+fn check_spent<R: RandomSource + Abort>(rt: &R, alloc: Global, text: &[u8]) {
+    let came = (
+        fault_of(rt, alloc, text, Some(u32::MAX)),
+        fault_of(rt, alloc, text, Some(7)),
+    );
+    let (spent, long) = (BuildFault::OrderSpent, BuildFault::KeyLong { line: 1 });
+    assert_eq!(rt; came, (Some(spent), Some(long)));
+}
+
+fn check_raised<R: RandomSource + Abort>(rt: &R, alloc: Global) {
+    let version = build(alloc, rt, Kind::Ypservers, b"m1", Some(100), 50, b"m1");
+    assert_head(rt, &version.expect(rt, "a version"), 101, b"m1");
+}
+
 #[test]
 fn orders(rt: HostRuntime) -> Result<(), Fail> {
-    let alloc = rt.alloc();
     for (previous, now, order) in &ORDERS {
         assert_eq!(rt; next_order(*previous, *now), *order);
     }
-    // A spent order goes before a row that is refused.
-    let text = long_text(alloc, &[(b"a", 65537)])?;
-    let spent = fault_of(&rt, alloc, &text, Some(u32::MAX));
-    let long = fault_of(&rt, alloc, &text, Some(7));
-    let wanted = (
-        Some(BuildFault::OrderSpent),
-        Some(BuildFault::KeyLong { line: 1 }),
-    );
-    assert_eq!(rt; (spent, long), wanted);
-    let version = build(alloc, &rt, Kind::Ypservers, b"m1", Some(100), 50, b"m1");
-    assert_head(&rt, &version.expect(&rt, "a version"), 101, b"m1");
+    check_raised(&rt, rt.alloc());
+    check_spent(&rt, rt.alloc(), &long_text(rt.alloc(), &[(b"a", 65537)])?);
     Ok(())
 }
 
@@ -81,15 +86,15 @@ const SIZES: [Size; 6] = [
     (0, 262145, Err(BuildFault::TooManyRows { line: 262145 })),
 ];
 
+const SAMPLE: [Option<(&[u8], &[u8])>; 3] = [
+    Some((b"k3c6ef35f", b"v0")),
+    Some((b"k47502932", b"v1")),
+    Some((b"kd1ccf6e9", b"v2")),
+];
+
 fn assert_sample(rt: &impl Abort, version: &Version) {
-    let rows: [(&[u8], &[u8]); 3] = [
-        (b"k3c6ef35f", b"v0"),
-        (b"k47502932", b"v1"),
-        (b"kd1ccf6e9", b"v2"),
-    ];
-    for (i, row) in rows.iter().enumerate() {
-        assert_eq!(rt; version.row(i), Some(*row), "row {i}");
-    }
+    let rows = [version.row(0), version.row(1), version.row(2)];
+    assert_eq!(rt; rows, SAMPLE);
     assert_head(rt, version, 1, b"sample");
 }
 
