@@ -10,8 +10,13 @@ use crate::streams::{BlockReader, DirectWriter};
 use std::alloc::Global;
 use std::io;
 use std::io::ErrorKind;
-use std::net::{Ipv4Addr, Net, SocketAddrV4, TcpStream, UdpSocket};
+use std::net::{Ipv4Addr, Net, SocketAddr, SocketAddrV4, TcpStream, UdpSocket};
+use std::time::Duration;
 use yp_io::{Dial, Failed, Pair, Peer, Sink, Source, count_fault};
+
+// How long connecting, a read and a write each take at most, in seconds. It is more than a server needs that answers at
+// all, and less than a login waits for.
+const LIMIT_SECONDS: u64 = 30;
 
 /// A connection by TCP, whose two halves tell nothing of their bytes.
 pub type TcpWire = Pair<BlockReader<TcpStream>, DirectWriter<TcpStream>>;
@@ -21,6 +26,7 @@ pub type TcpWire = Pair<BlockReader<TcpStream>, DirectWriter<TcpStream>>;
 pub struct TcpDial<R: Net<Stream = TcpStream> + Drop> {
     alloc: Global,
     net: R,
+    limit: Duration,
     faults: u64,
 }
 
@@ -29,9 +35,17 @@ impl<R: Net<Stream = TcpStream> + Drop> TcpDial<R> {
     pub fn new(alloc: Global, net: R) -> TcpDial<R>
         ensures { ⟦<TcpDial<R> as Dial>⟧.faults result ≡ 0 }
     {
+        TcpDial::with_limit(alloc, net, Duration::from_secs(LIMIT_SECONDS))
+    }
+
+    // Each wire fails where connecting, a read or a write takes longer than that.
+    fn with_limit(alloc: Global, net: R, limit: Duration) -> TcpDial<R>
+        ensures { ⟦<TcpDial<R> as Dial>⟧.faults result ≡ 0 }
+    {
         TcpDial {
             alloc,
             net,
+            limit,
             faults: 0,
         }
     }
@@ -45,14 +59,21 @@ fn address_of(peer: Peer) -> SocketAddrV4
 }
 
 // Connects. What is written goes out at once, since each call is small and waits for its reply.
-fn connect<R: Net<Stream = TcpStream>>(net: &R, alloc: Global, to: Peer) -> io::Result<TcpWire>
+fn connect<R: Net<Stream = TcpStream>>(
+    net: &R,
+    alloc: Global,
+    to: Peer,
+    limit: Duration,
+) -> io::Result<TcpWire>
     ensures { IfOk result (λ wire. IsFresh
         (⟦<BlockReader<TcpStream> as Source>⟧.faults wire.source)
         (⟦<DirectWriter<TcpStream> as Sink>⟧.faults wire.sink)
         (⟦<DirectWriter<TcpStream> as Sink>⟧.output wire.sink)) }
 {
-    let stream = TcpStream::connect(net, address_of(to))?;
+    let stream = TcpStream::connect_timeout(net, &SocketAddr::V4(address_of(to)), limit)?;
     stream.set_nodelay(true)?;
+    stream.set_read_timeout(Some(limit))?;
+    stream.set_write_timeout(Some(limit))?;
     let Ok(source) = BlockReader::new(alloc, stream.try_clone()?) else {
         return Err(ErrorKind::OutOfMemory.into());
     };
@@ -87,7 +108,7 @@ impl<R: Net<Stream = TcpStream> + Drop> Dial for TcpDial<R> {
 
     /// It also fails where memory has run out.
     fn dial(&mut self, to: Peer) -> Result<TcpWire, Failed> {
-        match connect(&self.net, self.alloc, to) {
+        match connect(&self.net, self.alloc, to, self.limit) {
             Ok(wire) => Ok(wire),
             Err(_) => Err(count_fault(&mut self.faults)),
         }
@@ -253,6 +274,19 @@ mod tests {
         let mut buf = [0; 8];
         let (len, _) = inbox.recv_from(&mut buf)?;
         Ok((len, buf))
+    }
+
+    #[test]
+    fn peer_that_never_answers(rt: HostRuntime) -> Result<(), Fail> {
+        let listener = TcpListener::bind(&rt, address_of(ANY))?;
+        let to = local(listener.local_addr()?.port());
+        let mut dial = TcpDial::with_limit(rt.alloc(), rt, Duration::from_millis(100));
+        let mut wire = dial.dial(to)?;
+        let answer = wire.source.read(&mut [0; 8]);
+        dial.back(wire);
+        assert_eq!(rt; answer, Err(Failed));
+        assert_eq!(rt; dial.faults, 1);
+        Ok(())
     }
 
     #[test]

@@ -2,11 +2,13 @@
 
 ghost use Rattle.std.specs.Prelude.{None};
 
+use crate::locked::{LockedFile, Locking, MapFile};
 use std::alloc::{AllocError, Global};
 use std::fs::{DirBuilder, File, OpenFile, OpenOptions};
 use std::io::ErrorKind;
-use std::os::unix::fs::{DirBuilderExt, FileExt, OpenOptionsExt};
+use std::os::unix::fs::{DirBuilderExt, OpenOptionsExt};
 use std::rt::Files;
+use std::time::Clock;
 use std::{fs, io};
 use yp_io::{Disk, Failed, count_fault};
 
@@ -19,30 +21,32 @@ const FILE_MODE: u32 = 0o600;
 /// The permissions of a folder that is made.
 const FOLDER_MODE: u32 = 0o700;
 
-/// The file of a map as a disk, which tells nothing of its bytes. It is opened at its first call. A file that isn't
-/// there is an empty one, and is made at the first write, with its folders.
+/// The file of a map as a disk, which tells nothing of its bytes. It is opened and locked at its first call. A file that
+/// isn't there is an empty one, and is made at the first write, with its folders.
 #[derive(Drop)]
-pub struct FileDisk<R: Files + Drop> {
+pub struct FileDisk<R: Files + Clock + Drop> {
     place: Place<R>,
     faults: u64,
 }
 
-impl<R: Files + Drop> FileDisk<R> {
+impl<R: Files + Clock + Drop> FileDisk<R> {
     /// The file of the map of this name, of which what isn't text stands as one replacement character. Nothing is opened
     /// yet.
     pub fn new(
         alloc: Global,
-        files: R,
+        system: R,
         domain: &[u8],
         map: &[u8],
+        locking: Locking,
     ) -> Result<FileDisk<R>, AllocError> {
         let (domain, map) = (text_of(domain), text_of(map));
         let place = Place {
-            files,
+            system,
             folder: format!(in alloc; "{ROOT}/{domain}")?,
             path: format!(in alloc; "{ROOT}/{domain}/{map}")?,
+            locking,
             opened: Opened::NotYet,
-            settled: false,
+            synced: Synced::NotYet,
         };
         Ok(FileDisk { place, faults: 0 })
     }
@@ -58,74 +62,103 @@ fn text_of(name: &[u8]) -> &str {
 enum Opened<F> {
     NotYet,
     Nothing,
-    Found(F),
+    Found(LockedFile<F>),
+}
+
+// How the syncs went since the file was opened.
+#[derive(Clone, Copy, PartialEq, Eq)]
+enum Synced {
+    NotYet,
+
+    // The folders, too.
+    Whole,
+
+    // A system reports a write that it lost once, and may then call the file clean. So no later sync is believed.
+    Lost,
 }
 
 // Where a file is, and the file once it was opened.
 #[derive(Drop)]
-struct Place<R: Files + Drop> {
-    files: R,
+struct Place<R: Files + Clock + Drop> {
+    system: R,
     folder: String,
     path: String,
+    locking: Locking,
     opened: Opened<R::File>,
-    // whether the folders were synced since the file was opened
-    settled: bool,
+    synced: Synced,
 }
 
-impl<R: Files + Drop> Place<R>
+impl<R: Files + Clock + Drop> Place<R>
 where
-    R::File: FileExt,
+    R::File: MapFile,
 {
-    // The file, where there is one.
-    fn file(&mut self) -> io::Result<Option<&R::File>> {
+    // The file, where there is one, locked against those who write it.
+    fn file(&mut self) -> io::Result<Option<&mut LockedFile<R::File>>> {
         if let Opened::NotYet = self.opened {
-            self.opened = match open(&self.files, &self.path)? {
-                Some(file) => Opened::Found(file),
+            self.opened = match open(&self.system, &self.path)? {
+                Some(file) => Opened::Found(LockedFile::new(file)),
                 None => Opened::Nothing,
             };
         }
-        match &self.opened {
-            Opened::Found(file) => Ok(Some(file)),
+        match &mut self.opened {
+            Opened::Found(file) => {
+                file.lock(&self.system, self.locking)?;
+                Ok(Some(file))
+            }
             _ => Ok(None),
         }
     }
 
     fn len(&mut self) -> io::Result<u64> {
         match self.file()? {
-            Some(file) => Ok(file.metadata()?.len()),
+            Some(file) => file.len(),
             None => Ok(0),
         }
     }
 
     fn read(&mut self, at: u64, buf: &mut [u8]) -> io::Result<()> {
         match self.file()? {
-            Some(file) => file.read_exact_at(buf, at),
+            Some(file) => file.read(at, buf),
             None if buf.is_empty() => Ok(()),
             None => Err(ErrorKind::UnexpectedEof.into()),
         }
     }
 
     fn write_at(&mut self, at: u64, piece: &[u8]) -> io::Result<()> {
-        if let Some(file) = self.file()? {
-            return file.write_all_at(piece, at);
+        if self.file()?.is_none() {
+            // Another program may have made it meanwhile, which is found at the next opening.
+            self.opened = Opened::NotYet;
+            let file = make(&self.system, &self.folder, &self.path)?;
+            self.opened = Opened::Found(LockedFile::new(file));
         }
-        let file = make(&self.files, &self.folder, &self.path)?;
-        let answer = file.write_all_at(piece, at);
-        self.opened = Opened::Found(file);
-        answer
+        match &mut self.opened {
+            Opened::Found(file) => file.write(&self.system, at, piece),
+            _ => Err(ErrorKind::NotFound.into()),
+        }
     }
 
     // Syncs the file, and at the first time its folders, since without their entries it is lost in a crash.
     fn sync(&mut self) -> io::Result<()> {
+        if self.synced == Synced::Lost {
+            return Err(ErrorKind::InvalidData.into());
+        }
         let Some(file) = self.file()? else {
             return Ok(());
         };
-        file.sync_all()?;
-        if !self.settled {
-            sync_folder(&self.files, &self.folder)?;
-            sync_folder(&self.files, ROOT)?;
-            sync_folder(&self.files, ".")?;
-            self.settled = true;
+        let answer = file.sync();
+        let answer = answer.and_then(|()| self.sync_folders());
+        self.synced = match answer {
+            Ok(()) => Synced::Whole,
+            Err(_) => Synced::Lost,
+        };
+        answer
+    }
+
+    fn sync_folders(&self) -> io::Result<()> {
+        if self.synced == Synced::NotYet {
+            sync_folder(&self.system, &self.folder)?;
+            sync_folder(&self.system, ROOT)?;
+            sync_folder(&self.system, ".")?;
         }
         Ok(())
     }
@@ -141,8 +174,14 @@ fn open<R: Files>(files: &R, path: &str) -> io::Result<Option<R::File>> {
     }
     match OpenOptions::new().read(true).write(true).open(files, path) {
         Ok(file) => Ok(Some(file)),
-        Err(_) => Ok(Some(File::open(files, path)?)),
+        Err(error) if is_for_reading_alone(error.kind()) => Ok(Some(File::open(files, path)?)),
+        Err(error) => Err(error),
     }
+}
+
+// Whether an error says that the file may be there to be read, and not to be written.
+fn is_for_reading_alone(kind: ErrorKind) -> bool {
+    kind == ErrorKind::PermissionDenied || kind == ErrorKind::ReadOnlyFilesystem
 }
 
 // Makes a file that isn't there, with its folders.
@@ -163,9 +202,9 @@ fn sync_folder<R: Files>(files: &R, folder: &str) -> io::Result<()> {
     File::open(files, folder)?.sync_all()
 }
 
-impl<R: Files + Drop> Disk for FileDisk<R>
+impl<R: Files + Clock + Drop> Disk for FileDisk<R>
 where
-    R::File: FileExt,
+    R::File: MapFile,
 {
     ghost history = { λ _. None };
 
@@ -208,6 +247,126 @@ where
         match self.place.sync() {
             Ok(()) => Ok(()),
             Err(_) => Err(count_fault(&mut self.faults)),
+        }
+    }
+}
+
+#[cfg(test)]
+mod tests {
+    use super::*;
+    use crate::scripted::{OneFile, unsupported};
+    use std::cell::Cell;
+    use std::fs::Metadata;
+    use std::io::{Read, Seek, SeekFrom, Write};
+    use std::os::unix::fs::FileExt;
+
+    // An open file that takes all, of whose syncs, counted over all files and folders, the one with this number fails.
+    #[derive(Clone, Copy)]
+    struct Syncs<'a> {
+        count: &'a Cell<u32>,
+        failing: u32,
+    }
+
+    impl Read for Syncs<'_> {
+        fn read(&mut self, _buf: &mut [u8]) -> io::Result<usize> {
+            Err(ErrorKind::Unsupported.into())
+        }
+    }
+
+    impl Write for Syncs<'_> {
+        fn write(&mut self, _buf: &[u8]) -> io::Result<usize> {
+            Err(ErrorKind::Unsupported.into())
+        }
+
+        fn flush(&mut self) -> io::Result<()> {
+            unsupported()
+        }
+    }
+
+    impl Seek for Syncs<'_> {
+        fn seek(&mut self, _to: SeekFrom) -> io::Result<u64> {
+            unsupported()
+        }
+    }
+
+    impl OpenFile for Syncs<'_> {
+        fn metadata(&self) -> io::Result<Metadata> {
+            Ok(Metadata::of_file(0))
+        }
+
+        fn set_len(&self, _size: u64) -> io::Result<()> {
+            unsupported()
+        }
+
+        fn sync_all(&self) -> io::Result<()> {
+            let number = self.count.get();
+            self.count.set(number.saturating_add(1));
+            if number == self.failing {
+                return unsupported();
+            }
+            Ok(())
+        }
+
+        fn sync_data(&self) -> io::Result<()> {
+            unsupported()
+        }
+    }
+
+    impl FileExt for Syncs<'_> {
+        fn read_at(&self, _buf: &mut [u8], _offset: u64) -> io::Result<usize> {
+            Err(ErrorKind::Unsupported.into())
+        }
+
+        fn write_at(&self, buf: &[u8], _offset: u64) -> io::Result<usize> {
+            Ok(buf.len())
+        }
+    }
+
+    impl MapFile for Syncs<'_> {
+        fn try_lock_as(&self, _is_only: bool) -> io::Result<bool> {
+            Ok(true)
+        }
+    }
+
+    // How three writes with a sync behind each end, and how many faults are counted.
+    fn stored(alloc: Global, failing: u32) -> Option<([bool; 3], u64)> {
+        let count = Cell::new(0);
+        let file = Syncs {
+            count: &count,
+            failing,
+        };
+        let system = OneFile {
+            path: None,
+            len: Some(0),
+            file,
+        };
+        match FileDisk::new(alloc, system, b"lab", b"hosts.byname", Locking::AtOnce) {
+            Ok(mut disk) => Some((sync_thrice(&mut disk), disk.faults)),
+            Err(AllocError) => None,
+        }
+    }
+
+    fn sync_thrice(disk: &mut FileDisk<OneFile<'_, Syncs<'_>>>) -> [bool; 3] {
+        let mut synced = [false; 3];
+        for is_synced in &mut synced {
+            let written = disk.write_at(0, b"version");
+            *is_synced = written.is_ok() && disk.sync().is_ok();
+        }
+        synced
+    }
+
+    #[test]
+    fn sync_that_failed_is_not_trusted_again(rt: HostRuntime) {
+        // The first sync is of the file and three folders, each later one of the file alone.
+        for (failing, synced, faults) in [
+            (0, [false, false, false], 3),
+            (3, [false, false, false], 3),
+            (4, [true, false, false], 2),
+            (5, [true, true, false], 1),
+            (6, [true, true, true], 0),
+        ] {
+            let came = stored(rt.alloc(), failing);
+            assert_eq!(rt; came, Some((synced, faults)), "{failing}");
         }
     }
 }

@@ -8,6 +8,8 @@ ghost use Rattle.yp_tools.specs.Disks.{names_of};
 use clock::SystemClock;
 use dial::TcpDial;
 use disk::FileDisk;
+use locked::Locking;
+use patient::Patient;
 use std::alloc::{AllocError, Global};
 use std::process::ExitCode;
 use streams::{BlockReader, DirectWriter, StandardStream};
@@ -20,9 +22,21 @@ use yp_tools::{NamedDisk, Outside, Status, disk_names, named_disks, run, tell};
 mod clock;
 mod dial;
 mod disk;
+mod locked;
+mod patient;
+#[cfg(test)]
+mod scripted;
 mod streams;
 mod texts;
 mod words;
+
+/// When the files of a command are locked. A session answers from what it loaded, and may never write.
+fn locking_of(words: &[String]) -> Locking {
+    match words.first() {
+        Some(word) if word.as_str() == "build" => Locking::AtOnce,
+        _ => Locking::AtFirstWrite,
+    }
+}
 
 /// The files of the maps that the words name.
 fn disks(
@@ -33,7 +47,8 @@ fn disks(
     ensures { IfOk result (λ disks. names_of disks.items ≡ disk_names (texts words.now)) }
 {
     let names = disk_names(alloc, words)?;
-    let make = |name: &MapName| FileDisk::new(alloc, files, &name.domain, &name.map);
+    let locking = locking_of(words);
+    let make = |name: &MapName| FileDisk::new(alloc, files, &name.domain, &name.map, locking);
     match named_disks(alloc, names, make) {
         Ok(disks) => Ok(disks),
         Err(AllocError) => Err(NoMemory),
@@ -48,8 +63,9 @@ fn without_memory<K: Sink>(notes: &mut K) -> ExitCode {
 
 fn main(rt: HostRuntime) -> ExitCode {
     let alloc = rt.alloc();
-    let mut notes = DirectWriter::new(StandardStream::Error(rt.stderr()));
-    let (Ok(words), Ok(input)) = (words(&rt, alloc), BlockReader::new(alloc, rt.stdin())) else {
+    let mut notes = DirectWriter::new(Patient::new(StandardStream::Error(rt.stderr()), rt));
+    let input = BlockReader::new(alloc, Patient::new(rt.stdin(), rt));
+    let (Ok(words), Ok(input)) = (words(&rt, alloc), input) else {
         return without_memory(&mut notes);
     };
     let Ok(disks) = disks(alloc, rt, &words) else {
@@ -57,7 +73,7 @@ fn main(rt: HostRuntime) -> ExitCode {
     };
     let outside = Outside {
         input,
-        output: DirectWriter::new(StandardStream::Output(rt.stdout())),
+        output: DirectWriter::new(Patient::new(StandardStream::Output(rt.stdout()), rt)),
         notes,
         disks,
         clock: SystemClock::new(&rt),

@@ -80,14 +80,11 @@ impl<R: Files + Drop> Texts for TextFolder<R> {
 #[cfg(test)]
 mod tests {
     use super::*;
-    use std::alloc::{Allocator, Global};
-    use std::fs::{Metadata, OpenFile, OpenOptions};
-    use std::io::{Empty, Seek, SeekFrom, Write};
+    use crate::scripted::{OneFile, unsupported};
+    use std::alloc::Global;
+    use std::fs::{Metadata, OpenFile};
+    use std::io::{Seek, SeekFrom, Write};
     use yp_io::TextFile::{Group, Hosts, Netgroup, Passwd, Protocols, Services, Ypservers};
-
-    fn unsupported<T>() -> io::Result<T> {
-        Err(ErrorKind::Unsupported.into())
-    }
 
     // An open file. Its first read is interrupted, the next ones give its bytes, and then it fails or ends.
     #[derive(Clone, Copy)]
@@ -149,71 +146,10 @@ mod tests {
         }
     }
 
-    // A system with one file, which is a folder where no length is given.
-    #[derive(Clone, Copy)]
-    struct OneFile<'a> {
-        path: &'a str,
-        len: Option<u64>,
-        reads: Reads,
-    }
-
-    impl Files for OneFile<'_> {
-        type File = Reads;
-
-        type Dir = Empty;
-
-        fn open_file(&self, _how: &OpenOptions, path: &str) -> io::Result<Reads> {
-            match self.len {
-                Some(_) if path == self.path => Ok(self.reads),
-                _ => Err(ErrorKind::NotFound.into()),
-            }
-        }
-
-        fn metadata(&self, path: &str) -> io::Result<Metadata> {
-            match self.len {
-                _ if path != self.path => Err(ErrorKind::NotFound.into()),
-                Some(len) => Ok(Metadata::of_file(len)),
-                None => Ok(Metadata::of_dir()),
-            }
-        }
-
-        fn open_dir(&self, _path: &str) -> io::Result<Empty> {
-            unsupported()
-        }
-
-        fn symlink_metadata(&self, _path: &str) -> io::Result<Metadata> {
-            unsupported()
-        }
-
-        fn copy(&self, _from: &str, _to: &str) -> io::Result<u64> {
-            unsupported()
-        }
-
-        fn rename(&self, _from: &str, _to: &str) -> io::Result<()> {
-            unsupported()
-        }
-
-        fn remove_file(&self, _path: &str) -> io::Result<()> {
-            unsupported()
-        }
-
-        fn create_dir(&self, _path: &str) -> io::Result<()> {
-            unsupported()
-        }
-
-        fn remove_dir(&self, _path: &str) -> io::Result<()> {
-            unsupported()
-        }
-
-        fn remove_dir_all<B: Allocator>(&self, _alloc: B, _path: &str) -> io::Result<()> {
-            unsupported()
-        }
-    }
-
     // The answer to a read of a text of this system, how many bytes came, and how often it failed.
     fn read_text(
         alloc: Global,
-        files: OneFile<'_>,
+        files: OneFile<'_, Reads>,
         which: TextFile,
     ) -> (Result<(), TextFault>, usize, u64) {
         let mut texts = TextFolder::new(files);
@@ -263,9 +199,9 @@ mod tests {
                 fault: *fault,
             };
             let file = OneFile {
-                path: *path,
+                path: Some(*path),
                 len: *len,
-                reads,
+                file: reads,
             };
             let came = read_text(rt.alloc(), file, *which);
             let faults = u64::from(*want == FAILED);
