@@ -56,13 +56,29 @@ fn cut(alloc: Global, record: &[u8], size: usize) -> Result<Vec<u8>, Fail>
     Ok(stream)
 }
 
-// The stream of a reply of one fragment, and then NEXT_REPLY.
-fn stream(alloc: Global, items: &[&str]) -> Result<Vec<u8>, Fail> {
-    let mut record = bytes(alloc, &[HEAD])?;
-    record.extend_from_slice(&bytes(alloc, items)?)?;
-    let mut stream = fragment(true, record.len())?.to_vec(alloc)?;
-    stream.extend_from_slice(&record)?;
+// The stream of a reply of one fragment with these items, and then NEXT_REPLY.
+fn stream(alloc: Global, first: &str, second: &str) -> Result<Vec<u8>, Fail> {
+    let record = bytes(alloc, &[HEAD, first, second])?;
+    let mut stream = cut(alloc, &record, 1_000_000)?;
     stream.extend_from_slice(&bytes(alloc, &[NEXT_REPLY])?)?;
+    Ok(stream)
+}
+
+// The same without items, behind so many empty fragments.
+fn hollow(alloc: Global, empty: usize) -> Result<Vec<u8>, Fail> {
+    let mut input = vec![in alloc; 0; empty]?;
+    for _ in 0..empty {
+        input.extend_from_slice(&[0; 3])?;
+    }
+    input.extend_from_slice(&stream(alloc, "00000000", "")?)?;
+    Ok(input)
+}
+
+// The front of a reply with two rows in fragments of ten bytes, 108 in all.
+fn torn(alloc: Global, len: usize) -> Result<Vec<u8>, Fail> {
+    let record = bytes(alloc, &[HEAD, ROW, ROW, "00000000"])?;
+    let mut stream = cut(alloc, &record, 10)?;
+    stream.truncate(len);
     Ok(stream)
 }
 
@@ -243,7 +259,7 @@ fn ends_of_rows(rt: HostRuntime) -> Result<(), Fail> {
             _ => Ok(7),
         };
         let len = rows as usize;
-        let wire = wire(alloc, stream(alloc, &[items])?, 5);
+        let wire = wire(alloc, stream(alloc, items, "")?, 5);
         let came = with_builder(&rt, alloc, wire, fetch_and_order);
         assert_eq!(rt; came, (Fetched { said, rows, len }, next), "{items}");
     }
@@ -272,7 +288,7 @@ fn places_of_bad_items(rt: HostRuntime) -> Result<(), Fail> {
         ("00000001 00000001 00000005 76767676 760000", 56),
         ("00000001 00000001 00000001 76000000 00000002 6b", 64),
     ] {
-        let wire = wire(alloc, stream(alloc, &[ROW, item])?, 5);
+        let wire = wire(alloc, stream(alloc, ROW, item)?, 5);
         let came = with_builder(&rt, alloc, wire, fetch_twice);
         let wanted = [ClientFault::BadReply { at }, ClientFault::Spent].map(|fault| Fetched {
             said: Err(fault),
@@ -341,20 +357,14 @@ fn torn_and_failing_records(rt: HostRuntime) -> Result<(), Fail> {
         (1024, Ok(())),
         (1025, Err(ClientFault::TooLong { at: 0 })),
     ] {
-        let mut input = vec![in alloc; 0; empty]?;
-        for _ in 0..empty {
-            input.extend_from_slice(&[0; 3])?;
-        }
-        input.extend_from_slice(&stream(alloc, &["00000000"])?)?;
+        let input = hollow(alloc, empty)?;
         let came = with_builder(&rt, alloc, wire(alloc, input, 4096), fetch);
         assert_eq!(rt; came.said, said, "{empty}");
     }
-    let record = bytes(alloc, &[HEAD, ROW, ROW, "00000000"])?;
-    let whole = cut(alloc, &record, 10)?;
     for len in [1, 30, 90, 107] {
-        assert!(rt; len < whole.len());
-        let wire = wire(alloc, whole[..len].to_vec(alloc)?, 4096);
-        let came = with_builder(&rt, alloc, wire, fetch_and_ping);
+        let input = torn(alloc, len)?;
+        assert_eq!(rt; input.len(), len);
+        let came = with_builder(&rt, alloc, wire(alloc, input, 4096), fetch_and_ping);
         let wanted = (Err(ClientFault::Torn { at: 0 }), Err(ClientFault::Spent));
         assert_eq!(rt; came, wanted, "{len}");
     }
@@ -386,17 +396,22 @@ fn fetch_behind(client: &mut MemClient, into: &mut VersionBuilder, value: &[u8])
     }
 }
 
+// A reply whose third row is long, and then NEXT_REPLY.
+fn short_rows_and_a_long(alloc: Global) -> Result<Vec<u8>, Fail> {
+    let mut record = bytes(alloc, &[HEAD, ROW, ROW])?;
+    put_long_row(alloc, &mut record, 1)?;
+    record.extend_from_slice(&bytes(alloc, &[ROW])?)?;
+    let mut stream = cut(alloc, &record, 8192)?;
+    stream.extend_from_slice(&bytes(alloc, &[NEXT_REPLY])?)?;
+    Ok(stream)
+}
+
 #[test]
 fn row_that_is_refused(rt: HostRuntime) -> Result<(), Fail> {
     let alloc = rt.alloc();
     // 255 rows of 65,548 bytes leave room for 62,456 more, of 16,777,216.
     let value = vec![in alloc; 0; LONGEST]?;
-    let mut record = bytes(alloc, &[HEAD, ROW, ROW])?;
-    put_long_row(alloc, &mut record, 1)?;
-    record.extend_from_slice(&bytes(alloc, &[ROW])?)?;
-    let mut input = cut(alloc, &record, 8192)?;
-    input.extend_from_slice(&bytes(alloc, &[NEXT_REPLY])?)?;
-    let wire = wire(alloc, input, 4096);
+    let wire = wire(alloc, short_rows_and_a_long(alloc)?, 4096);
     let came = with_builder(&rt, alloc, wire, |client, into| {
         fetch_behind(client, into, &value)
     });

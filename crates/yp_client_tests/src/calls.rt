@@ -224,8 +224,11 @@ fn one_failing_call(rt: HostRuntime) -> Result<(), Fail> {
         let writes = vec![in alloc; writes]?;
         let wire = wire(alloc, bytes, reads, writes);
         let came = with_client(&rt, alloc, wire, 8, orders);
-        assert_eq!(rt; came.said, [Err(fault), Err(ClientFault::Spent)], "{input}");
-        assert_eq!(rt; came.sent.len(), taken, "{fault:?}");
+        assert_eq!(rt;
+            (came.said, came.sent.len()),
+            ([Err(fault), Err(ClientFault::Spent)], taken),
+            "{input} {fault:?}"
+        );
     }
     Ok(())
 }

@@ -63,6 +63,14 @@ pub fn with_builder<
     calls(&mut client, &mut into)
 }
 
+// Lends the version that a builder becomes.
+fn look_at<R: Abort, V: Drop, L: FnOnce(&Version) -> V>(rt: &R, into: VersionBuilder, look: L) -> V
+    requires { L.IsAlwaysCallable look }
+{
+    let version = into.finish().expect(rt, "a version");
+    look(&version)
+}
+
 /// The same, and then lends the version that the builder has become.
 pub fn with_version<
     R: RandomSource + Abort,
@@ -77,10 +85,9 @@ pub fn with_version<
     let mut client = client(rt, alloc, wire, 8);
     let mut into = builder(rt, alloc);
     let said = calls(&mut client, &mut into);
-    let version = into.finish().expect(rt, "a version");
     let came = Came {
         said,
         sent: sent(rt, alloc, client),
     };
-    (came, look(&version))
+    (came, look_at(rt, into, look))
 }
