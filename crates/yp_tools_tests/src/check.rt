@@ -6,6 +6,8 @@ use yp_for_tests::bytes;
 
 const WORDS: [&str; 2] = ["check", "lab/hosts.byname"];
 
+const MAP: &[u8] = b"hosts.byname";
+
 /// The first cell is open: generation 1, a body of 52 bytes at 64. The second is closed. The version has order 100,
 /// master `m1` and the row of `alpha`.
 const FILE: &str = "01000000 00000000 00000000 00000001 00000000 00000040 00000000 00000034
@@ -19,16 +21,68 @@ const DISK_FAULT: &str = "yp: disk fault in lab/hosts.byname\n";
 
 const WRITE_FAULT: &str = "yp: write fault\n";
 
-/// Calls of the disk and of the output that fail, and the code, the output and the note that come. Of the disk there
-/// are the sync, the length, the cells and the body, and no fifth call, and of the output the write and the flush.
-const FAULTS: [(&[u64], &[u64], u8, &str, &str); 7] = [
-    (&[0], &[], 10, "", DISK_FAULT),
-    (&[1], &[], 10, "", DISK_FAULT),
-    (&[2], &[], 10, "", DISK_FAULT),
-    (&[3], &[], 10, "", DISK_FAULT),
-    (&[4], &[], 0, TOLD, ""),
-    (&[], &[0], 4, "", WRITE_FAULT),
-    (&[], &[1], 4, TOLD, WRITE_FAULT),
+/// Calls of the disk and of the output that fail, and what comes.
+#[derive(Clone, Copy)]
+struct Fault<'a> {
+    disk: &'a [u64],
+    writes: &'a [u64],
+    code: u8,
+    output: &'a str,
+    note: &'a str,
+}
+
+/// Of the disk there are the sync, the length, the cells and the body, and no fifth call, and of the output the write
+/// and the flush.
+const FAULTS: [Fault<'static>; 7] = [
+    Fault {
+        disk: &[0],
+        writes: &[],
+        code: 10,
+        output: "",
+        note: DISK_FAULT,
+    },
+    Fault {
+        disk: &[1],
+        writes: &[],
+        code: 10,
+        output: "",
+        note: DISK_FAULT,
+    },
+    Fault {
+        disk: &[2],
+        writes: &[],
+        code: 10,
+        output: "",
+        note: DISK_FAULT,
+    },
+    Fault {
+        disk: &[3],
+        writes: &[],
+        code: 10,
+        output: "",
+        note: DISK_FAULT,
+    },
+    Fault {
+        disk: &[4],
+        writes: &[],
+        code: 0,
+        output: TOLD,
+        note: "",
+    },
+    Fault {
+        disk: &[],
+        writes: &[0],
+        code: 4,
+        output: "",
+        note: WRITE_FAULT,
+    },
+    Fault {
+        disk: &[],
+        writes: &[1],
+        code: 4,
+        output: TOLD,
+        note: WRITE_FAULT,
+    },
 ];
 
 #[test]
@@ -36,18 +90,19 @@ fn one_failing_call_of_check(rt: HostRuntime) -> Result<(), Fail> {
     let alloc = rt.alloc();
     let words = strings(alloc, &WORDS)?;
     let file = bytes(alloc, &[FILE])?;
-    for (disk, writes, code, output, note) in FAULTS {
-        let ended = wanted_of(alloc, code, output.as_bytes(), note, b"hosts.byname", &file)?;
+    for (row, fault) in FAULTS.iter().enumerate() {
+        let output = fault.output.as_bytes();
+        let ended = wanted_of(alloc, fault.code, output, fault.note, MAP, &file)?;
         let scene = Scene {
             input: b"left",
             read: 4,
-            writes,
+            writes: fault.writes,
             file: &file,
-            disk,
+            disk: fault.disk,
             ..FAIR
         };
         let came = play(&rt, alloc, &words, &scene);
-        assert_eq!(rt; came, ended, "disk {disk:?} and writes {writes:?}");
+        assert_eq!(rt; came, ended, "row {row}");
     }
     Ok(())
 }

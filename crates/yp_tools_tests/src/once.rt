@@ -165,16 +165,51 @@ fn rows_past_a_limit(rt: HostRuntime) -> Result<(), Fail> {
     Ok(())
 }
 
-/// Reads and writes that fail, and whether the first reply is written. Each record takes a read for its head and one for
-/// its body, each reply a write and a flush.
-const FAULTS: [(&[u64], &[u64], bool); 7] = [
-    (&[0], &[], false),
-    (&[1], &[], false),
-    (&[2], &[], true),
-    (&[3], &[], true),
-    (&[], &[0], false),
-    (&[], &[1], true),
-    (&[], &[2], true),
+/// Reads and writes that fail, and whether the first reply is written.
+#[derive(Clone, Copy)]
+struct Fault<'a> {
+    reads: &'a [u64],
+    writes: &'a [u64],
+    replied: bool,
+}
+
+/// Each record takes a read for its head and one for its body, each reply a write and a flush.
+const FAULTS: [Fault<'static>; 7] = [
+    Fault {
+        reads: &[0],
+        writes: &[],
+        replied: false,
+    },
+    Fault {
+        reads: &[1],
+        writes: &[],
+        replied: false,
+    },
+    Fault {
+        reads: &[2],
+        writes: &[],
+        replied: true,
+    },
+    Fault {
+        reads: &[3],
+        writes: &[],
+        replied: true,
+    },
+    Fault {
+        reads: &[],
+        writes: &[0],
+        replied: false,
+    },
+    Fault {
+        reads: &[],
+        writes: &[1],
+        replied: true,
+    },
+    Fault {
+        reads: &[],
+        writes: &[2],
+        replied: true,
+    },
 ];
 
 #[test]
@@ -183,23 +218,23 @@ fn one_failing_call(rt: HostRuntime) -> Result<(), Fail> {
     let words = strings(alloc, &SERVED)?;
     let calls = bytes(alloc, &[MATCH, MATCH])?;
     let reply = bytes(alloc, &[MATCH_REPLY])?;
-    for (reads, writes, replied) in FAULTS {
-        let (code, note) = if writes.is_empty() {
+    for (row, fault) in FAULTS.iter().enumerate() {
+        let (code, note) = if fault.writes.is_empty() {
             (3, "yp: read fault\n")
         } else {
             (4, "yp: write fault\n")
         };
-        let output: &[u8] = if replied { &reply } else { &[] };
+        let output: &[u8] = if fault.replied { &reply } else { &[] };
         let ended = wanted(alloc, code, output, note)?;
         let scene = Scene {
             input: &calls,
             read: 80,
-            reads,
-            writes,
+            reads: fault.reads,
+            writes: fault.writes,
             ..FAIR
         };
         let came = play(&rt, alloc, &words, &scene);
-        assert_eq!(rt; came, ended, "reads {reads:?} and writes {writes:?}");
+        assert_eq!(rt; came, ended, "row {row}");
     }
     Ok(())
 }

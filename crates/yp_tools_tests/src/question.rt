@@ -16,7 +16,7 @@ fn one_failing_call(rt: HostRuntime) -> Result<(), Fail> {
     let words = strings(alloc, &MATCH)?;
     let reply = bytes(alloc, &[REPLY])?;
     let whole = Scene {
-        wire: Some(&reply),
+        wire: &reply,
         ..FAIR
     };
     let read = Scene {

@@ -31,8 +31,8 @@ pub(crate) struct Scene<'a> {
     pub stop: Option<u64>,
     pub disk: &'a [u64],
     pub moment: u32,
-    /// What the only wire gives, where there is one, and the reads of it that fail.
-    pub wire: Option<&'a [u8]>,
+    /// What the only wire gives, and the reads of it that fail.
+    pub wire: &'a [u8],
     pub wire_reads: &'a [u64],
     pub dials: &'a [u64],
     /// The text of hosts, and the reads of texts that fail.
@@ -53,7 +53,7 @@ pub(crate) const FAIR: Scene<'static> = Scene {
     stop: None,
     disk: &[],
     moment: 100,
-    wire: None,
+    wire: &[],
     wire_reads: &[],
     dials: &[],
     hosts: &[],
@@ -148,18 +148,14 @@ fn disks_of(
 fn wires_of<R: Abort>(rt: &R, alloc: Global, scene: &Scene<'_>) -> Vec<MemWire>
     ensures { All IsNew result.items }
 {
+    let input = copied(rt, alloc, scene.wire);
+    let failing = copied(rt, alloc, scene.wire_reads);
+    let wire = Pair {
+        source: MemSource::new(input, 65_536, failing),
+        sink: MemSink::new(alloc, 4096, Vec::new(alloc)),
+    };
     let mut wires = Vec::new(alloc);
-    if let Some(input) = scene.wire {
-        let wire = Pair {
-            source: MemSource::new(
-                copied(rt, alloc, input),
-                65_536,
-                copied(rt, alloc, scene.wire_reads),
-            ),
-            sink: MemSink::new(alloc, 4096, Vec::new(alloc)),
-        };
-        wires.push(wire).expect(rt, "memory");
-    }
+    wires.push(wire).expect(rt, "memory");
     wires
 }
 
