@@ -56,6 +56,24 @@ fn stands_of<R: RandomSource + Abort>(rt: &R, alloc: Global, file: &[u8]) -> Sta
     }
 }
 
+/// The words of a build, and the format that comes.
+#[derive(Clone, Copy)]
+struct First<'a> {
+    words: &'a [&'a str],
+    format: &'a str,
+}
+
+const FIRST: [First<'static>; 2] = [
+    First {
+        words: &BUILD,
+        format: OPEN,
+    },
+    First {
+        words: &SECURE,
+        format: SHUT,
+    },
+];
+
 #[test]
 fn built_on_an_empty_file(rt: HostRuntime) -> Result<(), Fail> {
     let alloc = rt.alloc();
@@ -64,13 +82,12 @@ fn built_on_an_empty_file(rt: HostRuntime) -> Result<(), Fail> {
         input: HOSTS,
         ..FAIR
     };
-    let cases: [(&[&str], &str); 2] = [(&BUILD, OPEN), (&SECURE, SHUT)];
-    for (words, format) in cases {
-        let words = strings(alloc, words)?;
-        let file = bytes(alloc, &[CELLS, format, ORDER, REST])?;
+    for (row, case) in FIRST.iter().enumerate() {
+        let words = strings(alloc, case.words)?;
+        let file = bytes(alloc, &[CELLS, case.format, ORDER, REST])?;
         let built = wanted_of(alloc, 0, line, "", MAP, &file)?;
         let came = play(&rt, alloc, &words, &scene);
-        assert_eq!(rt; came, built, "format {format}");
+        assert_eq!(rt; came, built, "row {row}");
     }
     Ok(())
 }
