@@ -2,13 +2,14 @@
 #![tactic(auto)]
 
 use std::alloc::Global;
-use std::test::Fail;
 
-/// The bytes of texts of hexadecimal words, as `8000004c 00000001`.
-pub fn bytes(alloc: Global, texts: &[&str]) -> Result<Vec<u8>, Fail> {
+/// The bytes of texts of hexadecimal words, as `8000004c 00000001`. There are none where a word isn't hexadecimal, or
+/// where memory runs out.
+pub fn bytes(alloc: Global, texts: &[&str]) -> Option<Vec<u8>> {
     let mut bytes = Vec::new(alloc);
     for word in texts.iter().flat_map(|text| text.split_whitespace()) {
-        bytes.extend_from_slice(&hex::decode(alloc, word)?)?;
+        let word = hex::decode(alloc, word).ok()?;
+        bytes.extend_from_slice(&word).ok()?;
     }
-    Ok(bytes)
+    Some(bytes)
 }
