@@ -82,9 +82,9 @@ fn credentials_and_verifiers(rt: HostRuntime) {
             null_call(2, 48),
         ),
     ];
-    for (text, heard) in cases {
-        let bytes = bytes(&rt, rt.alloc(), &[NULL, text]);
-        assert_same(&rt, &read_call(&bytes), &heard, text);
+    for (text, heard) in &cases {
+        let bytes = bytes(&rt, rt.alloc(), &[NULL, *text]);
+        assert_same(&rt, &read_call(&bytes), heard, *text);
     }
 }
 
@@ -98,11 +98,11 @@ fn at_the_limit_of_a_body(rt: HostRuntime) {
         ("00000000 00000000 00000001 00000191", Heard::Noise),
         ("00000000 00000000 00000001 80000000", Heard::Noise),
     ];
-    for (text, heard) in cases {
-        let mut bytes = bytes(&rt, rt.alloc(), &[NULL, text]);
+    for (text, heard) in &cases {
+        let mut bytes = bytes(&rt, rt.alloc(), &[NULL, *text]);
         // Zeros, enough for 401 bytes with their padding and for a verifier behind them.
         bytes.extend_from_slice(&[0; 800]).expect(&rt, "zeros");
-        assert_same(&rt, &read_call(&bytes), &heard, text);
+        assert_same(&rt, &read_call(&bytes), heard, *text);
     }
 }
 
@@ -145,9 +145,9 @@ fn other_versions_and_noise(rt: HostRuntime) {
             Heard::Noise,
         ),
     ];
-    for (text, heard) in cases {
-        let bytes = bytes(&rt, rt.alloc(), &[text]);
-        assert_same(&rt, &read_call(&bytes), &heard, text);
+    for (text, heard) in &cases {
+        let bytes = bytes(&rt, rt.alloc(), &[*text]);
+        assert_same(&rt, &read_call(&bytes), heard, *text);
     }
 }
 

@@ -127,7 +127,7 @@ fn few_bytes(rt: HostRuntime) {
     let alloc = rt.alloc();
     let torn = Err(RecordFault::Torn { at: 0 });
     let long = Err(RecordFault::TooLong { at: 0 });
-    for (text, answer) in [
+    let cases = [
         ("", Ok(None)),
         ("800000", torn),
         ("80000002 61", torn),
@@ -139,11 +139,12 @@ fn few_bytes(rt: HostRuntime) {
         ("80000005 6162636465", long),
         ("00000003 616263 80000002 6465", long),
         ("ffffffff", long),
-    ] {
-        let stream = bytes(&rt, alloc, &[text]);
+    ];
+    for (text, answer) in &cases {
+        let stream = bytes(&rt, alloc, &[*text]);
         let mut buf = [0; 4];
         let read = read_one(stream, 80, Vec::new(alloc), &mut buf);
-        assert_same(&rt, &read, &answer, text);
+        assert_same(&rt, &read, answer, *text);
     }
 }
 
@@ -283,39 +284,6 @@ fn pieces_of_one<R: Abort>(
     read_pieces(rt, &mut reader, &mut source, &mut buf, limit, &mut record)
 }
 
-#[test]
-fn records_in_pieces(rt: HostRuntime) {
-    let alloc = rt.alloc();
-    let record = counted(&rt, alloc, 76);
-    let whole = cut(&rt, alloc, &record, 76, "", 0, "8000004c");
-    let shreds = cut(&rt, alloc, &record, 1, "00000001", 75, "80000001");
-    let threes = cut(&rt, alloc, &record, 3, "00000003", 25, "80000001");
-    let (head, last) = ("00000000 00000001", "00000000 80000001");
-    let hollows = cut(&rt, alloc, &record, 1, head, 75, last);
-    let records = [record.as_slice(), record.as_slice(), b""];
-    for (row, stream) in [
-        ("whole", &whole),
-        ("shreds", &shreds),
-        ("threes", &threes),
-        ("hollows", &hollows),
-    ] {
-        // The same record twice, and a torn one.
-        let parts = [stream.as_slice(), stream.as_slice(), &[0x80, 0]];
-        let twice = parts.concat(alloc).expect(&rt, "a stream");
-        let at = 2 * stream.len() as u64;
-        let answers = [Ok(()), Ok(()), Err(RecordFault::Torn { at })];
-        for (piece, room) in PIECES_AND_ROOMS {
-            assert_some(&rt, piece);
-            assert_some(&rt, room);
-            let copy = twice.to_vec(alloc).expect(&rt, "a copy");
-            let (came, [first, second, third]) = pieces_of_three(&rt, alloc, copy, piece, room);
-            let read = [first.as_slice(), second.as_slice(), third.as_slice()];
-            let came = (piece, room, came, read);
-            assert_same(&rt, &came, &(piece, room, answers, records), row);
-        }
-    }
-}
-
 // How many bytes a read gives at most, and how many the buffer has.
 const PIECES_AND_ROOMS: [(usize, usize); 9] = [
     (1, 1),
@@ -329,12 +297,44 @@ const PIECES_AND_ROOMS: [(usize, usize); 9] = [
     (200, 100),
 ];
 
+// Looks at what is read of a stream that has the same record twice, and a torn one.
+fn check_pieces<R: Abort>(rt: &R, alloc: Global, stream: &[u8], record: &[u8], row: &str) {
+    let parts = [stream, stream, &[0x80, 0]];
+    let twice = parts.concat(alloc).expect(rt, "a stream");
+    let at = 2 * stream.len() as u64;
+    let answers = [Ok(()), Ok(()), Err(RecordFault::Torn { at })];
+    for (piece, room) in &PIECES_AND_ROOMS {
+        assert_some(rt, *piece);
+        assert_some(rt, *room);
+        let copy = twice.to_vec(alloc).expect(rt, "a copy");
+        let (came, [first, second, third]) = pieces_of_three(rt, alloc, copy, *piece, *room);
+        let read = [first.as_slice(), second.as_slice(), third.as_slice()];
+        let wanted = (*piece, *room, answers, [record, record, b""]);
+        assert_same(rt, &(*piece, *room, came, read), &wanted, row);
+    }
+}
+
+#[test]
+fn records_in_pieces(rt: HostRuntime) {
+    let alloc = rt.alloc();
+    let record = counted(&rt, alloc, 76);
+    let whole = cut(&rt, alloc, &record, 76, "", 0, "8000004c");
+    check_pieces(&rt, alloc, &whole, &record, "whole");
+    let shreds = cut(&rt, alloc, &record, 1, "00000001", 75, "80000001");
+    check_pieces(&rt, alloc, &shreds, &record, "shreds");
+    let threes = cut(&rt, alloc, &record, 3, "00000003", 25, "80000001");
+    check_pieces(&rt, alloc, &threes, &record, "threes");
+    let (head, last) = ("00000000 00000001", "00000000 80000001");
+    let hollows = cut(&rt, alloc, &record, 1, head, 75, last);
+    check_pieces(&rt, alloc, &hollows, &record, "hollows");
+}
+
 #[test]
 fn few_bytes_in_pieces(rt: HostRuntime) {
     let alloc = rt.alloc();
     let torn = Err(RecordFault::Torn { at: 0 });
     let long = Err(RecordFault::TooLong { at: 0 });
-    for (text, answer) in [
+    let cases = [
         ("", torn),
         ("800000", torn),
         ("80000002 61", torn),
@@ -346,10 +346,11 @@ fn few_bytes_in_pieces(rt: HostRuntime) {
         ("80000005 6162636465", long),
         ("00000003 616263 80000002 6465", long),
         ("ffffffff", long),
-    ] {
-        let narrow = pieces_of_one(&rt, alloc, bytes(&rt, alloc, &[text]), 1, 4);
-        let wide = pieces_of_one(&rt, alloc, bytes(&rt, alloc, &[text]), 80, 4);
-        assert_same(&rt, &[narrow, wide], &[answer; 2], text);
+    ];
+    for (text, answer) in &cases {
+        let narrow = pieces_of_one(&rt, alloc, bytes(&rt, alloc, &[*text]), 1, 4);
+        let wide = pieces_of_one(&rt, alloc, bytes(&rt, alloc, &[*text]), 80, 4);
+        assert_same(&rt, &[narrow, wide], &[*answer; 2], *text);
     }
 }
 
@@ -414,15 +415,15 @@ const FRAGMENTS: [(&str, usize, usize, &str); 6] = [
 fn fragments_written(rt: HostRuntime) {
     let alloc = rt.alloc();
     let mut writer = RecordWriter::new(alloc).expect(&rt, "a writer");
-    for (row, len, full, last) in FRAGMENTS {
-        let record = counted(&rt, alloc, len);
+    for (row, len, full, last) in &FRAGMENTS {
+        let record = counted(&rt, alloc, *len);
         assert_some(&rt, record.len());
-        let stream = cut(&rt, alloc, &record, 8192, "00002000", full, last);
+        let stream = cut(&rt, alloc, &record, 8192, "00002000", *full, *last);
         for first in [1, 8191, 8192, 65_536, 65_537] {
             let none = Vec::new(alloc);
             let (answer, taken) = written(&rt, alloc, &mut writer, &record, first, 9000, none);
             let came = (first, answer, taken == stream);
-            assert_same(&rt, &came, &(first, Ok(()), true), row);
+            assert_same(&rt, &came, &(first, Ok(()), true), *row);
         }
     }
 }
@@ -445,16 +446,16 @@ fn failing_sink(rt: HostRuntime) {
     let alloc = rt.alloc();
     let mut writer = RecordWriter::new(alloc).expect(&rt, "a writer");
     let short = bytes(&rt, alloc, &["80000002 6162"]);
-    for (row, len, piece, failing, taken) in FAILING {
-        let record = counted(&rt, alloc, len);
-        let failing_calls = vec![in alloc; failing].expect(&rt, "a number");
+    for (row, len, piece, failing, taken) in &FAILING {
+        let record = counted(&rt, alloc, *len);
+        let failing_calls = vec![in alloc; *failing].expect(&rt, "a number");
         assert_some(&rt, record.len());
-        assert_some(&rt, piece);
-        let (answer, torn) = written(&rt, alloc, &mut writer, &record, 1, piece, failing_calls);
+        assert_some(&rt, *piece);
+        let (answer, torn) = written(&rt, alloc, &mut writer, &record, 1, *piece, failing_calls);
         let (next, whole) = written(&rt, alloc, &mut writer, b"ab", 1, 4000, Vec::new(alloc));
         let came = (answer, torn.len(), next, whole.as_slice());
-        let wanted = (Err(Failed), taken, Ok(()), short.as_slice());
-        assert_same(&rt, &came, &wanted, row);
+        let wanted = (Err(Failed), *taken, Ok(()), short.as_slice());
+        assert_same(&rt, &came, &wanted, *row);
     }
 }
 

@@ -77,32 +77,36 @@ fn write_head(xid: u32, head: &ReplyHead, room: usize) -> (Result<usize, NoRoom>
 #[test]
 fn heads(rt: HostRuntime) {
     let untouched = [9; 40];
-    for (xid, head, text) in HEADS {
-        let mut whole = bytes(&rt, rt.alloc(), &[text]);
+    for (xid, head, text) in &HEADS {
+        let mut whole = bytes(&rt, rt.alloc(), &[*text]);
         let len = whole.len();
         whole.resize(40, 9).expect(&rt, "a whole buffer");
         for room in 0..=40 {
-            let (answer, buf) = write_head(xid, &head, room);
+            let (answer, buf) = write_head(*xid, head, room);
             let wanted = if room < len {
                 (room, Err(NoRoom), untouched.as_slice())
             } else {
                 (room, Ok(len), whole.as_slice())
             };
-            assert_same(&rt, &(room, answer, buf.as_slice()), &wanted, text);
+            assert_same(&rt, &(room, answer, buf.as_slice()), &wanted, *text);
         }
     }
 }
 
 #[test]
 fn heads_read(rt: HostRuntime) {
-    for (xid, head, text) in HEADS {
-        let mut bytes = bytes(&rt, rt.alloc(), &[text]);
+    for (xid, head, text) in &HEADS {
+        let mut bytes = bytes(&rt, rt.alloc(), &[*text]);
         let body = bytes.len();
-        let wanted = Ok(ReplyRead { xid, head, body });
+        let wanted = Ok(ReplyRead {
+            xid: *xid,
+            head: *head,
+            body,
+        });
         let alone = read_reply(&bytes);
         bytes.extend_from_slice(&[0xff; 5]).expect(&rt, "results");
         let with_results = read_reply(&bytes);
-        assert_same(&rt, &[alone, with_results], &[wanted; 2], text);
+        assert_same(&rt, &[alone, with_results], &[wanted; 2], *text);
     }
 }
 
@@ -202,9 +206,9 @@ const REFUSALS: [(&str, &str, XdrFault); 22] = [
 
 #[test]
 fn places_of_refusals(rt: HostRuntime) {
-    for (front, text, fault) in REFUSALS {
-        let bytes = bytes(&rt, rt.alloc(), &[front, text]);
-        let came = (front, read_reply(&bytes));
-        assert_same(&rt, &came, &(front, Err(fault)), text);
+    for (front, text, fault) in &REFUSALS {
+        let bytes = bytes(&rt, rt.alloc(), &[*front, *text]);
+        let came = (*front, read_reply(&bytes));
+        assert_same(&rt, &came, &(*front, Err(*fault)), *text);
     }
 }
