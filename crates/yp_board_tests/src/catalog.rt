@@ -1,5 +1,6 @@
 //! What a catalogue finds, and which maps make none.
 
+use crate::given::assert_same;
 use crate::sample::*;
 use std::alloc::Global;
 use std::process::Abort;
@@ -24,20 +25,18 @@ const DOMAINS: &[(&[u8], bool)] = &[
     (b"a", false),
 ];
 
-fn assert_has_no_more(rt: &impl Abort, catalog: &Catalog) {
-    for (domain, map) in ABSENT {
-        assert_eq!(rt; catalog.find(*domain, *map), None, "{domain:?}, {map:?}");
-    }
-    for (domain, served) in DOMAINS {
-        assert_eq!(rt; catalog.serves(*domain), *served, "{domain:?}");
-    }
-}
-
 #[test]
 fn looks_up_maps(rt: HostRuntime) {
     let catalog = catalog_of(&rt, rt.alloc(), MAPS);
     assert_looks_up(&rt, &catalog);
-    assert_has_no_more(&rt, &catalog);
+    for (domain, map) in ABSENT {
+        let came = (*domain, *map, catalog.find(*domain, *map));
+        assert_same(&rt, &came, &(*domain, *map, None), "a map that is absent");
+    }
+    for (domain, served) in DOMAINS {
+        let came = (*domain, catalog.serves(*domain));
+        assert_same(&rt, &came, &(*domain, *served), "a domain");
+    }
 }
 
 #[test]
@@ -48,18 +47,17 @@ fn copies_a_catalogue(rt: HostRuntime) {
     assert_looks_up(&rt, &copy);
 }
 
-fn assert_empty(rt: &impl Abort, catalog: &Catalog) {
-    assert!(rt; catalog.is_empty());
-    assert_eq!(rt; catalog.len(), 0);
-    assert_eq!(rt; catalog.listed().len(), 0);
-    assert_eq!(rt; catalog.find(b"d", b"m"), None);
-    assert!(rt; !catalog.serves(b"d"));
-}
-
 #[test]
 fn serves_no_map(rt: HostRuntime) {
     let catalog = catalog_of(&rt, rt.alloc(), &[]);
-    assert_empty(&rt, &catalog);
+    let found = (catalog.find(b"d", b"m"), catalog.serves(b"d"));
+    let came = (
+        catalog.is_empty(),
+        catalog.len(),
+        catalog.listed().len(),
+        found,
+    );
+    assert_same(&rt, &came, &(true, 0, 0, (None, false)), "no map");
 }
 
 // How many maps a catalogue of a host has, or why there is none.
@@ -139,7 +137,7 @@ fn refuses_maps(rt: HostRuntime) {
     for (row, own, pairs, wanted) in FAULTS {
         let maps = names(&rt, alloc, *pairs);
         let made = count_or_fault(&rt, alloc, *own, maps);
-        assert_eq!(rt; made, *wanted, "{row}");
+        assert_same(&rt, &made, wanted, *row);
     }
 }
 
@@ -154,22 +152,19 @@ fn numbered(rt: &impl Abort, alloc: Global, count: u8) -> Vec<MapName> {
     names
 }
 
-// So many numbered maps, with the map 5 once more behind them.
-fn numbered_and_five(rt: &impl Abort, alloc: Global, count: u8) -> Vec<MapName> {
-    let mut names = numbered(rt, alloc, count);
-    names
-        .push(name(rt, alloc, (b"d", b"\x05")))
-        .expect(rt, "a name");
-    names
-}
-
 #[test]
 fn at_most_64_maps(rt: HostRuntime) {
     let alloc = rt.alloc();
     let full = count_or_fault(&rt, alloc, b"h", numbered(&rt, alloc, 64));
-    assert_eq!(rt; full, Ok(64));
+    assert_same(&rt, &full, &Ok(64), "64 maps");
     let over = count_or_fault(&rt, alloc, b"h", numbered(&rt, alloc, 65));
-    assert_eq!(rt; over, Err(CatalogFault::TooMany));
-    let twice = count_or_fault(&rt, alloc, b"h", numbered_and_five(&rt, alloc, 65));
-    assert_eq!(rt; twice, Err(CatalogFault::Twice { index: 65 }));
+    assert_same(&rt, &over, &Err(CatalogFault::TooMany), "65 maps");
+    // The map 5 stands once more behind them.
+    let mut names = numbered(&rt, alloc, 65);
+    names
+        .push(name(&rt, alloc, (b"d", b"\x05")))
+        .expect(&rt, "a name");
+    let twice = count_or_fault(&rt, alloc, b"h", names);
+    let wanted = Err(CatalogFault::Twice { index: 65 });
+    assert_same(&rt, &twice, &wanted, "65 maps, and one of them twice");
 }

@@ -4,6 +4,8 @@
 #[cfg(test)]
 mod catalog;
 #[cfg(test)]
+mod given;
+#[cfg(test)]
 mod plain;
 #[cfg(test)]
 mod sample;

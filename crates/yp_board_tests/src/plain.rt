@@ -1,7 +1,8 @@
 //! Versions that are shown on a board of one thread.
 
-ghost use Rattle.std.specs.Prelude.{◌≡◌, ◌<◌, length};
+ghost use Rattle.std.specs.Prelude.{◌≡◌, length};
 
+use crate::given::assert_same;
 use crate::sample::*;
 use std::alloc::Global;
 use std::process::Abort;
@@ -21,7 +22,7 @@ fn version<R: RandomSource + Abort>(rt: &R, alloc: Global, order: u32) -> Arc<Ve
 fn assert_fits(rt: &impl Abort, count: usize, catalog: &Catalog)
     ensures { count ≡ length catalog.now.maps }
 {
-    assert_eq!(rt; count, catalog.len() as usize);
+    assert!(rt; count == catalog.len() as usize);
 }
 
 // A board of `MAPS`, on which versions of the maps 1 and 3 are shown.
@@ -41,30 +42,27 @@ fn board<R: RandomSource + Abort>(rt: &R, alloc: Global) -> PlainBoard {
 
 // The order of the version of a map that a view holds.
 fn held_order<V: View>(rt: &impl Abort, view: &V, map: u32) -> Option<u32> {
-    assert!(rt; map < view.catalog().len());
-    let version = view.held(map)?;
-    Some(version.order())
-}
-
-fn assert_holds(rt: &impl Abort, board: &PlainBoard, held: &[Option<u32>; 5]) {
-    for (map, order) in held.iter().enumerate() {
-        assert_eq!(rt;
-            held_order(rt, board, map as u32),
-            *order,
-            "map {map} in {held:?}"
-        );
+    assert_has(rt, view.catalog(), map);
+    match view.held(map) {
+        Some(version) => Some(version.order()),
+        None => None,
     }
 }
 
-fn show(rt: &impl Abort, board: &mut PlainBoard, map: u32, version: Arc<Version>)
-    requires { map < length board.old.catalogue.maps }
-{
-    board.show(map, version).expect(rt, "memory");
+// The orders of the versions that a board of `MAPS` holds.
+fn held_orders(rt: &impl Abort, board: &PlainBoard) -> [Option<u32>; 5] {
+    [
+        held_order(rt, board, 0),
+        held_order(rt, board, 1),
+        held_order(rt, board, 2),
+        held_order(rt, board, 3),
+        held_order(rt, board, 4),
+    ]
 }
 
 fn assert_shows<R: RandomSource + Abort>(rt: &R, alloc: Global, board: &mut PlainBoard) {
     let before = [None, Some(7), None, Some(8), None];
-    assert_holds(rt, board, &before);
+    assert_same(rt, &held_orders(rt, board), &before, "before");
     // A map and the order of a version that is shown of it, and the orders that are held then.
     let steps: [(u32, u32, [Option<u32>; 5]); 3] = [
         (1, 6, [None, Some(6), None, Some(8), None]),
@@ -72,10 +70,13 @@ fn assert_shows<R: RandomSource + Abort>(rt: &R, alloc: Global, board: &mut Plai
         (1, 10, [None, Some(10), None, Some(8), Some(9)]),
     ];
     for (map, order, held) in steps {
-        assert!(rt; map < board.catalog().len());
-        show(rt, board, map, version(rt, alloc, order));
+        assert_has(rt, board.catalog(), map);
+        board
+            .show(map, version(rt, alloc, order))
+            .expect(rt, "memory");
         board.refresh();
-        assert_holds(rt, board, &held);
+        let came = (order, held_orders(rt, board));
+        assert_same(rt, &came, &(order, held), "the order that is shown");
     }
     assert_looks_up(rt, board.catalog());
 }

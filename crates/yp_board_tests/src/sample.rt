@@ -1,5 +1,8 @@
 //! Maps of two domains, and what is looked up in a catalogue of them.
 
+ghost use Rattle.std.specs.Prelude.{◌<◌, length};
+
+use crate::given::assert_same;
 use std::alloc::Global;
 use std::process::Abort;
 use yp_board::*;
@@ -37,22 +40,35 @@ pub fn catalog_of(rt: &impl Abort, alloc: Global, pairs: &[Pair<'_>]) -> Catalog
     Catalog::new(alloc, own, names(rt, alloc, pairs)).expect(rt, "a catalogue")
 }
 
+// A map with this number has to be in a catalogue.
+pub fn assert_has(rt: &impl Abort, catalog: &Catalog, number: u32)
+    ensures { number < length catalog.now.maps }
+{
+    assert!(rt; number < catalog.len());
+}
+
 // The map with this number of a catalogue, and its name.
 fn assert_finds(rt: &impl Abort, catalog: &Catalog, number: u32, pair: Pair<'_>) {
     let (domain, map) = pair;
-    assert_eq!(rt; catalog.find(domain, map), Some(number));
-    assert!(rt; number < catalog.len());
+    assert_has(rt, catalog, number);
+    let found = catalog.find(domain, map);
     let name = catalog.name(number);
-    assert_eq!(rt; name.domain.as_slice(), domain, "at {number}");
-    assert_eq!(rt; name.map.as_slice(), map, "at {number}");
+    let came = (found, name.domain.as_slice(), name.map.as_slice());
+    let wanted = (Some(number), domain, map);
+    assert_same(rt, &came, &wanted, "a map and its name");
 }
 
 // What is looked up in a catalogue of `MAPS`.
 pub fn assert_looks_up(rt: &impl Abort, catalog: &Catalog) {
-    assert_eq!(rt; catalog.own(), b"m1".as_slice());
-    assert!(rt; !catalog.is_empty());
-    assert_eq!(rt; catalog.len(), 5);
-    assert_eq!(rt; catalog.listed(), [4, 3, 1, 2, 0].as_slice());
+    let came = (
+        catalog.own(),
+        catalog.is_empty(),
+        catalog.len(),
+        catalog.listed(),
+    );
+    let listed = [4, 3, 1, 2, 0];
+    let wanted = (b"m1".as_slice(), false, 5, listed.as_slice());
+    assert_same(rt, &came, &wanted, "five maps");
     for (place, pair) in MAPS.iter().enumerate() {
         assert_finds(rt, catalog, place as u32, *pair);
     }

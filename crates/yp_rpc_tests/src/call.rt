@@ -2,8 +2,7 @@
 
 ghost use Rattle.std.specs.Prelude.{◌≤◌};
 
-use std::test::Fail;
-use yp_for_tests::bytes;
+use crate::given::{assert_same, bytes};
 use yp_rpc::*;
 use yp_xdr::NoRoom;
 
@@ -31,8 +30,8 @@ fn null_call(flavor: u32, body: usize) -> Heard {
 }
 
 #[test]
-fn a_call_of_match(rt: HostRuntime) -> Result<(), Fail> {
-    let bytes = bytes(rt.alloc(), &[MATCH])?;
+fn a_call_of_match(rt: HostRuntime) {
+    let bytes = bytes(&rt, rt.alloc(), &[MATCH]);
     let call = Heard::Call(CallHead {
         xid: 1,
         prog: 100_004,
@@ -44,14 +43,14 @@ fn a_call_of_match(rt: HostRuntime) -> Result<(), Fail> {
     // Its head has 40 bytes, and whatever follows it is its arguments.
     for (end, _) in bytes.iter().enumerate() {
         let heard = if end < 40 { Heard::Noise } else { call };
-        assert_eq!(rt; read_call(&bytes[..end]), heard, "of {end} bytes");
+        let came = (end, read_call(&bytes[..end]));
+        assert_same(&rt, &came, &(end, heard), "so many bytes");
     }
-    assert_eq!(rt; read_call(&bytes), call);
-    Ok(())
+    assert_same(&rt, &read_call(&bytes), &call, "all bytes");
 }
 
 #[test]
-fn credentials_and_verifiers(rt: HostRuntime) -> Result<(), Fail> {
+fn credentials_and_verifiers(rt: HostRuntime) {
     let cases = [
         // No credential, no verifier, and no arguments.
         ("00000000 00000000 00000000 00000000", null_call(0, 40)),
@@ -83,15 +82,14 @@ fn credentials_and_verifiers(rt: HostRuntime) -> Result<(), Fail> {
             null_call(2, 48),
         ),
     ];
-    for (text, heard) in cases {
-        let bytes = bytes(rt.alloc(), &[NULL, text])?;
-        assert_eq!(rt; read_call(&bytes), heard, "of {text}");
+    for (text, heard) in &cases {
+        let bytes = bytes(&rt, rt.alloc(), &[NULL, *text]);
+        assert_same(&rt, &read_call(&bytes), heard, *text);
     }
-    Ok(())
 }
 
 #[test]
-fn at_the_limit_of_a_body(rt: HostRuntime) -> Result<(), Fail> {
+fn at_the_limit_of_a_body(rt: HostRuntime) {
     let cases = [
         ("00000001 00000190", null_call(1, 440)),
         ("00000001 00000191", Heard::Noise),
@@ -100,17 +98,16 @@ fn at_the_limit_of_a_body(rt: HostRuntime) -> Result<(), Fail> {
         ("00000000 00000000 00000001 00000191", Heard::Noise),
         ("00000000 00000000 00000001 80000000", Heard::Noise),
     ];
-    for (text, heard) in cases {
-        let mut bytes = bytes(rt.alloc(), &[NULL, text])?;
+    for (text, heard) in &cases {
+        let mut bytes = bytes(&rt, rt.alloc(), &[NULL, *text]);
         // Zeros, enough for 401 bytes with their padding and for a verifier behind them.
-        bytes.extend_from_slice(&[0; 800])?;
-        assert_eq!(rt; read_call(&bytes), heard, "of {text}");
+        bytes.extend_from_slice(&[0; 800]).expect(&rt, "zeros");
+        assert_same(&rt, &read_call(&bytes), heard, *text);
     }
-    Ok(())
 }
 
 #[test]
-fn other_versions_and_noise(rt: HostRuntime) -> Result<(), Fail> {
+fn other_versions_and_noise(rt: HostRuntime) {
     let cases = [
         ("00000002 00000000 00000003", Heard::WrongRpc { xid: 2 }),
         ("00000002 00000000 00000000", Heard::WrongRpc { xid: 2 }),
@@ -148,11 +145,10 @@ fn other_versions_and_noise(rt: HostRuntime) -> Result<(), Fail> {
             Heard::Noise,
         ),
     ];
-    for (text, heard) in cases {
-        let bytes = bytes(rt.alloc(), &[text])?;
-        assert_eq!(rt; read_call(&bytes), heard, "of {text}");
+    for (text, heard) in &cases {
+        let bytes = bytes(&rt, rt.alloc(), &[*text]);
+        assert_same(&rt, &read_call(&bytes), heard, *text);
     }
-    Ok(())
 }
 
 // The answer to writing a head into so much room, and the whole buffer, of which each byte was 9.
@@ -166,8 +162,9 @@ fn write_head(numbers: [u32; 4], room: usize) -> (Result<usize, NoRoom>, [u8; 44
 }
 
 #[test]
-fn heads_written(rt: HostRuntime) -> Result<(), Fail> {
+fn heads_written(rt: HostRuntime) {
     let alloc = rt.alloc();
+    let untouched = [9; 44];
     // The number of a call, the program, its version and the procedure, and what stands before the credential.
     for (numbers, front) in [
         (
@@ -180,21 +177,15 @@ fn heads_written(rt: HostRuntime) -> Result<(), Fail> {
             "00000002 00000000 00000002 20004e49 00000001 00000001",
         ),
     ] {
-        let mut whole = [9; 44];
-        let want = bytes(alloc, &[front, NO_AUTH])?;
-        assert_eq!(rt; want.len(), 40, "{front}");
-        for (byte, to) in want.iter().zip(whole.iter_mut()) {
-            *to = *byte;
-        }
+        let whole = bytes(&rt, alloc, &[front, NO_AUTH, "09090909"]);
         for room in 0..=44 {
+            let (answer, buf) = write_head(numbers, room);
             let wanted = if room < 40 {
-                (Err(NoRoom), [9; 44])
+                (room, Err(NoRoom), untouched.as_slice())
             } else {
-                (Ok(40), whole)
+                (room, Ok(40), whole.as_slice())
             };
-            let came = write_head(numbers, room);
-            assert_eq!(rt; came, wanted, "{front} in {room} bytes");
+            assert_same(&rt, &(room, answer, buf.as_slice()), &wanted, front);
         }
     }
-    Ok(())
 }

@@ -4,6 +4,8 @@
 #[cfg(test)]
 mod call;
 #[cfg(test)]
+mod given;
+#[cfg(test)]
 mod record;
 #[cfg(test)]
 mod reply;

@@ -2,10 +2,9 @@
 
 ghost use Rattle.std.specs.Prelude.{◌<◌, length};
 
-use std::alloc::{AllocError, Global};
+use crate::given::{assert_same, bytes};
+use std::alloc::Global;
 use std::process::Abort;
-use std::test::Fail;
-use yp_for_tests::bytes;
 use yp_io::{Failed, MemSink, MemSource, Sink, Source};
 use yp_rpc::*;
 
@@ -13,67 +12,61 @@ use yp_rpc::*;
 const RECORD_MAX: usize = 262_144;
 
 // The bytes 0, 1, .. up to `len`, over again from 251 on.
-fn counted(alloc: Global, len: usize) -> Result<Vec<u8>, AllocError> {
+fn counted<R: Abort>(rt: &R, alloc: Global, len: usize) -> Vec<u8> {
     let mut bytes = Vec::new(alloc);
     for i in 0..len {
-        bytes.push((i % 251) as u8)?;
+        bytes.push((i % 251) as u8).expect(rt, "a byte");
     }
-    Ok(bytes)
+    bytes
 }
 
 // The record in fragments of so many bytes. That of the number `full` has another head than those before it.
-fn cut(
+fn cut<R: Abort>(
+    rt: &R,
     alloc: Global,
     record: &[u8],
     size: usize,
     head: &str,
     full: usize,
     last: &str,
-) -> Result<Vec<u8>, Fail>
+) -> Vec<u8>
     requires { 0 < size }
 {
+    let head = bytes(rt, alloc, &[head]);
+    let last = bytes(rt, alloc, &[last]);
     let mut stream = Vec::new(alloc);
     for (i, piece) in record.chunks(size).enumerate() {
-        let head = if i < full { head } else { last };
-        stream.extend_from_slice(&bytes(alloc, &[head])?)?;
-        stream.extend_from_slice(piece)?;
+        let head = if i < full { &head } else { &last };
+        stream.extend_from_slice(head).expect(rt, "a head");
+        stream.extend_from_slice(piece).expect(rt, "a fragment");
     }
-    Ok(stream)
+    stream
 }
 
 // So many empty fragments, and then a record of one byte.
-fn hollow(alloc: Global, empty: usize) -> Result<Vec<u8>, Fail> {
-    let mut stream = vec![in alloc; 0; empty]?;
+fn hollow<R: Abort>(rt: &R, alloc: Global, empty: usize) -> Vec<u8> {
+    let mut stream = Vec::new(alloc);
     for _ in 0..empty {
-        stream.extend_from_slice(&[0; 3])?;
+        stream.extend_from_slice(&[0; 4]).expect(rt, "a fragment");
     }
-    stream.extend_from_slice(&bytes(alloc, &["80000001 78"])?)?;
-    Ok(stream)
+    let record = bytes(rt, alloc, &["80000001 78"]);
+    stream.extend_from_slice(&record).expect(rt, "a record");
+    stream
 }
 
-// A record that was read, the answer of its reading, and that of the next.
-#[derive(Debug, PartialEq, Eq, Drop)]
-struct Read {
-    answer: Result<Option<usize>, RecordFault>,
-    record: Vec<u8>,
-    next: Result<Option<usize>, RecordFault>,
+// A number that has to be more than zero.
+fn assert_some<R: Abort>(rt: &R, count: usize)
+    ensures { 0 < count }
+{
+    assert!(rt; count > 0);
 }
 
-// Reads two records into this buffer.
-fn read_both<R: Abort>(rt: &R, alloc: Global, source: &mut MemSource, buf: &mut [u8]) -> Read {
-    let mut reader = RecordReader::new();
-    let answer = reader.next(source, buf);
-    let len = match answer {
-        Ok(Some(len)) => len,
-        _ => 0,
-    };
-    let record = buf.get(..len).unwrap_or(b"").to_vec(alloc);
-    Read {
-        answer,
-        record: record.expect(rt, "a copy"),
-        next: reader.next(source, buf),
-    }
-}
+// The answer of reading a record, the record, and the answer of reading the next.
+type Read = (
+    Result<Option<usize>, RecordFault>,
+    Vec<u8>,
+    Result<Option<usize>, RecordFault>,
+);
 
 // Reads two records from a stream, in pieces of so many bytes.
 fn read_two<R: Abort>(rt: &R, alloc: Global, stream: Vec<u8>, piece: usize) -> Read
@@ -81,16 +74,15 @@ fn read_two<R: Abort>(rt: &R, alloc: Global, stream: Vec<u8>, piece: usize) -> R
 {
     let mut buf = vec![in alloc; 0; RECORD_MAX].expect(rt, "a buffer");
     let mut source = MemSource::new(stream, piece, Vec::new(alloc));
-    read_both(rt, alloc, &mut source, &mut buf)
-}
-
-// One record is read from a stream, and nothing is left.
-fn only(record: Vec<u8>) -> Read {
-    Read {
-        answer: Ok(Some(record.len())),
-        record,
-        next: Ok(None),
-    }
+    let mut reader = RecordReader::new();
+    let answer = reader.next(&mut source, &mut buf);
+    let len = match answer {
+        Ok(Some(len)) => len,
+        _ => 0,
+    };
+    let record = buf.get(..len).unwrap_or(b"").to_vec(alloc);
+    let next = reader.next(&mut source, &mut buf);
+    (answer, record.expect(rt, "a copy"), next)
 }
 
 // Reads a record from a stream, of whose reads these fail.
@@ -107,32 +99,31 @@ fn read_one(
 }
 
 #[test]
-fn one_record(rt: HostRuntime) -> Result<(), Fail> {
+fn one_record(rt: HostRuntime) {
     let alloc = rt.alloc();
-    let record = counted(alloc, 76)?;
-    let whole = cut(alloc, &record, 76, "", 0, "8000004c")?;
-    let shreds = cut(alloc, &record, 1, "00000001", 75, "80000001")?;
+    let record = counted(&rt, alloc, 76);
+    let whole = cut(&rt, alloc, &record, 76, "", 0, "8000004c");
+    let shreds = cut(&rt, alloc, &record, 1, "00000001", 75, "80000001");
     // An empty fragment before each of the others.
-    let hollows = cut(
-        alloc,
-        &record,
-        1,
-        "00000000 00000001",
-        75,
-        "00000000 80000001",
-    )?;
-    let wanted = only(record);
+    let (head, last) = ("00000000 00000001", "00000000 80000001");
+    let hollows = cut(&rt, alloc, &record, 1, head, 75, last);
     for piece in [1, 3, 80] {
-        for stream in [&whole, &shreds, &hollows] {
-            let read = read_two(&rt, alloc, stream.to_vec(alloc)?, piece);
-            assert_eq!(rt; read, wanted, "{} bytes in pieces of {piece}", stream.len());
+        for (row, stream) in [
+            ("whole", &whole),
+            ("shreds", &shreds),
+            ("hollows", &hollows),
+        ] {
+            let stream = stream.to_vec(alloc).expect(&rt, "a copy");
+            let (answer, read, next) = read_two(&rt, alloc, stream, piece);
+            let came = (piece, answer, read.as_slice(), next);
+            let wanted = (piece, Ok(Some(76)), record.as_slice(), Ok(None));
+            assert_same(&rt, &came, &wanted, row);
         }
     }
-    Ok(())
 }
 
 #[test]
-fn few_bytes(rt: HostRuntime) -> Result<(), Fail> {
+fn few_bytes(rt: HostRuntime) {
     let alloc = rt.alloc();
     let torn = Err(RecordFault::Torn { at: 0 });
     let long = Err(RecordFault::TooLong { at: 0 });
@@ -149,27 +140,25 @@ fn few_bytes(rt: HostRuntime) -> Result<(), Fail> {
         ("00000003 616263 80000002 6465", long),
         ("ffffffff", long),
     ];
-    for (text, answer) in cases {
-        let stream = bytes(alloc, &[text])?;
+    for (text, answer) in &cases {
+        let stream = bytes(&rt, alloc, &[*text]);
         let mut buf = [0; 4];
         let read = read_one(stream, 80, Vec::new(alloc), &mut buf);
-        assert_eq!(rt; read, answer, "{text}");
+        assert_same(&rt, &read, answer, *text);
     }
-    Ok(())
 }
 
 #[test]
-fn torn_behind_a_record(rt: HostRuntime) -> Result<(), Fail> {
+fn torn_behind_a_record(rt: HostRuntime) {
     let alloc = rt.alloc();
-    let record = counted(alloc, 76)?;
-    let mut stream = cut(alloc, &record, 76, "", 0, "8000004c")?;
-    stream.extend_from_slice(&bytes(alloc, &["800000"])?)?;
-    let wanted = Read {
-        next: Err(RecordFault::Torn { at: 80 }),
-        ..only(record)
-    };
-    assert_eq!(rt; read_two(&rt, alloc, stream, 80), wanted);
-    Ok(())
+    let record = counted(&rt, alloc, 76);
+    let stream = cut(&rt, alloc, &record, 76, "", 0, "8000004c");
+    let parts = [stream.as_slice(), &[0x80, 0, 0]];
+    let stream = parts.concat(alloc).expect(&rt, "a stream");
+    let came = read_two(&rt, alloc, stream, 80);
+    let torn = RecordFault::Torn { at: 80 };
+    let wanted = (Ok(Some(76)), record, Err(torn));
+    assert_same(&rt, &came, &wanted, "torn");
 }
 
 // The answer to a record that is too long, and to reading on behind its head, and what is read then.
@@ -179,153 +168,120 @@ type Long = (
     [u8; 3],
 );
 
-fn read_long(source: &mut MemSource, buf: &mut [u8]) -> Long {
-    let answer = RecordReader::new().next(source, buf);
+fn read_long<R: Abort>(rt: &R, alloc: Global, stream: Vec<u8>) -> Long {
+    let mut buf = vec![in alloc; 0; RECORD_MAX].expect(rt, "a buffer");
+    let mut source = MemSource::new(stream, 80, Vec::new(alloc));
+    let answer = RecordReader::new().next(&mut source, &mut buf);
     let mut behind = [0; 3];
     let count = source.read(&mut behind);
     (answer, count, behind)
 }
 
-fn read_long_of<R: Abort>(rt: &R, alloc: Global, stream: Vec<u8>) -> Long {
-    let mut buf = vec![in alloc; 0; RECORD_MAX].expect(rt, "a buffer");
-    let mut source = MemSource::new(stream, 80, Vec::new(alloc));
-    read_long(&mut source, &mut buf)
-}
-
 #[test]
-fn largest_record(rt: HostRuntime) -> Result<(), Fail> {
+fn largest_record(rt: HostRuntime) {
     let alloc = rt.alloc();
-    let record = counted(alloc, RECORD_MAX)?;
-    let stream = cut(alloc, &record, RECORD_MAX, "", 0, "80040000")?;
-    let read = read_two(&rt, alloc, stream, 1000);
-    assert!(rt; read == only(record), "{:?} {:?}", read.answer, read.next);
+    let record = counted(&rt, alloc, RECORD_MAX);
+    let stream = cut(&rt, alloc, &record, RECORD_MAX, "", 0, "80040000");
+    let (answer, read, next) = read_two(&rt, alloc, stream, 1000);
+    let came = (answer, read == record, next);
+    let wanted = (Ok(Some(RECORD_MAX)), true, Ok(None));
+    assert_same(&rt, &came, &wanted, "as many bytes as a record may have");
 
-    let long = read_long_of(&rt, alloc, bytes(alloc, &["80040001 6162"])?);
+    let long = read_long(&rt, alloc, bytes(&rt, alloc, &["80040001 6162"]));
     let wanted = (Err(RecordFault::TooLong { at: 0 }), Ok(2), *b"ab\0");
-    assert_eq!(rt; long, wanted);
-    Ok(())
+    assert_same(&rt, &long, &wanted, "one byte more");
 }
 
 #[test]
-fn empty_fragments(rt: HostRuntime) -> Result<(), Fail> {
+fn empty_fragments(rt: HostRuntime) {
     let alloc = rt.alloc();
-    let wanted = only(b"x".to_vec(alloc)?);
-    assert_eq!(rt; read_two(&rt, alloc, hollow(alloc, 1024)?, 80), wanted);
+    let came = read_two(&rt, alloc, hollow(&rt, alloc, 1024), 80);
+    let record = bytes(&rt, alloc, &["78"]);
+    let wanted = (Ok(Some(1)), record, Ok(None));
+    assert_same(&rt, &came, &wanted, "1024 empty fragments");
     let mut buf = [0; 80];
-    let answer = read_one(hollow(alloc, 1025)?, 80, Vec::new(alloc), &mut buf);
-    assert_eq!(rt; answer, Err(RecordFault::TooLong { at: 0 }));
-    Ok(())
+    let answer = read_one(hollow(&rt, alloc, 1025), 80, Vec::new(alloc), &mut buf);
+    let wanted = Err(RecordFault::TooLong { at: 0 });
+    assert_same(&rt, &answer, &wanted, "1025 empty fragments");
 }
 
 #[test]
-fn failing_source(rt: HostRuntime) -> Result<(), Fail> {
+fn failing_source(rt: HostRuntime) {
     let alloc = rt.alloc();
     for failing in 0..4 {
-        let stream = bytes(alloc, &["80000004 61626364"])?;
+        let stream = bytes(&rt, alloc, &["80000004 61626364"]);
         let mut buf = [0; 80];
-        let answer = read_one(stream, 2, vec![in alloc; failing]?, &mut buf);
-        assert_eq!(rt; answer, Err(RecordFault::ReadFault), "at call {failing}");
+        let failing_reads = vec![in alloc; failing].expect(&rt, "a number");
+        let answer = read_one(stream, 2, failing_reads, &mut buf);
+        let wanted = (failing, Err(RecordFault::ReadFault));
+        assert_same(&rt, &(failing, answer), &wanted, "the call that fails");
     }
-    Ok(())
 }
 
-// The next record, piece by piece into this buffer, or the fault.
-fn pieces<R: Abort>(
+// Reads the next record piece by piece into this buffer, and puts it behind these bytes.
+fn read_pieces<R: Abort>(
     rt: &R,
-    alloc: Global,
     reader: &mut RecordReader,
     source: &mut MemSource,
     buf: &mut [u8],
     limit: u64,
-) -> Result<Vec<u8>, RecordFault>
+    record: &mut Vec<u8>,
+) -> Result<(), RecordFault>
     requires { 0 < length buf.old }
 {
-    let mut record = Vec::new(alloc);
     for _ in 0..1_000_000 {
-        match reader.piece(source, buf, limit) {
-            Ok(0) => return Ok(record),
-            Ok(count) => record
-                .extend_from_slice(&buf[..count])
-                .expect(rt, "a record"),
-            Err(fault) => return Err(fault),
+        let count = reader.piece(source, buf, limit)?;
+        if count == 0 {
+            return Ok(());
         }
+        record
+            .extend_from_slice(&buf[..count])
+            .expect(rt, "a record");
     }
-    Ok(record)
+    Ok(())
 }
 
-// The next three records.
-type Three = [Result<Vec<u8>, RecordFault>; 3];
-
-// Three records from a stream that gives so many bytes in a read, into a buffer of so many.
+// What is read of three records of the limit 76, from a stream that gives so many bytes in a read, into a buffer of so
+// many.
 fn pieces_of_three<R: Abort>(
     rt: &R,
     alloc: Global,
     stream: Vec<u8>,
     piece: usize,
     room: usize,
-) -> Three
+) -> ([Result<(), RecordFault>; 3], [Vec<u8>; 3])
     requires piece { 0 < piece }
     requires room { 0 < room }
 {
     let mut buf = vec![in alloc; 0; room].expect(rt, "a buffer");
     let mut source = MemSource::new(stream, piece, Vec::new(alloc));
     let mut reader = RecordReader::new();
-    [
-        pieces(rt, alloc, &mut reader, &mut source, &mut buf, 76),
-        pieces(rt, alloc, &mut reader, &mut source, &mut buf, 76),
-        pieces(rt, alloc, &mut reader, &mut source, &mut buf, 76),
-    ]
+    let mut first = Vec::new(alloc);
+    let mut second = Vec::new(alloc);
+    let mut third = Vec::new(alloc);
+    let answers = [
+        read_pieces(rt, &mut reader, &mut source, &mut buf, 76, &mut first),
+        read_pieces(rt, &mut reader, &mut source, &mut buf, 76, &mut second),
+        read_pieces(rt, &mut reader, &mut source, &mut buf, 76, &mut third),
+    ];
+    (answers, [first, second, third])
 }
 
-// A record of a stream, within a limit.
+// The answer to reading a record of a stream, within a limit.
 fn pieces_of_one<R: Abort>(
     rt: &R,
     alloc: Global,
     stream: Vec<u8>,
     room: usize,
     limit: u64,
-) -> Result<Vec<u8>, RecordFault>
+) -> Result<(), RecordFault>
     requires { 0 < room }
 {
     let mut buf = vec![in alloc; 0; room].expect(rt, "a buffer");
     let mut source = MemSource::new(stream, 80, Vec::new(alloc));
     let mut reader = RecordReader::new();
-    pieces(rt, alloc, &mut reader, &mut source, &mut buf, limit)
-}
-
-#[test]
-fn records_in_pieces(rt: HostRuntime) -> Result<(), Fail> {
-    let alloc = rt.alloc();
-    let record = counted(alloc, 76)?;
-    let whole = cut(alloc, &record, 76, "", 0, "8000004c")?;
-    let shreds = cut(alloc, &record, 1, "00000001", 75, "80000001")?;
-    let threes = cut(alloc, &record, 3, "00000003", 25, "80000001")?;
-    let hollows = cut(
-        alloc,
-        &record,
-        1,
-        "00000000 00000001",
-        75,
-        "00000000 80000001",
-    )?;
-    for stream in [&whole, &shreds, &threes, &hollows] {
-        // The same record twice, and a torn one.
-        let mut twice = stream.to_vec(alloc)?;
-        twice.extend_from_slice(stream)?;
-        twice.extend_from_slice(&[0x80, 0])?;
-        let at = 2 * stream.len() as u64;
-        let wanted = [
-            Ok(record.to_vec(alloc)?),
-            Ok(record.to_vec(alloc)?),
-            Err(RecordFault::Torn { at }),
-        ];
-        for (piece, room) in PIECES_AND_ROOMS {
-            assert!(rt; piece > 0 && room > 0);
-            let read = pieces_of_three(&rt, alloc, twice.to_vec(alloc)?, piece, room);
-            assert_eq!(rt; read, wanted, "pieces of {piece} into {room}");
-        }
-    }
-    Ok(())
+    let mut record = Vec::new(alloc);
+    read_pieces(rt, &mut reader, &mut source, &mut buf, limit, &mut record)
 }
 
 // How many bytes a read gives at most, and how many the buffer has.
@@ -341,42 +297,71 @@ const PIECES_AND_ROOMS: [(usize, usize); 9] = [
     (200, 100),
 ];
 
+// Looks at what is read of a stream that has the same record twice, and a torn one.
+fn check_pieces<R: Abort>(rt: &R, alloc: Global, stream: &[u8], record: &[u8], row: &str) {
+    let parts = [stream, stream, &[0x80, 0]];
+    let twice = parts.concat(alloc).expect(rt, "a stream");
+    let at = 2 * stream.len() as u64;
+    let answers = [Ok(()), Ok(()), Err(RecordFault::Torn { at })];
+    for (piece, room) in &PIECES_AND_ROOMS {
+        assert_some(rt, *piece);
+        assert_some(rt, *room);
+        let copy = twice.to_vec(alloc).expect(rt, "a copy");
+        let (came, [first, second, third]) = pieces_of_three(rt, alloc, copy, *piece, *room);
+        let read = [first.as_slice(), second.as_slice(), third.as_slice()];
+        let wanted = (*piece, *room, answers, [record, record, b""]);
+        assert_same(rt, &(*piece, *room, came, read), &wanted, row);
+    }
+}
+
 #[test]
-fn few_bytes_in_pieces(rt: HostRuntime) -> Result<(), Fail> {
+fn records_in_pieces(rt: HostRuntime) {
     let alloc = rt.alloc();
-    let torn = Some(RecordFault::Torn { at: 0 });
-    let long = Some(RecordFault::TooLong { at: 0 });
+    let record = counted(&rt, alloc, 76);
+    let whole = cut(&rt, alloc, &record, 76, "", 0, "8000004c");
+    check_pieces(&rt, alloc, &whole, &record, "whole");
+    let shreds = cut(&rt, alloc, &record, 1, "00000001", 75, "80000001");
+    check_pieces(&rt, alloc, &shreds, &record, "shreds");
+    let threes = cut(&rt, alloc, &record, 3, "00000003", 25, "80000001");
+    check_pieces(&rt, alloc, &threes, &record, "threes");
+    let (head, last) = ("00000000 00000001", "00000000 80000001");
+    let hollows = cut(&rt, alloc, &record, 1, head, 75, last);
+    check_pieces(&rt, alloc, &hollows, &record, "hollows");
+}
+
+#[test]
+fn few_bytes_in_pieces(rt: HostRuntime) {
+    let alloc = rt.alloc();
+    let torn = Err(RecordFault::Torn { at: 0 });
+    let long = Err(RecordFault::TooLong { at: 0 });
     let cases = [
         ("", torn),
         ("800000", torn),
         ("80000002 61", torn),
         ("00000000", torn),
         ("00000001 61", torn),
-        ("80000000", None),
-        ("00000003 616263 80000000", None),
-        ("80000004 61626364", None),
+        ("80000000", Ok(())),
+        ("00000003 616263 80000000", Ok(())),
+        ("80000004 61626364", Ok(())),
         ("80000005 6162636465", long),
         ("00000003 616263 80000002 6465", long),
         ("ffffffff", long),
     ];
-    for (text, fault) in cases {
-        for room in [1, 80] {
-            let stream = bytes(alloc, &[text])?;
-            let read = pieces_of_one(&rt, alloc, stream, room, 4);
-            assert_eq!(rt; read.err(), fault, "{text} into {room}");
-        }
+    for (text, answer) in &cases {
+        let narrow = pieces_of_one(&rt, alloc, bytes(&rt, alloc, &[*text]), 1, 4);
+        let wide = pieces_of_one(&rt, alloc, bytes(&rt, alloc, &[*text]), 80, 4);
+        assert_same(&rt, &[narrow, wide], &[*answer; 2], *text);
     }
-    Ok(())
 }
 
 #[test]
-fn empty_fragments_in_pieces(rt: HostRuntime) -> Result<(), Fail> {
+fn empty_fragments_in_pieces(rt: HostRuntime) {
     let alloc = rt.alloc();
-    for (empty, fault) in [(1024, None), (1025, Some(RecordFault::TooLong { at: 0 }))] {
-        let read = pieces_of_one(&rt, alloc, hollow(alloc, empty)?, 80, 1);
-        assert_eq!(rt; read.err(), fault, "{empty} fragments");
-    }
-    Ok(())
+    let most = pieces_of_one(&rt, alloc, hollow(&rt, alloc, 1024), 80, 1);
+    assert_same(&rt, &most, &Ok(()), "1024 empty fragments");
+    let more = pieces_of_one(&rt, alloc, hollow(&rt, alloc, 1025), 80, 1);
+    let wanted = Err(RecordFault::TooLong { at: 0 });
+    assert_same(&rt, &more, &wanted, "1025 empty fragments");
 }
 
 // Writes a record in two pieces, the first of which has so many bytes, or all.
@@ -416,73 +401,66 @@ fn written<R: Abort>(
     (answer, taken.expect(rt, "a copy"))
 }
 
-// The length of a record, how many of its fragments aren't the last, and the head of the last.
-const FRAGMENTS: [(usize, usize, &str); 6] = [
-    (1, 0, "80000001"),
-    (8192, 0, "80002000"),
-    (8196, 1, "80000004"),
-    (65_536, 7, "80002000"),
-    (65_537, 8, "80000001"),
-    (200_000, 24, "80000d40"),
+// A record by its length, the length, how many of its fragments aren't the last, and the head of the last.
+const FRAGMENTS: [(&str, usize, usize, &str); 6] = [
+    ("1 byte", 1, 0, "80000001"),
+    ("8192 bytes", 8192, 0, "80002000"),
+    ("8196 bytes", 8196, 1, "80000004"),
+    ("65,536 bytes", 65_536, 7, "80002000"),
+    ("65,537 bytes", 65_537, 8, "80000001"),
+    ("200,000 bytes", 200_000, 24, "80000d40"),
 ];
 
 #[test]
-fn fragments_written(rt: HostRuntime) -> Result<(), Fail> {
+fn fragments_written(rt: HostRuntime) {
     let alloc = rt.alloc();
-    let mut writer = RecordWriter::new(alloc)?;
-    for (len, full, last) in FRAGMENTS {
-        let record = counted(alloc, len)?;
-        assert!(rt; !record.is_empty());
-        let stream = cut(alloc, &record, 8192, "00002000", full, last)?;
+    let mut writer = RecordWriter::new(alloc).expect(&rt, "a writer");
+    for (row, len, full, last) in &FRAGMENTS {
+        let record = counted(&rt, alloc, *len);
+        assert_some(&rt, record.len());
+        let stream = cut(&rt, alloc, &record, 8192, "00002000", *full, *last);
         for first in [1, 8191, 8192, 65_536, 65_537] {
             let none = Vec::new(alloc);
             let (answer, taken) = written(&rt, alloc, &mut writer, &record, first, 9000, none);
-            let is_whole = taken == stream;
-            assert_eq!(rt;
-                (answer, is_whole),
-                (Ok(()), true),
-                "{len} bytes, cut at {first}"
-            );
+            let came = (first, answer, taken == stream);
+            assert_same(&rt, &came, &(first, Ok(()), true), *row);
         }
     }
-    Ok(())
 }
 
-// The length of a record, the most bytes of a write, the call that fails, and what was taken before it.
-const FAILING: [(usize, usize, u64, usize); 8] = [
-    (8196, 4000, 0, 0),
-    (8196, 4000, 1, 4000),
-    (8196, 4000, 2, 8000),
-    (8196, 4000, 3, 8204),
+// What fails, the length of a record, the most bytes of a write, the call that fails, and what was taken before it.
+const FAILING: [(&str, usize, usize, u64, usize); 8] = [
+    ("8196 bytes, at call 0", 8196, 4000, 0, 0),
+    ("8196 bytes, at call 1", 8196, 4000, 1, 4000),
+    ("8196 bytes, at call 2", 8196, 4000, 2, 8000),
+    ("8196 bytes, at call 3", 8196, 4000, 3, 8204),
     // Eight fragments are one write, before the flush, and a further byte is another.
-    (65_536, 100_000, 0, 0),
-    (65_536, 100_000, 1, 65_568),
-    (65_537, 100_000, 1, 65_568),
-    (65_537, 100_000, 2, 65_573),
+    ("65,536 bytes, at call 0", 65_536, 100_000, 0, 0),
+    ("65,536 bytes, at call 1", 65_536, 100_000, 1, 65_568),
+    ("65,537 bytes, at call 1", 65_537, 100_000, 1, 65_568),
+    ("65,537 bytes, at call 2", 65_537, 100_000, 2, 65_573),
 ];
 
 #[test]
-fn failing_sink(rt: HostRuntime) -> Result<(), Fail> {
+fn failing_sink(rt: HostRuntime) {
     let alloc = rt.alloc();
-    let mut writer = RecordWriter::new(alloc)?;
-    let short = bytes(alloc, &["80000002 6162"])?;
-    for (len, piece, failing, taken) in FAILING {
-        let record = counted(alloc, len)?;
-        let failing_calls = vec![in alloc; failing]?;
-        assert!(rt; !record.is_empty() && piece > 0);
-        let (answer, torn) = written(&rt, alloc, &mut writer, &record, 1, piece, failing_calls);
+    let mut writer = RecordWriter::new(alloc).expect(&rt, "a writer");
+    let short = bytes(&rt, alloc, &["80000002 6162"]);
+    for (row, len, piece, failing, taken) in &FAILING {
+        let record = counted(&rt, alloc, *len);
+        let failing_calls = vec![in alloc; *failing].expect(&rt, "a number");
+        assert_some(&rt, record.len());
+        assert_some(&rt, *piece);
+        let (answer, torn) = written(&rt, alloc, &mut writer, &record, 1, *piece, failing_calls);
         let (next, whole) = written(&rt, alloc, &mut writer, b"ab", 1, 4000, Vec::new(alloc));
-        assert_eq!(rt;
-            (answer, torn.len(), next, whole.as_slice()),
-            (Err(Failed), taken, Ok(()), short.as_slice()),
-            "{len} bytes, at call {failing}"
-        );
+        let came = (answer, torn.len(), next, whole.as_slice());
+        let wanted = (Err(Failed), *taken, Ok(()), short.as_slice());
+        assert_same(&rt, &came, &wanted, *row);
     }
-    Ok(())
 }
 
 #[test]
-fn faults_as_text(rt: HostRuntime) -> Result<(), Fail> {
+fn faults_as_text(rt: HostRuntime) {
     for (fault, text) in [
         (RecordFault::Torn { at: 80 }, "torn record at 80"),
         (
@@ -491,8 +469,7 @@ fn faults_as_text(rt: HostRuntime) -> Result<(), Fail> {
         ),
         (RecordFault::ReadFault, "read fault"),
     ] {
-        let shown = format!(in rt.alloc(); "{fault}")?;
-        assert_eq!(rt; shown.as_str(), text);
+        let shown = format!(in rt.alloc(); "{fault}").expect(&rt, "a text");
+        assert_same(&rt, &shown.as_str(), &text, text);
     }
-    Ok(())
 }

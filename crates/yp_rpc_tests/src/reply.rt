@@ -2,8 +2,7 @@
 
 ghost use Rattle.std.specs.Prelude.{◌≤◌};
 
-use std::test::Fail;
-use yp_for_tests::bytes;
+use crate::given::{assert_same, bytes};
 use yp_rpc::*;
 use yp_xdr::{NoRoom, XdrFault};
 
@@ -76,37 +75,39 @@ fn write_head(xid: u32, head: &ReplyHead, room: usize) -> (Result<usize, NoRoom>
 }
 
 #[test]
-fn heads(rt: HostRuntime) -> Result<(), Fail> {
-    for (xid, head, text) in HEADS {
-        let want = bytes(rt.alloc(), &[text])?;
-        let mut whole = [9; 40];
-        for (byte, to) in want.iter().zip(whole.iter_mut()) {
-            *to = *byte;
-        }
+fn heads(rt: HostRuntime) {
+    let untouched = [9; 40];
+    for (xid, head, text) in &HEADS {
+        let mut whole = bytes(&rt, rt.alloc(), &[*text]);
+        let len = whole.len();
+        whole.resize(40, 9).expect(&rt, "a whole buffer");
         for room in 0..=40 {
-            let wanted = if room < want.len() {
-                (Err(NoRoom), [9; 40])
+            let (answer, buf) = write_head(*xid, head, room);
+            let wanted = if room < len {
+                (room, Err(NoRoom), untouched.as_slice())
             } else {
-                (Ok(want.len()), whole)
+                (room, Ok(len), whole.as_slice())
             };
-            let came = write_head(xid, &head, room);
-            assert_eq!(rt; came, wanted, "{head:?} in {room} bytes");
+            assert_same(&rt, &(room, answer, buf.as_slice()), &wanted, *text);
         }
     }
-    Ok(())
 }
 
 #[test]
-fn heads_read(rt: HostRuntime) -> Result<(), Fail> {
-    for (xid, head, text) in HEADS {
-        let mut bytes = bytes(rt.alloc(), &[text])?;
+fn heads_read(rt: HostRuntime) {
+    for (xid, head, text) in &HEADS {
+        let mut bytes = bytes(&rt, rt.alloc(), &[*text]);
         let body = bytes.len();
-        let read = ReplyRead { xid, head, body };
-        assert_eq!(rt; read_reply(&bytes), Ok(read), "{head:?}");
-        bytes.extend_from_slice(&[0xff; 5])?;
-        assert_eq!(rt; read_reply(&bytes), Ok(read), "{head:?} and results");
+        let wanted = Ok(ReplyRead {
+            xid: *xid,
+            head: *head,
+            body,
+        });
+        let alone = read_reply(&bytes);
+        bytes.extend_from_slice(&[0xff; 5]).expect(&rt, "results");
+        let with_results = read_reply(&bytes);
+        assert_same(&rt, &[alone, with_results], &[wanted; 2], *text);
     }
-    Ok(())
 }
 
 // The front of each reply to a call that was accepted, and of one to a call that was denied.
@@ -115,22 +116,22 @@ const ACCEPTED: &str = "00000001 00000001 00000000";
 const DENIED: &str = "00000001 00000001 00000001";
 
 #[test]
-fn any_verifier(rt: HostRuntime) -> Result<(), Fail> {
+fn any_verifier(rt: HostRuntime) {
     for (text, zeros, body) in [
         ("00000006 00000005 01020304 05000000 00000000", 0, 32),
         // AUTH_SYS of the most bytes that there may be.
         ("00000001 00000190", 404, 424),
     ] {
-        let mut bytes = bytes(rt.alloc(), &[ACCEPTED, text])?;
-        bytes.extend_from_slice(&vec![in rt.alloc(); 0; zeros]?)?;
+        let mut bytes = bytes(&rt, rt.alloc(), &[ACCEPTED, text]);
+        let zeros = vec![in rt.alloc(); 0; zeros].expect(&rt, "zeros");
+        bytes.extend_from_slice(&zeros).expect(&rt, "a reply");
         let read = ReplyRead {
             xid: 1,
             head: ReplyHead::Success,
             body,
         };
-        assert_eq!(rt; read_reply(&bytes), Ok(read), "{text}");
+        assert_same(&rt, &read_reply(&bytes), &Ok(read), text);
     }
-    Ok(())
 }
 
 // The two parts of replies that can't be read, and why.
@@ -204,10 +205,10 @@ const REFUSALS: [(&str, &str, XdrFault); 22] = [
 ];
 
 #[test]
-fn places_of_refusals(rt: HostRuntime) -> Result<(), Fail> {
-    for (front, text, fault) in REFUSALS {
-        let bytes = bytes(rt.alloc(), &[front, text])?;
-        assert_eq!(rt; read_reply(&bytes), Err(fault), "{front} {text}");
+fn places_of_refusals(rt: HostRuntime) {
+    for (front, text, fault) in &REFUSALS {
+        let bytes = bytes(&rt, rt.alloc(), &[*front, *text]);
+        let came = (*front, read_reply(&bytes));
+        assert_same(&rt, &came, &(*front, Err(*fault)), *text);
     }
-    Ok(())
 }

@@ -1,7 +1,6 @@
 //! Spellings written out by hand from RFC 4506, and the place of each refusal.
 
-use std::test::*;
-use yp_for_tests::bytes;
+use crate::given::{assert_same, bytes};
 use yp_xdr::*;
 
 // What came of writing a word, the bytes that were written, and what the spelling is read as.
@@ -14,19 +13,18 @@ fn unsigned_word(value: u32, word: &[u8]) -> Word<u32> {
 }
 
 #[test]
-fn unsigned_words(rt: HostRuntime) -> Result<(), Fail> {
+fn unsigned_words(rt: HostRuntime) {
     for (value, text) in [
         (0, "00000000"),
         (1, "00000001"),
         (0x0102_0304, "01020304"),
         (u32::MAX, "ffffffff"),
     ] {
-        let bytes = bytes(rt.alloc(), &[text])?;
+        let bytes = bytes(&rt, rt.alloc(), &[text]);
         let (end, buf, read) = unsigned_word(value, &bytes);
         let came = (end, buf.as_slice(), read);
-        assert_eq!(rt; came, (Ok(4), bytes.as_slice(), Ok(value)), "{text}");
+        assert_same(&rt, &came, &(Ok(4), bytes.as_slice(), Ok(value)), text);
     }
-    Ok(())
 }
 
 // The same, and what the spelling is as a number of 7 and the value, and of 7 alone.
@@ -41,7 +39,7 @@ fn signed_word(value: i32, word: &[u8]) -> (Word<i32>, [Result<i32, XdrFault>; 2
 }
 
 #[test]
-fn signed_words(rt: HostRuntime) -> Result<(), Fail> {
+fn signed_words(rt: HostRuntime) {
     for (value, text) in [
         (2, "00000002"),
         (-1, "ffffffff"),
@@ -49,17 +47,17 @@ fn signed_words(rt: HostRuntime) -> Result<(), Fail> {
         (i32::MAX, "7fffffff"),
         (i32::MIN, "80000000"),
     ] {
-        let bytes = bytes(rt.alloc(), &[text])?;
+        let bytes = bytes(&rt, rt.alloc(), &[text]);
         let one_of = [Ok(value), Err(XdrFault::BadEnum { at: 0 })];
         let ((end, buf, read), read_of) = signed_word(value, &bytes);
         let came = (end, buf.as_slice(), read, read_of);
-        assert_eq!(rt;
-            came,
-            (Ok(4), bytes.as_slice(), Ok(value), one_of),
-            "{text}"
+        assert_same(
+            &rt,
+            &came,
+            &(Ok(4), bytes.as_slice(), Ok(value), one_of),
+            text,
         );
     }
-    Ok(())
 }
 
 fn boolean(value: bool, word: &[u8]) -> Word<bool> {
@@ -69,23 +67,22 @@ fn boolean(value: bool, word: &[u8]) -> Word<bool> {
 }
 
 #[test]
-fn booleans(rt: HostRuntime) -> Result<(), Fail> {
+fn booleans(rt: HostRuntime) {
     for (value, text) in [(false, "00000000"), (true, "00000001")] {
-        let bytes = bytes(rt.alloc(), &[text])?;
+        let bytes = bytes(&rt, rt.alloc(), &[text]);
         let (end, buf, read) = boolean(value, &bytes);
         let came = (end, buf.as_slice(), read);
-        assert_eq!(rt; came, (Ok(4), bytes.as_slice(), Ok(value)), "{text}");
+        assert_same(&rt, &came, &(Ok(4), bytes.as_slice(), Ok(value)), text);
     }
     for text in ["00000002", "01000000", "ffffffff"] {
-        let bytes = bytes(rt.alloc(), &[text])?;
+        let bytes = bytes(&rt, rt.alloc(), &[text]);
         let read = Cursor::new(&bytes).bool();
-        assert_eq!(rt; read, Err(XdrFault::BadBool { at: 0 }), "{text}");
+        assert_same(&rt, &read, &Err(XdrFault::BadBool { at: 0 }), text);
     }
-    Ok(())
 }
 
 #[test]
-fn opaque_bytes(rt: HostRuntime) -> Result<(), Fail> {
+fn opaque_bytes(rt: HostRuntime) {
     for (content, text) in [
         (b"".as_slice(), "00000000"),
         (b"a", "00000001 61000000"),
@@ -93,42 +90,42 @@ fn opaque_bytes(rt: HostRuntime) -> Result<(), Fail> {
         (b"four", "00000004 666f7572"),
         (b"alpha", "00000005 616c7068 61000000"),
     ] {
-        let bytes = bytes(rt.alloc(), &[text])?;
+        let bytes = bytes(&rt, rt.alloc(), &[text]);
         let mut buf = [9; 16];
         let end = put_opaque(&mut buf, 0, content);
         let is_written = buf.starts_with(&bytes);
         // The limit is met exactly.
         let read = Cursor::new(&bytes).opaque(content.len() as u32);
         let len = bytes.len();
-        assert_eq!(rt;
-            (opaque_len(content), end, is_written, read),
-            (len, Ok(len), true, Ok(content)),
-            "{text}"
+        assert_same(
+            &rt,
+            &(opaque_len(content), end, is_written, read),
+            &(len, Ok(len), true, Ok(content)),
+            text,
         );
     }
-    Ok(())
 }
 
 #[test]
-fn fixed_bytes(rt: HostRuntime) -> Result<(), Fail> {
+fn fixed_bytes(rt: HostRuntime) {
     for (content, text) in [
         (b"".as_slice(), ""),
         (b"lab", "6c616200"),
         (b"alpha", "616c7068 61000000"),
     ] {
-        let bytes = bytes(rt.alloc(), &[text])?;
+        let bytes = bytes(&rt, rt.alloc(), &[text]);
         let mut buf = [9; 16];
         let end = put_fixed(&mut buf, 0, content);
         let is_written = buf.starts_with(&bytes);
         let read = Cursor::new(&bytes).fixed(content.len());
         let len = bytes.len();
-        assert_eq!(rt;
-            (fixed_len(content), end, is_written, read),
-            (len, Ok(len), true, Ok(content)),
-            "{text}"
+        assert_same(
+            &rt,
+            &(fixed_len(content), end, is_written, read),
+            &(len, Ok(len), true, Ok(content)),
+            text,
         );
     }
-    Ok(())
 }
 
 // What a string of at most three bytes is read as, and how far the cursor is then.
@@ -139,7 +136,7 @@ fn string(bytes: &[u8]) -> (Result<&[u8], XdrFault>, usize) {
 }
 
 #[test]
-fn refusals(rt: HostRuntime) -> Result<(), Fail> {
+fn refusals(rt: HostRuntime) {
     for (text, fault) in [
         ("", XdrFault::Short { at: 0 }),
         ("000000", XdrFault::Short { at: 0 }),
@@ -160,10 +157,9 @@ fn refusals(rt: HostRuntime) -> Result<(), Fail> {
         ("00000001 6c000302", XdrFault::Pad { at: 6 }),
         ("00000001 6cff0302", XdrFault::Pad { at: 5 }),
     ] {
-        let bytes = bytes(rt.alloc(), &[text])?;
-        assert_eq!(rt; string(&bytes), (Err(fault), 0), "{text}");
+        let bytes = bytes(&rt, rt.alloc(), &[text]);
+        assert_same(&rt, &string(&bytes), &(Err(fault), 0), text);
     }
-    Ok(())
 }
 
 // What is read behind another item: what is refused, and how far the cursor is then.
@@ -209,8 +205,8 @@ fn read_further<'a>(cursor: &mut Cursor<'a>) -> Further<'a> {
 }
 
 #[test]
-fn behind_another_item(rt: HostRuntime) -> Result<(), Fail> {
-    let bytes = bytes(rt.alloc(), &["00000007 00000003 6c616201 0000"])?;
+fn behind_another_item(rt: HostRuntime) {
+    let bytes = bytes(&rt, rt.alloc(), &["00000007 00000003 6c616201 0000"]);
     let mut cursor = Cursor::new(&bytes);
     let behind = Behind {
         first: Ok(7),
@@ -223,7 +219,7 @@ fn behind_another_item(rt: HostRuntime) -> Result<(), Fail> {
         fixed: Err(XdrFault::Short { at: 4 }),
         at: 4,
     };
-    assert_eq!(rt; read_behind(&mut cursor), behind);
+    assert_same(&rt, &read_behind(&mut cursor), &behind, "behind");
     let further = Further {
         second: Ok(3),
         fixed: Err(XdrFault::Pad { at: 11 }),
@@ -231,22 +227,31 @@ fn behind_another_item(rt: HostRuntime) -> Result<(), Fail> {
         fourth: Err(XdrFault::Short { at: 12 }),
         at: 12,
     };
-    assert_eq!(rt; read_further(&mut cursor), further);
-    Ok(())
+    assert_same(&rt, &read_further(&mut cursor), &further, "further");
+}
+
+// What comes of writing where there is no room, and then where there is just enough.
+fn put_at_the_end(
+    buf: &mut [u8; 7],
+) -> ([Result<usize, NoRoom>; 6], [u8; 7], Result<usize, NoRoom>) {
+    let refused = [
+        put_opaque(buf, 0, b"lab"),
+        put_opaque(buf, 4, b""),
+        put_fixed(buf, 0, b"alpha"),
+        put_u32(buf, 4, 1),
+        put_bool(buf, 5, true),
+        put_i32(buf, 7, 1),
+    ];
+    let unchanged = *buf;
+    (refused, unchanged, put_u32(buf, 3, 1))
 }
 
 #[test]
 fn no_room(rt: HostRuntime) {
     let mut buf = [9; 7];
-    assert_eq!(rt; put_opaque(&mut buf, 0, b"lab"), Err(NoRoom));
-    assert_eq!(rt; put_opaque(&mut buf, 4, b""), Err(NoRoom));
-    assert_eq!(rt; put_fixed(&mut buf, 0, b"alpha"), Err(NoRoom));
-    assert_eq!(rt; put_u32(&mut buf, 4, 1), Err(NoRoom));
-    assert_eq!(rt; put_bool(&mut buf, 5, true), Err(NoRoom));
-    assert_eq!(rt; put_i32(&mut buf, 7, 1), Err(NoRoom));
-    assert_eq!(rt; buf, [9; 7]);
-    assert_eq!(rt; put_u32(&mut buf, 3, 1), Ok(7));
-    assert_eq!(rt; buf, [9, 9, 9, 0, 0, 0, 1]);
+    let came = put_at_the_end(&mut buf);
+    assert_same(&rt, &came, &([Err(NoRoom); 6], [9; 7], Ok(7)), "at the end");
+    assert_same(&rt, &buf, &[9, 9, 9, 0, 0, 0, 1], "written");
 }
 
 // Items one behind another behind three bytes, and the ends of them.
@@ -284,15 +289,21 @@ fn read_items(bytes: &[u8]) -> Items<'_> {
 }
 
 #[test]
-fn one_behind_another(rt: HostRuntime) -> Result<(), Fail> {
+fn one_behind_another(rt: HostRuntime) {
     let bytes = bytes(
+        &rt,
         rt.alloc(),
         &["090909 00000007 00000005 616c7068 61000000 fffffffd 00000001 6d310000 09"],
-    )?;
+    );
     let mut buf = [9; 32];
     let ends = put_items(&mut buf);
-    assert_eq!(rt; ends, [Ok(7), Ok(19), Ok(23), Ok(27), Ok(31)]);
-    assert_eq!(rt; buf.as_slice(), &bytes[..]);
+    let wanted = [Ok(7), Ok(19), Ok(23), Ok(27), Ok(31)];
+    assert_same(
+        &rt,
+        &(ends, buf.as_slice()),
+        &(wanted, bytes.as_slice()),
+        "written",
+    );
     let items = Items {
         first: Ok(7),
         text: Ok(b"alpha"),
@@ -301,12 +312,11 @@ fn one_behind_another(rt: HostRuntime) -> Result<(), Fail> {
         fixed: Ok(b"m1"),
         at: 28,
     };
-    assert_eq!(rt; read_items(&buf[3..]), items);
-    Ok(())
+    assert_same(&rt, &read_items(&buf[3..]), &items, "read");
 }
 
 #[test]
-fn faults_as_text(rt: HostRuntime) -> Result<(), Fail> {
+fn faults_as_text(rt: HostRuntime) {
     for (fault, text) in [
         (XdrFault::Short { at: 4 }, "short item at 4"),
         (
@@ -317,8 +327,7 @@ fn faults_as_text(rt: HostRuntime) -> Result<(), Fail> {
         (XdrFault::BadBool { at: 12 }, "no boolean at 12"),
         (XdrFault::BadEnum { at: 16 }, "no number of the enum at 16"),
     ] {
-        let shown = format!(in rt.alloc(); "{fault}")?;
-        assert_eq!(rt; shown.as_str(), text);
+        let shown = format!(in rt.alloc(); "{fault}").expect(&rt, "a text");
+        assert_same(&rt, &shown.as_str(), &text, text);
     }
-    Ok(())
 }
