@@ -135,7 +135,7 @@ const MADE: [Made; 22] = [
     ),
     // No line follows a line feed at the end of the text.
     (
-        "a backslash ends the text",
+        "a backslash in the last line",
         Kind::Netgroup,
         b"x y\\\n",
         &[(b"x", b"y\\")],
@@ -209,9 +209,8 @@ fn rows_of_texts(rt: HostRuntime) {
 fn put_user<R: Abort>(rt: &R, alloc: Global, text: &mut Vec<u8>, n: u8) {
     let uid = if n == 38 { 1001 } else { 1000 + u32::from(n) };
     let (tens, ones) = (n / 10, n % 10);
-    let line = format!(in alloc; "u{tens}{ones}:x:{uid}:100::/home/u{tens}{ones}:/bin/sh\n").expect(
-        rt, "a line",
-    );
+    let line = format!(in alloc; "u{tens}{ones}:x:{uid}:100::/home/u{tens}{ones}:/bin/sh\n");
+    let line = line.expect(rt, "a line");
     text.extend_from_slice(line.as_bytes()).expect(rt, "room");
 }
 
@@ -275,7 +274,7 @@ const LONG: [Long; 5] = [
     ),
     // The number of a line is that of its first part.
     (
-        "a long line of two parts",
+        "a long line of three parts",
         Kind::Netgroup,
         &[
             (b"a b \\", 5),
@@ -288,7 +287,7 @@ const LONG: [Long; 5] = [
         1,
     ),
     (
-        "a long key behind a row that stands twice",
+        "a long key behind two rows",
         Kind::Ypservers,
         &[(b"a", 65536), (b"a", 1), (b"b", 65537)],
         BuildFault::KeyLong { line: 3 },
