@@ -131,7 +131,10 @@ fn fetch_twice(client: &mut MemClient, into: &mut VersionBuilder) -> [Fetched; 2
 
 // The value of a key.
 fn value_of(alloc: Global, version: &Version, key: &[u8]) -> Option<Vec<u8>> {
-    version.get(key).and_then(|value| value.to_vec(alloc).ok())
+    match version.get(key) {
+        Some(value) => value.to_vec(alloc).ok(),
+        None => None,
+    }
 }
 
 // How many rows it has, and the values of the keys that are empty, `k` and `lmnop`.

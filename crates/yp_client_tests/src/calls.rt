@@ -4,7 +4,7 @@ use crate::given::{assert_same, bytes};
 use crate::lent::{MemClient, with_client};
 use std::alloc::Global;
 use std::process::Abort;
-use yp_client::ClientFault;
+use yp_client::{ClientFault, Row};
 use yp_io::{MemSink, MemSource, MemWire, Pair};
 use yp_msgs::{Names, ReqXfr, XfrStat, YpStat};
 use yp_rpc::ReplyHead;
@@ -79,15 +79,22 @@ fn lines<R: Abort>(rt: &R, alloc: Global, names: &Names) -> Vec<u8> {
     lines
 }
 
+fn key_and_value(found: Result<Row, ClientFault>) -> Result<KeyAndValue, ClientFault> {
+    match found {
+        Ok(row) => Ok((row.key, row.value)),
+        Err(fault) => Err(fault),
+    }
+}
+
 fn list<R: Abort>(rt: &R, alloc: Global, client: &mut MemClient) -> Listed {
     let first = client.first(b"d", b"m");
     let next = client.next(b"d", b"m", b"k");
     let maps = client.maplist(b"d");
-    let rows = [
-        first.map(|row| (row.key, row.value)),
-        next.map(|row| (row.key, row.value)),
-    ];
-    (rows, maps.map(|list| lines(rt, alloc, &list.maps)))
+    let names = match maps {
+        Ok(list) => Ok(lines(rt, alloc, &list.maps)),
+        Err(fault) => Err(fault),
+    };
+    ([key_and_value(first), key_and_value(next)], names)
 }
 
 #[test]
