@@ -1,6 +1,6 @@
 //! Kinds of maps: their numbers, their names, and the texts that they are built of.
 
-use std::process::Abort;
+use crate::given::assert_same;
 use yp_build::*;
 use yp_io::TextFile;
 
@@ -17,28 +17,24 @@ const KINDS: [(u32, &[u8], TextFile); 10] = [
     (10, b"ypservers", TextFile::Ypservers),
 ];
 
-fn check_kind(rt: &impl Abort, number: u32, name: &[u8], text: TextFile) {
-    let kind = Kind::of_number(number).expect(rt, "a kind");
-    let came = (kind.name(), kind.text(), Kind::of_name(name));
-    assert_eq!(rt; came, (name, text, Some(kind)), "kind {number}");
-}
-
 #[test]
 fn kinds(rt: HostRuntime) {
     for (number, name, text) in &KINDS {
-        check_kind(&rt, *number, *name, *text);
+        let kind = Kind::of_number(*number).expect(&rt, "a kind");
+        let came = (*number, kind.name(), kind.text(), Kind::of_name(*name));
+        assert_same(&rt, &came, &(*number, *name, *text, Some(kind)), "a kind");
     }
     let numbers = [
         Kind::of_number(0),
         Kind::of_number(11),
         Kind::of_number(u32::MAX),
     ];
-    assert_eq!(rt; numbers, [None; 3]);
+    assert_same(&rt, &numbers, &[None; 3], "numbers of no kind");
     let names = [
         Kind::of_name(b""),
         Kind::of_name(b"passwd"),
         Kind::of_name(b"netgroup "),
         Kind::of_name(b"Netgroup"),
     ];
-    assert_eq!(rt; names, [None; 4]);
+    assert_same(&rt, &names, &[None; 4], "names of no kind");
 }

@@ -1,16 +1,15 @@
 //! Texts and their rows, written out by hand.
 
-use crate::given::long_text;
+use crate::given::{assert_fits, assert_same, long_text};
 use std::alloc::Global;
 use std::process::Abort;
 use std::random::RandomSource;
-use std::test::Fail;
 use yp_build::*;
-use yp_io::TEXT_MAX;
 use yp_version::{Version, VersionBuilder};
 
-/// A kind, a text, and the rows that it makes, by rising keys.
+/// A name, a kind, a text, and the rows that it makes, by rising keys.
 type Made = (
+    &'static str,
     Kind,
     &'static [u8],
     &'static [(&'static [u8], &'static [u8])],
@@ -29,6 +28,7 @@ const HOSTS: &[u8] =
 
 const MADE: [Made; 22] = [
     (
+        "users by name",
         Kind::PasswdByname,
         USERS,
         &[
@@ -37,6 +37,7 @@ const MADE: [Made; 22] = [
         ],
     ),
     (
+        "users by number",
         Kind::PasswdByuid,
         USERS,
         &[
@@ -45,6 +46,7 @@ const MADE: [Made; 22] = [
         ],
     ),
     (
+        "short users by name",
         Kind::PasswdByname,
         SHORT_USERS,
         &[
@@ -55,6 +57,7 @@ const MADE: [Made; 22] = [
         ],
     ),
     (
+        "short users by number",
         Kind::PasswdByuid,
         SHORT_USERS,
         &[
@@ -65,6 +68,7 @@ const MADE: [Made; 22] = [
         ],
     ),
     (
+        "groups by name",
         Kind::GroupByname,
         GROUPS,
         &[
@@ -74,11 +78,13 @@ const MADE: [Made; 22] = [
         ],
     ),
     (
+        "groups by number",
         Kind::GroupBygid,
         GROUPS,
         &[(b"0", b"wheel:*:0:root"), (b"50", b" staff:*:50:ann,joe")],
     ),
     (
+        "hosts by name",
         Kind::HostsByname,
         HOSTS,
         &[
@@ -88,6 +94,7 @@ const MADE: [Made; 22] = [
         ],
     ),
     (
+        "hosts by address",
         Kind::HostsByaddr,
         HOSTS,
         &[
@@ -98,6 +105,7 @@ const MADE: [Made; 22] = [
         ],
     ),
     (
+        "services",
         Kind::ServicesByname,
         b"smtp 25/tcp mail\nsmtp  25/udp\n\ndomain\n http\t80/tcp#www\nsubmit 25/tcp\n",
         &[
@@ -107,130 +115,150 @@ const MADE: [Made; 22] = [
         ],
     ),
     (
+        "protocols",
         Kind::ProtocolsBynumber,
         b"tcp 6 TCP # x\nip 0 IP\nicmp # 1\n",
         &[(b"0", b"ip 0 IP"), (b"6", b"tcp 6 TCP")],
     ),
     (
+        "servers",
         Kind::Ypservers,
         b" m1 main\ns1\n#s2\n m1\n",
         &[(b"m1", b"m1"), (b"s1", b"s1")],
     ),
     // Several lines are one before its comment is cut. A group may have no members.
     (
+        "groups of several lines",
         Kind::Netgroup,
         b"a b c \\\n  d # e \\\nf\nall\ng\t (h,,) \\",
         &[(b"a", b"b c    d"), (b"all", b""), (b"g", b"(h,,) \\")],
     ),
     // No line follows a line feed at the end of the text.
-    (Kind::Netgroup, b"x y\\\n", &[(b"x", b"y\\")]),
+    (
+        "a backslash in the last line",
+        Kind::Netgroup,
+        b"x y\\\n",
+        &[(b"x", b"y\\")],
+    ),
     // An empty line follows.
     (
+        "an empty line follows a backslash",
         Kind::Netgroup,
         b"x y\\\n\n\\\nz",
         &[(b"x", b"y"), (b"z", b"")],
     ),
     // A blank stands behind the backslash.
     (
+        "a blank behind a backslash",
         Kind::Netgroup,
         b"p q\\ \nr s\n",
         &[(b"p", b"q\\"), (b"r", b"s")],
     ),
-    (Kind::Netgroup, b"gr\\\nou p", &[(b"gr", b"ou p")]),
+    (
+        "a name in two lines",
+        Kind::Netgroup,
+        b"gr\\\nou p",
+        &[(b"gr", b"ou p")],
+    ),
     // Other texts have no continuation lines.
     (
+        "no continuation in hosts",
         Kind::HostsByaddr,
         b"1 a\\\n2 b",
         &[(b"1", b"1 a\\"), (b"2", b"2 b")],
     ),
     (
+        "bytes of hosts",
         Kind::HostsByname,
         b"1 \x00a\xff\x0b\r\n",
         &[(b"\x00a\xff\x0b\r", b"1 \x00a\xff\x0b\r")],
     ),
     (
+        "bytes of users",
         Kind::PasswdByname,
         b"\x00:\xff\n",
         &[(b"\x00", b"\x00:\xff")],
     ),
-    (Kind::PasswdByname, b"", &[]),
-    (Kind::HostsByname, b"\n \n\t", &[]),
-    (Kind::Netgroup, b"\\\n\n", &[]),
+    ("no users", Kind::PasswdByname, b"", &[]),
+    ("no hosts", Kind::HostsByname, b"\n \n\t", &[]),
+    ("no groups", Kind::Netgroup, b"\\\n\n", &[]),
 ];
 
 fn built<R: RandomSource + Abort>(rt: &R, alloc: Global, kind: Kind, text: &[u8]) -> Version {
-    assert!(rt; text.len() <= TEXT_MAX);
+    assert_fits(rt, text);
     build(alloc, rt, kind, text, None, 7, b"m1").expect(rt, "a version")
 }
 
-fn assert_rows(rt: &impl Abort, version: &Version, n: usize, rows: &[(&[u8], &[u8])]) {
+fn assert_rows<R: Abort>(rt: &R, version: &Version, rows: &[(&[u8], &[u8])], name: &str) {
     for i in 0..=rows.len() {
-        let wanted = (rows.len(), rows.get(i).copied());
-        assert_eq!(rt;
-            (version.len(), version.row(i)),
-            wanted,
-            "row {i} of text {n}"
-        );
+        let came = (i, version.len(), version.row(i));
+        let wanted = (i, rows.len(), rows.get(i).copied());
+        assert_same(rt, &came, &wanted, name);
     }
-}
-
-fn check_text<R: RandomSource + Abort>(rt: &R, alloc: Global, n: usize, row: &Made) {
-    let (kind, text, rows) = *row;
-    let version = built(rt, alloc, kind, text);
-    assert_rows(rt, &version, n, rows);
 }
 
 #[test]
 fn rows_of_texts(rt: HostRuntime) {
-    for (n, row) in MADE.iter().enumerate() {
-        check_text(&rt, rt.alloc(), n, row);
+    for (name, kind, text, rows) in &MADE {
+        let version = built(&rt, rt.alloc(), *kind, *text);
+        assert_rows(&rt, &version, *rows, *name);
     }
 }
 
 /// Adds the line of one of 38 users, of whom the last has the number of the first.
-fn put_user(alloc: Global, text: &mut Vec<u8>, n: u8) -> Result<(), Fail> {
+fn put_user<R: Abort>(rt: &R, alloc: Global, text: &mut Vec<u8>, n: u8) {
     let uid = if n == 38 { 1001 } else { 1000 + u32::from(n) };
     let (tens, ones) = (n / 10, n % 10);
-    let line = format!(in alloc; "u{tens}{ones}:x:{uid}:100::/home/u{tens}{ones}:/bin/sh\n")?;
-    text.extend_from_slice(line.as_bytes())?;
-    Ok(())
+    let line = format!(in alloc; "u{tens}{ones}:x:{uid}:100::/home/u{tens}{ones}:/bin/sh\n");
+    let line = line.expect(rt, "a line");
+    text.extend_from_slice(line.as_bytes()).expect(rt, "room");
 }
 
-fn users(alloc: Global) -> Result<Vec<u8>, Fail> {
-    let mut text = b"# users\n".to_vec(alloc)?;
+fn users<R: Abort>(rt: &R, alloc: Global) -> Vec<u8> {
+    let mut text = b"# users\n".to_vec(alloc).expect(rt, "a text");
     for n in 1..39 {
-        put_user(alloc, &mut text, n)?;
+        put_user(rt, alloc, &mut text, n);
     }
-    text.extend_from_slice(b"+::::::\n")?;
-    Ok(text)
+    text.extend_from_slice(b"+::::::\n").expect(rt, "room");
+    text
 }
 
-fn assert_users(rt: &impl Abort, version: &Version, len: usize, first: Option<&[u8]>) {
-    assert_eq!(rt; (version.len(), version.get(b"1001")), (len, first));
+// How many rows a version has, and the value of the number that two users have.
+fn assert_users<R: Abort>(rt: &R, version: &Version, wanted: (usize, Option<&[u8]>), row: &str) {
+    let came = (version.len(), version.get(b"1001"));
+    assert_same(rt, &came, &wanted, row);
 }
 
 #[test]
-fn passwd_rows(rt: HostRuntime) -> Result<(), Fail> {
-    let text = users(rt.alloc())?;
+fn passwd_rows(rt: HostRuntime) {
+    let text = users(&rt, rt.alloc());
     let by_name = built(&rt, rt.alloc(), Kind::PasswdByname, &text);
-    assert_users(&rt, &by_name, 38, None);
+    assert_users(&rt, &by_name, (38, None), "by name");
     let by_uid = built(&rt, rt.alloc(), Kind::PasswdByuid, &text);
-    assert_users(&rt, &by_uid, 37, Some(b"u01:x:1001:100::/home/u01:/bin/sh"));
-    Ok(())
+    let first = b"u01:x:1001:100::/home/u01:/bin/sh".as_slice();
+    assert_users(&rt, &by_uid, (37, Some(first)), "by number");
 }
 
-/// How a text with long lines is made, its fault, and how many rows come before. Each line has this front, and is
-/// filled with `x` to this length.
-type Long = (Kind, &'static [(&'static [u8], usize)], BuildFault, usize);
+/// A name, how a text with long lines is made, its fault, and how many rows come before. Each line has this front, and
+/// is filled with `x` to this length.
+type Long = (
+    &'static str,
+    Kind,
+    &'static [(&'static [u8], usize)],
+    BuildFault,
+    usize,
+);
 
 const LONG: [Long; 5] = [
     (
+        "a long value",
         Kind::PasswdByname,
         &[(b"a:", 65536), (b"b:", 65537), (b"c", 65537)],
         BuildFault::ValueLong { line: 2 },
         1,
     ),
     (
+        "a long key",
         Kind::PasswdByname,
         &[(b"", 0), (b"#", 70000), (b"c", 65537), (b"d:", 65537)],
         BuildFault::KeyLong { line: 3 },
@@ -238,6 +266,7 @@ const LONG: [Long; 5] = [
     ),
     // The line is over the limit, and so each of its rows.
     (
+        "a long line of hosts",
         Kind::HostsByname,
         &[(b"1 a ", 65541)],
         BuildFault::ValueLong { line: 1 },
@@ -245,6 +274,7 @@ const LONG: [Long; 5] = [
     ),
     // The number of a line is that of its first part.
     (
+        "a long line of three parts",
         Kind::Netgroup,
         &[
             (b"a b \\", 5),
@@ -257,6 +287,7 @@ const LONG: [Long; 5] = [
         1,
     ),
     (
+        "a long key behind two rows",
         Kind::Ypservers,
         &[(b"a", 65536), (b"a", 1), (b"b", 65537)],
         BuildFault::KeyLong { line: 3 },
@@ -271,49 +302,38 @@ fn rows_told<R: RandomSource + Abort>(
     kind: Kind,
     text: &[u8],
 ) -> (Result<(), BuildFault>, usize) {
-    assert!(rt; text.len() <= TEXT_MAX);
+    assert_fits(rt, text);
     let mut builder = VersionBuilder::new(alloc, rt, 1, b"m1").expect(rt, "a builder");
     let answer = rows_of(alloc, kind, text, &mut builder);
     (answer, builder.len())
 }
 
-fn check_long<R: RandomSource + Abort>(
-    rt: &R,
-    alloc: Global,
-    n: usize,
-    row: &Long,
-) -> Result<(), Fail> {
-    let (kind, lines, fault, rows) = *row;
-    let text = long_text(alloc, lines)?;
-    let came = rows_told(rt, alloc, kind, &text);
-    assert_eq!(rt; came, (Err(fault), rows), "at text {n}");
-    Ok(())
-}
-
 #[test]
-fn lines_of_faults(rt: HostRuntime) -> Result<(), Fail> {
-    for (n, row) in LONG.iter().enumerate() {
-        check_long(&rt, rt.alloc(), n, row)?;
+fn lines_of_faults(rt: HostRuntime) {
+    for (name, kind, lines, fault, rows) in &LONG {
+        let text = long_text(&rt, rt.alloc(), *lines);
+        let came = rows_told(&rt, rt.alloc(), *kind, &text);
+        assert_same(&rt, &came, &(Err(*fault), *rows), *name);
     }
-    Ok(())
 }
 
 /// 256 lines with keys of four bytes, each of 65536 bytes.
-fn big_text(alloc: Global) -> Result<Vec<u8>, Fail> {
+fn big_text<R: Abort>(rt: &R, alloc: Global) -> Vec<u8> {
     let mut text = Vec::new(alloc);
     for n in 0..256u32 {
-        let front = format!(in alloc; "{}:", 1000 + n)?;
-        text.extend_from_slice(&long_text(alloc, &[(front.as_bytes(), 65536)])?)?;
+        let front = format!(in alloc; "{}:", 1000 + n).expect(rt, "a front");
+        let line = long_text(rt, alloc, &[(front.as_bytes(), 65536)]);
+        text.extend_from_slice(&line).expect(rt, "room");
     }
-    Ok(text)
+    text
 }
 
 #[test]
-fn too_big_at_a_line(rt: HostRuntime) -> Result<(), Fail> {
-    let text = big_text(rt.alloc())?;
-    assert!(rt; text.len() <= TEXT_MAX);
+fn too_big_at_a_line(rt: HostRuntime) {
+    let text = big_text(&rt, rt.alloc());
+    assert_fits(&rt, &text);
     let fault = build(rt.alloc(), &rt, Kind::PasswdByname, &text, None, 7, b"m1").err();
     // 16 bytes, 4 of the master and 255 rows of 8, 4 and 65,536 are 16,714,760; one more row is over 16,777,216.
-    assert_eq!(rt; fault, Some(BuildFault::TooBig { line: 256 }));
-    Ok(())
+    let wanted = Some(BuildFault::TooBig { line: 256 });
+    assert_same(&rt, &fault, &wanted, "256 long lines");
 }

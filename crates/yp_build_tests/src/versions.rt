@@ -1,12 +1,10 @@
 //! Orders of versions, and versions of sample rows.
 
-use crate::given::long_text;
+use crate::given::{assert_fits, assert_same, long_text};
 use std::alloc::Global;
 use std::process::Abort;
 use std::random::RandomSource;
-use std::test::Fail;
 use yp_build::*;
-use yp_io::TEXT_MAX;
 use yp_version::Version;
 
 /// The order before, the moment, and the order that follows.
@@ -20,9 +18,9 @@ const ORDERS: [(Option<u32>, u32, Result<u32, OrderSpent>); 7] = [
     (None, u32::MAX, Ok(u32::MAX)),
 ];
 
-fn assert_head(rt: &impl Abort, version: &Version, order: u32, master: &[u8]) {
-    let came = (version.order(), version.master(), version.secure());
-    assert_eq!(rt; came, (order, master, false));
+/// The order of a version, its master, and whether it is secure.
+fn head(version: &Version) -> (u32, &[u8], bool) {
+    (version.order(), version.master(), version.secure())
 }
 
 /// Why no version of the hosts that serve is built of a text.
@@ -32,33 +30,31 @@ fn fault_of<R: RandomSource + Abort>(
     text: &[u8],
     previous: Option<u32>,
 ) -> Option<BuildFault> {
-    assert!(rt; text.len() <= TEXT_MAX);
+    assert_fits(rt, text);
     build(alloc, rt, Kind::Ypservers, text, previous, 7, b"m1").err()
 }
 
-// A spent order goes before a row that is refused.
-fn check_spent<R: RandomSource + Abort>(rt: &R, alloc: Global, text: &[u8]) {
+#[test]
+fn orders(rt: HostRuntime) {
+    let alloc = rt.alloc();
+    for (previous, now, order) in &ORDERS {
+        let came = (*previous, *now, next_order(*previous, *now));
+        assert_same(&rt, &came, &(*previous, *now, *order), "an order");
+    }
+    let raised = build(alloc, &rt, Kind::Ypservers, b"m1", Some(100), 50, b"m1").expect(
+        &rt,
+        "a version",
+    );
+    let wanted = (101, b"m1".as_slice(), false);
+    assert_same(&rt, &head(&raised), &wanted, "a raised order");
+    // A spent order goes before a row that is refused.
+    let text = long_text(&rt, alloc, &[(b"a", 65537)]);
     let came = (
-        fault_of(rt, alloc, text, Some(u32::MAX)),
-        fault_of(rt, alloc, text, Some(7)),
+        fault_of(&rt, alloc, &text, Some(u32::MAX)),
+        fault_of(&rt, alloc, &text, Some(7)),
     );
     let (spent, long) = (BuildFault::OrderSpent, BuildFault::KeyLong { line: 1 });
-    assert_eq!(rt; came, (Some(spent), Some(long)));
-}
-
-fn check_raised<R: RandomSource + Abort>(rt: &R, alloc: Global) {
-    let version = build(alloc, rt, Kind::Ypservers, b"m1", Some(100), 50, b"m1");
-    assert_head(rt, &version.expect(rt, "a version"), 101, b"m1");
-}
-
-#[test]
-fn orders(rt: HostRuntime) -> Result<(), Fail> {
-    for (previous, now, order) in &ORDERS {
-        assert_eq!(rt; next_order(*previous, *now), *order);
-    }
-    check_raised(&rt, rt.alloc());
-    check_spent(&rt, rt.alloc(), &long_text(rt.alloc(), &[(b"a", 65537)])?);
-    Ok(())
+    assert_same(&rt, &came, &(Some(spent), Some(long)), "a spent order");
 }
 
 /// How many rows a version of sample rows has, and how many bytes its body.
@@ -92,10 +88,11 @@ const SAMPLE: [Option<(&[u8], &[u8])>; 3] = [
     Some((b"kd1ccf6e9", b"v2")),
 ];
 
-fn assert_sample(rt: &impl Abort, version: &Version) {
+fn assert_sample<R: Abort>(rt: &R, version: &Version) {
     let rows = [version.row(0), version.row(1), version.row(2)];
-    assert_eq!(rt; rows, SAMPLE);
-    assert_head(rt, version, 1, b"sample");
+    assert_same(rt, &rows, &SAMPLE, "three rows");
+    let wanted = (1, b"sample".as_slice(), false);
+    assert_same(rt, &head(version), &wanted, "their head");
 }
 
 #[test]
@@ -103,7 +100,7 @@ fn sample_lines(rt: HostRuntime) {
     let version = sample(rt.alloc(), &rt, 0, 3).expect(&rt, "a version");
     assert_sample(&rt, &version);
     for (start, count, size) in &SIZES {
-        let came = size_of(&rt, rt.alloc(), *start, *count);
-        assert_eq!(rt; came, *size, "{count} rows");
+        let came = (*start, *count, size_of(&rt, rt.alloc(), *start, *count));
+        assert_same(&rt, &came, &(*start, *count, *size), "a size");
     }
 }

@@ -2,13 +2,12 @@
 
 ghost use Rattle.std.specs.Prelude.{◌<◌};
 
-use crate::lent::{Came, MemClient, builder, with_builder, with_client, with_version};
+use crate::given::{assert_same, bytes};
+use crate::lent::{MemClient, builder, with_builder, with_client, with_version};
 use std::alloc::Global;
 use std::process::Abort;
 use std::random::RandomSource;
-use std::test::Fail;
 use yp_client::ClientFault;
-use yp_for_tests::bytes;
 use yp_io::{MemSink, MemSource, MemWire, Pair};
 use yp_msgs::YpStat;
 use yp_rpc::ReplyHead;
@@ -37,76 +36,84 @@ fn wire(alloc: Global, input: Vec<u8>, piece: usize) -> MemWire
 }
 
 // The head of a fragment.
-fn fragment(last: bool, len: usize) -> Result<[u8; 4], Fail> {
+fn fragment<R: Abort>(rt: &R, last: bool, len: usize) -> [u8; 4] {
     let mark = if last { 0x8000_0000 } else { 0 };
-    Ok((u32::try_from(len)? | mark).to_be_bytes())
+    (u32::try_from(len).expect(rt, "a length") | mark).to_be_bytes()
+}
+
+fn add<R: Abort>(rt: &R, stream: &mut Vec<u8>, bytes: &[u8]) {
+    stream.extend_from_slice(bytes).expect(rt, "room");
+}
+
+fn assert_positive<R: Abort>(rt: &R, size: usize)
+    ensures { 0 < size }
+{
+    assert!(rt; size > 0, "a size");
 }
 
 // A record in fragments of so many bytes.
-fn cut(alloc: Global, record: &[u8], size: usize) -> Result<Vec<u8>, Fail>
-    requires { 0 < size }
-{
+fn cut<R: Abort>(rt: &R, alloc: Global, record: &[u8], size: usize) -> Vec<u8> {
+    assert_positive(rt, size);
     let mut stream = Vec::new(alloc);
     let mut left = record.len();
     for piece in record.chunks(size) {
         left = left.saturating_sub(piece.len());
-        stream.extend_from_slice(&fragment(left == 0, piece.len())?)?;
-        stream.extend_from_slice(piece)?;
+        add(rt, &mut stream, &fragment(rt, left == 0, piece.len()));
+        add(rt, &mut stream, piece);
     }
-    Ok(stream)
+    stream
 }
 
 // The stream of a reply of one fragment with these items, and then NEXT_REPLY.
-fn stream(alloc: Global, first: &str, second: &str) -> Result<Vec<u8>, Fail> {
-    let record = bytes(alloc, &[HEAD, first, second])?;
-    let mut stream = cut(alloc, &record, 1_000_000)?;
-    stream.extend_from_slice(&bytes(alloc, &[NEXT_REPLY])?)?;
-    Ok(stream)
+fn stream<R: Abort>(rt: &R, alloc: Global, first: &str, second: &str) -> Vec<u8> {
+    let record = bytes(rt, alloc, &[HEAD, first, second]);
+    let mut stream = cut(rt, alloc, &record, 1_000_000);
+    add(rt, &mut stream, &bytes(rt, alloc, &[NEXT_REPLY]));
+    stream
 }
 
 // The same without items, behind so many empty fragments.
-fn hollow(alloc: Global, empty: usize) -> Result<Vec<u8>, Fail> {
-    let mut input = vec![in alloc; 0; empty]?;
+fn hollow<R: Abort>(rt: &R, alloc: Global, empty: usize) -> Vec<u8> {
+    let mut input = Vec::new(alloc);
     for _ in 0..empty {
-        input.extend_from_slice(&[0; 3])?;
+        add(rt, &mut input, &[0; 4]);
     }
-    input.extend_from_slice(&stream(alloc, "00000000", "")?)?;
-    Ok(input)
+    add(rt, &mut input, &stream(rt, alloc, "00000000", ""));
+    input
 }
 
 // The front of a reply with two rows in fragments of ten bytes, 108 in all.
-fn torn(alloc: Global, len: usize) -> Result<Vec<u8>, Fail> {
-    let record = bytes(alloc, &[HEAD, ROW, ROW, "00000000"])?;
-    let mut stream = cut(alloc, &record, 10)?;
+fn torn<R: Abort>(rt: &R, alloc: Global, len: usize) -> Vec<u8> {
+    let record = bytes(rt, alloc, &[HEAD, ROW, ROW, "00000000"]);
+    let mut stream = cut(rt, alloc, &record, 10);
     stream.truncate(len);
-    Ok(stream)
+    stream
+}
+
+// The most bytes of a value or a key, all of which are one byte.
+fn longest<R: Abort>(rt: &R, alloc: Global, byte: u8) -> Vec<u8> {
+    vec![in alloc; byte; LONGEST].expect(rt, "a long value")
 }
 
 // A row of a key of 65536 bytes and a value of as many, all of which are one byte.
-fn put_long_row(alloc: Global, record: &mut Vec<u8>, byte: u8) -> Result<(), Fail> {
-    let long = vec![in alloc; byte; LONGEST]?;
-    record.extend_from_slice(&bytes(alloc, &["00000001 00000001 00010000"])?)?;
-    record.extend_from_slice(&long)?;
-    record.extend_from_slice(&bytes(alloc, &["00010000"])?)?;
-    record.extend_from_slice(&long)?;
-    Ok(())
+fn put_long_row<R: Abort>(rt: &R, alloc: Global, record: &mut Vec<u8>, byte: u8) {
+    let long = longest(rt, alloc, byte);
+    add(
+        rt,
+        record,
+        &bytes(rt, alloc, &["00000001 00000001 00010000"]),
+    );
+    add(rt, record, &long);
+    add(rt, record, &bytes(rt, alloc, &["00010000"]));
+    add(rt, record, &long);
 }
 
 // What came of ALL: its answer, how many rows it has read, and how many the builder has.
-#[derive(Debug, PartialEq, Eq, Drop)]
-struct Fetched {
-    said: Result<(), ClientFault>,
-    rows: u32,
-    len: usize,
-}
+type Fetched = (Result<(), ClientFault>, u32, usize);
 
 fn fetch(client: &mut MemClient, into: &mut VersionBuilder) -> Fetched {
     let said = client.all(b"d", b"m", into);
-    Fetched {
-        said,
-        rows: client.rows(),
-        len: into.len(),
-    }
+    (said, client.rows(), into.len())
 }
 
 // What came of it, and then of ORDER.
@@ -124,7 +131,10 @@ fn fetch_twice(client: &mut MemClient, into: &mut VersionBuilder) -> [Fetched; 2
 
 // The value of a key.
 fn value_of(alloc: Global, version: &Version, key: &[u8]) -> Option<Vec<u8>> {
-    version.get(key).and_then(|value| value.to_vec(alloc).ok())
+    match version.get(key) {
+        Some(value) => value.to_vec(alloc).ok(),
+        None => None,
+    }
 }
 
 // How many rows it has, and the values of the keys that are empty, `k` and `lmnop`.
@@ -148,7 +158,7 @@ fn fetch_hosts(
 }
 
 #[test]
-fn rows_in_any_fragments(rt: HostRuntime) -> Result<(), Fail> {
+fn rows_in_any_fragments(rt: HostRuntime) {
     let alloc = rt.alloc();
     // The key `k` comes again, and its first value stands.
     let items = "00000001 00000001 00000002 77770000 00000000 \
@@ -157,86 +167,68 @@ fn rows_in_any_fragments(rt: HostRuntime) -> Result<(), Fail> {
         00000000";
     let call = "80000040 00000008 00000000 00000002 000186a4 00000002 00000008 00000000 00000000 \
         00000000 00000000 00000003 6c616200 0000000c 686f7374 732e6279 6e616d65";
-    let record = bytes(alloc, &[HEAD, ROW, items])?;
-    let came = Came {
-        said: (0, Ok(()), 4),
-        sent: bytes(alloc, &[call])?,
-    };
+    let record = bytes(&rt, alloc, &[HEAD, ROW, items]);
     let values = [
-        Some(b"ww".to_vec(alloc)?),
-        Some(b"v".to_vec(alloc)?),
+        Some(b"ww".to_vec(alloc).expect(&rt, "a value")),
+        Some(b"v".to_vec(alloc).expect(&rt, "a value")),
         Some(Vec::new(alloc)),
     ];
-    let wanted = (came, (3, values));
-    for size in [1, 3, 8192, 1_000_000] {
-        assert!(rt; size > 0);
-        let wire = wire(alloc, cut(alloc, &record, size)?, 5);
-        let found = with_version(
+    let wanted = ((0, Ok(()), 4), bytes(&rt, alloc, &[call]), (3, values));
+    for (size, row) in [
+        (1, "fragments of 1 byte"),
+        (3, "fragments of 3 bytes"),
+        (8192, "fragments of 8192 bytes"),
+        (1_000_000, "one fragment"),
+    ] {
+        let wire = wire(alloc, cut(&rt, alloc, &record, size), 5);
+        let came = with_version(
             &rt,
             alloc,
             wire,
             fetch_hosts,
             |version| look(alloc, version),
         );
-        assert_eq!(rt; found, wanted, "{size}");
+        assert_same(&rt, &came, &wanted, row);
     }
-    Ok(())
 }
 
 // How many rows a version has, whether each of these keys has its own bytes as its value, and the value of `k`.
-#[derive(Debug, PartialEq, Eq, Drop)]
-struct LongRows {
-    len: usize,
-    are_held: [bool; 7],
-    value: Option<Vec<u8>>,
-}
+type LongRows = (usize, [bool; 7], Option<Vec<u8>>);
 
 fn look_for_long(alloc: Global, version: &Version, keys: &[Vec<u8>]) -> LongRows {
     let mut are_held = [false; 7];
     for (key, is_held) in keys.iter().zip(are_held.iter_mut()) {
         *is_held = version.get(key) == Some(key.as_slice());
     }
-    LongRows {
-        len: version.len(),
-        are_held,
-        value: value_of(alloc, version, b"k"),
-    }
+    (version.len(), are_held, value_of(alloc, version, b"k"))
 }
 
 #[test]
-fn reply_longer_than_the_buffer(rt: HostRuntime) -> Result<(), Fail> {
+fn reply_longer_than_the_buffer(rt: HostRuntime) {
     let alloc = rt.alloc();
-    let mut record = bytes(alloc, &[HEAD])?;
+    let mut record = bytes(&rt, alloc, &[HEAD]);
     let mut keys = Vec::new(alloc);
     for byte in 0..7 {
-        put_long_row(alloc, &mut record, byte)?;
-        keys.push(vec![in alloc; byte; LONGEST]?)?;
+        put_long_row(&rt, alloc, &mut record, byte);
+        keys.push(longest(&rt, alloc, byte)).expect(&rt, "room");
     }
-    record.extend_from_slice(&bytes(alloc, &[ROW, "00000000"])?)?;
-    let fetched = Fetched {
-        said: Ok(()),
-        rows: 8,
-        len: 8,
-    };
-    let long = LongRows {
-        len: 8,
-        are_held: [true; 7],
-        value: Some(b"v".to_vec(alloc)?),
-    };
-    let wanted = (fetched, long);
-    for size in [8192, 10_000_000] {
-        assert!(rt; size > 0);
-        let wire = wire(alloc, cut(alloc, &record, size)?, 50_000);
-        let (came, long) = with_version(&rt, alloc, wire, fetch, |version| {
+    add(&rt, &mut record, &bytes(&rt, alloc, &[ROW, "00000000"]));
+    let value = b"v".to_vec(alloc).expect(&rt, "a value");
+    let wanted = ((Ok(()), 8, 8), (8, [true; 7], Some(value)));
+    for (size, row) in [
+        (8192, "fragments of 8192 bytes"),
+        (10_000_000, "one fragment"),
+    ] {
+        let wire = wire(alloc, cut(&rt, alloc, &record, size), 50_000);
+        let (fetched, _sent, long) = with_version(&rt, alloc, wire, fetch, |version| {
             look_for_long(alloc, version, &keys)
         });
-        assert_eq!(rt; (came.said, long), wanted, "{size}");
+        assert_same(&rt, &(fetched, long), &wanted, row);
     }
-    Ok(())
 }
 
 #[test]
-fn ends_of_rows(rt: HostRuntime) -> Result<(), Fail> {
+fn ends_of_rows(rt: HostRuntime) {
     let alloc = rt.alloc();
     for (items, said, rows) in [
         ("00000000", Ok(()), 0),
@@ -258,16 +250,14 @@ fn ends_of_rows(rt: HostRuntime) -> Result<(), Fail> {
             Err(ClientFault::BadReply { .. }) => Err(ClientFault::Spent),
             _ => Ok(7),
         };
-        let len = rows as usize;
-        let wire = wire(alloc, stream(alloc, items, "")?, 5);
+        let wire = wire(alloc, stream(&rt, alloc, items, ""), 5);
         let came = with_builder(&rt, alloc, wire, fetch_and_order);
-        assert_eq!(rt; came, (Fetched { said, rows, len }, next), "{items}");
+        assert_same(&rt, &came, &((said, rows, rows as usize), next), items);
     }
-    Ok(())
 }
 
 #[test]
-fn places_of_bad_items(rt: HostRuntime) -> Result<(), Fail> {
+fn places_of_bad_items(rt: HostRuntime) {
     let alloc = rt.alloc();
     // A good row goes before each, so that the item begins at 48.
     for (item, at) in [
@@ -288,20 +278,18 @@ fn places_of_bad_items(rt: HostRuntime) -> Result<(), Fail> {
         ("00000001 00000001 00000005 76767676 760000", 56),
         ("00000001 00000001 00000001 76000000 00000002 6b", 64),
     ] {
-        let wire = wire(alloc, stream(alloc, ROW, item)?, 5);
+        let wire = wire(alloc, stream(&rt, alloc, ROW, item), 5);
         let came = with_builder(&rt, alloc, wire, fetch_twice);
-        let wanted = [ClientFault::BadReply { at }, ClientFault::Spent].map(|fault| Fetched {
-            said: Err(fault),
-            rows: 1,
-            len: 1,
-        });
-        assert_eq!(rt; came, wanted, "{item}");
+        let wanted = [
+            (Err(ClientFault::BadReply { at }), 1, 1),
+            (Err(ClientFault::Spent), 1, 1),
+        ];
+        assert_same(&rt, &came, &wanted, item);
     }
-    Ok(())
 }
 
 #[test]
-fn refused_heads(rt: HostRuntime) -> Result<(), Fail> {
+fn refused_heads(rt: HostRuntime) {
     let alloc = rt.alloc();
     let spent = Err(ClientFault::Spent);
     for (reply, behind, fault, next) in [
@@ -329,16 +317,10 @@ fn refused_heads(rt: HostRuntime) -> Result<(), Fail> {
         ("02000000 000000", "", ClientFault::Torn { at: 0 }, spent),
         ("82000001", "", ClientFault::TooLong { at: 0 }, spent),
     ] {
-        let wire = wire(alloc, bytes(alloc, &[reply, behind])?, 5);
+        let wire = wire(alloc, bytes(&rt, alloc, &[reply, behind]), 5);
         let came = with_builder(&rt, alloc, wire, fetch_and_order);
-        let fetched = Fetched {
-            said: Err(fault),
-            rows: 0,
-            len: 0,
-        };
-        assert_eq!(rt; came, (fetched, next), "{reply}");
+        assert_same(&rt, &came, &((Err(fault), 0, 0), next), reply);
     }
-    Ok(())
 }
 
 // The answers to ALL, and then to NULL.
@@ -349,7 +331,7 @@ fn fetch_and_ping(client: &mut MemClient, into: &mut VersionBuilder) -> AllAndNu
 }
 
 #[test]
-fn torn_and_failing_records(rt: HostRuntime) -> Result<(), Fail> {
+fn torn_and_failing_records(rt: HostRuntime) {
     let alloc = rt.alloc();
     // Empty fragments go before the reply, which ends in the middle of the second row.
     for (empty, said) in [
@@ -357,29 +339,22 @@ fn torn_and_failing_records(rt: HostRuntime) -> Result<(), Fail> {
         (1024, Ok(())),
         (1025, Err(ClientFault::TooLong { at: 0 })),
     ] {
-        let input = hollow(alloc, empty)?;
+        let input = hollow(&rt, alloc, empty);
         let came = with_builder(&rt, alloc, wire(alloc, input, 4096), fetch);
-        assert_eq!(rt; came.said, said, "{empty}");
+        assert_same(&rt, &(empty, came.0), &(empty, said), "empty fragments");
     }
     for len in [1, 30, 90, 107] {
-        let input = torn(alloc, len)?;
-        assert_eq!(rt; input.len(), len);
+        let input = torn(&rt, alloc, len);
+        let input_len = input.len();
         let came = with_builder(&rt, alloc, wire(alloc, input, 4096), fetch_and_ping);
         let wanted = (Err(ClientFault::Torn { at: 0 }), Err(ClientFault::Spent));
-        assert_eq!(rt; came, wanted, "{len}");
+        assert_same(&rt, &(input_len, came), &(len, wanted), "bytes of it");
     }
-    Ok(())
 }
 
 // Whether a builder has added all rows that it was given first, what came of ALL and of ORDER, and how many rows ALL
 // has read then.
-#[derive(Debug, PartialEq, Eq, Drop)]
-struct Refused {
-    are_added: bool,
-    fetched: Fetched,
-    next: Result<u32, ClientFault>,
-    rows: u32,
-}
+type Refused = (bool, Fetched, Result<u32, ClientFault>, u32);
 
 // 255 rows with this value go before.
 fn fetch_behind(client: &mut MemClient, into: &mut VersionBuilder, value: &[u8]) -> Refused {
@@ -388,46 +363,31 @@ fn fetch_behind(client: &mut MemClient, into: &mut VersionBuilder, value: &[u8])
         are_added &= into.push(&[key, 0], value) == Ok(true);
     }
     let fetched = fetch(client, into);
-    Refused {
-        are_added,
-        fetched,
-        next: client.order(b"d", b"m"),
-        rows: client.rows(),
-    }
+    let next = client.order(b"d", b"m");
+    (are_added, fetched, next, client.rows())
 }
 
 // A reply whose third row is long, and then NEXT_REPLY.
-fn short_rows_and_a_long(alloc: Global) -> Result<Vec<u8>, Fail> {
-    let mut record = bytes(alloc, &[HEAD, ROW, ROW])?;
-    put_long_row(alloc, &mut record, 1)?;
-    record.extend_from_slice(&bytes(alloc, &[ROW])?)?;
-    let mut stream = cut(alloc, &record, 8192)?;
-    stream.extend_from_slice(&bytes(alloc, &[NEXT_REPLY])?)?;
-    Ok(stream)
+fn short_rows_and_a_long<R: Abort>(rt: &R, alloc: Global) -> Vec<u8> {
+    let mut record = bytes(rt, alloc, &[HEAD, ROW, ROW]);
+    put_long_row(rt, alloc, &mut record, 1);
+    add(rt, &mut record, &bytes(rt, alloc, &[ROW]));
+    let mut stream = cut(rt, alloc, &record, 8192);
+    add(rt, &mut stream, &bytes(rt, alloc, &[NEXT_REPLY]));
+    stream
 }
 
 #[test]
-fn row_that_is_refused(rt: HostRuntime) -> Result<(), Fail> {
+fn row_that_is_refused(rt: HostRuntime) {
     let alloc = rt.alloc();
     // 255 rows of 65,548 bytes leave room for 62,456 more, of 16,777,216.
-    let value = vec![in alloc; 0; LONGEST]?;
-    let wire = wire(alloc, short_rows_and_a_long(alloc)?, 4096);
+    let value = longest(&rt, alloc, 0);
+    let wire = wire(alloc, short_rows_and_a_long(&rt, alloc), 4096);
     let came = with_builder(&rt, alloc, wire, |client, into| {
         fetch_behind(client, into, &value)
     });
-    let fetched = Fetched {
-        said: Err(ClientFault::Rows(VersionFault::TooBig)),
-        rows: 3,
-        len: 256,
-    };
-    let wanted = Refused {
-        are_added: true,
-        fetched,
-        next: Ok(7),
-        rows: 3,
-    };
-    assert_eq!(rt; came, wanted);
-    Ok(())
+    let fetched = (Err(ClientFault::Rows(VersionFault::TooBig)), 3, 256);
+    assert_same(&rt, &came, &(true, fetched, Ok(7), 3), "a row too many");
 }
 
 // What came of ALL into a new builder.
@@ -437,22 +397,17 @@ fn fetch_anew<R: RandomSource + Abort>(rt: &R, alloc: Global, client: &mut MemCl
 }
 
 #[test]
-fn one_map_after_another(rt: HostRuntime) -> Result<(), Fail> {
+fn one_map_after_another(rt: HostRuntime) {
     let alloc = rt.alloc();
     let replies = "80000034 00000008 00000001 00000000 00000000 00000000 00000000 \
         00000001 00000001 00000001 76000000 00000001 6b000000 00000000 \
         8000001c 00000009 00000001 00000000 00000000 00000000 00000000 00000000";
     let wanted = [
-        (Ok(()), 1),
-        (Ok(()), 0),
-        (Err(ClientFault::Torn { at: 88 }), 0),
-    ]
-    .map(|(said, rows)| Fetched {
-        said,
-        rows,
-        len: rows as usize,
-    });
-    let wire = wire(alloc, bytes(alloc, &[replies])?, 5);
+        (Ok(()), 1, 1),
+        (Ok(()), 0, 0),
+        (Err(ClientFault::Torn { at: 88 }), 0, 0),
+    ];
+    let wire = wire(alloc, bytes(&rt, alloc, &[replies]), 5);
     let came = with_client(&rt, alloc, wire, 8, |client| {
         [
             fetch_anew(&rt, alloc, client),
@@ -460,6 +415,5 @@ fn one_map_after_another(rt: HostRuntime) -> Result<(), Fail> {
             fetch_anew(&rt, alloc, client),
         ]
     });
-    assert_eq!(rt; came.said, wanted);
-    Ok(())
+    assert_same(&rt, &came.0, &wanted, "three maps");
 }

@@ -1,10 +1,10 @@
 //! Calls and replies written out by hand, from RFC 5531 and yp.x.
 
-use crate::lent::{Came, MemClient, with_client};
-use std::alloc::{AllocError, Global};
-use std::test::Fail;
-use yp_client::ClientFault;
-use yp_for_tests::bytes;
+use crate::given::{assert_same, bytes};
+use crate::lent::{MemClient, with_client};
+use std::alloc::Global;
+use std::process::Abort;
+use yp_client::{ClientFault, Row};
 use yp_io::{MemSink, MemSource, MemWire, Pair};
 use yp_msgs::{Names, ReqXfr, XfrStat, YpStat};
 use yp_rpc::ReplyHead;
@@ -23,27 +23,24 @@ fn fair_wire(alloc: Global, input: Vec<u8>) -> MemWire {
 }
 
 #[test]
-fn first_match(rt: HostRuntime) -> Result<(), Fail> {
+fn first_match(rt: HostRuntime) {
     let alloc = rt.alloc();
     let reply = "80000030 00000001 00000001 00000000 00000000 00000000 00000000 00000001 \
         0000000e 31302e30 2e302e31 20616c70 68610000";
     let call = "8000004c 00000001 00000000 00000002 000186a4 00000002 00000003 00000000 00000000 \
         00000000 00000000 00000003 6c616200 0000000c 686f7374 732e6279 6e616d65 \
         00000005 616c7068 61000000";
-    let wanted = Came {
-        said: Ok(b"10.0.0.1 alpha".to_vec(alloc)?),
-        sent: bytes(alloc, &[call])?,
-    };
-    let wire = fair_wire(alloc, bytes(alloc, &[reply])?);
+    let value = b"10.0.0.1 alpha".to_vec(alloc).expect(&rt, "a value");
+    let wanted = (Ok(value), bytes(&rt, alloc, &[call]));
+    let wire = fair_wire(alloc, bytes(&rt, alloc, &[reply]));
     let came = with_client(&rt, alloc, wire, 1, |client| {
         client.match_key(b"lab", b"hosts.byname", b"alpha")
     });
-    assert_eq!(rt; came, wanted);
-    Ok(())
+    assert_same(&rt, &came, &wanted, "MATCH");
 }
 
 #[test]
-fn order_and_master(rt: HostRuntime) -> Result<(), Fail> {
+fn order_and_master(rt: HostRuntime) {
     let alloc = rt.alloc();
     // The numbers wrap.
     let replies =
@@ -53,68 +50,69 @@ fn order_and_master(rt: HostRuntime) -> Result<(), Fail> {
         00000000 00000000 00000003 6c616200 0000000c 686f7374 732e6279 6e616d65 \
         80000040 00000000 00000000 00000002 000186a4 00000002 00000009 00000000 00000000 \
         00000000 00000000 00000003 6c616200 0000000c 686f7374 732e6279 6e616d65";
-    let wanted = Came {
-        said: (Ok(100), Ok(b"m1".to_vec(alloc)?)),
-        sent: bytes(alloc, &[calls])?,
-    };
-    let wire = fair_wire(alloc, bytes(alloc, &[replies])?);
+    let master = b"m1".to_vec(alloc).expect(&rt, "a name");
+    let wanted = ((Ok(100), Ok(master)), bytes(&rt, alloc, &[calls]));
+    let wire = fair_wire(alloc, bytes(&rt, alloc, &[replies]));
     let came = with_client(&rt, alloc, wire, u32::MAX, |client| {
         let order = client.order(b"lab", b"hosts.byname");
         (order, client.master(b"lab", b"hosts.byname"))
     });
-    assert_eq!(rt; came, wanted);
-    Ok(())
+    assert_same(&rt, &came, &wanted, "ORDER and MASTER");
 }
 
 // A row as its key and its value.
 type KeyAndValue = (Vec<u8>, Vec<u8>);
 
-// The answers to FIRST, NEXT and MAPLIST.
-#[derive(Debug, PartialEq, Eq, Drop)]
-struct Listed {
-    first: Result<KeyAndValue, ClientFault>,
-    next: Result<KeyAndValue, ClientFault>,
-    maps: Result<Option<Vec<u8>>, ClientFault>,
-}
+// The answers to FIRST, NEXT and MAPLIST: rows, and names with a line feed behind each.
+type Listed = (
+    [Result<KeyAndValue, ClientFault>; 2],
+    Result<Vec<u8>, ClientFault>,
+);
 
-// The names, each with a line feed behind it.
-fn lines(alloc: Global, names: &Names) -> Result<Vec<u8>, AllocError> {
+fn lines<R: Abort>(rt: &R, alloc: Global, names: &Names) -> Vec<u8> {
     let mut lines = Vec::new(alloc);
     for i in 0..names.len() {
-        lines.extend_from_slice(names.get(i).unwrap_or(b"?"))?;
-        lines.push(b'\n')?;
+        let name = names.get(i).unwrap_or(b"?");
+        lines.extend_from_slice(name).expect(rt, "room");
+        lines.push(b'\n').expect(rt, "room");
     }
-    Ok(lines)
+    lines
 }
 
-fn list(alloc: Global, client: &mut MemClient) -> Listed {
+fn key_and_value(found: Result<Row, ClientFault>) -> Result<KeyAndValue, ClientFault> {
+    match found {
+        Ok(row) => Ok((row.key, row.value)),
+        Err(fault) => Err(fault),
+    }
+}
+
+fn list<R: Abort>(rt: &R, alloc: Global, client: &mut MemClient) -> Listed {
     let first = client.first(b"d", b"m");
     let next = client.next(b"d", b"m", b"k");
     let maps = client.maplist(b"d");
-    Listed {
-        first: first.map(|row| (row.key, row.value)),
-        next: next.map(|row| (row.key, row.value)),
-        maps: maps.map(|list| lines(alloc, &list.maps).ok()),
-    }
+    let names = match maps {
+        Ok(list) => Ok(lines(rt, alloc, &list.maps)),
+        Err(fault) => Err(fault),
+    };
+    ([key_and_value(first), key_and_value(next)], names)
 }
 
 #[test]
-fn rows_and_maps(rt: HostRuntime) -> Result<(), Fail> {
+fn rows_and_maps(rt: HostRuntime) {
     let alloc = rt.alloc();
     let replies = "8000002c 00000001 00000001 00000000 00000000 00000000 00000000 \
         00000001 00000001 76000000 00000001 6b000000 \
         80000024 00000002 00000001 00000000 00000000 00000000 00000000 00000001 00000000 00000000 00000000 \
         80000038 00000003 00000001 00000000 00000000 00000000 00000000 00000001 \
         00000001 00000001 61000000 00000001 00000001 62000000 00000000";
-    let wanted = Listed {
-        first: Ok((b"k".to_vec(alloc)?, b"v".to_vec(alloc)?)),
-        next: Ok((Vec::new(alloc), Vec::new(alloc))),
-        maps: Ok(Some(b"a\nb\n".to_vec(alloc)?)),
-    };
-    let wire = fair_wire(alloc, bytes(alloc, &[replies])?);
-    let came = with_client(&rt, alloc, wire, 1, |client| list(alloc, client));
-    assert_eq!(rt; came.said, wanted);
-    Ok(())
+    let key = b"k".to_vec(alloc).expect(&rt, "a key");
+    let value = b"v".to_vec(alloc).expect(&rt, "a value");
+    let maps = b"a\nb\n".to_vec(alloc).expect(&rt, "names");
+    let rows = [Ok((key, value)), Ok((Vec::new(alloc), Vec::new(alloc)))];
+    let wanted = (rows, Ok(maps));
+    let wire = fair_wire(alloc, bytes(&rt, alloc, &[replies]));
+    let came = with_client(&rt, alloc, wire, 1, |client| list(&rt, alloc, client));
+    assert_same(&rt, &came.0, &wanted, "FIRST, NEXT and MAPLIST");
 }
 
 // The reply to call 9: the order number 7.
@@ -192,23 +190,22 @@ fn orders(client: &mut MemClient) -> [Result<u32, ClientFault>; 2] {
 }
 
 #[test]
-fn client_refusals(rt: HostRuntime) -> Result<(), Fail> {
+fn client_refusals(rt: HostRuntime) {
     let alloc = rt.alloc();
-    for (reply, fault, goes_on) in REFUSALS {
-        let next = if goes_on {
+    for (reply, fault, goes_on) in &REFUSALS {
+        let next = if *goes_on {
             Ok(7)
         } else {
             Err(ClientFault::Spent)
         };
-        let wire = fair_wire(alloc, bytes(alloc, &[reply, NEXT_REPLY])?);
+        let wire = fair_wire(alloc, bytes(&rt, alloc, &[*reply, NEXT_REPLY]));
         let came = with_client(&rt, alloc, wire, 8, orders);
-        assert_eq!(rt; came.said, [Err(fault), next], "{reply}");
+        assert_same(&rt, &came.0, &[Err(*fault), next], *reply);
     }
-    Ok(())
 }
 
 #[test]
-fn one_failing_call(rt: HostRuntime) -> Result<(), Fail> {
+fn one_failing_call(rt: HostRuntime) {
     let alloc = rt.alloc();
     // The input, the reads and the writes that fail, the answer, and how many bytes were taken. A call has 60 bytes.
     for (input, reads, writes, fault, taken) in [
@@ -219,30 +216,24 @@ fn one_failing_call(rt: HostRuntime) -> Result<(), Fail> {
         (NEXT_REPLY, 99, 0, ClientFault::WriteFault, 0),
         (NEXT_REPLY, 99, 2, ClientFault::WriteFault, 14),
     ] {
-        let bytes = bytes(alloc, &[input])?;
-        let reads = vec![in alloc; reads]?;
-        let writes = vec![in alloc; writes]?;
-        let wire = wire(alloc, bytes, reads, writes);
-        let came = with_client(&rt, alloc, wire, 8, orders);
-        assert_eq!(rt;
-            (came.said, came.sent.len()),
-            ([Err(fault), Err(ClientFault::Spent)], taken),
-            "{input} {fault:?}"
-        );
+        let bytes = bytes(&rt, alloc, &[input]);
+        let failing_reads = vec![in alloc; reads].expect(&rt, "a list");
+        let failing_writes = vec![in alloc; writes].expect(&rt, "a list");
+        let wire = wire(alloc, bytes, failing_reads, failing_writes);
+        let (said, sent) = with_client(&rt, alloc, wire, 8, orders);
+        let came = (reads, writes, said, sent.len());
+        let faults = [Err(fault), Err(ClientFault::Spent)];
+        assert_same(&rt, &came, &(reads, writes, faults, taken), input);
     }
-    Ok(())
 }
 
-// The answers to NULL, CLEAR, DOMAIN twice, XFR, and DOMAIN again.
-#[derive(Debug, PartialEq, Eq, Drop)]
-struct Others {
-    ping: Result<(), ClientFault>,
-    clear: Result<(), ClientFault>,
-    lab: Result<bool, ClientFault>,
-    zzz: Result<bool, ClientFault>,
-    xfr: Result<XfrStat, ClientFault>,
-    lab_again: Result<bool, ClientFault>,
-}
+// The answers to NULL and CLEAR, to DOMAIN twice, to XFR, and to DOMAIN again.
+type Others = (
+    [Result<(), ClientFault>; 2],
+    [Result<bool, ClientFault>; 2],
+    Result<XfrStat, ClientFault>,
+    Result<bool, ClientFault>,
+);
 
 fn make_others(client: &mut MemClient) -> Others {
     let request = ReqXfr {
@@ -254,18 +245,16 @@ fn make_others(client: &mut MemClient) -> Others {
         prog: 0,
         port: 0,
     };
-    Others {
-        ping: client.ping(),
-        clear: client.clear(),
-        lab: client.domain(b"lab"),
-        zzz: client.domain(b"zzz"),
-        xfr: client.xfr(&request),
-        lab_again: client.domain(b"lab"),
-    }
+    (
+        [client.ping(), client.clear()],
+        [client.domain(b"lab"), client.domain(b"zzz")],
+        client.xfr(&request),
+        client.domain(b"lab"),
+    )
 }
 
 #[test]
-fn other_procedures(rt: HostRuntime) -> Result<(), Fail> {
+fn other_procedures(rt: HostRuntime) {
     let alloc = rt.alloc();
     // NULL, CLEAR, DOMAIN twice, XFR, and a boolean that is neither.
     let replies = "80000018 00000001 00000001 00000000 00000000 00000000 00000000 \
@@ -274,32 +263,25 @@ fn other_procedures(rt: HostRuntime) -> Result<(), Fail> {
         8000001c 00000004 00000001 00000000 00000000 00000000 00000000 00000000 \
         80000020 00000005 00000001 00000000 00000000 00000000 00000000 00000009 fffffff2 \
         8000001c 00000006 00000001 00000000 00000000 00000000 00000000 00000002";
-    let wanted = Others {
-        ping: Ok(()),
-        clear: Ok(()),
-        lab: Ok(true),
-        zzz: Ok(false),
-        xfr: Ok(XfrStat::Refused),
-        lab_again: Err(ClientFault::BadReply { at: 24 }),
-    };
-    let wire = fair_wire(alloc, bytes(alloc, &[replies])?);
+    let wanted = (
+        [Ok(()), Ok(())],
+        [Ok(true), Ok(false)],
+        Ok(XfrStat::Refused),
+        Err(ClientFault::BadReply { at: 24 }),
+    );
+    let wire = fair_wire(alloc, bytes(&rt, alloc, &[replies]));
     let came = with_client(&rt, alloc, wire, 1, make_others);
-    assert_eq!(rt; came.said, wanted);
-    Ok(())
+    assert_same(&rt, &came.0, &wanted, "others");
 }
 
 #[test]
-fn make_program(rt: HostRuntime) -> Result<(), Fail> {
+fn make_program(rt: HostRuntime) {
     let alloc = rt.alloc();
     let reply = "8000001c 00000002 00000001 00000000 00000000 00000000 00000000 00000001";
     let call = "80000034 00000002 00000000 00000002 20004e49 00000001 00000001 00000000 00000000 \
         00000000 00000000 00000003 6c616200 00000005";
-    let wanted = Came {
-        said: Ok(XfrStat::Succ),
-        sent: bytes(alloc, &[call])?,
-    };
-    let wire = fair_wire(alloc, bytes(alloc, &[reply])?);
+    let wanted = (Ok(XfrStat::Succ), bytes(&rt, alloc, &[call]));
+    let wire = fair_wire(alloc, bytes(&rt, alloc, &[reply]));
     let came = with_client(&rt, alloc, wire, 2, |client| client.make(b"lab", 5));
-    assert_eq!(rt; came, wanted);
-    Ok(())
+    assert_same(&rt, &came, &wanted, "MAKE");
 }

@@ -10,13 +10,6 @@ use yp_version::{Version, VersionBuilder};
 /// A client over a wire in memory.
 pub type MemClient = Client<MemSource, MemSink>;
 
-/// What came of calls: what they said, and the bytes that were sent.
-#[derive(Debug, PartialEq, Eq, Drop)]
-pub struct Came<T> {
-    pub said: T,
-    pub sent: Vec<u8>,
-}
-
 fn client<R: Abort>(rt: &R, alloc: Global, wire: MemWire, xid: u32) -> MemClient {
     Client::new(alloc, wire, xid).ok().expect(rt, "a client")
 }
@@ -32,22 +25,19 @@ fn sent<R: Abort>(rt: &R, alloc: Global, client: MemClient) -> Vec<u8> {
     wire.sink.taken().to_vec(alloc).expect(rt, "a copy")
 }
 
-/// Lends a client over this wire, whose first call has a number.
+/// Lends a client over this wire, whose first call has a number. Gives what the calls said, and what was sent.
 pub fn with_client<R: Abort, T: Drop, F: FnOnce(&mut MemClient) -> T>(
     rt: &R,
     alloc: Global,
     wire: MemWire,
     xid: u32,
     calls: F,
-) -> Came<T>
+) -> (T, Vec<u8>)
     requires { F.IsAlwaysCallable calls }
 {
     let mut client = client(rt, alloc, wire, xid);
     let said = calls(&mut client);
-    Came {
-        said,
-        sent: sent(rt, alloc, client),
-    }
+    (said, sent(rt, alloc, client))
 }
 
 /// Lends a client over this wire, whose first call is 8, and a builder.
@@ -71,23 +61,21 @@ fn look_at<R: Abort, V: Drop, L: FnOnce(&Version) -> V>(rt: &R, into: VersionBui
     look(&version)
 }
 
-/// The same, and then lends the version that the builder has become.
+/// The same, and then lends the version that the builder has become. Gives what the calls said, what was sent, and what
+/// was seen of the version.
 pub fn with_version<
     R: RandomSource + Abort,
     T: Drop,
     V: Drop,
     F: FnOnce(&mut MemClient, &mut VersionBuilder) -> T,
     L: FnOnce(&Version) -> V,
->(rt: &R, alloc: Global, wire: MemWire, calls: F, look: L) -> (Came<T>, V)
+>(rt: &R, alloc: Global, wire: MemWire, calls: F, look: L) -> (T, Vec<u8>, V)
     requires calls { F.IsAlwaysCallable calls }
     requires look { L.IsAlwaysCallable look }
 {
     let mut client = client(rt, alloc, wire, 8);
     let mut into = builder(rt, alloc);
     let said = calls(&mut client, &mut into);
-    let came = Came {
-        said,
-        sent: sent(rt, alloc, client),
-    };
-    (came, look_at(rt, into, look))
+    let sent = sent(rt, alloc, client);
+    (said, sent, look_at(rt, into, look))
 }

@@ -6,4 +6,6 @@ mod all;
 #[cfg(test)]
 mod calls;
 #[cfg(test)]
+mod given;
+#[cfg(test)]
 mod lent;

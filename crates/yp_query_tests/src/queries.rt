@@ -1,13 +1,13 @@
 //! Queries over wires in memory: calls and replies written out by hand, from RFC 5531 and yp.x.
 
 ghost use Rattle.std.specs.Prelude.{◌<◌};
+ghost use Rattle.yp_query.specs.Asked.{QueryIsWithin};
 
+use crate::given::{assert_same, bytes};
 use std::alloc::Global;
 use std::process::Abort;
 use std::random::RandomSource;
-use std::test::Fail;
 use yp_client::ClientFault;
-use yp_for_tests::bytes;
 use yp_io::{MemDial, MemSink, MemSource, Pair, Peer};
 use yp_msgs::YpStat;
 use yp_query::{Query, QueryFault, query};
@@ -37,12 +37,12 @@ const FAIR: Weather<'static> = Weather {
 };
 
 /// What came of a query: its result, how many wires were given back, what was sent over them, and what was printed.
-#[derive(Debug, PartialEq, Eq, Drop)]
-struct Asked {
-    result: Result<(), QueryFault>,
-    wires: usize,
-    sent: Vec<u8>,
-    printed: Vec<u8>,
+type Asked = (Result<(), QueryFault>, usize, Vec<u8>, Vec<u8>);
+
+fn assert_within<R: Abort>(rt: &R, question: &Query<'_>)
+    ensures { QueryIsWithin question.now }
+{
+    assert!(rt; question.is_within());
 }
 
 // The numbers of calls that fail.
@@ -58,19 +58,15 @@ fn ask_over<R: RandomSource + Abort>(
     dial: &mut MemDial,
     sink: &mut MemSink,
 ) -> Asked {
-    assert!(rt; question.is_within());
+    assert_within(rt, question);
     let result = query(alloc, rt, dial, SERVER, question, sink);
     let mut sent = Vec::new(alloc);
     for wire in dial.past() {
         sent.extend_from_slice(wire.sink.taken())
             .expect(rt, "a copy");
     }
-    Asked {
-        result,
-        wires: dial.past().len(),
-        sent,
-        printed: sink.taken().to_vec(alloc).expect(rt, "a copy"),
-    }
+    let printed = sink.taken().to_vec(alloc).expect(rt, "a copy");
+    (result, dial.past().len(), sent, printed)
 }
 
 // Asks over one wire with this input, and prints to a sink that takes at most `piece` bytes in a write.
@@ -163,7 +159,7 @@ const MAPS_CALL: &str =
     00000000 00000000 00000003 6c616200";
 
 #[test]
-fn answers_are_printed(rt: HostRuntime) -> Result<(), Fail> {
+fn answers_are_printed(rt: HostRuntime) {
     let alloc = rt.alloc();
     let no_rows = "8000001c 00000001 00000001 00000000 00000000 00000000 00000000 00000000";
     let master =
@@ -177,28 +173,36 @@ fn answers_are_printed(rt: HostRuntime) -> Result<(), Fail> {
         "80000020 00000001 00000001 00000000 00000000 00000000 00000000 00000001 00000000";
     let binary =
         "80000024 00000001 00000001 00000000 00000000 00000000 00000000 00000001 00000003 000aff00";
-    let cases: [(Query<'_>, &str, &str, &[u8]); 9] = [
-        (CAT, ROWS_REPLY, ALL_CALL, b"1\n2\n"),
-        (CATK, ROWS_REPLY, ALL_CALL, b"a 1\nb 2\n"),
-        (CATK, no_rows, ALL_CALL, b""),
-        (ALPHA, ALPHA_REPLY, ALPHA_CALL, b"10.0.0.1 alpha\n"),
-        (ALPHA, binary, ALPHA_CALL, b"\x00\n\xff\n"),
-        (WHICH, master, MASTER_CALL, b"m1\n"),
-        (POLL, standing, POLL_CALLS, b"order 100\nmaster m1\n"),
-        (MAPS, maps, MAPS_CALL, b"b\na\n"),
-        (MAPS, no_maps, MAPS_CALL, b""),
+    let cases: [(&str, Query<'_>, &str, &str, &[u8]); 9] = [
+        ("values", CAT, ROWS_REPLY, ALL_CALL, b"1\n2\n"),
+        ("rows", CATK, ROWS_REPLY, ALL_CALL, b"a 1\nb 2\n"),
+        ("no rows", CATK, no_rows, ALL_CALL, b""),
+        (
+            "a value",
+            ALPHA,
+            ALPHA_REPLY,
+            ALPHA_CALL,
+            b"10.0.0.1 alpha\n",
+        ),
+        ("bytes", ALPHA, binary, ALPHA_CALL, b"\x00\n\xff\n"),
+        ("a master", WHICH, master, MASTER_CALL, b"m1\n"),
+        (
+            "a standing",
+            POLL,
+            standing,
+            POLL_CALLS,
+            b"order 100\nmaster m1\n",
+        ),
+        ("maps", MAPS, maps, MAPS_CALL, b"b\na\n"),
+        ("no maps", MAPS, no_maps, MAPS_CALL, b""),
     ];
-    for (question, input, calls, printed) in cases {
-        let wanted = Asked {
-            result: Ok(()),
-            wires: 1,
-            sent: bytes(alloc, &[calls])?,
-            printed: printed.to_vec(alloc)?,
-        };
-        let asked = ask(&rt, alloc, &question, bytes(alloc, &[input])?, 4, FAIR);
-        assert_eq!(rt; asked, wanted, "{question:?} {input}");
+    for (row, question, input, calls, printed) in &cases {
+        let input = bytes(&rt, alloc, &[*input]);
+        let printed = printed.to_vec(alloc).expect(&rt, "a text");
+        let wanted = (Ok(()), 1, bytes(&rt, alloc, &[*calls]), printed);
+        let asked = ask(&rt, alloc, question, input, 4, FAIR);
+        assert_same(&rt, &asked, &wanted, *row);
     }
-    Ok(())
 }
 
 const NOKEY_REPLY: &str =
@@ -236,32 +240,27 @@ const TORN: QueryFault = QueryFault::Client(ClientFault::Torn { at: 0 });
 const TORN_BEHIND_ORDER: QueryFault = QueryFault::Client(ClientFault::Torn { at: 36 });
 
 #[test]
-fn refusals_print_nothing(rt: HostRuntime) -> Result<(), Fail> {
+fn refusals_print_nothing(rt: HostRuntime) {
     let alloc = rt.alloc();
     // The question, the input, the fault, and how many bytes were sent. A call has 68 bytes, or 80 with the key.
-    for (question, input, fault, sent) in [
-        (CAT, NOMAP_ROWS_REPLY, NO_MAP, 68),
-        (CATK, TORN_REPLY, TORN, 68),
-        (ALPHA, NOKEY_REPLY, QueryFault::NoKey, 80),
-        (ALPHA, NOMAP_REPLY, NO_MAP, 80),
-        (WHICH, NOKEY_REPLY, NO_KEY, 68),
-        (POLL, NOMAP_REPLY, NO_MAP, 68),
-        (POLL, ORDER_REPLY, TORN_BEHIND_ORDER, 136),
-        (POLL, OTHER_REPLY, OTHER_XID, 68),
-        (MAPS, "", TORN, 52),
-        (MAPS, DENIED_REPLY, DENIED, 52),
-        (MAPS, NOKEY_REPLY, NO_KEY, 52),
+    for (row, question, input, fault, sent) in &[
+        ("CAT, no map", CAT, NOMAP_ROWS_REPLY, NO_MAP, 68),
+        ("CATK, torn", CATK, TORN_REPLY, TORN, 68),
+        ("MATCH, no key", ALPHA, NOKEY_REPLY, QueryFault::NoKey, 80),
+        ("MATCH, no map", ALPHA, NOMAP_REPLY, NO_MAP, 80),
+        ("WHICH, no key", WHICH, NOKEY_REPLY, NO_KEY, 68),
+        ("POLL, no map", POLL, NOMAP_REPLY, NO_MAP, 68),
+        ("POLL, torn", POLL, ORDER_REPLY, TORN_BEHIND_ORDER, 136),
+        ("POLL, other reply", POLL, OTHER_REPLY, OTHER_XID, 68),
+        ("MAPS, torn", MAPS, "", TORN, 52),
+        ("MAPS, denied", MAPS, DENIED_REPLY, DENIED, 52),
+        ("MAPS, no key", MAPS, NOKEY_REPLY, NO_KEY, 52),
     ] {
-        let asked = ask(&rt, alloc, &question, bytes(alloc, &[input])?, 4, FAIR);
-        let came = (
-            asked.result,
-            asked.wires,
-            asked.sent.len(),
-            asked.printed.len(),
-        );
-        assert_eq!(rt; came, (Err(fault), 1, sent, 0), "{question:?} {input}");
+        let input = bytes(&rt, alloc, &[*input]);
+        let asked = ask(&rt, alloc, question, input, 4, FAIR);
+        let came = (asked.0, asked.1, asked.2.len(), asked.3.len());
+        assert_same(&rt, &came, &(Err(*fault), 1, *sent, 0), *row);
     }
-    Ok(())
 }
 
 /// That these calls of the dial fail, and so on.
@@ -294,70 +293,78 @@ const fn prints(failing: &[u64]) -> Weather<'_> {
 }
 
 #[test]
-fn one_failing_call(rt: HostRuntime) -> Result<(), Fail> {
+fn one_failing_call(rt: HostRuntime) {
     let alloc = rt.alloc();
     let read_fault = QueryFault::Client(ClientFault::ReadFault);
     let write_fault = QueryFault::Client(ClientFault::WriteFault);
     let output = QueryFault::Output;
     // The text goes out in four writes of at most four bytes, and a flush.
-    let cases: [(Weather<'_>, QueryFault, usize, &[u8]); 9] = [
-        (dials(&[0]), QueryFault::Dial, 0, b""),
-        (reads(&[0]), read_fault, 1, b""),
-        (reads(&[4]), read_fault, 1, b""),
-        (writes(&[0]), write_fault, 1, b""),
-        (writes(&[3]), write_fault, 1, b""),
-        (prints(&[0]), output, 1, b""),
-        (prints(&[1]), output, 1, b"10.0"),
-        (prints(&[3]), output, 1, b"10.0.0.1 alp"),
-        (prints(&[4]), output, 1, b"10.0.0.1 alpha\n"),
+    let cases: [(&str, Weather<'_>, QueryFault, usize, &[u8]); 9] = [
+        ("the dial", dials(&[0]), QueryFault::Dial, 0, b""),
+        ("the first read", reads(&[0]), read_fault, 1, b""),
+        ("the fifth read", reads(&[4]), read_fault, 1, b""),
+        ("the first write", writes(&[0]), write_fault, 1, b""),
+        ("the fourth write", writes(&[3]), write_fault, 1, b""),
+        ("the first print", prints(&[0]), output, 1, b""),
+        ("the second print", prints(&[1]), output, 1, b"10.0"),
+        ("the fourth print", prints(&[3]), output, 1, b"10.0.0.1 alp"),
+        ("the flush", prints(&[4]), output, 1, b"10.0.0.1 alpha\n"),
     ];
-    for (weather, fault, wires, printed) in cases {
-        let input = bytes(alloc, &[ALPHA_REPLY])?;
-        let asked = ask(&rt, alloc, &ALPHA, input, 4, weather);
-        let came = (asked.result, asked.wires, asked.printed.as_slice());
-        assert_eq!(rt; came, (Err(fault), wires, printed), "{weather:?}");
+    for (row, weather, fault, wires, printed) in &cases {
+        let input = bytes(&rt, alloc, &[ALPHA_REPLY]);
+        let printed = printed.to_vec(alloc).expect(&rt, "a text");
+        let asked = ask(&rt, alloc, &ALPHA, input, 4, *weather);
+        let came = (asked.0, asked.1, asked.3);
+        assert_same(&rt, &came, &(Err(*fault), *wires, printed), *row);
     }
-    Ok(())
+}
+
+fn add<R: Abort>(rt: &R, input: &mut Vec<u8>, bytes: &[u8]) {
+    input.extend_from_slice(bytes).expect(rt, "room");
 }
 
 #[test]
-fn long_text_in_full_buffers(rt: HostRuntime) -> Result<(), Fail> {
+fn long_text_in_full_buffers(rt: HostRuntime) {
     let alloc = rt.alloc();
     // A value as long as the buffer, behind which the line feed has no room.
     let head = "80010020 00000001 00000001 00000000 00000000 00000000 00000000 00000001 00010000";
-    let mut input = bytes(alloc, &[head])?;
-    input.extend_from_slice(&vec![in alloc; b'v'; 65_536]?)?;
-    let cases: [(&[u64], Result<(), QueryFault>, usize); 4] = [
-        (&[], Ok(()), 65_537),
-        (&[0], Err(QueryFault::Output), 0),
-        (&[1], Err(QueryFault::Output), 65_536),
-        (&[2], Err(QueryFault::Output), 65_537),
+    let value = vec![in alloc; b'v'; 65_536].expect(&rt, "a value");
+    let mut reply = bytes(&rt, alloc, &[head]);
+    add(&rt, &mut reply, &value);
+    let cases: [(&str, &[u64], Result<(), QueryFault>, usize); 4] = [
+        ("none", &[], Ok(()), 65_537),
+        ("the first print", &[0], Err(QueryFault::Output), 0),
+        ("the second print", &[1], Err(QueryFault::Output), 65_536),
+        ("the flush", &[2], Err(QueryFault::Output), 65_537),
     ];
-    for (failing, result, printed) in cases {
-        let input = input.to_vec(alloc)?;
-        let asked = ask(&rt, alloc, &ALPHA, input, 100_000, prints(failing));
-        let came = (asked.result, asked.printed.len());
-        assert_eq!(rt; came, (result, printed), "{failing:?}");
+    for (row, failing, result, printed) in &cases {
+        let input = reply.to_vec(alloc).expect(&rt, "a reply");
+        let asked = ask(&rt, alloc, &ALPHA, input, 100_000, prints(*failing));
+        let came = (asked.0, asked.3.len());
+        assert_same(&rt, &came, &(*result, *printed), *row);
     }
-    Ok(())
 }
 
 #[test]
-fn first_row_that_no_version_takes(rt: HostRuntime) -> Result<(), Fail> {
+fn first_row_that_no_version_takes(rt: HostRuntime) {
     let alloc = rt.alloc();
     // One row more than a version may have, of 20 bytes each.
     let head = "80500030 00000001 00000001 00000000 00000000 00000000 00000000";
-    let mut input = bytes(alloc, &[head])?;
+    let mut input = bytes(&rt, alloc, &[head]);
     for i in 0..262_145u32 {
-        input.extend_from_slice(&[0, 0, 0, 1, 0, 0, 0, 1, 0, 0, 0, 0, 0, 0, 0, 4])?;
-        input.extend_from_slice(&i.to_be_bytes())?;
+        add(
+            &rt,
+            &mut input,
+            &[0, 0, 0, 1, 0, 0, 0, 1, 0, 0, 0, 0, 0, 0, 0, 4],
+        );
+        add(&rt, &mut input, &i.to_be_bytes());
     }
-    input.extend_from_slice(&[0; 4])?;
+    add(&rt, &mut input, &[0; 4]);
     let asked = ask(&rt, alloc, &CAT, input, 100_000, FAIR);
     let fault = QueryFault::Row {
         row: 262_145,
         fault: VersionFault::TooManyRows,
     };
-    assert_eq!(rt; (asked.result, asked.printed.len()), (Err(fault), 0));
-    Ok(())
+    let came = (asked.0, asked.3.len());
+    assert_same(&rt, &came, &(Err(fault), 0), "a row too many");
 }

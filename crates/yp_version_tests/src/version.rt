@@ -1,9 +1,9 @@
 //! Versions and their builders: look-ups, marks, limits and faults.
 
+use crate::given::assert_same;
 use std::alloc::Global;
 use std::process::Abort;
 use std::random::RandomSource;
-use std::test::Fail;
 use yp_version::*;
 
 type Row<'a> = (&'a [u8], &'a [u8]);
@@ -13,16 +13,12 @@ fn builder<R: RandomSource + Abort>(rt: &R, alloc: Global) -> VersionBuilder {
     VersionBuilder::new(alloc, rt, 7, b"m1").expect(rt, "a builder")
 }
 
-fn put_rows(rt: &impl Abort, builder: &mut VersionBuilder, rows: &[Row]) {
-    for (key, value) in rows {
-        assert_eq!(rt; builder.push(*key, *value), Ok(true));
-    }
-}
-
 // A version of order 7 of the master `m1`, with these rows.
 fn version<R: RandomSource + Abort>(rt: &R, alloc: Global, rows: &[Row]) -> Version {
     let mut builder = builder(rt, alloc);
-    put_rows(rt, &mut builder, rows);
+    for (key, value) in rows {
+        assert_same(rt, &builder.push(*key, *value), &Ok(true), "a new row");
+    }
     builder.finish().expect(rt, "a version")
 }
 
@@ -46,29 +42,40 @@ const IN_ORDER: [(usize, Row, Next); 6] = [
     (5, (b"\xff\x00", b"6"), Next::Last),
 ];
 
-const ABSENT: [&[u8]; 6] = [b"", b"aa", b"abc", b"b\x00\x00", b"\xff", b"\xff\x01"];
+// Keys of no row, and what a test calls them.
+const ABSENT: [(&[u8], &str); 6] = [
+    (b"", "no byte"),
+    (b"aa", "aa"),
+    (b"abc", "abc"),
+    (b"b\x00\x00", "b 00 00"),
+    (b"\xff", "ff"),
+    (b"\xff\x01", "ff 01"),
+];
 
-fn assert_rows(rt: &impl Abort, version: &Version) {
+fn assert_rows<R: Abort>(rt: &R, version: &Version) {
     for (i, (key, value), next) in &IN_ORDER {
-        let came = (version.row(*i), version.get(*key), version.next(*key));
-        assert_eq!(rt;
-            came,
-            (Some((*key, *value)), Some(*value), *next),
-            "row {i}"
-        );
+        let came = (*i, version.row(*i), version.get(*key), version.next(*key));
+        let wanted = (*i, Some((*key, *value)), Some(*value), *next);
+        assert_same(rt, &came, &wanted, "a row");
     }
 }
 
-fn assert_absent(rt: &impl Abort, version: &Version) {
-    for key in &ABSENT {
-        let came = (version.get(*key), version.next(*key));
-        assert_eq!(rt; came, (None, Next::Absent), "key {key:?}");
+// Whether a key has neither a value nor a row behind it.
+fn is_absent(version: &Version, key: &[u8]) -> [bool; 2] {
+    let has_no_next = matches!(version.next(key), Next::Absent);
+    [version.get(key).is_none(), has_no_next]
+}
+
+fn assert_absent<R: Abort>(rt: &R, version: &Version) {
+    for (key, name) in &ABSENT {
+        assert_same(rt, &is_absent(version, *key), &[true; 2], *name);
     }
 }
 
-fn assert_ends(rt: &impl Abort, version: &Version) {
+fn assert_ends<R: Abort>(rt: &R, version: &Version) {
     let came = (version.len(), version.first(), version.row(6));
-    assert_eq!(rt; came, (6, Some((b"a".as_slice(), b"1".as_slice())), None));
+    let first = (b"a".as_slice(), b"1".as_slice());
+    assert_same(rt, &came, &(6, Some(first), None), "ends");
 }
 
 #[test]
@@ -79,25 +86,22 @@ fn looks_up_rows(rt: HostRuntime) {
     assert_absent(&rt, &version);
 }
 
-// What an empty version answers.
-fn assert_empty(rt: &impl Abort, version: &Version) {
-    assert_eq!(rt; (version.first(), version.row(0)), (None, None));
-    assert_eq!(rt; (version.get(b""), version.next(b"")), (None, Next::Absent));
-    // Format, order, the count and the master's length take 16 bytes, and `m1` 4.
-    assert_eq!(rt; (version.is_empty(), version.body_len()), (true, 20));
-}
-
 #[test]
 fn empty_version(rt: HostRuntime) {
     let version = version(&rt, rt.alloc(), &[]);
-    assert_empty(&rt, &version);
+    let has_none = [version.first().is_none(), version.row(0).is_none()];
+    assert_same(&rt, &has_none, &[true; 2], "rows");
+    assert_same(&rt, &is_absent(&version, b""), &[true; 2], "a key");
+    // Format, order, the count and the master's length take 16 bytes, and `m1` 4.
+    let size = (version.is_empty(), version.body_len());
+    assert_same(&rt, &size, &(true, 20), "size");
 }
 
 // The rows of a version of two rows, in the order in which they are pushed.
 const TWO: [Row; 2] = [(b"alpha", b"1"), (b"", b"four")];
 
 // What a version of order 7 and two rows answers.
-fn assert_marked(rt: &impl Abort, version: &Version, secure: bool) {
+fn assert_marked<R: Abort>(rt: &R, version: &Version, secure: bool, row: &str) {
     let rows = [version.row(0), version.row(1)];
     let facts = (
         version.secure(),
@@ -106,16 +110,17 @@ fn assert_marked(rt: &impl Abort, version: &Version, secure: bool) {
         version.body_len(),
     );
     let wanted = (secure, 7, b"m1".as_slice(), 20 + (8 + 8 + 4) + (8 + 4));
-    assert_eq!(rt; (rows, facts), ([Some(TWO[1]), Some(TWO[0])], wanted));
+    let wanted = ([Some(TWO[1]), Some(TWO[0])], wanted);
+    assert_same(rt, &(rows, facts), &wanted, row);
 }
 
 #[test]
 fn marked_version(rt: HostRuntime) {
     let plain = version(&rt, rt.alloc(), &TWO);
-    assert_marked(&rt, &plain, false);
+    assert_marked(&rt, &plain, false, "plain");
     let secure = plain.marked(true);
-    assert_marked(&rt, &secure, true);
-    assert_marked(&rt, &secure.marked(false), false);
+    assert_marked(&rt, &secure, true, "secure");
+    assert_marked(&rt, &secure.marked(false), false, "plain again");
 }
 
 // What a push answers.
@@ -132,10 +137,6 @@ fn push_long(builder: &mut VersionBuilder, over: &[u8], longest: &[u8]) -> ([Pus
     (answers, builder.len())
 }
 
-fn assert_value(rt: &impl Abort, version: &Version, key: &[u8], value: &[u8]) {
-    assert_eq!(rt; version.get(key), Some(value));
-}
-
 // The same of a new builder, of whose version one value is looked at.
 fn pushed_long<R: RandomSource + Abort>(
     rt: &R,
@@ -146,14 +147,16 @@ fn pushed_long<R: RandomSource + Abort>(
     let mut builder = builder(rt, alloc);
     let came = push_long(&mut builder, over, longest);
     let version = builder.finish().expect(rt, "a version");
-    assert_value(rt, &version, b"alpha", b"one");
+    let value = Some(b"one".as_slice());
+    assert_same(rt, &version.get(b"alpha"), &value, "alpha");
     came
 }
 
 #[test]
-fn builder_limits(rt: HostRuntime) -> Result<(), Fail> {
+fn builder_limits(rt: HostRuntime) {
     let alloc = rt.alloc();
-    let (over, longest) = (vec![in alloc; b'k'; 65_537]?, vec![in alloc; b'k'; 65_536]?);
+    let over = vec![in alloc; b'k'; 65_537].expect(&rt, "a key");
+    let longest = vec![in alloc; b'k'; 65_536].expect(&rt, "a key");
     let wanted = [
         Err(VersionFault::KeyLong { len: 65_537 }),
         Err(VersionFault::ValueLong { len: 65_537 }),
@@ -161,14 +164,15 @@ fn builder_limits(rt: HostRuntime) -> Result<(), Fail> {
         Ok(true),
         Ok(false),
     ];
-    assert_eq!(rt; pushed_long(&rt, alloc, &over, &longest), (wanted, 2));
-    Ok(())
+    let came = pushed_long(&rt, alloc, &over, &longest);
+    assert_same(&rt, &came, &(wanted, 2), "long rows");
 }
 
 // Puts so many rows whose keys are the numbers from 0 on.
-fn put_numbers(rt: &impl Abort, builder: &mut VersionBuilder, count: u32, value: &[u8]) {
+fn put_numbers<R: Abort>(rt: &R, builder: &mut VersionBuilder, count: u32, value: &[u8]) {
     for number in 0..count {
-        assert_eq!(rt; builder.push(&number.to_be_bytes(), value), Ok(true));
+        let pushed = builder.push(&number.to_be_bytes(), value);
+        assert_same(rt, &(number, pushed), &(number, Ok(true)), "a new row");
     }
 }
 
@@ -180,29 +184,22 @@ fn push_at_most_rows(builder: &mut VersionBuilder) -> ([Pushed; 2], usize) {
     (answers, builder.len())
 }
 
-fn assert_next(rt: &impl Abort, version: &Version, key: &[u8], next: Next) {
-    assert_eq!(rt; version.next(key), next);
-}
-
 // What pushes into a builder of so many rows answer, of whose version two rows are looked at.
 fn pushed_at<R: RandomSource + Abort>(rt: &R, alloc: Global, count: u32) -> ([Pushed; 2], usize) {
     let mut builder = builder(rt, alloc);
     put_numbers(rt, &mut builder, count, b"");
     let came = push_at_most_rows(&mut builder);
     let version = builder.finish().expect(rt, "a version");
-    assert_next(
-        rt,
-        &version,
-        &[0, 3, 255, 254],
-        Next::Row(&[0, 3, 255, 255], b""),
-    );
+    let next = Next::Row(&[0, 3, 255, 255], b"");
+    assert_same(rt, &version.next(&[0, 3, 255, 254]), &next, "the last row");
     came
 }
 
 #[test]
 fn too_many_rows(rt: HostRuntime) {
     let wanted = [Err(VersionFault::TooManyRows), Ok(false)];
-    assert_eq!(rt; pushed_at(&rt, rt.alloc(), 262_144), (wanted, 262_144));
+    let came = pushed_at(&rt, rt.alloc(), 262_144);
+    assert_same(&rt, &came, &(wanted, 262_144), "a row too many");
 }
 
 fn push_at_most_bytes(builder: &mut VersionBuilder) -> [Pushed; 4] {
@@ -232,7 +229,8 @@ fn too_big(rt: HostRuntime) {
         Ok(true),
         Err(VersionFault::TooBig),
     ];
-    assert_eq!(rt; pushed_over(&rt, rt.alloc(), 16_194), (wanted, 16_777_216));
+    let came = pushed_over(&rt, rt.alloc(), 16_194);
+    assert_same(&rt, &came, &(wanted, 16_777_216), "a byte too many");
 }
 
 const FAULTS: [(VersionFault, &str); 5] = [
@@ -250,10 +248,9 @@ const FAULTS: [(VersionFault, &str); 5] = [
 ];
 
 #[test]
-fn tells_faults(rt: HostRuntime) -> Result<(), Fail> {
+fn tells_faults(rt: HostRuntime) {
     for (fault, text) in &FAULTS {
-        let told = format!(in rt.alloc(); "{fault}")?;
-        assert_eq!(rt; told.as_str(), *text);
+        let told = format!(in rt.alloc(); "{fault}").expect(&rt, "a text");
+        assert_same(&rt, &told.as_str(), text, *text);
     }
-    Ok(())
 }
