@@ -87,18 +87,21 @@ fn replied(
     replied_by(rt, alloc, path, board, addr, call, &mut buf)
 }
 
-// The replies to a caller at this address, by record and by datagram.
-fn replies_to(
+// Compares what a call from this address is answered as a record, and as a datagram.
+fn assert_replies(
     rt: &impl Abort,
     alloc: Global,
     board: &mut PlainBoard,
     addr: [u8; 4],
+    row: &str,
     call: &[u8],
-) -> [Vec<u8>; 2] {
-    [
+    wanted: [Vec<u8>; 2],
+) {
+    let came = [
         replied(rt, alloc, Path::Stream, board, addr, call),
         replied(rt, alloc, Path::Datagram, board, addr, call),
-    ]
+    ];
+    assert_same(rt, &came, &wanted, row);
 }
 
 // MAKE with these arguments.
@@ -180,8 +183,7 @@ fn refused_makes(rt: HostRuntime) {
             bytes(&rt, alloc, &[MADE, stat]),
             bytes(&rt, alloc, &[MADE, stat]),
         ];
-        let came = replies_to(&rt, alloc, &mut board, addr, &call);
-        assert_same(&rt, &came, &wanted, row);
+        assert_replies(&rt, alloc, &mut board, addr, row, &call, wanted);
     }
 }
 
@@ -224,29 +226,16 @@ const OTHER_CALLS: &[(&str, &str, &str)] = &[
     ),
 ];
 
-// Compares the replies to such a call from this address.
-fn assert_other_call(
-    rt: &impl Abort,
-    alloc: Global,
-    board: &mut PlainBoard,
-    addr: [u8; 4],
-    row: &str,
-    call: &str,
-    reply: &str,
-) {
-    let call = bytes(rt, alloc, &[call]);
-    let wanted = [bytes(rt, alloc, &[reply]), bytes(rt, alloc, &[reply])];
-    let came = replies_to(rt, alloc, board, addr, &call);
-    assert_same(rt, &came, &wanted, row);
-}
-
 #[test]
 fn other_calls_of_the_make_program(rt: HostRuntime) {
     let alloc = rt.alloc();
     let mut board = two_domains(&rt, alloc);
     for &(row, call, reply) in OTHER_CALLS {
-        assert_other_call(&rt, alloc, &mut board, OWN_HOST, row, call, reply);
-        assert_other_call(&rt, alloc, &mut board, OTHER_HOST, row, call, reply);
+        let call = bytes(&rt, alloc, &[call]);
+        for addr in [OWN_HOST, OTHER_HOST] {
+            let wanted = [bytes(&rt, alloc, &[reply]), bytes(&rt, alloc, &[reply])];
+            assert_replies(&rt, alloc, &mut board, addr, row, &call, wanted);
+        }
     }
 }
 

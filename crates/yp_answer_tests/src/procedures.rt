@@ -1,6 +1,5 @@
 //! What each procedure of YP answers.
 
-use crate::given::assert_same;
 use crate::sample::*;
 
 const NULL: &str = "00000000";
@@ -250,8 +249,7 @@ fn answers(rt: HostRuntime) {
     for case in ON_BOTH_PATHS {
         let call = call(&rt, alloc, case.procedure, case.arguments);
         let wanted = [reply(&rt, alloc, case.words), reply(&rt, alloc, case.words)];
-        let came = answers_to(&rt, alloc, &mut board, OPEN_PORT, &call);
-        assert_same(&rt, &came, &wanted, case.row);
+        assert_answers(&rt, alloc, &mut board, OPEN_PORT, case.row, &call, wanted);
     }
 }
 
@@ -314,7 +312,6 @@ fn answers_all(rt: HostRuntime) {
         let call = call(&rt, alloc, case.procedure, case.arguments);
         let refused = reply(&rt, alloc, &[PROC_UNAVAIL]);
         let wanted = [reply(&rt, alloc, case.words), refused];
-        let came = answers_to(&rt, alloc, &mut board, OPEN_PORT, &call);
-        assert_same(&rt, &came, &wanted, case.row);
+        assert_answers(&rt, alloc, &mut board, OPEN_PORT, case.row, &call, wanted);
     }
 }

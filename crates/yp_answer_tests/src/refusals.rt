@@ -1,6 +1,6 @@
 //! Records that are refused before a procedure answers them.
 
-use crate::given::{assert_same, bytes};
+use crate::given::bytes;
 use crate::sample::*;
 
 // Records, and the whole replies to them.
@@ -71,7 +71,6 @@ fn refusal_heads(rt: HostRuntime) {
     for &(row, record, reply) in REFUSED {
         let record = bytes(&rt, alloc, &[record]);
         let wanted = [bytes(&rt, alloc, &[reply]), bytes(&rt, alloc, &[reply])];
-        let came = answers_to(&rt, alloc, &mut board, RESERVED_PORT, &record);
-        assert_same(&rt, &came, &wanted, row);
+        assert_answers(&rt, alloc, &mut board, RESERVED_PORT, row, &record, wanted);
     }
 }
