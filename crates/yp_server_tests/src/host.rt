@@ -92,41 +92,15 @@ struct Making<'a> {
     stored: Stored,
 }
 
-// What a making takes.
-#[derive(Drop)]
-struct Taken {
-    file: Vec<u8>,
-    text: Vec<u8>,
-    make: Vec<u8>,
-    look_up: Vec<u8>,
-}
-
-fn taken_by(rt: &impl Abort, alloc: Global, making: &Making<'_>) -> Taken {
-    Taken {
-        file: bytes(rt, alloc, making.file),
-        text: Vec::from_slice(alloc, making.text).expect(rt, "a text"),
-        make: bytes(rt, alloc, &["80000034 00000002", MAKE, making.kind]),
-        look_up: bytes(rt, alloc, &["8000004c 00000003", MATCH]),
-    }
-}
-
 // What came of a making: of MAKE, of MATCH, and of the file.
 type Came = (Replied, Replied, Stored);
 
 // Makes a map, looks up a key of it, and looks at its file.
-fn came_of(
-    rt: &impl Abort,
-    runtime: HostRuntime,
-    alloc: Global,
-    making: &Making<'_>,
-    taken: Taken,
-) -> Came {
-    let Taken {
-        file,
-        text,
-        make,
-        look_up,
-    } = taken;
+fn came_of(rt: &impl Abort, runtime: HostRuntime, alloc: Global, making: &Making<'_>) -> Came {
+    let file = bytes(rt, alloc, making.file);
+    let text = Vec::from_slice(alloc, making.text).expect(rt, "a text");
+    let make = bytes(rt, alloc, &["80000034 00000002", MAKE, making.kind]);
+    let look_up = bytes(rt, alloc, &["8000004c 00000003", MATCH]);
     let disk = MemDisk::new(alloc, file, None, Vec::new(alloc));
     let desk = desk_of(rt, alloc, text, making.moment, making.failing);
     let catalog = catalog_of(rt, alloc, making.own, &[b"lab"]);
@@ -144,7 +118,7 @@ fn assert_makes(rt: &impl Abort, runtime: HostRuntime, alloc: Global, makings: &
         let made = bytes(rt, alloc, &["8000001c 00000002", MADE, making.stat]);
         let looked_up = bytes(rt, alloc, making.answer);
         let wanted = ((End::Clean, made), (End::Clean, looked_up), making.stored);
-        let came = came_of(rt, runtime, alloc, making, taken_by(rt, alloc, making));
+        let came = came_of(rt, runtime, alloc, making);
         assert_same(rt, &came, &wanted, making.row);
     }
 }
