@@ -95,8 +95,9 @@ fn assert_replies(
     addr: [u8; 4],
     row: &str,
     call: &[u8],
-    wanted: [Vec<u8>; 2],
+    texts: &[&str],
 ) {
+    let wanted = [bytes(rt, alloc, texts), bytes(rt, alloc, texts)];
     let came = [
         replied(rt, alloc, Path::Stream, board, addr, call),
         replied(rt, alloc, Path::Datagram, board, addr, call),
@@ -179,11 +180,7 @@ fn refused_makes(rt: HostRuntime) {
     let mut board = two_domains(&rt, alloc);
     for &(row, addr, arguments, stat) in REFUSED_MAKES {
         let call = make_of(&rt, alloc, arguments);
-        let wanted = [
-            bytes(&rt, alloc, &[MADE, stat]),
-            bytes(&rt, alloc, &[MADE, stat]),
-        ];
-        assert_replies(&rt, alloc, &mut board, addr, row, &call, wanted);
+        assert_replies(&rt, alloc, &mut board, addr, row, &call, &[MADE, stat]);
     }
 }
 
@@ -233,8 +230,7 @@ fn other_calls_of_the_make_program(rt: HostRuntime) {
     for &(row, call, reply) in OTHER_CALLS {
         let call = bytes(&rt, alloc, &[call]);
         for addr in [OWN_HOST, OTHER_HOST] {
-            let wanted = [bytes(&rt, alloc, &[reply]), bytes(&rt, alloc, &[reply])];
-            assert_replies(&rt, alloc, &mut board, addr, row, &call, wanted);
+            assert_replies(&rt, alloc, &mut board, addr, row, &call, &[reply]);
         }
     }
 }

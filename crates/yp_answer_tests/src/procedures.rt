@@ -1,6 +1,10 @@
 //! What each procedure of YP answers.
 
+use crate::given::assert_same;
 use crate::sample::*;
+use std::alloc::Global;
+use std::process::Abort;
+use yp_board::PlainBoard;
 
 const NULL: &str = "00000000";
 
@@ -242,14 +246,26 @@ const ON_BOTH_PATHS: &[Case] = &[
     },
 ];
 
+// Compares what a call is answered as a record, and as a datagram.
+fn assert_case(
+    rt: &impl Abort,
+    alloc: Global,
+    board: &mut PlainBoard,
+    case: &Case,
+    by_datagram: &[&str],
+) {
+    let call = call(rt, alloc, case.procedure, case.arguments);
+    let wanted = [reply(rt, alloc, case.words), reply(rt, alloc, by_datagram)];
+    let came = answers_to(rt, alloc, board, OPEN_PORT, &call);
+    assert_same(rt, &came, &wanted, case.row);
+}
+
 #[test]
 fn answers(rt: HostRuntime) {
     let alloc = rt.alloc();
     let mut board = two_domains(&rt, alloc);
     for case in ON_BOTH_PATHS {
-        let call = call(&rt, alloc, case.procedure, case.arguments);
-        let wanted = [reply(&rt, alloc, case.words), reply(&rt, alloc, case.words)];
-        assert_answers(&rt, alloc, &mut board, OPEN_PORT, case.row, &call, wanted);
+        assert_case(&rt, alloc, &mut board, case, case.words);
     }
 }
 
@@ -309,9 +325,6 @@ fn answers_all(rt: HostRuntime) {
     let alloc = rt.alloc();
     let mut board = two_domains(&rt, alloc);
     for case in ALL_OF {
-        let call = call(&rt, alloc, case.procedure, case.arguments);
-        let refused = reply(&rt, alloc, &[PROC_UNAVAIL]);
-        let wanted = [reply(&rt, alloc, case.words), refused];
-        assert_answers(&rt, alloc, &mut board, OPEN_PORT, case.row, &call, wanted);
+        assert_case(&rt, alloc, &mut board, case, &[PROC_UNAVAIL]);
     }
 }

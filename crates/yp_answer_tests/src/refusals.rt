@@ -1,7 +1,10 @@
 //! Records that are refused before a procedure answers them.
 
-use crate::given::bytes;
+use crate::given::{assert_same, bytes};
 use crate::sample::*;
+use std::alloc::Global;
+use std::process::Abort;
+use yp_board::PlainBoard;
 
 // Records, and the whole replies to them.
 const REFUSED: &[(&str, &str, &str)] = &[
@@ -64,13 +67,26 @@ const REFUSED: &[(&str, &str, &str)] = &[
     ),
 ];
 
+// Compares what a record is answered by itself, and in a datagram.
+fn assert_refused(
+    rt: &impl Abort,
+    alloc: Global,
+    board: &mut PlainBoard,
+    row: &str,
+    record: &str,
+    reply: &str,
+) {
+    let record = bytes(rt, alloc, &[record]);
+    let wanted = [bytes(rt, alloc, &[reply]), bytes(rt, alloc, &[reply])];
+    let came = answers_to(rt, alloc, board, RESERVED_PORT, &record);
+    assert_same(rt, &came, &wanted, row);
+}
+
 #[test]
 fn refusal_heads(rt: HostRuntime) {
     let alloc = rt.alloc();
     let mut board = board_of(&rt, alloc, version(&rt, alloc, &[HOST]));
     for &(row, record, reply) in REFUSED {
-        let record = bytes(&rt, alloc, &[record]);
-        let wanted = [bytes(&rt, alloc, &[reply]), bytes(&rt, alloc, &[reply])];
-        assert_answers(&rt, alloc, &mut board, RESERVED_PORT, row, &record, wanted);
+        assert_refused(&rt, alloc, &mut board, row, record, reply);
     }
 }

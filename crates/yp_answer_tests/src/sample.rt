@@ -330,17 +330,3 @@ pub fn answers_to(
         datagram_reply(rt, alloc, board, port, call),
     ]
 }
-
-// Compares what a call is answered as a record, and as a datagram.
-pub fn assert_answers(
-    rt: &impl Abort,
-    alloc: Global,
-    board: &mut PlainBoard,
-    port: u16,
-    row: &str,
-    call: &[u8],
-    wanted: [Vec<u8>; 2],
-) {
-    let came = answers_to(rt, alloc, board, port, call);
-    assert_same(rt, &came, &wanted, row);
-}
