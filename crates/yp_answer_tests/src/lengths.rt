@@ -1,12 +1,10 @@
 //! Long keys, values and replies.
 
+use crate::given::{assert_same, bytes};
 use crate::sample::*;
 use std::alloc::Global;
 use std::process::Abort;
 use std::random::RandomSource;
-use std::test::Fail;
-use yp_board::PlainBoard;
-use yp_for_tests::bytes;
 
 // What calls of MATCH have in the place of `alpha`: a length, the bytes behind it, and the reply.
 const LONG_KEYS: &[(&str, usize, &[&str])] = &[
@@ -15,36 +13,24 @@ const LONG_KEYS: &[(&str, usize, &[&str])] = &[
     ("00010001", 65_540, &[GARBAGE_ARGS]),
 ];
 
-fn assert_long_keys(rt: &impl Abort, alloc: Global, board: &mut PlainBoard) -> Result<(), Fail> {
-    for &(length, count, texts) in LONG_KEYS {
-        let mut call = call(rt, alloc, MATCH, &[LAB, HOSTS, length])?;
-        extend_with(rt, alloc, &mut call, 0, count);
-        let wanted = reply(rt, alloc, texts)?;
-        let came = record_reply(rt, alloc, board, OPEN_PORT, &call);
-        assert_eq!(rt; came, wanted, "key {length}");
-    }
-    Ok(())
-}
-
 #[test]
-fn long_keys(rt: HostRuntime) -> Result<(), Fail> {
+fn long_keys(rt: HostRuntime) {
     let alloc = rt.alloc();
     let mut board = board_of(&rt, alloc, version(&rt, alloc, &[HOST]));
-    assert_long_keys(&rt, alloc, &mut board)
+    for &(length, count, texts) in LONG_KEYS {
+        let mut call = call(&rt, alloc, MATCH, &[LAB, HOSTS, length]);
+        extend_with(&rt, alloc, &mut call, 0, count);
+        let came = record_reply(&rt, alloc, &mut board, OPEN_PORT, &call);
+        assert_same(&rt, &came, &reply(&rt, alloc, texts), length);
+    }
 }
 
 // A success of the status YP_TRUE with a value of so many bytes `x`.
-fn value_reply(
-    rt: &impl Abort,
-    alloc: Global,
-    length: &str,
-    count: usize,
-    rest: &str,
-) -> Result<Vec<u8>, Fail> {
-    let mut value = reply(rt, alloc, &[SUCCESS, YP_TRUE, length])?;
+fn value_reply(rt: &impl Abort, alloc: Global, length: &str, count: usize, rest: &str) -> Vec<u8> {
+    let mut value = reply(rt, alloc, &[SUCCESS, YP_TRUE, length]);
     extend_with(rt, alloc, &mut value, b'x', count);
-    extend(rt, &mut value, &bytes(alloc, &[rest])?);
-    Ok(value)
+    extend(rt, &mut value, &bytes(rt, alloc, &[rest]));
+    value
 }
 
 // The replies to a call where the map has one row with this value.
@@ -53,7 +39,7 @@ fn replies_on_value<R: RandomSource + Abort>(
     alloc: Global,
     value: &[u8],
     call: &[u8],
-) -> Replies {
+) -> [Vec<u8>; 2] {
     let mut board = board_of(rt, alloc, version(rt, alloc, &[(b"alpha", value)]));
     answers_to(rt, alloc, &mut board, OPEN_PORT, call)
 }
@@ -66,20 +52,19 @@ const VALUES: &[(&str, usize, &str, usize, bool)] = &[
 ];
 
 #[test]
-fn values_too_long_for_a_datagram(rt: HostRuntime) -> Result<(), Fail> {
+fn values_too_long_for_a_datagram(rt: HostRuntime) {
     let alloc = rt.alloc();
-    let call = call(&rt, alloc, MATCH, &[LAB, HOSTS, ALPHA])?;
-    let refused = reply(&rt, alloc, &[SUCCESS, YP_YPERR, EMPTY])?;
+    let call = call(&rt, alloc, MATCH, &[LAB, HOSTS, ALPHA]);
+    let refused = reply(&rt, alloc, &[SUCCESS, YP_YPERR, EMPTY]);
     for &(length, count, padding, len, fits) in VALUES {
         let value = filled(&rt, alloc, b'x', count);
-        let whole = value_reply(&rt, alloc, length, count, padding)?;
-        assert_eq!(rt; whole.len(), len);
-        let came = replies_on_value(&rt, alloc, &value, &call);
-        assert!(rt; came.by_record == whole, "{count} bytes");
+        let whole = value_reply(&rt, alloc, length, count, padding);
+        let [by_record, by_datagram] = replies_on_value(&rt, alloc, &value, &call);
         let wanted = if fits { &whole } else { &refused };
-        assert!(rt; &came.by_datagram == wanted, "{count} bytes, in a datagram");
+        // The length of the reply, and whether it came by record and by datagram.
+        let came = (whole.len(), by_record == whole, &by_datagram == wanted);
+        assert_same(&rt, &came, &(len, true, true), length);
     }
-    Ok(())
 }
 
 // The replies to two calls in datagrams where the map has these rows.
@@ -97,20 +82,23 @@ fn datagram_replies<R: RandomSource + Abort>(
 }
 
 #[test]
-fn rows_too_long_for_a_datagram(rt: HostRuntime) -> Result<(), Fail> {
+fn rows_too_long_for_a_datagram(rt: HostRuntime) {
     let alloc = rt.alloc();
     // With a key of 5 bytes the reply has 8,196 bytes, with one of 1 byte 8,192.
     let value = filled(&rt, alloc, b'x', 8_152);
     let rows: [Row<'_>; 2] = [(b"alpha", &value), (b"b", &value)];
-    let asks_first = call(&rt, alloc, FIRST, &[LAB, HOSTS])?;
-    let refused = reply(&rt, alloc, &[SUCCESS, YP_YPERR, EMPTY, EMPTY])?;
-    let asks_next = call(&rt, alloc, NEXT, &[LAB, HOSTS, ALPHA])?;
-    let whole = value_reply(&rt, alloc, "00001fd8", 8_152, "00000001 62000000")?;
-    assert_eq!(rt; whole.len(), 8_192);
+    let asks_first = call(&rt, alloc, FIRST, &[LAB, HOSTS]);
+    let refused = reply(&rt, alloc, &[SUCCESS, YP_YPERR, EMPTY, EMPTY]);
+    let asks_next = call(&rt, alloc, NEXT, &[LAB, HOSTS, ALPHA]);
+    let whole = value_reply(&rt, alloc, "00001fd8", 8_152, "00000001 62000000");
     let (to_first, to_next) = datagram_replies(&rt, alloc, &rows, &asks_first, &asks_next);
-    assert_eq!(rt; to_first, refused);
-    assert!(rt; to_next == whole);
-    Ok(())
+    assert_same(&rt, &to_first, &refused, "FIRST");
+    assert_same(
+        &rt,
+        &(whole.len(), to_next == whole),
+        &(8_192, true),
+        "NEXT",
+    );
 }
 
 // Items of ALL: of each key, of one word, a value of so many bytes `x`.
@@ -121,13 +109,12 @@ fn extend_with_items(
     length: &str,
     count: usize,
     keys: &[&str],
-) -> Result<(), Fail> {
+) {
     for key in keys {
-        extend(rt, reply, &bytes(alloc, &[MORE, YP_TRUE, length])?);
+        extend(rt, reply, &bytes(rt, alloc, &[MORE, YP_TRUE, length]));
         extend_with(rt, alloc, reply, b'x', count);
-        extend(rt, reply, &bytes(alloc, &[*key])?);
+        extend(rt, reply, &bytes(rt, alloc, &[*key]));
     }
-    Ok(())
 }
 
 // The pieces of the reply to a call where the map has these rows.
@@ -150,7 +137,7 @@ const FIRST_KEYS: &[&str] = &[
 const SECOND_KEYS: &[&str] = &["00000001 34000000", "00000001 35000000"];
 
 #[test]
-fn pieces_are_whole_items(rt: HostRuntime) -> Result<(), Fail> {
+fn pieces_are_whole_items(rt: HostRuntime) {
     let alloc = rt.alloc();
     // A head of 24 bytes, and items of 65,556: three fit into 262,144 bytes beside the head, then two and the end.
     let value = filled(&rt, alloc, b'x', 65_536);
@@ -161,19 +148,22 @@ fn pieces_are_whole_items(rt: HostRuntime) -> Result<(), Fail> {
         (b"4", &value),
         (b"5", &value),
     ];
-    let mut first = reply(&rt, alloc, &[SUCCESS])?;
-    extend_with_items(&rt, alloc, &mut first, "00010000", 65_536, FIRST_KEYS)?;
-    assert_eq!(rt; first.len(), 24 + 3 * 65_556);
+    let mut first = reply(&rt, alloc, &[SUCCESS]);
+    extend_with_items(&rt, alloc, &mut first, "00010000", 65_536, FIRST_KEYS);
+    assert_same(&rt, &first.len(), &(24 + 3 * 65_556), "the first piece");
     let mut second = Vec::new(alloc);
-    extend_with_items(&rt, alloc, &mut second, "00010000", 65_536, SECOND_KEYS)?;
-    extend(&rt, &mut second, &bytes(alloc, &[END])?);
-    let call = call(&rt, alloc, ALL, &[LAB, HOSTS])?;
+    extend_with_items(&rt, alloc, &mut second, "00010000", 65_536, SECOND_KEYS);
+    extend(&rt, &mut second, &bytes(&rt, alloc, &[END]));
+    let call = call(&rt, alloc, ALL, &[LAB, HOSTS]);
     let pieces = pieces_on(&rt, alloc, &rows, &call);
-    assert_eq!(rt; pieces.len(), 3);
-    assert!(rt; pieces[0] == first, "the first piece");
-    assert!(rt; pieces[1] == second, "the second piece");
-    assert!(rt; pieces[2].is_empty(), "the third piece");
-    Ok(())
+    let third = Vec::new(alloc);
+    let came = [
+        pieces.first() == Some(&first),
+        pieces.get(1) == Some(&second),
+        pieces.get(2) == Some(&third),
+        pieces.len() == 3,
+    ];
+    assert_same(&rt, &came, &[true; 4], "three pieces");
 }
 
 // The whole reply to a call where the map has these rows.
@@ -200,7 +190,7 @@ const KEYS: &[&str] = &[
 const LAST_KEY: &[&str] = &["00000004 6b303038"];
 
 #[test]
-fn all_in_two_fragments(rt: HostRuntime) -> Result<(), Fail> {
+fn all_in_two_fragments(rt: HostRuntime) {
     let alloc = rt.alloc();
     let value: &[u8] = &[b'x'; 1_024];
     let rows: [Row<'_>; 8] = [
@@ -213,12 +203,16 @@ fn all_in_two_fragments(rt: HostRuntime) -> Result<(), Fail> {
         (b"k007", value),
         (b"k008", &value[..840]),
     ];
-    let call = call(&rt, alloc, ALL, &[LAB, HOSTS])?;
-    let mut wanted = reply(&rt, alloc, &[SUCCESS])?;
-    extend_with_items(&rt, alloc, &mut wanted, "00000400", 1_024, KEYS)?;
-    extend_with_items(&rt, alloc, &mut wanted, "00000348", 840, LAST_KEY)?;
-    extend(&rt, &mut wanted, &bytes(alloc, &[END])?);
-    assert_eq!(rt; wanted.len(), 8_196);
-    assert!(rt; reply_on(&rt, alloc, &rows, &call) == wanted);
-    Ok(())
+    let call = call(&rt, alloc, ALL, &[LAB, HOSTS]);
+    let mut wanted = reply(&rt, alloc, &[SUCCESS]);
+    extend_with_items(&rt, alloc, &mut wanted, "00000400", 1_024, KEYS);
+    extend_with_items(&rt, alloc, &mut wanted, "00000348", 840, LAST_KEY);
+    extend(&rt, &mut wanted, &bytes(&rt, alloc, &[END]));
+    let is_whole = reply_on(&rt, alloc, &rows, &call) == wanted;
+    assert_same(
+        &rt,
+        &(wanted.len(), is_whole),
+        &(8_196, true),
+        "the whole reply",
+    );
 }

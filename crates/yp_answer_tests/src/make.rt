@@ -3,13 +3,12 @@
 ghost use Rattle.std.specs.Prelude.{◌≤◌, length};
 ghost use Rattle.yp_answer.specs.Numbers.{record_max};
 
+use crate::given::{assert_same, bytes};
 use crate::sample::*;
 use std::alloc::Global;
 use std::process::Abort;
-use std::test::Fail;
 use yp_answer::*;
 use yp_board::PlainBoard;
-use yp_for_tests::bytes;
 use yp_io::Peer;
 use yp_msgs::XfrStat;
 
@@ -88,25 +87,29 @@ fn replied(
     replied_by(rt, alloc, path, board, addr, call, &mut buf)
 }
 
-// The replies to a caller at this address.
-fn replies_to(
+// Compares what a call from this address is answered as a record, and as a datagram.
+fn assert_replies(
     rt: &impl Abort,
     alloc: Global,
     board: &mut PlainBoard,
     addr: [u8; 4],
+    row: &str,
     call: &[u8],
-) -> Replies {
-    Replies {
-        by_record: replied(rt, alloc, Path::Stream, board, addr, call),
-        by_datagram: replied(rt, alloc, Path::Datagram, board, addr, call),
-    }
+    texts: &[&str],
+) {
+    let wanted = [bytes(rt, alloc, texts), bytes(rt, alloc, texts)];
+    let came = [
+        replied(rt, alloc, Path::Stream, board, addr, call),
+        replied(rt, alloc, Path::Datagram, board, addr, call),
+    ];
+    assert_same(rt, &came, &wanted, row);
 }
 
 // MAKE with these arguments.
-fn make_of(rt: &impl Abort, alloc: Global, arguments: &[&str]) -> Result<Vec<u8>, Fail> {
-    let mut call = bytes(alloc, &[MAKE])?;
-    extend(rt, &mut call, &bytes(alloc, arguments)?);
-    Ok(call)
+fn make_of(rt: &impl Abort, alloc: Global, arguments: &[&str]) -> Vec<u8> {
+    let mut call = bytes(rt, alloc, &[MAKE]);
+    extend(rt, &mut call, &bytes(rt, alloc, arguments));
+    call
 }
 
 // Who calls, what is asked for, and the status of the reply.
@@ -171,27 +174,14 @@ const REFUSED_MAKES: &[(&str, [u8; 4], &[&str], &str)] = &[
     ),
 ];
 
-fn assert_refuses_makes(
-    rt: &impl Abort,
-    alloc: Global,
-    board: &mut PlainBoard,
-) -> Result<(), Fail> {
-    for &(row, addr, arguments, stat) in REFUSED_MAKES {
-        let call = make_of(rt, alloc, arguments)?;
-        let wanted = Replies {
-            by_record: bytes(alloc, &[MADE, stat])?,
-            by_datagram: bytes(alloc, &[MADE, stat])?,
-        };
-        let came = replies_to(rt, alloc, board, addr, &call);
-        assert_eq!(rt; came, wanted, "{row}");
-    }
-    Ok(())
-}
-
 #[test]
-fn refused_makes(rt: HostRuntime) -> Result<(), Fail> {
-    let mut board = two_domains(&rt, rt.alloc());
-    assert_refuses_makes(&rt, rt.alloc(), &mut board)
+fn refused_makes(rt: HostRuntime) {
+    let alloc = rt.alloc();
+    let mut board = two_domains(&rt, alloc);
+    for &(row, addr, arguments, stat) in REFUSED_MAKES {
+        let call = make_of(&rt, alloc, arguments);
+        assert_replies(&rt, alloc, &mut board, addr, row, &call, &[MADE, stat]);
+    }
 }
 
 // Whole calls of the make program, and the replies to them.
@@ -233,47 +223,20 @@ const OTHER_CALLS: &[(&str, &str, &str)] = &[
     ),
 ];
 
-// Compares the replies to such a call from this address.
-fn assert_other_call(
-    rt: &impl Abort,
-    alloc: Global,
-    board: &mut PlainBoard,
-    addr: [u8; 4],
-    row: &str,
-    call: &str,
-    wanted: &str,
-) -> Result<(), Fail> {
-    let call = bytes(alloc, &[call])?;
-    let wanted = Replies {
-        by_record: bytes(alloc, &[wanted])?,
-        by_datagram: bytes(alloc, &[wanted])?,
-    };
-    let came = replies_to(rt, alloc, board, addr, &call);
-    assert_eq!(rt; came, wanted, "{row}");
-    Ok(())
-}
-
-fn assert_other_calls(rt: &impl Abort, alloc: Global, board: &mut PlainBoard) -> Result<(), Fail> {
-    for &(row, call, wanted) in OTHER_CALLS {
-        assert_other_call(rt, alloc, board, OWN_HOST, row, call, wanted)?;
-        assert_other_call(rt, alloc, board, OTHER_HOST, row, call, wanted)?;
-    }
-    Ok(())
-}
-
 #[test]
-fn other_calls_of_the_make_program(rt: HostRuntime) -> Result<(), Fail> {
-    let mut board = two_domains(&rt, rt.alloc());
-    assert_other_calls(&rt, rt.alloc(), &mut board)
+fn other_calls_of_the_make_program(rt: HostRuntime) {
+    let alloc = rt.alloc();
+    let mut board = two_domains(&rt, alloc);
+    for &(row, call, reply) in OTHER_CALLS {
+        let call = bytes(&rt, alloc, &[call]);
+        for addr in [OWN_HOST, OTHER_HOST] {
+            assert_replies(&rt, alloc, &mut board, addr, row, &call, &[reply]);
+        }
+    }
 }
 
 // The xid, the kind and the domain of a call that is left open.
-#[derive(Debug, PartialEq, Eq, Drop)]
-struct Opened {
-    xid: u32,
-    kind: u32,
-    domain: Vec<u8>,
-}
+type Opened = (u32, u32, Vec<u8>);
 
 fn opened_by(
     rt: &impl Abort,
@@ -286,11 +249,10 @@ fn opened_by(
     requires { record_max ≤ length buf.old }
 {
     match asked(path, board, OWN_HOST, call, buf) {
-        Answered::Make { xid, request } => Opened {
-            xid,
-            kind: request.kind,
-            domain: Vec::from_slice(alloc, request.domain).expect(rt, "bytes"),
-        },
+        Answered::Make { xid, request } => {
+            let domain = Vec::from_slice(alloc, request.domain).expect(rt, "bytes");
+            (xid, request.kind, domain)
+        }
         _ => panic!(rt; "the MAKE isn't open"),
     }
 }
@@ -306,47 +268,41 @@ fn open_make(
     opened_by(rt, alloc, path, board, call, &mut buf)
 }
 
-// The arguments of calls that are left open, and their domains.
-const OPEN: &[(&str, &[&str], &[u8])] = &[
-    ("in lab", &[LAB, HOSTS_KIND], b"lab"),
+// The arguments of calls that are left open, and their domains, as words.
+const OPEN: &[(&str, &[&str], &str)] = &[
+    ("in lab", &[LAB, HOSTS_KIND], "6c6162"),
     (
         "with bytes behind the arguments, which aren't read",
         &[LAB, HOSTS_KIND, "01020304"],
-        b"lab",
+        "6c6162",
     ),
-    ("in zoo", &[ZOO, HOSTS_KIND], b"zoo"),
+    ("in zoo", &[ZOO, HOSTS_KIND], "7a6f6f"),
 ];
 
-fn assert_open(rt: &impl Abort, alloc: Global, board: &mut PlainBoard) -> Result<(), Fail> {
-    for &(row, arguments, domain) in OPEN {
-        let call = make_of(rt, alloc, arguments)?;
-        for path in [Path::Stream, Path::Datagram] {
-            let wanted = Opened {
-                xid: 2,
-                kind: 5,
-                domain: Vec::from_slice(alloc, domain).expect(rt, "bytes"),
-            };
-            let came = open_make(rt, alloc, path, board, &call);
-            assert_eq!(rt; came, wanted, "{row}, on {path:?}");
-        }
-    }
-    Ok(())
-}
-
 #[test]
-fn open_makes(rt: HostRuntime) -> Result<(), Fail> {
-    let mut board = two_domains(&rt, rt.alloc());
-    assert_open(&rt, rt.alloc(), &mut board)
+fn open_makes(rt: HostRuntime) {
+    let alloc = rt.alloc();
+    let mut board = two_domains(&rt, alloc);
+    for &(row, arguments, domain) in OPEN {
+        let call = make_of(&rt, alloc, arguments);
+        let wanted = [
+            (2, 5, bytes(&rt, alloc, &[domain])),
+            (2, 5, bytes(&rt, alloc, &[domain])),
+        ];
+        let by_record = open_make(&rt, alloc, Path::Stream, &mut board, &call);
+        let by_datagram = open_make(&rt, alloc, Path::Datagram, &mut board, &call);
+        assert_same(&rt, &[by_record, by_datagram], &wanted, row);
+    }
 }
 
 // The statuses of a MAKE that was tried.
-const STATUSES: &[(XfrStat, &str)] = &[
-    (XfrStat::Succ, "00000001"),
-    (XfrStat::Age, "00000002"),
-    (XfrStat::Rsrc, "fffffffd"),
-    (XfrStat::Dbm, "fffffff8"),
-    (XfrStat::File, "fffffff7"),
-    (XfrStat::Refused, "fffffff2"),
+const STATUSES: &[(&str, XfrStat, &str)] = &[
+    ("SUCC", XfrStat::Succ, "00000001"),
+    ("AGE", XfrStat::Age, "00000002"),
+    ("RSRC", XfrStat::Rsrc, "fffffffd"),
+    ("DBM", XfrStat::Dbm, "fffffff8"),
+    ("FILE", XfrStat::File, "fffffff7"),
+    ("REFUSED", XfrStat::Refused, "fffffff2"),
 ];
 
 // The reply to a MAKE of this status.
@@ -357,11 +313,10 @@ fn made(rt: &impl Abort, alloc: Global, stat: XfrStat) -> Vec<u8> {
 }
 
 #[test]
-fn replies_to_makes(rt: HostRuntime) -> Result<(), Fail> {
+fn replies_to_makes(rt: HostRuntime) {
     let alloc = rt.alloc();
-    for &(stat, word) in STATUSES {
-        let wanted = bytes(alloc, &[MADE, word])?;
-        assert_eq!(rt; made(&rt, alloc, stat), wanted, "{stat:?}");
+    for &(row, stat, word) in STATUSES {
+        let wanted = bytes(&rt, alloc, &[MADE, word]);
+        assert_same(&rt, &made(&rt, alloc, stat), &wanted, row);
     }
-    Ok(())
 }

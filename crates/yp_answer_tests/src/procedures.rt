@@ -1,9 +1,9 @@
 //! What each procedure of YP answers.
 
+use crate::given::assert_same;
 use crate::sample::*;
 use std::alloc::Global;
 use std::process::Abort;
-use std::test::Fail;
 use yp_board::PlainBoard;
 
 const NULL: &str = "00000000";
@@ -246,23 +246,27 @@ const ON_BOTH_PATHS: &[Case] = &[
     },
 ];
 
-fn assert_answers(rt: &impl Abort, alloc: Global, board: &mut PlainBoard) -> Result<(), Fail> {
-    for case in ON_BOTH_PATHS {
-        let call = call(rt, alloc, case.procedure, case.arguments)?;
-        let wanted = Replies {
-            by_record: reply(rt, alloc, case.words)?,
-            by_datagram: reply(rt, alloc, case.words)?,
-        };
-        let came = answers_to(rt, alloc, board, OPEN_PORT, &call);
-        assert_eq!(rt; came, wanted, "{}", case.row);
-    }
-    Ok(())
+// Compares what a call is answered as a record, and as a datagram.
+fn assert_case(
+    rt: &impl Abort,
+    alloc: Global,
+    board: &mut PlainBoard,
+    case: &Case,
+    by_datagram: &[&str],
+) {
+    let call = call(rt, alloc, case.procedure, case.arguments);
+    let wanted = [reply(rt, alloc, case.words), reply(rt, alloc, by_datagram)];
+    let came = answers_to(rt, alloc, board, OPEN_PORT, &call);
+    assert_same(rt, &came, &wanted, case.row);
 }
 
 #[test]
-fn answers(rt: HostRuntime) -> Result<(), Fail> {
-    let mut board = two_domains(&rt, rt.alloc());
-    assert_answers(&rt, rt.alloc(), &mut board)
+fn answers(rt: HostRuntime) {
+    let alloc = rt.alloc();
+    let mut board = two_domains(&rt, alloc);
+    for case in ON_BOTH_PATHS {
+        assert_case(&rt, alloc, &mut board, case, case.words);
+    }
 }
 
 // Calls of ALL, which a datagram can't have.
@@ -316,21 +320,11 @@ const ALL_OF: &[Case] = &[
     },
 ];
 
-fn assert_answers_all(rt: &impl Abort, alloc: Global, board: &mut PlainBoard) -> Result<(), Fail> {
-    for case in ALL_OF {
-        let call = call(rt, alloc, case.procedure, case.arguments)?;
-        let wanted = Replies {
-            by_record: reply(rt, alloc, case.words)?,
-            by_datagram: reply(rt, alloc, &[PROC_UNAVAIL])?,
-        };
-        let came = answers_to(rt, alloc, board, OPEN_PORT, &call);
-        assert_eq!(rt; came, wanted, "{}", case.row);
-    }
-    Ok(())
-}
-
 #[test]
-fn answers_all(rt: HostRuntime) -> Result<(), Fail> {
-    let mut board = two_domains(&rt, rt.alloc());
-    assert_answers_all(&rt, rt.alloc(), &mut board)
+fn answers_all(rt: HostRuntime) {
+    let alloc = rt.alloc();
+    let mut board = two_domains(&rt, alloc);
+    for case in ALL_OF {
+        assert_case(&rt, alloc, &mut board, case, &[PROC_UNAVAIL]);
+    }
 }

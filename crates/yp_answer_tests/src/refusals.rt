@@ -1,11 +1,10 @@
 //! Records that are refused before a procedure answers them.
 
+use crate::given::{assert_same, bytes};
 use crate::sample::*;
 use std::alloc::Global;
 use std::process::Abort;
-use std::test::Fail;
 use yp_board::PlainBoard;
-use yp_for_tests::bytes;
 
 // Records, and the whole replies to them.
 const REFUSED: &[(&str, &str, &str)] = &[
@@ -68,22 +67,26 @@ const REFUSED: &[(&str, &str, &str)] = &[
     ),
 ];
 
-fn assert_refuses(rt: &impl Abort, alloc: Global, board: &mut PlainBoard) -> Result<(), Fail> {
-    for &(row, record, wanted) in REFUSED {
-        let record = bytes(alloc, &[record])?;
-        let wanted = Replies {
-            by_record: bytes(alloc, &[wanted])?,
-            by_datagram: bytes(alloc, &[wanted])?,
-        };
-        let came = answers_to(rt, alloc, board, RESERVED_PORT, &record);
-        assert_eq!(rt; came, wanted, "{row}");
-    }
-    Ok(())
+// Compares what a record is answered by itself, and in a datagram.
+fn assert_refused(
+    rt: &impl Abort,
+    alloc: Global,
+    board: &mut PlainBoard,
+    row: &str,
+    record: &str,
+    reply: &str,
+) {
+    let record = bytes(rt, alloc, &[record]);
+    let wanted = [bytes(rt, alloc, &[reply]), bytes(rt, alloc, &[reply])];
+    let came = answers_to(rt, alloc, board, RESERVED_PORT, &record);
+    assert_same(rt, &came, &wanted, row);
 }
 
 #[test]
-fn refusal_heads(rt: HostRuntime) -> Result<(), Fail> {
+fn refusal_heads(rt: HostRuntime) {
     let alloc = rt.alloc();
     let mut board = board_of(&rt, alloc, version(&rt, alloc, &[HOST]));
-    assert_refuses(&rt, alloc, &mut board)
+    for &(row, record, reply) in REFUSED {
+        assert_refused(&rt, alloc, &mut board, row, record, reply);
+    }
 }

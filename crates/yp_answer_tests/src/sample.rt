@@ -5,14 +5,13 @@ ghost use Rattle.yp_answer.specs.Numbers.{record_max, datagram_max};
 ghost use Rattle.yp_answer.specs.Maps.{maps_of};
 ghost use Rattle.yp_answer.specs.Answers.{IsInside};
 
+use crate::given::{assert_same, bytes};
 use std::alloc::Global;
 use std::process::Abort;
 use std::random::RandomSource;
 use std::sync::Arc;
-use std::test::Fail;
 use yp_answer::*;
 use yp_board::{Catalog, MapName, PlainBoard};
-use yp_for_tests::bytes;
 use yp_io::Peer;
 use yp_version::{Version, VersionBuilder};
 
@@ -92,7 +91,7 @@ pub const HOST: Row<'static> = (b"alpha", b"10.0.0.1 alpha");
 
 fn push_rows(rt: &impl Abort, builder: &mut VersionBuilder, rows: &[Row<'_>]) {
     for (key, value) in rows {
-        assert_eq!(rt; builder.push(*key, *value), Ok(true));
+        assert_same(rt, &builder.push(*key, *value), &Ok(true), "a row of a map");
     }
 }
 
@@ -178,28 +177,24 @@ pub fn filled(rt: &impl Abort, alloc: Global, byte: u8, count: usize) -> Vec<u8>
 }
 
 // A call with the xid 7 of a procedure, without credential or verifier.
-pub fn call(
-    rt: &impl Abort,
-    alloc: Global,
-    procedure: &str,
-    arguments: &[&str],
-) -> Result<Vec<u8>, Fail> {
+pub fn call(rt: &impl Abort, alloc: Global, procedure: &str, arguments: &[&str]) -> Vec<u8> {
     let head = "00000007 00000000 00000002 000186a4 00000002";
     let unchecked = "00000000 00000000 00000000 00000000";
-    let mut call = bytes(alloc, &[head, procedure, unchecked])?;
-    let arguments = bytes(alloc, arguments)?;
-    extend(rt, &mut call, &arguments);
-    Ok(call)
+    let mut call = bytes(rt, alloc, &[head, procedure, unchecked]);
+    extend(rt, &mut call, &bytes(rt, alloc, arguments));
+    call
 }
 
 // The reply to it, from its status on, or silence where there is nothing.
-pub fn reply(rt: &impl Abort, alloc: Global, texts: &[&str]) -> Result<Vec<u8>, Fail> {
-    if texts.is_empty() {
-        return Ok(Vec::new(alloc));
-    }
-    let mut reply = bytes(alloc, &["00000007 00000001 00000000 00000000 00000000"])?;
-    extend(rt, &mut reply, &bytes(alloc, texts)?);
-    Ok(reply)
+pub fn reply(rt: &impl Abort, alloc: Global, texts: &[&str]) -> Vec<u8> {
+    let head = if texts.is_empty() {
+        ""
+    } else {
+        "00000007 00000001 00000000 00000000 00000000"
+    };
+    let mut reply = bytes(rt, alloc, &[head]);
+    extend(rt, &mut reply, &bytes(rt, alloc, texts));
+    reply
 }
 
 // A caller at this port of another host. Rows of secure maps are shown to ports under 1024.
@@ -322,22 +317,16 @@ pub fn datagram_reply(
     datagram_reply_by(rt, alloc, board, port, call, &mut buf)
 }
 
-// What a call is answered as a record and as a datagram.
-#[derive(Debug, PartialEq, Eq, Drop)]
-pub struct Replies {
-    pub by_record: Vec<u8>,
-    pub by_datagram: Vec<u8>,
-}
-
+// What a call is answered as a record, and as a datagram.
 pub fn answers_to(
     rt: &impl Abort,
     alloc: Global,
     board: &mut PlainBoard,
     port: u16,
     call: &[u8],
-) -> Replies {
-    Replies {
-        by_record: record_reply(rt, alloc, board, port, call),
-        by_datagram: datagram_reply(rt, alloc, board, port, call),
-    }
+) -> [Vec<u8>; 2] {
+    [
+        record_reply(rt, alloc, board, port, call),
+        datagram_reply(rt, alloc, board, port, call),
+    ]
 }

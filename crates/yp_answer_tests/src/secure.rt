@@ -1,9 +1,9 @@
 //! Secure maps, whose rows are shown to ports under 1024.
 
+use crate::given::assert_same;
 use crate::sample::*;
 use std::alloc::Global;
 use std::process::Abort;
-use std::test::Fail;
 use yp_board::PlainBoard;
 
 // A call about a secure map, the reply to a port from 1024 on, and that to one below.
@@ -76,27 +76,21 @@ fn assert_shown(
     case: &Case,
     port: u16,
     texts: &[&str],
-) -> Result<(), Fail> {
-    let call = call(rt, alloc, case.procedure, case.arguments)?;
-    let wanted = reply(rt, alloc, texts)?;
-    let came = record_reply(rt, alloc, board, port, &call);
-    assert_eq!(rt; came, wanted, "{} from port {port}", case.row);
-    Ok(())
-}
-
-fn assert_secure_rows(rt: &impl Abort, alloc: Global, board: &mut PlainBoard) -> Result<(), Fail> {
-    for case in SECURE {
-        assert_shown(rt, alloc, board, case, 1_024, case.open)?;
-        assert_shown(rt, alloc, board, case, 65_535, case.open)?;
-        assert_shown(rt, alloc, board, case, 1_023, case.reserved)?;
-        assert_shown(rt, alloc, board, case, 0, case.reserved)?;
-    }
-    Ok(())
+) {
+    let call = call(rt, alloc, case.procedure, case.arguments);
+    let wanted = (port, reply(rt, alloc, texts));
+    let came = (port, record_reply(rt, alloc, board, port, &call));
+    assert_same(rt, &came, &wanted, case.row);
 }
 
 #[test]
-fn secure_rows(rt: HostRuntime) -> Result<(), Fail> {
+fn secure_rows(rt: HostRuntime) {
     let alloc = rt.alloc();
     let mut board = board_of(&rt, alloc, version(&rt, alloc, &[HOST]).marked(true));
-    assert_secure_rows(&rt, alloc, &mut board)
+    for case in SECURE {
+        assert_shown(&rt, alloc, &mut board, case, 1_024, case.open);
+        assert_shown(&rt, alloc, &mut board, case, 65_535, case.open);
+        assert_shown(&rt, alloc, &mut board, case, 1_023, case.reserved);
+        assert_shown(&rt, alloc, &mut board, case, 0, case.reserved);
+    }
 }

@@ -1,11 +1,10 @@
 //! Connections from the loading of their files to the handing back of their disks.
 
+use crate::given::{assert_same, bytes};
 use crate::sample::*;
 use std::alloc::Global;
 use std::process::Abort;
 use std::random::RandomSource;
-use std::test::Fail;
-use yp_for_tests::bytes;
 use yp_io::{MemDisk, MemWire, Source};
 use yp_server::*;
 use yp_session::End;
@@ -29,13 +28,7 @@ fn sound_disk(alloc: Global, file: Vec<u8>) -> MemDisk {
 }
 
 // What came of a connection: its end, what it wrote and what it left of its input, and the files on its disks.
-#[derive(Debug, PartialEq, Eq, Drop)]
-struct Came {
-    end: Result<End, Unserved>,
-    output: Vec<u8>,
-    left: Vec<u8>,
-    files: Vec<Vec<u8>>,
-}
+type Came = (Result<End, Unserved>, Vec<u8>, Vec<u8>, Vec<Vec<u8>>);
 
 // What is seen of a wire and of disks behind a connection.
 fn seen(
@@ -52,12 +45,9 @@ fn seen(
         let file = Vec::from_slice(alloc, disk.bytes()).expect(rt, "bytes");
         files.push(file).expect(rt, "a file");
     }
-    Came {
-        end,
-        output: Vec::from_slice(alloc, wire.sink.taken()).expect(rt, "bytes"),
-        left: Vec::from_slice(alloc, &left[..count]).expect(rt, "bytes"),
-        files,
-    }
+    let output = Vec::from_slice(alloc, wire.sink.taken()).expect(rt, "bytes");
+    let left = Vec::from_slice(alloc, &left[..count]).expect(rt, "bytes");
+    (end, output, left, files)
 }
 
 // The order of the version that a file stands for, and 0 where there is none.
@@ -153,18 +143,15 @@ const NO_MAP_MADE_VALUE: &[&str] = &[
 ];
 
 #[test]
-fn make_then_match(rt: HostRuntime) -> Result<(), Fail> {
+fn make_then_match(rt: HostRuntime) {
     let alloc = rt.alloc();
-    let input = bytes(alloc, MATCH_MAKE_MATCH)?;
-    let wanted = Came {
-        end: Ok(End::Clean),
-        output: bytes(alloc, NO_MAP_MADE_VALUE)?,
-        left: Vec::new(alloc),
-        files: vec![in alloc; bytes(alloc, HOSTS_FILE)?]?,
-    };
+    let input = bytes(&rt, alloc, MATCH_MAKE_MATCH);
+    let output = bytes(&rt, alloc, NO_MAP_MADE_VALUE);
+    let file = bytes(&rt, alloc, HOSTS_FILE);
+    let files = vec![in alloc; file].expect(&rt, "files");
     let (came, _) = served_from_one(&rt, alloc, None, NEVER, input);
-    assert_eq!(rt; came, wanted);
-    Ok(())
+    let wanted = (Ok(End::Clean), output, Vec::new(alloc), files);
+    assert_same(&rt, &came, &wanted, "MATCH, MAKE, MATCH");
 }
 
 // MAPLIST of `lab` and of `dev`, behind their transactions.
@@ -200,19 +187,21 @@ const LISTED: &[&str] = &[
 ];
 
 #[test]
-fn made_map_of_one_domain_is_listed(rt: HostRuntime) -> Result<(), Fail> {
+fn made_map_of_one_domain_is_listed(rt: HostRuntime) {
     let alloc = rt.alloc();
-    let input = bytes(alloc, LISTS)?;
-    let wanted = Came {
-        end: Ok(End::Clean),
-        output: bytes(alloc, LISTED)?,
-        left: Vec::new(alloc),
-        files: vec![in alloc; Vec::new(alloc), bytes(alloc, HOSTS_FILE)?]?,
-    };
+    let input = bytes(&rt, alloc, LISTS);
+    let output = bytes(&rt, alloc, LISTED);
+    let file = bytes(&rt, alloc, HOSTS_FILE);
+    let files = vec![in alloc; Vec::new(alloc), file].expect(&rt, "files");
     let (first, second) = (Vec::new(alloc), Vec::new(alloc));
     let came = served_from_two(&rt, alloc, &[b"dev", b"lab"], first, second, input);
-    assert_eq!(rt; came, wanted);
-    Ok(())
+    let wanted = (Ok(End::Clean), output, Vec::new(alloc), files);
+    assert_same(
+        &rt,
+        &came,
+        &wanted,
+        "MAPLIST, MAKE, MAPLIST of both domains",
+    );
 }
 
 // The file of order 100 with 1 in the padding of its master, which is at 79.
@@ -226,20 +215,19 @@ const DAMAGED: &[&str] = &[
 const ONE_MATCH: &[&str] = &["8000004c 00000003", MATCH];
 
 #[test]
-fn damaged_disk_is_refused(rt: HostRuntime) -> Result<(), Fail> {
+fn damaged_disk_is_refused(rt: HostRuntime) {
     let alloc = rt.alloc();
-    let fault = SlotFault::Damaged { at: 79, rule: 5 };
-    let wanted = Came {
-        end: Err(Unserved::Refused { map: 1, fault }),
-        output: Vec::new(alloc),
-        left: bytes(alloc, ONE_MATCH)?,
-        files: vec![in alloc; bytes(alloc, HOSTS_FILE)?, bytes(alloc, DAMAGED)?]?,
-    };
-    let (first, second) = (bytes(alloc, HOSTS_FILE)?, bytes(alloc, DAMAGED)?);
-    let input = bytes(alloc, ONE_MATCH)?;
+    let first = bytes(&rt, alloc, HOSTS_FILE);
+    let second = bytes(&rt, alloc, DAMAGED);
+    let input = bytes(&rt, alloc, ONE_MATCH);
     let came = served_from_two(&rt, alloc, &[b"lab", b"dev"], first, second, input);
-    assert_eq!(rt; came, wanted);
-    Ok(())
+    let fault = SlotFault::Damaged { at: 79, rule: 5 };
+    let end = Err(Unserved::Refused { map: 1, fault });
+    let left = bytes(&rt, alloc, ONE_MATCH);
+    let unchanged = [bytes(&rt, alloc, HOSTS_FILE), bytes(&rt, alloc, DAMAGED)];
+    let files = Vec::from_array(alloc, unchanged).expect(&rt, "files");
+    let wanted = (end, Vec::new(alloc), left, files);
+    assert_same(&rt, &came, &wanted, "a damaged file");
 }
 
 // Two calls of MAKE, with a call of MATCH before, between and behind them.
@@ -328,13 +316,12 @@ fn assert_failed(
     wanted: &Failing<'_>,
     call: u64,
 ) {
-    assert_eq!(rt; came.end, Ok(End::Clean), "call {call}");
-    assert_eq!(rt; came.output.as_slice(), output, "call {call}");
+    let (end, written, _, _) = came;
+    let seen = (call, end, written.as_slice());
+    assert_same(rt, &seen, &(call, &Ok(End::Clean), output), "replies");
     for order in orders {
-        assert!(rt;
-            wanted.orders.contains(order),
-            "order {order} behind call {call}"
-        );
+        let seen = (call, order, wanted.orders.contains(order));
+        assert_same(rt, &seen, &(call, order, true), "order");
     }
 }
 
@@ -375,17 +362,16 @@ const ONCE_FAILING: &[Failing<'static>] = &[
 ];
 
 #[test]
-fn each_disk_call_fails_once(rt: HostRuntime) -> Result<(), Fail> {
+fn each_disk_call_fails_once(rt: HostRuntime) {
     let alloc = rt.alloc();
     for wanted in ONCE_FAILING {
-        let output = bytes(alloc, wanted.output)?;
+        let output = bytes(&rt, alloc, wanted.output);
         for failing in wanted.first..wanted.last + 1 {
-            let input = bytes(alloc, TWICE)?;
+            let input = bytes(&rt, alloc, TWICE);
             let (came, orders) = served_from_one(&rt, alloc, None, failing, input);
             assert_failed(&rt, &came, &orders, &output, wanted, failing);
         }
     }
-    Ok(())
 }
 
 const STOPPED: &[Failing<'static>] = &[
@@ -422,33 +408,29 @@ const STOPPED: &[Failing<'static>] = &[
 ];
 
 #[test]
-fn disk_stops_at_each_call(rt: HostRuntime) -> Result<(), Fail> {
+fn disk_stops_at_each_call(rt: HostRuntime) {
     let alloc = rt.alloc();
     for wanted in STOPPED {
-        let output = bytes(alloc, wanted.output)?;
+        let output = bytes(&rt, alloc, wanted.output);
         for stop in wanted.first..wanted.last + 1 {
-            let input = bytes(alloc, TWICE)?;
+            let input = bytes(&rt, alloc, TWICE);
             let (came, orders) = served_from_one(&rt, alloc, Some(stop), NEVER, input);
             assert_failed(&rt, &came, &orders, &output, wanted, stop);
         }
     }
-    Ok(())
 }
 
 #[test]
-fn disk_that_is_not_opened(rt: HostRuntime) -> Result<(), Fail> {
+fn disk_that_is_not_opened(rt: HostRuntime) {
     let alloc = rt.alloc();
     let fault = SlotFault::DiskFault;
-    let wanted = Came {
-        end: Err(Unserved::Refused { map: 0, fault }),
-        output: Vec::new(alloc),
-        left: bytes(alloc, TWICE)?,
-        files: vec![in alloc; Vec::new(alloc)]?,
-    };
-    for failing in 0..2 {
-        let input = bytes(alloc, TWICE)?;
+    let end = Err(Unserved::Refused { map: 0, fault });
+    let left = bytes(&rt, alloc, TWICE);
+    let files = vec![in alloc; Vec::new(alloc)].expect(&rt, "files");
+    let wanted = (end, Vec::new(alloc), left, files);
+    for (row, failing) in [("call 0 fails", 0), ("call 1 fails", 1)] {
+        let input = bytes(&rt, alloc, TWICE);
         let (came, _) = served_from_one(&rt, alloc, None, failing, input);
-        assert_eq!(rt; came, wanted, "call {failing}");
+        assert_same(&rt, &came, &wanted, row);
     }
-    Ok(())
 }

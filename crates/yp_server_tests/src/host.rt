@@ -1,11 +1,10 @@
 //! Sessions over stored maps that are made anew.
 
+use crate::given::{assert_same, bytes};
 use crate::sample::*;
 use std::alloc::Global;
 use std::process::Abort;
-use std::test::Fail;
 use yp_board::{Catalog, PlainBoard};
-use yp_for_tests::bytes;
 use yp_io::{MemDisk, MemTexts, Peer, SetClock};
 use yp_publish::{Publisher, laws, load_all};
 use yp_server::*;
@@ -36,11 +35,7 @@ fn host_of(
 }
 
 // How a session ended, and what it wrote.
-#[derive(Debug, PartialEq, Eq, Drop)]
-struct Replied {
-    end: End,
-    output: Vec<u8>,
-}
+type Replied = (End, Vec<u8>);
 
 // Runs a session over a wire with this input.
 fn run_session(
@@ -54,15 +49,11 @@ fn run_session(
     let mut wire = wire_of(alloc, input);
     let end = session.run(&mut wire, host, peer, 9);
     let output = Vec::from_slice(alloc, wire.sink.taken()).expect(rt, "bytes");
-    Replied { end, output }
+    (end, output)
 }
 
 // What a file stands for: the order of its version and whether that is secure, and its generation.
-#[derive(Clone, Copy, Debug, PartialEq, Eq)]
-struct Stored {
-    version: Option<(u32, bool)>,
-    generation: u64,
-}
+type Stored = (Option<(u32, bool)>, u64);
 
 fn load_stored(
     rt: &impl Abort,
@@ -71,10 +62,8 @@ fn load_stored(
     slot: &mut Slot<MemDisk>,
 ) -> Stored {
     let version = slot.load(alloc, &runtime).expect(rt, "a file");
-    Stored {
-        version: version.map(|version| (version.order(), version.secure())),
-        generation: slot.generation(),
-    }
+    let shown = version.map(|version| (version.order(), version.secure()));
+    (shown, slot.generation())
 }
 
 // What the file of a host stands for.
@@ -103,62 +92,15 @@ struct Making<'a> {
     stored: Stored,
 }
 
-// What a making takes.
-#[derive(Drop)]
-struct Taken {
-    file: Vec<u8>,
-    text: Vec<u8>,
-    make: Vec<u8>,
-    look_up: Vec<u8>,
-}
-
-fn taken_by(alloc: Global, making: &Making<'_>) -> Result<Taken, Fail> {
-    Ok(Taken {
-        file: bytes(alloc, making.file)?,
-        text: Vec::from_slice(alloc, making.text)?,
-        make: bytes(alloc, &["80000034 00000002", MAKE, making.kind])?,
-        look_up: bytes(alloc, &["8000004c 00000003", MATCH])?,
-    })
-}
-
-// What came of a making.
-#[derive(Debug, PartialEq, Eq, Drop)]
-struct Came {
-    made: Replied,
-    looked_up: Replied,
-    stored: Stored,
-}
-
-fn wanted_of(alloc: Global, making: &Making<'_>) -> Result<Came, Fail> {
-    let made = bytes(alloc, &["8000001c 00000002", MADE, making.stat])?;
-    let looked_up = bytes(alloc, making.answer)?;
-    Ok(Came {
-        made: Replied {
-            end: End::Clean,
-            output: made,
-        },
-        looked_up: Replied {
-            end: End::Clean,
-            output: looked_up,
-        },
-        stored: making.stored,
-    })
-}
+// What came of a making: of MAKE, of MATCH, and of the file.
+type Came = (Replied, Replied, Stored);
 
 // Makes a map, looks up a key of it, and looks at its file.
-fn came_of(
-    rt: &impl Abort,
-    runtime: HostRuntime,
-    alloc: Global,
-    making: &Making<'_>,
-    taken: Taken,
-) -> Came {
-    let Taken {
-        file,
-        text,
-        make,
-        look_up,
-    } = taken;
+fn came_of(rt: &impl Abort, runtime: HostRuntime, alloc: Global, making: &Making<'_>) -> Came {
+    let file = bytes(rt, alloc, making.file);
+    let text = Vec::from_slice(alloc, making.text).expect(rt, "a text");
+    let make = bytes(rt, alloc, &["80000034 00000002", MAKE, making.kind]);
+    let look_up = bytes(rt, alloc, &["8000004c 00000003", MATCH]);
     let disk = MemDisk::new(alloc, file, None, Vec::new(alloc));
     let desk = desk_of(rt, alloc, text, making.moment, making.failing);
     let catalog = catalog_of(rt, alloc, making.own, &[b"lab"]);
@@ -167,27 +109,18 @@ fn came_of(
     let made = run_session(rt, alloc, &mut session, &mut host, making.peer, make);
     let looked_up = run_session(rt, alloc, &mut session, &mut host, making.peer, look_up);
     let stored = stored_by(rt, runtime, alloc, host);
-    Came {
-        made,
-        looked_up,
-        stored,
-    }
+    (made, looked_up, stored)
 }
 
 // Makes maps, each over a host of its own, and compares what comes.
-fn assert_makes(
-    rt: &impl Abort,
-    runtime: HostRuntime,
-    alloc: Global,
-    makings: &[Making<'_>],
-) -> Result<(), Fail> {
+fn assert_makes(rt: &impl Abort, runtime: HostRuntime, alloc: Global, makings: &[Making<'_>]) {
     for making in makings {
-        let taken = taken_by(alloc, making)?;
-        let wanted = wanted_of(alloc, making)?;
-        let came = came_of(rt, runtime, alloc, making, taken);
-        assert_eq!(rt; came, wanted, "{}", making.row);
+        let made = bytes(rt, alloc, &["8000001c 00000002", MADE, making.stat]);
+        let looked_up = bytes(rt, alloc, making.answer);
+        let wanted = ((End::Clean, made), (End::Clean, looked_up), making.stored);
+        let came = came_of(rt, runtime, alloc, making);
+        assert_same(rt, &came, &wanted, making.row);
     }
-    Ok(())
 }
 
 // The numbers of hosts.byname, and of no kind.
@@ -236,19 +169,13 @@ const EMPTY: Making<'static> = Making {
     kind: HOSTS,
     stat: SUCC,
     answer: VALUE,
-    stored: Stored {
-        version: Some((100, false)),
-        generation: 1,
-    },
+    stored: (Some((100, false)), 1),
 };
 
 // One that isn't.
 const UNMADE: Making<'static> = Making {
     answer: NO_MAP,
-    stored: Stored {
-        version: None,
-        generation: 0,
-    },
+    stored: (None, 0),
     ..EMPTY
 };
 
@@ -257,37 +184,28 @@ const MADE_MAPS: &[Making<'static>] = &[
     Making {
         row: "the order rises where the clock does not",
         file: HOSTS_FILE,
-        stored: Stored {
-            version: Some((101, false)),
-            generation: 2,
-        },
+        stored: (Some((101, false)), 2),
         ..EMPTY
     },
     Making {
         row: "the order follows the clock",
         file: HOSTS_FILE,
         moment: 200,
-        stored: Stored {
-            version: Some((200, false)),
-            generation: 2,
-        },
+        stored: (Some((200, false)), 2),
         ..EMPTY
     },
     Making {
         row: "a secure map stays secure",
         file: SECURE_FILE,
         answer: YPERR,
-        stored: Stored {
-            version: Some((101, true)),
-            generation: 2,
-        },
+        stored: (Some((101, true)), 2),
         ..EMPTY
     },
 ];
 
 #[test]
-fn made_maps(rt: HostRuntime) -> Result<(), Fail> {
-    assert_makes(&rt, rt, rt.alloc(), MADE_MAPS)
+fn made_maps(rt: HostRuntime) {
+    assert_makes(&rt, rt, rt.alloc(), MADE_MAPS);
 }
 
 const UNMADE_MAPS: &[Making<'static>] = &[
@@ -323,42 +241,36 @@ const UNMADE_MAPS: &[Making<'static>] = &[
         row: "the orders are spent",
         file: LAST_ORDER,
         stat: AGE,
-        stored: Stored {
-            version: Some((u32::MAX, false)),
-            generation: 1,
-        },
+        stored: (Some((u32::MAX, false)), 1),
         ..EMPTY
     },
     Making {
         row: "the generations are spent",
         file: LAST_GENERATION,
         stat: FILE,
-        stored: Stored {
-            version: Some((100, false)),
-            generation: u64::MAX,
-        },
+        stored: (Some((100, false)), u64::MAX),
         ..EMPTY
     },
 ];
 
 #[test]
-fn unmade_maps(rt: HostRuntime) -> Result<(), Fail> {
-    assert_makes(&rt, rt, rt.alloc(), UNMADE_MAPS)
+fn unmade_maps(rt: HostRuntime) {
+    assert_makes(&rt, rt, rt.alloc(), UNMADE_MAPS);
 }
 
 // One byte more than a key may have.
 const LONG_KEY: &[u8] = &[b'a'; 65_537];
 
 #[test]
-fn row_past_a_limit(rt: HostRuntime) -> Result<(), Fail> {
+fn row_past_a_limit(rt: HostRuntime) {
     let alloc = rt.alloc();
-    let mut text = Vec::from_slice(alloc, b"10.0.0.1 ")?;
-    text.extend_from_slice(LONG_KEY)?;
+    let mut text = Vec::from_slice(alloc, b"10.0.0.1 ").expect(&rt, "a text");
+    text.extend_from_slice(LONG_KEY).expect(&rt, "a text");
     let making = Making {
         row: "a row past a limit",
         text: &text,
         stat: DBM,
         ..UNMADE
     };
-    assert_makes(&rt, rt, alloc, &[making])
+    assert_makes(&rt, rt, alloc, &[making]);
 }

@@ -4,6 +4,8 @@
 #[cfg(test)]
 mod connection;
 #[cfg(test)]
+mod given;
+#[cfg(test)]
 mod host;
 #[cfg(test)]
 mod sample;

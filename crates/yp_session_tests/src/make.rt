@@ -1,12 +1,11 @@
 //! Calls of MAKE in a session.
 
+use crate::given::{assert_same, bytes};
 use crate::host::TestHost;
 use crate::sample::*;
 use std::alloc::Global;
 use std::process::Abort;
 use std::random::RandomSource;
-use std::test::Fail;
-use yp_for_tests::bytes;
 use yp_io::Peer;
 use yp_session::*;
 
@@ -56,43 +55,27 @@ const STATUSES: &[(&str, &str, u64, u64)] = &[
     ("00000007", "ffffffff", 6, 1),
 ];
 
-fn assert_statuses(
-    rt: &impl Abort,
-    alloc: Global,
-    session: &mut Session,
-    host: &mut TestHost,
-) -> Result<(), Fail> {
+fn assert_statuses(rt: &impl Abort, alloc: Global, session: &mut Session, host: &mut TestHost) {
     for &(kind, stat, makes, files) in STATUSES {
-        let input = bytes(alloc, &[MAKE, kind])?;
-        let wanted = Came {
-            end: End::Clean,
-            calls: 1,
-            left: 0,
-            output: bytes(alloc, &[MADE, stat])?,
-        };
+        let input = bytes(rt, alloc, &[MAKE, kind]);
+        let output = bytes(rt, alloc, &[MADE, stat]);
         let came = run(rt, alloc, session, host, PEER, input, UNBOUNDED);
-        assert_eq!(rt; came, wanted, "kind {kind}");
-        assert_eq!(rt; (host.makes, host.files), (makes, files), "kind {kind}");
+        let wanted = ((End::Clean, 1, 0, output), makes, files);
+        assert_same(rt, &(came, host.makes, host.files), &wanted, kind);
     }
-    Ok(())
 }
 
 #[test]
-fn statuses_of_makes(rt: HostRuntime) -> Result<(), Fail> {
+fn statuses_of_makes(rt: HostRuntime) {
     let alloc = rt.alloc();
     let mut session = Session::new(alloc).expect(&rt, "a session");
     let mut host = unmade(&rt, alloc);
-    assert_statuses(&rt, alloc, &mut session, &mut host)
+    assert_statuses(&rt, alloc, &mut session, &mut host);
 }
 
 // What came of a session over a host that shows no version yet, how often a map was to be made, and whether one was
 // shown.
-#[derive(Debug, PartialEq, Eq, Drop)]
-struct Makes {
-    came: Came,
-    makes: u64,
-    shown: bool,
-}
+type Makes = (Came, u64, bool);
 
 fn run_unmade<R: RandomSource + Abort>(
     rt: &R,
@@ -104,53 +87,31 @@ fn run_unmade<R: RandomSource + Abort>(
     let mut session = Session::new(alloc).expect(rt, "a session");
     let mut host = unmade(rt, alloc);
     let came = run(rt, alloc, &mut session, &mut host, peer, input, bounds);
-    Makes {
-        came,
-        makes: host.makes,
-        shown: host.next.is_none(),
-    }
+    (came, host.makes, host.next.is_none())
 }
 
 #[test]
-fn make_then_match(rt: HostRuntime) -> Result<(), Fail> {
+fn make_then_match(rt: HostRuntime) {
     let alloc = rt.alloc();
-    let input = bytes(alloc, &[MATCH, MAKE, "00000001", MATCH])?;
-    let came = Came {
-        end: End::Clean,
-        calls: 3,
-        left: 0,
-        output: bytes(alloc, &[NO_MAP, MADE, "00000001", VALUE])?,
-    };
-    let wanted = Makes {
-        came,
-        makes: 1,
-        shown: true,
-    };
-    assert_eq!(rt; run_unmade(&rt, alloc, PEER, input, UNBOUNDED), wanted);
-    Ok(())
+    let input = bytes(&rt, alloc, &[MATCH, MAKE, "00000001", MATCH]);
+    let output = bytes(&rt, alloc, &[NO_MAP, MADE, "00000001", VALUE]);
+    let came = run_unmade(&rt, alloc, PEER, input, UNBOUNDED);
+    let wanted = ((End::Clean, 3, 0, output), 1, true);
+    assert_same(&rt, &came, &wanted, "MATCH, MAKE, MATCH");
 }
 
 #[test]
-fn make_from_another_host(rt: HostRuntime) -> Result<(), Fail> {
+fn make_from_another_host(rt: HostRuntime) {
     let alloc = rt.alloc();
-    let input = bytes(alloc, &[MAKE, "00000001", MATCH])?;
-    let came = Came {
-        end: End::Clean,
-        calls: 2,
-        left: 0,
-        output: bytes(alloc, &[MADE, "fffffff2", NO_MAP])?,
-    };
-    let wanted = Makes {
-        came,
-        makes: 0,
-        shown: false,
-    };
+    let input = bytes(&rt, alloc, &[MAKE, "00000001", MATCH]);
+    let output = bytes(&rt, alloc, &[MADE, "fffffff2", NO_MAP]);
     let peer = Peer {
         addr: [10, 0, 0, 9],
         port: 700,
     };
-    assert_eq!(rt; run_unmade(&rt, alloc, peer, input, UNBOUNDED), wanted);
-    Ok(())
+    let came = run_unmade(&rt, alloc, peer, input, UNBOUNDED);
+    let wanted = ((End::Clean, 2, 0, output), 0, false);
+    assert_same(&rt, &came, &wanted, "MAKE, MATCH");
 }
 
 // A reply of 32 bytes is four writes and a flush. The call of the sink that fails, and what it took.
@@ -168,25 +129,15 @@ const LOST: &[(u64, &str)] = &[
 ];
 
 #[test]
-fn make_whose_reply_is_lost(rt: HostRuntime) -> Result<(), Fail> {
+fn make_whose_reply_is_lost(rt: HostRuntime) {
     let alloc = rt.alloc();
     for &(write, taken) in LOST {
-        let input = bytes(alloc, &[MAKE, "00000001", MATCH])?;
-        // The record of MATCH, of 84 bytes, isn't read.
-        let came = Came {
-            end: End::WriteFault,
-            calls: 1,
-            left: 84,
-            output: bytes(alloc, &[taken])?,
-        };
-        let wanted = Makes {
-            came,
-            makes: 1,
-            shown: true,
-        };
+        let input = bytes(&rt, alloc, &[MAKE, "00000001", MATCH]);
+        let output = bytes(&rt, alloc, &[taken]);
         let bounds = Bounds { write, ..UNBOUNDED };
-        let made = run_unmade(&rt, alloc, PEER, input, bounds);
-        assert_eq!(rt; made, wanted, "call {write} fails");
+        let came = run_unmade(&rt, alloc, PEER, input, bounds);
+        // The record of MATCH, of 84 bytes, isn't read.
+        let wanted = ((End::WriteFault, 1, 84, output), 1, true);
+        assert_same(&rt, &(write, came), &(write, wanted), "call that fails");
     }
-    Ok(())
 }

@@ -2,6 +2,7 @@
 
 ghost use Rattle.std.specs.Prelude.{◌≡◌, length};
 
+use crate::given::assert_same;
 use crate::host::TestHost;
 use std::alloc::Global;
 use std::process::Abort;
@@ -27,7 +28,7 @@ pub const ENOUGH: u8 = 9;
 
 fn push_rows(rt: &impl Abort, builder: &mut VersionBuilder, rows: &[(&[u8], &[u8])]) {
     for (key, value) in rows {
-        assert_eq!(rt; builder.push(*key, *value), Ok(true));
+        assert_same(rt, &builder.push(*key, *value), &Ok(true), "a row of a map");
     }
 }
 
@@ -114,13 +115,7 @@ pub const UNBOUNDED: Bounds = Bounds {
 
 // What came of a session: its end, how many records it read, how many bytes of the input are left, up to 1000, and what
 // it wrote.
-#[derive(Debug, PartialEq, Eq, Drop)]
-pub struct Came {
-    pub end: End,
-    pub calls: u64,
-    pub left: usize,
-    pub output: Vec<u8>,
-}
+pub type Came = (End, u64, usize, Vec<u8>);
 
 // Runs a session over a wire with this input.
 pub fn run(
@@ -134,10 +129,7 @@ pub fn run(
 ) -> Came {
     let mut wire = wire(rt, alloc, input, bounds.read, bounds.write);
     let end = session.run(&mut wire, host, peer, u64::from(bounds.most));
-    Came {
-        end,
-        calls: session.calls(),
-        left: wire.source.read(&mut [0; 1000]).expect(rt, "a read"),
-        output: Vec::from_slice(alloc, wire.sink.taken()).expect(rt, "bytes"),
-    }
+    let left = wire.source.read(&mut [0; 1000]).expect(rt, "a read");
+    let output = Vec::from_slice(alloc, wire.sink.taken()).expect(rt, "bytes");
+    (end, session.calls(), left, output)
 }

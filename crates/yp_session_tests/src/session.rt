@@ -1,12 +1,11 @@
 //! Wires written out by hand, from RFC 5531 sections 9 and 11 and yp.x.
 
+use crate::given::{assert_same, bytes};
 use crate::host::TestHost;
 use crate::sample::*;
 use std::alloc::Global;
 use std::process::Abort;
 use std::random::RandomSource;
-use std::test::Fail;
-use yp_for_tests::bytes;
 use yp_io::MemWire;
 use yp_session::*;
 
@@ -193,53 +192,34 @@ const ROWS: &[Row] = &[
     },
 ];
 
-fn assert_ends(
-    rt: &impl Abort,
-    alloc: Global,
-    session: &mut Session,
-    host: &mut TestHost,
-) -> Result<(), Fail> {
+fn assert_ends(rt: &impl Abort, alloc: Global, session: &mut Session, host: &mut TestHost) {
     for row in ROWS {
-        let input = bytes(alloc, row.input)?;
-        let wanted = Came {
-            end: row.end,
-            calls: row.calls,
-            left: row.left,
-            output: bytes(alloc, row.output)?,
-        };
+        let input = bytes(rt, alloc, row.input);
+        let output = bytes(rt, alloc, row.output);
         let came = run(rt, alloc, session, host, PEER, input, row.bounds);
-        assert_eq!(rt; came, wanted, "{}", row.name);
+        let wanted = (row.end, row.calls, row.left, output);
+        assert_same(rt, &came, &wanted, row.name);
     }
-    Ok(())
 }
 
 #[test]
-fn ends(rt: HostRuntime) -> Result<(), Fail> {
+fn ends(rt: HostRuntime) {
     let alloc = rt.alloc();
     let mut session = Session::new(alloc).expect(&rt, "a session");
     let mut host = host_with(&rt, alloc, &[]);
-    assert_ends(&rt, alloc, &mut session, &mut host)
+    assert_ends(&rt, alloc, &mut session, &mut host);
 }
 
 // What comes of a step, and how many records and bytes of replies there are then.
-#[derive(Clone, Copy, Debug, PartialEq, Eq)]
-struct Stepped {
-    step: Step,
-    calls: u64,
-    taken: usize,
-}
+type Stepped = (Step, u64, usize);
 
 fn step(session: &mut Session, host: &mut TestHost, wire: &mut MemWire) -> Stepped {
     let step = session.step(wire, host, PEER);
-    Stepped {
-        step,
-        calls: session.calls(),
-        taken: wire.sink.taken().len(),
-    }
+    (step, session.calls(), wire.sink.taken().len())
 }
 
 // The steps over a wire of three records and a torn one.
-const STEPS: &[(Step, u64, usize)] = &[
+const STEPS: &[Stepped] = &[
     (Step::Answered, 1, 28),
     (Step::Answered, 2, 28),
     (Step::Answered, 3, 60),
@@ -247,13 +227,8 @@ const STEPS: &[(Step, u64, usize)] = &[
 ];
 
 fn assert_steps(rt: &impl Abort, session: &mut Session, host: &mut TestHost, wire: &mut MemWire) {
-    for &(step_wanted, calls, taken) in STEPS {
-        let wanted = Stepped {
-            step: step_wanted,
-            calls,
-            taken,
-        };
-        assert_eq!(rt; step(session, host, wire), wanted);
+    for wanted in STEPS {
+        assert_same(rt, &step(session, host, wire), wanted, "a step");
     }
 }
 
@@ -264,31 +239,17 @@ fn step_anew(session: &mut Session, host: &mut TestHost, wire: &mut MemWire) -> 
     (calls, session.step(wire, host, PEER))
 }
 
-fn assert_calls(rt: &impl Abort, session: &Session, calls: u64) {
-    assert_eq!(rt; session.calls(), calls);
-}
-
-fn assert_begins_anew(
-    rt: &impl Abort,
-    session: &mut Session,
-    host: &mut TestHost,
-    wire: &mut MemWire,
-) {
-    let came = step_anew(session, host, wire);
-    assert_eq!(rt; came, (0, Step::Ended(End::Clean)));
-}
-
 #[test]
-fn step_by_step(rt: HostRuntime) -> Result<(), Fail> {
+fn step_by_step(rt: HostRuntime) {
     let alloc = rt.alloc();
-    let input = bytes(alloc, &[NULL, NONACK, DOMAIN, "800000"])?;
+    let input = bytes(&rt, alloc, &[NULL, NONACK, DOMAIN, "800000"]);
     let mut session = Session::new(alloc).expect(&rt, "a session");
     let mut host = host_with(&rt, alloc, &[]);
     let mut wire = wire(&rt, alloc, input, NEVER, NEVER);
-    assert_calls(&rt, &session, 0);
+    assert_same(&rt, &session.calls(), &0, "a new session");
     assert_steps(&rt, &mut session, &mut host, &mut wire);
-    assert_begins_anew(&rt, &mut session, &mut host, &mut wire);
-    Ok(())
+    let came = step_anew(&mut session, &mut host, &mut wire);
+    assert_same(&rt, &came, &(0, Step::Ended(End::Clean)), "begun anew");
 }
 
 fn extend(rt: &impl Abort, bytes: &mut Vec<u8>, more: &[u8]) {
@@ -305,15 +266,14 @@ fn extend_with_item(rt: &impl Abort, output: &mut Vec<u8>, key: &[u8], value: &[
 }
 
 // The 8,196 bytes of the reply to `ALL` where these are the rows, in two fragments.
-fn two_fragments(rt: &impl Abort, alloc: Global, rows: &[(&[u8], &[u8])]) -> Result<Vec<u8>, Fail> {
+fn two_fragments(rt: &impl Abort, alloc: Global, rows: &[(&[u8], &[u8])]) -> Vec<u8> {
     let head = "00002000 00000004 00000001 00000000 00000000 00000000 00000000";
-    let mut output = bytes(alloc, &[head])?;
-    let last = bytes(alloc, &["80000004 00000000"])?;
+    let mut output = bytes(rt, alloc, &[head]);
     for (key, value) in rows {
         extend_with_item(rt, &mut output, *key, *value);
     }
-    extend(rt, &mut output, &last);
-    Ok(output)
+    extend(rt, &mut output, &bytes(rt, alloc, &["80000004 00000000"]));
+    output
 }
 
 // Runs a session over a wire with this input, where these are the rows.
@@ -329,7 +289,7 @@ fn run_over<R: RandomSource + Abort>(
 }
 
 #[test]
-fn all_in_two_fragments(rt: HostRuntime) -> Result<(), Fail> {
+fn all_in_two_fragments(rt: HostRuntime) {
     let alloc = rt.alloc();
     let value: &[u8] = &[b'x'; 1_024];
     let rows: [(&[u8], &[u8]); 8] = [
@@ -342,53 +302,37 @@ fn all_in_two_fragments(rt: HostRuntime) -> Result<(), Fail> {
         (b"k007", value),
         (b"k008", &value[..840]),
     ];
-    let input = bytes(alloc, &[ALL])?;
-    let wanted = Came {
-        end: End::Clean,
-        calls: 1,
-        left: 0,
-        output: two_fragments(&rt, alloc, &rows)?,
-    };
-    assert_eq!(rt; wanted.output.len(), 4 + 8_192 + 4 + 4);
-    assert_eq!(rt; run_over(&rt, alloc, &rows, input), wanted);
-    Ok(())
+    let output = two_fragments(&rt, alloc, &rows);
+    assert_same(&rt, &output.len(), &(4 + 8_192 + 4 + 4), "two fragments");
+    let came = run_over(&rt, alloc, &rows, bytes(&rt, alloc, &[ALL]));
+    assert_same(&rt, &came, &(End::Clean, 1, 0, output), "ALL");
 }
 
 // The call of a first sink that fails, how its session ends, and how many bytes of its 60 were taken.
-const FIRST_WIRES: &[(u64, End, usize)] = &[
-    (NEVER, End::Torn { at: 96 }, 60),
-    (6, End::WriteFault, 48),
+const FIRST_WIRES: &[(&str, u64, End, usize)] = &[
+    ("behind a torn wire", NEVER, End::Torn { at: 96 }, 60),
+    ("behind a failed write", 6, End::WriteFault, 48),
 ];
 
-fn assert_two_wires(
-    rt: &impl Abort,
-    alloc: Global,
-    session: &mut Session,
-    host: &mut TestHost,
-) -> Result<(), Fail> {
+fn assert_two_wires(rt: &impl Abort, alloc: Global, session: &mut Session, host: &mut TestHost) {
     // Nothing of the first wire is left in the session.
-    let wanted = Came {
-        end: End::Torn { at: 52 },
-        calls: 1,
-        left: 0,
-        output: bytes(alloc, &[DOMAIN_REPLY])?,
-    };
-    for &(write, end, taken) in FIRST_WIRES {
-        let first = bytes(alloc, &[NULL, DOMAIN, "80"])?;
-        let second = bytes(alloc, &[DOMAIN, "80"])?;
+    let reply = bytes(rt, alloc, &[DOMAIN_REPLY]);
+    let wanted = (End::Torn { at: 52 }, 1, 0, reply);
+    for &(row, write, end, taken) in FIRST_WIRES {
+        let first = bytes(rt, alloc, &[NULL, DOMAIN, "80"]);
+        let second = bytes(rt, alloc, &[DOMAIN, "80"]);
         let bounds = Bounds { write, ..UNBOUNDED };
-        let came = run(rt, alloc, session, host, PEER, first, bounds);
-        assert_eq!(rt; (came.end, came.calls, came.output.len()), (end, 2, taken));
+        let (first_end, calls, _, output) = run(rt, alloc, session, host, PEER, first, bounds);
+        assert_same(rt, &(first_end, calls, output.len()), &(end, 2, taken), row);
         let came = run(rt, alloc, session, host, PEER, second, UNBOUNDED);
-        assert_eq!(rt; came, wanted, "behind {end:?}");
+        assert_same(rt, &came, &wanted, row);
     }
-    Ok(())
 }
 
 #[test]
-fn two_wires(rt: HostRuntime) -> Result<(), Fail> {
+fn two_wires(rt: HostRuntime) {
     let alloc = rt.alloc();
     let mut session = Session::new(alloc).expect(&rt, "a session");
     let mut host = host_with(&rt, alloc, &[]);
-    assert_two_wires(&rt, alloc, &mut session, &mut host)
+    assert_two_wires(&rt, alloc, &mut session, &mut host);
 }
