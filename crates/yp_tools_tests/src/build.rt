@@ -1,7 +1,7 @@
 //! `build` over files in memory, laid out by hand.
 
 use crate::given::{assert_same, bytes};
-use crate::stage::{FAIR, Scene, play, strings, told_of, try_words_of};
+use crate::stage::{FAIR, Scene, play, strings, told_of, try_words};
 use std::alloc::Global;
 use std::process::Abort;
 use std::random::RandomSource;
@@ -85,10 +85,17 @@ fn built_on_an_empty_file(rt: HostRuntime) {
         ..FAIR
     };
     for case in &FIRST {
-        let words = strings(&rt, alloc, case.words);
         let file = bytes(&rt, alloc, &[CELLS, case.format, ORDER, REST]);
         let told = (0, line.as_slice(), b"".as_slice());
-        try_words_of(&rt, alloc, &words, &scene, told, (MAP, &file), case.row);
+        try_words(
+            &rt,
+            alloc,
+            case.words,
+            &scene,
+            told,
+            Some((MAP, &file)),
+            case.row,
+        );
     }
 }
 
@@ -163,7 +170,6 @@ const BEHIND: [Behind<'static>; 5] = [
 fn built_behind_a_version(rt: HostRuntime) {
     let alloc = rt.alloc();
     for case in &BEHIND {
-        let words = strings(&rt, alloc, case.words);
         let before = bytes(&rt, alloc, &[CELLS, case.stood, ORDER, REST]);
         let [format, order] = case.new;
         let after = bytes(
@@ -178,7 +184,15 @@ fn built_behind_a_version(rt: HostRuntime) {
             ..FAIR
         };
         let told = (0, case.line.as_bytes(), b"".as_slice());
-        try_words_of(&rt, alloc, &words, &scene, told, (MAP, &after), case.row);
+        try_words(
+            &rt,
+            alloc,
+            case.words,
+            &scene,
+            told,
+            Some((MAP, &after)),
+            case.row,
+        );
         // The file that came is the same as this one.
         let stands = stands_of(&rt, alloc, after);
         assert_same(&rt, &stands, &Some(case.stands), case.row);

@@ -1,7 +1,7 @@
 //! `check` over a file in memory, laid out by hand.
 
 use crate::given::bytes;
-use crate::stage::{FAIR, Scene, strings, try_words_of};
+use crate::stage::{FAIR, Scene, try_words};
 
 const WORDS: [&str; 2] = ["check", "lab/hosts.byname"];
 
@@ -95,7 +95,6 @@ const FAULTS: [Fault<'static>; 7] = [
 #[test]
 fn one_failing_call_of_check(rt: HostRuntime) {
     let alloc = rt.alloc();
-    let words = strings(&rt, alloc, &WORDS);
     let file = bytes(&rt, alloc, &[FILE]);
     for fault in &FAULTS {
         let scene = Scene {
@@ -107,6 +106,14 @@ fn one_failing_call_of_check(rt: HostRuntime) {
             ..FAIR
         };
         let told = (fault.code, fault.output.as_bytes(), fault.note.as_bytes());
-        try_words_of(&rt, alloc, &words, &scene, told, (MAP, &file), fault.row);
+        try_words(
+            &rt,
+            alloc,
+            &WORDS,
+            &scene,
+            told,
+            Some((MAP, &file)),
+            fault.row,
+        );
     }
 }

@@ -1,7 +1,7 @@
 //! `once` over memory: its calls and replies written out by hand, from RFC 5531 and yp.x.
 
 use crate::given::{assert_same, bytes};
-use crate::stage::{FAIR, Scene, strings, try_words};
+use crate::stage::{FAIR, Scene, strings, try_strings, try_words};
 use std::alloc::Global;
 use std::process::Abort;
 
@@ -34,7 +34,6 @@ const VALUE_MAX: usize = 65_536;
 #[test]
 fn first_match(rt: HostRuntime) {
     let alloc = rt.alloc();
-    let words = strings(&rt, alloc, &SERVED);
     let call = bytes(&rt, alloc, &[MATCH]);
     let reply = bytes(&rt, alloc, &[MATCH_REPLY]);
     for (read, row) in PIECES {
@@ -44,7 +43,7 @@ fn first_match(rt: HostRuntime) {
             ..FAIR
         };
         let told = (0, reply.as_slice(), b"".as_slice());
-        try_words(&rt, alloc, &words, &scene, told, row);
+        try_words(&rt, alloc, &SERVED, &scene, told, None, row);
     }
 }
 
@@ -69,7 +68,6 @@ fn in_many_fragments<R: Abort>(rt: &R, alloc: Global) -> Vec<u8> {
 #[test]
 fn many_fragments(rt: HostRuntime) {
     let alloc = rt.alloc();
-    let words = strings(&rt, alloc, &SERVED);
     let call = in_many_fragments(&rt, alloc);
     assert_same(&rt, &call.len(), &384, "the length of the call");
     let reply = bytes(&rt, alloc, &[MATCH_REPLY]);
@@ -80,7 +78,7 @@ fn many_fragments(rt: HostRuntime) {
             ..FAIR
         };
         let told = (0, reply.as_slice(), b"".as_slice());
-        try_words(&rt, alloc, &words, &scene, told, row);
+        try_words(&rt, alloc, &SERVED, &scene, told, None, row);
     }
 }
 
@@ -137,7 +135,7 @@ fn value_in_nine_fragments(rt: HostRuntime) {
         ..FAIR
     };
     let told = (0, reply.as_slice(), b"".as_slice());
-    try_words(&rt, alloc, &words, &scene, told, "the longest value");
+    try_strings(&rt, alloc, &words, &scene, told, None, "the longest value");
 }
 
 /// Words that serve 256 rows with keys of two letters and the longest values.
@@ -165,10 +163,10 @@ fn rows_past_a_limit(rt: HostRuntime) {
         ..FAIR
     };
     let refused = (17, b"".as_slice(), b"yp: row 257 rule 4\n".as_slice());
-    try_words(&rt, alloc, &words, &scene, refused, "258 words");
+    try_strings(&rt, alloc, &words, &scene, refused, None, "258 words");
     let _ = words.pop();
     let absent = (0, reply.as_slice(), b"".as_slice());
-    try_words(&rt, alloc, &words, &scene, absent, "257 words");
+    try_strings(&rt, alloc, &words, &scene, absent, None, "257 words");
 }
 
 /// Reads and writes that fail, and whether the first reply is written.
@@ -229,7 +227,6 @@ const FAULTS: [Fault<'static>; 7] = [
 #[test]
 fn one_failing_call(rt: HostRuntime) {
     let alloc = rt.alloc();
-    let words = strings(&rt, alloc, &SERVED);
     let calls = bytes(&rt, alloc, &[MATCH, MATCH]);
     let reply = bytes(&rt, alloc, &[MATCH_REPLY]);
     for fault in &FAULTS {
@@ -247,6 +244,6 @@ fn one_failing_call(rt: HostRuntime) {
             ..FAIR
         };
         let told = (code, output, note);
-        try_words(&rt, alloc, &words, &scene, told, fault.row);
+        try_words(&rt, alloc, &SERVED, &scene, told, None, fault.row);
     }
 }

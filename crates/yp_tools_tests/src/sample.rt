@@ -1,7 +1,7 @@
 //! `sample` over memory. A row takes 24 bytes of the stored body, behind 24 bytes of its head, and 32 bytes of the
 //! reply to ALL, behind 24 bytes of its head and before 4 bytes of its end.
 
-use crate::stage::{FAIR, Scene, strings, try_words};
+use crate::stage::{FAIR, Scene, try_words};
 
 /// Writes take ten bytes at most.
 const SHORT_WRITES: Scene<'static> = Scene { write: 10, ..FAIR };
@@ -19,20 +19,28 @@ const LINES: [(&str, &str, &str); 5] = [
 fn numbers_told(rt: HostRuntime) {
     let alloc = rt.alloc();
     for (start, count, line) in LINES {
-        let words = strings(&rt, alloc, &["sample", start, count]);
+        let words = ["sample", start, count];
         let told = (0, line.as_bytes(), b"".as_slice());
-        try_words(&rt, alloc, &words, &SHORT_WRITES, told, line);
+        try_words(&rt, alloc, &words, &SHORT_WRITES, told, None, line);
     }
 }
 
 #[test]
 fn write_fault(rt: HostRuntime) {
     let alloc = rt.alloc();
-    let words = strings(&rt, alloc, &["sample", "0", "1"]);
+    let words = ["sample", "0", "1"];
     let scene = Scene {
         writes: &[1],
         ..SHORT_WRITES
     };
     let told = (4, b"rows 1 bod".as_slice(), b"yp: write fault\n".as_slice());
-    try_words(&rt, alloc, &words, &scene, told, "the second write fails");
+    try_words(
+        &rt,
+        alloc,
+        &words,
+        &scene,
+        told,
+        None,
+        "the second write fails",
+    );
 }

@@ -1,7 +1,7 @@
 //! Sessions over memory: their calls, replies and files written out by hand, from RFC 5531, yp.x and docs/FORMATS.md.
 
 use crate::given::bytes;
-use crate::stage::{FAIR, Scene, strings, try_words_of};
+use crate::stage::{FAIR, Scene, try_words};
 
 const WORDS: [&str; 4] = ["session", "m1", "127.0.0.1:40000", "lab/hosts.byname"];
 
@@ -36,7 +36,6 @@ const CALLS: [&str; 5] = ["8000004c 00000001", MATCH, MAKE, "8000004c 00000003",
 #[test]
 fn make_then_match(rt: HostRuntime) {
     let alloc = rt.alloc();
-    let words = strings(&rt, alloc, &WORDS);
     let calls = bytes(&rt, alloc, &CALLS);
     let replies = bytes(
         &rt,
@@ -61,13 +60,12 @@ fn make_then_match(rt: HostRuntime) {
         ..FAIR
     };
     let told = (0, replies.as_slice(), b"".as_slice());
-    try_words_of(&rt, alloc, &words, &scene, told, (MAP, &file), "made");
+    try_words(&rt, alloc, &WORDS, &scene, told, Some((MAP, &file)), "made");
 }
 
 #[test]
 fn refused_makes(rt: HostRuntime) {
     let alloc = rt.alloc();
-    let words = strings(&rt, alloc, &WORDS);
     let calls = bytes(&rt, alloc, &CALLS);
     // The text can't be read.
     let replies = bytes(
@@ -93,5 +91,13 @@ fn refused_makes(rt: HostRuntime) {
         ..FAIR
     };
     let told = (0, replies.as_slice(), b"".as_slice());
-    try_words_of(&rt, alloc, &words, &scene, told, (MAP, b""), "refused");
+    try_words(
+        &rt,
+        alloc,
+        &WORDS,
+        &scene,
+        told,
+        Some((MAP, b"")),
+        "refused",
+    );
 }

@@ -183,29 +183,30 @@ fn compare<R: Abort>(
     assert_same(rt, &came, &(told, usize::from(left.is_some()), left), row);
 }
 
-/// Runs words that name no map, and compares what is told.
+/// Runs words, and compares what is told, and what the file of the one map that they name then holds.
+pub(crate) fn try_strings<R: RandomSource + Abort>(
+    rt: &R,
+    alloc: Global,
+    words: &[String],
+    scene: &Scene<'_>,
+    told: Told<'_>,
+    left: Option<Left<'_>>,
+    row: &str,
+) {
+    let ended = play(rt, alloc, words, scene);
+    compare(rt, &ended, told, left, row);
+}
+
+/// The same of words that aren't strings yet.
 pub(crate) fn try_words<R: RandomSource + Abort>(
     rt: &R,
     alloc: Global,
-    words: &[String],
+    words: &[&str],
     scene: &Scene<'_>,
     told: Told<'_>,
+    left: Option<Left<'_>>,
     row: &str,
 ) {
-    let ended = play(rt, alloc, words, scene);
-    compare(rt, &ended, told, None, row);
-}
-
-/// Runs words that name one map, and compares what is told, and what its file then holds.
-pub(crate) fn try_words_of<R: RandomSource + Abort>(
-    rt: &R,
-    alloc: Global,
-    words: &[String],
-    scene: &Scene<'_>,
-    told: Told<'_>,
-    left: Left<'_>,
-    row: &str,
-) {
-    let ended = play(rt, alloc, words, scene);
-    compare(rt, &ended, told, Some(left), row);
+    let words = strings(rt, alloc, words);
+    try_strings(rt, alloc, &words, scene, told, left, row);
 }
