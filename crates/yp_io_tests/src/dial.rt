@@ -3,7 +3,7 @@
 ghost use Rattle.std.specs.Prelude.{All};
 ghost use Rattle.yp_io.specs.MemDial.{IsNew};
 
-use crate::given::{listed, owned, read_two, sent, taken};
+use crate::given::{assert_same, listed, owned, read_two, sent};
 use std::alloc::Global;
 use std::process::Abort;
 use yp_io::*;
@@ -41,56 +41,41 @@ fn call(dial: &mut MemDial) -> Result<[u8; 2], Failed> {
 }
 
 // What was taken by two wires that were given back, and by no more.
-fn two_taken(rt: &impl Abort, alloc: Global, wires: &[MemWire]) -> Option<(Vec<u8>, Vec<u8>)> {
+fn two_taken(wires: &[MemWire]) -> Option<(&[u8], &[u8])> {
     match wires {
-        [first, second] => Some((
-            taken(rt, alloc, &first.sink),
-            taken(rt, alloc, &second.sink),
-        )),
+        [first, second] => Some((first.sink.taken(), second.sink.taken())),
         _ => None,
     }
 }
 
 // The one letter that was sent.
-fn one_letter(rt: &impl Abort, alloc: Global, letters: &[Letter]) -> Option<(Peer, Vec<u8>)> {
+fn one_letter(letters: &[Letter]) -> Option<(Peer, &[u8])> {
     match letters {
-        [letter] => Some((letter.peer, owned(rt, alloc, &letter.bytes))),
+        [letter] => Some((letter.peer, &letter.bytes)),
         _ => None,
     }
 }
 
-// What four calls and two letters answer, and what the dial has then.
-#[derive(Debug, PartialEq, Drop)]
-struct Dialled {
-    calls: [Result<[u8; 2], Failed>; 4],
-    posts: [Result<(), Failed>; 2],
-    taken: Option<(Vec<u8>, Vec<u8>)>,
-    letter: Option<(Peer, Vec<u8>)>,
-}
-
-fn dial_in_turn(rt: &impl Abort, alloc: Global, dial: &mut MemDial) -> Dialled {
-    Dialled {
-        calls: [call(dial), call(dial), call(dial), call(dial)],
-        posts: [dial.post(PEER, b"lost"), dial.post(PEER, b"kept")],
-        taken: two_taken(rt, alloc, dial.past()),
-        letter: one_letter(rt, alloc, dial.letters()),
-    }
-}
-
-// The same over two wires, where these calls fail.
-fn dial_over(rt: &impl Abort, alloc: Global, failing: &[u64]) -> Dialled {
-    let mut dial = sent(MemDial::new(alloc, two_wires(rt, alloc), listed(rt, alloc, failing)));
-    dial_in_turn(rt, alloc, &mut dial)
+// Compares what four calls and two letters answer, what the wires have taken then, and the letter that was sent.
+fn check_dial(rt: &impl Abort, dial: &mut MemDial) {
+    let calls = [call(dial), call(dial), call(dial), call(dial)];
+    let posts = [dial.post(PEER, b"lost"), dial.post(PEER, b"kept")];
+    // The second call is listed, and no wire is left for the fourth. The first letter is a call that is listed.
+    let answers = (
+        [Ok(*b"on"), Err(Failed), Ok(*b"tw"), Err(Failed)],
+        [Err(Failed), Ok(())],
+    );
+    assert_same(rt, &(calls, posts), &answers, "calls and letters");
+    let taken = Some((b"on".as_slice(), b"tw".as_slice()));
+    assert_same(rt, &two_taken(dial.past()), &taken, "what was taken");
+    let letter = Some((PEER, b"kept".as_slice()));
+    assert_same(rt, &one_letter(dial.letters()), &letter, "the letter");
 }
 
 #[test]
 fn dial_in_memory(rt: HostRuntime) {
-    // The second call is listed, and no wire is left for the fourth. The first letter is a call that is listed.
-    let wanted = Dialled {
-        calls: [Ok(*b"on"), Err(Failed), Ok(*b"tw"), Err(Failed)],
-        posts: [Err(Failed), Ok(())],
-        taken: Some((owned(&rt, rt.alloc(), b"on"), owned(&rt, rt.alloc(), b"tw"))),
-        letter: Some((PEER, owned(&rt, rt.alloc(), b"kept"))),
-    };
-    assert_eq!(rt; dial_over(&rt, rt.alloc(), &[1, 4]), wanted);
+    let wires = two_wires(&rt, rt.alloc());
+    let failing = listed(&rt, rt.alloc(), &[1, 4]);
+    let mut dial = sent(MemDial::new(rt.alloc(), wires, failing));
+    check_dial(&rt, &mut dial);
 }

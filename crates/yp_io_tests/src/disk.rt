@@ -1,10 +1,7 @@
 //! Disks in memory, what a crash leaves of them, and disks that stop.
 
-use crate::given::{listed, owned, sent};
-use std::alloc::Global;
+use crate::given::{assert_same, bytes, listed, owned, sent};
 use std::process::Abort;
-use std::test::Fail;
-use yp_for_tests::bytes;
 use yp_io::{Disk, Failed, MemDisk};
 
 // A write within the disk's length, up to a small place.
@@ -25,61 +22,8 @@ fn read_three(disk: &mut MemDisk, at: u64) -> Result<[u8; 3], Failed> {
     Ok(buf)
 }
 
-fn left_of(rt: &impl Abort, alloc: Global, disk: &MemDisk, kept: u64) -> Vec<u8> {
-    disk.crashed(kept).expect(rt, "memory for a file")
-}
-
-// What calls answer in turn, what the disk has then, and what a crash leaves.
-#[derive(Debug, PartialEq, Drop)]
-struct Played {
-    lens: [Result<u64, Failed>; 2],
-    synced: [Result<(), Failed>; 2],
-    writes: [Result<(), Failed>; 3],
-    read: Result<[u8; 3], Failed>,
-    bytes: Vec<u8>,
-    crashed: Vec<u8>,
-}
-
-fn play(rt: &impl Abort, alloc: Global, disk: &mut MemDisk, kept: u64) -> Played {
-    Played {
-        lens: [disk.len(), disk.len()],
-        synced: [write(disk, 2, b"\xaa\xbb\xcc"), disk.sync()],
-        writes: [
-            write(disk, 0, b"\xff"),
-            write(disk, 5, b"\xdd\xdd"),
-            write(disk, 7, b"\xee"),
-        ],
-        read: read_three(disk, 4),
-        bytes: owned(rt, alloc, disk.bytes()),
-        crashed: left_of(rt, alloc, disk, kept),
-    }
-}
-
-fn played_on(rt: &impl Abort, alloc: Global, file: &[u8], failing: &[u64], kept: u64) -> Played {
-    let mut disk = sent(MemDisk::new(
-        alloc,
-        owned(rt, alloc, file),
-        None,
-        listed(rt, alloc, failing),
-    ));
-    play(rt, alloc, &mut disk, kept)
-}
-
-// The same by hand.
-fn play_wanted(alloc: Global, left: &str) -> Result<Played, Fail> {
-    let (written, crashed) = (
-        bytes(alloc, &["ff02aabb ccdddd ee"])?,
-        bytes(alloc, &[left])?,
-    );
-    Ok(Played {
-        lens: [Ok(4), Err(Failed)],
-        synced: [Ok(()); 2],
-        writes: [Ok(()); 3],
-        read: Ok([0xcc, 0xdd, 0xdd]),
-        bytes: written,
-        crashed,
-    })
-}
+// What the writes below make of four bytes.
+const WRITTEN: &str = "ff02aabb ccdddd ee";
 
 // The writes that a crash keeps, as bits, and what it leaves.
 const CRASHES: [(u64, &str); 6] = [
@@ -91,39 +35,48 @@ const CRASHES: [(u64, &str); 6] = [
     (u64::MAX, "ff02aabb ccdddd ee"),
 ];
 
-fn check_crash(rt: &impl Abort, alloc: Global, kept: u64, left: &str) -> Result<(), Fail> {
-    let wanted = play_wanted(alloc, left)?;
-    let came = played_on(rt, alloc, b"\x01\x02\x03\x04", &[1], kept);
-    assert_eq!(rt; came, wanted, "where {kept} are kept");
-    Ok(())
+// Compares what calls answer in turn, what the disk has then, and what a crash leaves.
+fn check_crash(rt: &impl Abort, disk: &mut MemDisk, kept: u64, written: &[u8], left: &[u8]) {
+    let lens = [disk.len(), disk.len()];
+    let synced = [write(disk, 2, b"\xaa\xbb\xcc"), disk.sync()];
+    let writes = [
+        write(disk, 0, b"\xff"),
+        write(disk, 5, b"\xdd\xdd"),
+        write(disk, 7, b"\xee"),
+    ];
+    let read = read_three(disk, 4);
+    let crashed = disk.crashed(kept).expect(rt, "memory for a file");
+    assert_same(
+        rt,
+        &(kept, lens, synced, writes, read),
+        &(
+            kept,
+            [Ok(4), Err(Failed)],
+            [Ok(()); 2],
+            [Ok(()); 3],
+            Ok([0xcc, 0xdd, 0xdd]),
+        ),
+        "the writes that are kept, and the answers",
+    );
+    assert_same(
+        rt,
+        &(kept, disk.bytes(), crashed.as_slice()),
+        &(kept, written, left),
+        "the writes that are kept, and the bytes",
+    );
 }
 
 #[test]
-fn disk_in_memory(rt: HostRuntime) -> Result<(), Fail> {
+fn disk_in_memory(rt: HostRuntime) {
+    let alloc = rt.alloc();
+    let written = bytes(&rt, alloc, &[WRITTEN]);
     for (kept, left) in &CRASHES {
-        check_crash(&rt, rt.alloc(), *kept, *left)?;
+        let left = bytes(&rt, alloc, &[*left]);
+        let file = owned(&rt, alloc, b"\x01\x02\x03\x04");
+        let failing = listed(&rt, alloc, &[1]);
+        let mut disk = sent(MemDisk::new(alloc, file, None, failing));
+        check_crash(&rt, &mut disk, *kept, &written, &left);
     }
-    Ok(())
-}
-
-// How many of four writes, each with its sync, succeed, and what a crash leaves of them.
-fn four_writes(rt: &impl Abort, alloc: Global, disk: &mut MemDisk) -> (u32, Vec<u8>) {
-    let mut done = 0u32;
-    for byte in 0u8..4 {
-        done = done.saturating_add(u32::from(write(disk, 0, &[byte]).is_ok()));
-        done = done.saturating_add(u32::from(disk.sync().is_ok()));
-    }
-    (done, left_of(rt, alloc, disk, 0))
-}
-
-fn writes_before(rt: &impl Abort, alloc: Global, stop: u64, failing: u64) -> (u32, Vec<u8>) {
-    let mut disk = MemDisk::new(
-        alloc,
-        Vec::new(alloc),
-        Some(stop),
-        listed(rt, alloc, &[failing]),
-    );
-    four_writes(rt, alloc, &mut disk)
 }
 
 // Up to which call a disk works, which call fails, how many of its calls are done, and what a crash leaves.
@@ -137,18 +90,31 @@ const STOPS: [Stop; 5] = [
     (9, 7, 7, "02"),
 ];
 
-fn check_stop(rt: &impl Abort, alloc: Global, row: &Stop) -> Result<(), Fail> {
-    let (stop, failing, done, left) = *row;
-    let wanted = (done, bytes(alloc, &[left])?);
-    let came = writes_before(rt, alloc, stop, failing);
-    assert_eq!(rt; came, wanted, "up to {stop}, but for {failing}");
-    Ok(())
+// Compares how many of four writes, each with its sync, succeed, and what a crash leaves of them.
+fn check_stop(rt: &impl Abort, disk: &mut MemDisk, row: &Stop, wanted: &[u8]) {
+    let mut done = 0u32;
+    for byte in 0u8..4 {
+        done = done.saturating_add(u32::from(write(disk, 0, &[byte]).is_ok()));
+        done = done.saturating_add(u32::from(disk.sync().is_ok()));
+    }
+    let crashed = disk.crashed(0).expect(rt, "memory for a file");
+    let (stop, failing, calls, _) = *row;
+    assert_same(
+        rt,
+        &(stop, failing, done, crashed.as_slice()),
+        &(stop, failing, calls, wanted),
+        "the stop, the call that fails, those that are done, and the bytes",
+    );
 }
 
 #[test]
-fn disk_stops(rt: HostRuntime) -> Result<(), Fail> {
+fn disk_stops(rt: HostRuntime) {
+    let alloc = rt.alloc();
     for row in &STOPS {
-        check_stop(&rt, rt.alloc(), row)?;
+        let (stop, failing, _, left) = *row;
+        let left = bytes(&rt, alloc, &[left]);
+        let failing = listed(&rt, alloc, &[failing]);
+        let mut disk = MemDisk::new(alloc, Vec::new(alloc), Some(stop), failing);
+        check_stop(&rt, &mut disk, row, &left);
     }
-    Ok(())
 }

@@ -1,6 +1,6 @@
 //! Texts and a clock in memory.
 
-use crate::given::{listed, owned, sent};
+use crate::given::{assert_same, listed, owned, sent};
 use std::alloc::Global;
 use std::process::Abort;
 use yp_io::*;
@@ -39,10 +39,11 @@ const READS: [(TextFile, Result<(), TextFault>, &[u8]); 4] = [
 fn check_reads(rt: &impl Abort, alloc: Global, texts: &mut MemTexts) {
     for (which, answer, bytes) in &READS {
         let (answered, came) = read_text(alloc, texts, *which);
-        assert_eq!(rt;
-            (answered, came.as_slice()),
-            (*answer, *bytes),
-            "at {which:?}"
+        assert_same(
+            rt,
+            &(*which, answered, came.as_slice()),
+            &(*which, *answer, *bytes),
+            "a read of a text",
         );
     }
 }
@@ -57,5 +58,6 @@ fn check_texts(rt: &impl Abort, alloc: Global, failing: u64) {
 #[test]
 fn texts_and_clock_in_memory(rt: HostRuntime) {
     check_texts(&rt, rt.alloc(), 1);
-    assert_eq!(rt; sent(SetClock { moment: 100 }).now(), 100);
+    let now = sent(SetClock { moment: 100 }).now();
+    assert_same(&rt, &now, &100, "the clock");
 }

@@ -1,12 +1,13 @@
 //! Publishers over disks in memory: stopped and failing disks, refusals in their order, and disks that are handed back.
 
+ghost use Rattle.std.specs.Prelude.{◌≡◌, ◌≤◌};
+
+use crate::given::{assert_same, bytes};
 use std::alloc::Global;
 use std::process::Abort;
 use std::random::RandomSource;
 use std::sync::Arc;
-use std::test::Fail;
 use yp_board::{Catalog, MapName, PlainBoard};
-use yp_for_tests::bytes;
 use yp_io::MemDisk;
 use yp_publish::*;
 use yp_slot::SlotFault;
@@ -31,12 +32,14 @@ const DAMAGED_FILE: &str = "01000000 00000009 00000000 00000001 00000000 0000004
     0000000e 31302e30 2e302e31 20616c70 68610000";
 
 // The files of these texts.
-fn files_of(alloc: Global, texts: &[&str]) -> Result<Vec<Vec<u8>>, Fail> {
+fn files_of(rt: &impl Abort, alloc: Global, texts: &[&str]) -> Vec<Vec<u8>> {
     let mut files = Vec::new(alloc);
     for text in texts {
-        files.push(bytes(alloc, &[*text])?)?;
+        files
+            .push(bytes(rt, alloc, &[*text]))
+            .expect(rt, "memory for files");
     }
-    Ok(files)
+    files
 }
 
 // Disks with these files.
@@ -50,10 +53,6 @@ fn disks_of(rt: &impl Abort, alloc: Global, files: Vec<Vec<u8>>) -> Vec<MemDisk>
     disks
 }
 
-fn put_row(rt: &impl Abort, builder: &mut VersionBuilder) {
-    assert_eq!(rt; builder.push(b"alpha", b"10.0.0.1 alpha"), Ok(true));
-}
-
 // A version of this order with the row of the hosts file.
 fn version<R: RandomSource + Abort>(
     rt: &R,
@@ -62,7 +61,8 @@ fn version<R: RandomSource + Abort>(
     master: &[u8; 2],
 ) -> Version {
     let mut builder = VersionBuilder::new(alloc, rt, order, master).expect(rt, "a builder");
-    put_row(rt, &mut builder);
+    let pushed = builder.push(b"alpha", b"10.0.0.1 alpha");
+    assert_same(rt, &pushed, &Ok(true), "the row of alpha");
     builder.finish().expect(rt, "a version")
 }
 
@@ -83,13 +83,27 @@ fn catalog(rt: &impl Abort, alloc: Global, own: &[u8], count: u8) -> Catalog {
 
 type Maps = Publisher<MemDisk, PlainBoard>;
 
+// Ends the test where these are too many to be loaded.
+fn assert_few(rt: &impl Abort, count: usize)
+    ensures { count ≤ 64 }
+{
+    assert!(rt; count <= 64);
+}
+
 fn load(
     rt: &(impl RandomSource + Abort),
     alloc: Global,
     disks: Vec<MemDisk>,
 ) -> Result<Loaded<MemDisk>, StartRefused<MemDisk>> {
-    assert!(rt; disks.len() <= 64);
+    assert_few(rt, disks.len());
     load_all(alloc, rt, disks)
+}
+
+// Ends the test where there aren't as many versions as maps.
+fn assert_equal(rt: &impl Abort, versions: usize, maps: usize)
+    ensures { versions ≡ maps }
+{
+    assert!(rt; versions == maps, "{versions} versions of {maps} maps");
 }
 
 // A publisher of these disks on a host of this name.
@@ -101,9 +115,9 @@ fn published<R: RandomSource + Abort>(
 ) -> Maps {
     let loaded = load(rt, alloc, disks).expect(rt, "loaded disks");
     let start = loaded.shown(alloc).expect(rt, "versions");
-    assert!(rt; start.len() <= 64);
+    assert_few(rt, start.len());
     let catalog = catalog(rt, alloc, own, start.len() as u8);
-    assert_eq!(rt; start.len(), catalog.len() as usize);
+    assert_equal(rt, start.len(), catalog.len() as usize);
     let copy = catalog.copy(alloc).expect(rt, "a catalogue");
     laws::starts_are_shown();
     let board = PlainBoard::new(alloc, copy, start).expect(rt, "a board");
@@ -148,7 +162,7 @@ fn done(order: u32, generation: u64) -> Result<Installed, InstallFault> {
 }
 
 // A call of map 0.
-#[derive(Clone, Copy, Debug)]
+#[derive(Clone, Copy)]
 enum Call {
     Look,
     Build(u32),
@@ -204,12 +218,18 @@ fn make_call<R: RandomSource + Abort>(
     }
 }
 
-// A call, its answer, and the state behind it.
-type Row = (Call, Answer, State);
+// A call and its name, its answer, and the state behind it.
+type Row = (&'static str, Call, Answer, State);
 
-const LOOKED: Row = (Call::Look, Answer::Looked, (None, 0, Standing::Level));
+const LOOKED: Row = (
+    "a look",
+    Call::Look,
+    Answer::Looked,
+    (None, 0, Standing::Level),
+);
 
 const FIRST: Row = (
+    "the first build",
     Call::Build(100),
     Answer::Done {
         order: 100,
@@ -219,6 +239,7 @@ const FIRST: Row = (
 );
 
 const SECOND: Row = (
+    "the second build",
     Call::Build(101),
     Answer::Done {
         order: 101,
@@ -228,6 +249,7 @@ const SECOND: Row = (
 );
 
 const THIRD: Row = (
+    "the third build",
     Call::Build(102),
     Answer::Done {
         order: 102,
@@ -238,21 +260,18 @@ const THIRD: Row = (
 
 // The third build where the disk stops or fails.
 const FAULT: Row = (
+    "the third build, with a fault",
     Call::Build(102),
     Answer::DiskFault,
     (Some(101), 2, Standing::Behind),
 );
 
-// Makes the calls in turn.
+// Makes the calls in turn, where the disk stops or fails at a call.
 fn play<R: RandomSource + Abort>(rt: &R, alloc: Global, maps: &mut Maps, rows: &[Row], what: u64) {
-    for (made, answer, after) in rows {
+    for (name, made, answer, after) in rows {
         let came = make_call(rt, alloc, maps, *made);
         let found = state(rt, maps, 0);
-        assert_eq!(rt;
-            (came, found),
-            (*answer, *after),
-            "at {made:?} with call {what}"
-        );
+        assert_same(rt, &(what, came, found), &(what, *answer, *after), *name);
     }
 }
 
@@ -287,7 +306,7 @@ fn play_failing<R: RandomSource + Abort>(rt: &R, alloc: Global, failing: &[u64],
 #[test]
 fn three_installs(rt: HostRuntime) {
     // On a level map a reopen does nothing.
-    let level = (Call::Reopen, Answer::Reopened, THIRD.2);
+    let level = ("a reopen", Call::Reopen, Answer::Reopened, THIRD.3);
     play_failing(&rt, rt.alloc(), &[], &[LOOKED, FIRST, SECOND, THIRD, level]);
 }
 
@@ -340,10 +359,11 @@ fn third_install_stopped(rt: HostRuntime) {
             let found = order_of(&rt, alloc, stopped(&rt, alloc, stop, kept));
             let third = stop == 22 && kept % 2 == 1;
             let order = if third { 102 } else { 101 };
-            assert_eq!(rt;
-                found.as_slice(),
-                [Some(order)].as_slice(),
-                "at {stop}, kept {kept}"
+            assert_same(
+                &rt,
+                &(stop, kept, found.as_slice()),
+                &(stop, kept, [Some(order)].as_slice()),
+                "a stop, what is kept, and the order",
             );
         }
     }
@@ -351,7 +371,7 @@ fn third_install_stopped(rt: HostRuntime) {
 
 #[test]
 fn reopens_behind(rt: HostRuntime) {
-    let behind = (Call::Build(103), Answer::Behind, FAULT.2);
+    let behind = ("a build behind", Call::Build(103), Answer::Behind, FAULT.3);
     // The first call of the third install fails, which writes nothing, or its last sync does.
     for (failing, order, generation, next) in [(16, 101, 2, 3), (22, 102, 3, 4)] {
         let level = (Some(order), generation, Standing::Level);
@@ -361,8 +381,9 @@ fn reopens_behind(rt: HostRuntime) {
             SECOND,
             FAULT,
             behind,
-            (Call::Reopen, Answer::Reopened, level),
+            ("a reopen", Call::Reopen, Answer::Reopened, level),
             (
+                "the next build",
                 Call::Build(103),
                 Answer::Done {
                     order: 103,
@@ -383,8 +404,13 @@ fn reopen_that_fails(rt: HostRuntime) {
         FIRST,
         SECOND,
         FAULT,
-        (Call::Reopen, Answer::DiskFault, FAULT.2),
-        (Call::Reopen, Answer::Reopened, THIRD.2),
+        (
+            "a reopen with a fault",
+            Call::Reopen,
+            Answer::DiskFault,
+            FAULT.3,
+        ),
+        ("a reopen", Call::Reopen, Answer::Reopened, THIRD.3),
     ];
     play_failing(&rt, rt.alloc(), &[22, 23], &rows);
 }
@@ -446,26 +472,24 @@ fn offer_over<R: RandomSource + Abort>(
 fn offer_wanted(rt: &impl Abort, alloc: Global, order: u32, outcome: Outcome, last: bool) -> Came {
     let generation = if last { u64::MAX } else { 1 };
     let before = (Some(100), generation, Standing::Level);
-    let answer = match outcome {
-        Outcome::Installs => return (before, done(order, 2), (Some(order), 2, Standing::Level)),
-        Outcome::Refuses => InstallFault::Refused {
-            master: owned(rt, alloc, b"m1"),
-        },
-        Outcome::Ages => InstallFault::Age {
-            shown: 100,
-            offered: order,
-        },
-        Outcome::Spent => InstallFault::GenerationsSpent,
-    };
-    (before, Err(answer), before)
+    match outcome {
+        Outcome::Installs => (before, done(order, 2), (Some(order), 2, Standing::Level)),
+        Outcome::Refuses => {
+            let master = owned(rt, alloc, b"m1");
+            (before, Err(InstallFault::Refused { master }), before)
+        }
+        Outcome::Ages => {
+            let fault = InstallFault::Age {
+                shown: 100,
+                offered: order,
+            };
+            (before, Err(fault), before)
+        }
+        Outcome::Spent => (before, Err(InstallFault::GenerationsSpent), before),
+    }
 }
 
-fn check_offer<R: RandomSource + Abort>(
-    rt: &R,
-    alloc: Global,
-    number: usize,
-    row: &Offered,
-) -> Result<(), Fail> {
+fn check_offer<R: RandomSource + Abort>(rt: &R, alloc: Global, row: &Offered) {
     let (own, text, origin, order, force, outcome) = *row;
     let offer = Offer {
         map: 0,
@@ -474,18 +498,18 @@ fn check_offer<R: RandomSource + Abort>(
         origin,
         force,
     };
-    let came = offer_over(rt, alloc, own, bytes(alloc, &[text])?, offer);
+    let came = offer_over(rt, alloc, own, bytes(rt, alloc, &[text]), offer);
     let wanted = offer_wanted(rt, alloc, order, outcome, text == LAST_FILE);
-    assert_eq!(rt; came, wanted, "in row {number}");
-    Ok(())
+    // The file is the row's name.
+    let place = (own, origin, order, force);
+    assert_same(rt, &(place, came), &(place, wanted), text);
 }
 
 #[test]
-fn refusals_in_order(rt: HostRuntime) -> Result<(), Fail> {
-    for (number, row) in OFFERS.iter().enumerate() {
-        check_offer(&rt, rt.alloc(), number, row)?;
+fn refusals_in_order(rt: HostRuntime) {
+    for row in &OFFERS {
+        check_offer(&rt, rt.alloc(), row);
     }
-    Ok(())
 }
 
 // The bytes of each disk.
@@ -514,16 +538,16 @@ fn refused<R: RandomSource + Abort>(rt: &R, alloc: Global, files: Vec<Vec<u8>>) 
 }
 
 #[test]
-fn damaged_disk_refused(rt: HostRuntime) -> Result<(), Fail> {
+fn damaged_disk_refused(rt: HostRuntime) {
     let alloc = rt.alloc();
     let texts = [HOSTS_FILE, DAMAGED_FILE, "", HOSTS_FILE];
+    let came = refused(&rt, alloc, files_of(&rt, alloc, &texts));
     let wanted = (
         1,
         SlotFault::Damaged { at: 7, rule: 3 },
-        files_of(alloc, &texts)?,
+        files_of(&rt, alloc, &texts),
     );
-    assert_eq!(rt; refused(&rt, alloc, files_of(alloc, &texts)?), wanted);
-    Ok(())
+    assert_same(&rt, &came, &wanted, "the second disk");
 }
 
 // What a version for map 1 answers, and the states of maps 0 and 2 behind it.
@@ -555,22 +579,20 @@ fn second_over<R: RandomSource + Abort>(
 }
 
 #[test]
-fn disks_in_order(rt: HostRuntime) -> Result<(), Fail> {
+fn disks_in_order(rt: HostRuntime) {
     let alloc = rt.alloc();
-    let files = files_of(alloc, &[HOSTS_FILE, "", LAST_FILE])?;
+    let files = files_of(&rt, alloc, &[HOSTS_FILE, "", LAST_FILE]);
     let (second, found) = second_over(&rt, alloc, files);
     let first = (Some(100), 1, Standing::Level);
     let third = (Some(100), u64::MAX, Standing::Level);
-    assert_eq!(rt; second, (done(7, 1), first, third));
-    assert_eq!(rt;
-        found.as_slice(),
-        [Some(100), Some(7), Some(100)].as_slice()
-    );
-    Ok(())
+    assert_same(&rt, &second, &(done(7, 1), first, third), "an offer");
+    let orders = [Some(100), Some(7), Some(100)];
+    assert_same(&rt, &found.as_slice(), &orders.as_slice(), "the orders");
 }
 
 #[test]
 fn no_disks(rt: HostRuntime) {
     let alloc = rt.alloc();
-    assert_eq!(rt; loaded_orders(&rt, alloc, Vec::new(alloc)).len(), 0);
+    let count = loaded_orders(&rt, alloc, Vec::new(alloc)).len();
+    assert_same(&rt, &count, &0, "no disks");
 }

@@ -1,13 +1,13 @@
 //! `build` over files in memory, laid out by hand.
 
-use crate::stage::{FAIR, Scene, play, strings, wanted_of};
+use crate::given::{assert_same, bytes};
+use crate::stage::{FAIR, Scene, play, strings, told_of, try_words};
 use std::alloc::Global;
 use std::process::Abort;
 use std::random::RandomSource;
-use std::test::Fail;
-use yp_for_tests::bytes;
 use yp_io::MemDisk;
 use yp_slot::Slot;
+use yp_tools::NamedDisk;
 
 const BUILD: [&str; 3] = ["build", "m1", "lab/hosts.byname"];
 
@@ -47,9 +47,8 @@ const REST: &str = "00000002 6d310000 00000001
 /// The order of the version that a file stands for, and whether it is secure.
 type Stands = Option<(u32, bool)>;
 
-fn stands_of<R: RandomSource + Abort>(rt: &R, alloc: Global, file: &[u8]) -> Stands {
-    let bytes = Vec::from_slice(alloc, file).expect(rt, "memory");
-    let disk = MemDisk::new(alloc, bytes, None, Vec::new(alloc));
+fn stands_of<R: RandomSource + Abort>(rt: &R, alloc: Global, file: Vec<u8>) -> Stands {
+    let disk = MemDisk::new(alloc, file, None, Vec::new(alloc));
     match Slot::new(disk).load(alloc, rt).expect(rt, "a sound file") {
         Some(version) => Some((version.order(), version.secure())),
         None => None,
@@ -59,42 +58,51 @@ fn stands_of<R: RandomSource + Abort>(rt: &R, alloc: Global, file: &[u8]) -> Sta
 /// The words of a build, and the format that comes.
 #[derive(Clone, Copy)]
 struct First<'a> {
+    row: &'a str,
     words: &'a [&'a str],
     format: &'a str,
 }
 
 const FIRST: [First<'static>; 2] = [
     First {
+        row: "open",
         words: &BUILD,
         format: OPEN,
     },
     First {
+        row: "secure",
         words: &SECURE,
         format: SHUT,
     },
 ];
 
 #[test]
-fn built_on_an_empty_file(rt: HostRuntime) -> Result<(), Fail> {
+fn built_on_an_empty_file(rt: HostRuntime) {
     let alloc = rt.alloc();
     let line = b"lab/hosts.byname order 100 rows 1 generation 1\n";
     let scene = Scene {
         input: HOSTS,
         ..FAIR
     };
-    for (row, case) in FIRST.iter().enumerate() {
-        let words = strings(alloc, case.words)?;
-        let file = bytes(alloc, &[CELLS, case.format, ORDER, REST])?;
-        let built = wanted_of(alloc, 0, line, "", MAP, &file)?;
-        let came = play(&rt, alloc, &words, &scene);
-        assert_eq!(rt; came, built, "row {row}");
+    for case in &FIRST {
+        let file = bytes(&rt, alloc, &[CELLS, case.format, ORDER, REST]);
+        let told = (0, line.as_slice(), b"".as_slice());
+        try_words(
+            &rt,
+            alloc,
+            case.words,
+            &scene,
+            told,
+            Some((MAP, &file)),
+            case.row,
+        );
     }
-    Ok(())
 }
 
 /// A build behind the version of order 100.
 #[derive(Clone, Copy)]
 struct Behind<'a> {
+    row: &'a str,
     words: &'a [&'a str],
     moment: u32,
     /// The format that stood.
@@ -112,6 +120,7 @@ const LINE_500: &str = "lab/hosts.byname order 500 rows 1 generation 2\n";
 /// The order rises where the clock went back, and follows it else. The mark stays, but for the flag.
 const BEHIND: [Behind<'static>; 5] = [
     Behind {
+        row: "open, after the clock went back",
         words: &BUILD,
         moment: 50,
         stood: OPEN,
@@ -120,6 +129,7 @@ const BEHIND: [Behind<'static>; 5] = [
         stands: (101, false),
     },
     Behind {
+        row: "open, later",
         words: &BUILD,
         moment: 500,
         stood: OPEN,
@@ -128,6 +138,7 @@ const BEHIND: [Behind<'static>; 5] = [
         stands: (500, false),
     },
     Behind {
+        row: "secure, unmarked",
         words: &BUILD,
         moment: 100,
         stood: SHUT,
@@ -136,6 +147,7 @@ const BEHIND: [Behind<'static>; 5] = [
         stands: (101, true),
     },
     Behind {
+        row: "secure, then plain",
         words: &PLAIN,
         moment: 100,
         stood: SHUT,
@@ -144,6 +156,7 @@ const BEHIND: [Behind<'static>; 5] = [
         stands: (101, false),
     },
     Behind {
+        row: "open, then secure",
         words: &SECURE,
         moment: 100,
         stood: OPEN,
@@ -154,29 +167,36 @@ const BEHIND: [Behind<'static>; 5] = [
 ];
 
 #[test]
-fn built_behind_a_version(rt: HostRuntime) -> Result<(), Fail> {
+fn built_behind_a_version(rt: HostRuntime) {
     let alloc = rt.alloc();
-    for (row, case) in BEHIND.iter().enumerate() {
-        let words = strings(alloc, case.words)?;
-        let before = bytes(alloc, &[CELLS, case.stood, ORDER, REST])?;
+    for case in &BEHIND {
+        let before = bytes(&rt, alloc, &[CELLS, case.stood, ORDER, REST]);
         let [format, order] = case.new;
         let after = bytes(
+            &rt,
             alloc,
             &[BOTH_CELLS, case.stood, ORDER, REST, format, order, REST],
-        )?;
-        let built = wanted_of(alloc, 0, case.line.as_bytes(), "", MAP, &after)?;
+        );
         let scene = Scene {
             input: HOSTS,
             file: &before,
             moment: case.moment,
             ..FAIR
         };
-        let came = play(&rt, alloc, &words, &scene);
-        assert_eq!(rt; came, built, "row {row}");
-        let stands = stands_of(&rt, alloc, &came.file);
-        assert_eq!(rt; stands, Some(case.stands), "row {row}");
+        let told = (0, case.line.as_bytes(), b"".as_slice());
+        try_words(
+            &rt,
+            alloc,
+            case.words,
+            &scene,
+            told,
+            Some((MAP, &after)),
+            case.row,
+        );
+        // The file that came is the same as this one.
+        let stands = stands_of(&rt, alloc, after);
+        assert_same(&rt, &stands, &Some(case.stands), case.row);
     }
-    Ok(())
 }
 
 /// A file, the last of the calls of its disk when a version is stored on it, and the line and the version that come.
@@ -186,6 +206,31 @@ struct Site<'a> {
     last: u64,
     line: &'a str,
     new: (u32, bool),
+}
+
+/// The call that fails, and once more where each one behind it fails, too.
+type Place = (u64, Option<u64>);
+
+/// Compares what the files that a crash may leave stand for.
+fn try_crashes<R: RandomSource + Abort>(
+    rt: &R,
+    alloc: Global,
+    disks: &[NamedDisk<MemDisk>],
+    place: Place,
+    allowed: [Stands; 2],
+) {
+    for named in disks {
+        for kept in 0..CRASHES {
+            let image = named.disk.crashed(kept).expect(rt, "memory");
+            let is_allowed = allowed.contains(&stands_of(rt, alloc, image));
+            assert_same(
+                rt,
+                &(place, kept, is_allowed),
+                &(place, kept, true),
+                "a crash that keeps some writes",
+            );
+        }
+    }
 }
 
 /// A build whose disk fails at a call, or from it on. It is told, and each file that a crash may leave stands for what
@@ -205,28 +250,22 @@ fn try_fault<R: RandomSource + Abort>(
     } else {
         ((10, [].as_slice(), DISK_FAULT.as_bytes()), [before, new])
     };
-    let came = play(rt, alloc, words, scene);
-    assert_eq!(rt; came.told(), told, "call {call}, stop {:?}", scene.stop);
-    assert_eq!(rt; came.images.len() as u64, CRASHES);
-    for (kept, image) in came.images.iter().enumerate() {
-        let stands = stands_of(rt, alloc, image);
-        assert!(rt;
-            allowed.contains(&stands),
-            "call {call}, stop {:?}, kept {kept}",
-            scene.stop
-        );
-    }
+    let place = (call, scene.stop);
+    let (status, outside) = play(rt, alloc, words, scene);
+    let came = (place, told_of(&status, &outside), outside.disks.len());
+    assert_same(rt, &came, &(place, told, 1), "a call fails");
+    try_crashes(rt, alloc, &outside.disks, place, allowed);
 }
 
 /// The same for each call up to the last.
 fn try_faults<R: RandomSource + Abort>(rt: &R, alloc: Global, words: &[String], site: &Site<'_>) {
-    let before = stands_of(rt, alloc, site.file);
+    let file = Vec::from_slice(alloc, site.file).expect(rt, "memory");
+    let before = stands_of(rt, alloc, file);
     for call in 0..=site.last {
         let from = Scene {
             input: HOSTS,
             file: site.file,
             stop: Some(call),
-            crashes: CRASHES,
             ..FAIR
         };
         let only = Scene {
@@ -240,9 +279,9 @@ fn try_faults<R: RandomSource + Abort>(rt: &R, alloc: Global, words: &[String], 
 }
 
 #[test]
-fn each_disk_call_fails(rt: HostRuntime) -> Result<(), Fail> {
+fn each_disk_call_fails(rt: HostRuntime) {
     let alloc = rt.alloc();
-    let words = strings(alloc, &BUILD)?;
+    let words = strings(&rt, alloc, &BUILD);
     // Two calls load an empty file, and nine store a version on it.
     let empty = Site {
         file: &[],
@@ -252,7 +291,7 @@ fn each_disk_call_fails(rt: HostRuntime) -> Result<(), Fail> {
     };
     try_faults(&rt, alloc, &words, &empty);
     // Four calls load this one, and five store a version on it.
-    let file = bytes(alloc, &[CELLS, OPEN, ORDER, REST])?;
+    let file = bytes(&rt, alloc, &[CELLS, OPEN, ORDER, REST]);
     let stored = Site {
         file: &file,
         last: 9,
@@ -260,5 +299,4 @@ fn each_disk_call_fails(rt: HostRuntime) -> Result<(), Fail> {
         new: (101, false),
     };
     try_faults(&rt, alloc, &words, &stored);
-    Ok(())
 }

@@ -1,8 +1,7 @@
 //! `check` over a file in memory, laid out by hand.
 
-use crate::stage::{FAIR, Scene, play, strings, wanted_of};
-use std::test::Fail;
-use yp_for_tests::bytes;
+use crate::given::bytes;
+use crate::stage::{FAIR, Scene, try_words};
 
 const WORDS: [&str; 2] = ["check", "lab/hosts.byname"];
 
@@ -24,6 +23,7 @@ const WRITE_FAULT: &str = "yp: write fault\n";
 /// Calls of the disk and of the output that fail, and what comes.
 #[derive(Clone, Copy)]
 struct Fault<'a> {
+    row: &'a str,
     disk: &'a [u64],
     writes: &'a [u64],
     code: u8,
@@ -35,6 +35,7 @@ struct Fault<'a> {
 /// and the flush.
 const FAULTS: [Fault<'static>; 7] = [
     Fault {
+        row: "no sync",
         disk: &[0],
         writes: &[],
         code: 10,
@@ -42,6 +43,7 @@ const FAULTS: [Fault<'static>; 7] = [
         note: DISK_FAULT,
     },
     Fault {
+        row: "no length",
         disk: &[1],
         writes: &[],
         code: 10,
@@ -49,6 +51,7 @@ const FAULTS: [Fault<'static>; 7] = [
         note: DISK_FAULT,
     },
     Fault {
+        row: "no cells",
         disk: &[2],
         writes: &[],
         code: 10,
@@ -56,6 +59,7 @@ const FAULTS: [Fault<'static>; 7] = [
         note: DISK_FAULT,
     },
     Fault {
+        row: "no body",
         disk: &[3],
         writes: &[],
         code: 10,
@@ -63,6 +67,7 @@ const FAULTS: [Fault<'static>; 7] = [
         note: DISK_FAULT,
     },
     Fault {
+        row: "no fifth call of the disk",
         disk: &[4],
         writes: &[],
         code: 0,
@@ -70,6 +75,7 @@ const FAULTS: [Fault<'static>; 7] = [
         note: "",
     },
     Fault {
+        row: "no write",
         disk: &[],
         writes: &[0],
         code: 4,
@@ -77,6 +83,7 @@ const FAULTS: [Fault<'static>; 7] = [
         note: WRITE_FAULT,
     },
     Fault {
+        row: "no flush",
         disk: &[],
         writes: &[1],
         code: 4,
@@ -86,13 +93,10 @@ const FAULTS: [Fault<'static>; 7] = [
 ];
 
 #[test]
-fn one_failing_call_of_check(rt: HostRuntime) -> Result<(), Fail> {
+fn one_failing_call_of_check(rt: HostRuntime) {
     let alloc = rt.alloc();
-    let words = strings(alloc, &WORDS)?;
-    let file = bytes(alloc, &[FILE])?;
-    for (row, fault) in FAULTS.iter().enumerate() {
-        let output = fault.output.as_bytes();
-        let ended = wanted_of(alloc, fault.code, output, fault.note, MAP, &file)?;
+    let file = bytes(&rt, alloc, &[FILE]);
+    for fault in &FAULTS {
         let scene = Scene {
             input: b"left",
             read: 4,
@@ -101,8 +105,15 @@ fn one_failing_call_of_check(rt: HostRuntime) -> Result<(), Fail> {
             disk: fault.disk,
             ..FAIR
         };
-        let came = play(&rt, alloc, &words, &scene);
-        assert_eq!(rt; came, ended, "row {row}");
+        let told = (fault.code, fault.output.as_bytes(), fault.note.as_bytes());
+        try_words(
+            &rt,
+            alloc,
+            &WORDS,
+            &scene,
+            told,
+            Some((MAP, &file)),
+            fault.row,
+        );
     }
-    Ok(())
 }

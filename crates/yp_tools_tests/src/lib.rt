@@ -6,6 +6,8 @@ mod build;
 #[cfg(test)]
 mod check;
 #[cfg(test)]
+mod given;
+#[cfg(test)]
 mod once;
 #[cfg(test)]
 mod question;

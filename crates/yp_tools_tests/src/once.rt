@@ -1,9 +1,9 @@
 //! `once` over memory: its calls and replies written out by hand, from RFC 5531 and yp.x.
 
-use crate::stage::{FAIR, Scene, play, strings, wanted};
-use std::alloc::{AllocError, Global};
-use std::test::Fail;
-use yp_for_tests::bytes;
+use crate::given::{assert_same, bytes};
+use crate::stage::{FAIR, Scene, strings, try_strings, try_words};
+use std::alloc::Global;
+use std::process::Abort;
 
 /// The words that serve one row.
 const SERVED: [&str; 3] = ["once", "lab/hosts.byname", "alpha=10.0.0.1 alpha"];
@@ -21,153 +21,158 @@ const MATCH_REPLY: &str = "80000030 00000001 00000001 00000000 00000000 00000000
 const NO_KEY_REPLY: &str = "80000020 00000001 00000001 00000000 00000000 00000000 00000000
     fffffffd 00000000";
 
-/// The most bytes of a read: one, three and eighty.
-const PIECES: [usize; 3] = [1, 3, 80];
+/// The most bytes of a read.
+const PIECES: [(usize, &str); 3] = [
+    (1, "reads of one byte"),
+    (3, "reads of three bytes"),
+    (80, "reads of eighty bytes"),
+];
 
 /// The most bytes of a value.
 const VALUE_MAX: usize = 65_536;
 
 #[test]
-fn first_match(rt: HostRuntime) -> Result<(), Fail> {
+fn first_match(rt: HostRuntime) {
     let alloc = rt.alloc();
-    let words = strings(alloc, &SERVED)?;
-    let call = bytes(alloc, &[MATCH])?;
-    let reply = bytes(alloc, &[MATCH_REPLY])?;
-    let answered = wanted(alloc, 0, &reply, "")?;
-    for read in PIECES {
+    let call = bytes(&rt, alloc, &[MATCH]);
+    let reply = bytes(&rt, alloc, &[MATCH_REPLY]);
+    for (read, row) in PIECES {
         let scene = Scene {
             input: &call,
             read,
             ..FAIR
         };
-        let came = play(&rt, alloc, &words, &scene);
-        assert_eq!(rt; came, answered, "in reads of {read} bytes");
+        let told = (0, reply.as_slice(), b"".as_slice());
+        try_words(&rt, alloc, &SERVED, &scene, told, None, row);
     }
-    Ok(())
 }
 
 /// The call of MATCH, each of its bytes in a fragment of its own, and an empty fragment after the tenth.
-fn in_many_fragments(alloc: Global) -> Result<Vec<u8>, Fail> {
-    let call = bytes(alloc, &[MATCH])?;
+fn in_many_fragments<R: Abort>(rt: &R, alloc: Global) -> Vec<u8> {
+    let call = bytes(rt, alloc, &[MATCH]);
     let mut all = Vec::new(alloc);
     for (i, byte) in call.iter().enumerate() {
         if i >= 4 {
             let head: u32 = if i == 79 { 0x8000_0001 } else { 1 };
-            all.extend_from_slice(&head.to_be_bytes())?;
-            all.push(*byte)?;
+            all.extend_from_slice(&head.to_be_bytes())
+                .expect(rt, "memory");
+            all.push(*byte).expect(rt, "memory");
         }
         if i == 13 {
-            all.extend_from_slice(&[0; 4])?;
+            all.extend_from_slice(&[0; 4]).expect(rt, "memory");
         }
     }
-    Ok(all)
+    all
 }
 
 #[test]
-fn many_fragments(rt: HostRuntime) -> Result<(), Fail> {
+fn many_fragments(rt: HostRuntime) {
     let alloc = rt.alloc();
-    let words = strings(alloc, &SERVED)?;
-    let call = in_many_fragments(alloc)?;
-    assert_eq!(rt; call.len(), 384);
-    let reply = bytes(alloc, &[MATCH_REPLY])?;
-    let answered = wanted(alloc, 0, &reply, "")?;
-    for read in PIECES {
+    let call = in_many_fragments(&rt, alloc);
+    assert_same(&rt, &call.len(), &384, "the length of the call");
+    let reply = bytes(&rt, alloc, &[MATCH_REPLY]);
+    for (read, row) in PIECES {
         let scene = Scene {
             input: &call,
             read,
             ..FAIR
         };
-        let came = play(&rt, alloc, &words, &scene);
-        assert_eq!(rt; came, answered, "in reads of {read} bytes");
+        let told = (0, reply.as_slice(), b"".as_slice());
+        try_words(&rt, alloc, &SERVED, &scene, told, None, row);
     }
-    Ok(())
 }
 
 /// A row whose value is so many bytes `x`.
-fn long_row(alloc: Global, key: &[u8], len: usize) -> Result<String, AllocError> {
+fn long_row<R: Abort>(rt: &R, alloc: Global, key: &[u8], len: usize) -> String {
     let mut row = String::new(alloc);
     for byte in key {
-        row.push(char::from(*byte))?;
+        row.push(char::from(*byte)).expect(rt, "memory");
     }
-    row.push('=')?;
+    row.push('=').expect(rt, "memory");
     for _ in 0..len {
-        row.push('x')?;
+        row.push('x').expect(rt, "memory");
     }
-    Ok(row)
+    row
 }
+
+/// The heads of a fragment of 8,192 bytes, and of a last one of 32.
+const FULL: u32 = 0x0000_2000;
+
+const LAST: u32 = 0x8000_0020;
 
 /// The reply to MATCH with the longest value: eight fragments of 8,192 bytes, the first of which begins with 32 bytes
 /// before the value, and one of 32.
-fn reply_of_nine_fragments(alloc: Global) -> Result<Vec<u8>, Fail> {
-    let full = bytes(alloc, &["00002000"])?;
-    let last = bytes(alloc, &["80000020"])?;
+fn reply_of_nine_fragments<R: Abort>(rt: &R, alloc: Global) -> Vec<u8> {
     let mut reply = bytes(
+        rt,
         alloc,
         &["00002000 00000001 00000001 00000000 00000000 00000000 00000000 00000001 00010000"],
-    )?;
+    );
     for i in 32..65_568 {
-        if i == 65_536 {
-            reply.extend_from_slice(&last)?;
-        } else if i % 8192 == 0 {
-            reply.extend_from_slice(&full)?;
+        if i % 8192 == 0 {
+            let head = if i == 65_536 { LAST } else { FULL };
+            reply
+                .extend_from_slice(&head.to_be_bytes())
+                .expect(rt, "memory");
         }
-        reply.push(b'x')?;
+        reply.push(b'x').expect(rt, "memory");
     }
-    Ok(reply)
+    reply
 }
 
 #[test]
-fn value_in_nine_fragments(rt: HostRuntime) -> Result<(), Fail> {
+fn value_in_nine_fragments(rt: HostRuntime) {
     let alloc = rt.alloc();
-    let mut words = strings(alloc, &["once", "lab/hosts.byname"])?;
-    words.push(long_row(alloc, b"alpha", VALUE_MAX)?)?;
-    let call = bytes(alloc, &[MATCH])?;
-    let reply = reply_of_nine_fragments(alloc)?;
-    assert_eq!(rt; reply.len(), 65_604);
-    let answered = wanted(alloc, 0, &reply, "")?;
+    let mut words = strings(&rt, alloc, &["once", "lab/hosts.byname"]);
+    let row = long_row(&rt, alloc, b"alpha", VALUE_MAX);
+    words.push(row).expect(&rt, "memory");
+    let call = bytes(&rt, alloc, &[MATCH]);
+    let reply = reply_of_nine_fragments(&rt, alloc);
+    assert_same(&rt, &reply.len(), &65_604, "the length of the reply");
     // A write takes 4,096 bytes at most.
     let scene = Scene {
         input: &call,
         ..FAIR
     };
-    assert_eq!(rt; play(&rt, alloc, &words, &scene), answered);
-    Ok(())
+    let told = (0, reply.as_slice(), b"".as_slice());
+    try_strings(&rt, alloc, &words, &scene, told, None, "the longest value");
 }
 
 /// Words that serve 256 rows with keys of two letters and the longest values.
-fn longest_rows(alloc: Global) -> Result<Vec<String>, AllocError> {
-    let mut words = strings(alloc, &["once", "lab/hosts.byname"])?;
+fn longest_rows<R: Abort>(rt: &R, alloc: Global) -> Vec<String> {
+    let mut words = strings(rt, alloc, &["once", "lab/hosts.byname"]);
     for first in b'A'..=b'P' {
         for second in b'A'..=b'P' {
-            words.push(long_row(alloc, &[first, second], VALUE_MAX)?)?;
+            let row = long_row(rt, alloc, &[first, second], VALUE_MAX);
+            words.push(row).expect(rt, "memory");
         }
     }
-    Ok(words)
+    words
 }
 
 #[test]
-fn rows_past_a_limit(rt: HostRuntime) -> Result<(), Fail> {
+fn rows_past_a_limit(rt: HostRuntime) {
     let alloc = rt.alloc();
     // The body of a version is at most 16,777,216 bytes: 20 at its front, and 65,548 of each row.
-    let words = longest_rows(alloc)?;
-    assert_eq!(rt; words.len(), 258);
-    let call = bytes(alloc, &[MATCH])?;
-    let refused = wanted(alloc, 17, &[], "yp: row 257 rule 4\n")?;
-    let absent = wanted(alloc, 0, &bytes(alloc, &[NO_KEY_REPLY])?, "")?;
+    let mut words = longest_rows(&rt, alloc);
+    assert_same(&rt, &words.len(), &258, "the number of the words");
+    let call = bytes(&rt, alloc, &[MATCH]);
+    let reply = bytes(&rt, alloc, &[NO_KEY_REPLY]);
     let scene = Scene {
         input: &call,
         ..FAIR
     };
-    for (count, came_to) in [(258, &refused), (257, &absent)] {
-        let came = play(&rt, alloc, &words[..count], &scene);
-        assert_eq!(rt; came, *came_to, "{count} words");
-    }
-    Ok(())
+    let refused = (17, b"".as_slice(), b"yp: row 257 rule 4\n".as_slice());
+    try_strings(&rt, alloc, &words, &scene, refused, None, "258 words");
+    let _ = words.pop();
+    let absent = (0, reply.as_slice(), b"".as_slice());
+    try_strings(&rt, alloc, &words, &scene, absent, None, "257 words");
 }
 
 /// Reads and writes that fail, and whether the first reply is written.
 #[derive(Clone, Copy)]
 struct Fault<'a> {
+    row: &'a str,
     reads: &'a [u64],
     writes: &'a [u64],
     replied: bool,
@@ -176,36 +181,43 @@ struct Fault<'a> {
 /// Each record takes a read for its head and one for its body, each reply a write and a flush.
 const FAULTS: [Fault<'static>; 7] = [
     Fault {
+        row: "the first head isn't read",
         reads: &[0],
         writes: &[],
         replied: false,
     },
     Fault {
+        row: "the first body isn't read",
         reads: &[1],
         writes: &[],
         replied: false,
     },
     Fault {
+        row: "the second head isn't read",
         reads: &[2],
         writes: &[],
         replied: true,
     },
     Fault {
+        row: "the second body isn't read",
         reads: &[3],
         writes: &[],
         replied: true,
     },
     Fault {
+        row: "the first reply isn't written",
         reads: &[],
         writes: &[0],
         replied: false,
     },
     Fault {
+        row: "the first reply isn't flushed",
         reads: &[],
         writes: &[1],
         replied: true,
     },
     Fault {
+        row: "the second reply isn't written",
         reads: &[],
         writes: &[2],
         replied: true,
@@ -213,19 +225,17 @@ const FAULTS: [Fault<'static>; 7] = [
 ];
 
 #[test]
-fn one_failing_call(rt: HostRuntime) -> Result<(), Fail> {
+fn one_failing_call(rt: HostRuntime) {
     let alloc = rt.alloc();
-    let words = strings(alloc, &SERVED)?;
-    let calls = bytes(alloc, &[MATCH, MATCH])?;
-    let reply = bytes(alloc, &[MATCH_REPLY])?;
-    for (row, fault) in FAULTS.iter().enumerate() {
+    let calls = bytes(&rt, alloc, &[MATCH, MATCH]);
+    let reply = bytes(&rt, alloc, &[MATCH_REPLY]);
+    for fault in &FAULTS {
         let (code, note) = if fault.writes.is_empty() {
-            (3, "yp: read fault\n")
+            (3, b"yp: read fault\n".as_slice())
         } else {
-            (4, "yp: write fault\n")
+            (4, b"yp: write fault\n".as_slice())
         };
         let output: &[u8] = if fault.replied { &reply } else { &[] };
-        let ended = wanted(alloc, code, output, note)?;
         let scene = Scene {
             input: &calls,
             read: 80,
@@ -233,8 +243,7 @@ fn one_failing_call(rt: HostRuntime) -> Result<(), Fail> {
             writes: fault.writes,
             ..FAIR
         };
-        let came = play(&rt, alloc, &words, &scene);
-        assert_eq!(rt; came, ended, "row {row}");
+        let told = (code, output, note);
+        try_words(&rt, alloc, &SERVED, &scene, told, None, fault.row);
     }
-    Ok(())
 }

@@ -1,8 +1,7 @@
 //! Client commands over a wire in memory: its reply written out by hand, from RFC 5531 and yp.x.
 
-use crate::stage::{FAIR, Scene, play, strings, wanted};
-use std::test::Fail;
-use yp_for_tests::bytes;
+use crate::given::bytes;
+use crate::stage::{FAIR, Scene, try_words};
 
 const MATCH: [&str; 5] = ["match", "10.0.0.1:834", "lab", "hosts.byname", "alpha"];
 
@@ -13,6 +12,7 @@ const REPLY: &str = "80000030 00000001 00000001 00000000 00000000 00000000 00000
 /// Reads of the wire, writes of the output and dials that fail, and what comes.
 #[derive(Clone, Copy)]
 struct Fault<'a> {
+    row: &'a str,
     reads: &'a [u64],
     writes: &'a [u64],
     dials: &'a [u64],
@@ -23,6 +23,7 @@ struct Fault<'a> {
 
 const FAULTS: [Fault<'static>; 4] = [
     Fault {
+        row: "no fault",
         reads: &[],
         writes: &[],
         dials: &[],
@@ -31,6 +32,7 @@ const FAULTS: [Fault<'static>; 4] = [
         note: "",
     },
     Fault {
+        row: "no read",
         reads: &[0],
         writes: &[],
         dials: &[],
@@ -39,6 +41,7 @@ const FAULTS: [Fault<'static>; 4] = [
         note: "yp: read fault\n",
     },
     Fault {
+        row: "no write",
         reads: &[],
         writes: &[0],
         dials: &[],
@@ -47,6 +50,7 @@ const FAULTS: [Fault<'static>; 4] = [
         note: "yp: write fault\n",
     },
     Fault {
+        row: "no dial",
         reads: &[],
         writes: &[],
         dials: &[0],
@@ -57,12 +61,10 @@ const FAULTS: [Fault<'static>; 4] = [
 ];
 
 #[test]
-fn one_failing_call(rt: HostRuntime) -> Result<(), Fail> {
+fn one_failing_call(rt: HostRuntime) {
     let alloc = rt.alloc();
-    let words = strings(alloc, &MATCH)?;
-    let reply = bytes(alloc, &[REPLY])?;
-    for (row, fault) in FAULTS.iter().enumerate() {
-        let ended = wanted(alloc, fault.code, fault.output.as_bytes(), fault.note)?;
+    let reply = bytes(&rt, alloc, &[REPLY]);
+    for fault in &FAULTS {
         let scene = Scene {
             wire: &reply,
             wire_reads: fault.reads,
@@ -70,8 +72,7 @@ fn one_failing_call(rt: HostRuntime) -> Result<(), Fail> {
             dials: fault.dials,
             ..FAIR
         };
-        let came = play(&rt, alloc, &words, &scene);
-        assert_eq!(rt; came, ended, "row {row}");
+        let told = (fault.code, fault.output.as_bytes(), fault.note.as_bytes());
+        try_words(&rt, alloc, &MATCH, &scene, told, None, fault.row);
     }
-    Ok(())
 }

@@ -1,10 +1,11 @@
 //! Sessions over memory: their calls, replies and files written out by hand, from RFC 5531, yp.x and docs/FORMATS.md.
 
-use crate::stage::{FAIR, Scene, play, strings, wanted_of};
-use std::test::Fail;
-use yp_for_tests::bytes;
+use crate::given::bytes;
+use crate::stage::{FAIR, Scene, try_words};
 
 const WORDS: [&str; 4] = ["session", "m1", "127.0.0.1:40000", "lab/hosts.byname"];
+
+const MAP: &[u8] = b"hosts.byname";
 
 /// The file of the map with one row, at order 100, made by m1.
 const FILE: &str = "01000000 00000000 00000000 00000001 00000000 00000040 00000000 00000034
@@ -33,11 +34,11 @@ const ADDRESS: &str = "00000001 0000000e 31302e30 2e302e31 20616c70 68610000";
 const CALLS: [&str; 5] = ["8000004c 00000001", MATCH, MAKE, "8000004c 00000003", MATCH];
 
 #[test]
-fn make_then_match(rt: HostRuntime) -> Result<(), Fail> {
+fn make_then_match(rt: HostRuntime) {
     let alloc = rt.alloc();
-    let words = strings(alloc, &WORDS)?;
-    let calls = bytes(alloc, &CALLS)?;
+    let calls = bytes(&rt, alloc, &CALLS);
     let replies = bytes(
+        &rt,
         alloc,
         &[
             "80000020 00000001",
@@ -50,26 +51,25 @@ fn make_then_match(rt: HostRuntime) -> Result<(), Fail> {
             SUCCESS,
             ADDRESS,
         ],
-    )?;
-    let file = bytes(alloc, &[FILE])?;
-    let made = wanted_of(alloc, 0, &replies, "", b"hosts.byname", &file)?;
+    );
+    let file = bytes(&rt, alloc, &[FILE]);
     let scene = Scene {
         input: &calls,
         read: 80,
         hosts: HOSTS,
         ..FAIR
     };
-    assert_eq!(rt; play(&rt, alloc, &words, &scene), made);
-    Ok(())
+    let told = (0, replies.as_slice(), b"".as_slice());
+    try_words(&rt, alloc, &WORDS, &scene, told, Some((MAP, &file)), "made");
 }
 
 #[test]
-fn refused_makes(rt: HostRuntime) -> Result<(), Fail> {
+fn refused_makes(rt: HostRuntime) {
     let alloc = rt.alloc();
-    let words = strings(alloc, &WORDS)?;
-    let calls = bytes(alloc, &CALLS)?;
+    let calls = bytes(&rt, alloc, &CALLS);
     // The text can't be read.
     let replies = bytes(
+        &rt,
         alloc,
         &[
             "80000020 00000001",
@@ -82,8 +82,7 @@ fn refused_makes(rt: HostRuntime) -> Result<(), Fail> {
             SUCCESS,
             "ffffffff 00000000",
         ],
-    )?;
-    let refused = wanted_of(alloc, 0, &replies, "", b"hosts.byname", &[])?;
+    );
     let scene = Scene {
         input: &calls,
         read: 80,
@@ -91,6 +90,14 @@ fn refused_makes(rt: HostRuntime) -> Result<(), Fail> {
         texts: &[0],
         ..FAIR
     };
-    assert_eq!(rt; play(&rt, alloc, &words, &scene), refused);
-    Ok(())
+    let told = (0, replies.as_slice(), b"".as_slice());
+    try_words(
+        &rt,
+        alloc,
+        &WORDS,
+        &scene,
+        told,
+        Some((MAP, b"")),
+        "refused",
+    );
 }

@@ -5,6 +5,7 @@ ghost use Rattle.yp_io.specs.MemDial.{IsNew};
 ghost use Rattle.yp_words.specs.Words.{disk_names, texts};
 ghost use Rattle.yp_tools.specs.Disks.{names_of};
 
+use crate::given::assert_same;
 use std::alloc::{AllocError, Global};
 use std::process::Abort;
 use std::random::RandomSource;
@@ -13,7 +14,7 @@ use yp_io::{MemDial, MemDisk, MemSink, MemSource, MemTexts, MemWire, Pair, SetCl
 use yp_tools::{NamedDisk, Outside, Status, disk_names, named_disks, run};
 
 /// The outside in memory.
-type Memory = Outside<MemSource, MemSink, MemDisk, SetClock, MemDial, MemTexts>;
+pub(crate) type Memory = Outside<MemSource, MemSink, MemDisk, SetClock, MemDial, MemTexts>;
 
 /// What a run finds outside. Calls that fail are told by their numbers, from 0.
 #[derive(Clone, Copy)]
@@ -38,8 +39,6 @@ pub(crate) struct Scene<'a> {
     /// The text of hosts, and the reads of texts that fail.
     pub hosts: &'a [u8],
     pub texts: &'a [u64],
-    /// How many crashes of the disk are tried afterwards.
-    pub crashes: u64,
 }
 
 /// Nothing outside fails.
@@ -58,64 +57,21 @@ pub(crate) const FAIR: Scene<'static> = Scene {
     dials: &[],
     hosts: &[],
     texts: &[],
-    crashes: 0,
 };
 
-/// What came of a run.
-#[derive(Debug, PartialEq, Eq, Drop)]
-pub(crate) struct Came {
-    pub code: u8,
-    pub output: Vec<u8>,
-    pub notes: Vec<u8>,
-    /// The maps whose disks came back, and the bytes of these, each behind the one before.
-    pub maps: Vec<u8>,
-    pub file: Vec<u8>,
-    /// What crashes may leave of the disks.
-    pub images: Vec<Vec<u8>>,
-}
+/// The code, the output and the notes of a run.
+pub(crate) type Told<'a> = (u8, &'a [u8], &'a [u8]);
 
-impl Came {
-    /// The code, the output and the notes.
-    pub(crate) fn told(&self) -> (u8, &[u8], &[u8]) {
-        (self.code, &self.output, &self.notes)
-    }
-}
+/// The map whose disk came back, and its bytes.
+pub(crate) type Left<'a> = (&'a [u8], &'a [u8]);
 
-/// What is to come of a run of words that name no map.
-pub(crate) fn wanted(
-    alloc: Global,
-    code: u8,
-    output: &[u8],
-    notes: &str,
-) -> Result<Came, AllocError> {
-    wanted_of(alloc, code, output, notes, &[], &[])
-}
-
-/// What is to come of a run of words that name one map, and what its file then holds.
-pub(crate) fn wanted_of(
-    alloc: Global,
-    code: u8,
-    output: &[u8],
-    notes: &str,
-    map: &[u8],
-    file: &[u8],
-) -> Result<Came, AllocError> {
-    Ok(Came {
-        code,
-        output: Vec::from_slice(alloc, output)?,
-        notes: Vec::from_slice(alloc, notes.as_bytes())?,
-        maps: Vec::from_slice(alloc, map)?,
-        file: Vec::from_slice(alloc, file)?,
-        images: Vec::new(alloc),
-    })
-}
-
-pub(crate) fn strings(alloc: Global, words: &[&str]) -> Result<Vec<String>, AllocError> {
+pub(crate) fn strings<R: Abort>(rt: &R, alloc: Global, words: &[&str]) -> Vec<String> {
     let mut owned = Vec::new(alloc);
     for word in words {
-        owned.push(String::from_str(alloc, word)?)?;
+        let word = String::from_str(alloc, word).expect(rt, "memory");
+        owned.push(word).expect(rt, "memory");
     }
-    Ok(owned)
+    owned
 }
 
 /// The bytes, or the numbers of calls, of a scene.
@@ -192,44 +148,65 @@ fn memory_of<R: Abort>(rt: &R, alloc: Global, words: &[String], scene: &Scene<'_
     }
 }
 
-/// What is found outside after a run.
-fn came_of<R: Abort>(
-    rt: &R,
-    alloc: Global,
-    status: &Status,
-    outside: &Memory,
-    crashes: u64,
-) -> Came {
-    let mut maps = Vec::new(alloc);
-    let mut file = Vec::new(alloc);
-    let mut images = Vec::new(alloc);
-    for named in &outside.disks {
-        maps.extend_from_slice(&named.name.map).expect(rt, "memory");
-        file.extend_from_slice(named.disk.bytes())
-            .expect(rt, "memory");
-        for kept in 0..crashes {
-            let image = named.disk.crashed(kept).expect(rt, "memory");
-            images.push(image).expect(rt, "memory");
-        }
-    }
-    Came {
-        code: status.code(),
-        output: copied(rt, alloc, outside.output.taken()),
-        notes: copied(rt, alloc, outside.notes.taken()),
-        maps,
-        file,
-        images,
-    }
-}
-
 /// Runs these words.
 pub(crate) fn play<R: RandomSource + Abort>(
     rt: &R,
     alloc: Global,
     words: &[String],
     scene: &Scene<'_>,
-) -> Came {
+) -> (Status, Memory) {
     let outside = memory_of(rt, alloc, words, scene);
-    let (status, outside) = run(alloc, rt, words, outside);
-    came_of(rt, alloc, &status, &outside, scene.crashes)
+    run(alloc, rt, words, outside)
+}
+
+pub(crate) fn told_of<'a>(status: &Status, outside: &'a Memory) -> Told<'a> {
+    (status.code(), outside.output.taken(), outside.notes.taken())
+}
+
+fn first_of(disks: &[NamedDisk<MemDisk>]) -> Option<Left<'_>> {
+    match disks {
+        [first, ..] => Some((&first.name.map, first.disk.bytes())),
+        [] => None,
+    }
+}
+
+/// Compares what a run told, and the only disk that came back, if one did.
+fn compare<R: Abort>(
+    rt: &R,
+    (status, outside): &(Status, Memory),
+    told: Told<'_>,
+    left: Option<Left<'_>>,
+    row: &str,
+) {
+    let count = outside.disks.len();
+    let came = (told_of(status, outside), count, first_of(&outside.disks));
+    assert_same(rt, &came, &(told, usize::from(left.is_some()), left), row);
+}
+
+/// Runs words, and compares what is told, and what the file of the one map that they name then holds.
+pub(crate) fn try_strings<R: RandomSource + Abort>(
+    rt: &R,
+    alloc: Global,
+    words: &[String],
+    scene: &Scene<'_>,
+    told: Told<'_>,
+    left: Option<Left<'_>>,
+    row: &str,
+) {
+    let ended = play(rt, alloc, words, scene);
+    compare(rt, &ended, told, left, row);
+}
+
+/// The same of words that aren't strings yet.
+pub(crate) fn try_words<R: RandomSource + Abort>(
+    rt: &R,
+    alloc: Global,
+    words: &[&str],
+    scene: &Scene<'_>,
+    told: Told<'_>,
+    left: Option<Left<'_>>,
+    row: &str,
+) {
+    let words = strings(rt, alloc, words);
+    try_strings(rt, alloc, &words, scene, told, left, row);
 }

@@ -4,6 +4,7 @@ ghost use Rattle.yp_board.specs.Catalogues.{name_view};
 ghost use Rattle.yp_words.specs.Words.{IsNamed};
 ghost use Rattle.yp_tools.specs.Status.{IsTellable};
 
+use crate::given::assert_same;
 use std::alloc::Global;
 use std::process::Abort;
 use yp_board::MapName;
@@ -11,22 +12,18 @@ use yp_io::MemSink;
 use yp_msgs::YpStat;
 use yp_tools::{Status, tell};
 
-/// The code of a status, and the note that tells it.
-fn told_of<R: Abort>(rt: &R, alloc: Global, status: &Status) -> (u8, Vec<u8>)
-    requires { IsTellable status.now }
-{
-    let mut notes = MemSink::new(alloc, 4096, Vec::new(alloc));
-    tell(&mut notes, status);
-    let note = Vec::from_slice(alloc, notes.taken()).expect(rt, "memory");
-    (status.code(), note)
-}
-
 /// Compares the code of a status, and the note that tells it.
 fn try_note<R: Abort>(rt: &R, alloc: Global, status: &Status, code: u8, note: &[u8])
     requires { IsTellable status.now }
 {
-    let (told, line) = told_of(rt, alloc, status);
-    assert_eq!(rt; (told, line.as_slice()), (code, note), "{status:?}");
+    let mut notes = MemSink::new(alloc, 4096, Vec::new(alloc));
+    tell(&mut notes, status);
+    assert_same(
+        rt,
+        &(status.code(), notes.taken()),
+        &(code, note),
+        "a code and its note",
+    );
 }
 
 #[test]

@@ -2,6 +2,7 @@
 
 ghost use Rattle.std.specs.Prelude.{◌≤◌};
 
+use crate::given::assert_same;
 use std::alloc::Global;
 use std::process::Abort;
 use yp_board::MapName;
@@ -113,8 +114,9 @@ const WRONG_ADDRESSES: [(&[&str], usize); 24] = [
 
 fn check_wrong(rt: &impl Abort, alloc: Global, words: &[&str], word: usize) {
     let owned = strings(rt, alloc, words);
-    let came = is_session(alloc, &owned);
-    assert_eq!(rt; came, Err(ParseFault::Usage { word }), "{words:?}");
+    let came = (words, is_session(alloc, &owned));
+    let wanted = (words, Err(ParseFault::Usage { word }));
+    assert_same(rt, &came, &wanted, "words that are no sentence");
 }
 
 #[test]
@@ -161,7 +163,7 @@ fn once_parsed(rt: HostRuntime) {
     );
     let named: Names = (b"lab", b"hosts.byname");
     let rows: [Names; 2] = [(b"a", b"b=c"), (b"x", b"")];
-    assert_eq!(rt; two_rows(&command), Some((named, rows)));
+    assert_same(&rt, &two_rows(&command), &Some((named, rows)), "once");
 }
 
 fn checked(command: &Command) -> Option<Names<'_>> {
@@ -175,7 +177,7 @@ fn checked(command: &Command) -> Option<Names<'_>> {
 fn check_parsed(rt: HostRuntime) {
     let command = parsed(&rt, rt.alloc(), &["check", "lab/nokind"]);
     let named: Names = (b"lab", b"nokind");
-    assert_eq!(rt; checked(&command), Some(named));
+    assert_same(&rt, &checked(&command), &Some(named), "check");
 }
 
 /// The master, the map and the mark of a version to be built.
@@ -209,7 +211,8 @@ fn built(command: &Command) -> Option<Built<'_>> {
 
 fn check_built(rt: &impl Abort, alloc: Global, words: &[&str], wanted: Built) {
     let command = parsed(rt, alloc, words);
-    assert_eq!(rt; built(&command), Some(wanted));
+    let came = (words, built(&command));
+    assert_same(rt, &came, &(words, Some(wanted)), "build");
 }
 
 #[test]
@@ -229,7 +232,8 @@ fn sampled(command: Command) -> Option<(u32, u32)> {
 #[test]
 fn sample_parsed(rt: HostRuntime) {
     let command = parsed(&rt, rt.alloc(), &["sample", "4294967295", "0"]);
-    assert_eq!(rt; sampled(command), Some((4_294_967_295, 0)));
+    let wanted = Some((4_294_967_295, 0));
+    assert_same(&rt, &sampled(command), &wanted, "sample");
 }
 
 /// The address of a peer on port 700.
@@ -287,7 +291,7 @@ fn session_parsed(rt: HostRuntime) {
         [(b"lab", b"a"), (b"dom", b"a")],
         [(b"m2", FAR), (b"m2", PEER)],
     );
-    assert_eq!(rt; two_and_two(&command), Some(wanted));
+    assert_same(&rt, &two_and_two(&command), &Some(wanted), "session");
 }
 
 /// The words of a session of this many maps.
@@ -313,9 +317,15 @@ fn session_judged(rt: &impl Abort, alloc: Global, count: usize) -> (Result<bool,
 
 #[test]
 fn at_most_64_maps(rt: HostRuntime) {
-    assert_eq!(rt; session_judged(&rt, rt.alloc(), 64), (Ok(true), 64));
+    let judged = session_judged(&rt, rt.alloc(), 64);
+    assert_same(&rt, &judged, &(Ok(true), 64), "64 maps");
     let (judged, _names) = session_judged(&rt, rt.alloc(), 65);
-    assert_eq!(rt; judged, Err(ParseFault::Usage { word: 67 }));
+    assert_same(
+        &rt,
+        &judged,
+        &Err(ParseFault::Usage { word: 67 }),
+        "65 maps",
+    );
 }
 
 /// What a question is, whom it asks, and the domain, the map and the key.
@@ -370,7 +380,8 @@ const QUESTIONS: [(&[&str], Question); 6] = [
 
 fn check_question(rt: &impl Abort, alloc: Global, words: &[&str], question: Question) {
     let command = parsed(rt, alloc, words);
-    assert_eq!(rt; question_of(&command), Some(question));
+    let came = question_of(&command);
+    assert_same(rt, &came, &Some(question), "a question");
 }
 
 #[test]
@@ -414,8 +425,9 @@ fn first_of(names: &[MapName]) -> Option<Names<'_>> {
 fn check_names(rt: &impl Abort, alloc: Global, words: &[&str], named: Option<Names>) {
     let owned = strings(rt, alloc, words);
     let names = disk_names(alloc, &owned).expect(rt, "memory for names");
-    let wanted = (usize::from(named.is_some()), named);
-    assert_eq!(rt; (names.len(), first_of(&names)), wanted, "{words:?}");
+    let came = (words, names.len(), first_of(&names));
+    let wanted = (words, usize::from(named.is_some()), named);
+    assert_same(rt, &came, &wanted, "words, and the map that they name");
 }
 
 #[test]
