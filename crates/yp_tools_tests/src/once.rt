@@ -36,14 +36,14 @@ fn first_match(rt: HostRuntime) {
     let alloc = rt.alloc();
     let call = bytes(&rt, alloc, &[MATCH]);
     let reply = bytes(&rt, alloc, &[MATCH_REPLY]);
-    for (read, row) in PIECES {
+    for (read, row) in &PIECES {
         let scene = Scene {
             input: &call,
-            read,
+            read: *read,
             ..FAIR
         };
         let told = (0, reply.as_slice(), b"".as_slice());
-        try_words(&rt, alloc, &SERVED, &scene, told, None, row);
+        try_words(&rt, alloc, &SERVED, &scene, told, None, *row);
     }
 }
 
@@ -71,14 +71,14 @@ fn many_fragments(rt: HostRuntime) {
     let call = in_many_fragments(&rt, alloc);
     assert_same(&rt, &call.len(), &384, "the length of the call");
     let reply = bytes(&rt, alloc, &[MATCH_REPLY]);
-    for (read, row) in PIECES {
+    for (read, row) in &PIECES {
         let scene = Scene {
             input: &call,
-            read,
+            read: *read,
             ..FAIR
         };
         let told = (0, reply.as_slice(), b"".as_slice());
-        try_words(&rt, alloc, &SERVED, &scene, told, None, row);
+        try_words(&rt, alloc, &SERVED, &scene, told, None, *row);
     }
 }
 

@@ -18,10 +18,10 @@ const LINES: [(&str, &str, &str); 5] = [
 #[test]
 fn numbers_told(rt: HostRuntime) {
     let alloc = rt.alloc();
-    for (start, count, line) in LINES {
-        let words = ["sample", start, count];
+    for (start, count, line) in &LINES {
+        let words = ["sample", *start, *count];
         let told = (0, line.as_bytes(), b"".as_slice());
-        try_words(&rt, alloc, &words, &SHORT_WRITES, told, None, line);
+        try_words(&rt, alloc, &words, &SHORT_WRITES, told, None, *line);
     }
 }
 
