@@ -326,8 +326,9 @@ fn assert_failed(
 }
 
 // The opening at the start makes the disk calls 0 and 1. The first install makes both cells in four calls, writes the
-// body and its entry, syncs, and writes and syncs the gate; the second finds the cells made and the other one closed. So
-// they make the calls from 2 to 10 and from 11 to 15. After a failed first one the file is opened again in the second.
+// body and its entry, syncs, and writes and syncs the gate; the second finds the cells made and the other one closed.
+// So they make the calls from 2 to 10 and from 11 to 15. After a failed first one the file is opened again in the
+// second.
 const ONCE_FAILING: &[Failing<'static>] = &[
     Failing {
         first: 2,
