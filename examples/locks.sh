@@ -2,8 +2,9 @@
 # Lets builds of one map, and builds beside sessions that make it anew, run at the
 # same time, and looks each time at what they leave: examples/locks.sh [ROUNDS]
 #
-# Each build must end with status 0 or 10, each MAKE with SUCC or FILE, and the file
-# must be sound and hold one of the texts whole. TMPDIR says where the files lie.
+# Each build and session must end with status 0, or 10 where the lock didn't come,
+# each MAKE with SUCC or FILE, and the file must be sound and hold one of the texts
+# whole. TMPDIR says where the files lie.
 set -u
 top=$(dirname -- "$(dirname -- "$(readlink -f -- "$0")")")
 yp=$top/yp
