@@ -1,53 +1,44 @@
-//! The program: its words, the standard streams, the files of maps, the clock, connections and the texts of maps.
+//! The program: it reads its words, and does the command that they are on the standard streams, the files of maps, the
+//! clock, connections and the texts of maps.
 #![tactic(auto)]
 
 ghost use Rattle.std.specs.Prelude.{◌≡◌, IfOk};
-ghost use Rattle.yp_words.specs.Words.{disk_names, texts};
-ghost use Rattle.yp_tools.specs.Disks.{names_of};
+ghost use Rattle.yp_office.specs.Disks.{names_of};
+ghost use Rattle.yp_office.specs.Status.{IsTellable};
+ghost use Rattle.yp_words.specs.Words.{meaning, stores_of};
 
-use clock::SystemClock;
-use dial::TcpDial;
-use disk::FileDisk;
-use locked::Locking;
-use patient::Patient;
 use std::alloc::{AllocError, Global};
 use std::process::ExitCode;
-use streams::{BlockReader, DirectWriter, StandardStream};
-use texts::TextFolder;
-use words::words;
 use yp_board::MapName;
 use yp_io::{NoMemory, Sink};
-use yp_tools::{NamedDisk, Outside, Status, disk_names, named_disks, run, tell};
-
-mod clock;
-mod dial;
-mod disk;
-mod locked;
-mod patient;
-#[cfg(test)]
-mod scripted;
-mod streams;
-mod texts;
-mod words;
+use yp_session::Trail;
+use yp_system::{
+    BlockReader, DirectWriter, FileDisk, Locking, Patient, StandardStream, SystemClock, TcpDial,
+    TextFolder, read_words,
+};
+use yp_tools::{
+    Command, NamedDisk, Outside, ParseFault, Status, named_disks, parse, run_command, stores_of,
+    tell,
+};
 
 /// When the files of a command are locked. A session answers from what it loaded, and may never write.
-fn locking_of(words: &[String]) -> Locking {
-    match words.first() {
-        Some(word) if word.as_str() == "build" => Locking::AtOnce,
+fn locking_of(command: &Command) -> Locking {
+    match command {
+        Command::Build { .. } => Locking::AtOnce,
         _ => Locking::AtFirstWrite,
     }
 }
 
-/// The files of the maps that the words name.
+/// The files of the maps of a command.
 fn disks(
     alloc: Global,
     files: HostRuntime,
-    words: &[String],
+    command: &Command,
 ) -> Result<Vec<NamedDisk<FileDisk<HostRuntime>>>, NoMemory>
-    ensures { IfOk result (λ disks. names_of disks.items ≡ disk_names (texts words.now)) }
+    ensures { IfOk result (λ disks. names_of disks.items ≡ stores_of (meaning command.now)) }
 {
-    let names = disk_names(alloc, words)?;
-    let locking = locking_of(words);
+    let names = stores_of(alloc, command)?;
+    let locking = locking_of(command);
     let make = |name: &MapName| FileDisk::new(alloc, files, &name.domain, &name.map, locking);
     match named_disks(alloc, names, make) {
         Ok(disks) => Ok(disks),
@@ -55,21 +46,28 @@ fn disks(
     }
 }
 
-/// Ends where memory ran out before anything was done.
-fn without_memory<K: Sink>(notes: &mut K) -> ExitCode {
-    tell(notes, &Status::NoMemory);
-    ExitCode::from(Status::NoMemory.code())
+/// Ends before anything was done.
+fn end<K: Sink>(notes: &mut K, status: &Status) -> ExitCode
+    requires { IsTellable status.now }
+{
+    tell(notes, status);
+    ExitCode::from(status.code())
 }
 
 fn main(rt: HostRuntime) -> ExitCode {
     let alloc = rt.alloc();
     let mut notes = DirectWriter::new(Patient::new(StandardStream::Error(rt.stderr()), rt));
     let input = BlockReader::new(alloc, Patient::new(rt.stdin(), rt));
-    let (Ok(words), Ok(input)) = (words(&rt, alloc), input) else {
-        return without_memory(&mut notes);
+    let (Ok(words), Ok(input)) = (read_words(&rt, alloc), input) else {
+        return end(&mut notes, &Status::NoMemory);
     };
-    let Ok(disks) = disks(alloc, rt, &words) else {
-        return without_memory(&mut notes);
+    let command = match parse(alloc, &words) {
+        Ok(command) => command,
+        Err(ParseFault::Usage { word }) => return end(&mut notes, &Status::Usage { word }),
+        Err(ParseFault::NoMemory) => return end(&mut notes, &Status::NoMemory),
+    };
+    let Ok(disks) = disks(alloc, rt, &command) else {
+        return end(&mut notes, &Status::NoMemory);
     };
     let outside = Outside {
         input,
@@ -80,6 +78,6 @@ fn main(rt: HostRuntime) -> ExitCode {
         dial: TcpDial::new(alloc, rt),
         texts: TextFolder::new(rt),
     };
-    let (status, _outside) = run(alloc, &rt, &words, outside);
+    let (status, _outside) = run_command(alloc, &rt, command, outside, &mut Trail::new());
     ExitCode::from(status.code())
 }

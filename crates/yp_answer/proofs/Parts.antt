@@ -1,5 +1,5 @@
 -- The parts of ALL's reply are the reply.
-use Rattle.std.proofs.Common.{◌≡◌, ℕ, ◌+◌, ◌-◌, ◌<◌, ◌≤◌, List, [], ◌∷◌, ◌++◌, length, take, drop, map, zero, suc, add-one, Option, Some, None, Result, Ok, Err, refl, sym, ap, ◌∙◌, append_assoc, arith, slice_get, get_or}
+use Rattle.std.proofs.Common.{◌≡◌, ℕ, ◌+◌, ◌-◌, ◌<◌, ◌≤◌, List, [], ◌∷◌, ◌++◌, length, take, drop, map, zero, suc, add-one, Some, None, Result, refl, sym, ap, ◌∙◌, append_assoc, arith, slice_get, get_or}
 use Rattle.std.proofs.lemmas.List.{append-nil, length-drop, drop-drop, get_or-drop, take_more}
 use Rattle.std.proofs.lemmas.Option.{slice_get_within, get_or_from_slice_get}
 use Rattle.std.proofs.lemmas.Grind.{flat_map-append}
@@ -13,7 +13,7 @@ use Rattle.yp_rpc.specs.declared.reply.ReplyHead.TheVariants.{Success}
 use Rattle.yp_version.specs.Versions.{MapVersion}
 use Rattle.yp_answer.specs.Reply.{success}
 use Rattle.yp_answer.specs.Results.{all_items}
-use Rattle.yp_answer.specs.Streams.{parts, item_parts, items_and_end, joined, between, Gives}
+use Rattle.yp_answer.specs.Streams.{parts, item_parts, joined, between, Gives}
 
 -- items behind the word that says that they are there, and then the end, are a list
 joined_items : (items : List (Value key_val)) → joined (map (spelling all_item) (map (λ item. Some item) items ++ None ∷ [])) ≡ spelling (ListOf key_val) items

@@ -2,12 +2,12 @@
 use Rattle.std.specs.Prelude.{◌≡◌, ◌≢◌, ℕ, ◌<◌, ◌≤◌, Bool, true, false, List, [], length, take, Ok, Err, Result}
 use Rattle.yp_io.specs.declared.stream.Peer.{Peer}
 use Rattle.yp_msgs.specs.declared.stat.YpStat.{YpStat}
-use Rattle.yp_msgs.specs.Transfers.{req_make_view}
 use Rattle.yp_board.specs.Views.{Seen, Refreshes}
 use Rattle.yp_answer.specs.declared.procedure.Path.{Path}
 use Rattle.yp_answer.specs.declared.procedure.Procedure.{Procedure}
 use Rattle.yp_answer.specs.declared.caller.Caller.{Caller}
 use Rattle.yp_answer.specs.declared.calls.Answered.{Answered}
+use Rattle.yp_answer.specs.declared.make.Job.{Job}
 use Rattle.yp_answer.specs.declared.calls.Answered.TheVariants as answers
 use Rattle.yp_answer.specs.Maps.{Maps}
 use Rattle.yp_answer.specs.Reply.{Response, Silence, Bytes, Open, reply, procedure_reply}
@@ -30,16 +30,22 @@ pub record Streams (maps : Maps) (expected : Response) (stream : Streamed) : Typ
   pub some : parts_left maps.log stream ≢ []
   pub whole : expected ≡ Bytes (joined (parts_left maps.log stream))
 
--- an answer has this reply: silence, the front of the buffer, or a stream; or it has the call whose map is made first
+-- The reply waits for a map, one of the catalogue, that is made first.
+pub record Waits (maps : Maps) (expected : Response) (xid : ℕ) (job : Job) : Type 0 where
+  pub inside : job.map < length maps.catalogue.maps
+  pub left_open : expected ≡ Open xid job
+
+-- an answer has this reply: silence, the front of the buffer, or a stream; or it has the map that is made first
 abbrev pub HasReply : Maps → Response → Answered → List ℕ → Type 0
 HasReply maps expected answers.Silent buf = expected ≡ Silence
 HasReply maps expected (answers.Reply len) buf = Replies expected len buf
 HasReply maps expected (answers.Stream stream) buf = Streams maps expected stream
-HasReply maps expected (answers.Make xid request) buf = expected ≡ Open xid (req_make_view request)
+HasReply maps expected (answers.Make xid job) buf = Waits maps expected xid job
 
 -- the answer has the reply of a procedure
 abbrev pub IsProcedureAnswer : Maps → Caller → Procedure → List ℕ → Answered → List ℕ → Type 0
-IsProcedureAnswer maps caller procedure arguments answered buf = HasReply maps (procedure_reply maps caller procedure arguments) answered buf
+IsProcedureAnswer maps caller procedure arguments answered buf =
+    HasReply maps (procedure_reply maps caller procedure arguments) answered buf
 
 -- the answer has the one reply to a record
 abbrev pub IsAnswer : Path → Maps → Peer → List ℕ → Answered → List ℕ → Type 0

@@ -1,7 +1,7 @@
 -- What a check of a map gives.
 use Rattle.std.specs.Prelude.{◌≡◌, ◌<◌, length, Some, Result, Ok, Err}
 use Rattle.yp_msgs.specs.declared.stat.YpStat.{YpStat}
-use Rattle.yp_version.specs.Versions.{MapVersion, IsVersion}
+use Rattle.yp_version.specs.Versions.{MapVersion}
 use Rattle.yp_board.specs.Logs.{shown}
 use Rattle.yp_answer.specs.declared.check.Held.{Held}
 use Rattle.yp_answer.specs.Maps.{Maps}

@@ -1,7 +1,8 @@
--- Which calls of MAKE are refused, and which map the others have made. The make program is this project's own.
-use Rattle.std.specs.Prelude.{ℕ, not, ◌==◌, if◌then◌else◌, List, [], ◌∷◌, length, Option, Some, None, is_none, bytes_eq}
+-- Which calls of MAKE are refused, and which map the others ask for. The make program is this project's own.
+use Rattle.std.specs.Prelude.{ℕ, not, ◌==◌, if◌then◌else◌, List, [], ◌∷◌, length, Option, option_map, Result, Err}
+use Rattle.std.specs.Prelude.{bytes_eq}
 use Rattle.std.specs.List as lists
-use Rattle.std.specs.Option.{option_and_then}
+use Rattle.std.specs.Option.{option_and_then, ok_or}
 use Rattle.yp_io.specs.declared.stream.Peer.{Peer}
 use Rattle.yp_xdr.specs.Kind.{Value}
 use Rattle.yp_msgs.specs.declared.transfer.XfrStat.{XfrStat}
@@ -10,6 +11,7 @@ use Rattle.yp_msgs.specs.Transfers.{req_make}
 use Rattle.yp_board.specs.Catalogues.{Catalogue, find, serves}
 use Rattle.yp_build.specs.declared.kind.Kind.{Kind}
 use Rattle.yp_build.specs.Kinds.{kinds, number_of, name_of}
+use Rattle.yp_answer.specs.declared.make.Job.{Job}
 
 -- the address of a caller on the server's own host
 abbrev pub own_host : List ℕ
@@ -23,15 +25,19 @@ MakeRequest = Value req_make
 abbrev pub kind_numbered : ℕ → Option Kind
 kind_numbered number = lists.find (λ kind. number_of kind == number) kinds
 
--- the map that is made: the one in the domain that has the kind's name
-abbrev pub made_map : Catalogue → MakeRequest → Option ℕ
-made_map catalogue asked = option_and_then (λ kind. find asked.0 (name_of kind) catalogue) (kind_numbered asked.1)
+abbrev pub job_of : ℕ → Kind → Job
+job_of map kind = record { map = map; kind = kind }
 
--- the status that refuses to make a map for a caller, the first that applies, or none
-abbrev pub make_check : Catalogue → Peer → MakeRequest → Option XfrStat
+-- the map that is made: the one in the domain that has the kind's name
+abbrev pub made_map : Catalogue → MakeRequest → Option Job
+made_map catalogue asked =
+    option_and_then (λ kind. option_map (λ map. job_of map kind) (find asked.0 (name_of kind) catalogue))
+    (kind_numbered asked.1)
+
+-- the map that is made for a caller, or the status that refuses to, the first that applies
+abbrev pub make_check : Catalogue → Peer → MakeRequest → Result Job XfrStat
 make_check catalogue peer asked =
-    if not (bytes_eq peer.addr own_host) then Some Refused
-    else (if length asked.0 == 0 then Some Badargs
-    else (if not (serves asked.0 catalogue) then Some Nodom
-    else (if is_none (made_map catalogue asked) then Some Nomap
-    else None)))
+    if not (bytes_eq peer.addr own_host) then Err Refused
+    else (if length asked.0 == 0 then Err Badargs
+    else (if not (serves asked.0 catalogue) then Err Nodom
+    else ok_or (made_map catalogue asked) Nomap))

@@ -4,7 +4,8 @@ use Rattle.yp_msgs.specs.Numbers as numbers
 use Rattle.yp_answer.specs.declared.procedure.Path.{Path}
 use Rattle.yp_answer.specs.declared.procedure.Path.TheVariants.{Stream, Datagram}
 use Rattle.yp_answer.specs.declared.procedure.Procedure.{Procedure}
-use Rattle.yp_answer.specs.declared.procedure.Procedure.TheVariants.{Null, Domain, DomainNonack, Match, First, Next, Clear, All, Master, Order, Maplist, Make}
+use Rattle.yp_answer.specs.declared.procedure.Procedure.TheVariants.{Null, Domain, DomainNonack, Match, First, Next}
+use Rattle.yp_answer.specs.declared.procedure.Procedure.TheVariants.{Clear, All, Master, Order, Maplist, Make}
 
 -- a whole map is sent over a stream alone
 abbrev pub all_on : Path → Option Procedure

@@ -1,5 +1,6 @@
 -- What a record gets: silence, its one reply, or a map that is made first (yp.x, RFC 5531 section 9).
-use Rattle.std.specs.Prelude.{ℕ, Bool, true, false, not, ◌&&◌, ◌==◌, nat_lt, if◌then◌else◌, List, ◌++◌, length, drop, Option, Some, None, Result, Ok, Err, is_ok}
+use Rattle.std.specs.Prelude.{ℕ, Bool, true, false, not, ◌&&◌, ◌==◌, nat_lt, if◌then◌else◌, List, ◌++◌, length, drop}
+use Rattle.std.specs.Prelude.{Option, Some, None, Result, Ok, Err, is_ok}
 use Rattle.std.specs.Option.{ok_or}
 use Rattle.yp_xdr.specs.declared.fault.XdrFault.{XdrFault}
 use Rattle.yp_xdr.specs.Kind.{Kind, Boolean, ListOf, Value}
@@ -9,7 +10,8 @@ use Rattle.yp_rpc.specs.declared.call.CallHead.{CallHead}
 use Rattle.yp_rpc.specs.declared.call.Heard.{Heard}
 use Rattle.yp_rpc.specs.declared.call.Heard.TheVariants.{Call, WrongRpc, Noise}
 use Rattle.yp_rpc.specs.declared.reply.ReplyHead.{ReplyHead}
-use Rattle.yp_rpc.specs.declared.reply.ReplyHead.TheVariants.{Success, ProgUnavail, ProgMismatch, ProcUnavail, GarbageArgs, RpcMismatch, AuthError}
+use Rattle.yp_rpc.specs.declared.reply.ReplyHead.TheVariants.{Success, ProgUnavail, ProgMismatch, ProcUnavail}
+use Rattle.yp_rpc.specs.declared.reply.ReplyHead.TheVariants.{GarbageArgs, RpcMismatch, AuthError}
 use Rattle.yp_rpc.specs.Call.{heard}
 use Rattle.yp_rpc.specs.Reply.{reply_head}
 use Rattle.yp_msgs.specs.declared.stat.YpStat.TheVariants.{Yperr}
@@ -24,18 +26,21 @@ use Rattle.yp_answer.specs.declared.procedure.Path.{Path}
 use Rattle.yp_answer.specs.declared.procedure.Path.TheVariants.{Stream, Datagram}
 use Rattle.yp_answer.specs.declared.procedure.Procedure.{Procedure}
 use Rattle.yp_answer.specs.declared.caller.Caller.{Caller}
-use Rattle.yp_answer.specs.declared.procedure.Procedure.TheVariants.{Null, Domain, DomainNonack, Match, First, Next, Clear, All, Master, Order, Maplist, Make}
+use Rattle.yp_answer.specs.declared.procedure.Procedure.TheVariants.{Null, Domain, DomainNonack, Match, First, Next}
+use Rattle.yp_answer.specs.declared.procedure.Procedure.TheVariants.{Clear, All, Master, Order, Maplist, Make}
 use Rattle.yp_answer.specs.Numbers.{auth_none, auth_sys, auth_rejectedcred, rpc_version, datagram_max}
 use Rattle.yp_answer.specs.Maps.{Maps, map_check, row_check}
-use Rattle.yp_answer.specs.Results.{no_value, no_row, matched, first_row, next_row, all_items, mastered, ordered, maps_listed}
+use Rattle.yp_answer.specs.Results.{no_value, no_row, matched, first_row, next_row, all_items, mastered, ordered}
+use Rattle.yp_answer.specs.Results.{maps_listed}
 use Rattle.yp_answer.specs.Procedures.{procedure_of, make_procedure_of}
-use Rattle.yp_answer.specs.Make.{MakeRequest, make_check}
+use Rattle.yp_answer.specs.declared.make.Job.{Job}
+use Rattle.yp_answer.specs.Make.{make_check}
 
--- What a record gets: no reply, this reply message, or the status of a map that is made first, to the call with this xid.
+-- What a record gets: no reply, this reply message, or, to the call with this xid, the status of a map that is made first.
 pub data Response : Type 0 where
   Silence : Response
   Bytes : (bytes : List ℕ) → Response
-  Open : (xid : ℕ) (asked : MakeRequest) → Response
+  Open : (xid : ℕ) (job : Job) → Response
 
 -- these bytes, or silence
 abbrev pub bytes_or_silence : Option (List ℕ) → Response
@@ -46,7 +51,7 @@ bytes_or_silence None = Silence
 abbrev pub reply_at_once : Response → Option (List ℕ)
 reply_at_once Silence = None
 reply_at_once (Bytes bytes) = Some bytes
-reply_at_once (Open xid asked) = None
+reply_at_once (Open xid job) = None
 
 -- the head of a reply with results, and the results
 abbrev pub success : ℕ → (kind : Kind) → Value kind → List ℕ
@@ -76,38 +81,47 @@ abbrev pub make_reply : ℕ → XfrStat → List ℕ
 make_reply xid stat = success xid resp_make (xfr_number stat)
 
 -- MAKE has the status that refuses it, or its map is made first
-abbrev pub make_response : ℕ → MakeRequest → Option XfrStat → Response
-make_response xid asked (Some stat) = Bytes (make_reply xid stat)
-make_response xid asked None = Open xid asked
+abbrev pub make_response : ℕ → Result Job XfrStat → Response
+make_response xid (Err stat) = Bytes (make_reply xid stat)
+make_response xid (Ok job) = Open xid job
 
 -- the reply of a procedure to its arguments
 abbrev pub procedure_reply : Maps → Caller → Procedure → List ℕ → Response
 procedure_reply maps caller Null bytes = Bytes (reply_head caller.xid Success)
 procedure_reply maps caller Clear bytes = Bytes (reply_head caller.xid Success)
 procedure_reply maps caller Domain bytes =
-    with_arguments caller.xid (arguments_of req_domain bytes) (λ domain. Bytes (success caller.xid Boolean (serves domain maps.catalogue)))
+    with_arguments caller.xid (arguments_of req_domain bytes)
+    (λ domain. Bytes (success caller.xid Boolean (serves domain maps.catalogue)))
 procedure_reply maps caller DomainNonack bytes =
-    with_arguments caller.xid (arguments_of req_domain bytes) (λ domain. if serves domain maps.catalogue then Bytes (success caller.xid Boolean true) else Silence)
+    with_arguments caller.xid (arguments_of req_domain bytes)
+    (λ domain. if serves domain maps.catalogue then Bytes (success caller.xid Boolean true) else Silence)
 procedure_reply maps caller Match bytes =
     with_arguments caller.xid (arguments_of req_key bytes) (λ asked.
-    Bytes (look_up caller.path caller.xid resp_val (matched asked.1.1 (row_check maps caller.peer.port asked.0 asked.1.0)) (no_value Yperr)))
+    Bytes (look_up caller.path caller.xid resp_val
+    (matched asked.1.1 (row_check maps caller.peer.port asked.0 asked.1.0)) (no_value Yperr)))
 procedure_reply maps caller First bytes =
     with_arguments caller.xid (arguments_of req_nokey bytes) (λ asked.
-    Bytes (look_up caller.path caller.xid key_val (first_row (row_check maps caller.peer.port asked.0 asked.1)) (no_row Yperr)))
+    Bytes (look_up caller.path caller.xid key_val (first_row (row_check maps caller.peer.port asked.0 asked.1))
+    (no_row Yperr)))
 procedure_reply maps caller Next bytes =
     with_arguments caller.xid (arguments_of req_key bytes) (λ asked.
-    Bytes (look_up caller.path caller.xid key_val (next_row asked.1.1 (row_check maps caller.peer.port asked.0 asked.1.0)) (no_row Yperr)))
+    Bytes (look_up caller.path caller.xid key_val
+    (next_row asked.1.1 (row_check maps caller.peer.port asked.0 asked.1.0)) (no_row Yperr)))
 procedure_reply maps caller All bytes =
     with_arguments caller.xid (arguments_of req_nokey bytes) (λ asked.
     Bytes (success caller.xid (ListOf key_val) (all_items (row_check maps caller.peer.port asked.0 asked.1))))
 procedure_reply maps caller Master bytes =
-    with_arguments caller.xid (arguments_of req_nokey bytes) (λ asked. Bytes (success caller.xid resp_master (mastered (map_check maps asked.0 asked.1))))
+    with_arguments caller.xid (arguments_of req_nokey bytes)
+    (λ asked. Bytes (success caller.xid resp_master (mastered (map_check maps asked.0 asked.1))))
 procedure_reply maps caller Order bytes =
-    with_arguments caller.xid (arguments_of req_nokey bytes) (λ asked. Bytes (success caller.xid resp_order (ordered (map_check maps asked.0 asked.1))))
+    with_arguments caller.xid (arguments_of req_nokey bytes)
+    (λ asked. Bytes (success caller.xid resp_order (ordered (map_check maps asked.0 asked.1))))
 procedure_reply maps caller Maplist bytes =
-    with_arguments caller.xid (arguments_of req_domain bytes) (λ domain. Bytes (success caller.xid map_list (maps_listed maps domain)))
+    with_arguments caller.xid (arguments_of req_domain bytes)
+    (λ domain. Bytes (success caller.xid map_list (maps_listed maps domain)))
 procedure_reply maps caller Make bytes =
-    with_arguments caller.xid (arguments_of req_make bytes) (λ asked. make_response caller.xid asked (make_check maps.catalogue caller.peer asked))
+    with_arguments caller.xid (arguments_of req_make bytes)
+    (λ asked. make_response caller.xid (make_check maps.catalogue caller.peer asked))
 
 -- a procedure of a program that is spoken in one version
 abbrev pub in_version : ℕ → ℕ → Option Procedure → Result Procedure ReplyHead

@@ -1,5 +1,6 @@
 -- What each procedure of YP version 2 gives (yp.x), from a version or the status that refuses it.
-use Rattle.std.specs.Prelude.{ℕ, Bool, not, ◌&&◌, ◌==◌, if◌then◌else◌, List, [], ◌∷◌, length, map, filter, Option, Some, None, is_some, Result, Ok, Err, bytes_eq}
+use Rattle.std.specs.Prelude.{ℕ, Bool, not, ◌&&◌, ◌==◌, if◌then◌else◌, List, [], ◌∷◌, length, map, filter, Option, Some}
+use Rattle.std.specs.Prelude.{None, is_some, Result, Ok, Err, bytes_eq}
 use Rattle.yp_xdr.specs.Kind.{Value}
 use Rattle.yp_xdr.specs.Spelling.{spelling}
 use Rattle.yp_msgs.specs.declared.stat.YpStat.{YpStat}

@@ -13,7 +13,7 @@ use crate::facts::{
     answer_domain, answer_domain_nonack, answer_maplist, answer_master, answer_order,
 };
 use crate::look_up::{answer_first, answer_match, answer_next};
-use crate::make::{make_check, make_reply};
+use crate::make::{Job, make_check, make_reply};
 use crate::procedure::{Path, Procedure};
 use crate::stream::AllStream;
 use yp_board::View;
@@ -26,7 +26,7 @@ use yp_xdr::Cursor;
 
 /// The answer to a record.
 #[derive(Debug, Drop)]
-pub enum Answered<'a> {
+pub enum Answered {
     /// No reply goes out.
     Silent,
 
@@ -37,7 +37,7 @@ pub enum Answered<'a> {
     Stream(AllStream),
 
     /// A map is made first, and then the reply has the status of that, by [`make_reply`](crate::make_reply).
-    Make { xid: u32, request: ReqMake<'a> },
+    Make { xid: u32, job: Job },
 }
 
 /// The procedure that a call is let to, or the first reason why it isn't let to one.
@@ -64,14 +64,10 @@ fn admit(path: Path, call: &CallHead) -> Result<Procedure, ReplyHead>
 }
 
 /// Answers ALL: the rows go out in pieces.
-fn answer_all<'a, V: View>(
-    view: &mut V,
-    caller: &Caller,
-    arguments: &'a [u8],
-    buf: &mut [u8],
-) -> Answered<'a>
+fn answer_all<V: View>(view: &mut V, caller: &Caller, arguments: &[u8], buf: &mut [u8]) -> Answered
     requires { room_of caller.now.path ≤ length buf.old }
-    ensures reply { IsProcedureAnswer (maps_of (V.seen view.new)) caller.now Procedure.All arguments.now result buf.new }
+    ensures reply { IsProcedureAnswer (maps_of (V.seen view.new)) caller.now Procedure.All arguments.now
+        result buf.new }
     ensures step { StepsWhere (asks_for Procedure.All arguments.now) V.stepped V.seen view.old view.new }
 {
     let Ok(asked) = ReqNokey::read(&mut Cursor::new(arguments)) else {
@@ -88,12 +84,7 @@ fn answer_all<'a, V: View>(
 }
 
 /// Answers MAKE: with the status that refuses it, or with what is to be made.
-fn answer_make<'a, V: View>(
-    view: &V,
-    caller: &Caller,
-    arguments: &'a [u8],
-    buf: &mut [u8],
-) -> Answered<'a>
+fn answer_make<V: View>(view: &V, caller: &Caller, arguments: &[u8], buf: &mut [u8]) -> Answered
     requires { room_of caller.now.path ≤ length buf.old }
     ensures { IsProcedureAnswer (maps_of (V.seen view.now)) caller.now Procedure.Make arguments.now result buf.new }
 {
@@ -103,24 +94,24 @@ fn answer_make<'a, V: View>(
         };
     };
     match make_check(view.catalog(), caller.peer, &request) {
-        Some(stat) => Answered::Reply {
+        Err(stat) => Answered::Reply {
             len: make_reply(buf, caller.xid, stat),
         },
-        None => Answered::Make {
+        Ok(job) => Answered::Make {
             xid: caller.xid,
-            request,
+            job,
         },
     }
 }
 
 /// Answers a call that is let to a procedure.
-fn answer_procedure<'a, V: View>(
+fn answer_procedure<V: View>(
     view: &mut V,
     caller: &Caller,
     procedure: Procedure,
-    arguments: &'a [u8],
+    arguments: &[u8],
     buf: &mut [u8],
-) -> Answered<'a>
+) -> Answered
     requires { room_of caller.now.path ≤ length buf.old }
     ensures reply { IsProcedureAnswer (maps_of (V.seen view.new)) caller.now procedure arguments.now result buf.new }
     ensures step { StepsWhere (asks_for procedure arguments.now) V.stepped V.seen view.old view.new }
@@ -147,13 +138,13 @@ fn answer_procedure<'a, V: View>(
 }
 
 /// Answers a record that came on a path.
-fn answer_on<'a, V: View>(
+fn answer_on<V: View>(
     path: Path,
     view: &mut V,
-    record: &'a [u8],
+    record: &[u8],
     peer: Peer,
     buf: &mut [u8],
-) -> Answered<'a>
+) -> Answered
     requires { room_of path ≤ length buf.old }
     ensures reply { IsAnswer path (maps_of (V.seen view.new)) peer record.now result buf.new }
     ensures step { StepsWhere (asks path record.now) V.stepped V.seen view.old view.new }
@@ -187,12 +178,7 @@ fn answer_on<'a, V: View>(
 }
 
 /// Answers a record of a stream, on the state that the view knows after at most one read step.
-pub fn answer<'a, V: View>(
-    view: &mut V,
-    record: &'a [u8],
-    peer: Peer,
-    buf: &mut [u8],
-) -> Answered<'a>
+pub fn answer<V: View>(view: &mut V, record: &[u8], peer: Peer, buf: &mut [u8]) -> Answered
     requires { record_max ≤ length buf.old }
     ensures reply { IsAnswer paths.Stream (maps_of (V.seen view.new)) peer record.now result buf.new }
     ensures step { StepsWhere (asks paths.Stream record.now) V.stepped V.seen view.old view.new }
@@ -202,12 +188,7 @@ pub fn answer<'a, V: View>(
 
 /// Answers a call in a datagram, on the state that the view knows after at most one read step. It knows no ALL, and has
 /// YPERR for a row that a datagram can't carry.
-pub fn answer_datagram<'a, V: View>(
-    view: &mut V,
-    call: &'a [u8],
-    peer: Peer,
-    buf: &mut [u8],
-) -> Answered<'a>
+pub fn answer_datagram<V: View>(view: &mut V, call: &[u8], peer: Peer, buf: &mut [u8]) -> Answered
     requires { datagram_max ≤ length buf.old }
     ensures reply { IsAnswer paths.Datagram (maps_of (V.seen view.new)) peer call.now result buf.new }
     ensures step { StepsWhere (asks paths.Datagram call.now) V.stepped V.seen view.old view.new }

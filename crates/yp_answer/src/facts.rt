@@ -1,6 +1,7 @@
 //! The procedures that tell of domains and maps, and not of rows (yp.x).
 
-ghost use Rattle.std.specs.Prelude.{◌≡◌, ◌+◌, ◌*◌, ◌<◌, ◌≤◌, ◌++◌, length, slice_index_or, take, option_map, [], IfSome};
+ghost use Rattle.std.specs.Prelude.{◌≡◌, ◌+◌, ◌*◌, ◌<◌, ◌≤◌, ◌++◌, length, slice_index_or, take, option_map, []};
+ghost use Rattle.std.specs.Prelude.{IfSome};
 ghost use Rattle.yp_xdr.specs.Kind.{ListOf};
 ghost use Rattle.yp_xdr.specs.Spelling.{spelling};
 ghost use Rattle.yp_msgs.specs.Statuses.{stat_number};
@@ -27,7 +28,8 @@ use yp_xdr::Cursor;
 /// Answers DOMAIN.
 pub fn answer_domain<V: View>(view: &V, caller: &Caller, arguments: &[u8], buf: &mut [u8]) -> usize
     requires { datagram_max ≤ length buf.old }
-    ensures reply { Bytes (take result buf.new) ≡ procedure_reply (maps_of (V.seen view.now)) caller.now procedures.Domain arguments.now }
+    ensures reply { Bytes (take result buf.new) ≡ procedure_reply (maps_of (V.seen view.now)) caller.now
+        procedures.Domain arguments.now }
     ensures within { result ≤ length buf.new }
 {
     let Ok(asked) = ReqDomain::read(&mut Cursor::new(arguments)) else {
@@ -44,7 +46,8 @@ pub fn answer_domain_nonack<V: View>(
     buf: &mut [u8],
 ) -> Option<usize>
     requires { datagram_max ≤ length buf.old }
-    ensures reply { bytes_or_silence (option_map (λ len. take len buf.new) result) ≡ procedure_reply (maps_of (V.seen view.now)) caller.now procedures.DomainNonack arguments.now }
+    ensures reply { bytes_or_silence (option_map (λ len. take len buf.new) result) ≡ procedure_reply
+        (maps_of (V.seen view.now)) caller.now procedures.DomainNonack arguments.now }
     ensures within { IfSome result (λ len. len ≤ length buf.new) }
 {
     let Ok(asked) = ReqDomain::read(&mut Cursor::new(arguments)) else {
@@ -82,7 +85,8 @@ pub fn answer_master<V: View>(
     buf: &mut [u8],
 ) -> usize
     requires { datagram_max ≤ length buf.old }
-    ensures reply { Bytes (take result buf.new) ≡ procedure_reply (maps_of (V.seen view.new)) caller.now procedures.Master arguments.now }
+    ensures reply { Bytes (take result buf.new) ≡ procedure_reply (maps_of (V.seen view.new)) caller.now
+        procedures.Master arguments.now }
     ensures within { result ≤ length buf.new }
     ensures step { StepsWhere (asks_for procedures.Master arguments.now) V.stepped V.seen view.old view.new }
 {
@@ -103,7 +107,8 @@ pub fn answer_order<V: View>(
     buf: &mut [u8],
 ) -> usize
     requires { datagram_max ≤ length buf.old }
-    ensures reply { Bytes (take result buf.new) ≡ procedure_reply (maps_of (V.seen view.new)) caller.now procedures.Order arguments.now }
+    ensures reply { Bytes (take result buf.new) ≡ procedure_reply (maps_of (V.seen view.new)) caller.now
+        procedures.Order arguments.now }
     ensures within { result ≤ length buf.new }
     ensures step { StepsWhere (asks_for procedures.Order arguments.now) V.stepped V.seen view.old view.new }
 {
@@ -131,7 +136,8 @@ fn put_map<V: View>(view: &V, map: u32, domain: &[u8], buf: &mut [u8], at: usize
     requires inside { map < length (V.seen view.now).catalogue.maps }
     requires room { at + MAP_MAX ≤ length buf.old }
     ensures put { take result buf.new ≡ take at buf.old
-        ++ map_part (maps_of (V.seen view.now)) domain.now (slice_index_or (V.seen view.now).catalogue.maps map ([], [])) }
+        ++ map_part (maps_of (V.seen view.now)) domain.now
+        (slice_index_or (V.seen view.now).catalogue.maps map ([], [])) }
     ensures within { result ≤ at + MAP_MAX }
     ensures forward { at ≤ result }
 {
@@ -146,7 +152,8 @@ fn put_map<V: View>(view: &V, map: u32, domain: &[u8], buf: &mut [u8], at: usize
 /// answers the place behind them.
 fn put_maps<V: View>(view: &V, domain: &[u8], buf: &mut [u8], at: usize) -> usize
     requires { at + MAPS_MAX * MAP_MAX + 4 ≤ length buf.old }
-    ensures put { take result buf.new ≡ take at buf.old ++ spelling (ListOf name) (maps_in (maps_of (V.seen view.now)) domain.now) }
+    ensures put { take result buf.new ≡ take at buf.old
+        ++ spelling (ListOf name) (maps_in (maps_of (V.seen view.now)) domain.now) }
     ensures within { result ≤ length buf.new }
 {
     let mut end = at;
@@ -164,7 +171,8 @@ pub fn answer_maplist<V: View>(
     buf: &mut [u8],
 ) -> usize
     requires { datagram_max ≤ length buf.old }
-    ensures reply { Bytes (take result buf.new) ≡ procedure_reply (maps_of (V.seen view.new)) caller.now procedures.Maplist arguments.now }
+    ensures reply { Bytes (take result buf.new) ≡ procedure_reply (maps_of (V.seen view.new)) caller.now
+        procedures.Maplist arguments.now }
     ensures within { result ≤ length buf.new }
     ensures step { StepsWhere (asks_for procedures.Maplist arguments.now) V.stepped V.seen view.old view.new }
 {

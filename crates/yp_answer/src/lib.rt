@@ -18,6 +18,6 @@ mod stream;
 
 pub use calls::{Answered, answer, answer_datagram};
 pub use limits::{DATAGRAM_MAX, RECORD_MAX};
-pub use make::make_reply;
+pub use make::{Job, make_reply};
 pub use procedure::{Path, Procedure};
 pub use stream::AllStream;

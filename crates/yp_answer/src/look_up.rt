@@ -105,7 +105,8 @@ fn next_row<'a>(found: &Result<Held<'a>, YpStat>, key: &[u8]) -> KeyVal<'a>
 fn put_value(caller: &Caller, found: &RespVal<'_>, buf: &mut [u8]) -> usize
     requires room { room_of caller.now.path ≤ length buf.old }
     requires len { length found.now.val.now ≤ value_max }
-    ensures reply { take result buf.new ≡ look_up caller.now.path caller.now.xid resp_val (resp_val_view found.now) (no_value Yperr) }
+    ensures reply { take result buf.new ≡ look_up caller.now.path caller.now.xid resp_val (resp_val_view found.now)
+        (no_value Yperr) }
     ensures within { result ≤ length buf.new }
 {
     let at = put_head(buf, caller.xid, &ReplyHead::Success);
@@ -120,7 +121,8 @@ fn put_row(caller: &Caller, found: &KeyVal<'_>, buf: &mut [u8]) -> usize
     requires room { room_of caller.now.path ≤ length buf.old }
     requires val_len { length found.now.val.now ≤ value_max }
     requires key_len { length found.now.key.now ≤ key_max }
-    ensures reply { take result buf.new ≡ look_up caller.now.path caller.now.xid key_val (key_val_view found.now) (no_row Yperr) }
+    ensures reply { take result buf.new ≡ look_up caller.now.path caller.now.xid key_val (key_val_view found.now)
+        (no_row Yperr) }
     ensures within { result ≤ length buf.new }
 {
     let at = put_head(buf, caller.xid, &ReplyHead::Success);
@@ -138,7 +140,8 @@ pub fn answer_match<V: View>(
     buf: &mut [u8],
 ) -> usize
     requires { room_of caller.now.path ≤ length buf.old }
-    ensures reply { Bytes (take result buf.new) ≡ procedure_reply (maps_of (V.seen view.new)) caller.now procedures.Match arguments.now }
+    ensures reply { Bytes (take result buf.new) ≡ procedure_reply (maps_of (V.seen view.new)) caller.now
+        procedures.Match arguments.now }
     ensures within { result ≤ length buf.new }
     ensures step { StepsWhere (asks_for procedures.Match arguments.now) V.stepped V.seen view.old view.new }
 {
@@ -158,7 +161,8 @@ pub fn answer_first<V: View>(
     buf: &mut [u8],
 ) -> usize
     requires { room_of caller.now.path ≤ length buf.old }
-    ensures reply { Bytes (take result buf.new) ≡ procedure_reply (maps_of (V.seen view.new)) caller.now procedures.First arguments.now }
+    ensures reply { Bytes (take result buf.new) ≡ procedure_reply (maps_of (V.seen view.new)) caller.now
+        procedures.First arguments.now }
     ensures within { result ≤ length buf.new }
     ensures step { StepsWhere (asks_for procedures.First arguments.now) V.stepped V.seen view.old view.new }
 {
@@ -178,7 +182,8 @@ pub fn answer_next<V: View>(
     buf: &mut [u8],
 ) -> usize
     requires { room_of caller.now.path ≤ length buf.old }
-    ensures reply { Bytes (take result buf.new) ≡ procedure_reply (maps_of (V.seen view.new)) caller.now procedures.Next arguments.now }
+    ensures reply { Bytes (take result buf.new) ≡ procedure_reply (maps_of (V.seen view.new)) caller.now
+        procedures.Next arguments.now }
     ensures within { result ≤ length buf.new }
     ensures step { StepsWhere (asks_for procedures.Next arguments.now) V.stepped V.seen view.old view.new }
 {

@@ -1,6 +1,6 @@
 //! The make program: a map is made anew where a caller on the server's own host asks for it.
 
-ghost use Rattle.std.specs.Prelude.{◌≡◌, ◌<◌, ◌≤◌, length, take};
+ghost use Rattle.std.specs.Prelude.{◌≡◌, ◌<◌, ◌≤◌, length, take, IfOk};
 ghost use Rattle.yp_msgs.specs.Transfers.{req_make_view};
 ghost use Rattle.yp_answer.specs.Numbers.{datagram_max};
 ghost use Rattle.yp_answer.specs.Make.{make_check};
@@ -16,26 +16,34 @@ use yp_rpc::ReplyHead;
 /// The address of a caller on the server's own host.
 const OWN_HOST: [u8; 4] = [127, 0, 0, 1];
 
-/// The status that refuses to make a map for a caller, the first that applies, or none. It rests on the catalogue
+/// A map that is made: its number from 0, and its kind.
+#[derive(Clone, Copy, Debug, PartialEq, Eq)]
+pub struct Job {
+    pub map: u32,
+    pub kind: Kind,
+}
+
+/// The map that is made for a caller, or the status that refuses to, the first that applies. It rests on the catalogue
 /// alone.
-pub fn make_check(catalog: &Catalog, peer: Peer, asked: &ReqMake<'_>) -> Option<XfrStat>
-    ensures { result ≡ make_check catalog.now peer (req_make_view asked.now) }
+pub fn make_check(catalog: &Catalog, peer: Peer, asked: &ReqMake<'_>) -> Result<Job, XfrStat>
+    ensures check { result ≡ make_check catalog.now peer (req_make_view asked.now) }
+    ensures inside { IfOk result (λ job. job.map < length catalog.now.maps) }
 {
     if peer.addr != OWN_HOST {
-        return Some(XfrStat::Refused);
+        return Err(XfrStat::Refused);
     }
     if asked.domain.is_empty() {
-        return Some(XfrStat::Badargs);
+        return Err(XfrStat::Badargs);
     }
     if !catalog.serves(asked.domain) {
-        return Some(XfrStat::Nodom);
+        return Err(XfrStat::Nodom);
     }
     let Some(kind) = Kind::of_number(asked.kind) else {
-        return Some(XfrStat::Nomap);
+        return Err(XfrStat::Nomap);
     };
     match catalog.find(asked.domain, kind.name()) {
-        Some(_) => None,
-        None => Some(XfrStat::Nomap),
+        Some(map) => Ok(Job { map, kind }),
+        None => Err(XfrStat::Nomap),
     }
 }
 

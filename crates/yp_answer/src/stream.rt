@@ -49,7 +49,8 @@ enum Items<'a> {
 impl<'a> Items<'a> {
     /// The item with this number, or the end behind the last one.
     fn item(&self, i: usize) -> Option<AllItem<'a>>
-        ensures item { option_map (λ item. spelling all_item (all_item_view item)) result ≡ slice_get (item_parts (items_view self.now)) i }
+        ensures item { option_map (λ item. spelling all_item (all_item_view item)) result ≡ slice_get
+            (item_parts (items_view self.now)) i }
         ensures within { IfSome result AllItemIsWithin }
         ensures few { IfSome result (λ item. i ≤ rows_max) }
     {
@@ -72,7 +73,8 @@ impl<'a> Items<'a> {
 /// number of the next item.
 fn put_items(items: &Items<'_>, buf: &mut [u8], at: usize, first: usize) -> (usize, usize)
     requires { at ≤ length buf.old }
-    ensures put { take result.0 buf.new ≡ take at buf.old ++ joined (between first result.1 (item_parts (items_view items.now))) }
+    ensures put { take result.0 buf.new ≡ take at buf.old
+        ++ joined (between first result.1 (item_parts (items_view items.now))) }
     ensures within { result.0 ≤ length buf.new }
     ensures forward { first ≤ result.1 }
     ensures few { first < result.1 → result.1 ≤ rows_max + 1 }
@@ -108,7 +110,8 @@ impl AllStream {
     pub fn piece<V: View>(&mut self, view: &V, buf: &mut [u8]) -> usize
         requires room { record_max ≤ length buf.old }
         requires inside { IsInside (maps_of (V.seen view.now)) self.old.source }
-        ensures gives { Gives (take result buf.new) (parts_left (V.seen view.now).known self.old) (parts_left (V.seen view.now).known self.new) }
+        ensures gives { Gives (take result buf.new) (parts_left (V.seen view.now).known self.old)
+            (parts_left (V.seen view.now).known self.new) }
         ensures end { (result ≡ 0) ↔ (parts_left (V.seen view.now).known self.old ≡ []) }
         ensures same { self.new ≡ record self.old { given = self.new.given } }
         ensures within { result ≤ length buf.new }

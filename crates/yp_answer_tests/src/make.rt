@@ -9,6 +9,7 @@ use std::alloc::Global;
 use std::process::Abort;
 use yp_answer::*;
 use yp_board::PlainBoard;
+use yp_build::Kind;
 use yp_io::Peer;
 use yp_msgs::XfrStat;
 
@@ -40,13 +41,7 @@ const KIND_99: &str = "00000063";
 const REFUSED: &str = "fffffff2";
 
 // The answer to a call from this address, on a path.
-fn asked<'a>(
-    path: Path,
-    board: &mut PlainBoard,
-    addr: [u8; 4],
-    call: &'a [u8],
-    buf: &mut [u8],
-) -> Answered<'a>
+fn asked(path: Path, board: &mut PlainBoard, addr: [u8; 4], call: &[u8], buf: &mut [u8]) -> Answered
     requires { record_max ≤ length buf.old }
 {
     let peer = Peer { addr, port: 40_000 };
@@ -235,12 +230,11 @@ fn other_calls_of_the_make_program(rt: HostRuntime) {
     }
 }
 
-// The xid, the kind and the domain of a call that is left open.
-type Opened = (u32, u32, Vec<u8>);
+// The xid of a call that is left open, and the map that it asks for.
+type Opened = (u32, Job);
 
 fn opened_by(
     rt: &impl Abort,
-    alloc: Global,
     path: Path,
     board: &mut PlainBoard,
     call: &[u8],
@@ -249,10 +243,7 @@ fn opened_by(
     requires { record_max ≤ length buf.old }
 {
     match asked(path, board, OWN_HOST, call, buf) {
-        Answered::Make { xid, request } => {
-            let domain = Vec::from_slice(alloc, request.domain).expect(rt, "bytes");
-            (xid, request.kind, domain)
-        }
+        Answered::Make { xid, job } => (xid, job),
         _ => panic!(rt; "the MAKE isn't open"),
     }
 }
@@ -265,30 +256,28 @@ fn open_make(
     call: &[u8],
 ) -> Opened {
     let mut buf = filled(rt, alloc, 9, RECORD_MAX);
-    opened_by(rt, alloc, path, board, call, &mut buf)
+    opened_by(rt, path, board, call, &mut buf)
 }
 
-// The arguments of calls that are left open, and their domains, as words.
-const OPEN: &[(&str, &[&str], &str)] = &[
-    ("in lab", &[LAB, HOSTS_KIND], "6c6162"),
+// The arguments of calls that are left open, as words, and the number of the map that each asks for.
+const OPEN: &[(&str, &[&str], u32)] = &[
+    ("in lab", &[LAB, HOSTS_KIND], 0),
     (
         "with bytes behind the arguments, which aren't read",
         &[LAB, HOSTS_KIND, "01020304"],
-        "6c6162",
+        0,
     ),
-    ("in zoo", &[ZOO, HOSTS_KIND], "7a6f6f"),
+    ("in zoo", &[ZOO, HOSTS_KIND], 1),
 ];
 
 #[test]
 fn open_makes(rt: HostRuntime) {
     let alloc = rt.alloc();
     let mut board = two_domains(&rt, alloc);
-    for &(row, arguments, domain) in OPEN {
+    for &(row, arguments, map) in OPEN {
         let call = make_of(&rt, alloc, arguments);
-        let wanted = [
-            (2, 5, bytes(&rt, alloc, &[domain])),
-            (2, 5, bytes(&rt, alloc, &[domain])),
-        ];
+        let kind = Kind::HostsByname;
+        let wanted = [(2, Job { map, kind }), (2, Job { map, kind })];
         let by_record = open_make(&rt, alloc, Path::Stream, &mut board, &call);
         let by_datagram = open_make(&rt, alloc, Path::Datagram, &mut board, &call);
         assert_same(&rt, &[by_record, by_datagram], &wanted, row);

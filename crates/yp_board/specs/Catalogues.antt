@@ -1,5 +1,6 @@
 -- The maps that are served, each named by its domain and its map, and numbered from 0.
-use Rattle.std.specs.Prelude.{ℕ, ◌+◌, ◌<◌, ◌≤◌, Bool, not, ◌&&◌, List, [], ◌∷◌, ◌++◌, map, length, take, position, All, Option, None, Some, if◌then◌else◌, bytes_eq, nat_lt, nat_le}
+use Rattle.std.specs.Prelude.{ℕ, ◌+◌, ◌<◌, ◌≤◌, Bool, not, ◌&&◌, List, [], ◌∷◌, ◌++◌, map, length, take, position, All}
+use Rattle.std.specs.Prelude.{Option, None, Some, if◌then◌else◌, bytes_eq, nat_lt, nat_le}
 use Rattle.std.specs.List.{IsDistinct, list_any}
 use Rattle.std.specs.Option.{option_map_or}
 use Rattle.std.specs.Ordering.{ordering_then, match_ordering}
@@ -55,8 +56,8 @@ abbrev pub is_map_name : Name → Bool
 is_map_name name = is_name name.0 && is_name name.1
 
 -- the maps that have a number of 32 bits
-abbrev pub numbered : List Name → List Name
-numbered maps = take 4294967296 maps
+abbrev pub with_numbers : List Name → List Name
+with_numbers maps = take 4294967296 maps
 
 -- the first name that stands among those before it, counted from a number
 abbrev pub again_from : ℕ → List Name → List Name → Option ℕ
@@ -66,16 +67,17 @@ again_from at before (name ∷ names) =
 
 -- the number of the first map whose name has a part that is empty or too long
 abbrev pub bad_name : List Name → Option ℕ
-bad_name maps = position (λ name. not (is_map_name name)) (numbered maps)
+bad_name maps = position (λ name. not (is_map_name name)) (with_numbers maps)
 
 -- the number of the first map whose name stands a second time
 abbrev pub twice : List Name → Option ℕ
-twice maps = again_from 0 [] (numbered maps)
+twice maps = again_from 0 [] (with_numbers maps)
 
 -- what is wrong with maps whose names are good
 abbrev pub maps_fault : List Name → Option CatalogFault
 maps_fault maps =
-    option_map_or (λ index. Some (Twice index)) (twice maps) (if nat_lt maps_max (length maps) then Some TooMany else None)
+    option_map_or (λ index. Some (Twice index)) (twice maps)
+    (if nat_lt maps_max (length maps) then Some TooMany else None)
 
 -- what is wrong with an own name and maps, the first fault that applies
 abbrev pub catalog_fault : List ℕ → List Name → Option CatalogFault

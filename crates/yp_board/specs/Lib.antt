@@ -1,5 +1,6 @@
 pub mod Catalogues
 pub mod Logs
 pub mod Views
+pub mod Trails
 pub mod Catalog
 pub mod PlainBoard

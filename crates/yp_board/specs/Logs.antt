@@ -1,8 +1,5 @@
 -- The log of a board: the versions that were shown, in the order in which they were shown.
 use Rattle.std.specs.Prelude.{ℕ, ◌+◌, List, [], ◌∷◌, map, fold, Option, None, Some, if◌then◌else◌, ◌==◌}
-use Rattle.std.specs.Arc.{arc_value}
-use Rattle.std.specs.declared.alloc.Global.{Global}
-use Rattle.std.specs.declared.sync.Arc.{Arc}
 use Rattle.yp_version.specs.Versions.{MapVersion}
 
 -- each shown version stands with the number of its map
@@ -18,11 +15,3 @@ abbrev pub starts : ℕ → List (Option MapVersion) → Log
 starts map [] = []
 starts map (None ∷ rest) = starts (map + 1) rest
 starts map (Some version ∷ rest) = (map, version) ∷ starts (map + 1) rest
-
--- an entry of the code's list
-abbrev pub entry_view : ℕ × Arc MapVersion Global → ℕ × MapVersion
-entry_view entry = (entry.0, arc_value entry.1)
-
--- the log that a list of the code stands for
-abbrev pub log_view : List (ℕ × Arc MapVersion Global) → Log
-log_view entries = map entry_view entries

@@ -1,7 +1,7 @@
 -- What the code keeps of a plain board.
 use Rattle.std.specs.Prelude.{◌≡◌, ℕ, ◌<◌, length, None, option_map, slice_index_or}
 use Rattle.std.specs.Arc.{arc_value}
-use Rattle.yp_board.specs.Logs.{shown, log_view}
+use Rattle.yp_board.specs.Logs.{shown}
 use Rattle.yp_board.specs.Views.{Seen}
 use Rattle.yp_board.specs.declared.plain.PlainBoard.TheInside.{Inside}
 
@@ -9,7 +9,7 @@ use Rattle.yp_board.specs.declared.plain.PlainBoard.TheInside.{Inside}
 abbrev pub seen_of : Inside → Seen
 seen_of inside = record {
   catalogue = inside.catalog;
-  known = log_view inside.log.items;
+  known = inside.log;
   asked = inside.asked;
 }
 
@@ -17,4 +17,4 @@ seen_of inside = record {
 pub record IsKept (inside : Inside) : Type 0 where
   pub count : length inside.last.items ≡ length inside.catalog.maps
   pub last : (k : ℕ) → k < length inside.last.items
-      → option_map arc_value (slice_index_or inside.last.items k None) ≡ shown k (log_view inside.log.items)
+      → option_map arc_value (slice_index_or inside.last.items k None) ≡ shown k inside.log

@@ -1,6 +1,7 @@
 //! The maps that are served.
 
-ghost use Rattle.std.specs.Prelude.{◌≡◌, ℕ, ◌<◌, ◌↔◌, ◌⊎◌, [], All, map, length, slice_get, slice_index_or, None, Some, IsTrue, IfOk, IfErr, OnOk};
+ghost use Rattle.std.specs.Prelude.{◌≡◌, ℕ, ◌<◌, ◌↔◌, ◌⊎◌, [], All, map, length, slice_get, slice_index_or, None, Some};
+ghost use Rattle.std.specs.Prelude.{IsTrue, IfOk, IfErr, OnOk};
 ghost use Rattle.yp_board.specs.Catalogues.{IsCatalogue, name_view, is_named, find, serves, catalog_fault, listed};
 
 use crate::faults::fault_of;
@@ -41,7 +42,7 @@ impl MapName {
 }
 
 /// The same names once more.
-fn copied(alloc: Global, names: &[MapName]) -> Result<Vec<MapName>, AllocError>
+pub fn copy_names(alloc: Global, names: &[MapName]) -> Result<Vec<MapName>, AllocError>
     ensures { IfOk result (λ copies. map name_view copies.items ≡ map name_view names.now) }
 {
     let mut copies = Vec::with_capacity(alloc, names.len())?;
@@ -172,7 +173,7 @@ impl Catalog {
         ensures { IfOk result (λ catalog. catalog ≡ self.now) }
     {
         let own = Vec::from_slice(alloc, &self.own).map_err(|_| NoMemory)?;
-        let maps = copied(alloc, &self.maps).map_err(|_| NoMemory)?;
+        let maps = copy_names(alloc, &self.maps).map_err(|_| NoMemory)?;
         let listed = Vec::from_slice(alloc, &self.listed).map_err(|_| NoMemory)?;
         Ok(Catalog { own, maps, listed })
     }

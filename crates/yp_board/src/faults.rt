@@ -2,7 +2,8 @@
 
 ghost use Rattle.std.specs.Prelude.{◌≡◌, ◌≤◌, ◌^◌, map, length};
 ghost use Rattle.std.specs.List.{list_any};
-ghost use Rattle.yp_board.specs.Catalogues.{name_view, is_name, is_map_name, is_same, numbered, bad_name, twice, catalog_fault};
+ghost use Rattle.yp_board.specs.Catalogues.{name_view, is_name, is_map_name, is_same, with_numbers, bad_name, twice};
+ghost use Rattle.yp_board.specs.Catalogues.{catalog_fault};
 
 use crate::catalog::{CatalogFault, MAPS_MAX, MapName, NAME_MAX};
 
@@ -43,8 +44,8 @@ fn is_map_name(name: &MapName) -> bool
 }
 
 /// The maps that have a number.
-fn numbered(maps: &[MapName]) -> &[MapName]
-    ensures names { map name_view result.now ≡ numbered (map name_view maps.now) }
+fn with_numbers(maps: &[MapName]) -> &[MapName]
+    ensures names { map name_view result.now ≡ with_numbers (map name_view maps.now) }
     ensures count { length result.now ≤ 2 ^ 32 }
 {
     &maps[..maps.len().min(NUMBERED)]
@@ -54,7 +55,9 @@ fn numbered(maps: &[MapName]) -> &[MapName]
 fn bad_name(maps: &[MapName]) -> Option<u32>
     ensures { result ≡ bad_name (map name_view maps.now) }
 {
-    let place = numbered(maps).iter().position(|name| !is_map_name(name))?;
+    let place = with_numbers(maps)
+        .iter()
+        .position(|name| !is_map_name(name))?;
     Some(place as u32)
 }
 
@@ -69,7 +72,7 @@ fn is_among(name: &MapName, names: &[MapName]) -> bool
 fn twice(maps: &[MapName]) -> Option<u32>
     ensures { result ≡ twice (map name_view maps.now) }
 {
-    let names = numbered(maps);
+    let names = with_numbers(maps);
     for (index, name) in names.iter().enumerate() {
         if is_among(name, &names[..index]) {
             return Some(index as u32);

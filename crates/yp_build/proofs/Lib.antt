@@ -3,3 +3,4 @@ mod Places
 mod Pushing
 mod Sampling
 mod WordLists
+mod Orders

@@ -1,32 +1,44 @@
 -- The lines of a text, taken off at its front.
-use Rattle.std.proofs.Common.{◌≡◌, ℕ, suc, ◌+◌, ◌<◌, Bool, true, false, not, eqb, List, [], ◌∷◌, ◌++◌, length, append_assoc, ◌&&◌, ◌==◌, refl, sym, ap, ◌∙◌, inl, inr, arith, rules, tests}
+use Rattle.std.proofs.Common.{◌≡◌, ℕ, suc, ◌+◌, ◌<◌, Bool, true, false, not, eqb, List, [], ◌∷◌, ◌++◌, length}
+use Rattle.std.proofs.Common.{append_assoc, ◌&&◌, ◌==◌, refl, sym, ap, ◌∙◌, inl, inr, arith, rules, tests}
 use Rattle.std.specs.List.{slice_split, position_or_len, before_first, after_first, enumerate_from}
 use Rattle.std.proofs.lemmas.Bool.{cases_lt}
 use Rattle.std.proofs.lemmas.List.{take_all, drop_all}
 use Rattle.std.proofs.lemmas.List.Splits.{slice_split_first, slice_split_none, length-slice_split}
 use Rattle.std.proofs.lemmas.List.Sums.{fails_before_first}
-use Rattle.yp_build.specs.Lines.{Line, is_line_feed, without_empty_end, lines, lines_from, goes_on, before_last_byte, put_before, joined, whole_lines}
+use Rattle.yp_build.specs.Lines.{Line, is_line_feed, without_empty_end, lines, lines_from, goes_on, before_last_byte}
+use Rattle.yp_build.specs.Lines.{put_before, joined, whole_lines}
 
-without_empty_end-cons : (piece : List ℕ) (pieces : List (List ℕ)) → 0 < length pieces → without_empty_end (piece ∷ pieces) ≡ piece ∷ without_empty_end pieces
+without_empty_end-cons : (piece : List ℕ) (pieces : List (List ℕ)) → 0 < length pieces
+    → without_empty_end (piece ∷ pieces) ≡ piece ∷ without_empty_end pieces
 without_empty_end-cons piece [] some = absurd (omega arith)
 without_empty_end-cons piece (next ∷ more) some = refl
 
 without_empty_end-alone : (text : List ℕ) → 0 < length text → without_empty_end (text ∷ []) ≡ text ∷ []
 without_empty_end-alone [] some = absurd (omega arith)
-without_empty_end-alone (b ∷ text) some = let filled : eqb (length (b ∷ text)) 0 ≡ false = search (rules, tests) in rw filled
+without_empty_end-alone (b ∷ text) some = let filled : eqb (length (b ∷ text)) 0 ≡ false = search (rules, tests) in
+    rw filled
 
 -- a line ends at the first line feed, or at the end of the text
-pub lines-cut : (text : List ℕ) → 0 < length text → lines text ≡ before_first is_line_feed text ∷ lines (after_first is_line_feed text)
+pub lines-cut : (text : List ℕ) → 0 < length text
+    → lines text ≡ before_first is_line_feed text ∷ lines (after_first is_line_feed text)
 lines-cut text some =
     elim (cases_lt (position_or_len is_line_feed text) (length text)) [
-      | inl h ↦ ap without_empty_end (slice_split_first is_line_feed text 0 h) ∙ without_empty_end-cons (before_first is_line_feed text) (slice_split is_line_feed (after_first is_line_feed text)) (omega (arith, length-slice_split is_line_feed (after_first is_line_feed text)))
+      | inl h ↦ ap without_empty_end (slice_split_first is_line_feed text 0 h)
+          ∙ without_empty_end-cons (before_first is_line_feed text)
+          (slice_split is_line_feed (after_first is_line_feed text))
+          (omega (arith, length-slice_split is_line_feed (after_first is_line_feed text)))
       | inr h ↦
           let all : before_first is_line_feed text ≡ text = take_all (position_or_len is_line_feed text) text h in
-          let none : after_first is_line_feed text ≡ [] = drop_all (position_or_len is_line_feed text + 1) text (omega arith) in
-          ap without_empty_end (slice_split_none is_line_feed text (λ k d below. fails_before_first is_line_feed text k d (omega arith))) ∙ without_empty_end-alone text some ∙ sym (rw (all, none) refl)
+          let none : after_first is_line_feed text ≡ [] =
+          drop_all (position_or_len is_line_feed text + 1) text (omega arith) in
+          ap without_empty_end (slice_split_none is_line_feed text
+          (λ k d below. fails_before_first is_line_feed text k d (omega arith))) ∙ without_empty_end-alone text some
+          ∙ sym (rw (all, none) refl)
     ]
 
-pub lines_from-cut : (number : ℕ) (text line rest : List ℕ) → lines text ≡ line ∷ lines rest → lines_from number text ≡ (number, line) ∷ lines_from (number + 1) rest
+pub lines_from-cut : (number : ℕ) (text line rest : List ℕ) → lines text ≡ line ∷ lines rest
+    → lines_from number text ≡ (number, line) ∷ lines_from (number + 1) rest
 lines_from-cut number text line rest e = ap (enumerate_from number) e
 
 -- ---- continuation lines
@@ -38,15 +50,20 @@ put_before-stays : (line : Line) (more : List Line) → goes_on line.1 ≡ false
 put_before-stays line [] e = refl
 put_before-stays line (next ∷ more) e = rw e
 
-put_before-goes_on : (line next : Line) (more : List Line) → goes_on line.1 ≡ true → put_before line (next ∷ more) ≡ (line.0, before_last_byte line.1 ++ 32 ∷ next.1) ∷ more
+put_before-goes_on : (line next : Line) (more : List Line) → goes_on line.1 ≡ true
+    → put_before line (next ∷ more) ≡ (line.0, before_last_byte line.1 ++ 32 ∷ next.1) ∷ more
 put_before-goes_on line next more e = rw e
 
 -- a line that goes on, before the line that the rest of the text begins with
-pub joined-cut : (number : ℕ) (text line rest : List ℕ) → lines text ≡ line ∷ lines rest → goes_on line ≡ true → (next : List ℕ) (more : List Line) → joined (lines_from (number + 1) rest) ≡ (number + 1, next) ∷ more → joined (lines_from number text) ≡ (number, before_last_byte line ++ 32 ∷ next) ∷ more
+pub joined-cut : (number : ℕ) (text line rest : List ℕ) → lines text ≡ line ∷ lines rest → goes_on line ≡ true
+    → (next : List ℕ) (more : List Line) → joined (lines_from (number + 1) rest) ≡ (number + 1, next) ∷ more
+    → joined (lines_from number text) ≡ (number, before_last_byte line ++ 32 ∷ next) ∷ more
 joined-cut number text line rest e on next more h =
-    ap joined (lines_from-cut number text line rest e) ∙ ap (put_before (number, line)) h ∙ put_before-goes_on (number, line) (number + 1, next) more on
+    ap joined (lines_from-cut number text line rest e) ∙ ap (put_before (number, line)) h
+    ∙ put_before-goes_on (number, line) (number + 1, next) more on
 
-pub append-joined : (buffer front next : List ℕ) → ((buffer ++ front) ++ 32 ∷ []) ++ next ≡ buffer ++ (front ++ 32 ∷ next)
+pub append-joined : (buffer front next : List ℕ)
+    → ((buffer ++ front) ++ 32 ∷ []) ++ next ≡ buffer ++ (front ++ 32 ∷ next)
 append-joined buffer front next = simp append_assoc
 
 -- ---- a first line, alone or with the lines in which it goes on
@@ -54,12 +71,18 @@ append-joined buffer front next = simp append_assoc
 goes_on-alone : (n : ℕ) (on : Bool) → (true && (not (suc n == 0) && on)) ≡ false → on ≡ false
 goes_on-alone n on alone = search (rules, tests)
 
-pub whole_lines-alone : (joins : Bool) (number : ℕ) (text line rest : List ℕ) → lines text ≡ line ∷ lines rest → (joins && (not (length rest == 0) && goes_on line)) ≡ false → whole_lines joins number text ≡ (number, line) ∷ whole_lines joins (number + 1) rest
+pub whole_lines-alone : (joins : Bool) (number : ℕ) (text line rest : List ℕ) → lines text ≡ line ∷ lines rest
+    → (joins && (not (length rest == 0) && goes_on line)) ≡ false
+    → whole_lines joins number text ≡ (number, line) ∷ whole_lines joins (number + 1) rest
 whole_lines-alone false number text line rest e alone = lines_from-cut number text line rest e
 whole_lines-alone true number text line [] e alone = ap joined (lines_from-cut number text line [] e)
-whole_lines-alone true number text line (b ∷ rest) e alone = ap joined (lines_from-cut number text line (b ∷ rest) e) ∙ put_before-stays (number, line) (joined (lines_from (number + 1) (b ∷ rest))) (goes_on-alone (length rest) (goes_on line) alone)
+whole_lines-alone true number text line (b ∷ rest) e alone = ap joined (lines_from-cut number text line (b ∷ rest) e)
+    ∙ put_before-stays (number, line) (joined (lines_from (number + 1) (b ∷ rest)))
+    (goes_on-alone (length rest) (goes_on line) alone)
 
-pub whole_lines-joined : (joins more : Bool) (number next : ℕ) (text line rest : List ℕ) → (joins && more) ≡ true → joined (lines_from number text) ≡ (number, line) ∷ joined (lines_from next rest) → whole_lines joins number text ≡ (number, line) ∷ whole_lines joins next rest
+pub whole_lines-joined : (joins more : Bool) (number next : ℕ) (text line rest : List ℕ) → (joins && more) ≡ true
+    → joined (lines_from number text) ≡ (number, line) ∷ joined (lines_from next rest)
+    → whole_lines joins number text ≡ (number, line) ∷ whole_lines joins next rest
 whole_lines-joined false more number next text line rest on e = cc
 whole_lines-joined true more number next text line rest on e = e
 

@@ -1,5 +1,6 @@
 -- The words of a line, taken off at its front.
-use Rattle.std.proofs.Common.{◌≡◌, ℕ, suc, ◌+◌, ◌<◌, ◌≤◌, Bool, true, false, List, [], ◌∷◌, length, drop, refl, sym, ap, ◌∙◌, inl, inr, arith, rules, tests}
+use Rattle.std.proofs.Common.{◌≡◌, ℕ, suc, ◌+◌, ◌<◌, ◌≤◌, Bool, true, false, List, [], ◌∷◌, length, drop, refl, sym, ap}
+use Rattle.std.proofs.Common.{◌∙◌, inl, inr, arith, rules, tests}
 use Rattle.std.specs.List.{slice_split, filter, prefix_len, position_or_len, before_first, after_first}
 use Rattle.std.proofs.lemmas.Bool.{cases_lt}
 use Rattle.std.proofs.lemmas.List.{take_all, drop_all}
@@ -26,7 +27,8 @@ module _ (p : ℕ → Bool) where
   pieces-cons_yes : (b : ℕ) (line : List ℕ) → p b ≡ true → pieces (b ∷ line) ≡ pieces line
   pieces-cons_yes b line e = ap (filter is_filled) (slice_split-cons_yes p b line e)
 
-  pieces-trimmed_step : (b : ℕ) (line : List ℕ) (passes : Bool) → p b ≡ passes → pieces (trimmed line) ≡ pieces line → pieces (trimmed (b ∷ line)) ≡ pieces (b ∷ line)
+  pieces-trimmed_step : (b : ℕ) (line : List ℕ) (passes : Bool) → p b ≡ passes → pieces (trimmed line) ≡ pieces line
+      → pieces (trimmed (b ∷ line)) ≡ pieces (b ∷ line)
   pieces-trimmed_step b line true e h = ap pieces (trimmed-cons_yes b line e) ∙ h ∙ sym (pieces-cons_yes b line e)
   pieces-trimmed_step b line false e h = ap pieces (trimmed-cons_no b line e)
 
@@ -36,31 +38,41 @@ module _ (p : ℕ → Bool) where
   pieces-trimmed (b ∷ line) = pieces-trimmed_step b line (p b) refl (pieces-trimmed line)
 
   before-cons_no : (b : ℕ) (line : List ℕ) → p b ≡ false → before_first p (b ∷ line) ≡ b ∷ before_first p line
-  before-cons_no b line e = let more : 1 + position_or_len p line ≡ suc (position_or_len p line) = omega arith in rw (e, more)
+  before-cons_no b line e = let more : 1 + position_or_len p line ≡ suc (position_or_len p line) = omega arith in
+      rw (e, more)
 
-  pieces-kept : (b : ℕ) (line : List ℕ) (parts : List (List ℕ)) → p b ≡ false → filter is_filled (before_first p (b ∷ line) ∷ parts) ≡ before_first p (b ∷ line) ∷ filter is_filled parts
-  pieces-kept b line parts e = let filled : is_filled (before_first p (b ∷ line)) ≡ true = ap is_filled (before-cons_no b line e) ∙ is_filled-cons b _ in rw filled
+  pieces-kept : (b : ℕ) (line : List ℕ) (parts : List (List ℕ)) → p b ≡ false
+      → filter is_filled (before_first p (b ∷ line) ∷ parts) ≡ before_first p (b ∷ line) ∷ filter is_filled parts
+  pieces-kept b line parts e = let filled : is_filled (before_first p (b ∷ line)) ≡ true =
+      ap is_filled (before-cons_no b line e) ∙ is_filled-cons b _ in rw filled
 
   -- a line in which nothing passes
-  alone : (xs : List ℕ) → length xs ≤ position_or_len p xs → is_filled xs ≡ true → filter is_filled (xs ∷ []) ≡ before_first p xs ∷ pieces (after_first p xs)
+  alone : (xs : List ℕ) → length xs ≤ position_or_len p xs → is_filled xs ≡ true
+      → filter is_filled (xs ∷ []) ≡ before_first p xs ∷ pieces (after_first p xs)
   alone xs h filled =
       let all : before_first p xs ≡ xs = take_all (position_or_len p xs) xs h in
       let none : after_first p xs ≡ [] = drop_all (position_or_len p xs + 1) xs (omega arith) in
       rw (all, none, filled)
 
-  pieces-cons_no : (b : ℕ) (line : List ℕ) → p b ≡ false → pieces (b ∷ line) ≡ before_first p (b ∷ line) ∷ pieces (after_first p (b ∷ line))
+  pieces-cons_no : (b : ℕ) (line : List ℕ) → p b ≡ false
+      → pieces (b ∷ line) ≡ before_first p (b ∷ line) ∷ pieces (after_first p (b ∷ line))
   pieces-cons_no b line e =
       elim (cases_lt (position_or_len p (b ∷ line)) (length (b ∷ line))) [
-        | inl h ↦ ap (filter is_filled) (slice_split_first p (b ∷ line) 0 h) ∙ pieces-kept b line (slice_split p (after_first p (b ∷ line))) e
-        | inr h ↦ ap (filter is_filled) (slice_split_none p (b ∷ line) (λ k d below. fails_before_first p (b ∷ line) k d (omega arith))) ∙ alone (b ∷ line) h (is_filled-cons b line)
+        | inl h ↦ ap (filter is_filled) (slice_split_first p (b ∷ line) 0 h)
+            ∙ pieces-kept b line (slice_split p (after_first p (b ∷ line))) e
+        | inr h ↦ ap (filter is_filled)
+            (slice_split_none p (b ∷ line) (λ k d below. fails_before_first p (b ∷ line) k d (omega arith)))
+            ∙ alone (b ∷ line) h (is_filled-cons b line)
       ]
 
-  pieces-first_step : (b : ℕ) (line : List ℕ) (passes : Bool) → p b ≡ passes → prefix_len p (b ∷ line) ≡ 0 → pieces (b ∷ line) ≡ before_first p (b ∷ line) ∷ pieces (after_first p (b ∷ line))
+  pieces-first_step : (b : ℕ) (line : List ℕ) (passes : Bool) → p b ≡ passes → prefix_len p (b ∷ line) ≡ 0
+      → pieces (b ∷ line) ≡ before_first p (b ∷ line) ∷ pieces (after_first p (b ∷ line))
   pieces-first_step b line true e none = let some : 1 + prefix_len p line ≡ 0 = rw e at none in absurd (omega arith)
   pieces-first_step b line false e none = pieces-cons_no b line e
 
   -- what does not pass at the front begins the first of the pieces
-  pub pieces-first : (line : List ℕ) → prefix_len p line ≡ 0 → 0 < length line → pieces line ≡ before_first p line ∷ pieces (after_first p line)
+  pub pieces-first : (line : List ℕ) → prefix_len p line ≡ 0 → 0 < length line
+      → pieces line ≡ before_first p line ∷ pieces (after_first p line)
   pieces-first [] none some = absurd (omega arith)
   pieces-first (b ∷ line) none some = pieces-first_step b line (p b) refl none
 
@@ -76,7 +88,8 @@ module _ (p : ℕ → Bool) where
   pieces-nil (b ∷ line) none = absurd (omega arith)
 
 -- a line is cut at its first blank, after those at its front
-pub words-cut : (line bare : List ℕ) → bare ≡ without_front_blanks line → 0 < length bare → words line ≡ before_first is_blank bare ∷ words (after_first is_blank bare)
+pub words-cut : (line bare : List ℕ) → bare ≡ without_front_blanks line → 0 < length bare
+    → words line ≡ before_first is_blank bare ∷ words (after_first is_blank bare)
 words-cut line bare e some =
     let none : prefix_len is_blank bare ≡ 0 = ap (prefix_len is_blank) e ∙ prefix_len-trimmed is_blank line in
     sym (pieces-trimmed is_blank line) ∙ sym (ap words e) ∙ pieces-first is_blank bare none some

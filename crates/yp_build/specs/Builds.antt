@@ -1,8 +1,8 @@
 -- A version that is built of a text.
-use Rattle.std.specs.Prelude.{ℕ, ◌+◌, ◌==◌, max, if◌then◌else◌, false, List, [], Option, Some, None, Result, Ok, Err}
+use Rattle.std.specs.Prelude.{ℕ, ◌+◌, ◌==◌, max, if◌then◌else◌, List, [], Option, Some, None, Result, Ok, Err}
 use Rattle.std.specs.Option.{option_map_or}
 use Rattle.yp_version.specs.Rows.{listed}
-use Rattle.yp_version.specs.Versions.{MapVersion}
+use Rattle.yp_version.specs.Versions.{MapVersion, unmarked}
 use Rattle.yp_version.specs.Drafts.{Draft, with_rows}
 use Rattle.yp_build.specs.declared.kind.Kind.{Kind}
 use Rattle.yp_build.specs.declared.fault.BuildFault.{BuildFault}
@@ -25,13 +25,15 @@ empty_draft order master = record { order = order; master = master; rows = [] }
 
 -- the version of a draft
 abbrev pub finished : Draft → MapVersion
-finished draft = record { order = draft.order; master = draft.master; secure = false; rows = listed draft.rows }
+finished draft = unmarked draft.order draft.master (listed draft.rows)
 
 -- the version of a draft with these rows, or why the first of them that is refused is
 abbrev pub filled : Draft → List LineRow → Result MapVersion BuildFault
-filled draft rows = option_map_or (λ fault. Err fault) (first_fault draft rows) (Ok (finished (with_rows draft (plain rows))))
+filled draft rows =
+    option_map_or (λ fault. Err fault) (first_fault draft rows) (Ok (finished (with_rows draft (plain rows))))
 
 -- the version that a text makes: the first row of each key, that master, and a raised order
 abbrev pub built : Kind → List ℕ → Option ℕ → ℕ → List ℕ → Result MapVersion BuildFault
 built kind text previous now master =
-    option_map_or (λ order. filled (empty_draft order master) (rows kind text)) (order_after previous now) (Err OrderSpent)
+    option_map_or (λ order. filled (empty_draft order master) (rows kind text)) (order_after previous now)
+    (Err OrderSpent)

@@ -1,14 +1,17 @@
--- The kinds of maps that are made of texts: their numbers, the names of their maps, and the texts that they are made of.
+-- The kinds of maps that are made of texts: their numbers, the names of their maps, and their texts.
 use Rattle.std.specs.Prelude.{ℕ, List, [], ◌∷◌, codes}
 use Rattle.yp_io.specs.declared.texts.TextFile.{TextFile}
 use Rattle.yp_io.specs.declared.texts.TextFile.TheVariants as file
 use Rattle.yp_build.specs.declared.kind.Kind.{Kind}
-use Rattle.yp_build.specs.declared.kind.Kind.TheVariants.{PasswdByname, PasswdByuid, GroupByname, GroupBygid, HostsByname, HostsByaddr, ServicesByname, ProtocolsBynumber, Netgroup, Ypservers}
+use Rattle.yp_build.specs.declared.kind.Kind.TheVariants.{PasswdByname, PasswdByuid, GroupByname, GroupBygid}
+use Rattle.yp_build.specs.declared.kind.Kind.TheVariants.{HostsByname, HostsByaddr, ServicesByname, ProtocolsBynumber}
+use Rattle.yp_build.specs.declared.kind.Kind.TheVariants.{Netgroup, Ypservers}
 
 -- all of them, in the order of their numbers
 abbrev pub kinds : List Kind
 kinds =
-    PasswdByname ∷ PasswdByuid ∷ GroupByname ∷ GroupBygid ∷ HostsByname ∷ HostsByaddr ∷ ServicesByname ∷ ProtocolsBynumber ∷ Netgroup ∷ Ypservers ∷ []
+    PasswdByname ∷ PasswdByuid ∷ GroupByname ∷ GroupBygid ∷ HostsByname ∷ HostsByaddr ∷ ServicesByname
+    ∷ ProtocolsBynumber ∷ Netgroup ∷ Ypservers ∷ []
 
 abbrev pub number_of : Kind → ℕ
 number_of PasswdByname = 1

@@ -5,3 +5,4 @@ pub mod Rows
 pub mod Pushes
 pub mod Builds
 pub mod Samples
+pub mod After

@@ -1,10 +1,14 @@
 -- The rows that a text makes (manuals of passwd(5), group(5), hosts(5), services(5), protocols(5) and netgroup(5)).
-use Rattle.std.specs.Prelude.{ℕ, Bool, true, false, not, ◌&&◌, ◌||◌, ◌==◌, if◌then◌else◌, List, map, drop, Option, Some, None, slice_index, option_map, option_to_list}
+use Rattle.std.specs.Prelude.{ℕ, Bool, true, false, not, ◌&&◌, ◌||◌, ◌==◌, if◌then◌else◌, List, map, drop, Option, Some}
+use Rattle.std.specs.Prelude.{None, slice_index, option_map, option_to_list}
 use Rattle.std.specs.Borrow.{Bor}
 use Rattle.std.specs.List.{slice_get, list_all, flat_map}
+use Rattle.std.specs.Option.{option_and_then}
 use Rattle.yp_version.specs.Rows.{Row}
 use Rattle.yp_build.specs.declared.kind.Kind.{Kind}
-use Rattle.yp_build.specs.declared.kind.Kind.TheVariants.{PasswdByname, PasswdByuid, GroupByname, GroupBygid, HostsByname, HostsByaddr, ServicesByname, ProtocolsBynumber, Netgroup, Ypservers}
+use Rattle.yp_build.specs.declared.kind.Kind.TheVariants.{PasswdByname, PasswdByuid, GroupByname, GroupBygid}
+use Rattle.yp_build.specs.declared.kind.Kind.TheVariants.{HostsByname, HostsByaddr, ServicesByname, ProtocolsBynumber}
+use Rattle.yp_build.specs.declared.kind.Kind.TheVariants.{Netgroup, Ypservers}
 use Rattle.yp_build.specs.Lines.{Line, whole_lines}
 use Rattle.yp_build.specs.Words.{is_blank, is_filled, fields, words, after_word, bare}
 
@@ -26,13 +30,10 @@ is_entry line = not (list_all is_blank line) && not (is_mark (slice_index line 0
 abbrev pub filled_row : List ℕ → List ℕ → Option Row
 filled_row value key = if is_filled key then Some (key, value) else None
 
-abbrev pub and_then : {A B : Type 0} → Option A → (A → Option B) → Option B
-and_then None f = None
-and_then (Some x) f = f x
-
 -- by the field of this number, from 0
 abbrev pub field_row : ℕ → List ℕ → Option Row
-field_row number line = if is_entry line then and_then (slice_get (fields line) number) (filled_row line) else None
+field_row number line =
+    if is_entry line then option_and_then (filled_row line) (slice_get (fields line) number) else None
 
 -- ---- the others: the bare line, by one of its words
 
@@ -84,11 +85,11 @@ joins Ypservers = false
 abbrev pub LineRow : Type 0
 LineRow = ℕ × Row
 
-abbrev pub numbered : ℕ → List Row → List LineRow
-numbered line rows = map (λ row. (line, row)) rows
+abbrev pub at_line : ℕ → List Row → List LineRow
+at_line line rows = map (λ row. (line, row)) rows
 
 abbrev pub line_rows : Kind → Line → List LineRow
-line_rows kind line = numbered line.0 (rows_in kind line.1)
+line_rows kind line = at_line line.0 (rows_in kind line.1)
 
 -- the rows of a text whose first line has this number
 abbrev pub rows_from : Kind → ℕ → List ℕ → List LineRow

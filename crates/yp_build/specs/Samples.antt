@@ -13,7 +13,8 @@ number_after x = (x * 1664525 + 1013904223) % 2 ^ 32
 -- `k` and the number in eight hexadecimal digits
 abbrev pub sample_key : ℕ → List ℕ
 sample_key x =
-    107 ∷ hex_digit_at 0x1000_0000 x ∷ hex_digit_at 0x100_0000 x ∷ hex_digit_at 0x10_0000 x ∷ hex_digit_at 0x1_0000 x ∷ hex_digit_at 0x1000 x ∷ hex_digit_at 0x100 x ∷ hex_digit_at 0x10 x ∷ hex_digit_at 1 x ∷ []
+    107 ∷ hex_digit_at 0x1000_0000 x ∷ hex_digit_at 0x100_0000 x ∷ hex_digit_at 0x10_0000 x ∷ hex_digit_at 0x1_0000 x
+    ∷ hex_digit_at 0x1000 x ∷ hex_digit_at 0x100 x ∷ hex_digit_at 0x10 x ∷ hex_digit_at 1 x ∷ []
 
 -- `v` and the place of the row in decimal
 abbrev pub sample_value : ℕ → List ℕ

@@ -1,9 +1,10 @@
 //! Source texts (passwd, hosts, netgroup and others) become the versions of maps.
 //!
 //! The rows of a text stand on the contract of [`rows_of`], a raised order on that of [`next_order`], and a whole
-//! version on those of [`build`] and [`sample`].
+//! version on those of [`build`], [`build_after`] and [`sample`].
 #![tactic(auto)]
 
+mod after;
 mod fault;
 mod kind;
 mod lines;
@@ -14,6 +15,7 @@ mod samples;
 mod versions;
 mod words;
 
+pub use after::{AfterFault, build_after, other_master};
 pub use fault::BuildFault;
 pub use kind::Kind;
 pub use order::{OrderSpent, next_order};

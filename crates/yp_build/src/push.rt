@@ -1,9 +1,10 @@
 //! Rows are pushed, with the lines that they come from.
 
-ghost use Rattle.std.specs.Prelude.{◌≡◌, ◌≢◌, ◌+◌, ◌<◌, ◌≤◌, ◌^◌, ◌⊎◌, ◌∷◌, [], length, None, Some, Err, IfOk, OnOk, IfErr};
+ghost use Rattle.std.specs.Prelude.{◌≡◌, ◌≢◌, ◌+◌, ◌<◌, ◌≤◌, ◌^◌, ◌⊎◌, ◌∷◌, [], length, None, Some, Err, IfOk, OnOk};
+ghost use Rattle.std.specs.Prelude.{IfErr};
 ghost use Rattle.yp_io.specs.Texts.{text_max};
 ghost use Rattle.yp_version.specs.Drafts.{with_rows};
-ghost use Rattle.yp_build.specs.Rows.{numbered, name_rows, line_rows, joins, rows_from, rows};
+ghost use Rattle.yp_build.specs.Rows.{at_line, name_rows, line_rows, joins, rows_from, rows};
 ghost use Rattle.yp_build.specs.Pushes.{fault_at, first_fault, plain, Pushed, Stopped};
 
 use crate::fault::BuildFault;
@@ -46,9 +47,9 @@ pub(crate) fn push_row(
 
 /// Pushes a row of a hosts line for each name, by names in their order.
 fn push_names(number: u32, line: &[u8], into: &mut VersionBuilder) -> Result<(), BuildFault>
-    ensures fits { OnOk result (first_fault into.old (numbered number (name_rows line.now)) ≡ None) }
-    ensures rows { OnOk result (into.new ≡ with_rows into.old (plain (numbered number (name_rows line.now)))) }
-    ensures stopped { IfErr result (Stopped into.old (numbered number (name_rows line.now)) into.new) }
+    ensures fits { OnOk result (first_fault into.old (at_line number (name_rows line.now)) ≡ None) }
+    ensures rows { OnOk result (into.new ≡ with_rows into.old (plain (at_line number (name_rows line.now)))) }
+    ensures stopped { IfErr result (Stopped into.old (at_line number (name_rows line.now)) into.new) }
 {
     let Some((_, mut rest)) = cut_word(line) else {
         return Ok(());

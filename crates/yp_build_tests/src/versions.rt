@@ -57,6 +57,117 @@ fn orders(rt: HostRuntime) {
     assert_same(&rt, &came, &(Some(spent), Some(long)), "a spent order");
 }
 
+/// The order of the last version, its master, and whether it is secure.
+type Last = (u32, &'static [u8; 2], bool);
+
+/// What comes of a build behind the last version.
+#[derive(Clone, Copy, Debug, PartialEq, Eq)]
+enum After {
+    Built { order: u32, secure: bool },
+    Foreign { is_m2: bool },
+    Fault(BuildFault),
+}
+
+/// The last version, the flag, and what comes of a build by `m1` at the moment 50.
+const AFTER: [(Option<Last>, Option<bool>, After); 8] = [
+    (
+        None,
+        None,
+        After::Built {
+            order: 50,
+            secure: false,
+        },
+    ),
+    (
+        None,
+        Some(true),
+        After::Built {
+            order: 50,
+            secure: true,
+        },
+    ),
+    (
+        Some((100, b"m1", true)),
+        None,
+        After::Built {
+            order: 101,
+            secure: true,
+        },
+    ),
+    (
+        Some((100, b"m1", true)),
+        Some(false),
+        After::Built {
+            order: 101,
+            secure: false,
+        },
+    ),
+    (
+        Some((7, b"m1", false)),
+        Some(true),
+        After::Built {
+            order: 50,
+            secure: true,
+        },
+    ),
+    (
+        Some((100, b"m2", false)),
+        None,
+        After::Foreign { is_m2: true },
+    ),
+    // Another master goes before a spent order.
+    (
+        Some((u32::MAX, b"m2", false)),
+        None,
+        After::Foreign { is_m2: true },
+    ),
+    (
+        Some((u32::MAX, b"m1", false)),
+        None,
+        After::Fault(BuildFault::OrderSpent),
+    ),
+];
+
+fn outcome_of<R: RandomSource>(
+    rt: &R,
+    alloc: Global,
+    last: Option<&Version>,
+    flag: Option<bool>,
+) -> After {
+    match build_after(alloc, rt, Kind::Ypservers, b"m1", last, flag, 50, b"m1") {
+        Ok(version) => After::Built {
+            order: version.order(),
+            secure: version.secure(),
+        },
+        Err(AfterFault::Foreign { master }) => After::Foreign {
+            is_m2: master.as_slice() == b"m2".as_slice(),
+        },
+        Err(AfterFault::Build(fault)) => After::Fault(fault),
+    }
+}
+
+/// The same behind a version that is made for it.
+fn after_last<R: RandomSource>(
+    rt: &R,
+    alloc: Global,
+    last: Option<Last>,
+    flag: Option<bool>,
+) -> Result<After, BuildFault> {
+    let Some((order, master, secure)) = last else {
+        return Ok(outcome_of(rt, alloc, None, flag));
+    };
+    let version = build(alloc, rt, Kind::Ypservers, b"m1", None, order, master)?.marked(secure);
+    Ok(outcome_of(rt, alloc, Some(&version), flag))
+}
+
+#[test]
+fn behind_the_last_version(rt: HostRuntime) {
+    for (last, flag, wanted) in &AFTER {
+        let came = after_last(&rt, rt.alloc(), *last, *flag);
+        assert_same(&rt, &(last, came), &(last, Ok(*wanted)), "a build");
+    }
+}
+
 /// How many rows a version of sample rows has, and how many bytes its body.
 fn size_of<R: RandomSource>(
     rt: &R,

@@ -1,19 +1,28 @@
 -- What a call does, by its reply or by the lack of one.
-use Rattle.std.proofs.Common.{◌≡◌, ℕ, ◌+◌, ◌≤◌, ◌%◌, ◌^◌, true, false, List, Option, Result, Ok, Err, sym, ap, ◌∙◌, subst}
+use Rattle.std.proofs.Common.{◌≡◌, ℕ, ◌+◌, ◌≤◌, ◌%◌, ◌^◌, true, false, List, Result, Ok, Err, refl, sym, ap}
+use Rattle.std.proofs.Common.{◌∙◌}
+use Rattle.std.proofs.Common.{subst}
+use Rattle.std.specs.Prelude.{IsTrue}
 use Rattle.std.specs.Io.KnownBytes.{Appends}
+use Rattle.yp_io.specs.Dials.{WireState, wire_state}
 use Rattle.yp_rpc.specs.Records.{sent, TakesRecord}
 use Rattle.yp_client.specs.declared.fault.ClientFault.{ClientFault}
-use Rattle.yp_client.specs.declared.fault.ClientFault.TheVariants.{Yp, Denied, BadReply, BadXid, Torn, TooLong, ReadFault, WriteFault, Spent, Rows, NoMemory}
-use Rattle.yp_client.specs.Moments.{Moment}
-use Rattle.yp_client.specs.Calls.{Sends, Hears, NoReply, Answers, spends, Calls, IsOfReply}
+use Rattle.yp_client.specs.declared.fault.ClientFault.TheVariants.{Yp, Denied, BadReply, BadXid, Torn, TooLong}
+use Rattle.yp_client.specs.declared.fault.ClientFault.TheVariants.{ReadFault}
+use Rattle.yp_client.specs.declared.fault.ClientFault.TheVariants.{WriteFault, Spent, Rows, NoMemory}
+use Rattle.yp_client.specs.Results.{Says}
+use Rattle.yp_client.specs.States.{ClientState}
+use Rattle.yp_client.specs.Calls.{Sends, Waits, Hears, NoReply, Answers, spends, Calls, IsOfReply}
 
-sends_of_reply : (X : Type 0) (call : List ℕ) (result : Result X ClientFault) (before after : Option (List ℕ)) → IsOfReply result → Appends before after (sent call) → Sends call result before after
+sends_of_reply : (X : Type 0) (call : List ℕ) (result : Result X ClientFault) (before after : WireState)
+    → IsOfReply result → Appends before.output after.output (sent call) × IsTrue after.flushed
+    → Sends call result before after
 sends_of_reply X call (Ok x) before after of h = h
 sends_of_reply X call (Err (Yp status)) before after of h = h
 sends_of_reply X call (Err (Denied head)) before after of h = h
 sends_of_reply X call (Err (BadReply at)) before after of h = h
 sends_of_reply X call (Err (BadXid want got)) before after of h = h
-sends_of_reply X call (Err (Rows fault)) before after of h = h
+sends_of_reply X call (Err (Rows row fault)) before after of h = h
 sends_of_reply X call (Err NoMemory) before after of h = h
 sends_of_reply X call (Err (Torn at)) before after of h = absurd of
 sends_of_reply X call (Err (TooLong at)) before after of h = absurd of
@@ -21,13 +30,30 @@ sends_of_reply X call (Err ReadFault) before after of h = absurd of
 sends_of_reply X call (Err WriteFault) before after of h = absurd of
 sends_of_reply X call (Err Spent) before after of h = absurd of
 
-answers_of_reply : (X : Type 0) (limit : ℕ) (answers : List ℕ → Result X ClientFault → Type 0) (result : Result X ClientFault) (old new : Moment) → IsOfReply result → Hears limit answers result old new → Answers limit answers result old new
+waits_of_reply : (X : Type 0) (result : Result X ClientFault) (waited before after : WireState) → IsOfReply result
+    → waited ≡ wire_state before.input after.output after.flushed → Waits result waited before after
+waits_of_reply X (Ok x) waited before after of h = h
+waits_of_reply X (Err (Yp status)) waited before after of h = h
+waits_of_reply X (Err (Denied head)) waited before after of h = h
+waits_of_reply X (Err (BadReply at)) waited before after of h = h
+waits_of_reply X (Err (BadXid want got)) waited before after of h = h
+waits_of_reply X (Err (Rows row fault)) waited before after of h = h
+waits_of_reply X (Err NoMemory) waited before after of h = h
+waits_of_reply X (Err (Torn at)) waited before after of h = absurd of
+waits_of_reply X (Err (TooLong at)) waited before after of h = absurd of
+waits_of_reply X (Err ReadFault) waited before after of h = absurd of
+waits_of_reply X (Err WriteFault) waited before after of h = absurd of
+waits_of_reply X (Err Spent) waited before after of h = absurd of
+
+answers_of_reply : (X : Type 0) (limit : ℕ) (answers : List ℕ → Result X ClientFault → Type 0)
+    (result : Result X ClientFault) (old new : ClientState) → IsOfReply result → Hears limit answers result old new
+    → Answers limit answers result old new
 answers_of_reply X limit answers (Ok x) old new of h = h
 answers_of_reply X limit answers (Err (Yp status)) old new of h = h
 answers_of_reply X limit answers (Err (Denied head)) old new of h = h
 answers_of_reply X limit answers (Err (BadReply at)) old new of h = h
 answers_of_reply X limit answers (Err (BadXid want got)) old new of h = h
-answers_of_reply X limit answers (Err (Rows fault)) old new of h = h
+answers_of_reply X limit answers (Err (Rows row fault)) old new of h = h
 answers_of_reply X limit answers (Err NoMemory) old new of h = h
 answers_of_reply X limit answers (Err (Torn at)) old new of h = absurd of
 answers_of_reply X limit answers (Err (TooLong at)) old new of h = absurd of
@@ -39,12 +65,19 @@ not_spent : (X : Type 0) (result : Result X ClientFault) → IsOfReply result �
 not_spent X result of is = let P : Result X ClientFault → Type 0 = λ r. IsOfReply r in rw is at of
 
 -- its reply was read whole
-pub called_ok : (X : Type 0) (limit : ℕ) (call : ℕ → List ℕ) (answers : ℕ → List ℕ → Result X ClientFault → Type 0) (result : Result X ClientFault) (message : List ℕ) (old new : Moment)
-    → old.spent ≡ false → IsOfReply result → answers old.xid message result → Appends old.output new.output (sent (call old.xid)) → TakesRecord limit message old.input new.input old.place new.place
-    → new.spent ≡ spends result → new.xid ≡ (old.xid + 1) % 2 ^ 32 → old.reads ≤ new.reads → old.writes ≤ new.writes → Calls limit call answers result old new
-called_ok X limit call answers result message old new fresh of says out taken spent xid reads writes = record {
-  sent = sends_of_reply X (call old.xid) result old.output new.output of out;
-  answered = answers_of_reply X limit (answers old.xid) result old new of (record { reply = message; taken = taken; answered = says });
+pub called_ok : (X : Type 0) (limit : ℕ) (call : ℕ → List ℕ) (answers : ℕ → List ℕ → Result X ClientFault → Type 0)
+    (result : Result X ClientFault) (message : List ℕ) (old new : ClientState)
+    → old.spent ≡ false → IsOfReply result → answers old.xid message result
+    → Appends old.wire.output new.wire.output (sent (call old.xid)) × IsTrue new.wire.flushed
+    → new.waited ≡ wire_state old.wire.input new.wire.output new.wire.flushed
+    → TakesRecord limit message old.wire.input new.wire.input old.place new.place
+    → new.spent ≡ spends result → new.xid ≡ (old.xid + 1) % 2 ^ 32 → old.reads ≤ new.reads → old.writes ≤ new.writes
+    → Calls limit call answers result old new
+called_ok X limit call answers result message old new fresh of says out waited taken spent xid reads writes = record {
+  sent = sends_of_reply X (call old.xid) result old.wire new.wire of out;
+  waited = waits_of_reply X result new.waited old.wire new.wire of waited;
+  answered = answers_of_reply X limit (answers old.xid) result old new of
+      (record { reply = message; taken = taken; answered = says });
   exactly = (λ is. absurd (not_spent X result of is), λ was. absurd (let e : false ≡ true = sym fresh ∙ was in cc));
   spent = spent;
   xid = rw fresh xid;
@@ -52,7 +85,8 @@ called_ok X limit call answers result message old new fresh of says out taken sp
   writes = writes;
 }
 
-sends_none : (X Y : Type 0) (call : List ℕ) (fault : ClientFault) (before after : Option (List ℕ)) → Sends {X = X} call (Err fault) before after → Sends {X = Y} call (Err fault) before after
+sends_none : (X Y : Type 0) (call : List ℕ) (fault : ClientFault) (before after : WireState)
+    → Sends {X = X} call (Err fault) before after → Sends {X = Y} call (Err fault) before after
 sends_none X Y call (Yp status) before after h = h
 sends_none X Y call (Denied head) before after h = h
 sends_none X Y call (BadReply at) before after h = h
@@ -62,11 +96,30 @@ sends_none X Y call (TooLong at) before after h = h
 sends_none X Y call ReadFault before after h = h
 sends_none X Y call WriteFault before after h = h
 sends_none X Y call Spent before after h = h
-sends_none X Y call (Rows fault) before after h = h
+sends_none X Y call (Rows row fault) before after h = h
 sends_none X Y call NoMemory before after h = h
 
-answers_none : (X : Type 0) (limit : ℕ) (answers : List ℕ → Result X ClientFault → Type 0) (fault : ClientFault) (old new : Moment) (number : ℕ)
-    → NoReply limit fault (record old { spent = false }) (record new { xid = number; spent = false }) → Answers limit answers (Err fault) old new
+waits_none : (X Y : Type 0) (fault : ClientFault) (waited before after : WireState)
+    → Waits {X = X} (Err fault) waited before after → Waits {X = Y} (Err fault) waited before after
+waits_none X Y (Yp status) waited before after h = h
+waits_none X Y (Denied head) waited before after h = h
+waits_none X Y (BadReply at) waited before after h = h
+waits_none X Y (BadXid want got) waited before after h = h
+waits_none X Y (Torn at) waited before after h = h
+waits_none X Y (TooLong at) waited before after h = h
+waits_none X Y ReadFault waited before after h = h
+waits_none X Y WriteFault waited before after h = h
+waits_none X Y Spent waited before after h = h
+waits_none X Y (Rows row fault) waited before after h = h
+waits_none X Y NoMemory waited before after h = h
+
+-- a client as it was while it wasn't spent, and one that then has this number
+abbrev fresh_at : ℕ → ClientState → ClientState
+fresh_at number state = record state { xid = number; spent = false; waited = state.wire }
+
+answers_none : (X : Type 0) (limit : ℕ) (answers : List ℕ → Result X ClientFault → Type 0) (fault : ClientFault)
+    (old new : ClientState) (number : ℕ) → NoReply limit fault (fresh_at number old) (fresh_at number new)
+    → Answers limit answers (Err fault) old new
 answers_none X limit answers (Torn at) old new number h = h
 answers_none X limit answers (TooLong at) old new number h = h
 answers_none X limit answers ReadFault old new number h = h
@@ -76,10 +129,11 @@ answers_none X limit answers (Denied head) old new number h = absurd h
 answers_none X limit answers (BadReply at) old new number h = absurd h
 answers_none X limit answers (BadXid want got) old new number h = absurd h
 answers_none X limit answers Spent old new number h = absurd h
-answers_none X limit answers (Rows fault) old new number h = absurd h
+answers_none X limit answers (Rows row fault) old new number h = absurd h
 answers_none X limit answers NoMemory old new number h = absurd h
 
-spent_has_none : (limit : ℕ) (fault : ClientFault) (old new : Moment) → NoReply limit fault old new → fault ≡ Spent → ⊥
+spent_has_none : (limit : ℕ) (fault : ClientFault) (old new : ClientState) → NoReply limit fault old new → fault ≡ Spent
+    → ⊥
 spent_has_none limit fault old new h is = rw is at h
 
 -- the fault of an answer
@@ -88,27 +142,76 @@ fault_of (Ok x) = NoMemory
 fault_of (Err fault) = fault
 
 -- it has no reply
-pub called_err : (X : Type 0) (limit : ℕ) (call : ℕ → List ℕ) (answers : ℕ → List ℕ → Result X ClientFault → Type 0) (fault : ClientFault) (old new : Moment)
-    → old.spent ≡ false → NoReply limit fault (record old { spent = false }) (record new { xid = old.xid; spent = false }) → Sends {X = ℕ} (call old.xid) (Err fault) old.output new.output
-    → new.spent ≡ spends {X = X} (Err fault) → new.xid ≡ (old.xid + 1) % 2 ^ 32 → old.reads ≤ new.reads → old.writes ≤ new.writes → Calls limit call answers (Err fault) old new
-called_err X limit call answers fault old new fresh none out spent xid reads writes = record {
-  sent = sends_none ℕ X (call old.xid) fault old.output new.output out;
+pub called_err : (X Y : Type 0) (limit : ℕ) (call : ℕ → List ℕ)
+    (answers : ℕ → List ℕ → Result X ClientFault → Type 0) (fault : ClientFault) (old new : ClientState)
+    → old.spent ≡ false → NoReply limit fault (fresh_at old.xid old) (fresh_at old.xid new)
+    → Sends {X = Y} (call old.xid) (Err fault) old.wire new.wire
+    → Waits {X = Y} (Err fault) new.waited old.wire new.wire
+    → new.spent ≡ spends {X = X} (Err fault) → new.xid ≡ (old.xid + 1) % 2 ^ 32 → old.reads ≤ new.reads
+    → old.writes ≤ new.writes → Calls limit call answers (Err fault) old new
+called_err X Y limit call answers fault old new fresh none out waited spent xid reads writes = record {
+  sent = sends_none Y X (call old.xid) fault old.wire new.wire out;
+  waited = waits_none Y X fault new.waited old.wire new.wire waited;
   answered = answers_none X limit (answers old.xid) fault old new old.xid none;
-  exactly = (λ is. absurd (spent_has_none limit fault (record old { spent = false }) (record new { xid = old.xid; spent = false }) none (ap fault_of is)), λ was. absurd (let e : false ≡ true = sym fresh ∙ was in cc));
+  exactly = (
+    λ is. absurd (spent_has_none limit fault (fresh_at old.xid old) (fresh_at old.xid new) none (ap fault_of is)),
+    λ was. absurd (let e : false ≡ true = sym fresh ∙ was in cc),
+  );
   spent = spent;
   xid = rw fresh xid;
   reads = reads;
   writes = writes;
 }
 
--- what was sent, by a number that is written otherwise
-pub sends_at : (X : Type 0) (call : ℕ → List ℕ) (number number' : ℕ) (fault : ClientFault) (before after : Option (List ℕ)) → number ≡ number' → Sends {X = X} (call number) (Err fault) before after → Sends {X = X} (call number') (Err fault) before after
-sends_at X call number number' fault before after same h = subst (λ (n : ℕ). Sends {X = X} (call n) (Err fault) before after) same h
-
 -- as called_err, by a number that is written otherwise
-pub called_err_at : (X Y : Type 0) (limit : ℕ) (call : ℕ → List ℕ) (answers : ℕ → List ℕ → Result X ClientFault → Type 0) (fault : ClientFault) (old new : Moment) (number : ℕ) → number ≡ old.xid
-    → old.spent ≡ false → NoReply limit fault (record old { xid = number; spent = false }) (record new { xid = number; spent = false }) → Sends {X = Y} (call number) (Err fault) old.output new.output
-    → new.spent ≡ spends {X = X} (Err fault) → new.xid ≡ (old.xid + 1) % 2 ^ 32 → old.reads ≤ new.reads → old.writes ≤ new.writes → Calls limit call answers (Err fault) old new
-called_err_at X Y limit call answers fault old new number same fresh none out spent xid reads writes =
-    called_err X limit call answers fault old new fresh (subst (λ (n : ℕ). NoReply limit fault (record old { xid = n; spent = false }) (record new { xid = n; spent = false })) same none)
-    (sends_none Y ℕ (call old.xid) fault old.output new.output (sends_at Y call number old.xid fault old.output new.output same out)) spent xid reads writes
+pub called_err_at : (X Y : Type 0) (limit : ℕ) (call : ℕ → List ℕ)
+    (answers : ℕ → List ℕ → Result X ClientFault → Type 0) (fault : ClientFault) (old new : ClientState) (number : ℕ)
+    → number ≡ old.xid → old.spent ≡ false → NoReply limit fault (fresh_at number old) (fresh_at number new)
+    → Sends {X = Y} (call number) (Err fault) old.wire new.wire
+    → Waits {X = Y} (Err fault) new.waited old.wire new.wire
+    → new.spent ≡ spends {X = X} (Err fault) → new.xid ≡ (old.xid + 1) % 2 ^ 32 → old.reads ≤ new.reads
+    → old.writes ≤ new.writes → Calls limit call answers (Err fault) old new
+called_err_at X Y limit call answers fault old new number same fresh none out waited spent xid reads writes =
+    called_err X Y limit call answers fault old new fresh
+    (subst (λ (n : ℕ). NoReply limit fault (fresh_at n old) (fresh_at n new)) same none)
+    (subst (λ (n : ℕ). Sends {X = Y} (call n) (Err fault) old.wire new.wire) same out) waited spent xid reads writes
+
+-- a client that has no reply is spent
+pub no_reply_spends : (X : Type 0) (limit : ℕ) (fault : ClientFault) (old new : ClientState)
+    → NoReply limit fault old new → true ≡ spends {X = X} (Err fault)
+no_reply_spends X limit (Torn at) old new h = refl
+no_reply_spends X limit (TooLong at) old new h = refl
+no_reply_spends X limit ReadFault old new h = refl
+no_reply_spends X limit WriteFault old new h = refl
+no_reply_spends X limit (Yp status) old new h = absurd h
+no_reply_spends X limit (Denied head) old new h = absurd h
+no_reply_spends X limit (BadReply at) old new h = absurd h
+no_reply_spends X limit (BadXid want got) old new h = absurd h
+no_reply_spends X limit Spent old new h = absurd h
+no_reply_spends X limit (Rows row fault) old new h = absurd h
+no_reply_spends X limit NoMemory old new h = absurd h
+
+-- whatever value there might have been, a fault spends alike
+err_spends : (X V : Type 0) (fault : ClientFault) → spends {X = X} (Err fault) ≡ spends {X = V} (Err fault)
+err_spends X V (Yp status) = refl
+err_spends X V (Denied head) = refl
+err_spends X V (BadReply at) = refl
+err_spends X V (BadXid want got) = refl
+err_spends X V (Torn at) = refl
+err_spends X V (TooLong at) = refl
+err_spends X V ReadFault = refl
+err_spends X V WriteFault = refl
+err_spends X V Spent = refl
+err_spends X V (Rows row fault) = refl
+err_spends X V NoMemory = refl
+
+-- two answers that say the same spend alike
+says_spends : {X V : Type 0} (view : X → V) (said : Result V ClientFault) (result : Result X ClientFault)
+    → Says view said result → spends result ≡ spends said
+says_spends view said (Ok x) says = ap spends (sym says)
+says_spends {X} {V} view said (Err fault) says = err_spends X V fault ∙ ap spends (sym says)
+
+pub same_spends : {X V : Type 0} (view : X → V) (said : Result V ClientFault) (first second : Result X ClientFault)
+    → Says view said first → Says view said second → spends first ≡ spends second
+same_spends view said first second says again =
+    says_spends view said first says ∙ sym (says_spends view said second again)

@@ -1,4 +1,3 @@
-pub mod Sending
 pub mod Calling
 pub mod Judging
 pub mod Local

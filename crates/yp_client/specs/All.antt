@@ -1,5 +1,7 @@
--- What the reply to ALL says: each row behind TRUE and a status, and then FALSE (yp.x). The rows go to a builder, one by one.
-use Rattle.std.specs.Prelude.{◌≡◌, ℕ, zero, suc, ◌+◌, ℤ, pos, List, length, Option, Some, None, Result, Ok, Err, ⊤, if◌then◌else◌}
+-- What the reply to ALL says: each row behind TRUE and a status, and then FALSE (yp.x). The rows go to a builder, one
+-- by one.
+use Rattle.std.specs.Prelude.{◌≡◌, ℕ, zero, suc, ◌+◌, ℤ, pos, List, length, Option, Some, None, Result, Ok, Err, ⊤}
+use Rattle.std.specs.Prelude.{if◌then◌else◌}
 use Rattle.std.specs.Ordering.{int_eq}
 use Rattle.yp_xdr.specs.Kind.{Boolean, Opaque}
 use Rattle.yp_xdr.specs.Reading.{Unread}
@@ -41,7 +43,8 @@ all_item_at left = do
   more ← item Boolean left
   if more.0 then status_at more.1 else Ok (None, more.1)
 
--- what a reply says: the builder behind the rows that were pushed, how many rows were read, those of repeated keys and a refused one
+-- what a reply says: the builder behind the rows that were pushed, how many rows were read, those of repeated keys and
+-- a refused one
 -- among them, and how they end
 pub record AllSaid : Type 0 where
   pub draft : Draft
@@ -51,15 +54,18 @@ pub record AllSaid : Type 0 where
 -- a row is pushed, and then it goes on; or it is refused
 abbrev pub by_refusal : Option VersionFault → Draft → ℕ → AllSaid → AllSaid
 by_refusal None draft rows others = others
-by_refusal (Some fault) draft rows others = record { draft = draft; rows = rows + 1; end = Err (Rows fault) }
+by_refusal (Some fault) draft rows others =
+    record { draft = draft; rows = rows + 1; end = Err (Rows (rows + 1) fault) }
 
 -- by an item that was read, where the others are read behind it
 abbrev pub by_item : (Draft → ℕ → Unread → AllSaid) → Draft → ℕ → ItemRead → AllSaid
 by_item others draft rows (Err fault) = record { draft = draft; rows = rows; end = Err fault }
 by_item others draft rows (Ok (None, left)) = record { draft = draft; rows = rows; end = Ok tt }
-by_item others draft rows (Ok (Some row, left)) = by_refusal (refused draft row) draft rows (others (with_row draft row) (rows + 1) left)
+by_item others draft rows (Ok (Some row, left)) =
+    by_refusal (refused draft row) draft rows (others (with_row draft row) (rows + 1) left)
 
--- The rows up to the end or the first refusal, pushed onto a builder, behind some that were read. At most n of them are read. As many as
+-- The rows up to the end or the first refusal, pushed onto a builder, behind some that were read. At most n of them are
+-- read. As many as
 -- there are bytes are enough, since each takes some.
 unfoldable pub filled : ℕ → Draft → ℕ → Unread → AllSaid
 filled zero draft rows left = record { draft = draft; rows = rows; end = Err (BadReply left.at) }
@@ -80,9 +86,9 @@ IsSaid said draft rows (Ok done) = said ≡ record { draft = draft; rows = rows;
 IsSaid said draft rows (Err NoMemory) = ⊤
 IsSaid said draft rows (Err fault) = said ≡ record { draft = draft; rows = rows; end = Err fault }
 
--- A call answers what the reply says, and the builder and the count of rows are as the reply has them.
-abbrev pub SaysAll : Draft → Draft → ℕ → ℕ → List ℕ → Result (Unit {0}) ClientFault → Type 0
-SaysAll before after rows xid message result = IsSaid (all_said before xid message) after rows result
+-- A call answers what the reply says, and the builder is as the reply has it.
+abbrev pub SaysAll : Draft → Draft → ℕ → List ℕ → Result (Unit {0}) ClientFault → Type 0
+SaysAll before after xid message result = (rows : ℕ) × IsSaid (all_said before xid message) after rows result
 
 -- A builder has some more rows, of which none was refused.
 abbrev pub Grows : Draft → Draft → Type 0

@@ -2,7 +2,10 @@
 use Rattle.std.specs.Prelude.{ℕ, List, []}
 use Rattle.yp_xdr.specs.Kind.{Fixed, Value}
 use Rattle.yp_rpc.specs.Called.{call_of}
-use Rattle.yp_msgs.specs.Numbers.{program, version, null_procedure, domain_procedure, match_procedure, first_procedure, next_procedure, xfr_procedure, clear_procedure, all_procedure, master_procedure, order_procedure, maplist_procedure, make_program, make_version, make_procedure}
+use Rattle.yp_msgs.specs.Numbers.{program, version, null_procedure, domain_procedure, match_procedure}
+use Rattle.yp_msgs.specs.Numbers.{first_procedure, next_procedure, xfr_procedure, clear_procedure, all_procedure}
+use Rattle.yp_msgs.specs.Numbers.{master_procedure, order_procedure, maplist_procedure, make_program, make_version}
+use Rattle.yp_msgs.specs.Numbers.{make_procedure}
 use Rattle.yp_msgs.specs.Messages.{req_domain, req_key, req_nokey}
 use Rattle.yp_msgs.specs.Transfers.{req_xfr, req_make}
 

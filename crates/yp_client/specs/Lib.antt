@@ -2,8 +2,9 @@ pub mod Limits
 pub mod Results
 pub mod Said
 pub mod Asked
-pub mod Moments
+pub mod States
 pub mod Calls
 pub mod All
 pub mod Windows
 pub mod Listed
+pub mod Lent

@@ -1,9 +1,10 @@
--- What a reply says to a call: the value of its results, or the first refusal that its bytes meet, in the order of the reply (RFC 5531
+-- What a reply says to a call: the value of its results, or the first refusal that its bytes meet, in the order of the
+-- reply (RFC 5531
 -- section 9, yp.x).
 use Rattle.std.specs.Prelude.{◌≡◌, ℕ, ◌+◌, ◌≤◌, ℤ, pos, negsuc, Bool, List, Result, Ok, Err, ⊤, ◌==◌, if◌then◌else◌}
 use Rattle.std.specs.Ordering.{int_eq}
 use Rattle.yp_xdr.specs.declared.fault.XdrFault.{XdrFault}
-use Rattle.yp_xdr.specs.declared.fault.XdrFault.TheVariants.{Short, TooLong as OverLimit, Pad, BadBool, BadEnum}
+use Rattle.yp_xdr.specs.Faults.{fault_place}
 use Rattle.yp_xdr.specs.Kind.{Kind, U32, Boolean, Opaque, Value}
 use Rattle.yp_xdr.specs.Reading.{Unread, reading}
 use Rattle.yp_rpc.specs.declared.reply.ReplyHead.{ReplyHead}
@@ -24,14 +25,6 @@ abbrev pub ◌>>=◌ : {A B : Type 0} → Result A ClientFault → (A → Result
 (Ok x) >>= f = f x
 (Err fault) >>= f = Err fault
 
--- the place of the item that is refused
-abbrev pub place_of : XdrFault → ℕ
-place_of (Short at) = at
-place_of (OverLimit at len) = at
-place_of (Pad at) = at
-place_of (BadBool at) = at
-place_of (BadEnum at) = at
-
 -- a fault that was found behind so many bytes of a reply
 abbrev pub further : ℕ → ClientFault → ClientFault
 further n (BadReply at) = BadReply (n + at)
@@ -45,7 +38,7 @@ IsIn end fault = ⊤
 -- what was read of a reply, where an item that can't be read is a bad reply
 abbrev pub of_reply : {A : Type 0} → Result A XdrFault → Result A ClientFault
 of_reply (Ok read) = Ok read
-of_reply (Err fault) = Err (BadReply (place_of fault))
+of_reply (Err fault) = Err (BadReply (fault_place fault))
 
 -- an item of the reply, and what is left behind it
 abbrev pub item : (kind : Kind) → Unread → Result (Value kind × Unread) ClientFault

@@ -1,6 +1,6 @@
 -- What each call answers, as the code has it.
-use Rattle.std.specs.Prelude.{ℕ, ℤ, Bool, List, Result, Vec}
-use Rattle.std.specs.declared.alloc.Global.{Global}
+use Rattle.std.specs.Prelude.{ℕ, ℤ, Bool, List, Result}
+use Rattle.std.specs.Borrow.{Bor}
 use Rattle.yp_msgs.specs.declared.maplist.MapList.{MapList}
 use Rattle.yp_msgs.specs.declared.transfer.XfrStat.{XfrStat}
 use Rattle.yp_msgs.specs.Transfers.{xfr_number}
@@ -21,11 +21,11 @@ SaysBool said xid message result = Says (λ b. b) (said xid message) result
 abbrev pub SaysNumber : Saying ℕ → ℕ → List ℕ → Result ℕ ClientFault → Type 0
 SaysNumber said xid message result = Says (λ n. n) (said xid message) result
 
-abbrev pub SaysBytes : Saying (List ℕ) → ℕ → List ℕ → Result (Vec ℕ Global) ClientFault → Type 0
-SaysBytes said xid message result = SaysInMemory (λ bytes. bytes.items) (said xid message) result
+abbrev pub SaysBytes : Saying (List ℕ) → ℕ → List ℕ → Result (Bor (List ℕ)) ClientFault → Type 0
+SaysBytes said xid message result = Says (λ bytes. bytes.now) (said xid message) result
 
 abbrev pub SaysRow : Saying (List ℕ × List ℕ) → ℕ → List ℕ → Result Row ClientFault → Type 0
-SaysRow said xid message result = SaysInMemory (λ row. (row.value.items, row.key.items)) (said xid message) result
+SaysRow said xid message result = Says (λ row. (row.value.now, row.key.now)) (said xid message) result
 
 abbrev pub SaysNames : Saying (List (List ℕ)) → ℕ → List ℕ → Result MapList ClientFault → Type 0
 SaysNames said xid message result = SaysInMemory (λ list. list.maps) (said xid message) result

@@ -1,5 +1,6 @@
 -- A reply that is read piece by piece: what its record has given, and what of it stands in the buffer.
-use Rattle.std.specs.Prelude.{◌≡◌, ℕ, ◌+◌, ◌≤◌, ◌⊎◌, Bool, true, false, List, [], ◌++◌, length, slice_range, Option, Some, Result, Ok, Err, ⊤}
+use Rattle.std.specs.Prelude.{◌≡◌, ℕ, ◌+◌, ◌≤◌, ◌⊎◌, Bool, true, false, List, [], ◌++◌, length, slice_range, Option}
+use Rattle.std.specs.Prelude.{Some, Result, Ok, Err, ⊤}
 use Rattle.yp_xdr.specs.Reading.{Unread}
 use Rattle.yp_rpc.specs.Records.{TakesRecord}
 use Rattle.yp_rpc.specs.Pieces.{Reader, not_begun, HasGiven}
@@ -38,18 +39,22 @@ pub record Progress : Type 0 where
 abbrev pub progress : Option (List ℕ) → Reader → Bool → Progress
 progress input reader whole = record { input = input; reader = reader; whole = whole }
 
--- These bytes were given of the record that begins at a place, where the source stood at the start. Where its end was met, they are the
+-- These bytes were given of the record that begins at a place, where the source stood at the start. Where its end was
+-- met, they are the
 -- record.
 abbrev pub HasRead : List ℕ → Option (List ℕ) → ℕ → Option (List ℕ) → Reader → Bool → Type 0
 HasRead front start place input reader false = HasGiven all_max front start input reader.part × (reader.place ≡ place)
-HasRead front start place input reader true = TakesRecord all_max front start input place reader.place × (reader.part ≡ not_begun)
+HasRead front start place input reader true =
+    TakesRecord all_max front start input place reader.place × (reader.part ≡ not_begun)
 
 abbrev pub HasReached : List ℕ → Option (List ℕ) → ℕ → Progress → Type 0
 HasReached front start place now = HasRead front start place now.input now.reader now.whole
 
 -- Of whatever record it is, so much more was given.
 abbrev pub GivesMore : List ℕ → Progress → Progress → Type 0
-GivesMore more old new = (front : List ℕ) (start : Option (List ℕ)) (place : ℕ) → HasReached front start place old → HasReached (front ++ more) start place new
+GivesMore more old new =
+    (front : List ℕ) (start : Option (List ℕ)) (place : ℕ) → HasReached front start place old
+    → HasReached (front ++ more) start place new
 
 -- Some record is being read, of which so many bytes were given.
 pub record IsUnderway (count : ℕ) (now : Progress) : Type 0 where
@@ -76,20 +81,23 @@ abbrev pub Heads : {X : Type 0} → ℕ → List ℕ → Result X ClientFault �
 Heads xid message (Ok done) left = results_of xid message ≡ Ok left
 Heads xid message (Err fault) left = results_of xid message ≡ Err fault
 
--- Why a row was refused: by its cause, or for want of memory.
-abbrev pub IsRefusal : Option VersionFault → ClientFault → Type 0
-IsRefusal cause (Rows fault) = cause ≡ Some fault
-IsRefusal cause NoMemory = ⊤
-IsRefusal cause fault = ⊥
+-- Why the row with this number was refused: by its cause, or for want of memory.
+abbrev pub IsRefusal : ℕ → Option VersionFault → ClientFault → Type 0
+IsRefusal row cause (Rows number fault) = (number ≡ row) × (cause ≡ Some fault)
+IsRefusal row cause NoMemory = ⊤
+IsRefusal row cause fault = ⊥
 
--- One item was read, and a row was pushed: what was said from there on is said from here on. Or it is the end of the rows, or a refusal.
+-- One item was read, and a row was pushed: what was said from there on is said from here on. Or it is the end of the
+-- rows, or a refusal.
 abbrev pub Advances : Draft → Draft → ℕ → ℕ → Result Bool ClientFault → ℕ → Unread → Unread → Type 0
 Advances before after rows rows' (Ok true) n old new = filled (n + 1) before rows old ≡ filled n after rows' new
 Advances before after rows rows' (Ok false) n old new = IsSaid (filled (n + 1) before rows old) after rows' (Ok tt)
 Advances before after rows rows' (Err fault) n old new = IsSaid (filled (n + 1) before rows old) after rows' (Err fault)
 
--- More of the record was read, and all rows that it says were pushed, up to the end or the first refusal, whatever comes behind.
-pub record Pushes (before after : Draft) (old new : AllReply) (buf : List ℕ) (was now : Progress) (end : Result (Unit {0}) ClientFault) : Type 0 where
+-- More of the record was read, and all rows that it says were pushed, up to the end or the first refusal, whatever
+-- comes behind.
+pub record Pushes (before after : Draft) (old new : AllReply) (buf : List ℕ) (was now : Progress)
+    (end : Result (Unit {0}) ClientFault) : Type 0 where
   pub more : List ℕ
   pub stays : StaysWhole more was.whole now.whole
   pub given : GivesMore more was now
@@ -97,7 +105,8 @@ pub record Pushes (before after : Draft) (old new : AllReply) (buf : List ℕ) (
       → IsSaid (filled n before old.rows (ahead old buf (more ++ rest))) after new.rows end
 
 -- A reply was read from its start, as far as its rows go, and says this, whatever comes behind.
-pub record SaysSoFar (before after : Draft) (rows xid : ℕ) (end : Result (Unit {0}) ClientFault) (start : Option (List ℕ)) (place : ℕ) (now : Progress) : Type 0 where
+pub record SaysSoFar (before after : Draft) (rows xid : ℕ) (end : Result (Unit {0}) ClientFault)
+    (start : Option (List ℕ)) (place : ℕ) (now : Progress) : Type 0 where
   pub front : List ℕ
   pub reached : HasReached front start place now
   pub said : (rest : List ℕ) → MayCome rest now.whole → IsSaid (all_said before xid (front ++ rest)) after rows end

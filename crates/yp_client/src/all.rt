@@ -1,6 +1,8 @@
-//! The reply to ALL (yp.x), which may be longer than the buffer. It is read piece by piece, and its rows go to a builder.
+//! The reply to ALL (yp.x), which may be longer than the buffer. It is read piece by piece, and its rows go to a
+//! builder.
 
-ghost use Rattle.std.specs.Prelude.{◌≡◌, ℕ, ◌+◌, ◌-◌, ◌*◌, ◌^◌, ◌<◌, ◌≤◌, ◌⊎◌, true, false, [], ◌++◌, List, Option, length, take, drop, IfOk, IfErr, OnOk, OnErr, option_map, Ok, Err};
+ghost use Rattle.std.specs.Prelude.{◌≡◌, ℕ, ◌+◌, ◌-◌, ◌*◌, ◌^◌, ◌<◌, ◌≤◌, ◌⊎◌, true, false, [], ◌++◌, List, Option};
+ghost use Rattle.std.specs.Prelude.{length, take, drop, IfOk, IfErr, OnOk, OnErr, option_map, Ok, Err};
 ghost use Rattle.yp_xdr.specs.Reading.{end_of};
 ghost use Rattle.yp_xdr.specs.Cursor.{unread};
 ghost use Rattle.yp_rpc.specs.Pieces.{not_begun, HasNoPiece};
@@ -8,8 +10,8 @@ ghost use Rattle.yp_rpc.specs.Records.{TakesRecord};
 ghost use Rattle.yp_version.specs.Drafts.{refused, with_row};
 ghost use Rattle.yp_client.specs.Limits.{reply_max, all_max};
 ghost use Rattle.yp_client.specs.Results.{Says};
-ghost use Rattle.yp_client.specs.Calls.{IsOfReply, Sends, NoReply};
-ghost use Rattle.yp_client.specs.Moments.{moment_of};
+ghost use Rattle.yp_client.specs.Calls.{IsOfReply, Sends, Waits, NoReply};
+ghost use Rattle.yp_client.specs.States.{told_by, state_of, unspent};
 ghost use Rattle.yp_client.specs.Asked.{all_call};
 ghost use Rattle.yp_msgs.specs.Messages.{ReqNokeyIsWithin};
 ghost use Rattle.yp_client.specs.All.{row_at, all_item_at, Grows, SaysAll};
@@ -20,6 +22,7 @@ use crate::answers::read_results;
 use crate::exchange::{Called, ask};
 use crate::fault::ClientFault;
 use crate::limits::ALL_MAX;
+use std::snapshot::Snapshot;
 use yp_io::{Failed, Pair, Sink, Source};
 use yp_msgs::protocol::{ALL, KEY_MAX, VALUE_MAX, YPPROG, YPVERS};
 use yp_msgs::{ReadMessage, ReqNokey, YpStat};
@@ -39,7 +42,7 @@ pub struct AllReply {
     end: usize,
     at: usize,
     whole: bool,
-    pub rows: u32,
+    rows: u32,
 }
 
 /// A row as it stands in the reply.
@@ -63,7 +66,8 @@ fn read_row<'a>(cursor: &mut Cursor<'a>) -> Result<ListedRow<'a>, ClientFault>
 /// Reads an item: a row, or that there are no more.
 #[tactic(auto, unfolding(crate::specs::All::all_item_at, crate::specs::All::status_at))]
 fn read_item<'a>(cursor: &mut Cursor<'a>) -> Result<Option<ListedRow<'a>>, ClientFault>
-    ensures says { Says (λ found. (option_map row_view found, unread cursor.new)) (all_item_at (unread cursor.old)) result }
+    ensures says { Says (λ found. (option_map row_view found, unread cursor.new))
+        (all_item_at (unread cursor.old)) result }
     ensures of_reply { IsOfReply result }
 {
     if !cursor.bool()? {
@@ -76,23 +80,24 @@ fn read_item<'a>(cursor: &mut Cursor<'a>) -> Result<Option<ListedRow<'a>>, Clien
     }
 }
 
-/// Pushes a row.
-fn push(into: &mut VersionBuilder, row: ListedRow<'_>) -> Result<(), ClientFault>
+/// Pushes the row with this number.
+fn push(into: &mut VersionBuilder, number: u32, row: ListedRow<'_>) -> Result<(), ClientFault>
     ensures fits { OnOk result (refused into.old (row_view row.entry) ≡ None) }
     ensures rows { OnOk result (into.new ≡ with_row into.old (row_view row.entry)) }
-    ensures cause { IfErr result (IsRefusal (refused into.old (row_view row.entry))) }
+    ensures cause { IfErr result (IsRefusal number (refused into.old (row_view row.entry))) }
     ensures err { OnErr result (into.new ≡ into.old) }
 {
     match into.push(row.key, row.value) {
         Ok(_) => Ok(()),
         Err(VersionFault::NoMemory) => Err(ClientFault::NoMemory),
-        Err(fault) => Err(ClientFault::Rows(fault)),
+        Err(fault) => Err(ClientFault::Rows { row: number, fault }),
     }
 }
 
 impl AllReply {
     ghost use Rattle.std.specs.Prelude.{slice_range};
-    ghost use Rattle.yp_client.specs.Windows.{waiting, ahead, progress, HasReached, GivesMore, IsUnderway, MayCome, StaysWhole, StandsIn, HasItem};
+    ghost use Rattle.yp_client.specs.Windows.{waiting, ahead, progress, HasReached, GivesMore, IsUnderway, MayCome};
+    ghost use Rattle.yp_client.specs.Windows.{StaysWhole, StandsIn, HasItem};
     ghost use Rattle.yp_client.specs.Windows.{Heads, Advances, Pushes, SaysSoFar};
 
     /// The reply to the call with this number, of which nothing was read.
@@ -131,11 +136,14 @@ impl AllReply {
     ) -> Result<(), RecordFault>
         requires { StandsIn self.old buf.old }
         ensures more { OnOk result ((more : List ℕ) × StaysWhole more self.old.whole self.new.whole
-            × GivesMore more (progress (S.input source.old) reader.old self.old.whole) (progress (S.input source.new) reader.new self.new.whole)
+            × GivesMore more (progress (S.input source.old) reader.old self.old.whole)
+            (progress (S.input source.new) reader.new self.new.whole)
             × (waiting self.new buf.new ≡ waiting self.old buf.old ++ more)) }
         ensures full { OnOk result ((self.new.end ≡ length buf.new) ⊎ (self.new.whole ≡ true)) }
-        ensures cause { (front : List ℕ) (start : Option (List ℕ)) (place : ℕ) → HasReached front start place (progress (S.input source.old) reader.old self.old.whole)
-            → IfErr result (HasNoPiece all_max place start (S.input source.new) (S.faults source.old) (S.faults source.new)) }
+        ensures cause { (front : List ℕ) (start : Option (List ℕ)) (place : ℕ)
+            → HasReached front start place (progress (S.input source.old) reader.old self.old.whole)
+            → IfErr result (HasNoPiece all_max place start (S.input source.new) (S.faults source.old)
+            (S.faults source.new)) }
         ensures stands { StandsIn self.new buf.new }
         ensures same { self.new ≡ record self.old { end = self.new.end; whole = self.new.whole } }
         ensures counted { S.faults source.old ≤ S.faults source.new }
@@ -158,13 +166,17 @@ impl AllReply {
         requires stands { StandsIn self.old buf.old }
         requires room { length buf.old ≡ reply_max }
         ensures more { OnOk result ((more : List ℕ) × StaysWhole more self.old.whole self.new.whole
-            × GivesMore more (progress (S.input source.old) reader.old self.old.whole) (progress (S.input source.new) reader.new self.new.whole)
+            × GivesMore more (progress (S.input source.old) reader.old self.old.whole)
+            (progress (S.input source.new) reader.new self.new.whole)
             × (waiting self.new buf.new ≡ waiting self.old buf.old ++ more)) }
         ensures item { OnOk result (HasItem self.new buf.new) }
-        ensures cause { (front : List ℕ) (start : Option (List ℕ)) (place : ℕ) → HasReached front start place (progress (S.input source.old) reader.old self.old.whole)
-            → IfErr result (HasNoPiece all_max place start (S.input source.new) (S.faults source.old) (S.faults source.new)) }
+        ensures cause { (front : List ℕ) (start : Option (List ℕ)) (place : ℕ)
+            → HasReached front start place (progress (S.input source.old) reader.old self.old.whole)
+            → IfErr result (HasNoPiece all_max place start (S.input source.new) (S.faults source.old)
+            (S.faults source.new)) }
         ensures stands { StandsIn self.new buf.new }
-        ensures same { self.new ≡ record self.old { start = self.new.start; end = self.new.end; whole = self.new.whole } }
+        ensures same { self.new ≡ record self.old
+            { start = self.new.start; end = self.new.end; whole = self.new.whole } }
         ensures counted { S.faults source.old ≤ S.faults source.new }
     {
         if self.whole || self.end - self.start >= ITEM_MAX {
@@ -189,9 +201,11 @@ impl AllReply {
         requires stands { StandsIn self.old buf.now }
         requires begin { self.old.at ≡ 0 }
         requires item { HasItem self.old buf.now }
-        ensures says { (more : List ℕ) → MayCome more self.old.whole → Heads self.old.xid (waiting self.old buf.now ++ more) result (ahead self.new buf.now more) }
+        ensures says { (more : List ℕ) → MayCome more self.old.whole
+            → Heads self.old.xid (waiting self.old buf.now ++ more) result (ahead self.new buf.now more) }
         ensures of_reply { IsOfReply result }
-        ensures total { self.new.at + length (waiting self.new buf.now) ≡ self.old.at + length (waiting self.old buf.now) }
+        ensures total { self.new.at + length (waiting self.new buf.now)
+            ≡ self.old.at + length (waiting self.old buf.now) }
         ensures stands { StandsIn self.new buf.now }
         ensures same { self.new ≡ record self.old { start = self.new.start; at = self.new.at } }
     {
@@ -206,11 +220,13 @@ impl AllReply {
         requires item { HasItem self.old buf.now }
         requires count { self.old.at + length (waiting self.old buf.now) ≤ all_max }
         ensures says { (more : List ℕ) → MayCome more self.old.whole
-            → Says (λ found. (option_map row_view found, ahead self.new buf.now more)) (all_item_at (ahead self.old buf.now more)) result }
+            → Says (λ found. (option_map row_view found, ahead self.new buf.now more))
+            (all_item_at (ahead self.old buf.now more)) result }
         ensures of_reply { IsOfReply result }
         ensures never_back { self.old.at ≤ self.new.at }
         ensures forward { OnOk result (self.old.at < self.new.at) }
-        ensures total { self.new.at + length (waiting self.new buf.now) ≡ self.old.at + length (waiting self.old buf.now) }
+        ensures total { self.new.at + length (waiting self.new buf.now)
+            ≡ self.old.at + length (waiting self.old buf.now) }
         ensures stands { StandsIn self.new buf.now }
         ensures same { self.new ≡ record self.old { start = self.new.start; at = self.new.at } }
     {
@@ -231,11 +247,13 @@ impl AllReply {
         requires count { self.old.at + length (waiting self.old buf.now) ≤ all_max }
         requires few { self.old.rows ≤ self.old.at }
         ensures advances { (more : List ℕ) (n : ℕ) → MayCome more self.old.whole
-            → Advances into.old into.new self.old.rows self.new.rows result n (ahead self.old buf.now more) (ahead self.new buf.now more) }
+            → Advances into.old into.new self.old.rows self.new.rows result n (ahead self.old buf.now more)
+            (ahead self.new buf.now more) }
         ensures kept { Grows into.old into.new }
         ensures of_reply { IsOfReply result }
         ensures forward { OnOk result (self.old.at < self.new.at) }
-        ensures total { self.new.at + length (waiting self.new buf.now) ≡ self.old.at + length (waiting self.old buf.now) }
+        ensures total { self.new.at + length (waiting self.new buf.now)
+            ≡ self.old.at + length (waiting self.old buf.now) }
         ensures few { self.new.rows ≤ self.new.at }
         ensures stands { StandsIn self.new buf.now }
         ensures same { self.new ≡ record self.old { start = self.new.start; at = self.new.at; rows = self.new.rows } }
@@ -244,7 +262,7 @@ impl AllReply {
             return Ok(false);
         };
         self.rows += 1;
-        push(into, row)?;
+        push(into, self.rows, row)?;
         Ok(true)
     }
 
@@ -258,15 +276,22 @@ impl AllReply {
     ) -> Result<Result<(), ClientFault>, RecordFault>
         requires stands { StandsIn self.old buf.old }
         requires room { length buf.old ≡ reply_max }
-        requires underway { IsUnderway (self.old.at + length (waiting self.old buf.old)) (progress (S.input source.old) reader.old self.old.whole) }
+        requires underway { IsUnderway (self.old.at + length (waiting self.old buf.old))
+            (progress (S.input source.old) reader.old self.old.whole) }
         requires few { self.old.rows ≤ self.old.at }
-        ensures pushes { IfOk result (Pushes into.old into.new self.old self.new buf.old (progress (S.input source.old) reader.old self.old.whole)
+        ensures pushes { IfOk result
+            (Pushes into.old into.new self.old self.new buf.old
+            (progress (S.input source.old) reader.old self.old.whole)
             (progress (S.input source.new) reader.new self.new.whole)) }
         ensures kept { Grows into.old into.new }
         ensures of_reply { IfOk result IsOfReply }
-        ensures underway { OnOk result (IsUnderway (self.new.at + length (waiting self.new buf.new)) (progress (S.input source.new) reader.new self.new.whole)) }
-        ensures cause { (front : List ℕ) (start : Option (List ℕ)) (place : ℕ) → HasReached front start place (progress (S.input source.old) reader.old self.old.whole)
-            → IfErr result (HasNoPiece all_max place start (S.input source.new) (S.faults source.old) (S.faults source.new)) }
+        ensures underway { OnOk result
+            (IsUnderway (self.new.at + length (waiting self.new buf.new))
+            (progress (S.input source.new) reader.new self.new.whole)) }
+        ensures cause { (front : List ℕ) (start : Option (List ℕ)) (place : ℕ)
+            → HasReached front start place (progress (S.input source.old) reader.old self.old.whole)
+            → IfErr result (HasNoPiece all_max place start (S.input source.new) (S.faults source.old)
+            (S.faults source.new)) }
         ensures stands { StandsIn self.new buf.new }
         ensures counted { S.faults source.old ≤ S.faults source.new }
     {
@@ -291,12 +316,17 @@ impl AllReply {
         requires new { self.old ≡ record { xid = self.old.xid; start = 0; end = 0; at = 0; whole = false; rows = 0 } }
         requires room { length buf.old ≡ reply_max }
         requires between { reader.old.part ≡ not_begun }
-        ensures says { IfOk result (λ end. SaysSoFar into.old into.new self.new.rows self.old.xid end (S.input source.old) reader.old.place
+        ensures says { IfOk result
+            (λ end. SaysSoFar into.old into.new self.new.rows self.old.xid end (S.input source.old) reader.old.place
             (progress (S.input source.new) reader.new self.new.whole)) }
         ensures kept { Grows into.old into.new }
         ensures of_reply { IfOk result IsOfReply }
-        ensures underway { OnOk result (IsUnderway (self.new.at + length (waiting self.new buf.new)) (progress (S.input source.new) reader.new self.new.whole)) }
-        ensures cause { IfErr result (HasNoPiece all_max reader.old.place (S.input source.old) (S.input source.new) (S.faults source.old) (S.faults source.new)) }
+        ensures underway { OnOk result
+            (IsUnderway (self.new.at + length (waiting self.new buf.new))
+            (progress (S.input source.new) reader.new self.new.whole)) }
+        ensures cause { IfErr result
+            (HasNoPiece all_max reader.old.place (S.input source.old) (S.input source.new) (S.faults source.old)
+            (S.faults source.new)) }
         ensures stands { StandsIn self.new buf.new }
         ensures counted { S.faults source.old ≤ S.faults source.new }
     {
@@ -316,12 +346,15 @@ impl AllReply {
     ) -> Result<(), RecordFault>
         requires stands { StandsIn self.old buf.old }
         requires room { 0 < length buf.old }
-        requires underway { IsUnderway (self.old.at + length (waiting self.old buf.old)) (progress (S.input source.old) reader.old self.old.whole) }
+        requires underway { IsUnderway (self.old.at + length (waiting self.old buf.old))
+            (progress (S.input source.old) reader.old self.old.whole) }
         ensures more { OnOk result ((more : List ℕ) × (MayCome more self.old.whole)
-            × GivesMore more (progress (S.input source.old) reader.old self.old.whole) (progress (S.input source.new) reader.new true)) }
-        ensures cause { (front : List ℕ) (start : Option (List ℕ)) (place : ℕ) → HasReached front start place (progress (S.input source.old) reader.old self.old.whole)
-            → IfErr result (HasNoPiece all_max place start (S.input source.new) (S.faults source.old) (S.faults source.new)) }
-        ensures rows { self.new.rows ≡ self.old.rows }
+            × GivesMore more (progress (S.input source.old) reader.old self.old.whole)
+            (progress (S.input source.new) reader.new true)) }
+        ensures cause { (front : List ℕ) (start : Option (List ℕ)) (place : ℕ)
+            → HasReached front start place (progress (S.input source.old) reader.old self.old.whole)
+            → IfErr result (HasNoPiece all_max place start (S.input source.new) (S.faults source.old)
+            (S.faults source.new)) }
         ensures counted { S.faults source.old ≤ S.faults source.new }
     {
         self.pass(self.end - self.start);
@@ -333,7 +366,8 @@ impl AllReply {
         Ok(())
     }
 
-    /// Reads the whole reply, and pushes its rows up to the end of them or the first refusal. It answers what the reply says, or
+    /// Reads the whole reply, and pushes its rows up to the end of them or the first refusal. It answers what the reply
+    /// says, or
     /// why there is none.
     pub fn read<S: Source>(
         &mut self,
@@ -347,11 +381,13 @@ impl AllReply {
         requires between { reader.old.part ≡ not_begun }
         ensures says { IfOk result (λ end. (message : List ℕ)
             × TakesRecord all_max message (S.input source.old) (S.input source.new) reader.old.place reader.new.place
-            × SaysAll into.old into.new self.new.rows self.old.xid message end) }
+            × SaysAll into.old into.new self.old.xid message end) }
         ensures kept { Grows into.old into.new }
         ensures of_reply { IfOk result IsOfReply }
         ensures between { OnOk result (reader.new.part ≡ not_begun) }
-        ensures cause { IfErr result (HasNoPiece all_max reader.old.place (S.input source.old) (S.input source.new) (S.faults source.old) (S.faults source.new)) }
+        ensures cause { IfErr result
+            (HasNoPiece all_max reader.old.place (S.input source.old) (S.input source.new) (S.faults source.old)
+            (S.faults source.new)) }
         ensures counted { S.faults source.old ≤ S.faults source.new }
     {
         let said = self.read_rows(source, reader, buf, into)?;
@@ -360,13 +396,15 @@ impl AllReply {
     }
 }
 
-/// Sends a call of ALL, reads its reply to the end, and pushes the rows of it. It answers what the reply says, or why there is
+/// Sends a call of ALL, reads its reply to the end, and pushes the rows of it. It answers what the reply says, or why
+/// there is
 /// none.
 pub fn fetch<S: Source, K: Sink>(
     wire: &mut Pair<S, K>,
     reader: &mut RecordReader,
     writer: &mut RecordWriter,
     buf: &mut [u8],
+    waited: &mut Snapshot<Pair<S, K>>,
     asked: &ReqNokey<'_>,
     reply: &mut AllReply,
     into: &mut VersionBuilder,
@@ -378,15 +416,19 @@ pub fn fetch<S: Source, K: Sink>(
     requires new { reply.old ≡ record { xid = reply.old.xid; start = 0; end = 0; at = 0; whole = false; rows = 0 } }
     ensures idle { writer.new ≡ [] }
     ensures between { OnOk result (reader.new.part ≡ not_begun) }
-    ensures sent { Sends (all_call asked.now.domain.now asked.now.map.now reply.old.xid) result (K.output wire.old.sink) (K.output wire.new.sink) }
+    ensures sent { Sends (all_call asked.now.domain.now asked.now.map.now reply.old.xid) result
+        (told_by S.Source K.Sink wire.old) (told_by S.Source K.Sink wire.new) }
+    ensures waited { Waits result (told_by S.Source K.Sink waited.new.value)
+        (told_by S.Source K.Sink wire.old) (told_by S.Source K.Sink wire.new) }
     ensures says { IfOk result (λ said. (message : List ℕ)
-        × TakesRecord all_max message (S.input wire.old.source) (S.input wire.new.source) reader.old.place reader.new.place
-        × SaysAll into.old into.new reply.new.rows reply.old.xid message said) }
+        × TakesRecord all_max message (S.input wire.old.source)
+        (S.input wire.new.source) reader.old.place reader.new.place
+        × SaysAll into.old into.new reply.old.xid message said) }
     ensures kept { Grows into.old into.new }
     ensures of_reply { IfOk result IsOfReply }
     ensures cause { IfErr result (λ fault. NoReply all_max fault
-        (moment_of S.input S.faults K.output K.faults (record { wire = wire.old; xid = reply.old.xid; place = reader.old.place; spent = false; rows = 0 }))
-        (moment_of S.input S.faults K.output K.faults (record { wire = wire.new; xid = reply.old.xid; place = reader.new.place; spent = false; rows = 0 }))) }
+        (state_of S.Source K.Sink (unspent wire.old reply.old.xid reader.old.place))
+        (state_of S.Source K.Sink (unspent wire.new reply.old.xid reader.new.place))) }
     ensures reads { S.faults wire.old.source ≤ S.faults wire.new.source }
     ensures writes { K.faults wire.old.sink ≤ K.faults wire.new.sink }
 {
@@ -398,5 +440,6 @@ pub fn fetch<S: Source, K: Sink>(
     if let Err(Failed) = ask(&mut wire.sink, writer, buf, reply.xid, called, asked) {
         return Err(ClientFault::WriteFault);
     }
+    *waited = Snapshot::of(wire);
     Ok(reply.read(&mut wire.source, reader, buf, into)?)
 }

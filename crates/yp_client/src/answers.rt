@@ -3,9 +3,10 @@
 ghost use Rattle.std.specs.Prelude.{◌≡◌, ℕ, List, Result, Ok, Err, IfOk, IfErr};
 ghost use Rattle.yp_xdr.specs.Cursor.{unread};
 ghost use Rattle.yp_client.specs.Results.{results_of, behind_true, Says};
-ghost use Rattle.yp_client.specs.Results.{nothing_of, served_of, value_of, row_of, master_of, order_of, maps_of, taken_of, made_of};
+ghost use Rattle.yp_client.specs.Results.{nothing_of, served_of, value_of, row_of, master_of, order_of, maps_of};
+ghost use Rattle.yp_client.specs.Results.{taken_of, made_of};
 ghost use Rattle.yp_client.specs.Calls.{IsOfReply};
-ghost use Rattle.yp_client.specs.Said.{SaysNothing, SaysBool, SaysNumber, SaysBytes, SaysRow, SaysNames, SaysStat};
+ghost use Rattle.yp_client.specs.Said.{SaysNothing, SaysBool, SaysNumber, SaysRow, SaysNames, SaysStat};
 
 use crate::fault::ClientFault;
 use std::alloc::Global;
@@ -14,11 +15,11 @@ use yp_msgs::{MapList, MapListFault, ReadMessage, RespMake, RespXfr, XfrStat, Yp
 use yp_rpc::{ReplyHead, read_reply_at};
 use yp_xdr::Cursor;
 
-/// A row of a map.
-#[derive(Debug, Drop)]
-pub struct Row {
-    pub value: Vec<u8>,
-    pub key: Vec<u8>,
+/// A row of a map, as it stands in a reply.
+#[derive(Clone, Copy, Debug)]
+pub struct Row<'a> {
+    pub value: &'a [u8],
+    pub key: &'a [u8],
 }
 
 /// What is taken from the reply to a call.
@@ -66,12 +67,17 @@ fn read_true(cursor: &mut Cursor<'_>) -> Result<(), ClientFault>
     }
 }
 
-/// The bytes of a value that are the caller's own.
-fn copied(alloc: Global, bytes: &[u8]) -> Result<Vec<u8>, ClientFault>
-    ensures copied { IfOk result (λ copy. copy.items ≡ bytes.now) }
-    ensures none { IfErr result (λ fault. fault ≡ ClientFault.NoMemory) }
-{
-    Vec::from_slice(alloc, bytes).map_err(|_| ClientFault::NoMemory)
+/// What is lent of the reply to a call.
+pub trait Lending {
+    ghost use Rattle.yp_client.specs.declared.fault.ClientFault.{ClientFault};
+
+    /// What the reply to the call with a number says.
+    ghost said: { ℕ → List ℕ → Result (List ℕ) ClientFault };
+
+    /// Reads the whole record of the reply.
+    fn read<'m>(&self, message: &'m [u8], xid: u32) -> Result<&'m [u8], ClientFault>
+        ensures says { Says (λ bytes. bytes.now) (said xid message.now) result }
+        ensures of_reply { IsOfReply result };
 }
 
 /// No results.
@@ -105,52 +111,39 @@ impl Answer for Served {
 /// The result of MATCH.
 pub struct Matched;
 
-impl Answer for Matched {
-    type Value = Vec<u8>;
+impl Lending for Matched {
+    ghost said = { value_of };
 
-    ghost answers = { SaysBytes value_of };
-
-    fn judge(&self, alloc: Global, message: &[u8], xid: u32) -> Result<Vec<u8>, ClientFault> {
+    fn read<'m>(&self, message: &'m [u8], xid: u32) -> Result<&'m [u8], ClientFault> {
         let mut cursor = read_results(message, xid)?;
         read_true(&mut cursor)?;
-        let value = cursor.opaque(VALUE_MAX)?;
-        copied(alloc, value)
-    }
-}
-
-/// The result of FIRST and NEXT.
-pub struct Found;
-
-impl Answer for Found {
-    type Value = Row;
-
-    ghost answers = { SaysRow row_of };
-
-    fn judge(&self, alloc: Global, message: &[u8], xid: u32) -> Result<Row, ClientFault> {
-        let mut cursor = read_results(message, xid)?;
-        read_true(&mut cursor)?;
-        let value = cursor.opaque(VALUE_MAX)?;
-        let key = cursor.opaque(KEY_MAX)?;
-        let value = copied(alloc, value)?;
-        let key = copied(alloc, key)?;
-        Ok(Row { value, key })
+        Ok(cursor.opaque(VALUE_MAX)?)
     }
 }
 
 /// The result of MASTER.
 pub struct Mastered;
 
-impl Answer for Mastered {
-    type Value = Vec<u8>;
+impl Lending for Mastered {
+    ghost said = { master_of };
 
-    ghost answers = { SaysBytes master_of };
-
-    fn judge(&self, alloc: Global, message: &[u8], xid: u32) -> Result<Vec<u8>, ClientFault> {
+    fn read<'m>(&self, message: &'m [u8], xid: u32) -> Result<&'m [u8], ClientFault> {
         let mut cursor = read_results(message, xid)?;
         read_true(&mut cursor)?;
-        let peer = cursor.string(NAME_MAX)?;
-        copied(alloc, peer)
+        Ok(cursor.string(NAME_MAX)?)
     }
+}
+
+/// Reads the result of FIRST and NEXT.
+pub fn read_found(message: &[u8], xid: u32) -> Result<Row<'_>, ClientFault>
+    ensures says { SaysRow row_of xid message.now result }
+    ensures of_reply { IsOfReply result }
+{
+    let mut cursor = read_results(message, xid)?;
+    read_true(&mut cursor)?;
+    let value = cursor.opaque(VALUE_MAX)?;
+    let key = cursor.opaque(KEY_MAX)?;
+    Ok(Row { value, key })
 }
 
 /// The result of ORDER.

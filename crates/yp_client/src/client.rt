@@ -1,25 +1,30 @@
 //! The client.
 
-ghost use Rattle.std.specs.Prelude.{◌≡◌, ℕ, ◌+◌, ◌≤◌, ◌<◌, true, false, [], List, None, length, take, MatchResult};
+ghost use Rattle.std.specs.Prelude.{◌≡◌, ℕ, ◌+◌, ◌≤◌, ◌<◌, true, [], List, None, length, take, MatchResult};
+ghost use Rattle.std.specs.Borrow.{sem};
 ghost use Rattle.yp_xdr.specs.Spelling.{spelling};
 ghost use Rattle.yp_rpc.specs.Called.{call_of};
-ghost use Rattle.yp_version.specs.Rows.{Row};
+ghost use Rattle.yp_version.specs.Rows.{Row as PushedRow};
 ghost use Rattle.yp_version.specs.Drafts.{with_rows, first_refused};
 ghost use Rattle.yp_msgs.specs.Numbers.{name_max};
 ghost use Rattle.yp_client.specs.Limits.{reply_max, all_max};
 ghost use Rattle.yp_client.specs.Asked.{all_call};
 ghost use Rattle.yp_client.specs.All.{SaysAll};
-ghost use Rattle.yp_client.specs.Moments.{moment_of};
+ghost use Rattle.yp_client.specs.States.{state_of, unspent};
+ghost use Rattle.yp_client.specs.Said.{SaysBytes, SaysRow};
+ghost use Rattle.yp_client.specs.Results.{row_of};
 ghost use Rattle.yp_client.specs.Calls.{Calls};
+ghost use Rattle.yp_client.specs.Lent.{ClientRests};
 
 use crate::all::{AllReply, fetch};
-use crate::answers::Answer;
+use crate::answers::{Answer, Lending, Row, read_found};
 use crate::exchange::{Called, exchange};
 use crate::fault::{ClientFault, is_spent_by};
 use crate::limits::REPLY_MAX;
 use std::alloc::Global;
 use std::marker::Model;
-use yp_io::{Pair, Sink, Source};
+use std::snapshot::Snapshot;
+use yp_io::{Pair, Sink, Source, zeros};
 use yp_msgs::{Message, ReqNokey};
 use yp_rpc::{RecordReader, RecordWriter};
 use yp_version::VersionBuilder;
@@ -32,8 +37,8 @@ pub struct ClientRefused<S, K> {
 
 /// A client of a YP server, over a wire of its own. It has one buffer, for its calls and their replies.
 ///
-/// It is seen as its wire, the number of its next call, the place up to which it has read, whether it is spent,
-/// and how many rows the last ALL has read.
+/// It is seen as its wire, the number of its next call, the place up to which it has read, whether it is spent, and its
+/// wire as it was when it began to wait for a reply the last time.
 #[derive(Drop)]
 pub struct Client<S: Source, K: Sink> {
     alloc: Global,
@@ -43,11 +48,11 @@ pub struct Client<S: Source, K: Sink> {
     buf: Vec<u8>,
     xid: u32,
     spent: bool,
-    rows: u32,
+    waited: Snapshot<Pair<S, K>>,
 }
 
 impl<S: Source, K: Sink> Model for Client<S, K> {
-    ghost use Rattle.yp_client.specs.Moments.{Held};
+    ghost use Rattle.yp_client.specs.States.{Held};
 
     ghost Value = { Held S K };
 
@@ -55,9 +60,16 @@ impl<S: Source, K: Sink> Model for Client<S, K> {
     ghost use Rattle.yp_rpc.specs.Pieces.{not_begun};
     ghost use Rattle.yp_client.specs.Limits.{reply_max};
 
-    ghost view = { λ c. record { wire = c.wire; xid = c.xid; place = c.reader.place; spent = c.spent; rows = c.rows } };
+    ghost view = { λ c. record {
+      wire = c.wire;
+      xid = c.xid;
+      place = c.reader.place;
+      spent = c.spent;
+      waited = c.waited.value;
+    } };
 
-    ghost invariant = { λ c. (c.spent ≡ false → c.reader.part ≡ not_begun) × (c.writer ≡ []) × (length c.buf.items ≡ reply_max) };
+    ghost invariant = { λ c.
+        (c.spent ≡ false → c.reader.part ≡ not_begun) × (c.writer ≡ []) × (length c.buf.items ≡ reply_max) };
 }
 
 impl<S: Source, K: Sink> Client<S, K> {
@@ -68,15 +80,16 @@ impl<S: Source, K: Sink> Client<S, K> {
         xid: u32,
     ) -> Result<Client<S, K>, ClientRefused<S, K>>
         ensures { MatchResult result
-            (λ client. client ≡ record { wire = wire; xid = xid; place = 0; spent = false; rows = 0 })
+            (λ client. client ≡ unspent wire xid 0)
             (λ refused. refused.wire ≡ wire) }
     {
         let Ok(writer) = RecordWriter::new(alloc) else {
             return Err(ClientRefused { wire });
         };
-        let Ok(buf) = vec![in alloc; 0; REPLY_MAX] else {
+        let Ok(buf) = zeros(alloc, REPLY_MAX) else {
             return Err(ClientRefused { wire });
         };
+        let waited = Snapshot::of(&wire);
         Ok(Client {
             alloc,
             wire,
@@ -85,7 +98,7 @@ impl<S: Source, K: Sink> Client<S, K> {
             buf,
             xid,
             spent: false,
-            rows: 0,
+            waited,
         })
     }
 
@@ -96,15 +109,9 @@ impl<S: Source, K: Sink> Client<S, K> {
         self.wire
     }
 
-    /// How many rows the last ALL has read, those of repeated keys and a refused one among them. At first there are none.
-    pub fn rows(&self) -> u32
-        ensures { result ≡ self.now.rows }
-    {
-        self.rows
-    }
-
-    /// ALL: pushes the rows of a map onto a builder, up to the end of them or the first that is refused. The reply is read piece
-    /// by piece, and to its end before the answer.
+    /// ALL: pushes the rows of a map onto a builder, up to the end of them or the first that is refused. The reply is
+    /// read
+    /// piece by piece, and to its end before the answer.
     pub fn all(
         &mut self,
         domain: &[u8],
@@ -113,9 +120,10 @@ impl<S: Source, K: Sink> Client<S, K> {
     ) -> Result<(), ClientFault>
         requires domain { length domain.now ≤ name_max }
         requires map { length map.now ≤ name_max }
-        ensures calls { Calls all_max (all_call domain.now map.now) (SaysAll into.old into.new self.new.rows) result
-            (moment_of S.input S.faults K.output K.faults self.old) (moment_of S.input S.faults K.output K.faults self.new) }
-        ensures kept { (rows : List Row) × (into.new ≡ with_rows into.old rows) × (first_refused into.old rows ≡ None) }
+        ensures calls { Calls all_max (all_call domain.now map.now) (SaysAll into.old into.new) result
+            (state_of S.Source K.Sink self.old) (state_of S.Source K.Sink self.new) }
+        ensures kept { (rows : List PushedRow)
+            × (into.new ≡ with_rows into.old rows) × (first_refused into.old rows ≡ None) }
         ensures spent { self.old.spent ≡ true → (self.new ≡ self.old) × (into.new ≡ into.old) }
     {
         if self.spent {
@@ -128,11 +136,11 @@ impl<S: Source, K: Sink> Client<S, K> {
             &mut self.reader,
             &mut self.writer,
             &mut self.buf,
+            &mut self.waited,
             &ReqNokey { domain, map },
             &mut reply,
             into,
         );
-        self.rows = reply.rows;
         let said = match fetched {
             Ok(said) => said,
             Err(fault) => Err(fault),
@@ -150,9 +158,9 @@ impl<S: Source, K: Sink> Client<S, K> {
     ) -> Result<A::Value, ClientFault>
         requires within { M.is_within arguments.now }
         requires room { 40 + length (spelling M.kind (M.view arguments.now)) ≤ reply_max }
-        ensures calls { Calls reply_max (λ xid. call_of M.kind xid called.prog called.vers called.procedure (M.view arguments.now)) A.answers result
-            (moment_of S.input S.faults K.output K.faults self.old) (moment_of S.input S.faults K.output K.faults self.new) }
-        ensures rows { self.new.rows ≡ self.old.rows }
+        ensures { Calls reply_max
+            (λ xid. call_of M.kind xid called.prog called.vers called.procedure (M.view arguments.now))
+            A.answers result (state_of S.Source K.Sink self.old) (state_of S.Source K.Sink self.new) }
     {
         if self.spent {
             return Err(ClientFault::Spent);
@@ -164,6 +172,7 @@ impl<S: Source, K: Sink> Client<S, K> {
             &mut self.reader,
             &mut self.writer,
             &mut self.buf,
+            &mut self.waited,
             xid,
             called,
             arguments,
@@ -174,5 +183,84 @@ impl<S: Source, K: Sink> Client<S, K> {
         };
         self.spent = is_spent_by(&judged);
         judged
+    }
+
+    /// The same, where bytes of the reply are lent.
+    pub(crate) fn lend<M: Message, L: Lending>(
+        &mut self,
+        called: Called,
+        arguments: &M,
+        lending: &L,
+    ) -> Result<&[u8], ClientFault>
+        requires within { M.is_within arguments.now }
+        requires room { 40 + length (spelling M.kind (M.view arguments.now)) ≤ reply_max }
+        ensures* calls { sem 𝓛 (ClientRests S.row K.row S.Source K.Sink self.entry (λ last. Calls reply_max
+            (λ xid. call_of M.kind xid called.prog called.vers called.procedure (M.view arguments.now))
+            (SaysBytes L.said) result (state_of S.Source K.Sink self.old) (state_of S.Source K.Sink last))) }
+    {
+        if self.spent {
+            return Err(ClientFault::Spent);
+        }
+        let xid = self.xid;
+        self.xid = xid.wrapping_add(1);
+        let read = exchange(
+            &mut self.wire,
+            &mut self.reader,
+            &mut self.writer,
+            &mut self.buf,
+            &mut self.waited,
+            xid,
+            called,
+            arguments,
+        );
+        let len = match read {
+            Ok(len) => len,
+            Err(fault) => {
+                self.spent = true;
+                return Err(fault);
+            }
+        };
+        self.spent = is_spent_by(&lending.read(&self.buf[..len], xid));
+        let reply = &self.buf;
+        lending.read(&reply[..len], xid)
+    }
+
+    /// The same, where a row of the reply is lent.
+    pub(crate) fn lend_row<M: Message>(
+        &mut self,
+        called: Called,
+        arguments: &M,
+    ) -> Result<Row<'_>, ClientFault>
+        requires within { M.is_within arguments.now }
+        requires room { 40 + length (spelling M.kind (M.view arguments.now)) ≤ reply_max }
+        ensures* calls { sem 𝓛 (ClientRests S.row K.row S.Source K.Sink self.entry (λ last. Calls reply_max
+            (λ xid. call_of M.kind xid called.prog called.vers called.procedure (M.view arguments.now))
+            (SaysRow row_of) result (state_of S.Source K.Sink self.old) (state_of S.Source K.Sink last))) }
+    {
+        if self.spent {
+            return Err(ClientFault::Spent);
+        }
+        let xid = self.xid;
+        self.xid = xid.wrapping_add(1);
+        let read = exchange(
+            &mut self.wire,
+            &mut self.reader,
+            &mut self.writer,
+            &mut self.buf,
+            &mut self.waited,
+            xid,
+            called,
+            arguments,
+        );
+        let len = match read {
+            Ok(len) => len,
+            Err(fault) => {
+                self.spent = true;
+                return Err(fault);
+            }
+        };
+        self.spent = is_spent_by(&read_found(&self.buf[..len], xid));
+        let reply = &self.buf;
+        read_found(&reply[..len], xid)
     }
 }

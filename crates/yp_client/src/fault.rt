@@ -8,7 +8,8 @@ use yp_rpc::{RecordFault, ReplyHead};
 use yp_version::VersionFault;
 use yp_xdr::XdrFault;
 
-/// Why a call has no value. After `Yp`, `Denied`, `Rows` and `NoMemory` the client goes on; after the others it is spent.
+/// Why a call has no value. After `Yp`, `Denied`, `Rows` and `NoMemory` the client goes on; after the others it is
+/// spent.
 #[derive(Clone, Copy, Debug, PartialEq, Eq)]
 pub enum ClientFault {
     /// The server says so, in place of a value.
@@ -29,8 +30,9 @@ pub enum ClientFault {
     WriteFault,
     /// An earlier call has left the wire in a state that isn't known. Nothing was sent.
     Spent,
-    /// A row of the reply is refused by the builder.
-    Rows(VersionFault),
+    /// The row with this number, counted from 1 with those of repeated keys, is the first of the reply that the builder
+    /// refuses: never for want of memory.
+    Rows { row: u32, fault: VersionFault },
     /// Memory ran out.
     NoMemory,
 }
@@ -53,20 +55,13 @@ impl ClientFault {
 
 impl From<XdrFault> for ClientFault {
     ghost use Rattle.std.specs.Prelude.{◌≡◌};
-    ghost use Rattle.yp_client.specs.Results.{place_of};
+    ghost use Rattle.yp_xdr.specs.Faults.{fault_place};
     ghost use Rattle.yp_client.specs.declared.fault.ClientFault.TheVariants.{BadReply};
 
-    ghost from_gives = { λ fault bad. bad ≡ BadReply (place_of fault) };
+    ghost from_gives = { λ fault bad. bad ≡ BadReply (fault_place fault) };
 
     fn from(fault: XdrFault) -> ClientFault {
-        let at = match fault {
-            XdrFault::Short { at } => at,
-            XdrFault::TooLong { at, .. } => at,
-            XdrFault::Pad { at } => at,
-            XdrFault::BadBool { at } => at,
-            XdrFault::BadEnum { at } => at,
-        };
-        ClientFault::BadReply { at }
+        ClientFault::BadReply { at: fault.place() }
     }
 }
 
@@ -93,7 +88,7 @@ pub fn is_spent_by<T>(answer: &Result<T, ClientFault>) -> bool
         Ok(_) => false,
         Err(ClientFault::Yp(_)) => false,
         Err(ClientFault::Denied(_)) => false,
-        Err(ClientFault::Rows(_)) => false,
+        Err(ClientFault::Rows { .. }) => false,
         Err(ClientFault::NoMemory) => false,
         Err(_) => true,
     }

@@ -1,7 +1,8 @@
 //! Calls to a YP server over a wire (yp.x), whose answers are judged byte for byte.
 //!
-//! Each call sends one record, reads the whole record of its reply, and answers what the bytes of that say, or the first
-//! refusal that they meet. The promise stands on the calls of [`Client`], which all have one contract at different kinds
+//! Each call sends one record, reads the whole record of its reply, and answers what the bytes of that say, or the
+//! first refusal that they meet. The promise stands on the calls of [`Client`], which all have one contract at
+//! different kinds
 //! of results.
 #![tactic(auto)]
 

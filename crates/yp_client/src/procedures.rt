@@ -1,20 +1,22 @@
 //! The procedures of YP version 2 (yp.x) whose replies fit the buffer, which are all but ALL, and of the make program.
 
 ghost use Rattle.std.specs.Prelude.{◌≡◌, ◌≤◌, [], length};
+ghost use Rattle.std.specs.Borrow.{sem};
 ghost use Rattle.yp_xdr.specs.Kind.{Fixed};
 ghost use Rattle.yp_msgs.specs.Numbers.{name_max, key_max};
 ghost use Rattle.yp_msgs.specs.Transfers.{req_xfr_view, ReqXfrIsWithin};
-ghost use Rattle.yp_client.specs.Results.{nothing_of, served_of, value_of, row_of, master_of, order_of, maps_of, taken_of, made_of};
+ghost use Rattle.yp_client.specs.Results.{nothing_of, served_of, value_of, row_of, master_of, order_of, maps_of};
+ghost use Rattle.yp_client.specs.Results.{taken_of, made_of};
 ghost use Rattle.yp_client.specs.Said.{SaysNothing, SaysBool, SaysNumber, SaysBytes, SaysRow, SaysNames, SaysStat};
-ghost use Rattle.yp_client.specs.Asked.{null_call, clear_call, domain_call, maplist_call, first_call, master_call, order_call};
+ghost use Rattle.yp_client.specs.Asked.{null_call, clear_call, domain_call, maplist_call, first_call, master_call};
+ghost use Rattle.yp_client.specs.Asked.{order_call};
 ghost use Rattle.yp_client.specs.Asked.{match_call, next_call, xfr_call, make_call};
 ghost use Rattle.yp_client.specs.Limits.{reply_max};
-ghost use Rattle.yp_client.specs.Moments.{moment_of};
+ghost use Rattle.yp_client.specs.States.{state_of};
 ghost use Rattle.yp_client.specs.Calls.{Calls};
+ghost use Rattle.yp_client.specs.Lent.{ClientRests};
 
-use crate::answers::{
-    Found, Listed, Made, Mastered, Matched, Nothing, Ordered, Row, Served, Taken,
-};
+use crate::answers::{Listed, Made, Mastered, Matched, Nothing, Ordered, Row, Served, Taken};
 use crate::client::Client;
 use crate::exchange::Called;
 use crate::fault::ClientFault;
@@ -48,9 +50,8 @@ impl Message for NoArguments {
 impl<S: Source, K: Sink> Client<S, K> {
     /// NULL: whether the server answers.
     pub fn ping(&mut self) -> Result<(), ClientFault>
-        ensures calls { Calls reply_max (null_call) (SaysNothing nothing_of) result
-            (moment_of S.input S.faults K.output K.faults self.old) (moment_of S.input S.faults K.output K.faults self.new) }
-        ensures rows { self.new.rows ≡ self.old.rows }
+        ensures { Calls reply_max (null_call) (SaysNothing nothing_of) result
+            (state_of S.Source K.Sink self.old) (state_of S.Source K.Sink self.new) }
     {
         self.call(
             Called {
@@ -66,9 +67,8 @@ impl<S: Source, K: Sink> Client<S, K> {
     /// DOMAIN: whether the domain is served.
     pub fn domain(&mut self, domain: &[u8]) -> Result<bool, ClientFault>
         requires { length domain.now ≤ name_max }
-        ensures calls { Calls reply_max (domain_call domain.now) (SaysBool served_of) result
-            (moment_of S.input S.faults K.output K.faults self.old) (moment_of S.input S.faults K.output K.faults self.new) }
-        ensures rows { self.new.rows ≡ self.old.rows }
+        ensures { Calls reply_max (domain_call domain.now) (SaysBool served_of) result
+            (state_of S.Source K.Sink self.old) (state_of S.Source K.Sink self.new) }
     {
         self.call(
             Called {
@@ -82,20 +82,15 @@ impl<S: Source, K: Sink> Client<S, K> {
     }
 
     /// MATCH: the value of a key.
-    pub fn match_key(
-        &mut self,
-        domain: &[u8],
-        map: &[u8],
-        key: &[u8],
-    ) -> Result<Vec<u8>, ClientFault>
+    pub fn match_key(&mut self, domain: &[u8], map: &[u8], key: &[u8]) -> Result<&[u8], ClientFault>
         requires domain { length domain.now ≤ name_max }
         requires map { length map.now ≤ name_max }
         requires key { length key.now ≤ key_max }
-        ensures calls { Calls reply_max (match_call domain.now map.now key.now) (SaysBytes value_of) result
-            (moment_of S.input S.faults K.output K.faults self.old) (moment_of S.input S.faults K.output K.faults self.new) }
-        ensures rows { self.new.rows ≡ self.old.rows }
+        ensures* calls { sem 𝓛 (ClientRests S.row K.row S.Source K.Sink self.entry (λ last.
+            Calls reply_max (match_call domain.now map.now key.now) (SaysBytes value_of) result
+            (state_of S.Source K.Sink self.old) (state_of S.Source K.Sink last))) }
     {
-        self.call(
+        self.lend(
             Called {
                 prog: YPPROG,
                 vers: YPVERS,
@@ -107,53 +102,51 @@ impl<S: Source, K: Sink> Client<S, K> {
     }
 
     /// FIRST: the first row of a map.
-    pub fn first(&mut self, domain: &[u8], map: &[u8]) -> Result<Row, ClientFault>
+    pub fn first(&mut self, domain: &[u8], map: &[u8]) -> Result<Row<'_>, ClientFault>
         requires domain { length domain.now ≤ name_max }
         requires map { length map.now ≤ name_max }
-        ensures calls { Calls reply_max (first_call domain.now map.now) (SaysRow row_of) result
-            (moment_of S.input S.faults K.output K.faults self.old) (moment_of S.input S.faults K.output K.faults self.new) }
-        ensures rows { self.new.rows ≡ self.old.rows }
+        ensures* calls { sem 𝓛 (ClientRests S.row K.row S.Source K.Sink self.entry (λ last.
+            Calls reply_max (first_call domain.now map.now) (SaysRow row_of) result
+            (state_of S.Source K.Sink self.old) (state_of S.Source K.Sink last))) }
     {
-        self.call(
+        self.lend_row(
             Called {
                 prog: YPPROG,
                 vers: YPVERS,
                 procedure: FIRST,
             },
             &ReqNokey { domain, map },
-            &Found,
         )
     }
 
     /// NEXT: the row behind that of a key.
-    pub fn next(&mut self, domain: &[u8], map: &[u8], key: &[u8]) -> Result<Row, ClientFault>
+    pub fn next(&mut self, domain: &[u8], map: &[u8], key: &[u8]) -> Result<Row<'_>, ClientFault>
         requires domain { length domain.now ≤ name_max }
         requires map { length map.now ≤ name_max }
         requires key { length key.now ≤ key_max }
-        ensures calls { Calls reply_max (next_call domain.now map.now key.now) (SaysRow row_of) result
-            (moment_of S.input S.faults K.output K.faults self.old) (moment_of S.input S.faults K.output K.faults self.new) }
-        ensures rows { self.new.rows ≡ self.old.rows }
+        ensures* calls { sem 𝓛 (ClientRests S.row K.row S.Source K.Sink self.entry (λ last.
+            Calls reply_max (next_call domain.now map.now key.now) (SaysRow row_of) result
+            (state_of S.Source K.Sink self.old) (state_of S.Source K.Sink last))) }
     {
-        self.call(
+        self.lend_row(
             Called {
                 prog: YPPROG,
                 vers: YPVERS,
                 procedure: NEXT,
             },
             &ReqKey { domain, map, key },
-            &Found,
         )
     }
 
     /// MASTER: the name of the map's master.
-    pub fn master(&mut self, domain: &[u8], map: &[u8]) -> Result<Vec<u8>, ClientFault>
+    pub fn master(&mut self, domain: &[u8], map: &[u8]) -> Result<&[u8], ClientFault>
         requires domain { length domain.now ≤ name_max }
         requires map { length map.now ≤ name_max }
-        ensures calls { Calls reply_max (master_call domain.now map.now) (SaysBytes master_of) result
-            (moment_of S.input S.faults K.output K.faults self.old) (moment_of S.input S.faults K.output K.faults self.new) }
-        ensures rows { self.new.rows ≡ self.old.rows }
+        ensures* calls { sem 𝓛 (ClientRests S.row K.row S.Source K.Sink self.entry (λ last.
+            Calls reply_max (master_call domain.now map.now) (SaysBytes master_of) result
+            (state_of S.Source K.Sink self.old) (state_of S.Source K.Sink last))) }
     {
-        self.call(
+        self.lend(
             Called {
                 prog: YPPROG,
                 vers: YPVERS,
@@ -168,9 +161,8 @@ impl<S: Source, K: Sink> Client<S, K> {
     pub fn order(&mut self, domain: &[u8], map: &[u8]) -> Result<u32, ClientFault>
         requires domain { length domain.now ≤ name_max }
         requires map { length map.now ≤ name_max }
-        ensures calls { Calls reply_max (order_call domain.now map.now) (SaysNumber order_of) result
-            (moment_of S.input S.faults K.output K.faults self.old) (moment_of S.input S.faults K.output K.faults self.new) }
-        ensures rows { self.new.rows ≡ self.old.rows }
+        ensures { Calls reply_max (order_call domain.now map.now) (SaysNumber order_of) result
+            (state_of S.Source K.Sink self.old) (state_of S.Source K.Sink self.new) }
     {
         self.call(
             Called {
@@ -186,9 +178,8 @@ impl<S: Source, K: Sink> Client<S, K> {
     /// MAPLIST: the maps of a domain.
     pub fn maplist(&mut self, domain: &[u8]) -> Result<MapList, ClientFault>
         requires { length domain.now ≤ name_max }
-        ensures calls { Calls reply_max (maplist_call domain.now) (SaysNames maps_of) result
-            (moment_of S.input S.faults K.output K.faults self.old) (moment_of S.input S.faults K.output K.faults self.new) }
-        ensures rows { self.new.rows ≡ self.old.rows }
+        ensures { Calls reply_max (maplist_call domain.now) (SaysNames maps_of) result
+            (state_of S.Source K.Sink self.old) (state_of S.Source K.Sink self.new) }
     {
         self.call(
             Called {
@@ -203,9 +194,8 @@ impl<S: Source, K: Sink> Client<S, K> {
 
     /// CLEAR: has the server close its maps.
     pub fn clear(&mut self) -> Result<(), ClientFault>
-        ensures calls { Calls reply_max (clear_call) (SaysNothing nothing_of) result
-            (moment_of S.input S.faults K.output K.faults self.old) (moment_of S.input S.faults K.output K.faults self.new) }
-        ensures rows { self.new.rows ≡ self.old.rows }
+        ensures { Calls reply_max (clear_call) (SaysNothing nothing_of) result
+            (state_of S.Source K.Sink self.old) (state_of S.Source K.Sink self.new) }
     {
         self.call(
             Called {
@@ -221,9 +211,8 @@ impl<S: Source, K: Sink> Client<S, K> {
     /// XFR: has the server fetch a map.
     pub fn xfr(&mut self, request: &ReqXfr<'_>) -> Result<XfrStat, ClientFault>
         requires { ReqXfrIsWithin request.now }
-        ensures calls { Calls reply_max (xfr_call (req_xfr_view request.now)) (SaysStat taken_of) result
-            (moment_of S.input S.faults K.output K.faults self.old) (moment_of S.input S.faults K.output K.faults self.new) }
-        ensures rows { self.new.rows ≡ self.old.rows }
+        ensures { Calls reply_max (xfr_call (req_xfr_view request.now)) (SaysStat taken_of) result
+            (state_of S.Source K.Sink self.old) (state_of S.Source K.Sink self.new) }
     {
         self.call(
             Called {
@@ -239,9 +228,8 @@ impl<S: Source, K: Sink> Client<S, K> {
     /// MAKE of the make program: has the server make a map anew, by the number of its kind.
     pub fn make(&mut self, domain: &[u8], kind: u32) -> Result<XfrStat, ClientFault>
         requires { length domain.now ≤ name_max }
-        ensures calls { Calls reply_max (make_call domain.now kind) (SaysStat made_of) result
-            (moment_of S.input S.faults K.output K.faults self.old) (moment_of S.input S.faults K.output K.faults self.new) }
-        ensures rows { self.new.rows ≡ self.old.rows }
+        ensures { Calls reply_max (make_call domain.now kind) (SaysStat made_of) result
+            (state_of S.Source K.Sink self.old) (state_of S.Source K.Sink self.new) }
     {
         self.call(
             Called {

@@ -108,12 +108,12 @@ fn put_long_row<R: Abort>(rt: &R, alloc: Global, record: &mut Vec<u8>, byte: u8)
     add(rt, record, &long);
 }
 
-// What came of ALL: its answer, how many rows it has read, and how many the builder has.
-type Fetched = (Result<(), ClientFault>, u32, usize);
+// What came of ALL: its answer, and how many rows the builder has.
+type Fetched = (Result<(), ClientFault>, usize);
 
 fn fetch(client: &mut MemClient, into: &mut VersionBuilder) -> Fetched {
     let said = client.all(b"d", b"m", into);
-    (said, client.rows(), into.len())
+    (said, into.len())
 }
 
 // What came of it, and then of ORDER.
@@ -147,14 +147,8 @@ fn look(alloc: Global, version: &Version) -> (usize, [Option<Vec<u8>>; 3]) {
     (version.len(), values)
 }
 
-// How many rows ALL has read before and after, and its answer between.
-fn fetch_hosts(
-    client: &mut MemClient,
-    into: &mut VersionBuilder,
-) -> (u32, Result<(), ClientFault>, u32) {
-    let before = client.rows();
-    let said = client.all(b"lab", b"hosts.byname", into);
-    (before, said, client.rows())
+fn fetch_hosts(client: &mut MemClient, into: &mut VersionBuilder) -> Result<(), ClientFault> {
+    client.all(b"lab", b"hosts.byname", into)
 }
 
 #[test]
@@ -173,7 +167,7 @@ fn rows_in_any_fragments(rt: HostRuntime) {
         Some(b"v".to_vec(alloc).expect(&rt, "a value")),
         Some(Vec::new(alloc)),
     ];
-    let wanted = ((0, Ok(()), 4), bytes(&rt, alloc, &[call]), (3, values));
+    let wanted = (Ok(()), bytes(&rt, alloc, &[call]), (3, values));
     for (size, row) in [
         (1, "fragments of 1 byte"),
         (3, "fragments of 3 bytes"),
@@ -214,7 +208,7 @@ fn reply_longer_than_the_buffer(rt: HostRuntime) {
     }
     add(&rt, &mut record, &bytes(&rt, alloc, &[ROW, "00000000"]));
     let value = b"v".to_vec(alloc).expect(&rt, "a value");
-    let wanted = ((Ok(()), 8, 8), (8, [true; 7], Some(value)));
+    let wanted = ((Ok(()), 8), (8, [true; 7], Some(value)));
     for (size, row) in [
         (8192, "fragments of 8192 bytes"),
         (10_000_000, "one fragment"),
@@ -252,7 +246,7 @@ fn ends_of_rows(rt: HostRuntime) {
         };
         let wire = wire(alloc, stream(&rt, alloc, items, ""), 5);
         let came = with_builder(&rt, alloc, wire, fetch_and_order);
-        assert_same(&rt, &came, &((said, rows, rows as usize), next), items);
+        assert_same(&rt, &came, &((said, rows), next), items);
     }
 }
 
@@ -281,8 +275,8 @@ fn places_of_bad_items(rt: HostRuntime) {
         let wire = wire(alloc, stream(&rt, alloc, ROW, item), 5);
         let came = with_builder(&rt, alloc, wire, fetch_twice);
         let wanted = [
-            (Err(ClientFault::BadReply { at }), 1, 1),
-            (Err(ClientFault::Spent), 1, 1),
+            (Err(ClientFault::BadReply { at }), 1),
+            (Err(ClientFault::Spent), 1),
         ];
         assert_same(&rt, &came, &wanted, item);
     }
@@ -319,7 +313,7 @@ fn refused_heads(rt: HostRuntime) {
     ] {
         let wire = wire(alloc, bytes(&rt, alloc, &[reply, behind]), 5);
         let came = with_builder(&rt, alloc, wire, fetch_and_order);
-        assert_same(&rt, &came, &((Err(fault), 0, 0), next), reply);
+        assert_same(&rt, &came, &((Err(fault), 0), next), reply);
     }
 }
 
@@ -352,9 +346,8 @@ fn torn_and_failing_records(rt: HostRuntime) {
     }
 }
 
-// Whether a builder has added all rows that it was given first, what came of ALL and of ORDER, and how many rows ALL
-// has read then.
-type Refused = (bool, Fetched, Result<u32, ClientFault>, u32);
+// Whether a builder has added all rows that it was given first, and what came of ALL and of ORDER.
+type Refused = (bool, Fetched, Result<u32, ClientFault>);
 
 // 255 rows with this value go before.
 fn fetch_behind(client: &mut MemClient, into: &mut VersionBuilder, value: &[u8]) -> Refused {
@@ -364,7 +357,7 @@ fn fetch_behind(client: &mut MemClient, into: &mut VersionBuilder, value: &[u8])
     }
     let fetched = fetch(client, into);
     let next = client.order(b"d", b"m");
-    (are_added, fetched, next, client.rows())
+    (are_added, fetched, next)
 }
 
 // A reply whose third row is long, and then NEXT_REPLY.
@@ -386,8 +379,13 @@ fn row_that_is_refused(rt: HostRuntime) {
     let came = with_builder(&rt, alloc, wire, |client, into| {
         fetch_behind(client, into, &value)
     });
-    let fetched = (Err(ClientFault::Rows(VersionFault::TooBig)), 3, 256);
-    assert_same(&rt, &came, &(true, fetched, Ok(7), 3), "a row too many");
+    // The third row is refused, though the second has the key of the first.
+    let fault = ClientFault::Rows {
+        row: 3,
+        fault: VersionFault::TooBig,
+    };
+    let wanted = (true, (Err(fault), 256), Ok(7));
+    assert_same(&rt, &came, &wanted, "a row too many");
 }
 
 // What came of ALL into a new builder.
@@ -403,9 +401,9 @@ fn one_map_after_another(rt: HostRuntime) {
         00000001 00000001 00000001 76000000 00000001 6b000000 00000000 \
         8000001c 00000009 00000001 00000000 00000000 00000000 00000000 00000000";
     let wanted = [
-        (Ok(()), 1, 1),
-        (Ok(()), 0, 0),
-        (Err(ClientFault::Torn { at: 88 }), 0, 0),
+        (Ok(()), 1),
+        (Ok(()), 0),
+        (Err(ClientFault::Torn { at: 88 }), 0),
     ];
     let wire = wire(alloc, bytes(&rt, alloc, &[replies]), 5);
     let came = with_client(&rt, alloc, wire, 8, |client| {

@@ -22,6 +22,18 @@ fn fair_wire(alloc: Global, input: Vec<u8>) -> MemWire {
     wire(alloc, input, Vec::new(alloc), Vec::new(alloc))
 }
 
+// Bytes that are lent, as the test's own.
+fn copied<R: Abort>(
+    rt: &R,
+    alloc: Global,
+    lent: Result<&[u8], ClientFault>,
+) -> Result<Vec<u8>, ClientFault> {
+    match lent {
+        Ok(bytes) => Ok(bytes.to_vec(alloc).expect(rt, "a copy")),
+        Err(fault) => Err(fault),
+    }
+}
+
 #[test]
 fn first_match(rt: HostRuntime) {
     let alloc = rt.alloc();
@@ -34,7 +46,8 @@ fn first_match(rt: HostRuntime) {
     let wanted = (Ok(value), bytes(&rt, alloc, &[call]));
     let wire = fair_wire(alloc, bytes(&rt, alloc, &[reply]));
     let came = with_client(&rt, alloc, wire, 1, |client| {
-        client.match_key(b"lab", b"hosts.byname", b"alpha")
+        let value = client.match_key(b"lab", b"hosts.byname", b"alpha");
+        copied(&rt, alloc, value)
     });
     assert_same(&rt, &came, &wanted, "MATCH");
 }
@@ -55,7 +68,8 @@ fn order_and_master(rt: HostRuntime) {
     let wire = fair_wire(alloc, bytes(&rt, alloc, &[replies]));
     let came = with_client(&rt, alloc, wire, u32::MAX, |client| {
         let order = client.order(b"lab", b"hosts.byname");
-        (order, client.master(b"lab", b"hosts.byname"))
+        let master = client.master(b"lab", b"hosts.byname");
+        (order, copied(&rt, alloc, master))
     });
     assert_same(&rt, &came, &wanted, "ORDER and MASTER");
 }
@@ -79,22 +93,29 @@ fn lines<R: Abort>(rt: &R, alloc: Global, names: &Names) -> Vec<u8> {
     lines
 }
 
-fn key_and_value(found: Result<Row, ClientFault>) -> Result<KeyAndValue, ClientFault> {
+fn key_and_value<R: Abort>(
+    rt: &R,
+    alloc: Global,
+    found: Result<Row<'_>, ClientFault>,
+) -> Result<KeyAndValue, ClientFault> {
     match found {
-        Ok(row) => Ok((row.key, row.value)),
+        Ok(row) => {
+            let key = row.key.to_vec(alloc).expect(rt, "a copy");
+            Ok((key, row.value.to_vec(alloc).expect(rt, "a copy")))
+        }
         Err(fault) => Err(fault),
     }
 }
 
 fn list<R: Abort>(rt: &R, alloc: Global, client: &mut MemClient) -> Listed {
-    let first = client.first(b"d", b"m");
-    let next = client.next(b"d", b"m", b"k");
+    let first = key_and_value(rt, alloc, client.first(b"d", b"m"));
+    let next = key_and_value(rt, alloc, client.next(b"d", b"m", b"k"));
     let maps = client.maplist(b"d");
     let names = match maps {
         Ok(list) => Ok(lines(rt, alloc, &list.maps)),
         Err(fault) => Err(fault),
     };
-    ([key_and_value(first), key_and_value(next)], names)
+    ([first, next], names)
 }
 
 #[test]
@@ -215,6 +236,8 @@ fn one_failing_call(rt: HostRuntime) {
         (NEXT_REPLY, 3, 99, ClientFault::ReadFault, 60),
         (NEXT_REPLY, 99, 0, ClientFault::WriteFault, 0),
         (NEXT_REPLY, 99, 2, ClientFault::WriteFault, 14),
+        // The flush behind nine writes of at most seven bytes.
+        (NEXT_REPLY, 99, 9, ClientFault::WriteFault, 60),
     ] {
         let bytes = bytes(&rt, alloc, &[input]);
         let failing_reads = vec![in alloc; reads].expect(&rt, "a list");

@@ -10,7 +10,8 @@ use Rattle.yp_io.specs.MemDiskLaws.{with_kept_last}
 use Rattle.yp_io.specs.MemSteps.{Replayed, after_crash_step}
 
 -- the bit of the write after these is the lowest of what is left
-next_bits : (kept : ℕ) (writes : List (ℕ × List ℕ)) (write : ℕ × List ℕ) → kept / 2 ^ length writes / 2 ≡ kept / 2 ^ length (writes ++ write ∷ [])
+next_bits : (kept : ℕ) (writes : List (ℕ × List ℕ)) (write : ℕ × List ℕ)
+    → kept / 2 ^ length writes / 2 ≡ kept / 2 ^ length (writes ++ write ∷ [])
 next_bits kept writes write =
     div-div-eq-div-mul kept (2 ^ length writes) 2
     ∙ ap (λ (n : ℕ). kept / n) (sym (pow-add 2 (length writes) 1))
@@ -24,7 +25,9 @@ at_history kept history writes = record {
   bits = kept / 2 ^ length writes;
 }
 
-replay_from : (kept : ℕ) (history : History) (writes : List (ℕ × List ℕ)) (steps : List DiskStep) → (fold (after_crash_step kept) (at_history kept history writes) steps).image ≡ with_kept kept 0 (fold unsynced_after writes steps) (fold after_step history steps).state.synced
+replay_from : (kept : ℕ) (history : History) (writes : List (ℕ × List ℕ)) (steps : List DiskStep)
+    → (fold (after_crash_step kept) (at_history kept history writes) steps).image
+    ≡ with_kept kept 0 (fold unsynced_after writes steps) (fold after_step history steps).state.synced
 replay_from kept history writes [] = refl
 replay_from kept history writes (Wrote at piece ∷ steps) =
     let synced = history.state.synced in
@@ -34,14 +37,19 @@ replay_from kept history writes (Wrote at piece ∷ steps) =
     (λ i. (fold (after_crash_step kept) (record { reads = reads; image = image i; bits = bits i }) steps).image)
     ∙ replay_from kept (written_at at piece history) (writes ++ (at, piece) ∷ []) steps
 replay_from kept history writes (Synced ∷ steps) =
-    (λ i. (fold (after_crash_step kept) (record { reads = history.state.reads; image = history.state.reads; bits = whole kept i }) steps).image)
+    (λ i. (fold (after_crash_step kept)
+    (record { reads = history.state.reads; image = history.state.reads; bits = whole kept i }) steps).image)
     ∙ replay_from kept (after_sync history) [] steps
   where
     whole : (kept : ℕ) → kept ≡ kept / 2 ^ 0
     whole kept = omega arith
 
-pub replay_all : (kept : ℕ) (first : List ℕ) (steps : List DiskStep) → (fold (after_crash_step kept) (record { reads = first; image = first; bits = kept }) steps).image ≡ crashed kept first steps
-replay_all kept first steps = (λ i. (fold (after_crash_step kept) (record { reads = first; image = first; bits = whole kept i }) steps).image) ∙ replay_from kept (fresh first) [] steps
+pub replay_all : (kept : ℕ) (first : List ℕ) (steps : List DiskStep)
+    → (fold (after_crash_step kept) (record { reads = first; image = first; bits = kept }) steps).image
+    ≡ crashed kept first steps
+replay_all kept first steps =
+    (λ i. (fold (after_crash_step kept) (record { reads = first; image = first; bits = whole kept i }) steps).image)
+    ∙ replay_from kept (fresh first) [] steps
   where
     whole : (kept : ℕ) → kept ≡ kept / 2 ^ 0
     whole kept = omega arith

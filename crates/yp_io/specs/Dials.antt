@@ -1,27 +1,36 @@
 -- What is told of the wires and the letters of a dial.
-use Rattle.std.specs.Prelude.{◌≡◌, ℕ, ◌≤◌, List, [], ◌∷◌, ◌++◌, length, Option, None, Some, IfSome, ⊤}
+use Rattle.std.specs.Prelude.{◌≡◌, ℕ, ◌≤◌, Bool, List, [], ◌∷◌, ◌++◌, length, Option, None, Some, IfSome, ⊤}
+use Rattle.yp_io.specs.declared.stream.Peer.{Peer}
 
--- what a wire tells when it is given back: what is left of its input, and what it has taken
-pub record Ended : Type 0 where
+-- what a wire tells: what is left of its input, what it has taken, and whether it was flushed since
+pub record WireState : Type 0 where
   pub input : Option (List ℕ)
   pub output : Option (List ℕ)
+  pub flushed : Bool
 
--- the wires of a dial: the whole input of each that came, and what each told that was given back, both in order
+abbrev pub wire_state : Option (List ℕ) → Option (List ℕ) → Bool → WireState
+wire_state input output flushed = record { input = input; output = output; flushed = flushed }
+
+-- a wire when it comes: the peer that was dialed, and its whole input, where it is told
+abbrev pub Dialed : Type 0
+Dialed = Peer × Option (List ℕ)
+
+-- the wires of a dial: each that came, and what each told that was given back, both in order
 pub record Wires : Type 0 where
-  pub came : List (Option (List ℕ))
-  pub back : List Ended
+  pub came : List Dialed
+  pub back : List WireState
 
--- A wire with this input came.
-abbrev pub Comes : Option (List ℕ) → Option Wires → Option Wires → Type 0
-Comes input None new = ⊤
-Comes input (Some wires) None = ⊥
-Comes input (Some wires) (Some others) = others ≡ record { came = wires.came ++ input ∷ []; back = wires.back }
+-- This wire came.
+abbrev pub Comes : Dialed → Option Wires → Option Wires → Type 0
+Comes dialed None new = ⊤
+Comes dialed (Some wires) None = ⊥
+Comes dialed (Some wires) (Some others) = others ≡ record { came = wires.came ++ dialed ∷ []; back = wires.back }
 
 -- A wire was given back that told this. Where more are given back than came, they aren't told from then on.
-abbrev pub GoesBack : Ended → Option Wires → Option Wires → Type 0
-GoesBack ended None new = ⊤
-GoesBack ended (Some wires) None = length wires.came ≤ length wires.back
-GoesBack ended (Some wires) (Some others) = others ≡ record { came = wires.came; back = wires.back ++ ended ∷ [] }
+abbrev pub GoesBack : WireState → Option Wires → Option Wires → Type 0
+GoesBack last None new = ⊤
+GoesBack last (Some wires) None = length wires.came ≤ length wires.back
+GoesBack last (Some wires) (Some others) = others ≡ record { came = wires.came; back = wires.back ++ last ∷ [] }
 
 -- What is told grew by one item.
 abbrev pub Gains : {A : Type 0} → A → Option (List A) → Option (List A) → Type 0

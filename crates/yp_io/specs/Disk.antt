@@ -1,5 +1,7 @@
 -- What a disk tells: what a read gives, what a crash may leave, and what one might have left since an earlier moment.
-use Rattle.std.specs.Prelude.{◌≡◌, ◌⊎◌, ℕ, suc, ◌+◌, ◌-◌, ◌<◌, ◌≤◌, max, Bool, false, ◌&&◌, ◌||◌, nat_le, nat_lt, List, [], ◌∷◌, ◌++◌, length, take, drop, slice_index, slice_range, Option, None, Some, IfSome, ⊤}
+use Rattle.std.specs.Prelude.{◌≡◌, ◌⊎◌, ℕ, suc, ◌+◌, ◌-◌, ◌<◌, ◌≤◌, max, Bool, false, ◌&&◌, ◌||◌, nat_le, nat_lt}
+use Rattle.std.specs.Prelude.{List, [], ◌∷◌, ◌++◌, length, take, drop, slice_index, slice_range, Option, None, Some}
+use Rattle.std.specs.Prelude.{IfSome, ⊤}
 use Rattle.std.specs.Option.{option_map}
 
 -- a disk at a moment: what its last sync left, each range that was written since then, from its start up to its end,
@@ -24,7 +26,8 @@ longest (range ∷ ranges) least = max range.1 (longest ranges least)
 pub record IsImage (disk : DiskState) (image : List ℕ) : Type 0 where
   pub no_shorter : length disk.synced ≤ length image
   pub no_longer : length image ≤ longest disk.written (length disk.synced)
-  pub others_stay : (place : ℕ) → place < length disk.synced → is_written disk.written place ≡ false → slice_index image place ≡ slice_index disk.synced place
+  pub others_stay : (place : ℕ) → place < length disk.synced → is_written disk.written place ≡ false
+      → slice_index image place ≡ slice_index disk.synced place
 
 -- Any bytes stand in the range of n bytes, or in its front, where it goes past the old end; all others stay.
 pub record Torn (at n : ℕ) (old new : List ℕ) : Type 0 where
@@ -117,7 +120,8 @@ MayLeaveTorn at n (Some history) image = IsImage (touched at n history.state) im
 -- a write of n bytes that failed: nothing changed, or the range counts as written and reads as any bytes
 abbrev pub MayTear : ℕ → ℕ → Option History → Option History → Type 0
 MayTear at n old new =
-    (new ≡ old) ⊎ ((reads : List ℕ) × IfSome old (λ history. Torn at n history.state.reads reads) × (new ≡ option_map (after_write at n reads) old))
+    (new ≡ old) ⊎ ((reads : List ℕ) × IfSome old (λ history. Torn at n history.state.reads reads)
+    × (new ≡ option_map (after_write at n reads) old))
 
 -- a place is at most the length, where that is told
 abbrev pub IsWithin : ℕ → Option History → Type 0
@@ -133,7 +137,8 @@ IsReadAnImage history = IfSome history (λ history. IsImage history.state histor
 
 -- a crash now leaves what is read, and nothing else
 abbrev pub IsDurable : Option History → Type 0
-IsDurable history = IfSome history (λ history. (image : List ℕ) → IsImage history.state image → image ≡ history.state.reads)
+IsDurable history = IfSome history
+    (λ history. (image : List ℕ) → IsImage history.state image → image ≡ history.state.reads)
 
 -- the bytes that a read at a place gives, where they are told
 abbrev pub ReadsAt : ℕ → List ℕ → Option History → Type 0

@@ -7,4 +7,5 @@ pub mod MemDial
 pub mod MemDisk
 pub mod MemDiskLaws
 pub mod MemSteps
+pub mod Streams
 pub mod Texts

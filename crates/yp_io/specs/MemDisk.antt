@@ -1,5 +1,6 @@
 -- What a disk in memory keeps, and what a crash may leave of it.
-use Rattle.std.specs.Prelude.{◌⊎◌, ℕ, ◌+◌, ◌-◌, ◌/◌, ◌%◌, ◌^◌, ◌≤◌, List, [], ◌∷◌, ◌++◌, length, replicate, Option, ◌==◌, if◌then◌else◌, Contains, IsSomeAnd}
+use Rattle.std.specs.Prelude.{◌⊎◌, ℕ, ◌+◌, ◌-◌, ◌/◌, ◌%◌, ◌^◌, ◌≤◌, List, [], ◌∷◌, ◌++◌, length, replicate, Option}
+use Rattle.std.specs.Prelude.{◌==◌, if◌then◌else◌, Contains, IsSomeAnd}
 use Rattle.std.specs.List.{fold}
 use Rattle.yp_io.specs.Disk.{History, written_at, after_sync, overwritten}
 

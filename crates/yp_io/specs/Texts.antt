@@ -1,7 +1,8 @@
 -- The texts that maps are built of.
 use Rattle.std.specs.Prelude.{ℕ, Bool, true, false, List, [], ◌∷◌, Option, None, Some, if◌then◌else◌}
 use Rattle.yp_io.specs.declared.texts.TextFile.{TextFile}
-use Rattle.yp_io.specs.declared.texts.TextFile.TheVariants.{Passwd, Group, Hosts, Services, Protocols, Netgroup, Ypservers}
+use Rattle.yp_io.specs.declared.texts.TextFile.TheVariants.{Passwd, Group, Hosts, Services, Protocols, Netgroup}
+use Rattle.yp_io.specs.declared.texts.TextFile.TheVariants.{Ypservers}
 
 -- the most bytes of a text
 abbrev pub text_max : ℕ

@@ -2,7 +2,7 @@
 
 ghost use Rattle.std.specs.Prelude.{◌≡◌, ℕ, ◌+◌, ◌≤◌, List, Option, min, IfOk, OnOk, OnErr};
 ghost use Rattle.yp_io.specs.Counts.{CountsFaults, last_count};
-ghost use Rattle.yp_io.specs.Dials.{Wires, Ended, Comes, GoesBack, Gains, IsFresh};
+ghost use Rattle.yp_io.specs.Dials.{Wires, wire_state, Comes, GoesBack, Gains, IsFresh};
 
 use crate::stream::{Failed, Pair, Peer, Sink, Source};
 
@@ -33,8 +33,9 @@ pub trait Dial {
 
     /// Opens a connection.
     fn dial(&mut self, to: Peer) -> Result<Pair<Self::In, Self::Out>, Failed>
-        ensures fresh { IfOk result (λ wire. IsFresh (Self.In.faults wire.source) (Self.Out.faults wire.sink) (Self.Out.output wire.sink)) }
-        ensures came { IfOk result (λ wire. Comes (Self.In.input wire.source) (past self.old) (past self.new)) }
+        ensures fresh { IfOk result (λ wire.
+            IsFresh (Self.In.faults wire.source) (Self.Out.faults wire.sink) (Self.Out.output wire.sink)) }
+        ensures came { IfOk result (λ wire. Comes (to, Self.In.input wire.source) (past self.old) (past self.new)) }
         ensures none { OnErr result (past self.new ≡ past self.old) }
         ensures letters { letters self.new ≡ letters self.old }
         ensures cause { CountsFaults (faults self.old) (faults self.new) result };
@@ -48,7 +49,10 @@ pub trait Dial {
 
     /// Closes a wire, and counts its faults as its own.
     fn back(&mut self, wire: Pair<Self::In, Self::Out>)
-        ensures past { GoesBack (record { input = Self.In.input wire.source; output = Self.Out.output wire.sink }) (past self.old) (past self.new) }
+        ensures past { GoesBack
+            (wire_state (Self.In.input wire.source) (Self.Out.output wire.sink) (Self.Out.flushed wire.sink))
+            (past self.old) (past self.new) }
         ensures letters { letters self.new ≡ letters self.old }
-        ensures faults { min (faults self.old + Self.In.faults wire.source + Self.Out.faults wire.sink) last_count ≤ faults self.new };
+        ensures faults { min (faults self.old + Self.In.faults wire.source + Self.Out.faults wire.sink) last_count
+            ≤ faults self.new };
 }

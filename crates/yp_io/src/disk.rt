@@ -3,7 +3,8 @@
 ghost use Rattle.std.specs.Prelude.{◌≡◌, ℕ, ◌+◌, ◌≤◌, ◌^◌, ◌⊎◌, length, List, Option, IfOk, OnOk, OnErr};
 ghost use Rattle.std.specs.Option.{option_map};
 ghost use Rattle.yp_io.specs.Counts.{CountsFaults};
-ghost use Rattle.yp_io.specs.Disk.{History, GoesOn, LeftBetween, LeavesOnly, MayLeave, MayLeaveTorn, MayTear, IsReadAnImage, IsDurable, IsWithin, HasLength, ReadsAt, written_at, after_sync};
+ghost use Rattle.yp_io.specs.Disk.{History, GoesOn, LeftBetween, LeavesOnly, MayLeave, MayLeaveTorn, MayTear};
+ghost use Rattle.yp_io.specs.Disk.{IsReadAnImage, IsDurable, IsWithin, HasLength, ReadsAt, written_at, after_sync};
 
 use crate::stream::Failed;
 

@@ -1,4 +1,5 @@
-ghost use Rattle.std.specs.Prelude.{◌≡◌, ◌<◌, ◌≤◌, ◌↔◌, true, false, not, ◌&&◌, ◌||◌, is_ok, IsTrue, [], min, length, drop, Some, Contains, IsErr, IfOk, OnOk, MatchResult};
+ghost use Rattle.std.specs.Prelude.{◌≡◌, ◌<◌, ◌≤◌, ◌↔◌, true, false, not, ◌&&◌, ◌||◌, is_ok, IsTrue, [], min, length};
+ghost use Rattle.std.specs.Prelude.{drop, Some, Contains, IsErr, IfOk, OnOk, MatchResult};
 ghost use Rattle.std.specs.Io.KnownBytes.{Keeps, ReadConsumes, WriteAppends};
 ghost use Rattle.yp_io.specs.Counts.{CountsFaults, next_count, faults_after};
 
@@ -37,7 +38,8 @@ impl MemSource {
     /// Gives `bytes`, at most `piece` of them in a read. A call whose number, from 0, stands in `failing` fails.
     pub fn new(bytes: Vec<u8>, piece: usize, failing: Vec<u64>) -> MemSource
         requires { 0 < piece }
-        ensures { result ≡ record { input = bytes.items; piece = piece; failing = failing.items; calls = 0; faults = 0 } }
+        ensures { result ≡ record
+            { input = bytes.items; piece = piece; failing = failing.items; calls = 0; faults = 0 } }
     {
         MemSource {
             bytes,
@@ -124,7 +126,8 @@ impl MemSink {
     /// Takes at most `piece` bytes in a write. A call whose number, from 0, stands in `failing` fails.
     pub fn new(alloc: Global, piece: usize, failing: Vec<u64>) -> MemSink
         requires { 0 < piece }
-        ensures { result ≡ record { output = []; flushed = true; piece = piece; failing = failing.items; calls = 0; faults = 0 } }
+        ensures { result ≡ record
+            { output = []; flushed = true; piece = piece; failing = failing.items; calls = 0; faults = 0 } }
     {
         MemSink {
             bytes: Vec::new(alloc),

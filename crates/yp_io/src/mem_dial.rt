@@ -1,9 +1,10 @@
 //! A dial in memory.
 
-ghost use Rattle.std.specs.Prelude.{◌≡◌, ◌≢◌, ℕ, ◌+◌, ◌≤◌, ◌<◌, true, false, [], ◌∷◌, ◌++◌, length, map, min, Some, All, Contains, IsErr, IfOk, IfSome, IfNone, OnOk, OnErr};
+ghost use Rattle.std.specs.Prelude.{◌≡◌, ◌≢◌, ℕ, ◌+◌, ◌≤◌, ◌<◌, true, false, [], ◌∷◌, ◌++◌, length, map, min};
+ghost use Rattle.std.specs.Prelude.{Some, All, Contains, IsErr, IfOk, IfSome, IfNone, OnOk, OnErr};
 ghost use Rattle.yp_io.specs.Counts.{CountsFaults, next_count, faults_after, last_count};
 ghost use Rattle.yp_io.specs.Dials.{Comes, GoesBack, Gains, IsFresh};
-ghost use Rattle.yp_io.specs.MemDial.{IsNew, ended_of, wires_of, letter_of};
+ghost use Rattle.yp_io.specs.MemDial.{IsNew, came_of, ended_of, wires_of, letter_of};
 
 use crate::dial::{Dial, Letter};
 use crate::mem::{MemSink, MemSource, MemWire};
@@ -12,12 +13,21 @@ use crate::stream::{Failed, Pair, Peer, count_fault};
 use std::alloc::Global;
 use std::marker::Model;
 
+/// A wire that came.
+#[derive(Debug, Drop)]
+pub struct MemDialed {
+    /// The peer that was dialed.
+    pub peer: Peer,
+    /// Its whole input.
+    pub input: Vec<u8>,
+}
+
 /// A dial in memory, which tells its wires and letters.
 #[derive(Drop)]
 pub struct MemDial {
     alloc: Global,
     waiting: Vec<MemWire>,
-    came: Vec<Vec<u8>>,
+    came: Vec<MemDialed>,
     // has room for as many wires as came
     back: Vec<MemWire>,
     lost: bool,
@@ -31,11 +41,11 @@ impl Model for MemDial {
     ghost Value = { Exchange };
 
     ghost use Rattle.std.specs.Prelude.{◌≤◌, length, map, All, vec_capacity};
-    ghost use Rattle.yp_io.specs.MemDial.{IsNew, letter_of};
+    ghost use Rattle.yp_io.specs.MemDial.{IsNew, came_of, letter_of};
 
     ghost view = { λ d. record {
       waiting = d.waiting.items;
-      came = map (λ input. input.items) d.came.items;
+      came = map came_of d.came.items;
       back = d.back.items;
       lost = d.lost;
       letters = map letter_of d.letters.items;
@@ -52,7 +62,16 @@ impl MemDial {
     /// fails. The wires have met no fault and taken nothing.
     pub fn new(alloc: Global, wires: Vec<MemWire>, failing: Vec<u64>) -> MemDial
         requires { All IsNew wires.items }
-        ensures { result ≡ record { waiting = wires.items; came = []; back = []; lost = false; letters = []; failing = failing.items; calls = 0; faults = 0 } }
+        ensures { result ≡ record {
+          waiting = wires.items;
+          came = [];
+          back = [];
+          lost = false;
+          letters = [];
+          failing = failing.items;
+          calls = 0;
+          faults = 0;
+        } }
     {
         MemDial {
             alloc,
@@ -66,17 +85,27 @@ impl MemDial {
     }
 
     // The next wire, of whose input a copy is kept, unless none is left or memory has run out.
-    fn next_wire(&mut self) -> Option<MemWire>
+    fn next_wire(&mut self, peer: Peer) -> Option<MemWire>
         ensures fresh { IfSome result IsNew }
         ensures first { IfSome result (λ wire. self.old.waiting ≡ wire ∷ self.new.waiting) }
-        ensures came { IfSome result (λ wire. self.new ≡ record self.old { waiting = self.new.waiting; came = self.old.came ++ wire.source.input ∷ [] }) }
+        ensures came { IfSome result (λ wire. self.new ≡ record self.old {
+          waiting = self.new.waiting;
+          came = self.old.came ++ (peer, wire.source.input) ∷ [];
+        }) }
         ensures none { IfNone result (self.new ≡ self.old) }
     {
         let first = self.waiting.first()?;
         let input = Vec::from_slice(self.alloc, first.source.left()).ok()?;
         self.back.reserve(self.came.len() + 1).ok()?;
-        self.came.push(input).ok()?;
+        self.came.push(MemDialed { peer, input }).ok()?;
         Some(self.waiting.remove(0))
+    }
+
+    /// The wires that came.
+    pub fn came(&self) -> &[MemDialed]
+        ensures { map came_of result.now ≡ self.now.came }
+    {
+        &self.came
     }
 
     /// The wires that were given back.
@@ -108,7 +137,8 @@ impl Dial for MemDial {
     /// It also fails where memory has run out.
     fn dial(&mut self, to: Peer) -> Result<MemWire, Failed>
         ensures fresh { IfOk result IsNew }
-        ensures came { IfOk result (λ wire. Comes (Some wire.source.input) (wires_of self.old) (wires_of self.new)) }
+        ensures came { IfOk result
+            (λ wire. Comes (to, Some wire.source.input) (wires_of self.old) (wires_of self.new)) }
         ensures none { OnErr result (wires_of self.new ≡ wires_of self.old) }
         ensures letters { Some self.new.letters ≡ Some self.old.letters }
         ensures cause { CountsFaults self.old.faults self.new.faults result }
@@ -122,7 +152,7 @@ impl Dial for MemDial {
         } }
     {
         self.plan.start_call()?;
-        let Some(wire) = self.next_wire() else {
+        let Some(wire) = self.next_wire(to) else {
             return Err(count_fault(&mut self.plan.faults));
         };
         Ok(wire)
@@ -154,7 +184,8 @@ impl Dial for MemDial {
     fn back(&mut self, wire: MemWire)
         ensures past { GoesBack (ended_of wire) (wires_of self.old) (wires_of self.new) }
         ensures letters { Some self.new.letters ≡ Some self.old.letters }
-        ensures faults { min (self.old.faults + wire.source.faults + wire.sink.faults) last_count ≤ self.new.faults }
+        ensures faults { min (self.old.faults + wire.source.faults + wire.sink.faults) last_count
+            ≤ self.new.faults }
     {
         let faults = wire.source.faults().saturating_add(wire.sink.faults());
         self.plan.faults = self.plan.faults.saturating_add(faults);

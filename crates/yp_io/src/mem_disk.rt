@@ -1,9 +1,11 @@
 //! A disk in memory.
 
-ghost use Rattle.std.specs.Prelude.{◌≡◌, ◌<◌, ◌≤◌, ◌+◌, ◌^◌, ◌⊎◌, ◌↔◌, ℕ, [], ◌∷◌, ◌++◌, length, List, Option, Some, IsErr, IfOk, OnOk, OnErr, slice_range, is_ok, if◌then◌else◌};
+ghost use Rattle.std.specs.Prelude.{◌≡◌, ◌<◌, ◌≤◌, ◌+◌, ◌^◌, ◌⊎◌, ◌↔◌, ℕ, [], ◌∷◌, ◌++◌, length, List, Option, Some};
+ghost use Rattle.std.specs.Prelude.{IsErr, IfOk, OnOk, OnErr, slice_range, is_ok, if◌then◌else◌};
 ghost use Rattle.std.specs.List.{fold};
 ghost use Rattle.yp_io.specs.Counts.{CountsFaults, next_count, faults_after};
-ghost use Rattle.yp_io.specs.Disk.{IsImage, LeavesOnly, MayLeave, MayLeaveTorn, MayTear, IsDurable, written_at, after_sync, overwritten};
+ghost use Rattle.yp_io.specs.Disk.{IsImage, LeavesOnly, MayLeave, MayLeaveTorn, MayTear, IsDurable, written_at};
+ghost use Rattle.yp_io.specs.Disk.{after_sync, overwritten};
 ghost use Rattle.yp_io.specs.MemDisk.{Wrote, Synced, FailsNow, FailsBy, history_of, placed, crashed};
 ghost use Rattle.yp_io.specs.MemSteps.{crash_of, after_crash_step, step_of, steps_of, current};
 

@@ -1,6 +1,7 @@
 //! Texts in memory.
 
-ghost use Rattle.std.specs.Prelude.{◌≡◌, ◌<◌, ◌≤◌, ◌⊎◌, ◌↔◌, ℕ, [], length, map, List, Option, Some, Contains, IfSome, IfOk, OnOk, OnErr, IsErrOf, MatchResult};
+ghost use Rattle.std.specs.Prelude.{◌≡◌, ◌<◌, ◌≤◌, ◌⊎◌, ◌↔◌, ℕ, [], length, map, List, Option, Some, Contains};
+ghost use Rattle.std.specs.Prelude.{IfSome, IfOk, OnOk, OnErr, IsErrOf, MatchResult};
 ghost use Rattle.std.specs.Option.{option_map};
 ghost use Rattle.yp_io.specs.Counts.{HasRisen, next_count};
 ghost use Rattle.yp_io.specs.declared.texts.TextFile.{TextFile};
@@ -34,7 +35,8 @@ impl Model for MemTexts {
 }
 
 impl MemTexts {
-    /// Has these texts. A text that isn't among them is a fault, and of two with one name the first counts. A call whose
+    /// Has these texts. A text that isn't among them is a fault, and of two with one name the first counts. A call
+    /// whose
     /// number, from 0, stands in `failing` fails.
     pub fn new(texts: Vec<(TextFile, Vec<u8>)>, failing: Vec<u64>) -> MemTexts
         ensures { result ≡ record {

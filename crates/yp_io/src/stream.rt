@@ -1,6 +1,7 @@
-ghost use Rattle.std.specs.Prelude.{◌≡◌, ℕ, ◌<◌, ◌≤◌, Bool, false, IsTrue, List, length, take, Option, IfOk, OnOk, OnErr};
+ghost use Rattle.std.specs.Prelude.{◌≡◌, ℕ, ◌<◌, ◌≤◌, Bool, false, IsTrue, List, length, Option, IfOk, OnOk, OnErr};
 ghost use Rattle.std.specs.Io.KnownBytes.{Keeps, Appends, ReadConsumes, WriteAppends};
 ghost use Rattle.yp_io.specs.Counts.{CountsFaults, next_count};
+ghost use Rattle.yp_io.specs.Streams.{AppendsFront};
 
 /// An object of the outside failed. Its count of faults rose in that call.
 #[derive(Clone, Copy, Debug, PartialEq, Eq)]
@@ -80,7 +81,7 @@ pub struct Pair<S, K> {
 /// Writes the whole piece. After `Failed` a prefix of it was taken.
 pub fn write_all<K: Sink>(sink: &mut K, piece: &[u8]) -> Result<(), Failed>
     ensures whole { OnOk result (Appends (K.output sink.old) (K.output sink.new) piece.now) }
-    ensures prefix { OnErr result ((n : ℕ) × (n ≤ length piece.now) × Appends (K.output sink.old) (K.output sink.new) (take n piece.now)) }
+    ensures prefix { OnErr result (AppendsFront piece.now (K.output sink.old) (K.output sink.new)) }
     ensures cause { CountsFaults (K.faults sink.old) (K.faults sink.new) result }
 {
     let mut rest = piece;
@@ -89,4 +90,15 @@ pub fn write_all<K: Sink>(sink: &mut K, piece: &[u8]) -> Result<(), Failed>
         rest = &rest[taken..];
     }
     Ok(())
+}
+
+/// Writes the whole piece, and passes it on. After `Failed` a prefix of it was taken.
+pub fn write_through<K: Sink>(sink: &mut K, piece: &[u8]) -> Result<(), Failed>
+    ensures whole { OnOk result (Appends (K.output sink.old) (K.output sink.new) piece.now) }
+    ensures flushed { OnOk result (IsTrue (K.flushed sink.new)) }
+    ensures prefix { OnErr result (AppendsFront piece.now (K.output sink.old) (K.output sink.new)) }
+    ensures cause { CountsFaults (K.faults sink.old) (K.faults sink.new) result }
+{
+    write_all(sink, piece)?;
+    sink.flush()
 }

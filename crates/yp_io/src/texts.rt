@@ -1,6 +1,7 @@
 //! The texts that maps are built of.
 
-ghost use Rattle.std.specs.Prelude.{◌≡◌, ℕ, ◌≤◌, ◌<◌, ◌⊎◌, ◌↔◌, [], length, List, Option, None, Some, Contains, IfSome, IfOk, OnOk, OnErr, IsErrOf};
+ghost use Rattle.std.specs.Prelude.{◌≡◌, ℕ, ◌≤◌, ◌<◌, ◌⊎◌, ◌↔◌, [], length, List, Option, None, Some, Contains};
+ghost use Rattle.std.specs.Prelude.{IfSome, IfOk, OnOk, OnErr, IsErrOf};
 ghost use Rattle.yp_io.specs.Counts.{HasRisen};
 
 use crate::stream::Failed;

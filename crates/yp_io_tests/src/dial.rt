@@ -13,6 +13,11 @@ const PEER: Peer = Peer {
     port: 834,
 };
 
+const OTHER: Peer = Peer {
+    addr: [10, 0, 0, 2],
+    port: 65_535,
+};
+
 // A wire in memory with this input, which has met no fault and taken nothing. Its second read fails.
 fn new_wire(rt: &impl Abort, alloc: Global, input: &[u8]) -> MemWire
     ensures { IsNew result }
@@ -31,13 +36,29 @@ fn two_wires(rt: &impl Abort, alloc: Global) -> Vec<MemWire>
 }
 
 // What comes of a wire of a dial: two bytes that it gives and takes. A further read fails before it is given back.
-fn call(dial: &mut MemDial) -> Result<[u8; 2], Failed> {
-    let mut wire = dial.dial(PEER)?;
+fn call(dial: &mut MemDial, to: Peer) -> Result<[u8; 2], Failed> {
+    let mut wire = dial.dial(to)?;
     let (_, buf) = read_two(&mut wire.source);
     let written = write_all(&mut wire.sink, &buf);
     let _ = read_two(&mut wire.source);
     dial.back(wire);
     written.map(|()| buf)
+}
+
+// The peers of two wires that came, and of no more.
+fn two_peers(wires: &[MemDialed]) -> Option<(Peer, Peer)> {
+    match wires {
+        [first, second] => Some((first.peer, second.peer)),
+        _ => None,
+    }
+}
+
+// Their inputs.
+fn two_inputs(wires: &[MemDialed]) -> Option<(&[u8], &[u8])> {
+    match wires {
+        [first, second] => Some((&first.input, &second.input)),
+        _ => None,
+    }
 }
 
 // What was taken by two wires that were given back, and by no more.
@@ -56,9 +77,15 @@ fn one_letter(letters: &[Letter]) -> Option<(Peer, &[u8])> {
     }
 }
 
-// Compares what four calls and two letters answer, what the wires have taken then, and the letter that was sent.
+// Compares what four calls and two letters answer, the wires that came and what they have taken, and the letter that
+// was sent.
 fn check_dial(rt: &impl Abort, dial: &mut MemDial) {
-    let calls = [call(dial), call(dial), call(dial), call(dial)];
+    let calls = [
+        call(dial, PEER),
+        call(dial, PEER),
+        call(dial, OTHER),
+        call(dial, PEER),
+    ];
     let posts = [dial.post(PEER, b"lost"), dial.post(PEER, b"kept")];
     // The second call is listed, and no wire is left for the fourth. The first letter is a call that is listed.
     let answers = (
@@ -66,6 +93,10 @@ fn check_dial(rt: &impl Abort, dial: &mut MemDial) {
         [Err(Failed), Ok(())],
     );
     assert_same(rt, &(calls, posts), &answers, "calls and letters");
+    let peers = Some((PEER, OTHER));
+    assert_same(rt, &two_peers(dial.came()), &peers, "the peers");
+    let inputs = Some((b"one".as_slice(), b"two".as_slice()));
+    assert_same(rt, &two_inputs(dial.came()), &inputs, "the inputs");
     let taken = Some((b"on".as_slice(), b"tw".as_slice()));
     assert_same(rt, &two_taken(dial.past()), &taken, "what was taken");
     let letter = Some((PEER, b"kept".as_slice()));

@@ -7,11 +7,6 @@ use std::alloc::Global;
 use std::process::Abort;
 use yp_io::*;
 
-fn write_and_flush<K: Sink>(sink: &mut K, piece: &[u8]) -> Result<(), Failed> {
-    write_all(sink, piece)?;
-    sink.flush()
-}
-
 fn seven_reads(source: &mut MemSource) -> [Read; 7] {
     let mut reads = [(Ok(0), [0; 2]); 7];
     for read in &mut reads {
@@ -89,7 +84,7 @@ fn check_piece(rt: &impl Abort, alloc: Global, row: &Piece) {
     let (piece, failing, answer, taken) = *row;
     assert_some(rt, piece);
     let mut sink = MemSink::new(alloc, piece, listed(rt, alloc, &[failing]));
-    let answered = write_and_flush(&mut sink, b"hello");
+    let answered = write_through(&mut sink, b"hello");
     assert_same(
         rt,
         &(piece, failing, answered, sink.taken()),
@@ -108,7 +103,7 @@ fn whole_pieces(rt: HostRuntime) {
 // Compares what a read answers, what a write of the bytes read does, and what was taken.
 fn check_echo(rt: &impl Abort, wire: &mut MemWire) {
     let read = read_two(&mut wire.source);
-    let answer = write_and_flush(&mut wire.sink, &read.1);
+    let answer = write_through(&mut wire.sink, &read.1);
     assert_same(
         rt,
         &(read, answer, wire.sink.taken()),
@@ -126,4 +121,50 @@ fn wire_in_memory(rt: HostRuntime) {
         sink: MemSink::new(alloc, 8, Vec::new(alloc)),
     });
     check_echo(&rt, &mut wire);
+}
+
+// The most bytes that are wanted, the number of the read that fails, the answer for an input of six bytes, of which
+// one read gives at most two, and what was read.
+type Whole = (usize, u64, Result<(), Unread>, &'static [u8]);
+
+const WHOLE: [Whole; 6] = [
+    (6, 9, Ok(()), b"abcdef"),
+    (7, 4, Ok(()), b"abcdef"),
+    (5, 9, Err(Unread::TooLong), b""),
+    (0, 9, Err(Unread::TooLong), b""),
+    (6, 0, Err(Unread::Failed), b""),
+    (6, 3, Err(Unread::Failed), b""),
+];
+
+fn read_whole(alloc: Global, source: &mut MemSource, most: usize) -> (Result<(), Unread>, Vec<u8>) {
+    match read_all(alloc, source, most) {
+        Ok(bytes) => (Ok(()), bytes),
+        Err(unread) => (Err(unread), Vec::new(alloc)),
+    }
+}
+
+fn check_whole(rt: &impl Abort, alloc: Global, row: &Whole) {
+    let (most, failing, answer, bytes) = *row;
+    let input = owned(rt, alloc, b"abcdef");
+    let mut source = MemSource::new(input, 2, listed(rt, alloc, &[failing]));
+    let (answered, came) = read_whole(alloc, &mut source, most);
+    assert_same(
+        rt,
+        &(answered, came.as_slice()),
+        &(answer, bytes),
+        "a whole source",
+    );
+}
+
+#[test]
+fn sources_read_whole(rt: HostRuntime) {
+    for row in &WHOLE {
+        check_whole(&rt, rt.alloc(), row);
+    }
+}
+
+#[test]
+fn three_zeros(rt: HostRuntime) {
+    let none = zeros(rt.alloc(), 3).expect(&rt, "memory for three bytes");
+    assert_same(&rt, &none.as_slice(), &[0; 3].as_slice(), "three zeros");
 }

@@ -1,5 +1,6 @@
 -- A list of names that is read item by item.
-use Rattle.std.proofs.Common.{◌≡◌, ℕ, ◌+◌, ◌<◌, Bool, true, false, cond, List, [], ◌∷◌, ◌++◌, length, Option, Some, None, Result, Ok, Err, refl, sym, ap, ◌∙◌, append_assoc, arith}
+use Rattle.std.proofs.Common.{◌≡◌, ℕ, ◌+◌, ◌<◌, Bool, true, false, cond, List, [], ◌∷◌, ◌++◌, length, Option, Some}
+use Rattle.std.proofs.Common.{None, Result, Ok, Err, refl, sym, ap, ◌∙◌, append_assoc, arith}
 use Rattle.std.proofs.lemmas.List.{append-nil, length-append}
 use Rattle.yp_xdr.specs.declared.fault.XdrFault.{XdrFault}
 use Rattle.yp_xdr.specs.Kind.{ListOf}
@@ -67,7 +68,8 @@ more_in : (v : List ℕ) (rest : Unread) (others : Unread → Answer) (r : Resul
     → list_by others r ≡ (others rest >>= cons v)
 more_in v rest others (Err fault) e = absurd cc
 more_in v rest others (Ok (false, left)) e =
-    let there : None ≡ Some v = ap (λ (y : Option (List ℕ) × Unread). y.0) (same_answer (None, left) (Some v, rest) (Ok (None, left)) refl e) in
+    let there : None ≡ Some v =
+    ap (λ (y : Option (List ℕ) × Unread). y.0) (same_answer (None, left) (Some v, rest) (Ok (None, left)) refl e) in
     absurd cc
 more_in v rest others (Ok (true, left)) e = some_in v rest others (reading name left) e
 
@@ -75,7 +77,9 @@ none_in : (rest : Unread) (others : Unread → Answer) (s : Result (List ℕ × 
     → (s >>= is_there) ≡ Ok (None, rest) → (s >>= and_others others) ≡ Ok ([], rest)
 none_in rest others (Err fault) e = absurd cc
 none_in rest others (Ok one) e =
-    let there : Some one.0 ≡ None = ap (λ (y : Option (List ℕ) × Unread). y.0) (same_answer (Some one.0, one.1) (None, rest) (is_there one) refl e) in
+    let there : Some one.0 ≡ None =
+    ap (λ (y : Option (List ℕ) × Unread). y.0)
+    (same_answer (Some one.0, one.1) (None, rest) (is_there one) refl e) in
     absurd cc
 
 end_in : (rest : Unread) (others : Unread → Answer) (r : Result (Bool × Unread) XdrFault)
@@ -83,7 +87,8 @@ end_in : (rest : Unread) (others : Unread → Answer) (r : Result (Bool × Unrea
     → list_by others r ≡ Ok ([], rest)
 end_in rest others (Err fault) e = absurd cc
 end_in rest others (Ok (false, left)) e =
-    let same : left ≡ rest = ap (λ (y : Option (List ℕ) × Unread). y.1) (same_answer (None, left) (None, rest) (Ok (None, left)) refl e) in
+    let same : left ≡ rest =
+    ap (λ (y : Option (List ℕ) × Unread). y.1) (same_answer (None, left) (None, rest) (Ok (None, left)) refl e) in
     rw same refl
 end_in rest others (Ok (true, left)) e = none_in rest others (reading name left) e
 
@@ -103,33 +108,43 @@ fault_in fault others (Ok (true, left)) e = err_in fault others (reading name le
 
 one_more : (names : List (List ℕ)) (v : List ℕ) (r : Answer)
     → ((r >>= cons v) >>= prepend names) ≡ (r >>= prepend (names ++ v ∷ []))
-one_more names v (Ok others) = ap (λ (xs : List (List ℕ)). Ok (xs, others.1)) (sym (append_assoc names (v ∷ []) others.0))
+one_more names v (Ok others) =
+    ap (λ (xs : List (List ℕ)). Ok (xs, others.1)) (sym (append_assoc names (v ∷ []) others.0))
 one_more names v (Err fault) = refl
 
 -- after one more name
-pub goes_on : (turn : ListIsReadInTurn) (first left rest : Unread) (names : List (List ℕ)) (v : List ℕ) → IsBytes left.bytes → SoFar first left names
+pub goes_on : (turn : ListIsReadInTurn) (first left rest : Unread) (names : List (List ℕ)) (v : List ℕ)
+    → IsBytes left.bytes → SoFar first left names
     → reading map_item left ≡ Ok (Some v, rest) → SoFar first rest (names ++ v ∷ [])
 goes_on turn first left rest names v are_bytes so_far e =
     let others = reading (ListOf name) in
-    let item : reading (ListOf name) left ≡ (others rest >>= cons v) = turn name left are_bytes ∙ more_in v rest others (bool_at left) e in
+    let item : reading (ListOf name) left ≡ (others rest >>= cons v) =
+    turn name left are_bytes ∙ more_in v rest others (bool_at left) e in
     so_far ∙ ap (λ (r : Answer). r >>= prepend names) item ∙ one_more names v (others rest)
 
 -- at the end of the list
-pub ends : (turn : ListIsReadInTurn) (first left rest : Unread) (names : List (List ℕ)) → IsBytes left.bytes → SoFar first left names
+pub ends : (turn : ListIsReadInTurn) (first left rest : Unread) (names : List (List ℕ)) → IsBytes left.bytes
+    → SoFar first left names
     → reading map_item left ≡ Ok (None, rest) → reading (ListOf name) first ≡ Ok (names, rest)
 ends turn first left rest names are_bytes so_far e =
-    let item : reading (ListOf name) left ≡ Ok ([], rest) = turn name left are_bytes ∙ end_in rest (reading (ListOf name)) (bool_at left) e in
-    so_far ∙ ap (λ (r : Answer). r >>= prepend names) item ∙ ap (λ (xs : List (List ℕ)). Ok (xs, rest)) (append-nil names)
+    let item : reading (ListOf name) left ≡ Ok ([], rest) =
+    turn name left are_bytes ∙ end_in rest (reading (ListOf name)) (bool_at left) e in
+    so_far ∙ ap (λ (r : Answer). r >>= prepend names) item
+    ∙ ap (λ (xs : List (List ℕ)). Ok (xs, rest)) (append-nil names)
 
 -- at an item that is refused
-pub fails : (turn : ListIsReadInTurn) (first left : Unread) (names : List (List ℕ)) (fault : XdrFault) → IsBytes left.bytes → SoFar first left names
+pub fails : (turn : ListIsReadInTurn) (first left : Unread) (names : List (List ℕ)) (fault : XdrFault)
+    → IsBytes left.bytes → SoFar first left names
     → reading map_item left ≡ Err fault → reading (ListOf name) first ≡ Err fault
 fails turn first left names fault are_bytes so_far e =
-    let item : reading (ListOf name) left ≡ Err fault = turn name left are_bytes ∙ fault_in fault (reading (ListOf name)) (bool_at left) e in
+    let item : reading (ListOf name) left ≡ Err fault =
+    turn name left are_bytes ∙ fault_in fault (reading (ListOf name)) (bool_at left) e in
     so_far ∙ ap (λ (r : Answer). r >>= prepend names) item
 
 -- an item takes some bytes
-pub shrinks : (v : List ℕ) (old new : Unread) → BeginsWith map_item (Some v) old new → length new.bytes < length old.bytes
+pub shrinks : (v : List ℕ) (old new : Unread) → BeginsWith map_item (Some v) old new
+    → length new.bytes < length old.bytes
 shrinks v old new b =
-    let front : length b.front ≡ 4 + length (spelling name v) = ap length b.spells.spelled ∙ length-append (word 1) (spelling name v) in
+    let front : length b.front ≡ 4 + length (spelling name v) =
+    ap length b.spells.spelled ∙ length-append (word 1) (spelling name v) in
     omega (arith, front, ap length b.parts, length-append b.front new.bytes)

@@ -31,7 +31,8 @@ abbrev pub map_list_view : MapList → Value map_list
 map_list_view answer = (stat_number answer.stat, answer.maps)
 
 -- A reader answers what reading the kind gives, unless memory runs out. After a refusal it hasn't moved.
-abbrev pub ReadsInMemory : {X : Type 0} (kind : Kind) → (X → Value kind) → Result X MapListFault → Unread → Unread → Type 0
+abbrev pub ReadsInMemory : {X : Type 0} (kind : Kind) → (X → Value kind) → Result X MapListFault → Unread → Unread
+    → Type 0
 ReadsInMemory kind view (Ok x) old new = reading kind old ≡ Ok (view x, new)
 ReadsInMemory kind view (Err (Xdr fault)) old new = (reading kind old ≡ Err fault) × (new ≡ old)
 ReadsInMemory kind view (Err NoMemory) old new = new ≡ old

@@ -1,4 +1,5 @@
--- The arguments and results of YP version 2 as kinds, as the protocol file yp.x has them, and each struct as a value of its kind.
+-- The arguments and results of YP version 2 as kinds, as the protocol file yp.x has them, and each struct as a value of
+-- its kind.
 use Rattle.std.specs.Prelude.{◌≤◌, length, Some, None}
 use Rattle.yp_xdr.specs.Kind.{Kind, U32, Opaque, Sequence, Optional, Value}
 use Rattle.yp_msgs.specs.declared.requests.ReqDomain.{ReqDomain}

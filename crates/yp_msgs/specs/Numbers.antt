@@ -1,5 +1,5 @@
--- The numbers of YP version 2, as the protocol file yp.x has them, those of the make program, which is this project's own, and the limits
--- of what their messages hold.
+-- The numbers of YP version 2, as the protocol file yp.x has them, those of the make program, which is this project's
+-- own, and the limits of what their messages hold.
 use Rattle.std.specs.Prelude.{ℕ}
 
 -- the program YPPROG, and its version

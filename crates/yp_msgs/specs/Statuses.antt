@@ -2,7 +2,8 @@
 use Rattle.std.specs.Prelude.{ℤ, pos, negsuc, List, [], ◌∷◌}
 use Rattle.yp_xdr.specs.Kind.{Kind, Enum}
 use Rattle.yp_msgs.specs.declared.stat.YpStat.{YpStat}
-use Rattle.yp_msgs.specs.declared.stat.YpStat.TheVariants.{True, Nomore, False, Nomap, Nodom, Nokey, Badop, Baddb, Yperr, Badargs, Vers}
+use Rattle.yp_msgs.specs.declared.stat.YpStat.TheVariants.{True, Nomore, False, Nomap, Nodom, Nokey, Badop, Baddb}
+use Rattle.yp_msgs.specs.declared.stat.YpStat.TheVariants.{Yperr, Badargs, Vers}
 
 -- the number of a status of type ypstat
 abbrev pub stat_number : YpStat → ℤ
@@ -20,7 +21,8 @@ stat_number Vers = negsuc 7
 
 -- the numbers that a status may have, from 2 down to -8
 abbrev pub stat_numbers : List ℤ
-stat_numbers = pos 2 ∷ pos 1 ∷ pos 0 ∷ negsuc 0 ∷ negsuc 1 ∷ negsuc 2 ∷ negsuc 3 ∷ negsuc 4 ∷ negsuc 5 ∷ negsuc 6 ∷ negsuc 7 ∷ []
+stat_numbers = pos 2 ∷ pos 1 ∷ pos 0 ∷ negsuc 0 ∷ negsuc 1 ∷ negsuc 2 ∷ negsuc 3 ∷ negsuc 4 ∷ negsuc 5 ∷ negsuc 6
+    ∷ negsuc 7 ∷ []
 
 -- the status as one of these numbers
 abbrev pub stat : Kind

@@ -1,9 +1,11 @@
--- The messages that have a map fetched or made anew. XFR and its answers are those of the protocol file yp.x, with this project's numbers
--- for the status. The messages of the make program are this project's own.
+-- The messages that have a map fetched or made anew. XFR and its answers are those of the protocol file yp.x, with this
+-- project's numbers for the status. The messages of the make program are this project's own.
 use Rattle.std.specs.Prelude.{ℤ, pos, negsuc, ◌≤◌, List, [], ◌∷◌, length}
 use Rattle.yp_xdr.specs.Kind.{Kind, U32, Enum, Sequence, Value}
 use Rattle.yp_msgs.specs.declared.transfer.XfrStat.{XfrStat}
-use Rattle.yp_msgs.specs.declared.transfer.XfrStat.TheVariants.{Succ, Age, Nomap, Nodom, Rsrc, Rpc, Maddr, Yperr, Badargs, Dbm, File, Skew, Clear, Force, Xfrerr, Refused}
+use Rattle.yp_msgs.specs.declared.transfer.XfrStat.TheVariants.{Succ, Age, Nomap, Nodom, Rsrc, Rpc, Maddr, Yperr}
+use Rattle.yp_msgs.specs.declared.transfer.XfrStat.TheVariants.{Badargs, Dbm, File, Skew, Clear, Force, Xfrerr}
+use Rattle.yp_msgs.specs.declared.transfer.XfrStat.TheVariants.{Refused}
 use Rattle.yp_msgs.specs.declared.transfer.ReqXfr.{ReqXfr}
 use Rattle.yp_msgs.specs.declared.transfer.RespXfr.{RespXfr}
 use Rattle.yp_msgs.specs.declared.transfer.ReqMake.{ReqMake}
@@ -32,7 +34,8 @@ xfr_number Refused = negsuc 13
 
 -- the numbers that it may have: 2, 1, and -1 down to -14
 abbrev pub xfr_numbers : List ℤ
-xfr_numbers = pos 2 ∷ pos 1 ∷ negsuc 0 ∷ negsuc 1 ∷ negsuc 2 ∷ negsuc 3 ∷ negsuc 4 ∷ negsuc 5 ∷ negsuc 6 ∷ negsuc 7 ∷ negsuc 8 ∷ negsuc 9 ∷ negsuc 10 ∷ negsuc 11 ∷ negsuc 12 ∷ negsuc 13 ∷ []
+xfr_numbers = pos 2 ∷ pos 1 ∷ negsuc 0 ∷ negsuc 1 ∷ negsuc 2 ∷ negsuc 3 ∷ negsuc 4 ∷ negsuc 5 ∷ negsuc 6 ∷ negsuc 7
+    ∷ negsuc 8 ∷ negsuc 9 ∷ negsuc 10 ∷ negsuc 11 ∷ negsuc 12 ∷ negsuc 13 ∷ []
 
 -- the status as one of these numbers
 abbrev pub xfr_stat : Kind
@@ -43,7 +46,10 @@ abbrev pub req_xfr : Kind
 req_xfr = Sequence name (Sequence name (Sequence U32 (Sequence name (Sequence U32 (Sequence U32 U32)))))
 
 abbrev pub req_xfr_view : ReqXfr → Value req_xfr
-req_xfr_view asked = (asked.domain.now, (asked.map.now, (asked.ordernum, (asked.peer.now, (asked.transid, (asked.prog, asked.port))))))
+req_xfr_view asked = (
+  asked.domain.now,
+  (asked.map.now, (asked.ordernum, (asked.peer.now, (asked.transid, (asked.prog, asked.port))))),
+)
 
 pub record ReqXfrIsWithin (asked : ReqXfr) : Type 0 where
   pub domain : length asked.domain.now ≤ name_max

@@ -125,7 +125,8 @@ impl MapList {
     /// Reads the message, and moves the cursor past exactly its bytes. After a refusal the cursor hasn't moved.
     pub fn read(alloc: Global, cursor: &mut Cursor<'_>) -> Result<MapList, MapListFault>
         ensures read { ReadsInMemory map_list map_list_view result (unread cursor.old) (unread cursor.new) }
-        ensures spelled { IfOk result (λ m. BeginsWith map_list (map_list_view m) (unread cursor.old) (unread cursor.new)) }
+        ensures spelled { IfOk result
+            (λ m. BeginsWith map_list (map_list_view m) (unread cursor.old) (unread cursor.new)) }
         ensures refused { RefusesInMemory map_list result (unread cursor.old) }
     {
         laws::read_is_spelled();

@@ -55,7 +55,8 @@ pub trait ReadMessage<'a>: Fields<'a> {
     /// Reads the message, and moves the cursor past exactly its bytes. After a refusal the cursor hasn't moved.
     fn read(cursor: &mut Cursor<'a>) -> Result<Self, XdrFault>
         ensures read { Reads Self.kind Self.view result (unread cursor.old) (unread cursor.new) }
-        ensures spelled { IfOk result (λ m. BeginsWith Self.kind (Self.view m) (unread cursor.old) (unread cursor.new)) }
+        ensures spelled { IfOk result
+            (λ m. BeginsWith Self.kind (Self.view m) (unread cursor.old) (unread cursor.new)) }
         ensures refused { OnErr result (BeginsWithNone Self.kind (unread cursor.old).bytes) };
 }
 

@@ -1,35 +1,52 @@
 -- Disks that are given back, the last one first.
-use Rattle.std.proofs.Common.{◌≡◌, ℕ, zero, suc, ◌+◌, ◌≤◌, List, [], ◌∷◌, ◌++◌, map, reverse, length, Option, append_assoc, arith, refl, sym, ◌∙◌, ap}
+use Rattle.std.proofs.Common.{◌≡◌, ℕ, zero, suc, ◌+◌, ◌≤◌, List, [], ◌∷◌, ◌++◌, map, reverse, length, Option}
+use Rattle.std.proofs.Common.{append_assoc, arith, refl, sym, ◌∙◌, ap}
 use Rattle.std.proofs.lemmas.List.{append-nil, reverse-append, map-append, length-append}
 use Rattle.yp_io.specs.Disk.{History}
 use Rattle.yp_publish.specs.Standing.{Kept, OfMap, IsStanding}
 
 -- what isn't given back yet, and the disks that are
-pub record IsGiving {D : Type 0} (H : D → Option History) (all : List (Kept D)) (first : List D) (maps : List (Kept D)) (disks : List D) (capacity : ℕ) : Type 0 where
+pub record IsGiving {D : Type 0} (H : D
+    → Option History) (all : List (Kept D)) (first : List D) (maps : List (Kept D)) (disks : List D)
+    (capacity : ℕ) : Type 0 where
   pub kept : map (λ (k : Kept D). k.disk) all ++ reverse first ≡ map (λ (k : Kept D). k.disk) maps ++ reverse disks
   pub room : length disks + length maps ≤ capacity
   pub given : List (Kept D)
   pub front : all ≡ maps ++ given
   pub stands : (k : ℕ) → OfMap k given (IsStanding H)
 
-pub giving_none : {D : Type 0} (H : D → Option History) (all : List (Kept D)) (first : List D) (capacity : ℕ) → length first + length all ≤ capacity → IsGiving H all first all first capacity
-giving_none H all first capacity room = record { kept = refl; room = room; given = []; front = sym (append-nil all); stands = λ k. tt }
+pub giving_none : {D : Type 0} (H : D → Option History) (all : List (Kept D)) (first : List D) (capacity : ℕ)
+    → length first + length all ≤ capacity → IsGiving H all first all first capacity
+giving_none H all first capacity room = record {
+  kept = refl;
+  room = room;
+  given = [];
+  front = sym (append-nil all);
+  stands = λ k. tt;
+}
 
-more_stand : {D : Type 0} (H : D → Option History) (kept : Kept D) (given : List (Kept D)) → IsStanding H kept → ((k : ℕ) → OfMap k given (IsStanding H)) → (k : ℕ) → OfMap k (kept ∷ given) (IsStanding H)
+more_stand : {D : Type 0} (H : D → Option History) (kept : Kept D) (given : List (Kept D)) → IsStanding H kept
+    → ((k : ℕ) → OfMap k given (IsStanding H)) → (k : ℕ) → OfMap k (kept ∷ given) (IsStanding H)
 more_stand H kept given stands all zero = stands
 more_stand H kept given stands all (suc k) = all k
 
-pub giving_more : {D : Type 0} (H : D → Option History) (all : List (Kept D)) (first : List D) (maps fewer : List (Kept D)) (kept : Kept D) (disks more : List D) (disk : D) (capacity after : ℕ)
-    → IsGiving H all first maps disks capacity → maps ≡ fewer ++ kept ∷ [] → disk ≡ kept.disk → more ≡ disks ++ disk ∷ [] → after ≡ capacity → IsStanding H kept → IsGiving H all first fewer more after
+pub giving_more : {D : Type 0} (H : D
+    → Option History) (all : List (Kept D)) (first : List D) (maps fewer : List (Kept D)) (kept : Kept D)
+    (disks more : List D) (disk : D) (capacity after : ℕ)
+    → IsGiving H all first maps disks capacity → maps ≡ fewer ++ kept ∷ [] → disk ≡ kept.disk
+    → more ≡ disks ++ disk ∷ [] → after ≡ capacity → IsStanding H kept → IsGiving H all first fewer more after
 giving_more {D} H all first maps fewer kept disks more disk capacity after is popped own pushed same stands =
     let f : Kept D → D = λ k. k.disk in
     let here : map f maps ≡ map f fewer ++ f kept ∷ [] = ap (map f) popped ∙ map-append f fewer (kept ∷ []) in
-    let there : reverse more ≡ f kept ∷ reverse disks = ap reverse pushed ∙ reverse-append disks (disk ∷ []) ∙ ap (λ (d : D). d ∷ reverse disks) own in
+    let there : reverse more ≡ f kept ∷ reverse disks = ap reverse pushed ∙ reverse-append disks (disk ∷ [])
+    ∙ ap (λ (d : D). d ∷ reverse disks) own in
     let len : length maps ≡ length fewer + 1 = ap length popped ∙ length-append fewer (kept ∷ []) in
     let size : length more ≡ length disks + 1 = ap length pushed ∙ length-append disks (disk ∷ []) in
     let room = is.room in
     record {
-      kept = is.kept ∙ ap (λ (l : List D). l ++ reverse disks) here ∙ append_assoc (map f fewer) (f kept ∷ []) (reverse disks) ∙ ap (λ (l : List D). map f fewer ++ l) (sym there);
+      kept = is.kept ∙ ap (λ (l : List D). l ++ reverse disks) here
+          ∙ append_assoc (map f fewer) (f kept ∷ []) (reverse disks)
+          ∙ ap (λ (l : List D). map f fewer ++ l) (sym there);
       room = omega arith;
       given = kept ∷ is.given;
       front = is.front ∙ ap (λ (l : List (Kept D)). l ++ is.given) popped ∙ append_assoc fewer (kept ∷ []) is.given;

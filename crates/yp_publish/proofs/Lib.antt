@@ -6,3 +6,5 @@ pub mod Rises
 pub mod Giving
 pub mod Loading
 pub mod Refusals
+pub mod Changing
+pub mod Opening

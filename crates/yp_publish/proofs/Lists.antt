@@ -1,10 +1,12 @@
 -- Lists, by their places.
-use Rattle.std.proofs.Common.{◌≡◌, ◌≢◌, ℕ, zero, suc, ◌<◌, List, [], ◌∷◌, length, slice_get, get_or, set, Some, arith, refl, sym, ◌∙◌, ap}
+use Rattle.std.proofs.Common.{◌≡◌, ◌≢◌, ℕ, zero, suc, ◌<◌, List, [], ◌∷◌, length, slice_get, get_or, set, Some, arith}
+use Rattle.std.proofs.Common.{refl, sym, ◌∙◌, ap}
 use Rattle.std.proofs.lemmas.List.{same_lists}
 use Rattle.std.proofs.lemmas.Option.{get_or_from_slice_get, slice_get-get_or}
 
 -- lists with the same at each place are the same
-pub same_by_get : {X : Type 0} (xs ys : List X) → length xs ≡ length ys → ((k : ℕ) → k < length xs → slice_get xs k ≡ slice_get ys k) → xs ≡ ys
+pub same_by_get : {X : Type 0} (xs ys : List X) → length xs ≡ length ys
+    → ((k : ℕ) → k < length xs → slice_get xs k ≡ slice_get ys k) → xs ≡ ys
 same_by_get xs ys len each = same_lists xs ys len (λ k d lt.
     let there : slice_get ys k ≡ Some (get_or xs k d) = sym (each k lt) ∙ slice_get-get_or xs k d lt in
     sym (get_or_from_slice_get ys k (get_or xs k d) d there))

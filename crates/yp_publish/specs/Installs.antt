@@ -1,9 +1,15 @@
 -- The installing of a version: why it is refused, and what it makes of its map.
-use Rattle.std.specs.Prelude.{◌≡◌, ◌⊎◌, ℕ, ◌+◌, ◌≤◌, Bool, true, false, not, ◌&&◌, ◌==◌, List, length, bytes_eq, nat_le, Option, None, Some, if◌then◌else◌}
+use Rattle.std.specs.Prelude.{◌≡◌, ◌⊎◌, ℕ, ◌+◌, Bool, true, false, not, ◌&&◌, ◌==◌, List, bytes_eq, nat_le, Option}
+use Rattle.std.specs.Prelude.{None, Some, if◌then◌else◌}
+use Rattle.std.specs.Option.{option_or}
+use Rattle.yp_io.specs.Counts.{HasRisen}
 use Rattle.yp_io.specs.Disk.{History, LeavesOnly}
 use Rattle.yp_version.specs.Versions.{MapVersion}
-use Rattle.yp_slot.specs.Stands.{file_max}
-use Rattle.yp_publish.specs.Standing.{MapStanding, Level, Behind, Kept, StandsAs}
+use Rattle.yp_slot.specs.Commits.{generation_max}
+use Rattle.yp_slot.specs.Stands.{Stored, stands}
+use Rattle.yp_publish.specs.Standing.{MapStanding, Level, Behind, Kept, Published, StandsAs, OfMap, At}
+use Rattle.yp_publish.specs.Keeping.{Keeping, Upholds, IsNotShown}
+use Rattle.yp_publish.specs.Rising.{with_shown, moment_of, InstallsNewer}
 use Rattle.yp_publish.specs.declared.install.Origin.{Origin}
 use Rattle.yp_publish.specs.declared.install.Origin.TheVariants.{Built, Fetched}
 use Rattle.yp_publish.specs.declared.install.InstallFault.{InstallFault}
@@ -25,10 +31,6 @@ pub data Refusal : Type 0 where
   HasMaster : List ℕ → Refusal
   IsNotNewer : (shown offered : ℕ) → Refusal
   IsSpent : Refusal
-
--- the last generation of a file
-abbrev pub generation_max : ℕ
-generation_max = 18446744073709551615
 
 abbrev pub is_behind : MapStanding → Bool
 is_behind Level = false
@@ -55,16 +57,11 @@ not_following own offered (Some shown) =
 abbrev pub no_further : ℕ → Option Refusal
 no_further generation = if generation == generation_max then Some IsSpent else None
 
--- the first of two reasons
-abbrev pub first_of : Option Refusal → Option Refusal → Option Refusal
-first_of None other = other
-first_of (Some refusal) other = Some refusal
-
 -- why a version isn't installed, the first reason that applies
 abbrev pub refusal : {D : Type 0} → List ℕ → Offer → Kept D → Option Refusal
 refusal own offered kept =
     if is_behind kept.standing then Some IsBehind
-    else first_of (not_following own offered kept.version) (no_further kept.generation)
+    else option_or (not_following own offered kept.version) (no_further kept.generation)
 
 -- A fault has its cause in why the version isn't installed, or comes where nothing stands against it. Memory may also
 -- run out while the name of a master is copied.
@@ -75,15 +72,6 @@ IsCause (fault.Age shown offered) cause = cause ≡ Some (IsNotNewer shown offer
 IsCause fault.GenerationsSpent cause = cause ≡ Some IsSpent
 IsCause fault.DiskFault cause = cause ≡ None
 IsCause fault.NoMemory cause = (cause ≡ None) ⊎ ((master : List ℕ) × (cause ≡ Some (HasMaster master)))
-
--- whether a fault comes before the disk is called
-abbrev pub is_refusal : InstallFault → Bool
-is_refusal fault.Behind = true
-is_refusal (fault.Refused master) = true
-is_refusal (fault.Age shown offered) = true
-is_refusal fault.GenerationsSpent = true
-is_refusal fault.DiskFault = false
-is_refusal fault.NoMemory = false
 
 -- the version is stored and shown
 abbrev pub IsInstalled : {D : Type 0} → MapVersion → Kept D → Kept D → Type 0
@@ -99,11 +87,60 @@ abbrev pub IsUnshown : {D : Type 0} → MapVersion → Kept D → Kept D → Typ
 IsUnshown version before after =
     after ≡ record before { disk = after.disk; generation = before.generation + 1; standing = Behind version }
 
--- At each moment a crash leaves a file that stands for what is shown or for the version.
+-- At each moment a crash leaves a file that stands as the map stood, or for the version.
 abbrev pub LeavesEither : {D : Type 0} → (D → Option History) → MapVersion → Kept D → Kept D → Type 0
 LeavesEither history version before after =
-    LeavesOnly (history before.disk) (history after.disk) (StandsAs (Behind version) before.version)
+    LeavesOnly (history before.disk) (history after.disk)
+    (λ image. StandsAs before.standing before.version image ⊎ (stands image ≡ Stored version))
 
--- At each moment a crash leaves no more than the most bytes of a file.
-abbrev pub LeavesFew : {D : Type 0} → (D → Option History) → Kept D → Kept D → Type 0
-LeavesFew history before after = LeavesOnly (history before.disk) (history after.disk) (λ image. length image ≤ file_max)
+-- nothing stands against an offered version
+abbrev pub IsUnopposed : {D B : Type 0} → ℕ → Offer → Published D B → Type 0
+IsUnopposed number offered published =
+    OfMap number published.maps (λ kept. refusal published.catalogue.own offered kept ≡ None)
+
+-- The disk failed, and the version may be stored or not.
+pub record FailsOnDisk {D B : Type 0} (keeping : Keeping D B) (number : ℕ) (offered : Offer)
+    (old new : Published D B) : Type 0 where
+  pub cause : At number old.maps new.maps
+      (λ before after. HasRisen (keeping.faults before.disk) (keeping.faults after.disk))
+  pub behind : At number old.maps new.maps (IsUnsure offered.version)
+  pub not_shown : IsNotShown old new
+
+-- Memory ran out once the version was stored, of one that nothing stands against.
+pub record FailsToShow {D B : Type 0} (number : ℕ) (offered : Offer) (old new : Published D B) : Type 0 where
+  pub unopposed : IsUnopposed number offered old
+  pub behind : At number old.maps new.maps (IsUnshown offered.version)
+  pub not_shown : IsNotShown old new
+
+-- What a fault leaves: after one that comes before the disk is called, nothing has changed.
+abbrev pub Leaves : {D B : Type 0} → Keeping D B → ℕ → Offer → InstallFault → Published D B → Published D B → Type 0
+Leaves keeping number offered fault.Behind old new = new ≡ old
+Leaves keeping number offered (fault.Refused master) old new = new ≡ old
+Leaves keeping number offered (fault.Age shown order) old new = new ≡ old
+Leaves keeping number offered fault.GenerationsSpent old new = new ≡ old
+Leaves keeping number offered fault.DiskFault old new = FailsOnDisk keeping number offered old new
+Leaves keeping number offered fault.NoMemory old new = (new ≡ old) ⊎ FailsToShow number offered old new
+
+-- where it isn't forced, the log goes on rising
+abbrev pub GoesOnRising : {D B : Type 0} → Keeping D B → ℕ → Offer → Published D B → Published D B → Type 0
+GoesOnRising keeping number offered old new =
+    offered.force ≡ false → InstallsNewer number offered.version (moment_of keeping.log old) (moment_of keeping.log new)
+
+-- An offered version was installed: nothing stood against it, it is stored, and then it was shown.
+pub record Installs {D B : Type 0} (keeping : Keeping D B) (number : ℕ) (offered : Offer)
+    (old new : Published D B) : Type 0 where
+  pub upheld : Upholds keeping number old new
+  pub unopposed : IsUnopposed number offered old
+  pub installed : At number old.maps new.maps (IsInstalled offered.version)
+  pub log : keeping.log new.board ≡ with_shown number offered.version (keeping.log old.board)
+  pub meanwhile : At number old.maps new.maps (LeavesEither keeping.history offered.version)
+  pub rising : GoesOnRising keeping number offered old new
+
+-- An offered version wasn't installed, for this fault.
+pub record Refuses {D B : Type 0} (keeping : Keeping D B) (number : ℕ) (offered : Offer) (fault : InstallFault)
+    (old new : Published D B) : Type 0 where
+  pub upheld : Upholds keeping number old new
+  pub cause : OfMap number old.maps (λ kept. IsCause fault (refusal old.catalogue.own offered kept))
+  pub left : Leaves keeping number offered fault old new
+  pub meanwhile : At number old.maps new.maps (LeavesEither keeping.history offered.version)
+  pub rising : GoesOnRising keeping number offered old new

@@ -1,7 +1,9 @@
 pub mod Standing
 pub mod Shared
+pub mod Keeping
 pub mod Installs
 pub mod Opens
 pub mod Starts
 pub mod Rising
+pub mod Begins
 pub mod Laws

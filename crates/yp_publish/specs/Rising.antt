@@ -1,5 +1,6 @@
 -- Logs in which the orders of each map rise, and what installs and reopens add to a log.
-use Rattle.std.specs.Prelude.{◌≡◌, ◌⊎◌, ◌≤◌, ◌<◌, ℕ, ◌==◌, List, [], ◌∷◌, ◌++◌, map, filter, length, slice_set, slice_get, Some, IfSome, ⊤}
+use Rattle.std.specs.Prelude.{◌≡◌, ◌⊎◌, ◌≤◌, ◌<◌, ℕ, ◌==◌, List, [], ◌∷◌, ◌++◌, map, filter, length, slice_set}
+use Rattle.std.specs.Prelude.{slice_get, Some, IfSome, ⊤}
 use Rattle.std.specs.List.{All}
 use Rattle.std.specs.List.Sorted.{IsStrictlyIncreasing}
 use Rattle.yp_version.specs.Versions.{MapVersion}
@@ -38,7 +39,8 @@ with_standing number standing moment = record moment { standings = slice_set mom
 abbrev pub Stores : ℕ → MapVersion → Moment → Moment → Type 0
 Stores number version old new =
     (slice_get old.standings number ≡ Some Level)
-    × ((new ≡ record old { log = with_shown number version old.log }) ⊎ (new ≡ with_standing number (Behind version) old))
+    × ((new ≡ record old { log = with_shown number version old.log })
+    ⊎ (new ≡ with_standing number (Behind version) old))
 
 -- An install that isn't forced: nothing changed; or the version is newer, and is shown, or its map is behind it.
 abbrev pub InstallsNewer : ℕ → MapVersion → Moment → Moment → Type 0
@@ -56,7 +58,9 @@ Reopens number old new =
 
 -- an install that isn't forced, or a reopen, of some map
 abbrev pub Steps : Moment → Moment → Type 0
-Steps old new = ((number : ℕ) × (version : MapVersion) × InstallsNewer number version old new) ⊎ ((number : ℕ) × Reopens number old new)
+Steps old new =
+    ((number : ℕ) × (version : MapVersion) × InstallsNewer number version old new)
+    ⊎ ((number : ℕ) × Reopens number old new)
 
 -- each moment follows from the one before it
 abbrev pub Follow : Moment → List Moment → Type 0

@@ -8,7 +8,7 @@ use Rattle.yp_version.specs.Versions.{MapVersion}
 use Rattle.yp_slot.specs.declared.known.Stage.{Stage}
 use Rattle.yp_slot.specs.declared.fault.SlotFault.{SlotFault}
 use Rattle.yp_slot.specs.Loads.{Loads}
-use Rattle.yp_slot.specs.Slots.{is_ready}
+use Rattle.yp_slot.specs.Slots.{is_ready, HasGeneration}
 use Rattle.yp_slot.specs.Stands.{Stands}
 use Rattle.yp_publish.specs.Standing.{MapStanding, Level, Behind, StandsAs, stands_for}
 
@@ -17,9 +17,11 @@ abbrev pub standing_of : Option (Arc MapVersion Global) → MapStanding
 standing_of None = Level
 standing_of (Some failed) = Behind (arc_value failed)
 
--- the file of a level map is known, and whatever a crash may leave stands as it should
-pub record IsKept (history : Option History) (stage : Stage) (version : Option MapVersion) (standing : MapStanding) : Type 0 where
+-- The file of a level map is known, and its generation. Whatever a crash may leave stands as it should.
+pub record IsKept (history : Option History) (stage : Stage) (generation : ℕ) (version : Option MapVersion)
+    (standing : MapStanding) : Type 0 where
   pub ready : standing ≡ Level → is_ready stage ≡ true
+  pub numbered : standing ≡ Level → HasGeneration history generation
   pub images : (image : List ℕ) → MayLeave history image → StandsAs standing version image
 
 -- a file that stands for this was loaded, unless the disk failed or memory ran out

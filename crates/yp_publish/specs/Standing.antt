@@ -1,7 +1,9 @@
 -- How each map stands: the version that is shown of it, and what its file stands for after a crash.
-use Rattle.std.specs.Prelude.{◌≡◌, ◌≢◌, ◌⊎◌, ℕ, List, map, length, slice_get, slice_index_or, Option, None, Some, IfSome}
+use Rattle.std.specs.Prelude.{◌≡◌, ◌≢◌, ◌⊎◌, ℕ, List, map, length, slice_get, slice_index_or, Option, None, Some}
+use Rattle.std.specs.Prelude.{IfSome}
 use Rattle.yp_io.specs.Disk.{History, MayLeave}
 use Rattle.yp_version.specs.Versions.{MapVersion}
+use Rattle.yp_slot.specs.Slots.{HasGeneration}
 use Rattle.yp_slot.specs.Stands.{Stands, Nothing, Stored, stands}
 use Rattle.yp_board.specs.Catalogues.{Catalogue}
 use Rattle.yp_board.specs.Logs.{Log, shown}
@@ -33,7 +35,12 @@ StandsAs (Behind failed) version image = (stands image ≡ stands_for version) �
 
 -- Whatever a crash may leave of a map's file now stands so.
 abbrev pub IsStanding : {D : Type 0} → (D → Option History) → Kept D → Type 0
-IsStanding history kept = (image : List ℕ) → MayLeave (history kept.disk) image → StandsAs kept.standing kept.version image
+IsStanding history kept =
+    (image : List ℕ) → MayLeave (history kept.disk) image → StandsAs kept.standing kept.version image
+
+-- The generation of a level map is that of its file.
+abbrev pub IsNumbered : {D : Type 0} → (D → Option History) → Kept D → Type 0
+IsNumbered history kept = kept.standing ≡ Level → HasGeneration (history kept.disk) kept.generation
 
 -- the name of a standing
 abbrev pub standing_name : MapStanding → Standing

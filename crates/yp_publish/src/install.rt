@@ -6,9 +6,6 @@ ghost use Rattle.yp_slot.specs.Bodies.{IsBody};
 use std::alloc::AllocError;
 use yp_io::{Failed, NoMemory};
 
-/// The last generation of a file.
-pub(crate) const GENERATION_MAX: u64 = 18_446_744_073_709_551_615;
-
 /// Where an offered version comes from.
 #[derive(Clone, Copy, Debug, PartialEq, Eq)]
 pub enum Origin {

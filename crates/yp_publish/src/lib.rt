@@ -10,6 +10,7 @@
 mod install;
 pub mod laws;
 mod loaded;
+mod open;
 mod publisher;
 mod same;
 mod spelled;
@@ -17,4 +18,5 @@ mod stored;
 
 pub use install::{InstallFault, Installed, Origin};
 pub use loaded::{Loaded, StartRefused, load_all};
+pub use open::{OpenFault, OpenRefused, open_publisher};
 pub use publisher::{Publisher, Standing};

@@ -1,16 +1,19 @@
 //! Publishers: maps with their files, and the board on which their versions are shown.
 
-ghost use Rattle.std.specs.Prelude.{◌≡◌, ◌≢◌, ◌⊎◌, ◌+◌, ◌<◌, ◌≤◌, ◌++◌, ◌∷◌, [], ℕ, false, map, length, slice_get, OnOk, OnErr, IfOk, IfErr, IfSome, IsOk, IsSome, IsTrue, IsErrOf, Some, None, option_map};
+ghost use Rattle.std.specs.Prelude.{◌≡◌, ◌⊎◌, ◌+◌, ◌<◌, [], ℕ, map, length, OnOk, OnErr, IfOk, IfErr, IsErrOf};
+ghost use Rattle.std.specs.Prelude.{option_map};
 ghost use Rattle.std.specs.Arc.{arc_value};
 ghost use Rattle.yp_io.specs.Counts.{HasRisen};
-ghost use Rattle.yp_io.specs.Disk.{LeavesOnly};
 ghost use Rattle.yp_version.specs.Versions.{MapVersion};
 ghost use Rattle.yp_slot.specs.Bodies.{IsBody};
+ghost use Rattle.yp_slot.specs.Commits.{generation_max};
 ghost use Rattle.yp_board.specs.Logs.{shown};
-ghost use Rattle.yp_publish.specs.Standing.{Level, StandsAs, IsStanding, OfMap, At, IsSameElsewhere, versions, Shows, standing_name};
-ghost use Rattle.yp_publish.specs.Installs.{offer, refusal, IsCause, is_refusal, IsInstalled, IsUnsure, IsUnshown, LeavesEither, LeavesFew};
-ghost use Rattle.yp_publish.specs.Opens.{IsOutside, IsAnother, IsWhatStood, LeavesNoMore};
-ghost use Rattle.yp_publish.specs.Rising.{moment_of, with_shown, InstallsNewer, Stores, Reopens};
+ghost use Rattle.yp_publish.specs.Standing.{Level, IsStanding, IsNumbered, OfMap, At, versions, Shows, standing_name};
+ghost use Rattle.yp_publish.specs.Keeping.{keeping_of, Upholds};
+ghost use Rattle.yp_publish.specs.Installs.{offer, refusal, IsCause, IsUnopposed, IsInstalled, IsUnsure, IsUnshown};
+ghost use Rattle.yp_publish.specs.Installs.{LeavesEither, Installs, Refuses};
+ghost use Rattle.yp_publish.specs.Opens.{IsAnother, Opens, StaysBehind};
+ghost use Rattle.yp_publish.specs.Rising.{moment_of, with_shown, Stores};
 
 use crate::install::{InstallFault, Installed, Origin};
 use crate::loaded::{Loaded, give_back};
@@ -112,7 +115,8 @@ impl<D: Disk, B: Show> Publisher<D, B> {
     /// The generation of a map's file when it was known last, and 0 where nothing was stored then.
     pub fn generation(&self, map: u32) -> u64
         requires { map < length self.now.maps }
-        ensures { OfMap map self.now.maps (λ kept. result ≡ kept.generation) }
+        ensures generation { OfMap map self.now.maps (λ kept. result ≡ kept.generation) }
+        ensures numbered { OfMap map self.now.maps (IsNumbered D.history) }
     {
         let stored = &self.maps[map as usize];
         stored.generation()
@@ -145,44 +149,15 @@ impl<D: Disk, B: Show> Publisher<D, B> {
         force: bool,
     ) -> Result<Installed, InstallFault>
         requires { map < length self.old.maps }
-
-        // Why it isn't installed, the first reason that applies.
-        ensures accepted { OnOk result (OfMap map self.old.maps
-            (λ kept. refusal self.old.catalogue.own (offer version origin force) kept ≡ None)) }
-        ensures refused { IfErr result (λ fault. OfMap map self.old.maps
-            (λ kept. IsCause fault (refusal self.old.catalogue.own (offer version origin force) kept))) }
-        ensures cause { IsErrOf result InstallFault.DiskFault → At map self.old.maps self.new.maps
-            (λ before after. HasRisen (D.faults before.disk) (D.faults after.disk)) }
-        ensures never_falls { At map self.old.maps self.new.maps
-            (λ before after. D.faults before.disk ≤ D.faults after.disk) }
-
-        // After Ok the version is stored and shown.
-        ensures installed { OnOk result (At map self.old.maps self.new.maps (IsInstalled version)) }
+        ensures installed { OnOk result (Installs (keeping_of D.history D.faults B.log) map
+            (offer version origin force) self.old self.new) }
         ensures answer { IfOk result (λ installed. OfMap map self.old.maps
             (λ kept. installed ≡ record { order = version.order; generation = kept.generation + 1 })) }
-        ensures log { OnOk result (B.log self.new.board ≡ with_shown map version (B.log self.old.board)) }
         ensures showed { OnOk result (B.showed map version self.old.board self.new.board) }
 
-        // What a fault leaves.
-        ensures not_shown { OnErr result (self.new.board ≡ self.old.board) }
-        ensures unchanged { IfErr result (λ fault. IsTrue (is_refusal fault) → self.new ≡ self.old) }
-        ensures disk_fault { IsErrOf result InstallFault.DiskFault
-            → At map self.old.maps self.new.maps (IsUnsure version) }
-        ensures no_memory { IsErrOf result InstallFault.NoMemory
-            → (self.new ≡ self.old) ⊎ At map self.old.maps self.new.maps (IsUnshown version) }
-
-        // At each moment of the call, and after it.
-        ensures any_moment { At map self.old.maps self.new.maps
-            (λ before after. before.standing ≡ Level → LeavesEither D.history version before after) }
-        ensures bound { At map self.old.maps self.new.maps (LeavesFew D.history) }
-        ensures standing { OfMap map self.new.maps (IsStanding D.history) }
-        ensures shown { Shows (B.log self.new.board) (versions self.new.maps) }
-        ensures elsewhere { IsSameElsewhere map self.old.maps self.new.maps }
-        ensures catalogue { self.new.catalogue ≡ self.old.catalogue }
-
-        // Where it isn't forced, the log goes on rising.
-        ensures rising { force ≡ false
-            → InstallsNewer map version (moment_of B.log self.old) (moment_of B.log self.new) }
+        // Why it isn't installed, the first reason that applies, and what that leaves.
+        ensures refused { IfErr result (λ fault. Refuses (keeping_of D.history D.faults B.log) map
+            (offer version origin force) fault self.old self.new) }
     {
         self.check(alloc, map, &version, origin, force)?;
         let order = version.order();
@@ -201,22 +176,15 @@ impl<D: Disk, B: Show> Publisher<D, B> {
         force: bool,
     ) -> Result<(), InstallFault>
         requires { map < length self.now.maps }
-        ensures accepted { OnOk result (OfMap map self.now.maps
-            (λ kept. refusal self.now.catalogue.own (offer version.now origin force) kept ≡ None)) }
+        ensures unopposed { OnOk result (IsUnopposed map (offer version.now origin force) self.now) }
         ensures refused { IfErr result (λ fault. OfMap map self.now.maps
             (λ kept. IsCause fault (refusal self.now.catalogue.own (offer version.now origin force) kept))) }
         ensures no_disk { IsErrOf result InstallFault.DiskFault → ⊥ }
-        ensures generation { OnOk result (OfMap map self.now.maps
-            (λ kept. kept.generation < 18446744073709551615)) }
+        ensures generation { OnOk result (OfMap map self.now.maps (λ kept. kept.generation < generation_max)) }
 
         // While nothing is done, nothing changes.
-        ensures any_moment { At map self.now.maps self.now.maps
-            (λ before after. before.standing ≡ Level → LeavesEither D.history version.now before after) }
-        ensures bound { At map self.now.maps self.now.maps (LeavesFew D.history) }
-        ensures never_falls { At map self.now.maps self.now.maps
-            (λ before after. D.faults before.disk ≤ D.faults after.disk) }
-        ensures standing { OfMap map self.now.maps (IsStanding D.history) }
-        ensures shown { Shows (B.log self.now.board) (versions self.now.maps) }
+        ensures any_moment { At map self.now.maps self.now.maps (LeavesEither D.history version.now) }
+        ensures upheld { Upholds (keeping_of D.history D.faults B.log) map self.now self.now }
     {
         let stored = &self.maps[map as usize];
         stored.rest();
@@ -227,14 +195,12 @@ impl<D: Disk, B: Show> Publisher<D, B> {
     fn store(&mut self, map: u32, spelled: Spelled) -> Result<u64, InstallFault>
         requires map { map < length self.old.maps }
         requires level { OfMap map self.old.maps (λ kept. kept.standing ≡ Level) }
-        requires generation { OfMap map self.old.maps (λ kept. kept.generation < 18446744073709551615) }
+        requires generation { OfMap map self.old.maps (λ kept. kept.generation < generation_max) }
         requires body { IsBody spelled.body.items (arc_value spelled.stored) }
         requires shown { arc_value spelled.shown ≡ arc_value spelled.stored }
         ensures fault { IfErr result (λ fault. (fault ≡ InstallFault.DiskFault) ⊎ (fault ≡ InstallFault.NoMemory)) }
         ensures cause { IsErrOf result InstallFault.DiskFault → At map self.old.maps self.new.maps
             (λ before after. HasRisen (D.faults before.disk) (D.faults after.disk)) }
-        ensures never_falls { At map self.old.maps self.new.maps
-            (λ before after. D.faults before.disk ≤ D.faults after.disk) }
         ensures installed { OnOk result
             (At map self.old.maps self.new.maps (IsInstalled (arc_value spelled.stored))) }
         ensures answer { IfOk result (λ generation. OfMap map self.old.maps
@@ -250,11 +216,7 @@ impl<D: Disk, B: Show> Publisher<D, B> {
             → At map self.old.maps self.new.maps (IsUnshown (arc_value spelled.stored)) }
         ensures any_moment { At map self.old.maps self.new.maps
             (LeavesEither D.history (arc_value spelled.stored)) }
-        ensures bound { At map self.old.maps self.new.maps (LeavesFew D.history) }
-        ensures standing { OfMap map self.new.maps (IsStanding D.history) }
-        ensures shown { Shows (B.log self.new.board) (versions self.new.maps) }
-        ensures elsewhere { IsSameElsewhere map self.old.maps self.new.maps }
-        ensures catalogue { self.new.catalogue ≡ self.old.catalogue }
+        ensures upheld { Upholds (keeping_of D.history D.faults B.log) map self.old self.new }
         ensures stores { Stores map (arc_value spelled.stored) (moment_of B.log self.old) (moment_of B.log self.new) }
     {
         let stored = &mut self.maps[map as usize];
@@ -270,46 +232,12 @@ impl<D: Disk, B: Show> Publisher<D, B> {
         map: u32,
     ) -> Result<(), SlotFault>
         requires { map < length self.old.maps }
-
-        // A level map stays as it is.
-        ensures level { OfMap map self.old.maps (λ kept. kept.standing ≡ Level)
-            → IsOk result × (self.new ≡ self.old) }
-
-        // After Ok the map is level with what its file stood for, and that is shown.
-        ensures ok { OnOk result (OfMap map self.new.maps (λ kept. kept.standing ≡ Level)) }
-        ensures stood { OnOk result (At map self.old.maps self.new.maps
-            (λ before after. before.standing ≢ Level → IsWhatStood D.history before.disk after)) }
-        ensures log { OnOk result (At map self.old.maps self.new.maps (λ before after.
-            ((self.new.board ≡ self.old.board) × (after.version ≡ before.version))
-            ⊎ ((version : MapVersion) × IsAnother version before after
-            × (B.log self.new.board ≡ with_shown map version (B.log self.old.board))
+        ensures opened { OnOk result (Opens (keeping_of D.history D.faults B.log) map self.old self.new) }
+        ensures showed { OnOk result (At map self.old.maps self.new.maps (λ before after.
+            (self.new.board ≡ self.old.board) ⊎ ((version : MapVersion) × IsAnother version before after
             × B.showed map version self.old.board self.new.board))) }
-
-        // What a refusal leaves.
-        ensures still_behind { OnErr result (At map self.old.maps self.new.maps (λ before after.
-            after ≡ record before { disk = after.disk; generation = after.generation })) }
-        ensures not_shown { OnErr result (self.new.board ≡ self.old.board) }
-        ensures outside { IfErr result (λ fault. OfMap map self.old.maps
-            (λ kept. IsSome (D.history kept.disk) → IsOutside fault)) }
-        ensures cause { IsErrOf result SlotFault.DiskFault → At map self.old.maps self.new.maps
-            (λ before after. HasRisen (D.faults before.disk) (D.faults after.disk)) }
-        ensures never_falls { At map self.old.maps self.new.maps
-            (λ before after. D.faults before.disk ≤ D.faults after.disk) }
-
-        // At each moment of the call, and after it.
-        ensures any_moment { At map self.old.maps self.new.maps (λ before after.
-            LeavesOnly (D.history before.disk) (D.history after.disk) (StandsAs before.standing before.version)) }
-        ensures no_more { At map self.old.maps self.new.maps
-            (λ before after. LeavesNoMore D.history before.disk after.disk) }
-        ensures bound { At map self.old.maps self.new.maps (LeavesFew D.history) }
-        ensures standing { OfMap map self.new.maps (IsStanding D.history) }
-        ensures shown { Shows (B.log self.new.board) (versions self.new.maps) }
-        ensures elsewhere { IsSameElsewhere map self.old.maps self.new.maps }
-        ensures catalogue { self.new.catalogue ≡ self.old.catalogue }
-
-        // The log goes on rising, where the disk tells its history.
-        ensures rising { OfMap map self.old.maps (λ kept. IsSome (D.history kept.disk))
-            → Reopens map (moment_of B.log self.old) (moment_of B.log self.new) }
+        ensures refused { IfErr result (λ fault.
+            StaysBehind (keeping_of D.history D.faults B.log) map fault self.old self.new) }
     {
         yp_slot::laws::file_is_bounded();
         let stored = &mut self.maps[map as usize];

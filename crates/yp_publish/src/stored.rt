@@ -1,20 +1,24 @@
 //! A map with its file.
 
-ghost use Rattle.std.specs.Prelude.{◌≡◌, ◌≢◌, ◌⊎◌, ◌+◌, ◌<◌, ◌≤◌, ◌++◌, ◌∷◌, [], ℕ, Some, None, OnOk, OnErr, IfOk, IfErr, IfSome, IsOk, IsTrue, IsErrOf, IsSome, ◌↔◌, length, option_map};
+ghost use Rattle.std.specs.Prelude.{◌≡◌, ◌≢◌, ◌⊎◌, ◌+◌, ◌<◌, ◌≤◌, ◌++◌, ◌∷◌, ◌↔◌, [], ℕ, Some, None, length};
+ghost use Rattle.std.specs.Prelude.{OnOk, OnErr, IfOk, IfErr, IfSome, IsOk, IsTrue, IsErrOf, IsSome, option_map};
 ghost use Rattle.std.specs.Arc.{arc_value};
 ghost use Rattle.yp_io.specs.Counts.{HasRisen};
 ghost use Rattle.yp_io.specs.Disk.{LeavesOnly, MayLeave, IsDurable, after_sync};
 ghost use Rattle.yp_version.specs.Versions.{MapVersion};
 ghost use Rattle.yp_slot.specs.Bodies.{IsBody};
-ghost use Rattle.yp_slot.specs.Commits.{generation_of, winning};
-ghost use Rattle.yp_slot.specs.Slots.{is_ready};
-ghost use Rattle.yp_slot.specs.Stands.{stands, file_max};
-ghost use Rattle.yp_publish.specs.Standing.{Level, Behind, StandsAs, IsStanding, stands_for, standing_name};
+ghost use Rattle.yp_slot.specs.Commits.{generation_max};
+ghost use Rattle.yp_slot.specs.Slots.{HasGeneration, is_ready};
+ghost use Rattle.yp_slot.specs.Stands.{stands};
+ghost use Rattle.yp_publish.specs.Standing.{Level, Behind, IsStanding, IsNumbered, standing_name};
+ghost use Rattle.yp_publish.specs.Keeping.{keeping_of, LeavesFew};
 ghost use Rattle.yp_publish.specs.Shared.{LoadsShared};
-ghost use Rattle.yp_publish.specs.Installs.{offer, refusal, not_following, IsCause, is_refusal, generation_max, IsInstalled, IsUnsure, IsUnshown, LeavesEither, LeavesFew};
-ghost use Rattle.yp_publish.specs.Opens.{IsOpened, IsRefused, IsOutside, IsAnother, IsWhatStood, LeavesNoMore};
+ghost use Rattle.yp_publish.specs.Installs.{offer, refusal, not_following, IsCause};
+ghost use Rattle.yp_publish.specs.Installs.{IsInstalled, IsUnsure, IsUnshown, LeavesEither};
+ghost use Rattle.yp_publish.specs.Opens.{IsOpened, IsRefused, IsAnother, IsWhatStood, LeavesNoMore};
+ghost use Rattle.yp_publish.specs.Opens.{IsGenerationLeft, IsStillBehind, IsOpenCause};
 
-use crate::install::{GENERATION_MAX, InstallFault, Origin};
+use crate::install::{InstallFault, Origin};
 use crate::publisher::Standing;
 use crate::same::is_same;
 use crate::spelled::Spelled;
@@ -24,7 +28,7 @@ use std::random::RandomSource;
 use std::sync::Arc;
 use yp_board::Show;
 use yp_io::{Disk, Failed};
-use yp_slot::{Slot, SlotFault};
+use yp_slot::{GENERATION_MAX, Slot, SlotFault};
 use yp_version::Version;
 
 /// A map with its file, the version that is shown of it, and the one whose install failed, if one did and the file
@@ -52,7 +56,8 @@ impl<D: Disk> Model for StoredMap<D> {
     } };
 
     ghost invariant = { λ m.
-        IsKept (D.history m.slot.disk) m.slot.stage (option_map arc_value m.version) (standing_of m.failed) };
+        IsKept (D.history m.slot.disk) m.slot.stage m.slot.generation (option_map arc_value m.version)
+        (standing_of m.failed) };
 }
 
 impl<D: Disk> StoredMap<D> {
@@ -108,7 +113,8 @@ impl<D: Disk> StoredMap<D> {
 
     /// The generation of its file when it was known last.
     pub(crate) fn generation(&self) -> u64
-        ensures { result ≡ self.now.generation }
+        ensures generation { result ≡ self.now.generation }
+        ensures numbered { IsNumbered D.history self.now }
     {
         self.slot.generation()
     }
@@ -126,10 +132,10 @@ impl<D: Disk> StoredMap<D> {
 
     /// Does nothing. Its contract says what a crash leaves meanwhile.
     pub(crate) fn rest(&self)
-        ensures any_moment { (version : MapVersion) → self.now.standing ≡ Level
-            → LeavesEither D.history version self.now self.now }
+        ensures any_moment { (version : MapVersion) → LeavesEither D.history version self.now self.now }
         ensures bound { LeavesFew D.history self.now self.now }
         ensures standing { IsStanding D.history self.now }
+        ensures numbered { IsNumbered D.history self.now }
     {
         yp_slot::laws::file_is_bounded();
         let _slot = &self.slot;
@@ -147,7 +153,7 @@ impl<D: Disk> StoredMap<D> {
         ensures accepted { OnOk result (refusal own.now (offer version.now origin force) self.now ≡ None) }
         ensures refused { IfErr result (λ fault.
             IsCause fault (refusal own.now (offer version.now origin force) self.now)) }
-        ensures generation { OnOk result (self.now.generation < 18446744073709551615) }
+        ensures generation { OnOk result (self.now.generation < generation_max) }
         ensures no_disk { IsErrOf result InstallFault.DiskFault → ⊥ }
     {
         if self.failed.is_some() {
@@ -170,7 +176,7 @@ impl<D: Disk> StoredMap<D> {
         spelled: Spelled,
     ) -> Result<u64, InstallFault>
         requires level { self.old.standing ≡ Level }
-        requires generation { self.old.generation < 18446744073709551615 }
+        requires generation { self.old.generation < generation_max }
         requires map { map < B.maps board.old }
         requires body { IsBody spelled.body.items (arc_value spelled.stored) }
         requires shown { arc_value spelled.shown ≡ arc_value spelled.stored }
@@ -193,6 +199,7 @@ impl<D: Disk> StoredMap<D> {
         ensures any_moment { LeavesEither D.history (arc_value spelled.stored) self.old self.new }
         ensures bound { LeavesFew D.history self.old self.new }
         ensures standing { IsStanding D.history self.new }
+        ensures numbered { IsNumbered D.history self.new }
         ensures cause { IsErrOf result InstallFault.DiskFault
             → HasRisen (D.faults self.old.disk) (D.faults self.new.disk) }
         ensures never_falls { D.faults self.old.disk ≤ D.faults self.new.disk }
@@ -235,17 +242,16 @@ impl<D: Disk> StoredMap<D> {
         ensures shown { OnOk result (((board.new ≡ board.old) × (self.new.version ≡ self.old.version))
             ⊎ ((version : MapVersion) × IsAnother version self.old self.new
             × (B.log board.new ≡ B.log board.old ++ (map, version) ∷ []) × B.showed map version board.old board.new)) }
-        ensures still_behind { OnErr result
-            (self.new ≡ record self.old { disk = self.new.disk; generation = self.new.generation }) }
+        ensures still { IfErr result (λ fault. IsStillBehind D.history fault self.old self.new) }
         ensures not_shown { OnErr result (board.new ≡ board.old) }
         ensures maps { B.maps board.new ≡ B.maps board.old }
-        ensures outside { IfErr result (λ fault. IsSome (D.history self.old.disk) → IsOutside fault) }
-        ensures cause { IsErrOf result SlotFault.DiskFault
-            → HasRisen (D.faults self.old.disk) (D.faults self.new.disk) }
+        ensures cause { IfErr result (λ fault.
+            IsOpenCause (keeping_of D.history D.faults B.log) fault self.old self.new) }
         ensures never_falls { D.faults self.old.disk ≤ D.faults self.new.disk }
         ensures no_more { LeavesNoMore D.history self.old.disk self.new.disk }
         ensures before { IsStanding D.history self.old }
         ensures standing { IsStanding D.history self.new }
+        ensures numbered { IsNumbered D.history self.new }
     {
         if self.failed.is_none() {
             return Ok(());
@@ -268,8 +274,10 @@ fn load_shared<D: Disk>(
 ) -> Result<Option<Arc<Version>>, SlotFault>
     ensures ready { OnOk result (IsTrue (is_ready slot.new.stage)) }
     ensures loads { IfSome (D.history slot.old.disk) (λ h. LoadsShared (stands h.state.reads) result) }
-    ensures generation { OnOk result (IfSome (D.history slot.old.disk)
-        (λ h. slot.new.generation ≡ generation_of (winning h.state.reads))) }
+    ensures generation { OnOk result (HasGeneration (D.history slot.old.disk) slot.new.generation) }
+    ensures numbered { OnOk result (HasGeneration (D.history slot.new.disk) slot.new.generation) }
+    ensures left { IfErr result (λ fault.
+        IsGenerationLeft (D.history slot.old.disk) fault slot.old.generation slot.new.generation) }
     ensures synced { OnOk result (D.history slot.new.disk ≡ option_map after_sync (D.history slot.old.disk)) }
     ensures no_more { LeavesNoMore D.history slot.old.disk slot.new.disk }
     ensures durable { OnOk result (IsDurable (D.history slot.new.disk)) }

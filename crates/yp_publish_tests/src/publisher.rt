@@ -99,11 +99,24 @@ fn load(
     load_all(alloc, rt, disks)
 }
 
-// Ends the test where there aren't as many versions as maps.
-fn assert_equal(rt: &impl Abort, versions: usize, maps: usize)
-    ensures { versions ≡ maps }
+// Ends the test where there aren't as many disks as maps.
+fn assert_equal(rt: &impl Abort, disks: usize, maps: usize)
+    ensures { disks ≡ maps }
 {
-    assert!(rt; versions == maps, "{versions} versions of {maps} maps");
+    assert!(rt; disks == maps, "{disks} disks of {maps} maps");
+}
+
+// Opens a publisher over these disks on a host of this name.
+fn open<R: RandomSource + Abort>(
+    rt: &R,
+    alloc: Global,
+    own: &[u8],
+    disks: Vec<MemDisk>,
+) -> Result<Maps, OpenRefused<MemDisk>> {
+    assert_few(rt, disks.len());
+    let catalog = catalog(rt, alloc, own, disks.len() as u8);
+    assert_equal(rt, disks.len(), catalog.len() as usize);
+    open_publisher(alloc, rt, catalog, disks)
 }
 
 // A publisher of these disks on a host of this name.
@@ -113,15 +126,7 @@ fn published<R: RandomSource + Abort>(
     own: &[u8],
     disks: Vec<MemDisk>,
 ) -> Maps {
-    let loaded = load(rt, alloc, disks).expect(rt, "loaded disks");
-    let start = loaded.shown(alloc).expect(rt, "versions");
-    assert_few(rt, start.len());
-    let catalog = catalog(rt, alloc, own, start.len() as u8);
-    assert_equal(rt, start.len(), catalog.len() as usize);
-    let copy = catalog.copy(alloc).expect(rt, "a catalogue");
-    laws::starts_are_shown();
-    let board = PlainBoard::new(alloc, copy, start).expect(rt, "a board");
-    Publisher::new(loaded, catalog, board)
+    open(rt, alloc, own, disks).expect(rt, "a publisher")
 }
 
 // The order that is shown of a map, its generation, and how it stands.
@@ -537,17 +542,30 @@ fn refused<R: RandomSource + Abort>(rt: &R, alloc: Global, files: Vec<Vec<u8>>) 
     )
 }
 
+// The same of a publisher that isn't opened.
+fn unopened<R: RandomSource + Abort>(
+    rt: &R,
+    alloc: Global,
+    files: Vec<Vec<u8>>,
+) -> (OpenFault, Vec<Vec<u8>>) {
+    let refused = open(rt, alloc, b"m1", disks_of(rt, alloc, files))
+        .err()
+        .expect(rt, "a refusal");
+    (refused.fault, bytes_on(rt, alloc, &refused.disks))
+}
+
 #[test]
 fn damaged_disk_refused(rt: HostRuntime) {
     let alloc = rt.alloc();
     let texts = [HOSTS_FILE, DAMAGED_FILE, "", HOSTS_FILE];
+    let fault = SlotFault::Damaged { at: 7, rule: 3 };
     let came = refused(&rt, alloc, files_of(&rt, alloc, &texts));
-    let wanted = (
-        1,
-        SlotFault::Damaged { at: 7, rule: 3 },
-        files_of(&rt, alloc, &texts),
-    );
+    let wanted = (1, fault, files_of(&rt, alloc, &texts));
     assert_same(&rt, &came, &wanted, "the second disk");
+    let came = unopened(&rt, alloc, files_of(&rt, alloc, &texts));
+    let fault = OpenFault::Refused { map: 1, fault };
+    let wanted = (fault, files_of(&rt, alloc, &texts));
+    assert_same(&rt, &came, &wanted, "a publisher over it");
 }
 
 // What a version for map 1 answers, and the states of maps 0 and 2 behind it.

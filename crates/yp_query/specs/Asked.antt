@@ -1,6 +1,5 @@
--- The calls of each query, and what they come to.
-use Rattle.std.specs.Prelude.{◌≡◌, ◌≤◌, ◌⊎◌, ℕ, Bool, true, false, List, [], length, Result, Ok, Err, ⊤}
-use Rattle.yp_msgs.specs.Numbers.{name_max, key_max}
+-- The calls of each question, and what they come to.
+use Rattle.std.specs.Prelude.{◌≡◌, ◌⊎◌, ℕ, Bool, true, false, List, [], Result, Ok, Err, ⊤}
 use Rattle.yp_version.specs.Rows.{listed}
 use Rattle.yp_version.specs.Drafts.{Draft}
 use Rattle.yp_client.specs.declared.fault.ClientFault.{ClientFault}
@@ -9,23 +8,23 @@ use Rattle.yp_client.specs.Said.{SaysNumber, SaysBytes, SaysNames}
 use Rattle.yp_client.specs.Limits.{reply_max, all_max}
 use Rattle.yp_client.specs.All.{SaysAll}
 use Rattle.yp_client.specs.Asked.{all_call, match_call, master_call, order_call, maplist_call}
-use Rattle.yp_client.specs.Moments.{Moment}
+use Rattle.yp_client.specs.States.{ClientState}
 use Rattle.yp_client.specs.Calls.{Calls}
 use Rattle.yp_query.specs.declared.fault.QueryFault.{QueryFault}
 use Rattle.yp_query.specs.declared.fault.QueryFault.TheVariants.{NoMemory}
-use Rattle.yp_query.specs.declared.question.Query.{Query}
-use Rattle.yp_query.specs.declared.question.Query.TheVariants.{Cat, Catk, Match, Which, Poll, Maps}
+use Rattle.yp_query.specs.declared.question.Question.TheVariants.{Cat, Catk, Match, Which, Poll, Maps}
+use Rattle.yp_query.specs.Questions.{ByteQuestion}
 use Rattle.yp_query.specs.Lines.{line, lines, rows_text, standing_text}
-use Rattle.yp_query.specs.Refusals.{refusal, match_refusal, all_refusal}
+use Rattle.yp_query.specs.Faults.{query_fault, match_fault}
 
 -- the text of an answer, or why there is none
 abbrev pub Outcome : Type 0
 Outcome = Result (List ℕ) QueryFault
 
--- what is meant by what a call answers: the text of its value, or its refusal
-abbrev pub meaning : {X : Type 0} → (ClientFault → QueryFault) → (X → List ℕ) → Result X ClientFault → Outcome
-meaning refused text (Ok value) = Ok (text value)
-meaning refused text (Err fault) = Err (refused fault)
+-- what is meant by what a call answers: the text of its value, or the fault
+abbrev pub meant_by : {X : Type 0} → (ClientFault → QueryFault) → (X → List ℕ) → Result X ClientFault → Outcome
+meant_by refused text (Ok value) = Ok (text value)
+meant_by refused text (Err fault) = Err (refused fault)
 
 -- It is what is meant, unless memory ran out.
 abbrev pub IsInMemory : Outcome → Outcome → Type 0
@@ -34,7 +33,7 @@ IsInMemory meant outcome = outcome ≡ meant
 
 -- One call was made, whose reply has at most so many bytes, and came to this.
 pub record Makes {X : Type 0} (limit : ℕ) (call : ℕ → List ℕ) (answers : ℕ → List ℕ → Result X ClientFault → Type 0)
-    (means : Result X ClientFault → Outcome) (outcome : Outcome) (old new : Moment) : Type 0 where
+    (means : Result X ClientFault → Outcome) (outcome : Outcome) (old new : ClientState) : Type 0 where
   pub answer : Result X ClientFault
   pub calls : Calls limit call answers answer old new
   pub meant : IsInMemory (means answer) outcome
@@ -44,48 +43,44 @@ abbrev pub no_rows : Draft
 no_rows = record { order = 0; master = []; rows = [] }
 
 -- ALL was made for the rows of a version: their text, with keys or without, or the number of a row that none takes
-pub record TakesRows (keyed : Bool) (domain map : List ℕ) (outcome : Outcome) (old new : Moment) : Type 0 where
+pub record TakesRows (keyed : Bool) (domain map : List ℕ) (outcome : Outcome) (old new : ClientState) : Type 0 where
   pub draft : Draft
-  pub rows : ℕ
-  pub makes : Makes all_max (all_call domain map) (SaysAll no_rows draft rows) (meaning (all_refusal rows) (λ _. rows_text keyed (listed draft.rows))) outcome old new
+  pub makes : Makes all_max (all_call domain map) (SaysAll no_rows draft)
+      (meant_by query_fault (λ _. rows_text keyed (listed draft.rows))) outcome old new
 
--- MASTER follows an order number, and nothing a refusal.
-abbrev pub MakesMaster : List ℕ → List ℕ → Result ℕ ClientFault → Outcome → Moment → Moment → Type 0
+-- MASTER follows an order number, and nothing a fault.
+abbrev pub MakesMaster : List ℕ → List ℕ → Result ℕ ClientFault → Outcome → ClientState → ClientState → Type 0
 MakesMaster domain map (Ok order) outcome old new =
-    Makes reply_max (master_call domain map) (SaysBytes master_of) (meaning refusal (λ master. standing_text order master.items)) outcome old new
-MakesMaster domain map (Err fault) outcome old new = (outcome ≡ Err (refusal fault)) × (new ≡ old)
+    Makes reply_max (master_call domain map) (SaysBytes master_of)
+    (meant_by query_fault (λ master. standing_text order master.now)) outcome old new
+MakesMaster domain map (Err fault) outcome old new = (outcome ≡ Err (query_fault fault)) × (new ≡ old)
 
 -- ORDER was made, and then MASTER.
-pub record Polls (domain map : List ℕ) (outcome : Outcome) (old new : Moment) : Type 0 where
+pub record Polls (domain map : List ℕ) (outcome : Outcome) (old new : ClientState) : Type 0 where
   pub order : Result ℕ ClientFault
-  pub mid : Moment
+  pub mid : ClientState
   pub calls : Calls reply_max (order_call domain map) (SaysNumber order_of) order old mid
   pub follows : MakesMaster domain map order outcome mid new
 
--- the calls of a query were made, and came to this
-abbrev pub MakesCalls : Query → Outcome → Moment → Moment → Type 0
-MakesCalls (Cat domain map) outcome old new = TakesRows false domain.now map.now outcome old new
-MakesCalls (Catk domain map) outcome old new = TakesRows true domain.now map.now outcome old new
+-- the calls of a question were made, and came to this
+abbrev pub MakesCalls : ByteQuestion → Outcome → ClientState → ClientState → Type 0
+MakesCalls (Cat domain map) outcome old new = TakesRows false domain map outcome old new
+MakesCalls (Catk domain map) outcome old new = TakesRows true domain map outcome old new
 MakesCalls (Match domain map key) outcome old new =
-    Makes reply_max (match_call domain.now map.now key.now) (SaysBytes value_of) (meaning match_refusal (λ value. line value.items)) outcome old new
+    Makes reply_max (match_call domain map key) (SaysBytes value_of)
+    (meant_by match_fault (λ value. line value.now)) outcome old new
 MakesCalls (Which domain map) outcome old new =
-    Makes reply_max (master_call domain.now map.now) (SaysBytes master_of) (meaning refusal (λ master. line master.items)) outcome old new
-MakesCalls (Poll domain map) outcome old new = Polls domain.now map.now outcome old new
+    Makes reply_max (master_call domain map) (SaysBytes master_of)
+    (meant_by query_fault (λ master. line master.now)) outcome old new
+MakesCalls (Poll domain map) outcome old new = Polls domain map outcome old new
 MakesCalls (Maps domain) outcome old new =
-    Makes reply_max (maplist_call domain.now) (SaysNames maps_of) (meaning refusal (λ list. lines list.maps)) outcome old new
+    Makes reply_max (maplist_call domain) (SaysNames maps_of)
+    (meant_by query_fault (λ list. lines list.maps)) outcome old new
 
 -- These calls were made, or none for want of memory.
-abbrev pub IsUnlessMemory : (Outcome → Moment → Moment → Type 0) → Outcome → Moment → Moment → Type 0
+abbrev pub IsUnlessMemory : (Outcome → ClientState → ClientState → Type 0) → Outcome → ClientState → ClientState
+    → Type 0
 IsUnlessMemory calls outcome old new = calls outcome old new ⊎ ((outcome ≡ Err NoMemory) × (new ≡ old))
 
-abbrev pub Converses : Query → Outcome → Moment → Moment → Type 0
-Converses query outcome old new = IsUnlessMemory (MakesCalls query) outcome old new
-
--- its names and its key are within their limits
-abbrev pub QueryIsWithin : Query → Type 0
-QueryIsWithin (Cat domain map) = (length domain.now ≤ name_max) × (length map.now ≤ name_max)
-QueryIsWithin (Catk domain map) = (length domain.now ≤ name_max) × (length map.now ≤ name_max)
-QueryIsWithin (Match domain map key) = (length domain.now ≤ name_max) × (length map.now ≤ name_max) × (length key.now ≤ key_max)
-QueryIsWithin (Which domain map) = (length domain.now ≤ name_max) × (length map.now ≤ name_max)
-QueryIsWithin (Poll domain map) = (length domain.now ≤ name_max) × (length map.now ≤ name_max)
-QueryIsWithin (Maps domain) = length domain.now ≤ name_max
+abbrev pub Converses : ByteQuestion → Outcome → ClientState → ClientState → Type 0
+Converses question outcome old new = IsUnlessMemory (MakesCalls question) outcome old new

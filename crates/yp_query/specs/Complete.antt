@@ -1,5 +1,6 @@
--- When a query has an answer: the wire gives whole replies that answer its calls.
+-- When a question has an answer: the wire gives whole replies that answer its calls.
 use Rattle.std.specs.Prelude.{◌≡◌, ℕ, List, [], ◌∷◌, ◌++◌, Option, Some, Result, Ok, Err, IsOk, ⊤}
+use Rattle.yp_io.specs.declared.stream.Peer.{Peer}
 use Rattle.yp_io.specs.Dials.{Wires}
 use Rattle.yp_rpc.specs.Records.{Fragments}
 use Rattle.yp_msgs.specs.declared.stat.YpStat.TheVariants.{Nokey}
@@ -10,8 +11,8 @@ use Rattle.yp_client.specs.Results.{value_of, master_of, order_of, maps_of}
 use Rattle.yp_client.specs.All.{all_said}
 use Rattle.yp_query.specs.declared.fault.QueryFault.{QueryFault}
 use Rattle.yp_query.specs.declared.fault.QueryFault.TheVariants.{NoKey, NoMemory}
-use Rattle.yp_query.specs.declared.question.Query.{Query}
-use Rattle.yp_query.specs.declared.question.Query.TheVariants.{Cat, Catk, Match, Which, Poll, Maps}
+use Rattle.yp_query.specs.declared.question.Question.TheVariants.{Cat, Catk, Match, Which, Poll, Maps}
+use Rattle.yp_query.specs.Questions.{ByteQuestion}
 use Rattle.yp_query.specs.Asked.{no_rows}
 
 -- Bytes begin with a whole reply of at most so many bytes, and P holds of it and of what is behind.
@@ -29,23 +30,25 @@ IsFound (Ok value) = ⊤
 IsFound (Err (Yp Nokey)) = ⊤
 IsFound said = ⊥
 
--- a wire's bytes begin with replies that answer the calls of a query, whose numbers begin with 1
-abbrev pub HasAnswer : Query → List ℕ → Type 0
-HasAnswer (Cat domain map) stream = BeginsWithReply all_max stream (λ reply rest. (all_said no_rows 1 reply).end ≡ Ok tt)
-HasAnswer (Catk domain map) stream = BeginsWithReply all_max stream (λ reply rest. (all_said no_rows 1 reply).end ≡ Ok tt)
+-- a wire's bytes begin with replies that answer the calls of a question, whose numbers begin with 1
+abbrev pub HasAnswer : ByteQuestion → List ℕ → Type 0
+HasAnswer (Cat domain map) stream =
+    BeginsWithReply all_max stream (λ reply rest. (all_said no_rows 1 reply).end ≡ Ok tt)
+HasAnswer (Catk domain map) stream =
+    BeginsWithReply all_max stream (λ reply rest. (all_said no_rows 1 reply).end ≡ Ok tt)
 HasAnswer (Match domain map key) stream = BeginsWithReply reply_max stream (λ reply rest. IsFound (value_of 1 reply))
 HasAnswer (Which domain map) stream = BeginsWithReply reply_max stream (λ reply rest. IsOk (master_of 1 reply))
 HasAnswer (Poll domain map) stream = BeginsWithReply reply_max stream (λ reply rest.
     IsOk (order_of 1 reply) × BeginsWithReply reply_max rest (λ second behind. IsOk (master_of 2 second)))
 HasAnswer (Maps domain) stream = BeginsWithReply reply_max stream (λ reply rest. IsOk (maps_of 1 reply))
 
--- One wire came, which gives these bytes.
-pub record HasCome (stream : List ℕ) (old new : Option Wires) : Type 0 where
+-- One wire to this peer came, which gives these bytes.
+pub record HasCome (peer : Peer) (stream : List ℕ) (old new : Option Wires) : Type 0 where
   pub before : Wires
   pub after : Wires
   pub was : old ≡ Some before
   pub is : new ≡ Some after
-  pub came : after.came ≡ before.came ++ Some stream ∷ []
+  pub came : after.came ≡ before.came ++ (peer, Some stream) ∷ []
 
 -- an answer, that there is no such key, or want of memory
 abbrev pub IsAnswered : Result (Unit {0}) QueryFault → Type 0

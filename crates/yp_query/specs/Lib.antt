@@ -1,6 +1,7 @@
+pub mod Questions
 pub mod Lines
 pub mod Printed
-pub mod Refusals
+pub mod Faults
 pub mod Answers
 pub mod Asked
 pub mod Scenes

@@ -1,12 +1,11 @@
 -- What a sink took of a text that goes out through a buffer.
-use Rattle.std.specs.Prelude.{◌≡◌, ℕ, List, ◌++◌, take, Option, Result, Ok, Err}
+use Rattle.std.specs.Prelude.{◌≡◌, ℕ, List, ◌++◌, Option, Result, Ok, Err}
 use Rattle.std.specs.Io.KnownBytes.{Appends}
-
--- it took a front of a text
-abbrev pub AppendsFront : List ℕ → Option (List ℕ) → Option (List ℕ) → Type 0
-AppendsFront text before after = (n : ℕ) × Appends before after (take n text)
+use Rattle.yp_io.specs.Streams.{AppendsFront}
 
 -- It took what waited before and a piece, but for what waits now; or a front of the two, where it failed.
-abbrev pub Puts : {E : Type 0} → List ℕ → Result (Unit {0}) E → List ℕ → List ℕ → Option (List ℕ) → Option (List ℕ) → Type 0
-Puts piece (Ok done) waited waits before after = (out : List ℕ) × Appends before after out × (waited ++ piece ≡ out ++ waits)
+abbrev pub Puts : {E : Type 0} → List ℕ → Result (Unit {0}) E → List ℕ → List ℕ → Option (List ℕ) → Option (List ℕ)
+    → Type 0
+Puts piece (Ok done) waited waits before after =
+    (out : List ℕ) × Appends before after out × (waited ++ piece ≡ out ++ waits)
 Puts piece (Err fault) waited waits before after = AppendsFront (waited ++ piece) before after

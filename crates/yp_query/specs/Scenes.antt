@@ -1,14 +1,15 @@
--- What a query does to its dial, and what it prints.
+-- What a question does to a dial, and what it prints.
 use Rattle.std.specs.Prelude.{◌≡◌, ℕ, false, List, Option, Result, Ok, Err, IsOkAnd, ⊤}
 use Rattle.std.specs.Io.KnownBytes.{Keeps, Appends}
 use Rattle.yp_io.specs.Counts.{HasRisen}
-use Rattle.yp_io.specs.Dials.{Wires, Ended, Comes, GoesBack, IsFresh}
+use Rattle.yp_io.specs.declared.stream.Peer.{Peer}
+use Rattle.yp_io.specs.Dials.{Wires, Comes, GoesBack, IsFresh}
 use Rattle.yp_client.specs.declared.fault.ClientFault.TheVariants.{ReadFault, WriteFault}
-use Rattle.yp_client.specs.Moments.{Moment}
+use Rattle.yp_client.specs.States.{ClientState}
 use Rattle.yp_query.specs.declared.fault.QueryFault.{QueryFault}
 use Rattle.yp_query.specs.declared.fault.QueryFault.TheVariants.{Client, Dial, Output, NoMemory}
-use Rattle.yp_query.specs.declared.question.Query.{Query}
-use Rattle.yp_query.specs.Printed.{AppendsFront}
+use Rattle.yp_query.specs.Questions.{ByteQuestion}
+use Rattle.yp_io.specs.Streams.{AppendsFront}
 use Rattle.yp_query.specs.Asked.{Outcome, Converses}
 
 -- what a dial tells of its wires, and how often it has failed
@@ -32,30 +33,26 @@ scene_of past dial_faults output faults dial sink =
 -- ---- the dial
 
 -- a client of a wire that has met no fault and taken nothing, whose first call has the number 1
-pub record IsFirst (moment : Moment) : Type 0 where
-  pub fresh : IsFresh moment.reads moment.writes moment.output
-  pub xid : moment.xid ≡ 1
-  pub place : moment.place ≡ 0
-  pub spent : moment.spent ≡ false
+pub record IsFirst (client : ClientState) : Type 0 where
+  pub fresh : IsFresh client.reads client.writes client.wire.output
+  pub xid : client.xid ≡ 1
+  pub place : client.place ≡ 0
+  pub spent : client.spent ≡ false
 
--- what its wire tells
-abbrev pub ended_of : Moment → Ended
-ended_of moment = record { input = moment.input; output = moment.output }
-
--- One wire came, the calls of a query were made on it, and it went back.
-pub record Exchanges (query : Query) (outcome : Outcome) (old new : Option Wires) : Type 0 where
-  pub first : Moment
-  pub last : Moment
+-- One wire to this peer came, the calls of a question were made on it, and it went back.
+pub record Exchanges (peer : Peer) (question : ByteQuestion) (outcome : Outcome) (old new : Option Wires) : Type 0 where
+  pub first : ClientState
+  pub last : ClientState
   pub mid : Option Wires
-  pub comes : Comes first.input old mid
+  pub comes : Comes (peer, first.wire.input) old mid
   pub begins : IsFirst first
-  pub converses : Converses query outcome first last
-  pub goes_back : GoesBack (ended_of last) mid new
+  pub converses : Converses question outcome first last
+  pub goes_back : GoesBack last.wire mid new
 
 -- No wire came; or one came and went back.
-abbrev pub Dials : Query → Outcome → Option Wires → Option Wires → Type 0
-Dials query (Err Dial) old new = new ≡ old
-Dials query outcome old new = Exchanges query outcome old new
+abbrev pub Dials : Peer → ByteQuestion → Outcome → Option Wires → Option Wires → Type 0
+Dials peer question (Err Dial) old new = new ≡ old
+Dials peer question outcome old new = Exchanges peer question outcome old new
 
 -- the count of a dial rose, where its wire failed, too
 abbrev pub DialHasCause : QueryFault → ℕ → ℕ → Type 0
@@ -73,11 +70,13 @@ Prints outcome (Err Output) before after = IsOkAnd outcome (λ text. AppendsFron
 Prints outcome (Err NoMemory) before after = Keeps before after
 Prints outcome (Err fault) before after = (outcome ≡ Err fault) × Keeps before after
 
--- No wire came, and nothing was printed; or one came and went back, and what its calls came to was printed.
-abbrev pub Asks : Query → Result (Unit {0}) QueryFault → Scene → Scene → Type 0
-Asks query (Err Dial) old new = (new.dial.past ≡ old.dial.past) × Keeps old.output new.output
-Asks query result old new =
-    (outcome : Outcome) × Exchanges query outcome old.dial.past new.dial.past × Prints outcome result old.output new.output
+-- No wire came, and nothing was printed; or one to this peer came and went back, and what its calls came to was
+-- printed.
+abbrev pub Asks : Peer → ByteQuestion → Result (Unit {0}) QueryFault → Scene → Scene → Type 0
+Asks peer question (Err Dial) old new = (new.dial.past ≡ old.dial.past) × Keeps old.output new.output
+Asks peer question result old new =
+    (outcome : Outcome) × Exchanges peer question outcome old.dial.past new.dial.past
+    × Prints outcome result old.output new.output
 
 -- the count of what failed rose
 abbrev pub HasCause : QueryFault → Scene → Scene → Type 0

@@ -1,19 +1,20 @@
-//! What the calls of a query come to.
+//! What the calls of a question come to.
 
-ghost use Rattle.std.specs.Prelude.{◌≡◌, ◌≤◌, length};
+ghost use Rattle.std.specs.Prelude.{◌≡◌, ◌≤◌, length, IfOk};
 ghost use Rattle.yp_msgs.specs.Numbers.{name_max, key_max};
 ghost use Rattle.yp_client.specs.Results.{value_of, master_of, maps_of};
 ghost use Rattle.yp_client.specs.Said.{SaysBytes, SaysNames};
 ghost use Rattle.yp_client.specs.Asked.{match_call, master_call, maplist_call};
-ghost use Rattle.yp_client.specs.Moments.{moment_of};
+ghost use Rattle.yp_client.specs.States.{state_of};
 ghost use Rattle.yp_query.specs.Lines.{line, lines};
-ghost use Rattle.yp_query.specs.Refusals.{refusal, match_refusal};
-ghost use Rattle.yp_query.specs.Asked.{meaning, Makes, TakesRows, Polls, IsUnlessMemory, Converses, QueryIsWithin};
+ghost use Rattle.yp_query.specs.Questions.{bytes_of, QuestionIsWithin};
+ghost use Rattle.yp_query.specs.Faults.{query_fault, match_fault};
+ghost use Rattle.yp_query.specs.Asked.{meant_by, Makes, TakesRows, Polls, IsUnlessMemory, Converses};
 ghost use Rattle.yp_client.specs.Limits.{reply_max};
 ghost use Rattle.yp_query.specs.Answers.{outcome_of};
 
-use crate::fault::{QueryFault, of_all, of_match};
-use crate::question::Query;
+use crate::fault::{QueryFault, of_match};
+use crate::question::Question;
 use std::alloc::Global;
 use std::random::RandomSource;
 use yp_client::Client;
@@ -21,7 +22,7 @@ use yp_io::{NoMemory, Sink, Source};
 use yp_msgs::Names;
 use yp_version::{Version, VersionBuilder};
 
-/// The whole answer to a query.
+/// The whole answer to a question.
 #[derive(Drop)]
 pub enum Answer {
     /// The rows of a version, with their keys or without.
@@ -34,25 +35,31 @@ pub enum Answer {
     Maps(Names),
 }
 
-/// Makes the calls of a query.
+/// The bytes that a client lends, as the caller's own.
+fn copied(alloc: Global, bytes: &[u8]) -> Result<Vec<u8>, NoMemory>
+    ensures { IfOk result (λ copy. copy.items ≡ bytes.now) }
+{
+    Vec::from_slice(alloc, bytes).map_err(|_| NoMemory)
+}
+
+/// Makes the calls of a question.
 pub fn ask<S: Source, K: Sink>(
     alloc: Global,
     rt: &impl RandomSource,
     client: &mut Client<S, K>,
-    query: &Query<'_>,
+    question: &Question<Vec<u8>>,
 ) -> Result<Answer, QueryFault>
-    requires { QueryIsWithin query.now }
-    ensures { Converses query.now (outcome_of result)
-        (moment_of S.input S.faults K.output K.faults client.old)
-        (moment_of S.input S.faults K.output K.faults client.new) }
+    requires { QuestionIsWithin (bytes_of question.now) }
+    ensures { Converses (bytes_of question.now) (outcome_of result)
+        (state_of S.Source K.Sink client.old) (state_of S.Source K.Sink client.new) }
 {
-    match query {
-        Query::Cat { domain, map } => ask_rows(alloc, rt, client, domain, map, false),
-        Query::Catk { domain, map } => ask_rows(alloc, rt, client, domain, map, true),
-        Query::Match { domain, map, key } => ask_value(client, domain, map, key),
-        Query::Which { domain, map } => ask_master(client, domain, map),
-        Query::Poll { domain, map } => ask_standing(client, domain, map),
-        Query::Maps { domain } => ask_maps(client, domain),
+    match question {
+        Question::Cat { domain, map } => ask_rows(alloc, rt, client, domain, map, false),
+        Question::Catk { domain, map } => ask_rows(alloc, rt, client, domain, map, true),
+        Question::Match { domain, map, key } => ask_value(alloc, client, domain, map, key),
+        Question::Which { domain, map } => ask_master(alloc, client, domain, map),
+        Question::Poll { domain, map } => ask_standing(alloc, client, domain, map),
+        Question::Maps { domain } => ask_maps(client, domain),
     }
 }
 
@@ -67,8 +74,7 @@ fn ask_rows<S: Source, K: Sink>(
     requires domain { length domain.now ≤ name_max }
     requires map { length map.now ≤ name_max }
     ensures { IsUnlessMemory (TakesRows keyed domain.now map.now) (outcome_of result)
-        (moment_of S.input S.faults K.output K.faults client.old)
-        (moment_of S.input S.faults K.output K.faults client.new) }
+        (state_of S.Source K.Sink client.old) (state_of S.Source K.Sink client.new) }
 {
     let mut builder = match VersionBuilder::new(alloc, rt, 0, b"") {
         Ok(builder) => builder,
@@ -76,7 +82,7 @@ fn ask_rows<S: Source, K: Sink>(
     };
     match client.all(domain, map, &mut builder) {
         Ok(()) => {}
-        Err(fault) => return Err(of_all(fault, client.rows())),
+        Err(fault) => return Err(fault.into()),
     }
     match builder.finish() {
         Ok(version) => Ok(Answer::Rows { version, keyed }),
@@ -85,6 +91,7 @@ fn ask_rows<S: Source, K: Sink>(
 }
 
 fn ask_value<S: Source, K: Sink>(
+    alloc: Global,
     client: &mut Client<S, K>,
     domain: &[u8],
     map: &[u8],
@@ -94,17 +101,17 @@ fn ask_value<S: Source, K: Sink>(
     requires map { length map.now ≤ name_max }
     requires key { length key.now ≤ key_max }
     ensures { Makes reply_max (match_call domain.now map.now key.now) (SaysBytes value_of)
-        (meaning match_refusal (λ value. line value.items)) (outcome_of result)
-        (moment_of S.input S.faults K.output K.faults client.old)
-        (moment_of S.input S.faults K.output K.faults client.new) }
+        (meant_by match_fault (λ value. line value.now)) (outcome_of result)
+        (state_of S.Source K.Sink client.old) (state_of S.Source K.Sink client.new) }
 {
     match client.match_key(domain, map, key) {
-        Ok(value) => Ok(Answer::Line(value)),
+        Ok(value) => Ok(Answer::Line(copied(alloc, value)?)),
         Err(fault) => Err(of_match(fault)),
     }
 }
 
 fn ask_master<S: Source, K: Sink>(
+    alloc: Global,
     client: &mut Client<S, K>,
     domain: &[u8],
     map: &[u8],
@@ -112,18 +119,18 @@ fn ask_master<S: Source, K: Sink>(
     requires domain { length domain.now ≤ name_max }
     requires map { length map.now ≤ name_max }
     ensures { Makes reply_max (master_call domain.now map.now) (SaysBytes master_of)
-        (meaning refusal (λ master. line master.items)) (outcome_of result)
-        (moment_of S.input S.faults K.output K.faults client.old)
-        (moment_of S.input S.faults K.output K.faults client.new) }
+        (meant_by query_fault (λ master. line master.now)) (outcome_of result)
+        (state_of S.Source K.Sink client.old) (state_of S.Source K.Sink client.new) }
 {
     match client.master(domain, map) {
-        Ok(master) => Ok(Answer::Line(master)),
+        Ok(master) => Ok(Answer::Line(copied(alloc, master)?)),
         Err(fault) => Err(fault.into()),
     }
 }
 
 /// No call follows a refused one.
 fn ask_standing<S: Source, K: Sink>(
+    alloc: Global,
     client: &mut Client<S, K>,
     domain: &[u8],
     map: &[u8],
@@ -131,15 +138,17 @@ fn ask_standing<S: Source, K: Sink>(
     requires domain { length domain.now ≤ name_max }
     requires map { length map.now ≤ name_max }
     ensures { Polls domain.now map.now (outcome_of result)
-        (moment_of S.input S.faults K.output K.faults client.old)
-        (moment_of S.input S.faults K.output K.faults client.new) }
+        (state_of S.Source K.Sink client.old) (state_of S.Source K.Sink client.new) }
 {
     let order = match client.order(domain, map) {
         Ok(order) => order,
         Err(fault) => return Err(fault.into()),
     };
     match client.master(domain, map) {
-        Ok(master) => Ok(Answer::Standing { order, master }),
+        Ok(master) => {
+            let master = copied(alloc, master)?;
+            Ok(Answer::Standing { order, master })
+        }
         Err(fault) => Err(fault.into()),
     }
 }
@@ -150,9 +159,8 @@ fn ask_maps<S: Source, K: Sink>(
 ) -> Result<Answer, QueryFault>
     requires { length domain.now ≤ name_max }
     ensures { Makes reply_max (maplist_call domain.now) (SaysNames maps_of)
-        (meaning refusal (λ list. lines list.maps)) (outcome_of result)
-        (moment_of S.input S.faults K.output K.faults client.old)
-        (moment_of S.input S.faults K.output K.faults client.new) }
+        (meant_by query_fault (λ list. lines list.maps)) (outcome_of result)
+        (state_of S.Source K.Sink client.old) (state_of S.Source K.Sink client.new) }
 {
     match client.maplist(domain) {
         Ok(list) => Ok(Answer::Maps(list.maps)),

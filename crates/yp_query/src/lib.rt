@@ -13,4 +13,4 @@ mod text;
 
 pub use dialed::query;
 pub use fault::QueryFault;
-pub use question::Query;
+pub use question::Question;

@@ -4,7 +4,7 @@ ghost use Rattle.std.specs.Prelude.{◌≡◌, ◌≢◌, ◌≤◌, IsTrue, Ok,
 ghost use Rattle.yp_io.specs.Counts.{CountsFaults, HasRisen};
 ghost use Rattle.yp_query.specs.Lines.{lines, row_line, rows_text, standing_text};
 ghost use Rattle.yp_query.specs.Printed.{Puts};
-ghost use Rattle.yp_query.specs.Answers.{text_of};
+ghost use Rattle.yp_query.specs.Answers.{answer_text};
 ghost use Rattle.yp_query.specs.Scenes.{Prints};
 
 use crate::answer::Answer;
@@ -17,7 +17,7 @@ use yp_version::Version;
 
 /// Prints an answer, and flushes.
 pub fn print<K: Sink>(alloc: Global, answer: &Answer, sink: &mut K) -> Result<(), QueryFault>
-    ensures prints { Prints (Ok (text_of answer.now)) result (K.output sink.old) (K.output sink.new) }
+    ensures prints { Prints (Ok (answer_text answer.now)) result (K.output sink.old) (K.output sink.new) }
     ensures flushed { result ≢ Err QueryFault.Output → IsTrue (K.flushed sink.old) → IsTrue (K.flushed sink.new) }
     ensures cause { result ≡ Err QueryFault.Output → HasRisen (K.faults sink.old) (K.faults sink.new) }
     ensures faults { K.faults sink.old ≤ K.faults sink.new }
@@ -34,7 +34,7 @@ pub fn print<K: Sink>(alloc: Global, answer: &Answer, sink: &mut K) -> Result<()
 }
 
 fn print_answer<K: Sink>(text: &mut TextBuffer, sink: &mut K, answer: &Answer) -> Result<(), Failed>
-    ensures puts { Puts (text_of answer.now) result text.old text.new (K.output sink.old) (K.output sink.new) }
+    ensures puts { Puts (answer_text answer.now) result text.old text.new (K.output sink.old) (K.output sink.new) }
     ensures cause { CountsFaults (K.faults sink.old) (K.faults sink.new) result }
 {
     match answer {

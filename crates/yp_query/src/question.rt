@@ -2,59 +2,42 @@
 
 ghost use Rattle.std.specs.Prelude.{◌↔◌, ◌≤◌, length, IsTrue};
 ghost use Rattle.yp_msgs.specs.Numbers.{name_max};
-ghost use Rattle.yp_query.specs.Asked.{QueryIsWithin};
+ghost use Rattle.yp_query.specs.Questions.{bytes_of, QuestionIsWithin};
 
 use yp_msgs::protocol::{KEY_MAX, NAME_MAX};
 
-/// A question of a client command: of a domain, and mostly of one of its maps.
-#[derive(Clone, Copy, Debug)]
-pub enum Query<'a> {
+/// What a client asks of a server: of a domain, and mostly of one of its maps. A `T` is a name or a key, or says where
+/// it stands.
+#[derive(Clone, Copy, Debug, Drop)]
+pub enum Question<T> {
     /// ALL: the values of all rows, a line each, in rising order of their keys.
-    Cat {
-        domain: &'a [u8],
-        map: &'a [u8],
-    },
+    Cat { domain: T, map: T },
     /// ALL: the keys and values of all rows, with a space between, a line each, in rising order of the keys.
-    Catk {
-        domain: &'a [u8],
-        map: &'a [u8],
-    },
+    Catk { domain: T, map: T },
     /// MATCH: the value of a key.
-    Match {
-        domain: &'a [u8],
-        map: &'a [u8],
-        key: &'a [u8],
-    },
+    Match { domain: T, map: T, key: T },
     /// MASTER: the name of the master of a map.
-    Which {
-        domain: &'a [u8],
-        map: &'a [u8],
-    },
+    Which { domain: T, map: T },
     /// ORDER and MASTER: `order N`, and then `master NAME`, a line each.
-    Poll {
-        domain: &'a [u8],
-        map: &'a [u8],
-    },
+    Poll { domain: T, map: T },
     /// MAPLIST: the names of the maps, a line each, in the order of the reply.
-    Maps {
-        domain: &'a [u8],
-    },
+    Maps { domain: T },
 }
 
-impl Query<'_> {
+impl Question<Vec<u8>> {
     /// Whether its names have at most 64 bytes, and its key at most 65,536, so that a call can hold them.
     pub fn is_within(&self) -> bool
-        ensures { IsTrue result ↔ QueryIsWithin self.now }
+        ensures { IsTrue result ↔ QuestionIsWithin (bytes_of self.now) }
     {
         match self {
-            Query::Cat { domain, map } => is_name(domain) && is_name(map),
-            Query::Catk { domain, map } => is_name(domain) && is_name(map),
-            Query::Match { domain, map, key } => {
+            Question::Cat { domain, map } => is_name(domain) && is_name(map),
+            Question::Catk { domain, map } => is_name(domain) && is_name(map),
+            Question::Match { domain, map, key } => {
                 is_name(domain) && is_name(map) && key.len() <= KEY_MAX as usize
             }
-            Query::Which { domain, map } => is_name(domain) && is_name(map),
-            Query::Poll { domain, map } => is_name(domain) && is_name(map),
-            Query::Maps { domain } => is_name(domain),
+            Question::Which { domain, map } => is_name(domain) && is_name(map),
+            Question::Poll { domain, map } => is_name(domain) && is_name(map),
+            Question::Maps { domain } => is_name(domain),
         }
     }
 }

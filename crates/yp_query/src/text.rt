@@ -4,11 +4,12 @@ ghost use Rattle.std.specs.Prelude.{◌≡◌, ◌+◌, ◌≤◌, [], ◌∷◌
 ghost use Rattle.std.specs.Io.KnownBytes.{Appends};
 ghost use Rattle.yp_io.specs.Counts.{CountsFaults};
 ghost use Rattle.yp_query.specs.Lines.{line};
-ghost use Rattle.yp_query.specs.Printed.{Puts, AppendsFront};
+ghost use Rattle.yp_io.specs.Streams.{AppendsFront};
+ghost use Rattle.yp_query.specs.Printed.{Puts};
 
 use std::alloc::Global;
 use std::marker::Model;
-use yp_io::{Failed, NoMemory, Sink, write_all};
+use yp_io::{Failed, NoMemory, Sink, write_all, write_through};
 
 /// The bytes of the buffer.
 pub const BUFFER_LEN: usize = 65_536;
@@ -90,7 +91,6 @@ impl TextBuffer {
         ensures front { OnErr result (AppendsFront self (K.output sink.old) (K.output sink.new)) }
         ensures cause { CountsFaults (K.faults sink.old) (K.faults sink.new) result }
     {
-        write_all(sink, &self.bytes)?;
-        sink.flush()
+        write_through(sink, &self.bytes)
     }
 }

@@ -1,16 +1,16 @@
-//! Queries over wires in memory: calls and replies written out by hand, from RFC 5531 and yp.x.
+//! Questions over wires in memory: calls and replies written out by hand, from RFC 5531 and yp.x.
 
 ghost use Rattle.std.specs.Prelude.{◌<◌};
-ghost use Rattle.yp_query.specs.Asked.{QueryIsWithin};
+ghost use Rattle.yp_query.specs.Questions.{bytes_of, QuestionIsWithin};
 
 use crate::given::{assert_same, bytes};
 use std::alloc::Global;
 use std::process::Abort;
 use std::random::RandomSource;
 use yp_client::ClientFault;
-use yp_io::{MemDial, MemSink, MemSource, Pair, Peer};
+use yp_io::{MemDial, MemDialed, MemSink, MemSource, Pair, Peer};
 use yp_msgs::YpStat;
-use yp_query::{Query, QueryFault, query};
+use yp_query::{QueryFault, Question, query};
 use yp_rpc::ReplyHead;
 use yp_version::VersionFault;
 
@@ -36,13 +36,50 @@ const FAIR: Weather<'static> = Weather {
     prints: &[],
 };
 
-/// What came of a query: its result, how many wires were given back, what was sent over them, and what was printed.
+/// What came of a question: its result, how many wires were given back, what was sent over them, and what was printed.
 type Asked = (Result<(), QueryFault>, usize, Vec<u8>, Vec<u8>);
 
-fn assert_within<R: Abort>(rt: &R, question: &Query<'_>)
-    ensures { QueryIsWithin question.now }
+fn assert_within<R: Abort>(rt: &R, question: &Question<Vec<u8>>)
+    ensures { QuestionIsWithin (bytes_of question.now) }
 {
     assert!(rt; question.is_within());
+}
+
+/// A question in bytes that a constant has.
+type Fixed = Question<&'static [u8]>;
+
+fn text<R: Abort>(rt: &R, alloc: Global, text: &[u8]) -> Vec<u8> {
+    text.to_vec(alloc).expect(rt, "a text")
+}
+
+// The same in bytes of its own.
+fn owned<R: Abort>(rt: &R, alloc: Global, question: &Fixed) -> Question<Vec<u8>> {
+    match *question {
+        Question::Cat { domain, map } => Question::Cat {
+            domain: text(rt, alloc, domain),
+            map: text(rt, alloc, map),
+        },
+        Question::Catk { domain, map } => Question::Catk {
+            domain: text(rt, alloc, domain),
+            map: text(rt, alloc, map),
+        },
+        Question::Match { domain, map, key } => Question::Match {
+            domain: text(rt, alloc, domain),
+            map: text(rt, alloc, map),
+            key: text(rt, alloc, key),
+        },
+        Question::Which { domain, map } => Question::Which {
+            domain: text(rt, alloc, domain),
+            map: text(rt, alloc, map),
+        },
+        Question::Poll { domain, map } => Question::Poll {
+            domain: text(rt, alloc, domain),
+            map: text(rt, alloc, map),
+        },
+        Question::Maps { domain } => Question::Maps {
+            domain: text(rt, alloc, domain),
+        },
+    }
 }
 
 // The numbers of calls that fail.
@@ -54,7 +91,7 @@ fn list<R: Abort>(rt: &R, alloc: Global, calls: &[u64]) -> Vec<u64> {
 fn ask_over<R: RandomSource + Abort>(
     rt: &R,
     alloc: Global,
-    question: &Query<'_>,
+    question: &Question<Vec<u8>>,
     dial: &mut MemDial,
     sink: &mut MemSink,
 ) -> Asked {
@@ -73,7 +110,7 @@ fn ask_over<R: RandomSource + Abort>(
 fn ask<R: RandomSource + Abort>(
     rt: &R,
     alloc: Global,
-    question: &Query<'_>,
+    question: &Fixed,
     input: Vec<u8>,
     piece: usize,
     weather: Weather<'_>,
@@ -93,36 +130,37 @@ fn ask<R: RandomSource + Abort>(
         .expect(rt, "a list of one wire");
     let mut dial = MemDial::new(alloc, wires, dials);
     let mut sink = MemSink::new(alloc, piece, prints);
-    ask_over(rt, alloc, question, &mut dial, &mut sink)
+    let question = owned(rt, alloc, question);
+    ask_over(rt, alloc, &question, &mut dial, &mut sink)
 }
 
-const CAT: Query<'static> = Query::Cat {
+const CAT: Fixed = Question::Cat {
     domain: b"lab",
     map: b"hosts.byname",
 };
 
-const CATK: Query<'static> = Query::Catk {
+const CATK: Fixed = Question::Catk {
     domain: b"lab",
     map: b"hosts.byname",
 };
 
-const ALPHA: Query<'static> = Query::Match {
+const ALPHA: Fixed = Question::Match {
     domain: b"lab",
     map: b"hosts.byname",
     key: b"alpha",
 };
 
-const WHICH: Query<'static> = Query::Which {
+const WHICH: Fixed = Question::Which {
     domain: b"lab",
     map: b"hosts.byname",
 };
 
-const POLL: Query<'static> = Query::Poll {
+const POLL: Fixed = Question::Poll {
     domain: b"lab",
     map: b"hosts.byname",
 };
 
-const MAPS: Query<'static> = Query::Maps { domain: b"lab" };
+const MAPS: Fixed = Question::Maps { domain: b"lab" };
 
 const ALPHA_CALL: &str =
     "8000004c 00000001 00000000 00000002 000186a4 00000002 00000003 00000000 00000000 \
@@ -173,7 +211,7 @@ fn answers_are_printed(rt: HostRuntime) {
         "80000020 00000001 00000001 00000000 00000000 00000000 00000000 00000001 00000000";
     let binary =
         "80000024 00000001 00000001 00000000 00000000 00000000 00000000 00000001 00000003 000aff00";
-    let cases: [(&str, Query<'_>, &str, &str, &[u8]); 9] = [
+    let cases: [(&str, Fixed, &str, &str, &[u8]); 9] = [
         ("values", CAT, ROWS_REPLY, ALL_CALL, b"1\n2\n"),
         ("rows", CATK, ROWS_REPLY, ALL_CALL, b"a 1\nb 2\n"),
         ("no rows", CATK, no_rows, ALL_CALL, b""),
@@ -202,6 +240,56 @@ fn answers_are_printed(rt: HostRuntime) {
         let wanted = (Ok(()), 1, bytes(&rt, alloc, &[*calls]), printed);
         let asked = ask(&rt, alloc, question, input, 4, FAIR);
         assert_same(&rt, &asked, &wanted, *row);
+    }
+}
+
+// The peer of the one wire that came.
+fn one_peer(came: &[MemDialed]) -> Option<Peer> {
+    match came {
+        [wire] => Some(wire.peer),
+        _ => None,
+    }
+}
+
+// The peer that is asked a question over the one wire that a dial has.
+fn asked<R: RandomSource + Abort>(
+    rt: &R,
+    alloc: Global,
+    question: &Fixed,
+    to: Peer,
+) -> Option<Peer> {
+    let wire = Pair {
+        source: MemSource::new(Vec::new(alloc), 9, Vec::new(alloc)),
+        sink: MemSink::new(alloc, 16, Vec::new(alloc)),
+    };
+    let wires = Vec::from_array(alloc, [wire]).expect(rt, "a list of one wire");
+    let mut dial = MemDial::new(alloc, wires, Vec::new(alloc));
+    let mut sink = MemSink::new(alloc, 16, Vec::new(alloc));
+    let question = owned(rt, alloc, question);
+    assert_within(rt, &question);
+    let _ = query(alloc, rt, &mut dial, to, &question, &mut sink);
+    one_peer(dial.came())
+}
+
+#[test]
+fn server_that_is_asked(rt: HostRuntime) {
+    let other = Peer {
+        addr: [192, 168, 7, 254],
+        port: 65_535,
+    };
+    for (row, question) in &[
+        ("CAT", CAT),
+        ("CATK", CATK),
+        ("MATCH", ALPHA),
+        ("WHICH", WHICH),
+        ("POLL", POLL),
+        ("MAPS", MAPS),
+    ] {
+        let peers = [
+            asked(&rt, rt.alloc(), question, SERVER),
+            asked(&rt, rt.alloc(), question, other),
+        ];
+        assert_same(&rt, &peers, &[Some(SERVER), Some(other)], *row);
     }
 }
 
@@ -361,10 +449,10 @@ fn first_row_that_no_version_takes(rt: HostRuntime) {
     }
     add(&rt, &mut input, &[0; 4]);
     let asked = ask(&rt, alloc, &CAT, input, 100_000, FAIR);
-    let fault = QueryFault::Row {
+    let fault = QueryFault::Client(ClientFault::Rows {
         row: 262_145,
         fault: VersionFault::TooManyRows,
-    };
+    });
     let came = (asked.0, asked.3.len());
     assert_same(&rt, &came, &(Err(fault), 0), "a row too many");
 }

@@ -22,7 +22,15 @@ procedure_kind = Sequence U32 (Sequence U32 (Sequence U32 (Sequence auth_kind au
 -- the head of a call, whose arguments are what is left
 abbrev pub call_head : ℕ → Value procedure_kind → Unread → CallHead
 call_head xid fields left =
-    record { xid = xid; prog = fields.0; vers = fields.1.0; procedure = fields.1.1.0; flavor = fields.1.1.1.0.0; body = left.at }
+    record {
+      xid = xid;
+      prog = fields.0;
+      vers = fields.1.0;
+      procedure = fields.1.1.0;
+      flavor =
+          fields.1.1.1.0.0;
+      body = left.at;
+    }
 
 -- with these words in front, and the version of RPC that is known
 abbrev pub heard_procedure : ℕ → Result (Value procedure_kind × Unread) XdrFault → Heard

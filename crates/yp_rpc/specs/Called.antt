@@ -22,4 +22,5 @@ call_kind arguments = Sequence front_kind (Sequence procedure_kind arguments)
 
 -- the bytes of a call with arguments of a kind
 abbrev pub call_of : (kind : Kind) → ℕ → ℕ → ℕ → ℕ → Value kind → List ℕ
-call_of kind xid prog vers procedure arguments = spelling (call_kind kind) (front xid, (heading prog vers procedure, arguments))
+call_of kind xid prog vers procedure arguments =
+    spelling (call_kind kind) (front xid, (heading prog vers procedure, arguments))

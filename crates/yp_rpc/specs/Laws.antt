@@ -3,7 +3,8 @@ use Rattle.std.specs.Prelude.{◌≡◌, ◌≢◌, ℕ, ◌<◌, ◌^◌, List,
 use Rattle.yp_xdr.specs.Reading.{IsBytes}
 use Rattle.yp_rpc.specs.declared.call.Heard.TheVariants.{Call}
 use Rattle.yp_rpc.specs.declared.reply.ReplyHead.{ReplyHead}
-use Rattle.yp_rpc.specs.declared.reply.ReplyHead.TheVariants.{Success, ProgUnavail, ProgMismatch, ProcUnavail, GarbageArgs, SystemErr, RpcMismatch, AuthError}
+use Rattle.yp_rpc.specs.declared.reply.ReplyHead.TheVariants.{Success, ProgUnavail, ProgMismatch, ProcUnavail}
+use Rattle.yp_rpc.specs.declared.reply.ReplyHead.TheVariants.{GarbageArgs, SystemErr, RpcMismatch, AuthError}
 use Rattle.yp_rpc.specs.Call.{heard}
 use Rattle.yp_rpc.specs.Called.{called}
 use Rattle.yp_rpc.specs.Reply.{reply_head}
@@ -12,21 +13,25 @@ use Rattle.yp_rpc.specs.Records.{Fragments, Cut, IsRest, IsTorn, IsLong}
 
 -- the records of a stream and the rest behind them are determined by its bytes
 abbrev pub CutIsOne : Type 0
-CutIsOne = (limit : ℕ) (stream : List ℕ) (messages others : List (List ℕ)) (rest rest' : List ℕ) → Cut limit stream messages rest → Cut limit stream others rest'
+CutIsOne = (limit : ℕ) (stream : List ℕ) (messages others : List (List ℕ)) (rest rest' : List ℕ)
+    → Cut limit stream messages rest → Cut limit stream others rest'
     → (messages ≡ others) × (rest ≡ rest')
 
 -- each stream of bytes begins with some records, and behind them is a rest
 abbrev pub CutExists : Type 0
-CutExists = (limit : ℕ) (stream : List ℕ) → IsBytes stream → (messages : List (List ℕ)) × (rest : List ℕ) × Cut limit stream messages rest
+CutExists = (limit : ℕ) (stream : List ℕ) → IsBytes stream
+    → (messages : List (List ℕ)) × (rest : List ℕ) × Cut limit stream messages rest
 
 -- a stream begins with one whole record at most
 abbrev pub FirstIsOne : Type 0
-FirstIsOne = (limit : ℕ) (message other bytes bytes' more more' : List ℕ) → Fragments limit message bytes → Fragments limit other bytes' → bytes ++ more ≡ bytes' ++ more'
+FirstIsOne = (limit : ℕ) (message other bytes bytes' more more' : List ℕ) → Fragments limit message bytes
+    → Fragments limit other bytes' → bytes ++ more ≡ bytes' ++ more'
     → (message ≡ other) × (more ≡ more')
 
 -- a rest begins with no whole record
 abbrev pub RestIsNotWhole : Type 0
-RestIsNotWhole = (limit : ℕ) (message bytes more : List ℕ) → Fragments limit message bytes → IsRest limit (bytes ++ more) → ⊥
+RestIsNotWhole = (limit : ℕ) (message bytes more : List ℕ) → Fragments limit message bytes
+    → IsRest limit (bytes ++ more) → ⊥
 
 -- a torn rest isn't long
 abbrev pub TornIsNotLong : Type 0
@@ -58,9 +63,12 @@ HasWords (AuthError stat) = IsWord stat
 -- the head of a reply that was written is read again, whatever is behind it
 abbrev pub ReplyIsReadAgain : Type 0
 ReplyIsReadAgain = (xid : ℕ) (head : ReplyHead) (more : List ℕ) → IsWord xid → HasWords head
-    → reply_read (reply_head xid head ++ more) ≡ Ok (record { xid = xid; head = head; body = length (reply_head xid head) })
+    → reply_read (reply_head xid head ++ more)
+    ≡ Ok (record { xid = xid; head = head; body = length (reply_head xid head) })
 
 -- the head of a call that was written is heard as that call, without a credential, whatever is behind it
 abbrev pub CallIsHeardAgain : Type 0
-CallIsHeardAgain = (xid prog vers procedure : ℕ) (more : List ℕ) → IsWord xid → IsWord prog → IsWord vers → IsWord procedure
-    → heard (called xid prog vers procedure ++ more) ≡ Call (record { xid = xid; prog = prog; vers = vers; procedure = procedure; flavor = 0; body = 40 })
+CallIsHeardAgain = (xid prog vers procedure : ℕ) (more : List ℕ) → IsWord xid → IsWord prog → IsWord vers
+    → IsWord procedure
+    → heard (called xid prog vers procedure ++ more)
+    ≡ Call (record { xid = xid; prog = prog; vers = vers; procedure = procedure; flavor = 0; body = 40 })

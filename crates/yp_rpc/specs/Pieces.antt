@@ -6,8 +6,8 @@ use Rattle.yp_rpc.specs.declared.record.RecordFault.{RecordFault}
 use Rattle.yp_rpc.specs.declared.record.RecordFault.TheVariants.{Torn}
 use Rattle.yp_rpc.specs.Records.{head, begun, joined, empties, AreWithin, IsEmpty, TakesRecord, HasCause}
 
--- What was read of a record: the bytes and the empty fragments that its heads name, how many bytes of the present fragment are
--- still to come, whether it is the last, and the bytes of these fragments with their heads.
+-- What was read of a record: the bytes and the empty fragments that its heads name, how many bytes of the present
+-- fragment are still to come, whether it is the last, and the bytes of these fragments with their heads.
 pub record Part : Type 0 where
   pub named : ℕ
   pub empty : ℕ
@@ -43,13 +43,16 @@ pub record IsInFragment (limit : ℕ) (front : List ℕ) (start now : Option (Li
 
 -- These bytes were given of the record that begins where the source stood at the start.
 abbrev pub HasGiven : ℕ → List ℕ → Option (List ℕ) → Option (List ℕ) → Part → Type 0
-HasGiven limit front start now part = ((part ≡ not_begun) × (front ≡ []) × Consumes start now []) ⊎ IsInFragment limit front start now part
+HasGiven limit front start now part =
+    ((part ≡ not_begun) × (front ≡ []) × Consumes start now []) ⊎ IsInFragment limit front start now part
 
--- A piece of the record was given behind them. An empty one is its end: then it is the record, and was taken from the source.
+-- A piece of the record was given behind them. An empty one is its end: then it is the record, and was taken from the
+-- source.
 pub record Gives (limit : ℕ) (front piece : List ℕ) (start new : Option (List ℕ)) (old after : Reader) : Type 0 where
   pub more : 0 < length piece → HasGiven limit (front ++ piece) start new after.part × (after.place ≡ old.place)
   pub end : length piece ≡ 0 → TakesRecord limit front start new old.place after.place × (after.part ≡ not_begun)
 
 -- Why there is no piece: why there is no record, or input ended before its first byte, which is torn here.
 abbrev pub HasNoPiece : ℕ → ℕ → Option (List ℕ) → Option (List ℕ) → ℕ → ℕ → RecordFault → Type 0
-HasNoPiece limit place start new before now fault = HasCause limit place start new before now fault ⊎ ((fault ≡ Torn place) × IsEmpty start new)
+HasNoPiece limit place start new before now fault =
+    HasCause limit place start new before now fault ⊎ ((fault ≡ Torn place) × IsEmpty start new)

@@ -5,7 +5,8 @@ use Rattle.yp_xdr.specs.declared.fault.XdrFault.{XdrFault}
 use Rattle.yp_xdr.specs.Kind.{Kind, U32, Enum, Sequence}
 use Rattle.yp_xdr.specs.Reading.{Unread, ◌>>=◌, reading}
 use Rattle.yp_rpc.specs.declared.reply.ReplyHead.{ReplyHead}
-use Rattle.yp_rpc.specs.declared.reply.ReplyHead.TheVariants.{Success, ProgUnavail, ProgMismatch, ProcUnavail, GarbageArgs, SystemErr, RpcMismatch, AuthError}
+use Rattle.yp_rpc.specs.declared.reply.ReplyHead.TheVariants.{Success, ProgUnavail, ProgMismatch, ProcUnavail}
+use Rattle.yp_rpc.specs.declared.reply.ReplyHead.TheVariants.{GarbageArgs, SystemErr, RpcMismatch, AuthError}
 use Rattle.yp_rpc.specs.declared.reply.ReplyRead.{ReplyRead}
 use Rattle.yp_rpc.specs.Call.{auth_kind}
 
@@ -76,7 +77,8 @@ reply_at left = do
   head ← by_reply_stat front.0.1.1 front.1
   Ok ((front.0.0, head.0), head.1)
 
--- What a reply says, and the place of its results, which are what is left; or the fault of the first item that is refused.
+-- What a reply says, and the place of its results, which are what is left; or the fault of the first item that is
+-- refused.
 abbrev pub reply_read : List ℕ → Result ReplyRead XdrFault
 reply_read message = do
   read ← reply_at (record { at = 0; bytes = message })

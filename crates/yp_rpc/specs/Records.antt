@@ -1,5 +1,6 @@
 -- Records in a stream, by RFC 5531 section 11: each is cut into fragments, the last of which is marked.
-use Rattle.std.specs.Prelude.{◌≡◌, ◌≢◌, ℕ, zero, suc, ◌+◌, ◌^◌, ◌<◌, ◌≤◌, All, Bool, true, false, if◌then◌else◌, nat_le, ◌==◌, List, [], ◌∷◌, ◌++◌, length, take, drop, count_by, Option, min, ◌⊎◌}
+use Rattle.std.specs.Prelude.{◌≡◌, ◌≢◌, ℕ, zero, suc, ◌+◌, ◌^◌, ◌<◌, ◌≤◌, All, Bool, true, false, if◌then◌else◌}
+use Rattle.std.specs.Prelude.{nat_le, ◌==◌, List, [], ◌∷◌, ◌++◌, length, take, drop, count_by, Option, min, ◌⊎◌}
 use Rattle.std.specs.List.{flat_map}
 use Rattle.std.specs.Io.KnownBytes.{Consumes, IsAtEnd}
 use Rattle.yp_io.specs.Counts.{HasRisen, last_count}
@@ -57,7 +58,8 @@ pub record Fragments (limit : ℕ) (message bytes : List ℕ) : Type 0 where
 abbrev pub IsPart : ℕ → List (List ℕ) → List ℕ → Type 0
 IsPart limit pieces tail =
     (length tail < 4)
-    ⊎ ((last : Bool) × (len : ℕ) × (body : List ℕ) × (tail ≡ head last len ++ body) × (length body < len) × (len < 2 ^ 31) × (length (joined pieces) + len ≤ limit))
+    ⊎ ((last : Bool) × (len : ℕ) × (body : List ℕ) × (tail ≡ head last len ++ body) × (length body < len)
+    × (len < 2 ^ 31) × (length (joined pieces) + len ≤ limit))
 
 -- a rest that ends inside its first record
 pub record IsTorn (limit : ℕ) (rest : List ℕ) : Type 0 where
@@ -116,17 +118,24 @@ pub record TakesRecord (limit : ℕ) (message : List ℕ) (old new : Option (Lis
 
 -- Why there is no record: its place is where it began. A source that failed had given less than a record.
 abbrev pub HasCause : ℕ → ℕ → Option (List ℕ) → Option (List ℕ) → ℕ → ℕ → RecordFault → Type 0
-HasCause limit place old new before now (Torn at) = (at ≡ place) × (rest : List ℕ) × IsTorn limit rest × Consumes old new rest × IsAtEnd new
-HasCause limit place old new before now (TooLong at) = (at ≡ place) × (front : List ℕ) × IsTooLong limit front × Consumes old new front
-HasCause limit place old new before now ReadFault = HasRisen before now × (part : List ℕ) × Consumes old new part × IsBegun limit part
+HasCause limit place old new before now (Torn at) =
+    (at ≡ place) × (rest : List ℕ) × IsTorn limit rest × Consumes old new rest × IsAtEnd new
+HasCause limit place old new before now (TooLong at) =
+    (at ≡ place) × (front : List ℕ) × IsTooLong limit front × Consumes old new front
+HasCause limit place old new before now ReadFault =
+    HasRisen before now × (part : List ℕ) × Consumes old new part × IsBegun limit part
 
 -- Nothing was left, and nothing was taken.
 abbrev pub IsEmpty : Option (List ℕ) → Option (List ℕ) → Type 0
 IsEmpty old new = Consumes old new [] × IsAtEnd new
 
--- Why there is no whole fragment, of a record that began at the place, has some room left and holds so many empty fragments.
+-- Why there is no whole fragment, of a record that began at the place, has some room left and holds so many empty
+-- fragments.
 abbrev pub HasNoFragment : ℕ → ℕ → ℕ → Option (List ℕ) → Option (List ℕ) → ℕ → ℕ → RecordFault → Type 0
-HasNoFragment room empty place old new before now (Torn at) = (at ≡ place) × (tail : List ℕ) × (0 < length tail) × IsPart room [] tail × Consumes old new tail × IsAtEnd new
+HasNoFragment room empty place old new before now (Torn at) =
+    (at ≡ place) × (tail : List ℕ) × (0 < length tail) × IsPart room [] tail × Consumes old new tail × IsAtEnd new
 HasNoFragment room empty place old new before now (TooLong at) =
-    (at ≡ place) × (last : Bool) × (len : ℕ) × (len < 2 ^ 31) × ((room < len) ⊎ ((len ≡ 0) × (empty_max ≤ empty))) × Consumes old new (head last len)
-HasNoFragment room empty place old new before now ReadFault = HasRisen before now × (part : List ℕ) × Consumes old new part × IsPart room [] part
+    (at ≡ place) × (last : Bool) × (len : ℕ) × (len < 2 ^ 31) × ((room < len) ⊎ ((len ≡ 0) × (empty_max ≤ empty)))
+    × Consumes old new (head last len)
+HasNoFragment room empty place old new before now ReadFault =
+    HasRisen before now × (part : List ℕ) × Consumes old new part × IsPart room [] part

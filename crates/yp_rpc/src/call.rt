@@ -93,7 +93,16 @@ struct Procedure<'a> {
 
 fn read_procedure<'a>(cursor: &mut Cursor<'a>) -> Result<Procedure<'a>, XdrFault>
     ensures read { Reads procedure_kind
-        (λ p. (p.prog, (p.vers, (p.procedure, ((p.credential.flavor, p.credential.body.now), (p.verifier.flavor, p.verifier.body.now))))))
+        (λ p. (
+          p.prog,
+          (
+            p.vers,
+            (
+              p.procedure,
+              ((p.credential.flavor, p.credential.body.now), (p.verifier.flavor, p.verifier.body.now)),
+            ),
+          ),
+        ))
         result (unread cursor.old) (unread cursor.new) }
     ensures end { end_of (unread cursor.new) ≡ end_of (unread cursor.old) }
 {
@@ -141,8 +150,8 @@ pub fn read_call(bytes: &[u8]) -> Heard
     }
 }
 
-/// Writes the head of a call from the front of the buffer, and answers its length, which is 40 bytes. The credential and
-/// the verifier are `AUTH_NONE`. The arguments stand behind it.
+/// Writes the head of a call from the front of the buffer, and answers its length, which is 40 bytes. The credential
+/// and the verifier are `AUTH_NONE`. The arguments stand behind it.
 pub fn write_call(
     buf: &mut [u8],
     xid: u32,

@@ -1,7 +1,9 @@
-//! Laws of records in a stream, on which each reader of one can rely, and of heads that were written and are read again.
+//! Laws of records in a stream, on which each reader of one can rely, and of heads that were written and are read
+//! again.
 //! Each is the contract of a function that does nothing.
 
-ghost use Rattle.yp_rpc.specs.Laws.{CutIsOne, CutExists, FirstIsOne, RestIsNotWhole, TornIsNotLong, TornIsSome, LongIsSome};
+ghost use Rattle.yp_rpc.specs.Laws.{CutIsOne, CutExists, FirstIsOne, RestIsNotWhole, TornIsNotLong, TornIsSome};
+ghost use Rattle.yp_rpc.specs.Laws.{LongIsSome};
 ghost use Rattle.yp_rpc.specs.Laws.{ReplyIsReadAgain, CallIsHeardAgain};
 
 /// The records of a stream and the rest behind them are determined by its bytes, whatever the limit is.

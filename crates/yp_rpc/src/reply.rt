@@ -170,8 +170,8 @@ fn read_denied(cursor: &mut Cursor<'_>) -> Result<ReplyHead, XdrFault>
     Ok(head)
 }
 
-/// Reads the head of a reply, with any verifier, and moves the cursor to its results. It refuses the first item that isn't
-/// as it has to be, at its place, and then the cursor hasn't moved.
+/// Reads the head of a reply, with any verifier, and moves the cursor to its results. It refuses the first item that
+/// isn't as it has to be, at its place, and then the cursor hasn't moved.
 pub fn read_reply_at(cursor: &mut Cursor<'_>) -> Result<ReplyRead, XdrFault>
     ensures read { ReadsAs (reply_at (unread cursor.old)) (λ r. (r.xid, r.head)) result
         (unread cursor.old) (unread cursor.new) }

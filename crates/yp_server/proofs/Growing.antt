@@ -32,18 +32,16 @@ at_one {D} P number old new lt count f h =
     ]
 
 -- what an opening shows
-pub opened_front : {D B : Type 0} (log : B → Log) (showed : ℕ → MapVersion → B → B → Type 0) (number : ℕ) (old new : Published D B)
+pub opened_front : {D B : Type 0} (log : B → Log) (number : ℕ) (old new : Published D B)
     → number < length old.maps → IsSameElsewhere number old.maps new.maps
     → At number old.maps new.maps (λ before after.
     ((new.board ≡ old.board) × (after.version ≡ before.version))
-    ⊎ ((version : MapVersion) × IsAnother version before after
-    × (log new.board ≡ with_shown number version (log old.board)) × showed number version old.board new.board))
+    ⊎ ((version : MapVersion) × IsAnother version before after × (log new.board ≡ with_shown number version (log old.board))))
     → IsFront (log old.board) (log new.board)
-opened_front log showed number old new lt same h =
+opened_front log number old new lt same h =
     at_one (λ before after.
     ((new.board ≡ old.board) × (after.version ≡ before.version))
-    ⊎ ((version : MapVersion) × IsAnother version before after
-    × (log new.board ≡ with_shown number version (log old.board)) × showed number version old.board new.board))
+    ⊎ ((version : MapVersion) × IsAnother version before after × (log new.board ≡ with_shown number version (log old.board))))
     number old.maps new.maps lt same.count
     (λ before after one. elim one [
       | inl still ↦ front_same log old.board new.board still.0

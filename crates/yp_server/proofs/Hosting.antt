@@ -1,5 +1,5 @@
 -- How a host over stored maps passes from one moment of a session to a later one.
-use Rattle.std.proofs.Common.{◌≡◌, inl, inr, ℕ, ◌<◌, Bool, true, false, List, [], ◌∷◌, length, Option, Some, None, refl, sym, ◌∙◌, subst, arith}
+use Rattle.std.proofs.Common.{◌≡◌, inl, inr, ℕ, ◌<◌, Bool, true, false, List, [], ◌∷◌, ◌++◌, map, length, Option, IfSome, refl, sym, ◌∙◌, ap, subst, arith}
 use Rattle.std.specs.List.{Contains, AllByRecursion}
 use Rattle.std.proofs.lemmas.List.Elements.{recursion_from_All, All-contains_itself}
 use Rattle.yp_io.specs.Counts.{next_count}
@@ -11,177 +11,189 @@ use Rattle.yp_build.specs.Kinds.{text_of}
 use Rattle.yp_publish.specs.Standing.{Published}
 use Rattle.yp_answer.specs.declared.procedure.Path.TheVariants.{Stream}
 use Rattle.yp_answer.specs.Answers.{StepsWhere}
-use Rattle.yp_answer.specs.Laws.{OpenIsUnrefused}
-use Rattle.yp_answer.specs.Make.{MakeRequest, made_map, make_check}
+use Rattle.yp_answer.specs.declared.make.Job.{Job}
 use Rattle.yp_answer.specs.Maps.{maps_of}
 use Rattle.yp_answer.specs.Reply.{Response, Silence, Bytes, Open, reply, asks}
-use Rattle.yp_session.specs.Hosts.{Carries}
-use Rattle.yp_session.specs.Runs.{Link, Chain}
-use Rattle.yp_server.specs.declared.desk.Desk.{Desk}
-use Rattle.yp_server.specs.Locals.{Local, Telling, Tells, TellsSame, seen_of}
-use Rattle.yp_server.specs.Anew.{Site, site_of, IsAnew}
-use Rattle.yp_server.specs.Made.{Job, IsAsked, Made, OpensAndTries}
+use Rattle.yp_session.specs.declared.session.End.{End}
+use Rattle.yp_session.specs.declared.session.End.TheVariants.{Clean, Torn, TooLong, ReadFault, WriteFault, Enough}
+use Rattle.yp_session.specs.Wires.{Wire}
+use Rattle.yp_session.specs.Hosts.{Turn, Carries, Link}
+use Rattle.yp_session.specs.Runs.{Dialogue, Chain, Ends, unsent, Runs}
+use Rattle.yp_server.specs.Locals.{Local, Telling, TellsSame, IsUsed, seen_of}
+use Rattle.yp_build.specs.After.{Basis}
+use Rattle.yp_session.specs.Causes.{Told, IsAnew}
+use Rattle.yp_server.specs.Anew.{site_of}
+use Rattle.yp_server.specs.Made.{Made, OpensAndTries}
 use Rattle.yp_server.specs.Connections.{Service, IsCalledFor, IsMade, local_conduct}
-use Rattle.yp_server.proofs.Passing.{Respects, Sound, Passes, passes_none, passes_then, stays_on, opens_on, installs_on}
+use Rattle.yp_server.proofs.Passing.{Respects, Sound, Passes, passes_none, passes_then, stays_on, opens_on, offered_on}
 
 -- ---- desks
 
-pub tells_same : {T C : Type 0} (telling : Telling T C) (desk : Desk T C) → TellsSame telling desk desk
-tells_same telling desk = record { texts = λ file. refl; moment = refl; never_falls = omega arith }
+pub used_never : {E : Type 0} (telling : Telling E) (desk : E) → IsUsed telling desk desk
+used_never telling desk = record { tells = record { texts = λ file. refl; moment = refl }; never_falls = omega arith }
 
-pub tells_then : {T C : Type 0} (telling : Telling T C) (a b c : Desk T C) → TellsSame telling a b → TellsSame telling b c → TellsSame telling a c
-tells_then telling a b c first second = record {
-  texts = λ file. second.texts file ∙ first.texts file;
-  moment = second.moment ∙ first.moment;
+pub used_then : {E : Type 0} (telling : Telling E) (a b c : E) → IsUsed telling a b → IsUsed telling b c → IsUsed telling a c
+used_then telling a b c first second = record {
+  tells = record { texts = λ file. second.tells.texts file ∙ first.tells.texts file; moment = second.tells.moment ∙ first.tells.moment };
   never_falls = omega (arith, first.never_falls, second.never_falls);
 }
 
--- what is built of a later desk is built of an earlier one
-anew_before : {T C : Type 0} (telling : Telling T C) (first now : Desk T C) (site : Site) (version : MapVersion) → TellsSame telling first now
-    → IsAnew telling site now version → IsAnew telling site first version
-anew_before telling first now site version same anew = record {
-  own = anew.own;
+pub told_then : {a b c : Told} → TellsSame a b → TellsSame b c → TellsSame a c
+told_then first second = record { texts = λ file. second.texts file ∙ first.texts file; moment = second.moment ∙ first.moment }
+
+-- what is built of what is told later is built of what is told now
+anew_before : (first now : Told) (site : Basis) (version : MapVersion) → TellsSame first now → IsAnew now site version → IsAnew first site version
+anew_before first now site version same anew = record {
   material = anew.material;
-  told = record {
-    text = subst (λ (o : Option (List ℕ)). Tells o anew.material.text) (same.texts (text_of site.kind)) anew.told.text;
-    moment = subst (λ (o : Option ℕ). Tells o anew.material.moment) same.moment anew.told.moment;
+  of_told = record {
+    text = subst (λ (o : Option (List ℕ)). IfSome o (λ text. anew.material.text ≡ text)) (same.texts (text_of site.kind)) anew.of_told.text;
+    moment = subst (λ (o : Option ℕ). IfSome o (λ moment. anew.material.moment ≡ moment)) same.moment anew.of_told.moment;
   };
-  marked = anew.marked;
+  built = anew.built;
 }
 
-module _ {D B T C : Type 0} (service : Service D B T C) (calls : List (List ℕ)) (first : Desk T C) where
-  pub respects : Respects (IsMade service calls first)
+module _ {D B E : Type 0} (service : Service D B E) (turns : List Turn) (first : Told) where
+  pub respects : Respects (IsMade service turns first)
   respects number log other version e made = record {
-    asked = made.asked;
-    kind = made.kind;
-    called = made.called;
-    allowed = made.allowed;
+    job = made.job;
     of_map = made.of_map;
-    of_kind = made.of_kind;
-    anew = subst (λ (s : Option MapVersion). IsAnew service.telling (site_of made.kind service.catalogue.own s) first version) e made.anew;
+    called = made.called;
+    anew = subst (λ (s : Option MapVersion). IsAnew first (site_of made.job.kind service.catalogue.own s) version) e made.anew;
   }
 
   -- what holds of the host at each moment
-  pub record SoundHost (host : Local D B T C) : Type 0 where
-    pub maps : Sound service.keeping (IsMade service calls first) respects host.published
+  pub record SoundHost (host : Local D B E) : Type 0 where
+    pub maps : Sound service.keeping (IsMade service turns first) respects host.published
     pub catalogue : host.published.catalogue ≡ service.catalogue
-    pub desk : TellsSame service.telling first host.desk
+    pub told : TellsSame first (service.telling.told host.desk)
 
   -- what holds of it at two moments
-  pub record PassesHost (old new : Local D B T C) : Type 0 where
-    pub maps : Passes service.keeping (IsMade service calls first) respects old.published new.published
-    pub desk : TellsSame service.telling old.desk new.desk
+  pub record PassesHost (old new : Local D B E) : Type 0 where
+    pub maps : Passes service.keeping (IsMade service turns first) respects old.published new.published
+    pub desk : IsUsed service.telling old.desk new.desk
 
   -- it was so before, and passed so
-  abbrev pub GoesOnTo : Local D B T C → Local D B T C → Type 0
+  abbrev pub GoesOnTo : Local D B E → Local D B E → Type 0
   GoesOnTo old new = SoundHost new × PassesHost old new
 
-  goes_nowhere : (old new : Local D B T C) → new ≡ old → SoundHost old → GoesOnTo old new
+  goes_nowhere : (old new : Local D B E) → new ≡ old → SoundHost old → GoesOnTo old new
   goes_nowhere old new e sound =
-      subst (λ (h : Local D B T C). GoesOnTo old h) (sym e)
-      (sound, record { maps = passes_none service.keeping (IsMade service calls first) respects old.published; desk = tells_same service.telling old.desk })
+      subst (λ (h : Local D B E). GoesOnTo old h) (sym e)
+      (sound, record { maps = passes_none service.keeping (IsMade service turns first) respects old.published; desk = used_never service.telling old.desk })
 
-  goes_twice : (old middle new : Local D B T C) → GoesOnTo old middle → GoesOnTo middle new → GoesOnTo old new
+  goes_twice : (old middle new : Local D B E) → GoesOnTo old middle → GoesOnTo middle new → GoesOnTo old new
   goes_twice old middle new f s = (
     s.0,
     record {
-      maps = passes_then service.keeping (IsMade service calls first) respects old.published middle.published new.published f.1.maps s.1.maps;
-      desk = tells_then service.telling old.desk middle.desk new.desk f.1.desk s.1.desk;
+      maps = passes_then service.keeping (IsMade service turns first) respects old.published middle.published new.published f.1.maps s.1.maps;
+      desk = used_then service.telling old.desk middle.desk new.desk f.1.desk s.1.desk;
     },
   )
 
   -- a host whose maps went on, over a desk that tells the same
-  with_maps : (old new : Local D B T C) → SoundHost old → TellsSame service.telling old.desk new.desk
-      → Sound service.keeping (IsMade service calls first) respects new.published × Passes service.keeping (IsMade service calls first) respects old.published new.published
+  with_maps : (old new : Local D B E) → SoundHost old → IsUsed service.telling old.desk new.desk
+      → Sound service.keeping (IsMade service turns first) respects new.published × Passes service.keeping (IsMade service turns first) respects old.published new.published
       → GoesOnTo old new
   with_maps old new sound same went = (
-    record { maps = went.0; catalogue = went.1.catalogue ∙ sound.catalogue; desk = tells_then service.telling first old.desk new.desk sound.desk same },
+    record { maps = went.0; catalogue = went.1.catalogue ∙ sound.catalogue; told = told_then sound.told same.tells },
     record { maps = went.1; desk = same },
   )
 
   -- ---- a map that is made
 
-  is_made : (asked : MakeRequest) (job : Job) (old : Local D B T C) (middle : Published D B) (version : MapVersion)
-      → IsCalledFor service calls asked → make_check service.catalogue service.peer asked ≡ None → SoundHost old → IsAsked asked old.published job → middle.catalogue ≡ old.published.catalogue
-      → IsAnew service.telling (site_of job.kind middle.catalogue.own (shown job.number (service.keeping.log middle.board))) old.desk version
-      → IsMade service calls first job.number (service.keeping.log middle.board) version
-  is_made asked job old middle version called allowed sound is_asked same anew = record {
-    asked = asked;
-    kind = job.kind;
+  is_made : (job : Job) (old : Local D B E) (middle : Published D B) (version : MapVersion)
+      → IsCalledFor service turns job → SoundHost old → middle.catalogue ≡ old.published.catalogue
+      → IsAnew (service.telling.told old.desk) (site_of job.kind middle.catalogue.own (shown job.map (service.keeping.log middle.board))) version
+      → IsMade service turns first job.map (service.keeping.log middle.board) version
+  is_made job old middle version called sound same anew = record {
+    job = job;
+    of_map = refl;
     called = called;
-    allowed = allowed;
-    of_map = subst (λ (k : Catalogue). made_map k asked ≡ Some job.number) sound.catalogue is_asked.number;
-    of_kind = is_asked.kind;
     anew =
-        anew_before service.telling first old.desk (site_of job.kind service.catalogue.own (shown job.number (service.keeping.log middle.board))) version sound.desk
-        (subst (λ (k : Catalogue). IsAnew service.telling (site_of job.kind k.own (shown job.number (service.keeping.log middle.board))) old.desk version) (same ∙ sound.catalogue) anew);
+        anew_before first (service.telling.told old.desk) (site_of job.kind service.catalogue.own (shown job.map (service.keeping.log middle.board))) version sound.told
+        (subst (λ (k : Catalogue). IsAnew (service.telling.told old.desk) (site_of job.kind k.own (shown job.map (service.keeping.log middle.board))) version) (same ∙ sound.catalogue) anew);
   }
 
-  opened_on : (asked : MakeRequest) (stat : XfrStat) (job : Job) (old new : Local D B T C) → IsCalledFor service calls asked → make_check service.catalogue service.peer asked ≡ None → SoundHost old
-      → IsAsked asked old.published job → OpensAndTries service.keeping service.telling job stat old new
-      → Sound service.keeping (IsMade service calls first) respects new.published × Passes service.keeping (IsMade service calls first) respects old.published new.published
-  opened_on asked stat job old new called allowed sound is_asked step =
-      let Is = IsMade service calls first in
-      let opened = opens_on service.keeping Is respects job.number old.published step.middle is_asked.kept sound.maps step.opens in
+  opened_on : (stat : XfrStat) (job : Job) (old new : Local D B E) → IsCalledFor service turns job → SoundHost old
+      → job.map < length old.published.maps → OpensAndTries service.keeping service.telling job stat old new
+      → Sound service.keeping (IsMade service turns first) respects new.published × Passes service.keeping (IsMade service turns first) respects old.published new.published
+  opened_on stat job old new called sound kept step =
+      let Is = IsMade service turns first in
+      let opened = opens_on service.keeping Is respects job.map old.published step.middle kept sound.maps step.opens in
       elim step.tries [
         | inl none ↦ subst (λ (p : Published D B). Sound service.keeping Is respects p × Passes service.keeping Is respects old.published p) (sym none.1) opened
         | inr built ↦
-            let within : job.number < length step.middle.maps = subst (λ (n : ℕ). job.number < n) (sym step.opens.kept.elsewhere.count) is_asked.kept in
-            let made = is_made asked job old step.middle built.0 called allowed sound is_asked step.opens.kept.catalogue built.1 in
-            let installed = installs_on service.keeping Is respects job.number built.0 stat step.middle new.published within opened.0 step.opens.level made built.2 in
+            let within : job.map < length step.middle.maps = subst (λ (n : ℕ). job.map < n) (sym step.opens.upheld.elsewhere.count) kept in
+            let made = is_made job old step.middle built.0 called sound step.opens.upheld.catalogue built.1 in
+            let installed = offered_on service.keeping Is respects job.map built.0 stat step.middle new.published within opened.0 step.opens.level made built.2 in
             (installed.0, passes_then service.keeping Is respects old.published step.middle new.published opened.1 installed.1)
       ]
 
-  made_on : (asked : MakeRequest) (stat : XfrStat) (old new : Local D B T C) → IsCalledFor service calls asked → make_check service.catalogue service.peer asked ≡ None → SoundHost old
-      → Made service.keeping service.telling asked stat old new → GoesOnTo old new
-  made_on asked stat old new called allowed sound made =
-      with_maps old new sound made.2.desk (elim made.2.ends [
-        | inl stays ↦ stays_on service.keeping (IsMade service calls first) respects made.0.number stat old.published new.published sound.maps stays
-        | inr tries ↦ opened_on asked stat made.0 old new called allowed sound made.1 tries
+  made_on : (stat : XfrStat) (job : Job) (old new : Local D B E) → IsCalledFor service turns job → SoundHost old
+      → Made service.keeping service.telling job stat old new → GoesOnTo old new
+  made_on stat job old new called sound made =
+      with_maps old new sound made.1.desk (elim made.1.ends [
+        | inl stays ↦ stays_on service.keeping (IsMade service turns first) respects job.map stays.fault old.published new.published sound.maps stays.stays
+        | inr tries ↦ opened_on stat job old new called sound made.0 tries
       ])
 
   -- ---- a record
 
-  counted : (old new : Local D B T C) → new ≡ record old { asked = next_count old.asked } → SoundHost old → GoesOnTo old new
+  counted : (old new : Local D B E) → new ≡ record old { asked = next_count old.asked } → SoundHost old → GoesOnTo old new
   counted old new e sound =
-      subst (λ (h : Local D B T C). GoesOnTo old h) (sym e)
-      (with_maps old (record old { asked = next_count old.asked }) sound (tells_same service.telling old.desk)
-      (sound.maps, passes_none service.keeping (IsMade service calls first) respects old.published))
+      subst (λ (h : Local D B E). GoesOnTo old h) (sym e)
+      (with_maps old (record old { asked = next_count old.asked }) sound (used_never service.telling old.desk)
+      (sound.maps, passes_none service.keeping (IsMade service turns first) respects old.published))
 
-  stepped_on : (asked : Bool) (old new : Local D B T C) → SoundHost old
+  stepped_on : (asked : Bool) (old new : Local D B E) → SoundHost old
       → StepsWhere asked (λ old new. new ≡ record old { asked = next_count old.asked }) (seen_of service.keeping.log) old new → GoesOnTo old new
   stepped_on true old new sound step = counted old new step.0 sound
   stepped_on false old new sound step = goes_nowhere old new step sound
 
-  carried_on : OpenIsUnrefused → (message : List ℕ) (response : Response) (answer : Option (List ℕ)) (old new : Local D B T C) → Contains calls message → SoundHost old
-      → reply Stream (maps_of (seen_of service.keeping.log old)) service.peer message ≡ response
-      → Carries (local_conduct service.keeping service.telling) service.peer response answer old new → GoesOnTo old new
-  carried_on law message Silence answer old new among sound is carried = goes_nowhere old new carried.1 sound
-  carried_on law message (Bytes bytes) answer old new among sound is carried = goes_nowhere old new carried.1 sound
-  carried_on law message (Open xid asked) answer old new among sound is carried =
-      let called : IsCalledFor service calls asked =
-      record { call = message; among = among; maps = maps_of (seen_of service.keeping.log old); of_catalogue = sound.catalogue; xid = xid; left_open = is } in
-      let allowed : make_check old.published.catalogue service.peer asked ≡ None = law Stream (maps_of (seen_of service.keeping.log old)) service.peer message xid asked is in
-      made_on asked carried.0 old new called (subst (λ (k : Catalogue). make_check k service.peer asked ≡ None) sound.catalogue allowed) sound carried.2.made
+  carried_on : (response : Response) (turn : Turn) (old new : Local D B E) → Contains turns turn → SoundHost old
+      → reply Stream (maps_of (seen_of service.keeping.log old)) service.peer turn.message ≡ response
+      → Carries (local_conduct service.keeping service.telling) response turn old new → GoesOnTo old new
+  carried_on Silence turn old new among sound is carried = goes_nowhere old new carried.2 sound
+  carried_on (Bytes bytes) turn old new among sound is carried = goes_nowhere old new carried.2 sound
+  carried_on (Open xid job) turn old new among sound is carried =
+      let called : IsCalledFor service turns job =
+      record { turn = turn; among = among; maps = maps_of (seen_of service.keeping.log old); of_catalogue = sound.catalogue; xid = xid; left_open = is } in
+      made_on carried.0 job old new called sound carried.3.made
 
-  linked_on : OpenIsUnrefused → (message : List ℕ) (answer : Option (List ℕ)) (old new : Local D B T C) → Contains calls message → SoundHost old
-      → Link (local_conduct service.keeping service.telling) service.peer message answer old new → GoesOnTo old new
-  linked_on law message answer old new among sound link =
-      let stepped = stepped_on (asks Stream message) old link.mid sound link.step in
-      let carried = carried_on law message (reply Stream (maps_of (seen_of service.keeping.log link.mid)) service.peer message) answer link.mid new among stepped.0 refl link.carried in
+  linked_on : (turn : Turn) (old new : Local D B E) → Contains turns turn → SoundHost old
+      → Link (local_conduct service.keeping service.telling) Stream service.peer turn old new → GoesOnTo old new
+  linked_on turn old new among sound link =
+      let stepped = stepped_on (asks Stream turn.message) old link.mid sound link.step in
+      let carried = carried_on (reply Stream (maps_of (seen_of service.keeping.log link.mid)) service.peer turn.message) turn link.mid new among stepped.0 refl link.carried in
       goes_twice old link.mid new stepped carried
 
-  chain_on : OpenIsUnrefused → (messages : List (List ℕ)) (answers : List (Option (List ℕ))) (old new : Local D B T C) → AllByRecursion (Contains calls) messages → SoundHost old
-      → Chain (local_conduct service.keeping service.telling) service.peer messages answers old new → GoesOnTo old new
-  chain_on law [] [] old new among sound chain = goes_nowhere old new chain sound
-  chain_on law [] (answer ∷ answers) old new among sound chain = absurd chain
-  chain_on law (message ∷ messages) [] old new among sound chain = absurd chain
-  chain_on law (message ∷ messages) (answer ∷ answers) old new among sound chain =
-      let one = linked_on law message answer old chain.0 among.0 sound chain.1 in
-      goes_twice old chain.0 new one (chain_on law messages answers chain.0 new among.1 one.0 chain.2)
+  chain_on : (answered : List (Turn × Dialogue (Local D B E))) (rest : List Turn) (old new : Dialogue (Local D B E))
+      → AllByRecursion (Contains turns) (map (λ one. one.0) answered ++ rest) → SoundHost old.host
+      → Chain (local_conduct service.keeping service.telling) service.peer answered old new → GoesOnTo old.host new.host × AllByRecursion (Contains turns) rest
+  chain_on [] rest old new among sound chain = (goes_nowhere old.host new.host (ap (λ (d : Dialogue (Local D B E)). d.host) chain) sound, among)
+  chain_on (one ∷ answered) rest old new among sound chain =
+      let first = linked_on one.0 old.host one.1.host among.0 sound chain.0.replied.link in
+      let later = chain_on answered rest one.1 new among.1 first.0 chain.1 in
+      (goes_twice old.host one.1.host new.host first later.0, later.1)
 
--- the whole chain of a session
-pub session_on : {D B T C : Type 0} (service : Service D B T C) (first : Desk T C) → OpenIsUnrefused → (messages : List (List ℕ)) (answers : List (Option (List ℕ))) (old new : Local D B T C)
-    → SoundHost service messages first old → Chain (local_conduct service.keeping service.telling) service.peer messages answers old new → GoesOnTo service messages first old new
-session_on service first law messages answers old new sound chain =
-    chain_on service messages first law messages answers old new (recursion_from_All (Contains messages) messages (All-contains_itself messages)) sound chain
+  ends_on : (most count : ℕ) (end : End) (last new : Dialogue (Local D B E)) (ends : Ends (local_conduct service.keeping service.telling) service.peer most count end last new)
+      → AllByRecursion (Contains turns) (unsent (local_conduct service.keeping service.telling) service.peer most count end last new ends) → SoundHost last.host → GoesOnTo last.host new.host
+  ends_on most count Clean last new ends among sound = goes_nowhere last.host new.host ends.1.1.host sound
+  ends_on most count (Torn at) last new ends among sound = goes_nowhere last.host new.host ends.1.1.host sound
+  ends_on most count (TooLong at) last new ends among sound = goes_nowhere last.host new.host ends.1.1.host sound
+  ends_on most count ReadFault last new ends among sound = goes_nowhere last.host new.host ends.1.1.host sound
+  ends_on most count WriteFault last new ends among sound = linked_on ends.1.0 last.host new.host among.0 sound ends.1.1.replied.link
+  ends_on most count Enough last new ends among sound = goes_nowhere last.host new.host (ap (λ (d : Dialogue (Local D B E)). d.host) ends.1) sound
+
+-- the whole run of a session
+pub session_on : {D B E : Type 0} (service : Service D B E) (first : Told) (most : ℕ) (end : End) (old new : Dialogue (Local D B E)) (wires : List Wire)
+    (runs : Runs (local_conduct service.keeping service.telling) service.peer most end old new wires)
+    → SoundHost service runs.turns first old.host → GoesOnTo service runs.turns first old.host new.host
+session_on service first most end old new wires runs sound =
+    let all = recursion_from_All (Contains runs.turns) runs.turns (All-contains_itself runs.turns) in
+    let rest = unsent (local_conduct service.keeping service.telling) service.peer most (length runs.answered) end runs.last new runs.ends in
+    let among : AllByRecursion (Contains runs.turns) (map (λ one. one.0) runs.answered ++ rest) =
+    subst (λ (turns : List Turn). AllByRecursion (Contains runs.turns) turns) runs.all all in
+    let chain = chain_on service runs.turns first runs.answered rest old runs.last among sound runs.chain in
+    goes_twice service runs.turns first old.host runs.last.host new.host chain.0
+    (ends_on service runs.turns first most (length runs.answered) end runs.last new runs.ends chain.1 chain.0.0)

@@ -3,6 +3,8 @@ pub mod Taking
 pub mod Building
 pub mod Growing
 pub mod Making
+pub mod Leading
 pub mod Passing
 pub mod Hosting
 pub mod Serving
+pub mod Causing

@@ -1,27 +1,29 @@
 -- The making of a map from its steps.
 use Rattle.std.proofs.Common.{◌≡◌, inl, inr, ℕ, sym, subst}
 use Rattle.yp_msgs.specs.declared.transfer.XfrStat.{XfrStat}
+use Rattle.yp_answer.specs.declared.make.Job.{Job}
 use Rattle.yp_publish.specs.Standing.{Published}
-use Rattle.yp_server.specs.Locals.{Local, Keeping, Telling, TellsSame}
-use Rattle.yp_server.specs.Steps.{Opens}
-use Rattle.yp_server.specs.Made.{Job, Tries, Makes}
+use Rattle.yp_publish.specs.Keeping.{Keeping}
+use Rattle.yp_server.specs.Locals.{Local, Telling, IsUsed}
+use Rattle.yp_publish.specs.Opens.{Opens}
+use Rattle.yp_server.specs.Made.{Tries, Makes}
 
 -- a map is opened, and then it is tried to make it
-pub made_from : {D B T C : Type 0} (keeping : Keeping D B) (telling : Telling T C) (job : Job) (stat : XfrStat)
-    (inside old new : Local D B T C) (middle : Published D B)
-    → inside ≡ old → TellsSame telling inside.desk new.desk → new.asked ≡ inside.asked
-    → Opens keeping job.number inside.published middle → Tries keeping telling job stat (record inside { published = middle }) new
+pub made_from : {D B E : Type 0} (keeping : Keeping D B) (telling : Telling E) (job : Job) (stat : XfrStat)
+    (inside old new : Local D B E) (middle : Published D B)
+    → inside ≡ old → IsUsed telling inside.desk new.desk → new.asked ≡ inside.asked
+    → Opens keeping job.map inside.published middle → Tries keeping telling job stat (record inside { published = middle }) new
     → Makes keeping telling job stat old new
-made_from {D} {B} {T} {C} keeping telling job stat inside old new middle is desk asked opens tries =
-    subst (λ (o : Local D B T C). Makes keeping telling job stat o new) is
+made_from {D} {B} {E} keeping telling job stat inside old new middle is desk asked opens tries =
+    subst (λ (o : Local D B E). Makes keeping telling job stat o new) is
     record { desk = desk; asked = asked; ends = inr record { middle = middle; opens = opens; tries = tries } }
 
 -- the count of FILE is no part of it
-pub recounted : {D B T C : Type 0} (keeping : Keeping D B) (telling : Telling T C) (job : Job) (stat : XfrStat)
-    (old inside new : Local D B T C) (files : ℕ)
+pub recounted : {D B E : Type 0} (keeping : Keeping D B) (telling : Telling E) (job : Job) (stat : XfrStat)
+    (old inside new : Local D B E) (files : ℕ)
     → inside ≡ new → Makes keeping telling job stat old new → Makes keeping telling job stat old (record inside { files = files })
-recounted {D} {B} {T} {C} keeping telling job stat old inside new files is made =
-    subst (λ (n : Local D B T C). Makes keeping telling job stat old (record n { files = files })) (sym is) again where
+recounted {D} {B} {E} keeping telling job stat old inside new files is made =
+    subst (λ (n : Local D B E). Makes keeping telling job stat old (record n { files = files })) (sym is) again where
       again : Makes keeping telling job stat old (record new { files = files })
       again = record {
         desk = made.desk;

@@ -5,17 +5,20 @@ use Rattle.std.proofs.lemmas.Option.{slice_get_cases, slice_get_read, slice_get-
 use Rattle.std.proofs.lemmas.Bool.{cases_eq}
 use Rattle.yp_io.specs.Disk.{LeavesOnly}
 use Rattle.yp_msgs.specs.declared.transfer.XfrStat.{XfrStat}
+use Rattle.yp_slot.specs.declared.fault.SlotFault.{SlotFault}
 use Rattle.yp_version.specs.Versions.{MapVersion}
 use Rattle.yp_slot.specs.Stands.{file_max}
 use Rattle.yp_board.specs.Logs.{Log, shown}
 use Rattle.yp_board.specs.Views.{IsFront}
 use Rattle.yp_publish.specs.Standing.{MapStanding, Level, Behind, Kept, Published, StandsAs, IsStanding, OfMap, At, IsSameElsewhere, Shows, stands_for, versions}
-use Rattle.yp_publish.specs.Opens.{IsAnother}
+use Rattle.yp_publish.specs.Opens.{IsAnother, StandsMeanwhile, Opens, IsStillBehind, StaysBehind}
 use Rattle.yp_publish.specs.Rising as rising
 use Rattle.yp_publish.specs.Rising.{with_shown, Reopens, InstallsNewer}
-use Rattle.yp_server.specs.Locals.{Keeping}
-use Rattle.yp_server.specs.Steps.{Keeps, Opens, StaysBehind, Installs}
+use Rattle.yp_publish.specs.Keeping.{Keeping, Upholds}
+use Rattle.yp_publish.specs.Installs.{LeavesEither}
+use Rattle.yp_server.specs.Steps.{Offers}
 use Rattle.yp_server.specs.Connections.{Making, AreMade, GrowsBy, IsOfBetween, IsBehindMade, LeavesOr}
+use Rattle.yp_server.proofs.Leading.{Leads, leads_one, leads_none, leads_then, stand_same}
 use Rattle.yp_server.proofs.Growing.{front_same, front_more, at_one}
 use Rattle.yp_server.proofs.Leaving.{weaker, left_alone, both_leave_or, told_on, told_before, opt_one, opt_both, opt_same, opt_then, opt_second, opt_at, opt_at_both, same_places}
 
@@ -64,13 +67,13 @@ stands_so Is Level number log last version e made front image stood = record {
   log = log;
   begins = front_none log log refl;
   goes_on = front;
-  of_log = inl (stood ∙ ap stands_for (sym e));
+  holds = inl (stood ∙ ap stands_for (sym e));
 }
 stands_so Is (Behind failed) number log last version e made front image stood = record {
   log = log;
   begins = front_none log log refl;
   goes_on = front;
-  of_log = elim stood [ inl is ↦ inl (is ∙ ap stands_for (sym e)) | inr is ↦ inr (failed, made, is) ];
+  holds = elim stood [ inl is ↦ inl (is ∙ ap stands_for (sym e)) | inr is ↦ inr (failed, made, is) ];
 }
 
 -- between wider logs
@@ -79,7 +82,7 @@ wider Is number a b c d before after image is = record {
   log = is.log;
   begins = front_then a b is.log before is.begins;
   goes_on = front_then is.log c d is.goes_on after;
-  of_log = is.of_log;
+  holds = is.holds;
 }
 
 module _ {D : Type 0} where
@@ -133,6 +136,7 @@ module _ {D B : Type 0} (keeping : Keeping D B) (Is : Making) (same : Respects I
     pub bound : (number : ℕ) → At number old.maps new.maps (λ before after. LeavesOr keeping.history (λ image. length image ≤ file_max) before.disk after.disk)
     pub never_falls : (number : ℕ) → At number old.maps new.maps (λ before after. keeping.faults before.disk ≤ keeping.faults after.disk)
     pub entries : ((number : ℕ) → OfMap number old.maps (λ kept. IsSome (keeping.history kept.disk))) → GrowsBy Is (keeping.log old.board) (keeping.log new.board)
+    pub leads : ((number : ℕ) → OfMap number old.maps (λ kept. IsSome (keeping.history kept.disk))) → Leads (rising.moment_of keeping.log old) (rising.moment_of keeping.log new)
 
   still : {P : List ℕ → Type 0} (kept : Kept D) → LeavesOr keeping.history P kept.disk kept.disk
   still kept = left_alone (keeping.history kept.disk) (λ image left. inl left)
@@ -146,6 +150,7 @@ module _ {D B : Type 0} (keeping : Keeping D B) (Is : Making) (same : Respects I
     bound = λ number. opt_same (λ before after. LeavesOr keeping.history (λ image. length image ≤ file_max) before.disk after.disk) (slice_get now.maps number) (slice_get now.maps number) refl (λ kept there. still kept);
     never_falls = λ number. opt_same (λ before after. keeping.faults before.disk ≤ keeping.faults after.disk) (slice_get now.maps number) (slice_get now.maps number) refl (λ kept there. omega arith);
     entries = λ told. grows_none Is (keeping.log now.board) (keeping.log now.board) refl;
+    leads = λ told. leads_none (rising.moment_of keeping.log now) (rising.moment_of keeping.log now) refl;
   }
 
   told_then : (old new : Published D B) → Passes old new → ((number : ℕ) → OfMap number old.maps (λ kept. IsSome (keeping.history kept.disk)))
@@ -170,6 +175,7 @@ module _ {D B : Type 0} (keeping : Keeping D B) (Is : Making) (same : Respects I
         (λ before between after f s. omega arith)
         (first.never_falls number) (second.never_falls number);
     entries = λ told. grows_then Is (keeping.log old.board) (keeping.log middle.board) (keeping.log new.board) (first.entries told) (second.entries (told_then old middle first told));
+    leads = λ told. leads_then (rising.moment_of keeping.log old) (rising.moment_of keeping.log middle) (rising.moment_of keeping.log new) (first.leads told) (second.leads (told_then old middle first told));
   } where
     sooner : (number : ℕ) (before after : Kept D) → LeavesOr keeping.history (IsOfBetween Is number (keeping.log old.board) (keeping.log middle.board)) before.disk after.disk
         → LeavesOr keeping.history (IsOfBetween Is number (keeping.log old.board) (keeping.log new.board)) before.disk after.disk
@@ -185,24 +191,37 @@ module _ {D B : Type 0} (keeping : Keeping D B) (Is : Making) (same : Respects I
 
   -- ---- one step
 
-  -- what a crash leaves at the moments of a step in which the map stands so
-  meanwhile : (number : ℕ) (old new : Published D B) (standing : Kept D → MapStanding) → Sound old → IsFront (keeping.log old.board) (keeping.log new.board)
-      → OfMap number old.maps (λ kept. IsSome (keeping.history kept.disk) → IsBehindMade Is number (keeping.log old.board) (standing kept))
-      → At number old.maps new.maps (λ before after. LeavesOnly (keeping.history before.disk) (keeping.history after.disk) (StandsAs (standing before) before.version))
+  -- what a crash leaves at the moments of a step, of bytes that stand as the map stood, or so
+  meanwhile : {P : List ℕ → Type 0} (number : ℕ) (old new : Published D B) → Sound old → IsFront (keeping.log old.board) (keeping.log new.board)
+      → ((image : List ℕ) → P image → IsOfBetween Is number (keeping.log old.board) (keeping.log new.board) image)
+      → At number old.maps new.maps (λ before after. LeavesOnly (keeping.history before.disk) (keeping.history after.disk) (λ image. StandsAs before.standing before.version image ⊎ P image))
       → At number old.maps new.maps (λ before after. LeavesOr keeping.history (IsOfBetween Is number (keeping.log old.board) (keeping.log new.board)) before.disk after.disk)
-  meanwhile number old new standing sound front made leaves =
+  meanwhile number old new sound front other leaves =
       opt_both (slice_get old.maps number) (slice_get new.maps number)
       (λ before after there here l. weaker (keeping.history before.disk) (keeping.history after.disk)
-      (λ told image stood. inr (stands_so Is (standing before) number (keeping.log old.board) (keeping.log new.board) before.version
-      (shown_is (keeping.log old.board) old.maps number before sound.shows there)
-      (opt_at (λ (kept : Kept D). IsSome (keeping.history kept.disk) → IsBehindMade Is number (keeping.log old.board) (standing kept)) (slice_get old.maps number) before there made told)
-      front image stood)) l)
+      (λ told image stood. elim stood [
+        | inl same ↦ inr (stands_so Is before.standing number (keeping.log old.board) (keeping.log new.board) before.version
+            (shown_is (keeping.log old.board) old.maps number before sound.shows there)
+            (opt_at (λ (kept : Kept D). IsSome (keeping.history kept.disk) → IsBehindMade Is number (keeping.log old.board) kept.standing) (slice_get old.maps number) before there (sound.behind number) told)
+            front image same)
+        | inr so ↦ inr (other image so)
+      ]) l)
       leaves
 
-  step_passes : (number : ℕ) (old new : Published D B) → Keeps keeping number old new → IsFront (keeping.log old.board) (keeping.log new.board)
+  -- the same of a step in which the map stands as it stood
+  stands_meanwhile : (number : ℕ) (old new : Published D B) → Sound old → IsFront (keeping.log old.board) (keeping.log new.board)
+      → At number old.maps new.maps (StandsMeanwhile keeping.history)
       → At number old.maps new.maps (λ before after. LeavesOr keeping.history (IsOfBetween Is number (keeping.log old.board) (keeping.log new.board)) before.disk after.disk)
-      → (OfMap number old.maps (λ kept. IsSome (keeping.history kept.disk)) → GrowsBy Is (keeping.log old.board) (keeping.log new.board)) → Passes old new
-  step_passes number old new keeps front moments entries = record {
+  stands_meanwhile number old new sound front leaves =
+      meanwhile {P = λ image. ⊥} number old new sound front (λ image no. absurd no)
+      (opt_both {P = StandsMeanwhile keeping.history} (slice_get old.maps number) (slice_get new.maps number)
+      (λ before after there here l. weaker (keeping.history before.disk) (keeping.history after.disk) (λ told image stood. inl stood) l.stands) leaves)
+
+  step_passes : (number : ℕ) (old new : Published D B) → Upholds keeping number old new → IsFront (keeping.log old.board) (keeping.log new.board)
+      → At number old.maps new.maps (λ before after. LeavesOr keeping.history (IsOfBetween Is number (keeping.log old.board) (keeping.log new.board)) before.disk after.disk)
+      → (OfMap number old.maps (λ kept. IsSome (keeping.history kept.disk)) → GrowsBy Is (keeping.log old.board) (keeping.log new.board))
+      → (OfMap number old.maps (λ kept. IsSome (keeping.history kept.disk)) → rising.Steps (rising.moment_of keeping.log old) (rising.moment_of keeping.log new)) → Passes old new
+  step_passes number old new keeps front moments entries steps = record {
     catalogue = keeps.catalogue;
     count = keeps.elsewhere.count;
     grown = front;
@@ -215,9 +234,10 @@ module _ {D B : Type 0} (keeping : Keeping D B) (Is : Making) (same : Respects I
     never_falls = everywhere (λ other before after. keeping.faults before.disk ≤ keeping.faults after.disk)
         number old.maps new.maps keeps.elsewhere (λ other kept. omega arith) keeps.never_falls;
     entries = λ told. entries (told number);
+    leads = λ told. leads_one (rising.moment_of keeping.log old) (rising.moment_of keeping.log new) (steps (told number));
   }
 
-  step_sound : (number : ℕ) (old new : Published D B) → Sound old → Keeps keeping number old new
+  step_sound : (number : ℕ) (old new : Published D B) → Sound old → Upholds keeping number old new
       → OfMap number new.maps (λ kept. IsSome (keeping.history kept.disk) → IsBehindMade Is number (keeping.log new.board) kept.standing) → Sound new
   step_sound number old new sound keeps at = record {
     shows = keeps.shows;
@@ -237,27 +257,35 @@ module _ {D B : Type 0} (keeping : Keeping D B) (Is : Making) (same : Respects I
         (sound.behind other))
 
   -- a map that isn't opened
-  pub stays_on : (number : ℕ) (stat : XfrStat) (old new : Published D B) → Sound old → StaysBehind keeping number stat old new → Sound new × Passes old new
-  stays_on number stat old new sound step =
+  pub stays_on : (number : ℕ) (fault : SlotFault) (old new : Published D B) → Sound old → StaysBehind keeping number fault old new → Sound new × Passes old new
+  stays_on number fault old new sound step =
       let same_log : keeping.log new.board ≡ keeping.log old.board = ap keeping.log step.not_shown in
       let front : IsFront (keeping.log old.board) (keeping.log new.board) = front_none (keeping.log old.board) (keeping.log new.board) same_log in (
-        step_sound number old new sound step.kept
-            (opt_second (slice_get old.maps number) (slice_get new.maps number) (same_places new.maps old.maps number step.kept.elsewhere.count)
+        step_sound number old new sound step.upheld
+            (opt_second (slice_get old.maps number) (slice_get new.maps number) (same_places new.maps old.maps number step.upheld.elsewhere.count)
             (λ before after there here is told. still_behind before after there here is told)
-            step.same),
-        step_passes number old new step.kept front (meanwhile number old new (λ kept. kept.standing) sound front (sound.behind number) step.meanwhile)
-            (λ told. grows_none Is (keeping.log old.board) (keeping.log new.board) same_log),
+            step.still),
+        step_passes number old new step.upheld front (stands_meanwhile number old new sound front step.meanwhile)
+            (λ told. grows_none Is (keeping.log old.board) (keeping.log new.board) same_log)
+            (λ told. inr (number, inl same_moment)),
       ) where
+        stands : (other : ℕ) → At other old.maps new.maps (λ before after. after.standing ≡ before.standing)
+        stands = everywhere (λ other before after. after.standing ≡ before.standing) number old.maps new.maps step.upheld.elsewhere (λ other kept. refl)
+            (opt_both {P = IsStillBehind keeping.history fault} (slice_get old.maps number) (slice_get new.maps number) (λ before after there here is. ap (λ (k : Kept D). k.standing) is.same) step.still)
+
+        same_moment : rising.moment_of keeping.log new ≡ rising.moment_of keeping.log old
+        same_moment = rw (step.not_shown, stand_same old.maps new.maps step.upheld.elsewhere.count stands) refl
+
         still_behind : (before after : Kept D) → slice_get old.maps number ≡ Some before → slice_get new.maps number ≡ Some after
-            → after ≡ record before { disk = after.disk; generation = after.generation } → IsSome (keeping.history after.disk)
+            → IsStillBehind keeping.history fault before after → IsSome (keeping.history after.disk)
             → IsBehindMade Is number (keeping.log new.board) after.standing
         still_behind before after there here is told =
-            let went = opt_at_both (λ (b a : Kept D). LeavesOnly (keeping.history b.disk) (keeping.history a.disk) (StandsAs b.standing b.version))
+            let went = opt_at_both (StandsMeanwhile keeping.history)
             (slice_get old.maps number) (slice_get new.maps number) before after there here step.meanwhile in
-            let told_then : IsSome (keeping.history before.disk) = told_before (keeping.history before.disk) (keeping.history after.disk) went.goes_on told in
+            let told_then : IsSome (keeping.history before.disk) = told_before (keeping.history before.disk) (keeping.history after.disk) went.stands.goes_on told in
             let made : IsBehindMade Is number (keeping.log old.board) before.standing =
             opt_at (λ (kept : Kept D). IsSome (keeping.history kept.disk) → IsBehindMade Is number (keeping.log old.board) kept.standing) (slice_get old.maps number) before there (sound.behind number) told_then in
-            let standing : after.standing ≡ before.standing = ap (λ (k : Kept D). k.standing) is in
+            let standing : after.standing ≡ before.standing = ap (λ (k : Kept D). k.standing) is.same in
             subst (λ (l : Log). IsBehindMade Is number l after.standing) (sym (ap keeping.log step.not_shown))
             (subst (λ (s : MapStanding). IsBehindMade Is number (keeping.log old.board) s) (sym standing) made)
 
@@ -268,23 +296,28 @@ module _ {D B : Type 0} (keeping : Keeping D B) (Is : Making) (same : Respects I
       at_one (λ before after.
       ((new.board ≡ old.board) × (after.version ≡ before.version))
       ⊎ ((version : MapVersion) × IsAnother version before after × (keeping.log new.board ≡ with_shown number version (keeping.log old.board))))
-      number old.maps new.maps within step.kept.elsewhere.count
+      number old.maps new.maps within step.upheld.elsewhere.count
       (λ before after one. elim one [ inl none ↦ front_same keeping.log old.board new.board none.0 | inr more ↦ front_more number more.0 (keeping.log old.board) (keeping.log new.board) more.2 ])
       step.shown in (
-        step_sound number old new sound step.kept
+        step_sound number old new sound step.upheld
             (opt_one (slice_get new.maps number) (λ kept there level told. subst (λ (s : MapStanding). IsBehindMade Is number (keeping.log new.board) s) (sym level) tt) step.level),
-        step_passes number old new step.kept front (meanwhile number old new (λ kept. kept.standing) sound front (sound.behind number) step.meanwhile)
-            (λ told. reopened (the_map old.maps number within) told),
+        step_passes number old new step.upheld front (stands_meanwhile number old new sound front step.meanwhile)
+            (λ told. reopened (the_map old.maps number within) told)
+            (λ told. inr (number, rises (the_map old.maps number within) told)),
       ) where
+        rises : (kept : Kept D) × (slice_get old.maps number ≡ Some kept) → OfMap number old.maps (λ kept. IsSome (keeping.history kept.disk))
+            → Reopens number (rising.moment_of keeping.log old) (rising.moment_of keeping.log new)
+        rises map told =
+            opt_at (λ (kept : Kept D). IsSome (keeping.history kept.disk) → Reopens number (rising.moment_of keeping.log old) (rising.moment_of keeping.log new)) (slice_get old.maps number) map.0 map.1 step.rising
+            (opt_at Told (slice_get old.maps number) map.0 map.1 told)
+
         reopened : (kept : Kept D) × (slice_get old.maps number ≡ Some kept) → OfMap number old.maps (λ kept. IsSome (keeping.history kept.disk))
             → GrowsBy Is (keeping.log old.board) (keeping.log new.board)
         reopened map told =
             let told_here : IsSome (keeping.history map.0.disk) = opt_at Told (slice_get old.maps number) map.0 map.1 told in
             let made : IsBehindMade Is number (keeping.log old.board) map.0.standing =
             opt_at (λ (kept : Kept D). IsSome (keeping.history kept.disk) → IsBehindMade Is number (keeping.log old.board) kept.standing) (slice_get old.maps number) map.0 map.1 (sound.behind number) told_here in
-            let rises : Reopens number (rising.moment_of keeping.log old) (rising.moment_of keeping.log new) =
-            opt_at (λ (kept : Kept D). IsSome (keeping.history kept.disk) → Reopens number (rising.moment_of keeping.log old) (rising.moment_of keeping.log new)) (slice_get old.maps number) map.0 map.1 step.rising told_here in
-            elim rises [
+            elim (rises map told) [
               | inl e ↦ grows_none Is (keeping.log old.board) (keeping.log new.board) (ap (λ (m : rising.Moment). m.log) e)
               | inr was ↦ elim was.2 [
                 | inl e ↦ grows_none Is (keeping.log old.board) (keeping.log new.board) (ap (λ (m : rising.Moment). m.log) e)
@@ -296,29 +329,36 @@ module _ {D B : Type 0} (keeping : Keeping D B) (Is : Making) (same : Respects I
             ]
 
   -- a version that was made and offered
-  pub installs_on : (number : ℕ) (version : MapVersion) (stat : XfrStat) (old new : Published D B) → number < length old.maps → Sound old
-      → OfMap number old.maps (λ kept. kept.standing ≡ Level) → Is number (keeping.log old.board) version → Installs keeping number version stat old new → Sound new × Passes old new
-  installs_on number version stat old new within sound level made step =
-      let front : IsFront (keeping.log old.board) (keeping.log new.board) = elim step.rising [
+  offers_on : (number : ℕ) (version : MapVersion) (old new : Published D B) → number < length old.maps → Sound old
+      → OfMap number old.maps (λ kept. kept.standing ≡ Level) → Is number (keeping.log old.board) version
+      → Upholds keeping number old new → At number old.maps new.maps (LeavesEither keeping.history version)
+      → InstallsNewer number version (rising.moment_of keeping.log old) (rising.moment_of keeping.log new) → Sound new × Passes old new
+  offers_on number version old new within sound level made upheld leaves rises =
+      let front : IsFront (keeping.log old.board) (keeping.log new.board) = elim rises [
         | inl e ↦ front_none (keeping.log old.board) (keeping.log new.board) (ap (λ (m : rising.Moment). m.log) e)
         | inr stores ↦ elim stores.1.1 [
           | inl e ↦ front_more number version (keeping.log old.board) (keeping.log new.board) (ap (λ (m : rising.Moment). m.log) e)
           | inr e ↦ front_none (keeping.log old.board) (keeping.log new.board) (ap (λ (m : rising.Moment). m.log) e)
         ]
       ] in
-      let grows : GrowsBy Is (keeping.log old.board) (keeping.log new.board) = elim step.rising [
+      let grows : GrowsBy Is (keeping.log old.board) (keeping.log new.board) = elim rises [
         | inl e ↦ grows_none Is (keeping.log old.board) (keeping.log new.board) (ap (λ (m : rising.Moment). m.log) e)
         | inr stores ↦ elim stores.1.1 [
           | inl e ↦ grows_one Is number version (keeping.log old.board) (keeping.log new.board) made (ap (λ (m : rising.Moment). m.log) e)
           | inr e ↦ grows_none Is (keeping.log old.board) (keeping.log new.board) (ap (λ (m : rising.Moment). m.log) e)
         ]
       ] in (
-        step_sound number old new sound step.kept
-            (opt_one {P = λ kept. IsStanding keeping.history kept} (slice_get new.maps number) (λ kept there standing told. standing_so (the_map old.maps number within) kept there) step.kept.standing),
-        step_passes number old new step.kept front
-            (meanwhile number old new (λ kept. Behind version) sound front
-            (opt_one (slice_get old.maps number) (λ kept there level told. made) level) step.meanwhile)
-            (λ told. grows),
+        step_sound number old new sound upheld
+            (opt_one {P = λ kept. IsStanding keeping.history kept} (slice_get new.maps number) (λ kept there standing told. standing_so (the_map old.maps number within) kept there) upheld.standing),
+        step_passes number old new upheld front
+            (meanwhile number old new sound front
+            (λ image stored. record {
+              log = keeping.log old.board;
+              begins = front_none (keeping.log old.board) (keeping.log old.board) refl;
+              goes_on = front;
+              holds = inr (version, made, stored);
+            }) leaves)
+            (λ told. grows) (λ told. inl (number, version, rises)),
       ) where
         -- a map that stands as before is level
         level_so : (was : (kept : Kept D) × (slice_get old.maps number ≡ Some kept)) (kept : Kept D) → slice_get new.maps number ≡ Some kept
@@ -330,7 +370,7 @@ module _ {D B : Type 0} (keeping : Keeping D B) (Is : Making) (same : Respects I
             subst (λ (s : MapStanding). IsBehindMade Is number (keeping.log new.board) s) (sym (now ∙ before)) tt
 
         standing_so : (kept : Kept D) × (slice_get old.maps number ≡ Some kept) → (kept : Kept D) → slice_get new.maps number ≡ Some kept → IsBehindMade Is number (keeping.log new.board) kept.standing
-        standing_so was kept there = elim step.rising [
+        standing_so was kept there = elim rises [
           | inl e ↦ level_so was kept there (ap (λ (m : rising.Moment). m.standings) e)
           | inr stores ↦ elim stores.1.1 [
             | inl e ↦ level_so was kept there (ap (λ (m : rising.Moment). m.standings) e)
@@ -342,3 +382,11 @@ module _ {D B : Type 0} (keeping : Keeping D B) (Is : Making) (same : Respects I
                 (subst (λ (l : Log). Is number l version) (sym (ap (λ (m : rising.Moment). m.log) e)) made)
           ]
         ]
+
+  -- a version that was built and is offered
+  pub offered_on : (number : ℕ) (version : MapVersion) (stat : XfrStat) (old new : Published D B) → number < length old.maps → Sound old
+      → OfMap number old.maps (λ kept. kept.standing ≡ Level) → Is number (keeping.log old.board) version → Offers keeping number version stat old new → Sound new × Passes old new
+  offered_on number version stat old new within sound level made step = elim step [
+    | inl ok ↦ offers_on number version old new within sound level made ok.1.upheld ok.1.meanwhile (ok.1.rising refl)
+    | inr failed ↦ offers_on number version old new within sound level made failed.refuses.upheld failed.refuses.meanwhile (failed.refuses.rising refl)
+  ]

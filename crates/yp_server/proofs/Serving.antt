@@ -9,17 +9,20 @@ use Rattle.yp_slot.specs.Stands.{file_max}
 use Rattle.yp_slot.specs.declared.fault.SlotFault.{SlotFault}
 use Rattle.yp_slot.specs.declared.fault.SlotFault.TheVariants as cause
 use Rattle.yp_board.specs.Logs.{Log, starts}
-use Rattle.yp_publish.specs.Laws.{StartsAreShown}
+use Rattle.yp_publish.specs.Laws.{StartsAreShown, LogRises, BeginningIsStart}
 use Rattle.yp_publish.specs.Standing.{MapStanding, Kept, Published, At, Shows, versions}
 use Rattle.yp_publish.specs.Opens.{IsOpened, IsStopped, LeavesNoMore}
-use Rattle.yp_answer.specs.Laws.{OpenIsUnrefused}
-use Rattle.yp_session.specs.Runs.{Runs}
+use Rattle.yp_session.specs.Wires.{Wire}
+use Rattle.yp_session.specs.Progress.{Progress, begun}
+use Rattle.yp_session.specs.Hosts.{Turn}
+use Rattle.yp_session.specs.Runs.{dialogue_at, Runs}
 use Rattle.yp_session.specs.declared.session.End.{End}
-use Rattle.yp_server.specs.declared.desk.Desk.{Desk}
-use Rattle.yp_server.specs.Locals.{Local, TellsSame}
-use Rattle.yp_server.specs.Connections.{calls_max, Service, Connection, local_conduct, moment_at, IsFirst, IsLast, IsMade, IsOfBetween, IsBehindMade, AtDisk, LeavesOr, AreTold, Serves, IsUnserved, refusal}
+use Rattle.yp_session.specs.declared.session.TheConstants.{CALLS_MAX}
+use Rattle.yp_server.specs.Locals.{Local, TellsSame, IsUsed}
+use Rattle.yp_server.specs.Connections.{Service, Connection, local_conduct, IsFirst, IsLast, IsMade, IsOfBetween, IsBehindMade, AtDisk, LeavesOr, AreTold, Serves, IsUnserved, refusal}
 use Rattle.yp_server.proofs.Leaving.{weaker, left_alone, both_leave_or, told_on, opt_both, opt_then, opt_second, opt_at, opt_put_map, same_places, zip_at, all_at}
-use Rattle.yp_server.proofs.Hosting.{SoundHost, GoesOnTo, tells_same, session_on}
+use Rattle.yp_server.proofs.Leading.{rises_from}
+use Rattle.yp_server.proofs.Hosting.{SoundHost, GoesOnTo, session_on}
 
 -- ---- disks that were only opened
 
@@ -79,7 +82,7 @@ module _ {D : Type 0} (history : D → Option History) (faults : D → ℕ) wher
 
 -- ---- a connection that was served
 
-module _ {D B T C : Type 0} (service : Service D B T C) (old new : Connection D T C) (start finish : Local D B T C) where
+module _ {D B E : Type 0} (service : Service D B E) (old new : Connection D E) (start finish : Local D B E) where
   -- the host that is made of what was loaded
   pub first_from : (loaded : List (Kept D)) (board : B) (published : Published D B)
       → start ≡ record { published = published; desk = old.desk; asked = 0; files = 0 } → published ≡ record { catalogue = service.catalogue; maps = loaded; board = board }
@@ -87,28 +90,28 @@ module _ {D B T C : Type 0} (service : Service D B T C) (old new : Connection D 
   first_from loaded board published is parts opened log =
       let whole : start ≡ record { published = record { catalogue = service.catalogue; maps = loaded; board = board }; desk = old.desk; asked = 0; files = 0 } =
       is ∙ ap (λ (p : Published D B). record { published = p; desk = old.desk; asked = 0; files = 0 }) parts in
-      subst (λ (host : Local D B T C). IsFirst service old host) (sym whole)
+      subst (λ (host : Local D B E). IsFirst service old host) (sym whole)
       record { catalogue = refl; opened = opened; log = log; desk = refl; asked = refl; files = refl }
 
-  first_sound : (calls : List (List ℕ)) → StartsAreShown → IsFirst service old start → SoundHost service calls old.desk start
-  first_sound calls law first = record {
+  first_sound : (turns : List Turn) → StartsAreShown → IsFirst service old start → SoundHost service turns (service.telling.told old.desk) start
+  first_sound turns law first = record {
     maps = record {
       shows = subst (λ (l : Log). Shows l (versions start.published.maps)) (sym first.log) (law (versions start.published.maps));
       behind = λ number.
           opt_second {P = IsOpened service.keeping.history service.keeping.faults} (slice_get old.disks number) (slice_get start.published.maps number)
           (same_places start.published.maps old.disks number (AllZip-long (IsOpened service.keeping.history service.keeping.faults) old.disks start.published.maps first.opened))
-          (λ disk kept there here opened told. subst (λ (s : MapStanding). IsBehindMade (IsMade service calls old.desk) number (service.keeping.log start.published.board) s) (sym opened.level) tt)
+          (λ disk kept there here opened told. subst (λ (s : MapStanding). IsBehindMade (IsMade service turns (service.telling.told old.desk)) number (service.keeping.log start.published.board) s) (sym opened.level) tt)
           (zip_at (IsOpened service.keeping.history service.keeping.faults) old.disks start.published.maps number first.opened);
     };
     catalogue = first.catalogue;
-    desk = subst (λ (d : Desk T C). TellsSame service.telling old.desk d) (sym first.desk) (tells_same service.telling old.desk);
+    told = subst (λ (d : E). TellsSame (service.telling.told old.desk) (service.telling.told d)) (sym first.desk) (record { texts = λ file. refl; moment = refl });
   }
 
-  pub went_on : OpenIsUnrefused → StartsAreShown → (end : End) (calls place : ℕ) → IsFirst service old start
-      → (runs : Runs (local_conduct service.keeping service.telling) service.peer calls_max end (moment_at start old.wire 0) (moment_at finish new.wire place) calls)
-      → GoesOnTo service runs.messages old.desk start finish
-  went_on unrefused shown end calls place first runs =
-      session_on service old.desk unrefused runs.messages runs.answers start finish (first_sound runs.messages shown first) runs.chain
+  pub went_on : StartsAreShown → (end : End) (progress : Progress) (wires : List Wire) → IsFirst service old start
+      → (runs : Runs (local_conduct service.keeping service.telling) service.peer CALLS_MAX end (dialogue_at start old.wire begun) (dialogue_at finish new.wire progress) wires)
+      → GoesOnTo service runs.turns (service.telling.told old.desk) start finish
+  went_on shown end progress wires first runs =
+      session_on service (service.telling.told old.desk) CALLS_MAX end (dialogue_at start old.wire begun) (dialogue_at finish new.wire progress) wires runs (first_sound runs.turns shown first)
 
   -- what holds of a disk from its opening to its handing back
   through : (P : D → D → Type 0) (Q : Kept D → Kept D → Type 0) (number : ℕ)
@@ -137,43 +140,44 @@ module _ {D B T C : Type 0} (service : Service D B T C) (old new : Connection D 
       (opt_at (λ (d : D). IsSome (service.keeping.history d)) (slice_get old.disks number) disk there (all_at (λ (d : D). IsSome (service.keeping.history d)) old.disks number told)))
       (zip_at (IsOpened service.keeping.history service.keeping.faults) old.disks start.published.maps number first.opened)
 
-  pub served : (end : End) (calls place : ℕ) → IsFirst service old start
-      → (runs : Runs (local_conduct service.keeping service.telling) service.peer calls_max end (moment_at start old.wire 0) (moment_at finish new.wire place) calls)
-      → GoesOnTo service runs.messages old.desk start finish → IsLast service finish new → Serves service end old new
-  served end calls place first runs went last = record {
+  pub served : LogRises → BeginningIsStart → (end : End) (progress : Progress) (wires : List Wire) → IsFirst service old start
+      → (runs : Runs (local_conduct service.keeping service.telling) service.peer CALLS_MAX end (dialogue_at start old.wire begun) (dialogue_at finish new.wire progress) wires)
+      → GoesOnTo service runs.turns (service.telling.told old.desk) start finish → IsLast service finish new → Serves service end old new wires
+  served rises begins end progress wires first runs went last = record {
     start = start;
     finish = finish;
-    calls = calls;
-    place = place;
+    progress = progress;
     first = first;
     runs = runs;
     last = last;
     any_moment = λ number.
-        through (LeavesOr service.keeping.history (IsOfBetween (IsMade service runs.messages old.desk) number (service.keeping.log start.published.board) (service.keeping.log finish.published.board)))
-        (λ before after. LeavesOr service.keeping.history (IsOfBetween (IsMade service runs.messages old.desk) number (service.keeping.log start.published.board) (service.keeping.log finish.published.board)) before.disk after.disk)
+        through (LeavesOr service.keeping.history (IsOfBetween (IsMade service runs.turns (service.telling.told old.desk)) number (service.keeping.log start.published.board) (service.keeping.log finish.published.board)))
+        (λ before after. LeavesOr service.keeping.history (IsOfBetween (IsMade service runs.turns (service.telling.told old.desk)) number (service.keeping.log start.published.board) (service.keeping.log finish.published.board)) before.disk after.disk)
         number with_opening first (went.1.maps.moments number) last;
     behind = went.0.maps.behind;
     grown = λ told. went.1.maps.entries (told_maps first told);
+    rises = λ told. rises_from rises begins service.keeping.history service.keeping.faults old.disks start.published.maps (service.keeping.log start.published.board) (service.keeping.log finish.published.board) _
+        first.opened first.log (went.1.maps.leads (told_maps first told));
   }
 
-  pub served_bound : {messages : List (List ℕ)} → IsFirst service old start → GoesOnTo service messages old.desk start finish → IsLast service finish new
+  pub served_bound : {turns : List Turn} → IsFirst service old start → GoesOnTo service turns (service.telling.told old.desk) start finish → IsLast service finish new
       → (number : ℕ) → AtDisk number old.disks new.disks (LeavesOr service.keeping.history (λ image. length image ≤ file_max))
   served_bound first went last number =
       through (LeavesOr service.keeping.history (λ image. length image ≤ file_max)) (λ before after. LeavesOr service.keeping.history (λ image. length image ≤ file_max) before.disk after.disk)
       number with_opening first (went.1.maps.bound number) last
 
-  pub served_falls : {messages : List (List ℕ)} → IsFirst service old start → GoesOnTo service messages old.desk start finish → IsLast service finish new
+  pub served_falls : {turns : List Turn} → IsFirst service old start → GoesOnTo service turns (service.telling.told old.desk) start finish → IsLast service finish new
       → (number : ℕ) → AtDisk number old.disks new.disks (λ before after. service.keeping.faults before ≤ service.keeping.faults after)
   served_falls first went last number =
       through (λ before after. service.keeping.faults before ≤ service.keeping.faults after) (λ before after. service.keeping.faults before.disk ≤ service.keeping.faults after.disk)
       number (λ disk before after opened le. omega (arith, opened.never_falls)) first (went.1.maps.never_falls number) last
 
-  pub served_count : {messages : List (List ℕ)} → IsFirst service old start → GoesOnTo service messages old.desk start finish → IsLast service finish new → length new.disks ≡ length old.disks
+  pub served_count : {turns : List Turn} → IsFirst service old start → GoesOnTo service turns (service.telling.told old.desk) start finish → IsLast service finish new → length new.disks ≡ length old.disks
   served_count first went last =
       ap length last.disks ∙ length-map finish.published.maps (λ (kept : Kept D). kept.disk) ∙ went.1.maps.count
       ∙ AllZip-long (IsOpened service.keeping.history service.keeping.faults) old.disks start.published.maps first.opened
 
-  pub served_desk : {messages : List (List ℕ)} → IsFirst service old start → GoesOnTo service messages old.desk start finish → IsLast service finish new → TellsSame service.telling old.desk new.desk
+  pub served_desk : {turns : List Turn} → IsFirst service old start → GoesOnTo service turns (service.telling.told old.desk) start finish → IsLast service finish new → IsUsed service.telling old.desk new.desk
   served_desk first went last =
-      subst (λ (d : Desk T C). TellsSame service.telling d new.desk) first.desk
-      (subst (λ (d : Desk T C). TellsSame service.telling start.desk d) (sym last.desk) went.1.desk)
+      subst (λ (d : E). IsUsed service.telling d new.desk) first.desk
+      (subst (λ (d : E). IsUsed service.telling start.desk d) (sym last.desk) went.1.desk)

@@ -1,6 +1,7 @@
 -- One connection over stored maps: the host that it starts with, the one that it ends with, and what a crash leaves at
 -- each moment between.
-use Rattle.std.specs.Prelude.{◌≡◌, ◌≢◌, ◌⊎◌, ℕ, List, [], ◌∷◌, ◌++◌, map, slice_get, All, Contains, Option, Some, None, IfSome, IsSome, ⊤}
+use Rattle.std.specs.Prelude.{◌≡◌, ◌≢◌, ◌⊎◌, ℕ, List, [], ◌∷◌, ◌++◌, map, slice_get, All, Contains, Option}
+use Rattle.std.specs.Prelude.{IfSome, IsSome, ⊤}
 use Rattle.std.specs.List.{AllZip}
 use Rattle.yp_io.specs.Counts.{next_count}
 use Rattle.yp_io.specs.Disk.{History, LeavesOnly, MayLeave}
@@ -11,29 +12,29 @@ use Rattle.yp_slot.specs.declared.fault.SlotFault.{SlotFault}
 use Rattle.yp_slot.specs.declared.fault.SlotFault.TheVariants as cause
 use Rattle.yp_board.specs.Catalogues.{Catalogue}
 use Rattle.yp_board.specs.Logs.{Log, shown, starts}
-use Rattle.yp_board.specs.Views.{Seen, IsFront}
-use Rattle.yp_build.specs.declared.kind.Kind.{Kind}
+use Rattle.yp_board.specs.Views.{Seen}
 use Rattle.yp_answer.specs.declared.procedure.Path.TheVariants.{Stream}
 use Rattle.yp_answer.specs.Maps.{Maps}
 use Rattle.yp_answer.specs.Reply.{Open, reply}
-use Rattle.yp_answer.specs.Make.{MakeRequest, kind_numbered, made_map, make_check}
+use Rattle.yp_answer.specs.declared.make.Job.{Job}
 use Rattle.yp_publish.specs.Standing.{MapStanding, Level, Behind, IsStanding, OfMap, Shows, stands_for, versions}
 use Rattle.yp_publish.specs.Opens.{IsOpened, IsStopped}
-use Rattle.yp_session.specs.Hosts.{Conduct, conduct_of}
-use Rattle.yp_session.specs.Runs.{Moment, Runs}
+use Rattle.yp_publish.specs.Rising.{IsRisingLog}
+use Rattle.yp_session.specs.Progress.{Progress, begun}
+use Rattle.yp_session.specs.Hosts.{Conduct, Turn, conduct_of}
+use Rattle.yp_session.specs.Runs.{dialogue_at, Runs}
 use Rattle.yp_session.specs.Wires.{Wire}
 use Rattle.yp_session.specs.declared.session.End.{End}
+use Rattle.yp_session.specs.declared.session.TheConstants.{CALLS_MAX}
 use Rattle.yp_server.specs.declared.connection.Stock.{Stock}
 use Rattle.yp_server.specs.declared.connection.Unserved.{Unserved}
 use Rattle.yp_server.specs.declared.connection.Unserved.TheVariants.{Refused, NoMemory}
+use Rattle.yp_publish.specs.Keeping.{Keeping}
 use Rattle.yp_server.specs.declared.desk.Desk.{Desk}
-use Rattle.yp_server.specs.Locals.{Local, Keeping, Telling, seen_of}
-use Rattle.yp_server.specs.Anew.{site_of, IsAnew}
+use Rattle.yp_server.specs.Locals.{Local, Telling, seen_of}
+use Rattle.yp_session.specs.Causes.{Told, Between, IsAnew}
+use Rattle.yp_server.specs.Anew.{site_of}
 use Rattle.yp_server.specs.Made.{Made}
-
--- the most records of a connection
-abbrev pub calls_max : ℕ
-calls_max = 1000000000
 
 -- what was shown on a plain board
 abbrev pub plain_log : Seen → Log
@@ -41,39 +42,41 @@ plain_log board = board.known
 
 -- what a connection is served by, and to whom: what its disks and its board tell, what its texts and its clock tell,
 -- the maps, and the caller
-pub record Service (D B T C : Type 0) : Type 0 where
+pub record Service (D B E : Type 0) : Type 0 where
   pub keeping : Keeping D B
-  pub telling : Telling T C
+  pub telling : Telling E
   pub catalogue : Catalogue
   pub peer : Peer
 
-abbrev pub service_of : {D B T C : Type 0} → Keeping D B → Telling T C → Catalogue → Peer → Service D B T C
+abbrev pub service_of : {D B E : Type 0} → Keeping D B → Telling E → Catalogue → Peer → Service D B E
 service_of keeping telling catalogue peer =
     record { keeping = keeping; telling = telling; catalogue = catalogue; peer = peer }
 
 -- a connection at a moment: what its wire tells, its disks in the order of the maps, and its desk
-pub record Connection (D T C : Type 0) : Type 0 where
+pub record Connection (D E : Type 0) : Type 0 where
   pub wire : Wire
   pub disks : List D
-  pub desk : Desk T C
+  pub desk : E
 
-abbrev pub connection_of : {D T C : Type 0} → Wire → Stock D T C → Connection D T C
+abbrev pub connection_of : {D T C : Type 0} → Wire → Stock D T C → Connection D (Desk T C)
 connection_of wire stock = record { wire = wire; disks = stock.disks.items; desk = stock.desk }
 
 -- what a host over stored maps tells and does: a read step counts, and the making of a map is `Made`
-abbrev pub local_conduct : {D B T C : Type 0} → Keeping D B → Telling T C → Conduct (Local D B T C)
+abbrev pub local_conduct : {D B E : Type 0} → Keeping D B → Telling E → Conduct (Local D B E)
 local_conduct keeping telling =
-    conduct_of (seen_of keeping.log) (λ host. host.files) (λ old new. new ≡ record old { asked = next_count old.asked })
-    (λ asked peer stat old new. Made keeping telling asked stat old new)
+    conduct_of (seen_of keeping.log) (λ host. telling.told host.desk)
+    (λ host. record { files = host.files; transfers = 0 })
+    (λ old new. new ≡ record old { asked = next_count old.asked }) (Made keeping telling)
 
 -- what was shown on the board of a host
-abbrev pub log_of : {D B T C : Type 0} → Service D B T C → Local D B T C → Log
+abbrev pub log_of : {D B E : Type 0} → Service D B E → Local D B E → Log
 log_of service host = service.keeping.log host.published.board
 
 -- ---- its first and its last host
 
 -- The host that it starts with: each map is level with what its disk stood for, and exactly that is shown.
-pub record IsFirst {D B T C : Type 0} (service : Service D B T C) (old : Connection D T C) (start : Local D B T C) : Type 0 where
+pub record IsFirst {D B E : Type 0} (service : Service D B E) (old : Connection D E) (start : Local D B E)
+    : Type 0 where
   pub catalogue : start.published.catalogue ≡ service.catalogue
   pub opened : AllZip (IsOpened service.keeping.history service.keeping.faults) old.disks start.published.maps
   pub log : log_of service start ≡ starts 0 (versions start.published.maps)
@@ -83,41 +86,39 @@ pub record IsFirst {D B T C : Type 0} (service : Service D B T C) (old : Connect
 
 -- The host that it ends with, of which the disks and the desk are handed back: what is shown of each map agrees with
 -- what a crash may leave of its disk now.
-pub record IsLast {D B T C : Type 0} (service : Service D B T C) (finish : Local D B T C) (new : Connection D T C) : Type 0 where
+pub record IsLast {D B E : Type 0} (service : Service D B E) (finish : Local D B E) (new : Connection D E)
+    : Type 0 where
   pub disks : new.disks ≡ map (λ kept. kept.disk) finish.published.maps
   pub desk : new.desk ≡ finish.desk
   pub shows : Shows (log_of service finish) (versions finish.published.maps)
   pub standing : (number : ℕ) → OfMap number finish.published.maps (IsStanding service.keeping.history)
 
--- a moment of the session that a host and a wire are at
-abbrev pub moment_at : {H : Type 0} → H → Wire → ℕ → Moment H
-moment_at host wire place = record { host = host; wire = wire; place = place }
-
 -- ---- versions that were made
 
--- One of these calls asked for the making of a map, and its reply was left open.
-pub record IsCalledFor {D B T C : Type 0} (service : Service D B T C) (calls : List (List ℕ)) (asked : MakeRequest) : Type 0 where
-  pub call : List ℕ
-  pub among : Contains calls call
+-- One of these records was a call that may have this map made, and its reply was left open.
+pub record IsCalledFor {D B E : Type 0} (service : Service D B E) (turns : List Turn) (job : Job) : Type 0 where
+  pub turn : Turn
+  pub among : Contains turns turn
   pub maps : Maps
   pub of_catalogue : maps.catalogue ≡ service.catalogue
   pub xid : ℕ
-  pub left_open : reply Stream maps service.peer call ≡ Open xid asked
+  pub left_open : reply Stream maps service.peer turn.message ≡ Open xid job
 
--- A version was made of a map behind a log: one of these calls asked for this map, which isn't refused, and the version
--- was built, of what the desk tells, for what the log shows of the map.
-pub record IsMade {D B T C : Type 0} (service : Service D B T C) (calls : List (List ℕ)) (desk : Desk T C) (number : ℕ) (log : Log) (version : MapVersion) : Type 0 where
-  pub asked : MakeRequest
-  pub kind : Kind
-  pub called : IsCalledFor service calls asked
-  pub allowed : make_check service.catalogue service.peer asked ≡ None
-  pub of_map : made_map service.catalogue asked ≡ Some number
-  pub of_kind : kind_numbered asked.1 ≡ Some kind
-  pub anew : IsAnew service.telling (site_of kind service.catalogue.own (shown number log)) desk version
+-- A version was made of a map behind a log: one of these records called for this map, and the version was built, of
+-- what the desk tells, for what the log shows of the map.
+pub record IsMade {D B E : Type 0} (service : Service D B E) (turns : List Turn) (told : Told)
+    (number : ℕ) (log : Log) (version : MapVersion) : Type 0 where
+  pub job : Job
+  pub of_map : job.map ≡ number
+  pub called : IsCalledFor service turns job
+  pub anew : IsAnew told (site_of job.kind service.catalogue.own (shown number log)) version
 
 -- what it is that a version was made of a map behind a log
 abbrev pub Making : Type 1
 Making = ℕ → Log → MapVersion → Type 0
+
+abbrev pub made_for : {D B E : Type 0} → Service D B E → List Turn → E → Making
+made_for service turns desk = IsMade service turns (service.telling.told desk)
 
 -- Each of these entries was made behind the log and the entries before it.
 abbrev pub AreMade : Making → Log → Log → Type 0
@@ -135,14 +136,12 @@ pub record GrowsBy (Is : Making) (first last : Log) : Type 0 where
 -- The bytes stand for what the log shows of a map, or for a version that was made of it behind the log.
 abbrev pub IsShownOrMade : Making → ℕ → Log → List ℕ → Type 0
 IsShownOrMade Is number log image =
-    (stands image ≡ stands_for (shown number log)) ⊎ ((version : MapVersion) × Is number log version × (stands image ≡ Stored version))
+    (stands image ≡ stands_for (shown number log))
+    ⊎ ((version : MapVersion) × Is number log version × (stands image ≡ Stored version))
 
 -- The bytes are so by a log of which the first is a front, and which is a front of the last.
-pub record IsOfBetween (Is : Making) (number : ℕ) (first last : Log) (image : List ℕ) : Type 0 where
-  pub log : Log
-  pub begins : IsFront first log
-  pub goes_on : IsFront log last
-  pub of_log : IsShownOrMade Is number log image
+abbrev pub IsOfBetween : Making → ℕ → Log → Log → List ℕ → Type 0
+IsOfBetween Is number first last image = Between first last (λ log. IsShownOrMade Is number log image)
 
 -- A map is level, or behind a version that was made of it behind the log.
 abbrev pub IsBehindMade : Making → ℕ → Log → MapStanding → Type 0
@@ -164,24 +163,25 @@ AreTold history disks = All (λ disk. IsSome (history disk)) disks
 
 -- ---- the whole
 
--- A connection was served, and ended so. From its first host to its last the records of its wire were answered in turn.
--- At each moment a crash leaves of each map what was shown of it or what was being installed, and only versions that
--- were made were shown.
-pub record Serves {D B T C : Type 0} (service : Service D B T C) (end : End) (old new : Connection D T C) : Type 0 where
-  pub start : Local D B T C
-  pub finish : Local D B T C
-  pub calls : ℕ
-  pub place : ℕ
+-- A connection was served, and ended so. From its first host to its last the records of its wire were answered in turn,
+-- and behind each the wire was one of these. At each moment a crash leaves of each map what was shown of it or what was
+-- being installed. Only versions that were made were shown, and the orders of each map rise.
+pub record Serves {D B E : Type 0} (service : Service D B E) (end : End) (old new : Connection D E)
+    (wires : List Wire) : Type 0 where
+  pub start : Local D B E
+  pub finish : Local D B E
+  pub progress : Progress
   pub first : IsFirst service old start
-  pub runs : Runs (local_conduct service.keeping service.telling) service.peer calls_max end
-      (moment_at start old.wire 0) (moment_at finish new.wire place) calls
+  pub runs : Runs (local_conduct service.keeping service.telling) service.peer CALLS_MAX end
+      (dialogue_at start old.wire begun) (dialogue_at finish new.wire progress) wires
   pub last : IsLast service finish new
   pub any_moment : (number : ℕ) → AtDisk number old.disks new.disks (LeavesOr service.keeping.history
-      (IsOfBetween (IsMade service runs.messages old.desk) number (log_of service start) (log_of service finish)))
+      (IsOfBetween (made_for service runs.turns old.desk) number (log_of service start) (log_of service finish)))
   pub behind : (number : ℕ) → OfMap number finish.published.maps (λ kept. IsSome (service.keeping.history kept.disk)
-      → IsBehindMade (IsMade service runs.messages old.desk) number (log_of service finish) kept.standing)
+      → IsBehindMade (made_for service runs.turns old.desk) number (log_of service finish) kept.standing)
   pub grown : AreTold service.keeping.history old.disks
-      → GrowsBy (IsMade service runs.messages old.desk) (log_of service start) (log_of service finish)
+      → GrowsBy (made_for service runs.turns old.desk) (log_of service start) (log_of service finish)
+  pub rises : AreTold service.keeping.history old.disks → IsRisingLog (log_of service finish)
 
 -- what a connection isn't served for, where the disk of a map isn't loaded
 abbrev pub refusal : ℕ → SlotFault → Unserved
@@ -191,5 +191,6 @@ refusal number (cause.Damaged at rule) = Refused number (cause.Damaged at rule)
 
 -- Why a connection wasn't served: a map's disk was refused, the first one; or memory ran out.
 abbrev pub IsUnserved : {D : Type 0} → (D → Option History) → (D → ℕ) → Unserved → List D → List D → Type 0
-IsUnserved history faults (Refused number fault) old new = (fault ≢ cause.NoMemory) × IsStopped history faults old new number fault
+IsUnserved history faults (Refused number fault) old new =
+    (fault ≢ cause.NoMemory) × IsStopped history faults old new number fault
 IsUnserved history faults NoMemory old new = ⊤

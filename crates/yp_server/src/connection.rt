@@ -6,20 +6,21 @@ ghost use Rattle.yp_slot.specs.Stands.{file_max};
 ghost use Rattle.yp_board.specs.Logs.{starts};
 ghost use Rattle.yp_publish.specs.Standing.{OfMap, IsStanding, Shows, versions};
 ghost use Rattle.yp_publish.specs.Opens.{LeavesNoMore};
-ghost use Rattle.yp_session.specs.Wires.{wire_of};
-ghost use Rattle.yp_server.specs.Locals.{keeping_of, telling_of, TellsSame};
-ghost use Rattle.yp_server.specs.Connections.{plain_log, service_of, connection_of, AtDisk, LeavesOr, Serves, IsUnserved, refusal};
+ghost use Rattle.yp_session.specs.Wires.{wire_of, NeverFalls, Grows};
+ghost use Rattle.yp_publish.specs.Keeping.{keeping_of};
+ghost use Rattle.yp_server.specs.Locals.{telling_of, IsUsed};
+ghost use Rattle.yp_server.specs.Connections.{plain_log, service_of, connection_of, AtDisk, LeavesOr, Serves};
+ghost use Rattle.yp_server.specs.Connections.{IsUnserved, refusal};
 
 use crate::desk::Desk;
 use crate::local::LocalHost;
 use std::alloc::Global;
 use std::random::RandomSource;
-use yp_answer::laws::open_is_unrefused;
 use yp_board::{Catalog, PlainBoard};
 use yp_io::{Clock, Disk, NoMemory, Pair, Peer, Sink, Source, Texts};
-use yp_publish::laws::starts_are_shown;
+use yp_publish::laws::{beginning_is_start, log_rises, starts_are_shown};
 use yp_publish::{Loaded, Publisher, StartRefused, load_all};
-use yp_session::{CALLS_MAX, End, Session};
+use yp_session::{CALLS_MAX, End, Session, Witness};
 use yp_slot::SlotFault;
 
 /// What a connection is served from.
@@ -47,27 +48,30 @@ struct Ready {
     catalog: Catalog,
 }
 
-/// Serves one connection from stored maps, to a caller at `peer`: loads the files of all disks, shows what they stand for,
-/// and answers at most [`CALLS_MAX`] records of the wire. The disks, in their order, and the desk come back with every
-/// outcome.
-pub fn serve_wire<S: Source, K: Sink, D: Disk, T: Texts, C: Clock>(
+/// Serves one connection from stored maps, to a caller at `peer`: loads the files of all disks, shows what they stand
+/// for, and answers at most [`CALLS_MAX`] records of the wire. The disks, in their order, and the desk come back with every
+/// outcome. The witness sees the wire behind each record that was answered.
+pub fn serve_wire<S: Source, K: Sink, D: Disk, T: Texts, C: Clock, W: Witness<S, K>>(
     alloc: Global,
     rt: &impl RandomSource,
     catalog: Catalog,
     peer: Peer,
     wire: &mut Pair<S, K>,
     stock: Stock<D, T, C>,
+    witness: &mut W,
 ) -> (Result<End, Unserved>, Stock<D, T, C>)
     requires { length stock.disks.items ≡ length catalog.maps }
-    ensures served { IfOk result.0 (λ end. Serves
+    ensures served { IfOk result.0 (λ end. Grows (W.wires witness.old) (W.wires witness.new) (Serves
         (service_of (keeping_of D.history D.faults plain_log) (telling_of T.text T.faults C.moment) catalog peer) end
-        (connection_of (wire_of S.input S.faults K.output K.flushed K.faults wire.old) stock)
-        (connection_of (wire_of S.input S.faults K.output K.flushed K.faults wire.new) result.1)) }
+        (connection_of (wire_of S.Source K.Sink wire.old) stock)
+        (connection_of (wire_of S.Source K.Sink wire.new) result.1))) }
 
     // What a refusal leaves: the wire and the desk as they were, and nothing was written.
-    ensures unserved { IfErr result.0 (λ why. IsUnserved D.history D.faults why stock.disks.items result.1.disks.items) }
+    ensures unserved { IfErr result.0 (λ why.
+        IsUnserved D.history D.faults why stock.disks.items result.1.disks.items) }
     ensures untouched { OnErr result.0 (wire.new ≡ wire.old) }
     ensures unasked { OnErr result.0 (result.1.desk ≡ stock.desk) }
+    ensures unseen { OnErr result.0 (witness.new ≡ witness.old) }
     ensures unwritten { OnErr result.0
         ((number : ℕ) → AtDisk number stock.disks.items result.1.disks.items (LeavesNoMore D.history)) }
 
@@ -77,9 +81,10 @@ pub fn serve_wire<S: Source, K: Sink, D: Disk, T: Texts, C: Clock>(
     ensures never_falls { (number : ℕ) → AtDisk number stock.disks.items result.1.disks.items
         (λ before after. D.faults before ≤ D.faults after) }
     ensures count { length result.1.disks.items ≡ length stock.disks.items }
-    ensures desk { TellsSame (telling_of T.text T.faults C.moment) stock.desk result.1.desk }
+    ensures desk { IsUsed (telling_of T.text T.faults C.moment) stock.desk result.1.desk }
 
-    // A fault of the wire, and its output.
+    // The counts of the wire, a fault of it, and its output.
+    ensures counts { NeverFalls (wire_of S.Source K.Sink wire.old) (wire_of S.Source K.Sink wire.new) }
     ensures read_fault { result.0 ≡ Ok End.ReadFault
         → HasRisen (S.faults wire.old.source) (S.faults wire.new.source) }
     ensures write_fault { result.0 ≡ Ok End.WriteFault
@@ -105,10 +110,11 @@ pub fn serve_wire<S: Source, K: Sink, D: Disk, T: Texts, C: Clock>(
             },
         ) => {
             starts_are_shown();
+            beginning_is_start();
+            log_rises();
             let publisher = Publisher::new(loaded, catalog, board);
             let mut host = LocalHost::new(alloc, rt, publisher, desk, of_host);
-            open_is_unrefused();
-            let end = session.run(wire, &mut host, peer, CALLS_MAX);
+            let end = session.run(wire, &mut host, peer, CALLS_MAX, witness);
             (Ok(end), stock_of(host))
         }
         Err(NoMemory) => {

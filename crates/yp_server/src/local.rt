@@ -8,10 +8,12 @@ ghost use Rattle.yp_board.specs.Views.{IsFront};
 ghost use Rattle.yp_publish.specs.Installs.{offer, not_following};
 ghost use Rattle.yp_publish.specs.declared.install.Origin.TheVariants.{Built};
 ghost use Rattle.yp_publish.specs.Standing.{Level, OfMap};
-ghost use Rattle.yp_session.specs.Hosts.{is_make_stat};
-ghost use Rattle.yp_server.specs.Locals.{seen_of, keeping_of, telling_of, TellsSame};
-ghost use Rattle.yp_server.specs.Anew.{IsAnew, IsUnbuilt};
-ghost use Rattle.yp_server.specs.Made.{job_of, site_at, Tries, Makes, Made};
+ghost use Rattle.yp_answer.specs.Make.{job_of};
+ghost use Rattle.yp_publish.specs.Keeping.{keeping_of};
+ghost use Rattle.yp_server.specs.Locals.{seen_of, told_by, telling_of, IsUsed};
+ghost use Rattle.yp_session.specs.Causes.{IsAnew};
+ghost use Rattle.yp_server.specs.Anew.{IsUnbuilt};
+ghost use Rattle.yp_server.specs.Made.{site_at, Tries, Makes, Made};
 
 use crate::anew::build_anew;
 use crate::desk::Desk;
@@ -19,10 +21,11 @@ use crate::steps::{install, reopen};
 use std::alloc::Global;
 use std::marker::Model;
 use std::random::RandomSource;
+use yp_answer::Job;
 use yp_board::{Catalog, Show, View};
 use yp_build::Kind;
-use yp_io::{Clock, Disk, Peer, Texts};
-use yp_msgs::{ReqMake, XfrStat};
+use yp_io::{Clock, Disk, Texts};
+use yp_msgs::XfrStat;
 use yp_publish::Publisher;
 use yp_session::Host;
 use yp_version::Version;
@@ -45,8 +48,9 @@ impl<D: Disk, B: Show, T: Texts, C: Clock, R: RandomSource + Drop> Model
     for LocalHost<D, B, T, C, R> {
     ghost use Rattle.std.specs.Prelude.{◌≡◌, length};
     ghost use Rattle.yp_server.specs.Locals.{Local};
+    ghost use Rattle.yp_server.specs.declared.desk.Desk.{Desk};
 
-    ghost Value = { Local D B T C };
+    ghost Value = { Local D B (Desk T C) };
 
     ghost view = { λ h. record {
       published = h.publisher;
@@ -108,7 +112,6 @@ impl<D: Disk, B: Show, T: Texts, C: Clock, R: RandomSource + Drop> LocalHost<D, 
             (job_of map kind) XfrStat.Succ self.old self.new) }
         ensures unmade { IfErr result (λ stat. Makes (keeping_of D.history D.faults B.log)
             (telling_of T.text T.faults C.moment) (job_of map kind) stat self.old self.new) }
-        ensures stat { IfErr result (λ stat. IsTrue (is_make_stat stat)) }
         ensures grown { IsFront (B.log self.old.published.board) (B.log self.new.published.board) }
         ensures catalogue { self.new.published.catalogue ≡ self.old.published.catalogue }
         ensures files { self.new.files ≡ self.old.files }
@@ -125,8 +128,7 @@ impl<D: Disk, B: Show, T: Texts, C: Clock, R: RandomSource + Drop> LocalHost<D, 
             (job_of map kind) XfrStat.Succ self.old self.new) }
         ensures unmade { IfErr result (λ stat. Tries (keeping_of D.history D.faults B.log)
             (telling_of T.text T.faults C.moment) (job_of map kind) stat self.old self.new) }
-        ensures stat { IfErr result (λ stat. IsTrue (is_make_stat stat)) }
-        ensures desk { TellsSame (telling_of T.text T.faults C.moment) self.old.desk self.new.desk }
+        ensures desk { IsUsed (telling_of T.text T.faults C.moment) self.old.desk self.new.desk }
         ensures grown { IsFront (B.log self.old.published.board) (B.log self.new.published.board) }
         ensures catalogue { self.new.published.catalogue ≡ self.old.published.catalogue }
         ensures asked { self.new.asked ≡ self.old.asked }
@@ -154,14 +156,13 @@ fn build_for<D: Disk, B: Show, T: Texts, C: Clock>(
     kind: Kind,
 ) -> Result<Version, XfrStat>
     requires { map < length publisher.now.maps }
-    ensures anew { IfOk result (IsAnew (telling_of T.text T.faults C.moment)
-        (site_at (keeping_of D.history D.faults B.log) (job_of map kind) publisher.now) desk.old) }
+    ensures anew { IfOk result (IsAnew (told_by T.text C.moment desk.old)
+        (site_at (keeping_of D.history D.faults B.log) (job_of map kind) publisher.now)) }
     ensures follows { IfOk result (λ version. OfMap map publisher.now.maps (λ kept.
         not_following publisher.now.catalogue.own (offer version Built false) kept.version ≡ None)) }
     ensures unbuilt { IfErr result (λ stat. IsUnbuilt (telling_of T.text T.faults C.moment)
         (site_at (keeping_of D.history D.faults B.log) (job_of map kind) publisher.now) stat desk.old desk.new) }
-    ensures stat { IfErr result (λ stat. IsTrue (is_make_stat stat)) }
-    ensures desk { TellsSame (telling_of T.text T.faults C.moment) desk.old desk.new }
+    ensures desk { IsUsed (telling_of T.text T.faults C.moment) desk.old desk.new }
 {
     let shown = held(publisher, map);
     let own = publisher.catalog().own();
@@ -201,19 +202,14 @@ impl<D: Disk, B: Show, T: Texts, C: Clock, R: RandomSource + Drop> View
 
 impl<D: Disk, B: Show, T: Texts, C: Clock, R: RandomSource + Drop> Host
     for LocalHost<D, B, T, C, R> {
-    ghost files = { λ host. host.files };
+    ghost told = { λ host. told_by T.text C.moment host.desk };
 
-    ghost made = { λ asked peer stat old new.
-        Made (keeping_of D.history D.faults B.log) (telling_of T.text T.faults C.moment) asked stat old new };
+    ghost counts = { λ host. record { files = host.files; transfers = 0 } };
 
-    fn make(&mut self, request: &ReqMake<'_>, _peer: Peer) -> XfrStat {
-        let Some(kind) = Kind::of_number(request.kind) else {
-            unreachable!()
-        };
-        let Some(map) = self.catalog.find(request.domain, kind.name()) else {
-            unreachable!()
-        };
-        match self.make_anew(map, kind) {
+    ghost made = { Made (keeping_of D.history D.faults B.log) (telling_of T.text T.faults C.moment) };
+
+    fn make(&mut self, job: Job) -> XfrStat {
+        match self.make_anew(job.map, job.kind) {
             Ok(()) => XfrStat::Succ,
             Err(XfrStat::File) => {
                 self.files = self.files.saturating_add(1);
@@ -223,5 +219,5 @@ impl<D: Disk, B: Show, T: Texts, C: Clock, R: RandomSource + Drop> Host
         }
     }
 
-    ghost step_counts_nothing = { λ old new h. ap (λ host. host.files) h };
+    ghost step_counts_nothing = { λ old new h. ap (λ host. record { files = host.files; transfers = 0 }) h };
 }

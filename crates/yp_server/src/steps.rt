@@ -4,9 +4,9 @@ ghost use Rattle.std.specs.Prelude.{◌≡◌, ◌<◌, false, None, length, OnO
 ghost use Rattle.yp_board.specs.Views.{IsFront};
 ghost use Rattle.yp_publish.specs.Standing.{Level, OfMap};
 ghost use Rattle.yp_publish.specs.Installs.{offer, not_following};
-ghost use Rattle.yp_session.specs.Hosts.{is_make_stat};
-ghost use Rattle.yp_server.specs.Locals.{keeping_of};
-ghost use Rattle.yp_server.specs.Steps.{Opens, StaysBehind, Installs};
+ghost use Rattle.yp_publish.specs.Keeping.{keeping_of};
+ghost use Rattle.yp_publish.specs.Opens.{Opens};
+ghost use Rattle.yp_server.specs.Steps.{open_stat, IsInstallStat, IsNotReopened, built_offer, Offers};
 
 use std::alloc::Global;
 use std::random::RandomSource;
@@ -28,8 +28,7 @@ pub(crate) fn reopen<D: Disk, B: Show>(
     ensures opened { OnOk result
         (Opens (keeping_of D.history D.faults B.log) map publisher.old publisher.new) }
     ensures refused { IfErr result (λ stat.
-        StaysBehind (keeping_of D.history D.faults B.log) map stat publisher.old publisher.new) }
-    ensures stat { IfErr result (λ stat. IsTrue (is_make_stat stat)) }
+        IsNotReopened (keeping_of D.history D.faults B.log) map stat publisher.old publisher.new) }
     ensures grown { IsFront (B.log publisher.old.board) (B.log publisher.new.board) }
 {
     match publisher.reopen(alloc, rt, map) {
@@ -52,10 +51,9 @@ pub(crate) fn install<D: Disk, B: Show>(
     requires follows { OfMap map publisher.old.maps
         (λ kept. not_following publisher.old.catalogue.own (offer version Origin.Built false) kept.version ≡ None) }
     ensures installed { OnOk result
-        (Installs (keeping_of D.history D.faults B.log) map version XfrStat.Succ publisher.old publisher.new) }
+        (Offers (keeping_of D.history D.faults B.log) map version XfrStat.Succ publisher.old publisher.new) }
     ensures failed { IfErr result (λ stat.
-        Installs (keeping_of D.history D.faults B.log) map version stat publisher.old publisher.new) }
-    ensures stat { IfErr result (λ stat. IsTrue (is_make_stat stat)) }
+        Offers (keeping_of D.history D.faults B.log) map version stat publisher.old publisher.new) }
     ensures grown { IsFront (B.log publisher.old.board) (B.log publisher.new.board) }
 {
     match publisher.install(alloc, map, version, Origin::Built, false) {

@@ -7,7 +7,7 @@ use std::process::Abort;
 use std::random::RandomSource;
 use yp_io::{MemDisk, MemWire, Source};
 use yp_server::*;
-use yp_session::End;
+use yp_session::{End, Trail};
 use yp_slot::{Slot, SlotFault};
 
 // A disk with this file. From call `stop` on its calls fail, and the call `failing` fails.
@@ -90,7 +90,8 @@ fn served<R: RandomSource + Abort>(
     let mut wire = wire_of(alloc, input);
     assert_fits(rt, disks.len(), &catalog);
     let stock = Stock { disks, desk };
-    let (end, stock) = serve_wire(alloc, rt, catalog, OWN_HOST, &mut wire, stock);
+    let mut trail = Trail::new();
+    let (end, stock) = serve_wire(alloc, rt, catalog, OWN_HOST, &mut wire, stock, &mut trail);
     let came = seen(rt, alloc, end, &mut wire, &stock.disks);
     (came, stock.disks)
 }

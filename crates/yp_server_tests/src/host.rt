@@ -8,7 +8,7 @@ use yp_board::{Catalog, PlainBoard};
 use yp_io::{MemDisk, MemTexts, Peer, SetClock};
 use yp_publish::{Publisher, laws, load_all};
 use yp_server::*;
-use yp_session::{End, Session};
+use yp_session::{End, Session, Trail};
 use yp_slot::Slot;
 
 type MemHost = LocalHost<MemDisk, PlainBoard, MemTexts, SetClock, HostRuntime>;
@@ -47,7 +47,8 @@ fn run_session(
     input: Vec<u8>,
 ) -> Replied {
     let mut wire = wire_of(alloc, input);
-    let end = session.run(&mut wire, host, peer, 9);
+    let mut trail = Trail::new();
+    let end = session.run(&mut wire, host, peer, 9, &mut trail);
     let output = Vec::from_slice(alloc, wire.sink.taken()).expect(rt, "bytes");
     (end, output)
 }
@@ -241,6 +242,14 @@ const UNMADE_MAPS: &[Making<'static>] = &[
         row: "the orders are spent",
         file: LAST_ORDER,
         stat: AGE,
+        stored: (Some((u32::MAX, false)), 1),
+        ..EMPTY
+    },
+    Making {
+        row: "the orders are spent, and the text is not read",
+        file: LAST_ORDER,
+        failing: 0,
+        stat: FILE,
         stored: (Some((u32::MAX, false)), 1),
         ..EMPTY
     },

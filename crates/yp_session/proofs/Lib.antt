@@ -1,4 +1,5 @@
 pub mod Sending
 pub mod Streaming
-pub mod Sessions
 pub mod Links
+pub mod Logging
+pub mod Sessions

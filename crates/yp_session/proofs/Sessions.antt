@@ -1,151 +1,179 @@
 -- A session so far, and how it goes on and ends.
-use Rattle.std.proofs.Common.{◌≡◌, ℕ, ◌+◌, ◌<◌, ◌≤◌, List, [], ◌∷◌, ◌++◌, length, take, min, Option, Some, None, refl, sym, ap, subst, ◌∙◌, arith}
-use Rattle.std.specs.Io.KnownBytes.{Keeps, Appends, Consumes}
-use Rattle.std.proofs.KnownBytes.{Appends-trans}
-use Rattle.std.proofs.lemmas.List.{append-nil, length_push}
-use Rattle.std.proofs.lemmas.Grind.{flat_map-append}
-use Rattle.yp_io.specs.Counts.{last_count}
-use Rattle.yp_rpc.specs.Records.{TakesRecord}
+use Rattle.std.proofs.Common.{◌≡◌, ℕ, ◌+◌, ◌<◌, ◌≤◌, Bool, true, List, [], ◌∷◌, ◌++◌, length, map, Option, Some, None, refl, sym, ap, subst, ◌∙◌, append_assoc, arith}
+use Rattle.std.specs.Prelude.{IsTrue}
+use Rattle.std.specs.Option.{option_map_or}
+use Rattle.std.proofs.lemmas.List.{append-nil, length_push, length-map, length-append, map-append}
+use Rattle.std.proofs.lemmas.List.Sums.{fold-append}
+use Rattle.yp_io.specs.Counts.{HasRisen, last_count}
 use Rattle.yp_io.specs.declared.stream.Peer.{Peer}
-use Rattle.yp_answer.specs.Numbers.{record_max}
+use Rattle.yp_answer.specs.declared.procedure.Path.{Path}
+use Rattle.yp_answer.specs.Maps.{maps_of}
+use Rattle.yp_answer.specs.Reply.{Response, Silence, Bytes, Open, reply}
 use Rattle.yp_session.specs.declared.session.End.{End}
 use Rattle.yp_session.specs.declared.session.End.TheVariants.{Clean, Torn, TooLong, ReadFault, WriteFault, Enough}
 use Rattle.yp_session.specs.declared.session.Step.TheVariants.{Answered, Ended}
-use Rattle.yp_session.specs.Progress.{calls_after}
-use Rattle.yp_session.specs.Hosts.{Conduct}
-use Rattle.yp_session.proofs.Sending.{Appends-none}
-use Rattle.yp_session.specs.Runs.{Moment, Feed, feed_of, Reads, Link, Chain, IsIdle, StopsAt, Does, Sends, EndsAt, Runs, sent_reply, sent_replies}
-
--- ---- what is told
-
--- what is kept is kept
-Keeps-refl : (a : Option (List ℕ)) → Keeps a a
-Keeps-refl None = tt
-Keeps-refl (Some xs) = refl
-
--- kept bytes are consumed from where they were
-Consumes-kept : (a b c : Option (List ℕ)) (bytes : List ℕ) → Keeps a b → Consumes b c bytes → Consumes a c bytes
-Consumes-kept None b c bytes k h = tt
-Consumes-kept (Some xs) None c bytes k h = absurd k
-Consumes-kept (Some xs) (Some ys) None bytes k h = absurd h
-Consumes-kept (Some xs) (Some ys) (Some zs) bytes k h = sym k ∙ h
-
--- what was appended stays
-Appends-kept : (a b c : Option (List ℕ)) (bytes : List ℕ) → Appends a b bytes → Keeps b c → Appends a c bytes
-Appends-kept None b c bytes h k = tt
-Appends-kept (Some xs) None c bytes h k = absurd h
-Appends-kept (Some xs) (Some ys) None bytes h k = absurd k
-Appends-kept (Some xs) (Some ys) (Some zs) bytes h k = k ∙ h
-
--- ---- one record more
-
-Reads-more : (messages : List (List ℕ)) (message : List ℕ) (old mid new : Feed) → Reads messages old mid
-    → TakesRecord record_max message mid.input new.input mid.place new.place → Reads (messages ++ message ∷ []) old new
-Reads-more [] message old mid new before more =
-    let counted = more.counted ∙ ap (λ (p : ℕ). min (p + length more.bytes) last_count) before.1 in
-    (new, record { bytes = more.bytes; fragments = more.fragments; taken = Consumes-kept old.input mid.input new.input more.bytes before.0 more.taken; counted = counted }, (Keeps-refl new.input, refl))
-Reads-more (first ∷ messages) message old mid new before more =
-    (before.0, before.1, Reads-more messages message before.0 mid new before.2 more)
-
-sent_replies-more : (answers : List (Option (List ℕ))) (answer : Option (List ℕ)) → sent_replies (answers ++ answer ∷ []) ≡ sent_replies answers ++ sent_reply answer
-sent_replies-more answers answer =
-    flat_map-append sent_reply answers (answer ∷ []) ∙ ap (λ (bytes : List ℕ). sent_replies answers ++ bytes) (append-nil (sent_reply answer))
+use Rattle.yp_session.specs.Progress.{Progress, begun}
+use Rattle.yp_session.specs.Wires.{SinkTells, Wire, NeverFalls}
+use Rattle.yp_session.specs.Hosts.{Counts, Conduct, Turn, Carries, Link, counts_after, counts_over}
+use Rattle.yp_session.proofs.Logging.{chain_logs, ends_logs}
+use Rattle.yp_session.specs.Runs.{Dialogue, IsFlushed, Answers, IsIdle, Does, Chain, Ends, unsent, Runs}
 
 module _ {H : Type 0} (conduct : Conduct H) (peer : Peer) where
-  Chain-more : (messages : List (List ℕ)) (answers : List (Option (List ℕ))) (message : List ℕ) (answer : Option (List ℕ)) (old mid new : H)
-      → Chain conduct peer messages answers old mid → Link conduct peer message answer mid new → Chain conduct peer (messages ++ message ∷ []) (answers ++ answer ∷ []) old new
-  Chain-more [] [] message answer old mid new before link =
-      let from : Link conduct peer message answer old new = let P : H → Type 0 = λ h. Link conduct peer message answer h new in subst P before link in
-      (new, from, refl)
-  Chain-more [] (other ∷ answers) message answer old mid new before link = absurd before
-  Chain-more (first ∷ messages) [] message answer old mid new before link = absurd before
-  Chain-more (first ∷ messages) (other ∷ answers) message answer old mid new before link =
-      (before.0, before.1, Chain-more messages answers message answer before.0 mid new before.2 link)
+  -- ---- what is counted
 
-  -- so many records were read and answered
-  pub record SoFar (count : ℕ) (old now : Moment H) : Type 0 where
-    pub messages : List (List ℕ)
-    pub answers : List (Option (List ℕ))
-    pub read : Reads messages (feed_of old) (feed_of now)
-    pub chain : Chain conduct peer messages answers old.host now.host
-    pub counted : length messages ≡ count
-    pub sent : Appends old.wire.output now.wire.output (sent_replies answers)
+  abbrev counted : Counts → Turn → Counts
+  counted counts turn = option_map_or (counts_after counts) turn.made counts
 
-  pub SoFar-none : (moment : Moment H) → SoFar 0 moment moment
-  SoFar-none moment = record { messages = []; answers = []; read = (Keeps-refl moment.wire.input, refl); chain = refl; counted = refl; sent = Appends-none moment.wire.output }
+  carried_counts : (response : Response) (turn : Turn) (old new : H) → Carries conduct response turn old new → conduct.counts new ≡ counted (conduct.counts old) turn
+  carried_counts Silence turn old new h = rw h.1 (ap conduct.counts h.2)
+  carried_counts (Bytes bytes) turn old new h = rw h.1 (ap conduct.counts h.2)
+  carried_counts (Open xid job) turn old new h = rw h.2 h.3.counted
 
-  pub SoFar-more : (count : ℕ) (old mid new : Moment H) → SoFar count old mid → Does conduct peer Answered mid new → SoFar (count + 1) old new
-  SoFar-more count old mid new so_far step = record {
-    messages = so_far.messages ++ step.message ∷ [];
-    answers = so_far.answers ++ step.replied.answer ∷ [];
-    read = Reads-more so_far.messages step.message (feed_of old) (feed_of mid) (feed_of new) so_far.read step.taken;
-    chain = Chain-more so_far.messages so_far.answers step.message step.replied.answer old.host mid.host new.host so_far.chain step.replied.link;
-    counted = length_push so_far.messages step.message ∙ ap (λ (n : ℕ). n + 1) so_far.counted;
-    sent = rw sent_replies-more (Appends-trans old.wire.output mid.wire.output new.wire.output (sent_replies so_far.answers) (sent_reply step.replied.answer) so_far.sent step.replied.done);
+  link_counts : (path : Path) (turn : Turn) (old new : H) → Link conduct path peer turn old new → conduct.counts new ≡ counted (conduct.counts old) turn
+  link_counts path turn old new link =
+      carried_counts (reply path (maps_of (conduct.seen link.mid)) peer turn.message) turn link.mid new link.carried
+      ∙ ap (λ (counts : Counts). counted counts turn) link.uncounted
+
+  chain_counts : (answered : List (Turn × Dialogue H)) (old new : Dialogue H) → Chain conduct peer answered old new
+      → conduct.counts new.host ≡ counts_over (conduct.counts old.host) (map (λ one. one.0) answered)
+  chain_counts [] old new chain = ap (λ (d : Dialogue H). conduct.counts d.host) chain
+  chain_counts (one ∷ answered) old new chain =
+      chain_counts answered one.1 new chain.1
+      ∙ ap (λ (counts : Counts). counts_over counts (map (λ one. one.0) answered)) (link_counts _ one.0 old.host one.1.host chain.0.replied.link)
+
+  chain_calls : (answered : List (Turn × Dialogue H)) (old new : Dialogue H) → Chain conduct peer answered old new → old.progress.calls + length answered < last_count
+      → new.progress.calls ≡ old.progress.calls + length answered
+  chain_calls [] old new chain few = let same = ap (λ (d : Dialogue H). d.progress.calls) chain in omega (arith, same)
+  chain_calls (one ∷ answered) old new chain few =
+      let first = chain.0.calls in
+      let rest = chain_calls answered one.1 new chain.1 (omega (arith, first, few)) in
+      omega (arith, rest, first, few)
+
+  ends_counts : (most count : ℕ) (end : End) (last new : Dialogue H) (ends : Ends conduct peer most count end last new)
+      → conduct.counts new.host ≡ counts_over (conduct.counts last.host) (unsent conduct peer most count end last new ends)
+  ends_counts most count Clean last new ends = ap conduct.counts ends.1.1.host
+  ends_counts most count (Torn at) last new ends = ap conduct.counts ends.1.1.host
+  ends_counts most count (TooLong at) last new ends = ap conduct.counts ends.1.1.host
+  ends_counts most count ReadFault last new ends = ap conduct.counts ends.1.1.host
+  ends_counts most count WriteFault last new ends = link_counts _ ends.1.0 last.host new.host ends.1.1.replied.link
+  ends_counts most count Enough last new ends = ap (λ (d : Dialogue H). conduct.counts d.host) ends.1
+
+  ends_calls : (most count : ℕ) (end : End) (last new : Dialogue H) (ends : Ends conduct peer most count end last new) → last.progress.calls < last_count
+      → new.progress.calls ≡ last.progress.calls + length (unsent conduct peer most count end last new ends)
+  ends_calls most count Clean last new ends few = let same = ap (λ (p : Progress). p.calls) ends.1.1.progress in omega (arith, same)
+  ends_calls most count (Torn at) last new ends few = let same = ap (λ (p : Progress). p.calls) ends.1.1.progress in omega (arith, same)
+  ends_calls most count (TooLong at) last new ends few = let same = ap (λ (p : Progress). p.calls) ends.1.1.progress in omega (arith, same)
+  ends_calls most count ReadFault last new ends few = let same = ap (λ (p : Progress). p.calls) ends.1.1.progress in omega (arith, same)
+  ends_calls most count WriteFault last new ends few = let more = ends.1.1.calls in omega (arith, more, few)
+  ends_calls most count Enough last new ends few = let same = ap (λ (d : Dialogue H). d.progress.calls) ends.1 in omega (arith, same)
+
+  -- ---- one record more
+
+  Chain-more : (answered : List (Turn × Dialogue H)) (turn : Turn) (old mid new : Dialogue H) → Chain conduct peer answered old mid → Answers conduct peer true turn mid new
+      → Chain conduct peer (answered ++ (turn, new) ∷ []) old new
+  Chain-more [] turn old mid new before one = (let P : Dialogue H → Type 0 = λ d. Answers conduct peer true turn d new in subst P before one, refl)
+  Chain-more (first ∷ answered) turn old mid new before one = (before.0, Chain-more answered turn first.1 mid new before.1 one)
+
+  -- so many records were read and answered, and a witness saw the wire behind each
+  pub record SoFar (count : ℕ) (old now : Dialogue H) (before after : List Wire) : Type 0 where
+    pub answered : List (Turn × Dialogue H)
+    pub chain : Chain conduct peer answered old now
+    pub long : length answered ≡ count
+    pub watched : after ≡ before ++ map (λ one. one.1.wire) answered
+
+  pub SoFar-none : (dialogue : Dialogue H) (wires : List Wire) → SoFar 0 dialogue dialogue wires wires
+  SoFar-none dialogue wires = record { answered = []; chain = refl; long = refl; watched = sym (append-nil wires) }
+
+  pub SoFar-more : (count : ℕ) (old mid new : Dialogue H) (before then after : List Wire) → SoFar count old mid before then → Does conduct peer Answered mid new
+      → after ≡ then ++ new.wire ∷ [] → SoFar (count + 1) old new before after
+  SoFar-more count old mid new before then after so_far step seen = record {
+    answered = so_far.answered ++ (step.0, new) ∷ [];
+    chain = Chain-more so_far.answered step.0 old mid new so_far.chain step.1;
+    long = length_push so_far.answered (step.0, new) ∙ ap (λ (n : ℕ). n + 1) so_far.long;
+    watched =
+        seen ∙ ap (λ (wires : List Wire). wires ++ new.wire ∷ []) so_far.watched ∙ append_assoc before (map (λ one. one.1.wire) so_far.answered) (new.wire ∷ [])
+        ∙ ap (λ (wires : List Wire). before ++ wires) (sym (map-append (λ (one : Turn × Dialogue H). one.1.wire) so_far.answered ((step.0, new) ∷ [])));
   }
 
   -- ---- the end
 
-  -- what is left where a session ends before a record, behind those before it
-  later : (end : End) (count most : ℕ) (old mid new : Moment H) → count < most → old.wire.reads ≤ mid.wire.reads → StopsAt end mid new → EndsAt end count most (feed_of mid) old.wire new.wire
-  later Clean count most old mid new few r h = (few, h)
-  later (Torn at) count most old mid new few r h = (few, h.0, h.1, h.2, h.3, h.4)
-  later (TooLong at) count most old mid new few r h = (few, h.0, h.1, h.2, h.3)
-  later ReadFault count most old mid new few r h = (few, omega (arith, h.0), h.1, h.2, h.3)
-  later WriteFault count most old mid new few r h = absurd h
-  later Enough count most old mid new few r h = absurd h
+  pub ends_by : (most count : ℕ) (end : End) (last new : Dialogue H) → count < most → Does conduct peer (Ended end) last new → Ends conduct peer most count end last new
+  ends_by most count Clean last new few does = (few, does)
+  ends_by most count (Torn at) last new few does = (few, does)
+  ends_by most count (TooLong at) last new few does = (few, does)
+  ends_by most count ReadFault last new few does = (few, does)
+  ends_by most count WriteFault last new few does = (few, does)
+  ends_by most count Enough last new few does = absurd does
 
-  -- a session that ends before a record
-  before_record : (end : End) (count most calls : ℕ) (old mid new : Moment H) → SoFar count old mid → count < most → calls ≡ count → old.wire.reads ≤ mid.wire.reads
-      → IsIdle mid new → StopsAt end mid new → ((answers : List (Option (List ℕ))) → Appends old.wire.output new.wire.output (sent_replies answers) → Sends end answers old.wire.output new.wire.output)
-      → Runs conduct peer most end old new calls
-  before_record end count most calls old mid new so_far few counted r idle stops as_end = record {
-    messages = so_far.messages;
-    answers = so_far.answers;
-    mid = feed_of mid;
-    read = so_far.read;
-    chain = let P : H → Type 0 = λ h. Chain conduct peer so_far.messages so_far.answers old.host h in subst P (sym idle.host) so_far.chain;
-    sent = as_end so_far.answers (Appends-kept old.wire.output mid.wire.output new.wire.output (sent_replies so_far.answers) so_far.sent idle.output);
-    ended = later end (length so_far.messages) most old mid new (omega (arith, so_far.counted)) r stops;
-    counted = counted ∙ sym so_far.counted;
-  }
-
-  pub Runs-ended : (end : End) (count most calls : ℕ) (old mid new : Moment H) → SoFar count old mid → count < most → most < last_count → old.wire.reads ≤ mid.wire.reads
-      → old.wire.writes ≤ mid.wire.writes → calls ≡ calls_after count (Ended end) → Does conduct peer (Ended end) mid new → Runs conduct peer most end old new calls
-  Runs-ended Clean count most calls old mid new so_far few bound r w counted h = before_record Clean count most calls old mid new so_far few counted r h.0 h.1 (λ answers k. k)
-  Runs-ended (Torn at) count most calls old mid new so_far few bound r w counted h = before_record (Torn at) count most calls old mid new so_far few counted r h.0 h.1 (λ answers k. k)
-  Runs-ended (TooLong at) count most calls old mid new so_far few bound r w counted h = before_record (TooLong at) count most calls old mid new so_far few counted r h.0 h.1 (λ answers k. k)
-  Runs-ended ReadFault count most calls old mid new so_far few bound r w counted h = before_record ReadFault count most calls old mid new so_far few counted r h.0 h.1 (λ answers k. k)
-  Runs-ended Enough count most calls old mid new so_far few bound r w counted h = absurd h
-  Runs-ended WriteFault count most calls old mid new so_far few bound r w counted h =
-      let step = h.0 in
-      let n = step.replied.done.0 in
-      let len : length (so_far.messages ++ step.message ∷ []) ≡ count + 1 = length_push so_far.messages step.message ∙ ap (λ (k : ℕ). k + 1) so_far.counted in
+  pub Runs-of : (most count : ℕ) (end : End) (old last new : Dialogue H) (before after : List Wire) → count ≤ most → most < last_count → old.progress ≡ begun
+      → (so_far : SoFar count old last before after) → Ends conduct peer most count end last new → Runs conduct peer most end old new (map (λ one. one.1.wire) so_far.answered)
+  Runs-of most count end old last new before after few bound first so_far ended =
+      let answered = so_far.answered in
+      let ends : Ends conduct peer most (length answered) end last new = let P : ℕ → Type 0 = λ n. Ends conduct peer most n end last new in subst P (sym so_far.long) ended in
+      let rest = unsent conduct peer most (length answered) end last new ends in
+      let began = ap (λ (p : Progress). p.calls) first in
+      let calls = chain_calls answered old last so_far.chain (omega (arith, began, so_far.long)) in
+      let all = ends_calls most (length answered) end last new ends (omega (arith, calls, began, so_far.long)) in
       record {
-        messages = so_far.messages ++ step.message ∷ [];
-        answers = so_far.answers ++ step.replied.answer ∷ [];
-        mid = feed_of new;
-        read = Reads-more so_far.messages step.message (feed_of old) (feed_of mid) (feed_of new) so_far.read step.taken;
-        chain = Chain-more so_far.messages so_far.answers step.message step.replied.answer old.host mid.host new.host so_far.chain step.replied.link;
-        sent = (
-          so_far.answers,
-          step.replied.answer,
-          n,
-          refl,
-          Appends-trans old.wire.output mid.wire.output new.wire.output (sent_replies so_far.answers) (take n (sent_reply step.replied.answer)) so_far.sent step.replied.done.1,
-        );
-        ended = (omega (arith, len), omega (arith, h.1), Keeps-refl new.wire.input);
-        counted = omega (arith, counted, len);
+        answered = answered;
+        last = last;
+        chain = so_far.chain;
+        ends = ends;
+        watched = refl;
+        turns = map (λ one. one.0) answered ++ rest;
+        all = refl;
+        calls = omega (arith, all, calls, began, length-append (map (λ (one : Turn × Dialogue H). one.0) answered) rest, length-map answered (λ (one : Turn × Dialogue H). one.0));
+        counted =
+            ends_counts most (length answered) end last new ends
+            ∙ ap (λ (counts : Counts). counts_over counts rest) (chain_counts answered old last so_far.chain)
+            ∙ sym (fold-append counted (conduct.counts old.host) (map (λ (one : Turn × Dialogue H). one.0) answered) rest);
+        on_logs = chain_logs conduct peer (conduct.seen old.host).catalogue answered rest old last (conduct.seen new.host).known so_far.chain refl
+            (λ same. ends_logs conduct peer (conduct.seen old.host).catalogue most (length answered) end last new ends same);
       }
 
-  pub Runs-enough : (count most calls : ℕ) (old now : Moment H) → SoFar count old now → count ≡ most → calls ≡ count → Runs conduct peer most Enough old now calls
-  Runs-enough count most calls old now so_far all counted = record {
-    messages = so_far.messages;
-    answers = so_far.answers;
-    mid = feed_of now;
-    read = so_far.read;
-    chain = so_far.chain;
-    sent = so_far.sent;
-    ended = (so_far.counted ∙ all, Keeps-refl now.wire.input);
-    counted = counted ∙ sym so_far.counted;
-  }
+-- ---- flushing, and faults
+
+pub falls_then : {a b c : Wire} → NeverFalls a b → NeverFalls b c → NeverFalls a c
+falls_then first second = record { reads = omega (arith, first.reads, second.reads); writes = omega (arith, first.writes, second.writes) }
+
+-- what was flushed is flushed behind a reply, or none
+flushed_on : (answer : Option (List ℕ)) (old new : Bool) → IsFlushed answer old new → IsTrue old → IsTrue new
+flushed_on None old new same was = let P : Bool → Type 0 = λ b. IsTrue b in subst P (sym same) was
+flushed_on (Some message) old new is was = is
+
+module _ {H : Type 0} (conduct : Conduct H) (peer : Peer) (old new : Dialogue H) where
+  pub answered_flushed : Does conduct peer Answered old new → IsTrue old.wire.sink.flushed → IsTrue new.wire.sink.flushed
+  answered_flushed does was = flushed_on does.0.answer old.wire.sink.flushed new.wire.sink.flushed does.1.replied.sends.1 was
+
+  pub answered_falls : Does conduct peer Answered old new → NeverFalls old.wire new.wire
+  answered_falls does = does.1.never_falls
+
+  idle_flushed : IsIdle old new → IsTrue old.wire.sink.flushed → IsTrue new.wire.sink.flushed
+  idle_flushed idle was = let P : SinkTells → Type 0 = λ sink. IsTrue sink.flushed in subst P (sym idle.sink) was
+
+  pub ended_flushed : (end : End) → Does conduct peer (Ended end) old new → (end ≡ WriteFault → ⊥) → IsTrue old.wire.sink.flushed → IsTrue new.wire.sink.flushed
+  ended_flushed Clean does other was = idle_flushed does.1 was
+  ended_flushed (Torn at) does other was = idle_flushed does.1 was
+  ended_flushed (TooLong at) does other was = idle_flushed does.1 was
+  ended_flushed ReadFault does other was = idle_flushed does.1 was
+  ended_flushed WriteFault does other was = absurd (other refl)
+  ended_flushed Enough does other was = absurd does
+
+  pub ended_falls : (end : End) → Does conduct peer (Ended end) old new → NeverFalls old.wire new.wire
+  ended_falls Clean does = does.1.never_falls
+  ended_falls (Torn at) does = does.1.never_falls
+  ended_falls (TooLong at) does = does.1.never_falls
+  ended_falls ReadFault does = does.1.never_falls
+  ended_falls WriteFault does = does.1.never_falls
+  ended_falls Enough does = absurd does
+
+module _ {H : Type 0} (conduct : Conduct H) (peer : Peer) (first : Wire) (last new : Dialogue H) (so_far : NeverFalls first last.wire) where
+  pub read_fault : (end : End) → end ≡ ReadFault → Does conduct peer (Ended end) last new → HasRisen first.source.faults new.wire.source.faults
+  read_fault end is does =
+      let here : Does conduct peer (Ended ReadFault) last new = let P : End → Type 0 = λ e. Does conduct peer (Ended e) last new in subst P is does in
+      omega (arith, so_far.reads, here.0.0)
+
+  pub write_fault : (end : End) → end ≡ WriteFault → Does conduct peer (Ended end) last new → HasRisen first.sink.faults new.wire.sink.faults
+  write_fault end is does =
+      let here : Does conduct peer (Ended WriteFault) last new = let P : End → Type 0 = λ e. Does conduct peer (Ended e) last new in subst P is does in
+      omega (arith, so_far.writes, here.1.replied.sends.1)

@@ -1,4 +1,7 @@
 pub mod Wires
 pub mod Progress
+pub mod Causes
 pub mod Hosts
+pub mod LogRuns
 pub mod Runs
+pub mod Trails

@@ -1,146 +1,61 @@
 -- A session: each record is answered on what the host then knows, and only then the next is read.
-use Rattle.std.specs.Prelude.{◌≡◌, ℕ, ◌<◌, ◌≤◌, Bool, List, [], ◌∷◌, ◌++◌, length, take, flat_map, Option, Some, None}
-use Rattle.std.specs.Io.KnownBytes.{Keeps, Appends, Consumes, IsAtEnd}
-use Rattle.yp_io.specs.Counts.{HasRisen}
-use Rattle.yp_rpc.specs.Records.{IsTorn, IsBegun, IsTooLong, IsEmpty, TakesRecord, sent}
+use Rattle.std.specs.Prelude.{◌≡◌, ℕ, ◌<◌, Bool, true, false, IsTrue, List, [], ◌∷◌, ◌++◌, length, map, take, Option}
+use Rattle.std.specs.Prelude.{Some, None}
+use Rattle.std.specs.Io.KnownBytes.{Appends}
+use Rattle.yp_io.specs.Counts.{HasRisen, next_count}
+use Rattle.yp_io.specs.declared.stream.Peer.{Peer}
+use Rattle.yp_rpc.specs.Records.{IsEmpty, TakesRecord, HasCause, sent}
 use Rattle.yp_rpc.specs.declared.record.RecordFault.{RecordFault}
 use Rattle.yp_rpc.specs.declared.record.RecordFault.TheVariants as faults
-use Rattle.yp_io.specs.declared.stream.Peer.{Peer}
 use Rattle.yp_answer.specs.declared.procedure.Path.TheVariants.{Stream}
 use Rattle.yp_answer.specs.Numbers.{record_max}
-use Rattle.yp_answer.specs.Maps.{maps_of}
-use Rattle.yp_answer.specs.Reply.{reply, asks}
-use Rattle.yp_answer.specs.Answers.{StepsWhere}
 use Rattle.yp_session.specs.declared.session.End.{End}
 use Rattle.yp_session.specs.declared.session.End.TheVariants.{Clean, Torn, TooLong, ReadFault, WriteFault, Enough}
 use Rattle.yp_session.specs.declared.session.Step.{Step}
 use Rattle.yp_session.specs.declared.session.Step.TheVariants.{Answered, Ended}
-use Rattle.yp_io.specs.declared.stream.Pair.{Pair}
-use Rattle.yp_session.specs.Wires.{Wire, wire_of}
-use Rattle.yp_session.specs.Hosts.{Conduct, Carries}
+use Rattle.yp_session.specs.Progress.{Progress}
+use Rattle.yp_session.specs.Wires.{SinkTells, Wire, NeverFalls}
+use Rattle.yp_session.specs.Hosts.{Conduct, Turn, Link, counts_over}
+use Rattle.yp_session.specs.LogRuns.{LogRun}
+
+-- a dialogue at a moment: its host, its wire, and what the session keeps
+pub record Dialogue (H : Type 0) : Type 0 where
+  pub host : H
+  pub wire : Wire
+  pub progress : Progress
+
+abbrev pub dialogue_at : {H : Type 0} → H → Wire → Progress → Dialogue H
+dialogue_at host wire progress = record { host = host; wire = wire; progress = progress }
 
 -- what is sent for a reply, and nothing for silence
 abbrev pub sent_reply : Option (List ℕ) → List ℕ
 sent_reply None = []
 sent_reply (Some message) = sent message
 
--- what is sent for replies, in their order
-abbrev pub sent_replies : List (Option (List ℕ)) → List ℕ
-sent_replies replies = flat_map sent_reply replies
+-- where there is a reply, the output is flushed
+abbrev pub IsFlushed : Option (List ℕ) → Bool → Bool → Type 0
+IsFlushed None old new = new ≡ old
+IsFlushed (Some message) old new = IsTrue new
 
--- a moment of a session: its host, its wire, and the place up to which records were read
-pub record Moment (H : Type 0) : Type 0 where
-  pub host : H
-  pub wire : Wire
-  pub place : ℕ
+-- The whole reply went out and was flushed; or a front of it went out, and the sink failed.
+abbrev pub Sends : Bool → Option (List ℕ) → SinkTells → SinkTells → Type 0
+Sends true answer old new =
+    Appends old.output new.output (sent_reply answer) × IsFlushed answer old.flushed new.flushed
+Sends false answer old new =
+    ((n : ℕ) × Appends old.output new.output (take n (sent_reply answer))) × HasRisen old.faults new.faults
 
--- what is left of the input, and the place up to which records were read
-pub record Feed : Type 0 where
-  pub input : Option (List ℕ)
-  pub place : ℕ
-
-abbrev pub feed_of : {H : Type 0} → Moment H → Feed
-feed_of moment = record { input = moment.wire.input; place = moment.place }
-
--- records were read one after the other
-abbrev pub Reads : List (List ℕ) → Feed → Feed → Type 0
-Reads [] old new = Keeps old.input new.input × (new.place ≡ old.place)
-Reads (message ∷ messages) old new =
-    (mid : Feed) × TakesRecord record_max message old.input mid.input old.place mid.place × Reads messages mid new
-
--- A host took its read step where the record asks for one, and then did what the reply on what it knows waits for; this is the reply.
-pub record Link {H : Type 0} (conduct : Conduct H) (peer : Peer) (message : List ℕ) (answer : Option (List ℕ)) (old new : H) : Type 0 where
-  pub mid : H
-  pub step : StepsWhere (asks Stream message) conduct.stepped conduct.seen old mid
-  pub uncounted : conduct.files mid ≡ conduct.files old
-  pub carried : Carries conduct peer (reply Stream (maps_of (conduct.seen mid)) peer message) answer mid new
-
--- each of these records in turn got its link, with these replies
-abbrev pub Chain : {H : Type 0} → Conduct H → Peer → List (List ℕ) → List (Option (List ℕ)) → H → H → Type 0
-Chain conduct peer [] [] old new = new ≡ old
-Chain {H} conduct peer (message ∷ messages) (answer ∷ answers) old new =
-    (mid : H) × Link conduct peer message answer old mid × Chain conduct peer messages answers mid new
-Chain conduct peer [] (answer ∷ answers) old new = ⊥
-Chain conduct peer (message ∷ messages) [] old new = ⊥
-
--- ---- one step
-
--- A record got its link, and this was made of what is sent for the reply.
-pub record Replies {H : Type 0} (conduct : Conduct H) (peer : Peer) (message : List ℕ) (old new : H) (P : List ℕ → Type 0) : Type 0 where
-  pub answer : Option (List ℕ)
-  pub link : Link conduct peer message answer old new
-  pub done : P (sent_reply answer)
-
--- A record was read and got its link, and this was made of what is sent for the reply.
-pub record Answers {H : Type 0} (conduct : Conduct H) (peer : Peer) (old new : Moment H) (P : List ℕ → Type 0) : Type 0 where
-  pub message : List ℕ
-  pub taken : TakesRecord record_max message old.wire.input new.wire.input old.place new.place
-  pub replied : Replies conduct peer message old.host new.host P
-
--- no record was read, nothing was written, and the host stays
-pub record IsIdle {H : Type 0} (old new : Moment H) : Type 0 where
+-- No record was read, and nothing but the source changed.
+pub record IsIdle {H : Type 0} (old new : Dialogue H) : Type 0 where
   pub host : new.host ≡ old.host
-  pub output : Keeps old.wire.output new.wire.output
+  pub progress : new.progress ≡ old.progress
+  pub sink : new.wire.sink ≡ old.wire.sink
+  pub never_falls : NeverFalls old.wire new.wire
 
--- what is left of the input where a session ends before a record
-abbrev pub StopsAt : {H : Type 0} → End → Moment H → Moment H → Type 0
-StopsAt Clean old new = IsEmpty old.wire.input new.wire.input
-StopsAt (Torn at) old new =
-    (at ≡ old.place) × (rest : List ℕ) × IsTorn record_max rest × Consumes old.wire.input new.wire.input rest × IsAtEnd new.wire.input
-StopsAt (TooLong at) old new =
-    (at ≡ old.place) × (front : List ℕ) × IsTooLong record_max front × Consumes old.wire.input new.wire.input front
-StopsAt ReadFault old new =
-    HasRisen old.wire.reads new.wire.reads × (part : List ℕ) × Consumes old.wire.input new.wire.input part × IsBegun record_max part
-StopsAt WriteFault old new = ⊥
-StopsAt Enough old new = ⊥
-
--- What a step does: it answers a record, or ends before one, or in a reply that the output didn't take whole.
-abbrev pub Does : {H : Type 0} → Conduct H → Peer → Step → Moment H → Moment H → Type 0
-Does conduct peer Answered old new =
-    Answers conduct peer old new (λ bytes. Appends old.wire.output new.wire.output bytes)
-Does conduct peer (Ended WriteFault) old new =
-    Answers conduct peer old new (λ bytes. (n : ℕ) × Appends old.wire.output new.wire.output (take n bytes)) × HasRisen old.wire.writes new.wire.writes
-Does conduct peer (Ended Clean) old new = IsIdle old new × StopsAt Clean old new
-Does conduct peer (Ended (Torn at)) old new = IsIdle old new × StopsAt (Torn at) old new
-Does conduct peer (Ended (TooLong at)) old new = IsIdle old new × StopsAt (TooLong at) old new
-Does conduct peer (Ended ReadFault) old new = IsIdle old new × StopsAt ReadFault old new
-Does conduct peer (Ended Enough) old new = ⊥
-
--- ---- a run
-
--- The output took all replies; after a write fault it took all before the last, and a front of that.
-abbrev pub Sends : End → List (Option (List ℕ)) → Option (List ℕ) → Option (List ℕ) → Type 0
-Sends WriteFault answers old new =
-    (before : List (Option (List ℕ))) × (last : Option (List ℕ)) × (n : ℕ) × (answers ≡ before ++ last ∷ [])
-    × Appends old new (sent_replies before ++ take n (sent_reply last))
-Sends Clean answers old new = Appends old new (sent_replies answers)
-Sends (Torn at) answers old new = Appends old new (sent_replies answers)
-Sends (TooLong at) answers old new = Appends old new (sent_replies answers)
-Sends ReadFault answers old new = Appends old new (sent_replies answers)
-Sends Enough answers old new = Appends old new (sent_replies answers)
-
--- how many records were read, of at most so many, and what is left of the input behind them
-abbrev pub EndsAt : End → ℕ → ℕ → Feed → Wire → Wire → Type 0
-EndsAt Clean count most mid old new = (count < most) × IsEmpty mid.input new.input
-EndsAt (Torn at) count most mid old new =
-    (count < most) × (at ≡ mid.place) × (rest : List ℕ) × IsTorn record_max rest × Consumes mid.input new.input rest × IsAtEnd new.input
-EndsAt (TooLong at) count most mid old new =
-    (count < most) × (at ≡ mid.place) × (front : List ℕ) × IsTooLong record_max front × Consumes mid.input new.input front
-EndsAt ReadFault count most mid old new =
-    (count < most) × HasRisen old.reads new.reads × (part : List ℕ) × Consumes mid.input new.input part × IsBegun record_max part
-EndsAt WriteFault count most mid old new = (count ≤ most) × HasRisen old.writes new.writes × Keeps mid.input new.input
-EndsAt Enough count most mid old new = (count ≡ most) × Keeps mid.input new.input
-
--- A session of at most so many records, each answered before the next was read, that ended so.
-pub record Runs {H : Type 0} (conduct : Conduct H) (peer : Peer) (most : ℕ) (end : End) (old new : Moment H) (calls : ℕ) : Type 0 where
-  pub messages : List (List ℕ)
-  pub answers : List (Option (List ℕ))
-  pub mid : Feed
-  pub read : Reads messages (feed_of old) mid
-  pub chain : Chain conduct peer messages answers old.host new.host
-  pub sent : Sends end answers old.wire.output new.wire.output
-  pub ended : EndsAt end (length messages) most mid old.wire new.wire
-  pub counted : calls ≡ length messages
+-- There is no record, for this reason.
+abbrev pub Lacks : {H : Type 0} → RecordFault → Dialogue H → Dialogue H → Type 0
+Lacks fault old new =
+    HasCause record_max old.progress.place old.wire.source.input new.wire.source.input
+    old.wire.source.faults new.wire.source.faults fault × IsIdle old new
 
 -- the end that a fault of a record is
 abbrev pub end_of : RecordFault → End
@@ -148,7 +63,57 @@ end_of (faults.Torn at) = Torn at
 end_of (faults.TooLong at) = TooLong at
 end_of faults.ReadFault = ReadFault
 
--- the moment of a host and a wire that tell these
-abbrev pub moment_of : {H S K : Type 0} → (S → Option (List ℕ)) → (S → ℕ) → (K → Option (List ℕ)) → (K → Bool) → (K → ℕ) → H → Pair S K → ℕ → Moment H
-moment_of input reads output flushed writes host pair place =
-    record { host = host; wire = wire_of input reads output flushed writes pair; place = place }
+module _ {H : Type 0} (conduct : Conduct H) (peer : Peer) where
+  -- A record got its link, and its whole reply was flushed, or wasn't.
+  pub record Replies (flushed : Bool) (turn : Turn) (old new : H) (before after : SinkTells) : Type 0 where
+    pub link : Link conduct Stream peer turn old new
+    pub flush : turn.flushed ≡ flushed
+    pub sends : Sends flushed turn.answer before after
+
+  -- A record was read and got its reply.
+  pub record Answers (flushed : Bool) (turn : Turn) (old new : Dialogue H) : Type 0 where
+    pub taken : TakesRecord record_max turn.message old.wire.source.input new.wire.source.input
+        old.progress.place new.progress.place
+    pub calls : new.progress.calls ≡ next_count old.progress.calls
+    pub replied : Replies flushed turn old.host new.host old.wire.sink new.wire.sink
+    pub never_falls : NeverFalls old.wire new.wire
+
+  -- What a step does: it answers a record, or ends before one, or in a reply that the output didn't take whole.
+  abbrev pub Does : Step → Dialogue H → Dialogue H → Type 0
+  Does Answered old new = (turn : Turn) × Answers true turn old new
+  Does (Ended WriteFault) old new = (turn : Turn) × Answers false turn old new
+  Does (Ended Clean) old new = IsEmpty old.wire.source.input new.wire.source.input × IsIdle old new
+  Does (Ended (Torn at)) old new = Lacks (faults.Torn at) old new
+  Does (Ended (TooLong at)) old new = Lacks (faults.TooLong at) old new
+  Does (Ended ReadFault) old new = Lacks faults.ReadFault old new
+  Does (Ended Enough) old new = ⊥
+
+  -- Records were answered one after the other: what came of each, and the dialogue behind it.
+  abbrev pub Chain : List (Turn × Dialogue H) → Dialogue H → Dialogue H → Type 0
+  Chain [] old new = new ≡ old
+  Chain (one ∷ later) old new = Answers true one.0 old one.1 × Chain later one.1 new
+
+  -- what ends a run of at most so many records behind so many: a step, or nothing behind the most
+  abbrev pub Ends : ℕ → ℕ → End → Dialogue H → Dialogue H → Type 0
+  Ends most count Enough old new = (count ≡ most) × (new ≡ old)
+  Ends most count end old new = (count < most) × Does (Ended end) old new
+
+  -- what came of a record whose reply didn't go out whole
+  abbrev pub unsent : (most count : ℕ) (end : End) (old new : Dialogue H) → Ends most count end old new → List Turn
+  unsent most count WriteFault old new ends = ends.1.0 ∷ []
+  unsent most count end old new ends = []
+
+  -- A session of at most so many records, each answered before the next was read, that ended so. What came of each is
+  -- told, and so are the wires behind those that were answered.
+  pub record Runs (most : ℕ) (end : End) (old new : Dialogue H) (wires : List Wire) : Type 0 where
+    pub answered : List (Turn × Dialogue H)
+    pub last : Dialogue H
+    pub chain : Chain answered old last
+    pub ends : Ends most (length answered) end last new
+    pub watched : wires ≡ map (λ one. one.1.wire) answered
+    pub turns : List Turn
+    pub all : turns ≡ map (λ one. one.0) answered ++ unsent most (length answered) end last new ends
+    pub calls : new.progress.calls ≡ length turns
+    pub counted : conduct.counts new.host ≡ counts_over (conduct.counts old.host) turns
+    pub on_logs : LogRun (conduct.seen old.host).catalogue Stream peer turns
+        (conduct.seen old.host).known (conduct.seen new.host).known

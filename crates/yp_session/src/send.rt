@@ -20,7 +20,8 @@ pub fn send<K: Sink>(writer: &mut RecordWriter, sink: &mut K, message: &[u8]) ->
     requires some { 0 < length message.now }
     ensures sent { OnOk result (Appends (K.output sink.old) (K.output sink.new) (sent message.now)) }
     ensures flushed { OnOk result (IsTrue (K.flushed sink.new)) }
-    ensures prefix { OnErr result ((n : ℕ) × Appends (K.output sink.old) (K.output sink.new) (take n (sent message.now))) }
+    ensures prefix { OnErr result ((n : ℕ)
+        × Appends (K.output sink.old) (K.output sink.new) (take n (sent message.now))) }
     ensures idle { writer.new ≡ [] }
     ensures cause { CountsFaults (K.faults sink.old) (K.faults sink.new) result }
 {
@@ -40,10 +41,12 @@ pub fn send_stream<K: Sink, V: View>(
     requires room { record_max ≤ length buf.old }
     requires inside { IsInside (maps_of (V.seen view.now)) stream.source }
     requires some { parts_left (V.seen view.now).known stream ≢ [] }
-    ensures sent { OnOk result (Appends (K.output sink.old) (K.output sink.new) (sent (joined (parts_left (V.seen view.now).known stream)))) }
+    ensures sent { OnOk result (Appends (K.output sink.old) (K.output sink.new)
+        (sent (joined (parts_left (V.seen view.now).known stream)))) }
     ensures flushed { OnOk result (IsTrue (K.flushed sink.new)) }
     ensures prefix { OnErr result ((n : ℕ)
-        × Appends (K.output sink.old) (K.output sink.new) (take n (sent (joined (parts_left (V.seen view.now).known stream))))) }
+        × Appends (K.output sink.old) (K.output sink.new)
+        (take n (sent (joined (parts_left (V.seen view.now).known stream))))) }
     ensures idle { writer.new ≡ [] }
     ensures cause { CountsFaults (K.faults sink.old) (K.faults sink.new) result }
 {

@@ -1,24 +1,22 @@
 //! A session: each record of a wire is answered before the next is read.
 
-ghost use Rattle.std.specs.Prelude.{◌≡◌, ◌≢◌, ℕ, ◌<◌, ◌≤◌, IsTrue, [], length, take, None, IfOk, OnOk, OnErr};
-ghost use Rattle.std.specs.Io.KnownBytes.{Appends};
-ghost use Rattle.yp_io.specs.Counts.{CountsFaults};
+ghost use Rattle.std.specs.Prelude.{◌≡◌, ◌≢◌, ℕ, ◌<◌, ◌≤◌, true, false, IsTrue, [], length, take, IfOk, OnOk, OnErr};
+ghost use Rattle.yp_io.specs.Counts.{CountsFaults, HasRisen};
 ghost use Rattle.yp_msgs.specs.declared.transfer.XfrStat.{XfrStat};
-ghost use Rattle.yp_msgs.specs.Transfers.{req_make_view};
 ghost use Rattle.yp_answer.specs.Numbers.{record_max};
-ghost use Rattle.yp_answer.specs.Make.{make_check};
 ghost use Rattle.yp_answer.specs.Reply.{make_reply};
-ghost use Rattle.yp_session.specs.Hosts.{conduct_of, Makes};
-ghost use Rattle.yp_session.specs.Runs.{moment_of, Replies, Does, Runs};
-ghost use Rattle.yp_session.specs.Progress.{calls_after};
+ghost use Rattle.yp_session.specs.Wires.{NeverFalls, Grows, sink_of, wire_of};
+ghost use Rattle.yp_session.specs.Progress.{begun};
+ghost use Rattle.yp_session.specs.Hosts.{Turn, conduct_of, Fulfils};
+ghost use Rattle.yp_session.specs.Runs.{dialogue_at, Replies, Does, Runs};
 
 use crate::host::Host;
 use crate::send::{send, send_stream};
+use crate::witness::Witness;
 use std::alloc::Global;
 use std::marker::Model;
-use yp_answer::{Answered, RECORD_MAX, answer, laws, make_reply};
+use yp_answer::{Answered, Job, RECORD_MAX, answer, make_reply};
 use yp_io::{Failed, NoMemory, Pair, Peer, Sink, Source};
-use yp_msgs::ReqMake;
 use yp_rpc::{RecordFault, RecordReader, RecordWriter};
 
 /// The most records of a session, so that each has an end.
@@ -71,7 +69,8 @@ impl Model for Session {
 
     ghost view = { λ s. record { place = s.reader.place; calls = s.calls } };
 
-    ghost invariant = { λ s. (s.reader.part ≡ not_begun) × (s.writer ≡ []) × (length s.call.items ≡ record_max) × (length s.reply.items ≡ record_max) };
+    ghost invariant = { λ s. (s.reader.part ≡ not_begun) × (s.writer ≡ [])
+        × (length s.call.items ≡ record_max) × (length s.reply.items ≡ record_max) };
 }
 
 impl Session {
@@ -103,24 +102,31 @@ impl Session {
         self.calls = 0;
     }
 
-    /// Answers each record of the wire in turn, at most `most` of them, to a caller at `peer`.
-    pub fn run<S: Source, K: Sink, H: Host>(
+    /// Answers each record of the wire in turn, at most `most` of them, to a caller at `peer`. The witness sees the
+    /// wire behind each.
+    pub fn run<S: Source, K: Sink, H: Host, W: Witness<S, K>>(
         &mut self,
         wire: &mut Pair<S, K>,
         host: &mut H,
         peer: Peer,
         most: u64,
+        witness: &mut W,
     ) -> End
         requires { most ≤ CALLS_MAX }
-        ensures runs { Runs (conduct_of H.seen H.files H.stepped H.made) peer most result
-            (moment_of S.input S.faults K.output K.flushed K.faults host.old wire.old 0)
-            (moment_of S.input S.faults K.output K.flushed K.faults host.new wire.new self.new.place) self.new.calls }
-        ensures flushed { result ≢ End.WriteFault → IsTrue (K.flushed wire.old.sink) → IsTrue (K.flushed wire.new.sink) }
+        ensures runs { Grows (W.wires witness.old) (W.wires witness.new)
+            (Runs (conduct_of H.seen H.told H.counts H.stepped H.made) peer most result
+            (dialogue_at host.old (wire_of S.Source K.Sink wire.old) begun)
+            (dialogue_at host.new (wire_of S.Source K.Sink wire.new) self.new)) }
+        ensures flushed { result ≢ End.WriteFault
+            → IsTrue (K.flushed wire.old.sink) → IsTrue (K.flushed wire.new.sink) }
+        ensures counts { NeverFalls (wire_of S.Source K.Sink wire.old) (wire_of S.Source K.Sink wire.new) }
+        ensures read_fault { result ≡ End.ReadFault → HasRisen (S.faults wire.old.source) (S.faults wire.new.source) }
+        ensures write_fault { result ≡ End.WriteFault → HasRisen (K.faults wire.old.sink) (K.faults wire.new.sink) }
     {
         self.begin();
         for _ in 0..most {
             match self.step(wire, host, peer) {
-                Step::Answered => {}
+                Step::Answered => witness.answered(wire),
                 Step::Ended(end) => return end,
             }
         }
@@ -134,13 +140,9 @@ impl Session {
         host: &mut H,
         peer: Peer,
     ) -> Step
-        ensures does { Does (conduct_of H.seen H.files H.stepped H.made) peer result
-            (moment_of S.input S.faults K.output K.flushed K.faults host.old wire.old self.old.place)
-            (moment_of S.input S.faults K.output K.flushed K.faults host.new wire.new self.new.place) }
-        ensures calls { self.new.calls ≡ calls_after self.old.calls result }
-        ensures flushed { result ≢ Step.Ended End.WriteFault → IsTrue (K.flushed wire.old.sink) → IsTrue (K.flushed wire.new.sink) }
-        ensures reads { S.faults wire.old.source ≤ S.faults wire.new.source }
-        ensures writes { K.faults wire.old.sink ≤ K.faults wire.new.sink }
+        ensures { Does (conduct_of H.seen H.told H.counts H.stepped H.made) peer result
+            (dialogue_at host.old (wire_of S.Source K.Sink wire.old) self.old)
+            (dialogue_at host.new (wire_of S.Source K.Sink wire.new) self.new) }
     {
         let len = match self.reader.next(&mut wire.source, &mut self.call) {
             Ok(None) => return Step::Ended(End::Clean),
@@ -168,42 +170,42 @@ fn reply_to<K: Sink, H: Host>(
     writer: &mut RecordWriter,
     sink: &mut K,
     host: &mut H,
-    record: &[u8],
+    message: &[u8],
     peer: Peer,
     buf: &mut [u8],
 ) -> Result<(), Failed>
     requires idle { writer.old ≡ [] }
     requires room { record_max ≤ length buf.old }
-    ensures sent { OnOk result (Replies (conduct_of H.seen H.files H.stepped H.made) peer record.now
-        host.old host.new (λ bytes. Appends (K.output sink.old) (K.output sink.new) bytes)) }
-    ensures prefix { OnErr result (Replies (conduct_of H.seen H.files H.stepped H.made) peer record.now
-        host.old host.new (λ bytes. (n : ℕ) × Appends (K.output sink.old) (K.output sink.new) (take n bytes))) }
-    ensures flushed { OnOk result (IsTrue (K.flushed sink.old) → IsTrue (K.flushed sink.new)) }
+    ensures sent { OnOk result ((turn : Turn) × (turn.message ≡ message.now)
+        × Replies (conduct_of H.seen H.told H.counts H.stepped H.made) peer true turn host.old host.new
+        (sink_of K.Sink sink.old) (sink_of K.Sink sink.new)) }
+    ensures unsent { OnErr result ((turn : Turn) × (turn.message ≡ message.now)
+        × Replies (conduct_of H.seen H.told H.counts H.stepped H.made) peer false turn host.old host.new
+        (sink_of K.Sink sink.old) (sink_of K.Sink sink.new)) }
     ensures idle { writer.new ≡ [] }
     ensures cause { CountsFaults (K.faults sink.old) (K.faults sink.new) result }
 {
-    match answer(host, record, peer, buf) {
+    match answer(host, message, peer, buf) {
         Answered::Silent => Ok(()),
         Answered::Reply { len } => send(writer, sink, &buf[..len]),
         Answered::Stream(stream) => send_stream(writer, sink, host, stream, buf),
-        Answered::Make { xid, request } => {
-            laws::open_is_unrefused();
-            let len = make(host, &request, peer, xid, buf);
+        Answered::Make { xid, job } => {
+            let len = make(host, job, xid, buf);
             send(writer, sink, &buf[..len])
         }
     }
 }
 
 /// Has a map made, puts the reply with the status of that at the front of the buffer, and answers its length.
-fn make<H: Host>(host: &mut H, request: &ReqMake<'_>, peer: Peer, xid: u32, buf: &mut [u8]) -> usize
+fn make<H: Host>(host: &mut H, job: Job, xid: u32, buf: &mut [u8]) -> usize
     requires room { record_max ≤ length buf.old }
-    requires unrefused { make_check (H.seen host.old).catalogue peer (req_make_view request.now) ≡ None }
+    requires inside { job.map < length (H.seen host.old).catalogue.maps }
     ensures made { (stat : XfrStat) × (take result buf.new ≡ make_reply xid stat)
-        × Makes (conduct_of H.seen H.files H.stepped H.made) (req_make_view request.now) peer stat host.old host.new }
+        × Fulfils (conduct_of H.seen H.told H.counts H.stepped H.made) job stat host.old host.new }
     ensures some { 0 < result }
     ensures within { result ≤ length buf.new }
 {
-    let stat = host.make(request, peer);
+    let stat = host.make(job);
     make_reply(buf, xid, stat)
 }
 

@@ -1,47 +1,87 @@
-//! A host whose maps are made as the number of a kind says.
+//! A host that builds its maps of one text, or fails as their kinds say.
 
-ghost use Rattle.std.specs.Prelude.{◌≡◌, ◌⊎◌};
+ghost use Rattle.std.specs.Prelude.{◌≡◌, ◌≢◌, ◌<◌, ◌≤◌, None, Ok, length, IfOk, IfErr};
 ghost use Rattle.std.proofs.Common.{ap};
 ghost use Rattle.yp_io.specs.Counts.{next_count};
-ghost use Rattle.yp_msgs.specs.declared.transfer.XfrStat.TheVariants.{Succ, Rsrc};
+ghost use Rattle.yp_io.specs.Texts.{text_max};
+ghost use Rattle.yp_board.specs.Logs.{shown};
 ghost use Rattle.yp_board.specs.Views.{IsFront};
+ghost use Rattle.yp_build.specs.After.{Material, built_after, IsOver};
+ghost use Rattle.yp_session.specs.Causes.{IsCaused, basis_at};
 
+use std::alloc::Global;
 use std::sync::Arc;
+use yp_answer::Job;
 use yp_board::{Catalog, PlainBoard, Show, View};
-use yp_io::Peer;
-use yp_msgs::{ReqMake, XfrStat};
+use yp_build::{AfterFault, BuildFault, Kind, build_after, other_master};
+use yp_msgs::XfrStat;
 use yp_session::Host;
 use yp_version::Version;
 
-// MAKE of the kinds 1 to 5 has SUCC, REFUSED, AGE, DBM and FILE, and of the others RSRC. SUCC shows the next version of
-// the first map, once.
+// The text of each map.
+const TEXT: &[u8] = b"alpha:1";
+
+// It tells no text and no moment, so that group.bygid has DBM. hosts.byname has FILE and hosts.byaddr RSRC, and the
+// others are built of the text.
 #[derive(Drop)]
 pub struct TestHost {
     pub board: PlainBoard,
-    pub next: Option<Arc<Version>>,
-    // How many maps were to be made, and how many of them had FILE.
+    pub alloc: Global,
+    pub rt: HostRuntime,
+    // How many maps were to be made, how many of them had FILE, and whether one was shown.
     pub makes: u64,
     pub files: u64,
+    pub shown: bool,
 }
 
-impl TestHost {
-    // Shows the next version, where there is one.
-    fn show_next(&mut self) -> XfrStat
-        ensures stat { (result ≡ Succ) ⊎ (result ≡ Rsrc) }
-        ensures grown { IsFront self.old.board.known self.new.board.known }
-        ensures catalogue { self.new.board.catalogue ≡ self.old.board.catalogue }
-        ensures files { self.new.files ≡ self.old.files }
-    {
-        if self.board.catalog().is_empty() {
-            return XfrStat::Rsrc;
-        }
-        let Some(version) = self.next.take() else {
-            return XfrStat::Rsrc;
-        };
-        match self.board.show(0, version) {
-            Ok(()) => XfrStat::Succ,
-            Err(_) => XfrStat::Rsrc,
-        }
+// Builds a version of a map of a text, behind the one that is shown of it.
+fn build_next(
+    board: &PlainBoard,
+    alloc: Global,
+    rt: HostRuntime,
+    job: Job,
+    text: &[u8],
+) -> Result<Version, XfrStat>
+    requires inside { job.map < length board.now.catalogue.maps }
+    requires limit { length text.now ≤ text_max }
+    ensures built { IfOk result (λ version. (material : Material)
+        × (built_after (basis_at board.now.catalogue.own job board.now.known) material ≡ Ok version)
+        × IsOver (shown job.map board.now.known) version) }
+    ensures unbuilt { IfErr result (λ stat. IsCaused (record { text = λ file. None; moment = None })
+        board.now.catalogue.own job stat board.now.known board.now.known) }
+    ensures counted { IfErr result (λ stat. stat ≢ XfrStat.File) }
+{
+    let own = board.catalog().own();
+    let last = board.held(job.map);
+    if let Some(_) = other_master(own, last) {
+        return Err(XfrStat::Refused);
+    }
+    match build_after(alloc, &rt, job.kind, text, last, None, 100, own) {
+        Ok(version) => Ok(version),
+        Err(AfterFault::Build(BuildFault::OrderSpent)) => Err(XfrStat::Age),
+        Err(_) => Err(XfrStat::Rsrc),
+    }
+}
+
+// Builds a map anew, and shows that.
+fn make_next(board: &mut PlainBoard, alloc: Global, rt: HostRuntime, job: Job) -> XfrStat
+    requires { job.map < length board.old.catalogue.maps }
+    ensures caused { IsCaused (record { text = λ file. None; moment = None })
+        board.old.catalogue.own job result board.old.known board.new.known }
+    ensures counted { result ≢ XfrStat.File }
+    ensures grown { IsFront board.old.known board.new.known }
+    ensures catalogue { board.new.catalogue ≡ board.old.catalogue }
+{
+    let version = match build_next(board, alloc, rt, job, TEXT) {
+        Ok(version) => version,
+        Err(stat) => return stat,
+    };
+    let Ok(version) = Arc::new(alloc, version) else {
+        return XfrStat::Rsrc;
+    };
+    match board.show(job.map, version) {
+        Ok(()) => XfrStat::Succ,
+        Err(_) => XfrStat::Rsrc,
     }
 }
 
@@ -64,24 +104,28 @@ impl View for TestHost {
 }
 
 impl Host for TestHost {
-    ghost files = { λ host. host.files };
+    ghost told = { λ host. record { text = λ file. None; moment = None } };
 
-    ghost made = { λ asked peer stat old new. Unit {0} };
+    ghost counts = { λ host. record { files = host.files; transfers = 0 } };
 
-    fn make(&mut self, request: &ReqMake<'_>, _peer: Peer) -> XfrStat {
+    ghost made = { λ job stat old new. Unit {0} };
+
+    fn make(&mut self, job: Job) -> XfrStat {
         self.makes = self.makes.saturating_add(1);
-        match request.kind {
-            1 => self.show_next(),
-            2 => XfrStat::Refused,
-            3 => XfrStat::Age,
-            4 => XfrStat::Dbm,
-            5 => {
+        match job.kind {
+            Kind::GroupBygid => XfrStat::Dbm,
+            Kind::HostsByname => {
                 self.files = self.files.saturating_add(1);
                 XfrStat::File
             }
-            _ => XfrStat::Rsrc,
+            Kind::HostsByaddr => XfrStat::Rsrc,
+            _ => {
+                let stat = make_next(&mut self.board, self.alloc, self.rt, job);
+                self.shown = self.shown || stat == XfrStat::Succ;
+                stat
+            }
         }
     }
 
-    ghost step_counts_nothing = { λ old new h. ap (λ host. host.files) h };
+    ghost step_counts_nothing = { λ old new h. ap (λ host. record { files = host.files; transfers = 0 }) h };
 }

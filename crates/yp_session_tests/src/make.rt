@@ -25,7 +25,7 @@ const MAKE: &str = "80000034 00000002 00000000 00000002 20004e49 00000001 000000
 
 const MADE: &str = "8000001c 00000002 00000001 00000000 00000000 00000000 00000000";
 
-// MATCH of `alpha` in passwd.byname, and the replies where there is no version and where the value is `1`.
+// MATCH of `alpha` in passwd.byname, and the replies where there is no version and where the value is `alpha:1`.
 const MATCH: &str = "80000050 00000001 00000000 00000002 000186a4 00000002 00000003
     00000000 00000000 00000000 00000000 00000001 64000000
     0000000d 70617373 77642e62 796e616d 65000000 00000005 616c7068 61000000";
@@ -34,13 +34,14 @@ const NO_MAP: &str =
     "80000020 00000001 00000001 00000000 00000000 00000000 00000000 ffffffff 00000000";
 
 const VALUE: &str =
-    "80000024 00000001 00000001 00000000 00000000 00000000 00000000 00000001 00000001 31000000";
+    "80000028 00000001 00000001 00000000 00000000 00000000 00000000 00000001 00000007 616c7068 613a3100";
 
-// A host that shows no version yet, and makes one of the first map.
-fn unmade<R: RandomSource + Abort>(rt: &R, alloc: Global) -> TestHost {
-    let next = version(rt, alloc, &[(b"alpha", b"1")]);
-    let start = vec![in alloc; None, None, None, None, None, None].expect(rt, "versions");
-    host_of(rt, alloc, &MAPS, start, Some(next))
+// A host that shows two versions, one of another master and one of the last order.
+fn unmade<R: RandomSource + Abort>(rt: &R, runtime: HostRuntime, alloc: Global) -> TestHost {
+    let foreign = version(rt, alloc, 7, b"m2", &[]);
+    let last = version(rt, alloc, u32::MAX, b"m1", &[]);
+    let start = vec![in alloc; None, Some(foreign), Some(last), None, None, None];
+    host_of(rt, runtime, alloc, &MAPS, start.expect(rt, "versions"))
 }
 
 // The kind, the status, and how often a map was to be made and had FILE by then.
@@ -69,25 +70,25 @@ fn assert_statuses(rt: &impl Abort, alloc: Global, session: &mut Session, host: 
 fn statuses_of_makes(rt: HostRuntime) {
     let alloc = rt.alloc();
     let mut session = Session::new(alloc).expect(&rt, "a session");
-    let mut host = unmade(&rt, alloc);
+    let mut host = unmade(&rt, rt, alloc);
     assert_statuses(&rt, alloc, &mut session, &mut host);
 }
 
-// What came of a session over a host that shows no version yet, how often a map was to be made, and whether one was
-// shown.
+// What came of a session over such a host, how often a map was to be made, and whether one was shown.
 type Makes = (Came, u64, bool);
 
 fn run_unmade<R: RandomSource + Abort>(
     rt: &R,
+    runtime: HostRuntime,
     alloc: Global,
     peer: Peer,
     input: Vec<u8>,
     bounds: Bounds,
 ) -> Makes {
     let mut session = Session::new(alloc).expect(rt, "a session");
-    let mut host = unmade(rt, alloc);
+    let mut host = unmade(rt, runtime, alloc);
     let came = run(rt, alloc, &mut session, &mut host, peer, input, bounds);
-    (came, host.makes, host.next.is_none())
+    (came, host.makes, host.shown)
 }
 
 #[test]
@@ -95,7 +96,7 @@ fn make_then_match(rt: HostRuntime) {
     let alloc = rt.alloc();
     let input = bytes(&rt, alloc, &[MATCH, MAKE, "00000001", MATCH]);
     let output = bytes(&rt, alloc, &[NO_MAP, MADE, "00000001", VALUE]);
-    let came = run_unmade(&rt, alloc, PEER, input, UNBOUNDED);
+    let came = run_unmade(&rt, rt, alloc, PEER, input, UNBOUNDED);
     let wanted = ((End::Clean, 3, 0, output), 1, true);
     assert_same(&rt, &came, &wanted, "MATCH, MAKE, MATCH");
 }
@@ -109,7 +110,7 @@ fn make_from_another_host(rt: HostRuntime) {
         addr: [10, 0, 0, 9],
         port: 700,
     };
-    let came = run_unmade(&rt, alloc, peer, input, UNBOUNDED);
+    let came = run_unmade(&rt, rt, alloc, peer, input, UNBOUNDED);
     let wanted = ((End::Clean, 2, 0, output), 0, false);
     assert_same(&rt, &came, &wanted, "MAKE, MATCH");
 }
@@ -135,7 +136,7 @@ fn make_whose_reply_is_lost(rt: HostRuntime) {
         let input = bytes(&rt, alloc, &[MAKE, "00000001", MATCH]);
         let output = bytes(&rt, alloc, &[taken]);
         let bounds = Bounds { write, ..UNBOUNDED };
-        let came = run_unmade(&rt, alloc, PEER, input, bounds);
+        let came = run_unmade(&rt, rt, alloc, PEER, input, bounds);
         // The record of MATCH, of 84 bytes, isn't read.
         let wanted = ((End::WriteFault, 1, 84, output), 1, true);
         assert_same(&rt, &(write, came), &(write, wanted), "call that fails");

@@ -1,6 +1,7 @@
 //! Hosts, and sessions over wires in memory.
 
-ghost use Rattle.std.specs.Prelude.{◌≡◌, length};
+ghost use Rattle.std.specs.Prelude.{◌≡◌, ◌≤◌, length};
+ghost use Rattle.yp_version.specs.Limits.{master_max};
 
 use crate::given::assert_same;
 use crate::host::TestHost;
@@ -32,13 +33,17 @@ fn push_rows(rt: &impl Abort, builder: &mut VersionBuilder, rows: &[(&[u8], &[u8
     }
 }
 
-// A version of order 7 with these rows.
+// A version with these rows.
 pub fn version<R: RandomSource + Abort>(
     rt: &R,
     alloc: Global,
+    order: u32,
+    master: &[u8],
     rows: &[(&[u8], &[u8])],
-) -> Arc<Version> {
-    let mut builder = VersionBuilder::new(alloc, rt, 7, b"m1").expect(rt, "a builder");
+) -> Arc<Version>
+    requires { length master.now ≤ master_max }
+{
+    let mut builder = VersionBuilder::new(alloc, rt, order, master).expect(rt, "a builder");
     push_rows(rt, &mut builder, rows);
     let version = builder.finish().expect(rt, "a version");
     Arc::new(alloc, version).expect(rt, "a shared version")
@@ -51,13 +56,13 @@ fn assert_fits(rt: &impl Abort, count: usize, catalog: &Catalog)
     assert_eq!(rt; count, catalog.len() as usize);
 }
 
-// A host of these maps of the domain `d`, which shows these versions and has another one to show.
+// A host of these maps of the domain `d`, which shows these versions.
 pub fn host_of(
     rt: &impl Abort,
+    runtime: HostRuntime,
     alloc: Global,
     maps: &[&[u8]],
     start: Vec<Option<Arc<Version>>>,
-    next: Option<Arc<Version>>,
 ) -> TestHost {
     let mut names = Vec::new(alloc);
     for map in maps {
@@ -71,20 +76,24 @@ pub fn host_of(
     let board = PlainBoard::new(alloc, catalog, start).expect(rt, "a board");
     TestHost {
         board,
-        next,
+        alloc,
+        rt: runtime,
         makes: 0,
         files: 0,
+        shown: false,
     }
 }
 
 // A host that shows a version with these rows of the map `m`.
 pub fn host_with<R: RandomSource + Abort>(
     rt: &R,
+    runtime: HostRuntime,
     alloc: Global,
     rows: &[(&[u8], &[u8])],
 ) -> TestHost {
-    let start = vec![in alloc; Some(version(rt, alloc, rows))].expect(rt, "versions");
-    host_of(rt, alloc, &[b"m"], start, None)
+    let shown = version(rt, alloc, 7, b"m1", rows);
+    let start = vec![in alloc; Some(shown)].expect(rt, "versions");
+    host_of(rt, runtime, alloc, &[b"m"], start)
 }
 
 // ---- sessions
@@ -128,7 +137,8 @@ pub fn run(
     bounds: Bounds,
 ) -> Came {
     let mut wire = wire(rt, alloc, input, bounds.read, bounds.write);
-    let end = session.run(&mut wire, host, peer, u64::from(bounds.most));
+    let mut trail = Trail::new();
+    let end = session.run(&mut wire, host, peer, u64::from(bounds.most), &mut trail);
     let left = wire.source.read(&mut [0; 1000]).expect(rt, "a read");
     let output = Vec::from_slice(alloc, wire.sink.taken()).expect(rt, "bytes");
     (end, session.calls(), left, output)

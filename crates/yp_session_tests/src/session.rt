@@ -206,7 +206,7 @@ fn assert_ends(rt: &impl Abort, alloc: Global, session: &mut Session, host: &mut
 fn ends(rt: HostRuntime) {
     let alloc = rt.alloc();
     let mut session = Session::new(alloc).expect(&rt, "a session");
-    let mut host = host_with(&rt, alloc, &[]);
+    let mut host = host_with(&rt, rt, alloc, &[]);
     assert_ends(&rt, alloc, &mut session, &mut host);
 }
 
@@ -244,7 +244,7 @@ fn step_by_step(rt: HostRuntime) {
     let alloc = rt.alloc();
     let input = bytes(&rt, alloc, &[NULL, NONACK, DOMAIN, "800000"]);
     let mut session = Session::new(alloc).expect(&rt, "a session");
-    let mut host = host_with(&rt, alloc, &[]);
+    let mut host = host_with(&rt, rt, alloc, &[]);
     let mut wire = wire(&rt, alloc, input, NEVER, NEVER);
     assert_same(&rt, &session.calls(), &0, "a new session");
     assert_steps(&rt, &mut session, &mut host, &mut wire);
@@ -279,12 +279,13 @@ fn two_fragments(rt: &impl Abort, alloc: Global, rows: &[(&[u8], &[u8])]) -> Vec
 // Runs a session over a wire with this input, where these are the rows.
 fn run_over<R: RandomSource + Abort>(
     rt: &R,
+    runtime: HostRuntime,
     alloc: Global,
     rows: &[(&[u8], &[u8])],
     input: Vec<u8>,
 ) -> Came {
     let mut session = Session::new(alloc).expect(rt, "a session");
-    let mut host = host_with(rt, alloc, rows);
+    let mut host = host_with(rt, runtime, alloc, rows);
     run(rt, alloc, &mut session, &mut host, PEER, input, UNBOUNDED)
 }
 
@@ -304,7 +305,7 @@ fn all_in_two_fragments(rt: HostRuntime) {
     ];
     let output = two_fragments(&rt, alloc, &rows);
     assert_same(&rt, &output.len(), &(4 + 8_192 + 4 + 4), "two fragments");
-    let came = run_over(&rt, alloc, &rows, bytes(&rt, alloc, &[ALL]));
+    let came = run_over(&rt, rt, alloc, &rows, bytes(&rt, alloc, &[ALL]));
     assert_same(&rt, &came, &(End::Clean, 1, 0, output), "ALL");
 }
 
@@ -333,6 +334,6 @@ fn assert_two_wires(rt: &impl Abort, alloc: Global, session: &mut Session, host:
 fn two_wires(rt: HostRuntime) {
     let alloc = rt.alloc();
     let mut session = Session::new(alloc).expect(&rt, "a session");
-    let mut host = host_with(&rt, alloc, &[]);
+    let mut host = host_with(&rt, rt, alloc, &[]);
     assert_two_wires(&rt, alloc, &mut session, &mut host);
 }

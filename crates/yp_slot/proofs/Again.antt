@@ -1,5 +1,6 @@
 -- The body of a version is read again as that version.
-use Rattle.std.proofs.Common.{◌≡◌, ℕ, suc, ◌+◌, ◌^◌, ◌<◌, ◌≤◌, Bool, true, false, ltb, List, [], ◌∷◌, ◌++◌, length, Option, Some, None, Result, Ok, refl, sym, ap, ◌∙◌, append_assoc, arith}
+use Rattle.std.proofs.Common.{◌≡◌, ℕ, suc, ◌+◌, ◌^◌, ◌<◌, ◌≤◌, Bool, true, false, ltb, List, [], ◌∷◌, ◌++◌, length}
+use Rattle.std.proofs.Common.{Option, Some, None, Result, Ok, refl, sym, ap, ◌∙◌, append_assoc, arith}
 use Rattle.std.specs.Ordering.{is_lt}
 use Rattle.std.specs.List.{flat_map, AllByRecursion}
 use Rattle.std.specs.List.Sorted.{IsStrictlySortedBy}
@@ -15,7 +16,8 @@ use Rattle.yp_version.specs.Limits.{key_max, value_max, master_max, rows_max, bo
 use Rattle.yp_version.specs.Rows.{Row, IsRising, padded, row_len, rows_len}
 use Rattle.yp_version.specs.Versions.{MapVersion, IsVersion, body_len}
 use Rattle.yp_slot.specs.declared.wrong.Wrong.{Wrong}
-use Rattle.yp_slot.specs.Bodies.{format, row_bytes, head_bytes, body, IsBody, by_xdr, item, guard, secure_of, head_at, is_over, row_at, rows_at, body_at}
+use Rattle.yp_slot.specs.Bodies.{format, row_bytes, head_bytes, body, IsBody, by_xdr, item, guard, secure_of, head_at}
+use Rattle.yp_slot.specs.Bodies.{is_over, row_at, rows_at, body_at}
 
 -- what has been read, wherever the reader then is
 pub record Read {A : Type 0} (result : Result (A × Unread) Wrong) (value : A) (rest : List ℕ) : Type 0 where
@@ -27,19 +29,33 @@ pub record Read {A : Type 0} (result : Result (A × Unread) Wrong) (value : A) (
 pub length-opaque : (max : ℕ) (content : List ℕ) → length (spelling (Opaque max) content) ≡ 4 + padded (length content)
 unfolding opaque fixed
 length-opaque max content =
-    let zeros : length (padding (length content)) ≡ padding_len (length content) = length-replicate (padding_len (length content)) 0 in
-    omega (arith, length-append (word (length content)) (fixed content), length-append content (padding (length content)))
+    let zeros : length (padding (length content)) ≡ padding_len (length content) =
+    length-replicate (padding_len (length content)) 0 in
+    omega (
+      arith,
+      length-append (word (length content)) (fixed content),
+      length-append content
+          (padding (length content)),
+    )
 
 pub length-row : (row : Row) → length (row_bytes row) ≡ row_len row
 unfolding row_bytes
-length-row row = omega (arith, length-append (spelling (Opaque key_max) row.0) (spelling (Opaque value_max) row.1), length-opaque key_max row.0, length-opaque value_max row.1)
+length-row row = omega (
+  arith,
+  length-append (spelling (Opaque key_max) row.0)
+      (spelling (Opaque value_max) row.1),
+  length-opaque key_max row.0,
+  length-opaque value_max row.1,
+)
 
 pub length-rows : (rows : List Row) → length (flat_map row_bytes rows) ≡ rows_len rows
 length-rows [] = refl
 length-rows (row ∷ rows) =
     let one = length-row row in
     let others = length-rows rows in
-    length-append (row_bytes row) (flat_map row_bytes rows) ∙ (let e : length (row_bytes row) + length (flat_map row_bytes rows) ≡ row_len row + rows_len rows = omega arith in e) ∙ sym (sum_by-cons row_len row rows)
+    length-append (row_bytes row) (flat_map row_bytes rows)
+    ∙ (let e : length (row_bytes row) + length (flat_map row_bytes rows) ≡ row_len row + rows_len rows =
+    omega arith in e) ∙ sym (sum_by-cons row_len row rows)
 
 pub length-head : (v : MapVersion) → length (head_bytes v) ≡ 16 + padded (length v.master)
 unfolding head_bytes
@@ -48,10 +64,23 @@ length-head v =
     let b = spelling U32 v.order in
     let c = spelling (Opaque master_max) v.master in
     let d = spelling U32 (length v.rows) in
-    omega (arith, length-append (a ++ b ++ c) d, length-append (a ++ b) c, length-append a b, length-opaque master_max v.master)
+    omega (
+      arith,
+      length-append (a ++ b ++ c) d,
+      length-append
+          (a ++ b) c,
+      length-append a b,
+      length-opaque master_max v.master,
+    )
 
 pub length-body : (v : MapVersion) → length (body v) ≡ body_len v
-length-body v = omega (arith, length-append (head_bytes v) (flat_map row_bytes v.rows), length-head v, length-rows v.rows)
+length-body v = omega (
+  arith,
+  length-append (head_bytes v)
+      (flat_map row_bytes v.rows),
+  length-head v,
+  length-rows v.rows,
+)
 
 pub body_some : (v : MapVersion) → 0 < body_len v
 body_some v = omega arith
@@ -60,8 +89,10 @@ body_some v = omega arith
 
 module _ (again : WrittenIsReadAgain) where
   item_again : (kind : Kind) (value : Value kind) (rest : List ℕ) (at : ℕ) → Fits kind value
-      → item kind (record { at = at; bytes = spelling kind value ++ rest }) ≡ Ok (value, record { at = at + length (spelling kind value); bytes = rest })
-  item_again kind value rest at fits = ap by_xdr (again kind value (spelling kind value) rest at (record { fits = fits; spelled = refl }))
+      → item kind (record { at = at; bytes = spelling kind value ++ rest }) ≡
+      Ok (value, record { at = at + length (spelling kind value); bytes = rest })
+  item_again kind value rest at fits =
+      ap by_xdr (again kind value (spelling kind value) rest at (record { fits = fits; spelled = refl }))
 
   secure_again : (at : ℕ) (secure : Bool) → secure_of at (format secure) ≡ Ok secure
   secure_again at true = refl
@@ -75,7 +106,12 @@ module _ (again : WrittenIsReadAgain) where
   few_rows n at le = let e : ltb n (suc rows_max) ≡ true = grind (arith, nat_tests) in rw e refl
 
   head_again : (v : MapVersion) (rest : List ℕ) → IsVersion v
-      → Read (head_at (record { at = 0; bytes = head_bytes v ++ rest })) (record { secure = v.secure; order = v.order; master = v.master; count = length v.rows }) rest
+      → Read (head_at (record { at = 0; bytes = head_bytes v ++ rest })) (record {
+        secure = v.secure;
+        order = v.order;
+        master = v.master;
+        count = length v.rows;
+      }) rest
   unfolding head_at head_bytes
   head_again v rest is =
       let a = spelling U32 (format v.secure) in
@@ -104,7 +140,8 @@ module _ (again : WrittenIsReadAgain) where
   abbrev FitsRow : Row → Type 0
   FitsRow row = (length row.0 ≤ key_max) × (length row.1 ≤ value_max)
 
-  row_again : (row : Row) (last : Option (List ℕ)) (rest : List ℕ) (at : ℕ) → FitsRow row → is_over last row.0 ≡ true → Read (row_at last (record { at = at; bytes = row_bytes row ++ rest })) row rest
+  row_again : (row : Row) (last : Option (List ℕ)) (rest : List ℕ) (at : ℕ) → FitsRow row → is_over last row.0 ≡ true
+      → Read (row_at last (record { at = at; bytes = row_bytes row ++ rest })) row rest
   unfolding row_at row_bytes
   row_again row last rest at fits over =
       let a = spelling (Opaque key_max) row.0 in
@@ -128,16 +165,20 @@ module _ (again : WrittenIsReadAgain) where
   unfolding IsStrictlySortedBy
   rising_rest row rows rising = rising.1
 
-  rows_again : (rows : List Row) (last : Option (List ℕ)) (rest : List ℕ) (at : ℕ) → AllByRecursion FitsRow rows → IsRising rows → IsOverFirst last rows
+  rows_again : (rows : List Row) (last : Option (List ℕ)) (rest : List ℕ) (at : ℕ) → AllByRecursion FitsRow rows
+      → IsRising rows → IsOverFirst last rows
       → Read (rows_at (length rows) last (record { at = at; bytes = flat_map row_bytes rows ++ rest })) rows rest
   rows_again [] last rest at fits rising over = record { at = at; is = refl }
   rows_again (row ∷ rows) last rest at fits rising over =
-      let split : flat_map row_bytes (row ∷ rows) ++ rest ≡ row_bytes row ++ (flat_map row_bytes rows ++ rest) = append_assoc (row_bytes row) (flat_map row_bytes rows) rest in
+      let split : flat_map row_bytes (row ∷ rows) ++ rest ≡ row_bytes row ++ (flat_map row_bytes rows ++ rest) =
+      append_assoc (row_bytes row) (flat_map row_bytes rows) rest in
       let one = row_again row last (flat_map row_bytes rows ++ rest) at fits.0 over in
-      let others = rows_again rows (Some row.0) rest one.at fits.1 (rising_rest row rows rising) (next_over row rows rising) in
+      let others = rows_again rows (Some row.0) rest one.at fits.1 (rising_rest row rows rising)
+      (next_over row rows rising) in
       record { at = others.at; is = rw (split, one.is, others.is) refl }
 
-  both : (rows : List Row) → AllByRecursion (λ row. length row.0 ≤ key_max) rows → AllByRecursion (λ row. length row.1 ≤ value_max) rows → AllByRecursion FitsRow rows
+  both : (rows : List Row) → AllByRecursion (λ row. length row.0 ≤ key_max) rows
+      → AllByRecursion (λ row. length row.1 ≤ value_max) rows → AllByRecursion FitsRow rows
   both [] keys values = tt
   both (row ∷ rows) keys values = ((keys.0, values.0), both rows keys.1 values.1)
 
@@ -149,7 +190,8 @@ module _ (again : WrittenIsReadAgain) where
   pub body_again : (v : MapVersion) → IsVersion v → body_at (body v) ≡ Ok v
   unfolding body_at
   body_again v is =
-      let fits = both v.rows (recursion_from_All (λ (row : Row). length row.0 ≤ key_max) v.rows is.keys) (recursion_from_All (λ (row : Row). length row.1 ≤ value_max) v.rows is.values) in
+      let fits = both v.rows (recursion_from_All (λ (row : Row). length row.0 ≤ key_max) v.rows is.keys)
+      (recursion_from_All (λ (row : Row). length row.1 ≤ value_max) v.rows is.values) in
       let one = head_again v (flat_map row_bytes v.rows) is in
       let rows = rows_again v.rows None [] one.at fits is.rising (none_before v.rows) in
       let all : flat_map row_bytes v.rows ++ [] ≡ flat_map row_bytes v.rows = append-nil (flat_map row_bytes v.rows) in
@@ -157,7 +199,8 @@ module _ (again : WrittenIsReadAgain) where
       rw (one.is, rows_is) refl
 
 -- a body has some bytes, and no more than the most
-pub body_bounds : (bytes : List ℕ) (version : MapVersion) → IsBody bytes version → (0 < length bytes) × (length bytes ≤ body_max)
+pub body_bounds : (bytes : List ℕ) (version : MapVersion) → IsBody bytes version
+    → (0 < length bytes) × (length bytes ≤ body_max)
 body_bounds bytes version is =
     let len : length bytes ≡ body_len version = ap length is.spelled ∙ length-body version in
     let few = is.within.body in
@@ -168,7 +211,8 @@ body_bounds bytes version is =
 pub word_place : (n : ℕ) (old new : Unread) → BeginsWith U32 n old new → new.at ≡ old.at + 4
 word_place n old new begins = let len = ap length begins.spells.spelled in let place = begins.place in omega arith
 
-pub opaque_place : (max : ℕ) (content : List ℕ) (old new : Unread) → BeginsWith (Opaque max) content old new → new.at ≡ old.at + 4 + padded (length content)
+pub opaque_place : (max : ℕ) (content : List ℕ) (old new : Unread) → BeginsWith (Opaque max) content old new
+    → new.at ≡ old.at + 4 + padded (length content)
 opaque_place max content old new begins =
     let len = ap length begins.spells.spelled in
     let place = begins.place in

@@ -1,5 +1,6 @@
 -- The first 64 bytes of a file say all that its cells do.
-use Rattle.std.proofs.Common.{◌≡◌, ℕ, ◌+◌, ◌<◌, ◌≤◌, Bool, true, false, eqb, ltb, List, length, get_or, take, Option, Some, None, Ok, Err, refl, sym, ap, subst, ◌∙◌, arith, length-take}
+use Rattle.std.proofs.Common.{◌≡◌, ℕ, ◌+◌, ◌<◌, ◌≤◌, Bool, true, false, eqb, ltb, List, length, get_or, take, Option}
+use Rattle.std.proofs.Common.{Some, None, Ok, Err, refl, sym, ap, subst, ◌∙◌, arith, length-take}
 use Rattle.std.proofs.lemmas.Bool.{le-ltb}
 use Rattle.std.proofs.lemmas.Bool.Decides.{nat_tests}
 use Rattle.std.proofs.lemmas.List.{get_or-take}
@@ -11,7 +12,7 @@ use Rattle.yp_slot.specs.declared.cells.Winner.{Winner}
 use Rattle.yp_slot.specs.declared.cells.Winner.TheVariants.{Nobody, Both, Only}
 use Rattle.yp_slot.specs.declared.fault.SlotFault.{SlotFault}
 use Rattle.yp_slot.specs.declared.fault.SlotFault.TheVariants as fault
-use Rattle.yp_slot.specs.Cells.{bytes_at, place_of, other, is_open, filler, entry, winner}
+use Rattle.yp_slot.specs.Cells.{bytes_at, cell_place, other, is_open, filler, entry, winner}
 use Rattle.yp_slot.specs.Stands.{file_max, has_room, by_entry, by_winner, Damaged, stands, standing}
 use Rattle.yp_slot.specs.Commits.{winner_entry, winning, loser, target}
 use Rattle.yp_slot.specs.Slots.{IsSound, IsKnown}
@@ -28,48 +29,57 @@ module _ (file cells : List ℕ) (front : take 64 file ≡ cells) (long : 64 ≤
   length_cells = ap length (sym front) ∙ (let e : length (take 64 file) ≡ 64 = omega (arith, length-take 64 file) in e)
 
   bytes_same : (s k : ℕ) → s + k ≤ 64 → bytes_at s k cells ≡ bytes_at s k file
-  bytes_same s k fits = let len = length_cells in same_bytes s k file cells (omega arith) (omega arith) (λ x le lt. byte_same x (omega arith))
+  bytes_same s k fits = let len = length_cells in
+      same_bytes s k file cells (omega arith) (omega arith) (λ x le lt. byte_same x (omega arith))
 
   pub open_same : (cell : Cell) → is_open cell cells ≡ is_open cell file
   unfolding is_open
-  open_same cell = let below = cell_below cell in ap (λ (n : ℕ). eqb n 1) (byte_same (place_of cell) (omega arith))
+  open_same cell = let below = cell_below cell in ap (λ (n : ℕ). eqb n 1) (byte_same (cell_place cell) (omega arith))
 
   pub entry_same : (cell : Cell) → entry cell cells ≡ entry cell file
   unfolding entry
   entry_same cell =
       let below = cell_below cell in
-      let g = bytes_same (place_of cell + 8) 8 (omega arith) in
-      let p = bytes_same (place_of cell + 16) 8 (omega arith) in
-      let n = bytes_same (place_of cell + 24) 8 (omega arith) in
+      let g = bytes_same (cell_place cell + 8) 8 (omega arith) in
+      let p = bytes_same (cell_place cell + 16) 8 (omega arith) in
+      let n = bytes_same (cell_place cell + 24) 8 (omega arith) in
       rw (g, p, n) refl
 
   pub filler_same : (cell : Cell) → filler cell cells ≡ filler cell file
   unfolding filler
-  filler_same cell = let below = cell_below cell in bytes_same (place_of cell + 1) 7 (omega arith)
+  filler_same cell = let below = cell_below cell in bytes_same (cell_place cell + 1) 7 (omega arith)
 
   pub winner_same : winner cells ≡ winner file
   unfolding winner
   winner_same = rw (open_same First, open_same Second, entry_same First, entry_same Second) refl
 
   -- rule 3
-  pub judge_filler : (cell : Cell) (n : ℕ) → first_nonzero (filler cell cells) ≡ Some n → by_winner (Only cell) file ≡ Damaged (place_of cell + 1 + n) 3
+  pub judge_filler : (cell : Cell) (n : ℕ) → first_nonzero (filler cell cells) ≡ Some n
+      → by_winner (Only cell) file ≡ Damaged (cell_place cell + 1 + n) 3
   unfolding by_winner
-  judge_filler cell n is = let dirt : first_nonzero (filler cell file) ≡ Some n = ap first_nonzero (sym (filler_same cell)) ∙ is in rw dirt refl
+  judge_filler cell n is = let dirt : first_nonzero (filler cell file) ≡ Some n =
+      ap first_nonzero (sym (filler_same cell)) ∙ is in rw dirt refl
 
   -- rule 4
-  pub judge_room : (cell : Cell) → first_nonzero (filler cell cells) ≡ None → has_room (entry cell cells) (length file) ≡ false → by_winner (Only cell) file ≡ Damaged (place_of cell + 16) 4
+  pub judge_room : (cell : Cell) → first_nonzero (filler cell cells) ≡ None
+      → has_room (entry cell cells) (length file) ≡ false
+      → by_winner (Only cell) file ≡ Damaged (cell_place cell + 16) 4
   unfolding by_winner by_entry
   judge_room cell clean full =
       let dirt : first_nonzero (filler cell file) ≡ None = ap first_nonzero (sym (filler_same cell)) ∙ clean in
-      let room : has_room (entry cell file) (length file) ≡ false = ap (λ (e : Entry). has_room e (length file)) (sym (entry_same cell)) ∙ full in
+      let room : has_room (entry cell file) (length file) ≡ false =
+      ap (λ (e : Entry). has_room e (length file)) (sym (entry_same cell)) ∙ full in
       rw (dirt, room) refl
 
   -- neither
-  pub judge_entry : (cell : Cell) → first_nonzero (filler cell cells) ≡ None → has_room (entry cell cells) (length file) ≡ true → by_winner (Only cell) file ≡ standing (Some (entry cell cells)) file
+  pub judge_entry : (cell : Cell) → first_nonzero (filler cell cells) ≡ None
+      → has_room (entry cell cells) (length file) ≡ true
+      → by_winner (Only cell) file ≡ standing (Some (entry cell cells)) file
   unfolding by_winner by_entry
   judge_entry cell clean fits =
       let dirt : first_nonzero (filler cell file) ≡ None = ap first_nonzero (sym (filler_same cell)) ∙ clean in
-      let room : has_room (entry cell file) (length file) ≡ true = ap (λ (e : Entry). has_room e (length file)) (sym (entry_same cell)) ∙ fits in
+      let room : has_room (entry cell file) (length file) ≡ true =
+      ap (λ (e : Entry). has_room e (length file)) (sym (entry_same cell)) ∙ fits in
       rw (dirt, room) refl ∙ ap (λ (e : Entry). standing (Some e) file) (sym (entry_same cell))
 
   module _ (small : length file ≤ file_max) where
@@ -80,7 +90,13 @@ module _ (file cells : List ℕ) (front : take 64 file ≡ cells) (long : 64 ≤
         let not_short : ltb (length file) 64 ≡ false = le-ltb _ _ long in
         rw (not_big, not_short) (ap (λ (v : Winner). by_winner v file) (sym winner_same ∙ is))
 
-    known_by_winner : (w : Winner) → winner cells ≡ w → IsSound (stands file) → IsKnown (record { long = true; target = loser w; gate_open = is_open (loser w) cells; winner = winner_entry w cells }) file
+    known_by_winner : (w : Winner) → winner cells ≡ w → IsSound (stands file)
+        → IsKnown (record {
+          long = true;
+          target = loser w;
+          gate_open = is_open (loser w) cells;
+          winner = winner_entry w cells;
+        }) file
     unfolding target winning
     known_by_winner w is sound =
         let not_short : ltb (length file) 64 ≡ false = le-ltb _ _ long in
@@ -98,7 +114,8 @@ module _ (file cells : List ℕ) (front : take 64 file ≡ cells) (long : 64 ≤
         winner_entry_same Both = refl
         winner_entry_same (Only cell) = ap Some (entry_same cell)
 
-    pub judge_nobody : winner cells ≡ Nobody → Judges file (Ok (record { long = true; target = First; gate_open = is_open First cells; winner = None }))
+    pub judge_nobody : winner cells ≡ Nobody
+        → Judges file (Ok (record { long = true; target = First; gate_open = is_open First cells; winner = None }))
     unfolding by_winner
     judge_nobody is = (stands_by_winner Nobody is, known_by_winner Nobody is)
 
@@ -106,31 +123,48 @@ module _ (file cells : List ℕ) (front : take 64 file ≡ cells) (long : 64 ≤
     unfolding by_winner
     judge_both is = stands_by_winner Both is
 
-    pub judge_only : (cell : Cell) → winner cells ≡ Only cell → by_winner (Only cell) file ≡ standing (Some (entry cell cells)) file
-        → Judges file (Ok (record { long = true; target = other cell; gate_open = is_open (other cell) cells; winner = Some (entry cell cells) }))
+    pub judge_only : (cell : Cell) → winner cells ≡ Only cell
+        → by_winner (Only cell) file ≡ standing (Some (entry cell cells)) file
+        → Judges file (Ok (record {
+          long = true;
+          target = other cell;
+          gate_open = is_open (other cell) cells;
+          winner = Some (entry cell cells);
+        }))
     judge_only cell is stood = (stands_by_winner (Only cell) is ∙ stood, known_by_winner (Only cell) is)
 
-    pub judge_wrong : (cell : Cell) (at rule : ℕ) → winner cells ≡ Only cell → by_winner (Only cell) file ≡ Damaged at rule → stands file ≡ Damaged at rule
+    pub judge_wrong : (cell : Cell) (at rule : ℕ) → winner cells ≡ Only cell
+        → by_winner (Only cell) file ≡ Damaged at rule → stands file ≡ Damaged at rule
     judge_wrong cell at rule is stood = stands_by_winner (Only cell) is ∙ stood
 
-    pub judged_only : (cell u : Cell) (e : Entry) → u ≡ other cell → e ≡ entry cell cells → winner cells ≡ Only cell → by_winner (Only cell) file ≡ standing (Some e) file
+    pub judged_only : (cell u : Cell) (e : Entry) → u ≡ other cell → e ≡ entry cell cells → winner cells ≡ Only cell
+        → by_winner (Only cell) file ≡ standing (Some e) file
         → Judges file (Ok (record { long = true; target = u; gate_open = is_open u cells; winner = Some e }))
     judged_only cell u e u_is e_is is stood =
-        let P : Cell → Entry → Type 0 = λ v x. Judges file (Ok (record { long = true; target = v; gate_open = is_open v cells; winner = Some x })) in
-        let there : by_winner (Only cell) file ≡ standing (Some (entry cell cells)) file = stood ∙ ap (λ (x : Entry). standing (Some x) file) e_is in
-        subst (λ (v : Cell). P v e) (sym u_is) (subst (λ (x : Entry). P (other cell) x) (sym e_is) (judge_only cell is there))
+        let P : Cell → Entry → Type 0 =
+        λ v x. Judges file (Ok (record { long = true; target = v; gate_open = is_open v cells; winner = Some x }))
+        in
+        let there : by_winner (Only cell) file ≡ standing (Some (entry cell cells)) file = stood
+        ∙ ap (λ (x : Entry). standing (Some x) file) e_is in
+        subst (λ (v : Cell). P v e) (sym u_is)
+        (subst (λ (x : Entry). P (other cell) x) (sym e_is) (judge_only cell is there))
 
 -- the same of what the code has for these values
-pub judged : (file cells : List ℕ) (p q : Cell × Option Entry) (gate : Bool) → p ≡ q → gate ≡ is_open p.0 cells → Judges file (Ok (record { long = true; target = q.0; gate_open = is_open q.0 cells; winner = q.1 }))
+pub judged : (file cells : List ℕ) (p q : Cell × Option Entry) (gate : Bool) → p ≡ q → gate ≡ is_open p.0 cells
+    → Judges file (Ok (record { long = true; target = q.0; gate_open = is_open q.0 cells; winner = q.1 }))
     → Judges file (Ok (record { long = true; target = p.0; gate_open = gate; winner = p.1 }))
 judged file cells p q gate same gate_is judges =
-    let P : Cell × Option Entry → Type 0 = λ r. Judges file (Ok (record { long = true; target = r.0; gate_open = is_open r.0 cells; winner = r.1 })) in
+    let P : Cell × Option Entry → Type 0 =
+    λ r. Judges file (Ok (record { long = true; target = r.0; gate_open = is_open r.0 cells; winner = r.1 })) in
     let one : P p = subst P (sym same) judges in
-    subst (λ (b : Bool). Judges file (Ok (record { long = true; target = p.0; gate_open = b; winner = p.1 }))) (sym gate_is) one
+    subst (λ (b : Bool). Judges file (Ok (record { long = true; target = p.0; gate_open = b; winner = p.1 })))
+    (sym gate_is) one
 
 -- the fault of the cell that wins is the file's
-pub judged_wrong : (file cells : List ℕ) (front : take 64 file ≡ cells) (long : 64 ≤ length file) (small : length file ≤ file_max) (cell : Cell) (e : SlotFault) → winner cells ≡ Only cell
+pub judged_wrong : (file cells : List ℕ) (front : take 64 file ≡ cells) (long : 64 ≤ length file)
+    (small : length file ≤ file_max) (cell : Cell) (e : SlotFault) → winner cells ≡ Only cell
     → JudgesWinner cell file (Err e) → Judges file (Err e)
-judged_wrong file cells front long small cell (fault.Damaged at rule) is wrong = judge_wrong file cells front long small cell at rule is wrong
+judged_wrong file cells front long small cell (fault.Damaged at rule) is wrong =
+    judge_wrong file cells front long small cell at rule is wrong
 judged_wrong file cells front long small cell fault.DiskFault is wrong = absurd wrong
 judged_wrong file cells front long small cell fault.NoMemory is wrong = absurd wrong

@@ -1,5 +1,7 @@
 -- What is wrong in a body stands within it.
-use Rattle.std.proofs.Common.{◌≡◌, ℕ, zero, suc, ◌+◌, ◌<◌, ◌≤◌, Bool, true, false, cond, not, eqb, ltb, List, length, take, drop, Option, Some, None, Result, Ok, Err, refl, sym, subst, arith, inl, inr, length-take, length-drop}
+use Rattle.std.proofs.Common.{◌≡◌, ℕ, zero, suc, ◌+◌, ◌<◌, ◌≤◌, Bool, true, false, cond, not, eqb, ltb, List, length}
+use Rattle.std.proofs.Common.{take, drop, Option, Some, None, Result, Ok, Err, refl, sym, subst, arith, inl, inr}
+use Rattle.std.proofs.Common.{length-take, length-drop}
 use Rattle.std.specs.List.{position_or_len}
 use Rattle.std.proofs.lemmas.Bool.{cases_lt, le-ltb}
 use Rattle.std.proofs.lemmas.Bool.Decides.{nat_tests}
@@ -41,9 +43,11 @@ found_within true n len p is e = let same : n ≡ p = cc in let lt = sym is in g
 found_within false n len p is e = absurd cc
 
 nonzero_within : (bytes : List ℕ) (p : ℕ) → first_nonzero bytes ≡ Some p → p < length bytes
-nonzero_within bytes p e = found_within (ltb (position_or_len (λ byte. not (eqb byte 0)) bytes) (length bytes)) (position_or_len (λ byte. not (eqb byte 0)) bytes) (length bytes) p refl e
+nonzero_within bytes p e = found_within (ltb (position_or_len (λ byte. not (eqb byte 0)) bytes) (length bytes))
+    (position_or_len (λ byte. not (eqb byte 0)) bytes) (length bytes) p refl e
 
-padded_within : (n : ℕ) (left : Unread) (place : Option ℕ) → n + padding_len n ≤ length left.bytes → ((p : ℕ) → place ≡ Some p → p < padding_len n) → XdrWithin (end_of left) (padded n left place)
+padded_within : (n : ℕ) (left : Unread) (place : Option ℕ) → n + padding_len n ≤ length left.bytes
+    → ((p : ℕ) → place ≡ Some p → p < padding_len n) → XdrWithin (end_of left) (padded n left place)
 padded_within n left None fits below = past_end (n + padding_len n) left fits
 padded_within n left (Some p) fits below = let lt = below p refl in omega arith
 
@@ -54,18 +58,23 @@ content_within start n left le = elim (cases_lt (length left.bytes) (n + padding
   | inr fits ↦
       let e : ltb (length left.bytes) (n + padding_len n) ≡ false = le-ltb _ _ fits in
       rw e (padded_within n left (first_nonzero (take (padding_len n) (drop n left.bytes))) fits (λ p is.
-      let lt = nonzero_within (take (padding_len n) (drop n left.bytes)) p is in omega (arith, length-take (padding_len n) (drop n left.bytes))))
+      let lt = nonzero_within (take (padding_len n) (drop n left.bytes)) p is in
+      omega (arith, length-take (padding_len n) (drop n left.bytes))))
 ]
 
-opaque_rest : (max : ℕ) (left : Unread) (n : ℕ) (new : Unread) (b : Bool) → end_of new ≡ end_of left → XdrWithin (end_of left) (cond b (Err (TooLong left.at n)) (content_at left.at n new))
+opaque_rest : (max : ℕ) (left : Unread) (n : ℕ) (new : Unread) (b : Bool) → end_of new ≡ end_of left
+    → XdrWithin (end_of left) (cond b (Err (TooLong left.at n)) (content_at left.at n new))
 opaque_rest max left n new true same = omega arith
-opaque_rest max left n new false same = subst (λ (e : ℕ). XdrWithin e (content_at left.at n new)) same (content_within left.at n new (omega arith))
+opaque_rest max left n new false same = subst (λ (e : ℕ). XdrWithin e (content_at left.at n new)) same
+    (content_within left.at n new (omega arith))
 
 opaque_within : (max : ℕ) (left : Unread) → XdrWithin (end_of left) (opaque_at max left)
 unfolding opaque_at
 opaque_within max left = by_word (word_at left) (word_within left)
   where
-    by_word : (r : Result (ℕ × Unread) XdrFault) → XdrWithin (end_of left) r → XdrWithin (end_of left) (r >>>= (λ len. cond (ltb max len.0) (Err (TooLong left.at len.0)) (content_at left.at len.0 len.1)))
+    by_word : (r : Result (ℕ × Unread) XdrFault) → XdrWithin (end_of left) r
+        → XdrWithin (end_of left) (r >>>=
+        (λ len. cond (ltb max len.0) (Err (TooLong left.at len.0)) (content_at left.at len.0 len.1)))
     by_word (Ok len) same = opaque_rest max left len.0 len.1 (ltb max len.0) same
     by_word (Err fault) le = le
 
@@ -74,21 +83,26 @@ by_xdr_within end (Ok x) h = h
 by_xdr_within end (Err fault) h = h
 
 u32_within : (end : ℕ) (left : Unread) → end_of left ≡ end → Within end (item U32 left)
-u32_within end left is = by_xdr_within end (word_at left) (subst (λ (e : ℕ). XdrWithin e (word_at left)) is (word_within left))
+u32_within end left is = by_xdr_within end (word_at left)
+    (subst (λ (e : ℕ). XdrWithin e (word_at left)) is (word_within left))
 
 bytes_within : (end max : ℕ) (left : Unread) → end_of left ≡ end → Within end (item (Opaque max) left)
-bytes_within end max left is = by_xdr_within end (opaque_at max left) (subst (λ (e : ℕ). XdrWithin e (opaque_at max left)) is (opaque_within max left))
+bytes_within end max left is = by_xdr_within end (opaque_at max left)
+    (subst (λ (e : ℕ). XdrWithin e (opaque_at max left)) is (opaque_within max left))
 
 -- one step after another
-then_within : {A B : Type 0} (end : ℕ) (r : Result (A × Unread) Wrong) (next : A × Unread → Result (B × Unread) Wrong) → Within end r → ((x : A × Unread) → end_of x.1 ≡ end → Within end (next x)) → Within end (r >>= next)
+then_within : {A B : Type 0} (end : ℕ) (r : Result (A × Unread) Wrong) (next : A × Unread → Result (B × Unread) Wrong)
+    → Within end r → ((x : A × Unread) → end_of x.1 ≡ end → Within end (next x)) → Within end (r >>= next)
 then_within end (Ok x) next h f = f x h
 then_within end (Err wrong) next h f = h
 
-guard_within : {B : Type 0} (end : ℕ) (holds : Bool) (at rule : ℕ) (next : Unit {0} → Result (B × Unread) Wrong) → at ≤ end → Within end (next tt) → Within end (guard holds at rule >>= next)
+guard_within : {B : Type 0} (end : ℕ) (holds : Bool) (at rule : ℕ) (next : Unit {0} → Result (B × Unread) Wrong)
+    → at ≤ end → Within end (next tt) → Within end (guard holds at rule >>= next)
 guard_within end true at rule next le h = h
 guard_within end false at rule next le h = le
 
-secure_within : {B : Type 0} (end at : ℕ) (one two : Bool) (next : Bool → Result (B × Unread) Wrong) → at ≤ end → ((secure : Bool) → Within end (next secure))
+secure_within : {B : Type 0} (end at : ℕ) (one two : Bool) (next : Bool → Result (B × Unread) Wrong) → at ≤ end
+    → ((secure : Bool) → Within end (next secure))
     → Within end (cond one (Ok false) (cond two (Ok true) (Err (record { at = at; rule = 6 }))) >>= next)
 secure_within end at true two next le h = h false
 secure_within end at false true next le h = h true
@@ -111,7 +125,8 @@ row_within end last left is =
     guard_within end (is_over last key.0) left.at 8 _ (omega arith)
     (then_within end (item (Opaque value_max) key.1) _ (bytes_within end value_max key.1 k) (λ value v. v)))
 
-rows_within : (end n : ℕ) (last : Option (List ℕ)) (left : Unread) → end_of left ≡ end → Within end (rows_at n last left)
+rows_within : (end n : ℕ) (last : Option (List ℕ)) (left : Unread) → end_of left ≡ end
+    → Within end (rows_at n last left)
 rows_within end zero last left is = is
 rows_within end (suc n) last left is =
     then_within end (row_at last left) _ (row_within end last left is) (λ row r.
@@ -122,11 +137,13 @@ abbrev BodyWithin : ℕ → Result MapVersion Wrong → Type 0
 BodyWithin end (Ok version) = Unit {0}
 BodyWithin end (Err wrong) = wrong.at ≤ end
 
-then_body : {A : Type 0} (end : ℕ) (r : Result (A × Unread) Wrong) (next : A × Unread → Result MapVersion Wrong) → Within end r → ((x : A × Unread) → end_of x.1 ≡ end → BodyWithin end (next x)) → BodyWithin end (r >>= next)
+then_body : {A : Type 0} (end : ℕ) (r : Result (A × Unread) Wrong) (next : A × Unread → Result MapVersion Wrong)
+    → Within end r → ((x : A × Unread) → end_of x.1 ≡ end → BodyWithin end (next x)) → BodyWithin end (r >>= next)
 then_body end (Ok x) next h f = f x h
 then_body end (Err wrong) next h f = h
 
-guard_body : (end : ℕ) (holds : Bool) (at rule : ℕ) (version : MapVersion) → at ≤ end → BodyWithin end (guard holds at rule >>= λ ended. Ok version)
+guard_body : (end : ℕ) (holds : Bool) (at rule : ℕ) (version : MapVersion) → at ≤ end
+    → BodyWithin end (guard holds at rule >>= λ ended. Ok version)
 guard_body end true at rule version le = tt
 guard_body end false at rule version le = le
 

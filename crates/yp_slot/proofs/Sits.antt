@@ -1,15 +1,17 @@
 -- How the cells and the body of a file sit that isn't damaged.
-use Rattle.std.proofs.Common.{◌≡◌, ℕ, ◌+◌, ◌<◌, ◌≤◌, Bool, true, false, cond, eqb, ltb, List, length, Option, Some, None, refl, sym, ap, subst, ◌∙◌, inl, inr, ◌⊎◌, arith}
+use Rattle.std.proofs.Common.{◌≡◌, ℕ, ◌+◌, ◌<◌, ◌≤◌, Bool, true, false, cond, eqb, ltb, List, length, Option, Some}
+use Rattle.std.proofs.Common.{None, refl, sym, ap, subst, ◌∙◌, inl, inr, ◌⊎◌, arith}
 use Rattle.std.proofs.lemmas.Bool.{ltb-false, le-ltb, ne_eqb}
 use Rattle.std.proofs.lemmas.Bool.Decides.{nat_tests}
 use Rattle.yp_xdr.specs.Reading.{first_nonzero}
 use Rattle.yp_slot.specs.declared.cells.Cell.{Cell}
 use Rattle.yp_slot.specs.declared.cells.Cell.TheVariants.{First, Second}
 use Rattle.yp_slot.specs.declared.cells.Entry.{Entry}
-use Rattle.yp_slot.specs.Cells.{place_of, other, is_open, filler, entry, greater, winner}
+use Rattle.yp_slot.specs.Cells.{cell_place, other, is_open, filler, entry, greater, winner}
 use Rattle.yp_slot.specs.declared.cells.Winner.{Winner}
 use Rattle.yp_slot.specs.declared.cells.Winner.TheVariants.{Nobody, Both, Only}
-use Rattle.yp_slot.specs.Stands.{file_max, has_room, by_entry, by_filler, by_winner, Stands, Nothing, Damaged, stands, standing}
+use Rattle.yp_slot.specs.Stands.{file_max, has_room, by_entry, by_filler, by_winner, Stands, Nothing, Damaged, stands}
+use Rattle.yp_slot.specs.Stands.{standing}
 use Rattle.yp_slot.specs.Commits.{winner_entry, winning, loser, target}
 use Rattle.yp_slot.specs.Slots.{IsSound}
 
@@ -46,7 +48,8 @@ beats_first : (f : List ℕ) (e : Entry) → Beats f First e → winner f ≡ On
 unfolding winner
 beats_first f e b = elim (bool_cases (is_open First f)) [
   | inl open_first ↦
-      let lt : (entry First f).generation < (entry Second f).generation = subst (λ (x : Entry). (entry First f).generation < x.generation) (sym b.numbers) (b.loses open_first) in
+      let lt : (entry First f).generation < (entry Second f).generation =
+      subst (λ (x : Entry). (entry First f).generation < x.generation) (sym b.numbers) (b.loses open_first) in
       let gate = b.gate in
       let ne : eqb (entry First f).generation (entry Second f).generation ≡ false = ne_eqb _ _ (omega arith) in
       let le : ltb (entry Second f).generation (entry First f).generation ≡ false = le-ltb _ _ (omega arith) in
@@ -58,7 +61,8 @@ beats_second : (f : List ℕ) (e : Entry) → Beats f Second e → winner f ≡ 
 unfolding winner
 beats_second f e b = elim (bool_cases (is_open Second f)) [
   | inl open_second ↦
-      let lt : (entry Second f).generation < (entry First f).generation = subst (λ (x : Entry). (entry Second f).generation < x.generation) (sym b.numbers) (b.loses open_second) in
+      let lt : (entry Second f).generation < (entry First f).generation =
+      subst (λ (x : Entry). (entry Second f).generation < x.generation) (sym b.numbers) (b.loses open_second) in
       let gate = b.gate in
       let ne : eqb (entry First f).generation (entry Second f).generation ≡ false = ne_eqb _ _ (omega arith) in
       let gt : ltb (entry Second f).generation (entry First f).generation ≡ true = grind (arith, nat_tests) in
@@ -74,10 +78,14 @@ empty_winner : (f : List ℕ) (t : Cell) → Empty f t → winner f ≡ Nobody
 unfolding winner
 empty_winner f t e = let one = e.shut_first in let two = e.shut_second in rw (one, two) refl
 
-sits_winner : (f : List ℕ) (t : Cell) (w : Option Entry) → SitsIn f t w → (winner_entry (winner f) f ≡ w) × (loser (winner f) ≡ t)
-sits_winner f t None e = let h = empty_winner f t e in (ap (λ (v : Winner). winner_entry v f) h, ap loser h ∙ sym e.first)
-sits_winner f First (Some e) b = let h = beats_first f e b in (ap (λ (v : Winner). winner_entry v f) h ∙ ap Some b.numbers, ap loser h)
-sits_winner f Second (Some e) b = let h = beats_second f e b in (ap (λ (v : Winner). winner_entry v f) h ∙ ap Some b.numbers, ap loser h)
+sits_winner : (f : List ℕ) (t : Cell) (w : Option Entry) → SitsIn f t w
+    → (winner_entry (winner f) f ≡ w) × (loser (winner f) ≡ t)
+sits_winner f t None e = let h = empty_winner f t e in
+    (ap (λ (v : Winner). winner_entry v f) h, ap loser h ∙ sym e.first)
+sits_winner f First (Some e) b = let h = beats_first f e b in
+    (ap (λ (v : Winner). winner_entry v f) h ∙ ap Some b.numbers, ap loser h)
+sits_winner f Second (Some e) b = let h = beats_second f e b in
+    (ap (λ (v : Winner). winner_entry v f) h ∙ ap Some b.numbers, ap loser h)
 
 pub sits_winning : (f : List ℕ) (t : Cell) (w : Option Entry) → Sits f t w → winning f ≡ w
 unfolding winning
@@ -120,7 +128,8 @@ is_first true less e = absurd cc
 is_first false true e = refl
 is_first false false e = absurd cc
 
-is_second : (same less : Bool) → cond same Both (cond less (Only First) (Only Second)) ≡ Only Second → (same ≡ false) × (less ≡ false)
+is_second : (same less : Bool) → cond same Both (cond less (Only First) (Only Second)) ≡ Only Second
+    → (same ≡ false) × (less ≡ false)
 is_second true less e = absurd cc
 is_second false true e = absurd cc
 is_second false false e = (refl, refl)
@@ -149,7 +158,8 @@ filler_none cell None s sound = (refl, sound)
 filler_none cell (Some n) s sound = absurd sound
 
 -- and room for its body
-entry_room : (cell : ℕ) (room : Bool) (s : Stands) → IsSound (cond room s (Damaged (cell + 16) 4)) → (room ≡ true) × IsSound s
+entry_room : (cell : ℕ) (room : Bool) (s : Stands) → IsSound (cond room s (Damaged (cell + 16) 4))
+    → (room ≡ true) × IsSound s
 entry_room cell true s sound = (refl, sound)
 entry_room cell false s sound = absurd sound
 
@@ -161,13 +171,16 @@ pub record IsWhole (f : List ℕ) (cell : Cell) : Type 0 where
 whole : (f : List ℕ) (cell : Cell) → IsSound (by_winner (Only cell) f) → IsWhole f cell
 unfolding by_winner by_entry
 whole f cell sound =
-    let one = filler_none (place_of cell) (first_nonzero (filler cell f)) _ sound in
-    let two = entry_room (place_of cell) (has_room (entry cell f) (length f)) (standing (Some (entry cell f)) f) one.1 in
+    let one = filler_none (cell_place cell) (first_nonzero (filler cell f)) _ sound in
+    let two = entry_room (cell_place cell) (has_room (entry cell f) (length f)) (standing (Some (entry cell f)) f)
+    one.1 in
     record { zeros = one.0; room = two.0; sound = two.1 }
 
-sits_in_from : (f : List ℕ) (v : Winner) → winner f ≡ v → IsSound (by_winner v f) → SitsIn f (loser v) (winner_entry v f)
+sits_in_from : (f : List ℕ) (v : Winner) → winner f ≡ v → IsSound (by_winner v f)
+    → SitsIn f (loser v) (winner_entry v f)
 unfolding winner by_winner
-sits_in_from f Nobody e sound = let k = pick_nobody (is_open First f) (is_open Second f) (entry First f).generation (entry Second f).generation e in record { first = refl; shut_first = k.0; shut_second = k.1 }
+sits_in_from f Nobody e sound = let k = pick_nobody (is_open First f) (is_open Second f) (entry First f).generation
+    (entry Second f).generation e in record { first = refl; shut_first = k.0; shut_second = k.1 }
 sits_in_from f Both e sound = absurd sound
 sits_in_from f (Only First) e sound =
     let k = pick_first (is_open First f) (is_open Second f) (entry First f).generation (entry Second f).generation e in

@@ -1,5 +1,6 @@
 -- Parts of a file that a crash or a write leaves as they were.
-use Rattle.std.proofs.Common.{◌≡◌, ℕ, ◌+◌, ◌-◌, ◌<◌, ◌≤◌, max, List, ◌++◌, length, get_or, take, drop, sym, ap, ◌∙◌, arith, length-append, length-take, length-drop}
+use Rattle.std.proofs.Common.{◌≡◌, ℕ, ◌+◌, ◌-◌, ◌<◌, ◌≤◌, max, List, ◌++◌, length, get_or, take, drop, sym, ap, ◌∙◌}
+use Rattle.std.proofs.Common.{arith, length-append, length-take, length-drop}
 use Rattle.std.proofs.lemmas.List.{get_or-take, get_or-drop, get_or-append_right, get_or_append_left, take_all}
 use Rattle.std.proofs.lemmas.Grind.{same_number_lists}
 use Rattle.yp_io.specs.Disk.{overwritten}
@@ -10,20 +11,29 @@ unfolding bytes_at
 length_bytes_at s k f fits = omega (arith, length-take k (drop s f), length-drop s f)
 
 -- files that agree at each place of a part have the same part
-pub same_bytes : (s k : ℕ) (f c : List ℕ) → s + k ≤ length f → s + k ≤ length c → ((x : ℕ) → s ≤ x → x < s + k → get_or c x 0 ≡ get_or f x 0) → bytes_at s k c ≡ bytes_at s k f
+pub same_bytes : (s k : ℕ) (f c : List ℕ) → s + k ≤ length f → s + k ≤ length c
+    → ((x : ℕ) → s ≤ x → x < s + k → get_or c x 0 ≡ get_or f x 0) → bytes_at s k c ≡ bytes_at s k f
 unfolding bytes_at
 same_bytes s k f c fits fits_c same =
     let len_f : length (bytes_at s k f) ≡ k = length_bytes_at s k f fits in
     let len_c : length (bytes_at s k c) ≡ k = length_bytes_at s k c fits_c in
     same_number_lists (bytes_at s k c) (bytes_at s k f) (len_c ∙ sym len_f) (λ i lt.
     let within : i < k = omega (arith, len_c) in
-    get_or-take k (drop s c) i 0 within ∙ get_or-drop s c i 0 ∙ same (s + i) (omega arith) (omega arith) ∙ sym (get_or-take k (drop s f) i 0 within ∙ get_or-drop s f i 0))
+    get_or-take k (drop s c) i 0 within ∙ get_or-drop s c i 0 ∙ same (s + i) (omega arith) (omega arith)
+    ∙ sym (get_or-take k (drop s f) i 0 within ∙ get_or-drop s f i 0))
 
 -- ---- a write
 
 module _ (at : ℕ) (piece f : List ℕ) (within : at ≤ length f) where
   pub length-overwritten : length (overwritten at piece f) ≡ max (length f) (at + length piece)
-  length-overwritten = omega (arith, length-append (take at f ++ piece) (drop (at + length piece) f), length-append (take at f) piece, length-take at f, length-drop (at + length piece) f)
+  length-overwritten = omega (
+    arith,
+    length-append (take at f ++ piece) (drop (at + length piece) f),
+    length-append
+        (take at f) piece,
+    length-take at f,
+    length-drop (at + length piece) f,
+  )
 
   front : length (take at f) ≡ at
   front = omega (arith, length-take at f)
@@ -55,7 +65,8 @@ module _ (at : ℕ) (piece f : List ℕ) (within : at ≤ length f) where
   unfolding bytes_at
   part_there i k fits =
       let n = length-overwritten in
-      let len_c : length (bytes_at (at + i) k (overwritten at piece f)) ≡ k = length_bytes_at (at + i) k (overwritten at piece f) (omega arith) in
+      let len_c : length (bytes_at (at + i) k (overwritten at piece f)) ≡ k =
+      length_bytes_at (at + i) k (overwritten at piece f) (omega arith) in
       let len_p : length (bytes_at i k piece) ≡ k = length_bytes_at i k piece fits in
       same_number_lists (bytes_at (at + i) k (overwritten at piece f)) (bytes_at i k piece) (len_c ∙ sym len_p) (λ j lt.
       let inside : j < k = omega (arith, len_c) in

@@ -1,5 +1,6 @@
 -- The body of a version: XDR values in a row (RFC 4506). What stands in it is this project's own.
-use Rattle.std.specs.Prelude.{◌≡◌, ℕ, ◌+◌, Bool, true, false, zero, suc, List, [], ◌∷◌, ◌++◌, length, Option, Some, None, Result, Ok, Err, if◌then◌else◌, ◌==◌, nat_lt}
+use Rattle.std.specs.Prelude.{◌≡◌, ℕ, ◌+◌, Bool, true, false, zero, suc, List, [], ◌∷◌, ◌++◌, length, Option, Some}
+use Rattle.std.specs.Prelude.{None, Result, Ok, Err, if◌then◌else◌, ◌==◌, nat_lt}
 use Rattle.std.specs.List.{flat_map}
 use Rattle.std.specs.Ordering.{is_lt}
 use Rattle.yp_xdr.specs.declared.fault.XdrFault.{XdrFault}
@@ -25,7 +26,8 @@ row_bytes row = spelling (Opaque key_max) row.0 ++ spelling (Opaque value_max) r
 -- format, order, master and count of rows
 unfoldable pub head_bytes : MapVersion → List ℕ
 head_bytes version =
-    spelling U32 (format version.secure) ++ spelling U32 version.order ++ spelling (Opaque master_max) version.master ++ spelling U32 (length version.rows)
+    spelling U32 (format version.secure) ++ spelling U32 version.order ++ spelling (Opaque master_max) version.master
+    ++ spelling U32 (length version.rows)
 
 -- the whole body
 abbrev pub body : MapVersion → List ℕ
@@ -67,7 +69,8 @@ guard holds at rule = if holds then Ok tt else Err (record { at = at; rule = rul
 
 -- rule 6: the format is neither 1 nor 2
 abbrev pub secure_of : ℕ → ℕ → Result Bool Wrong
-secure_of at number = if number == 1 then Ok false else if number == 2 then Ok true else Err (record { at = at; rule = 6 })
+secure_of at number =
+    if number == 1 then Ok false else if number == 2 then Ok true else Err (record { at = at; rule = 6 })
 
 -- what stands before the rows
 pub record Head : Type 0 where

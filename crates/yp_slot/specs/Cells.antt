@@ -24,9 +24,9 @@ abbrev pub number_at : ℕ → List ℕ → ℕ
 number_at at file = from_be_bytes w64 (bytes_at at 8 file)
 
 -- the place of a cell
-abbrev pub place_of : Cell → ℕ
-place_of First = 0
-place_of Second = 32
+abbrev pub cell_place : Cell → ℕ
+cell_place First = 0
+cell_place Second = 32
 
 abbrev pub other : Cell → Cell
 other First = Second
@@ -34,23 +34,24 @@ other Second = First
 
 -- whether a cell's first byte is 1
 unfoldable pub is_open : Cell → List ℕ → Bool
-is_open cell file = slice_index file (place_of cell) == open_gate
+is_open cell file = slice_index file (cell_place cell) == open_gate
 
 -- the seven bytes behind it
 unfoldable pub filler : Cell → List ℕ → List ℕ
-filler cell file = bytes_at (place_of cell + 1) 7 file
+filler cell file = bytes_at (cell_place cell + 1) 7 file
 
 -- and the three numbers behind them
 unfoldable pub entry : Cell → List ℕ → Entry
 entry cell file = record {
-  generation = number_at (place_of cell + 8) file;
-  place = number_at (place_of cell + 16) file;
-  len = number_at (place_of cell + 24) file;
+  generation = number_at (cell_place cell + 8) file;
+  place = number_at (cell_place cell + 16) file;
+  len = number_at (cell_place cell + 24) file;
 }
 
 -- a cell's bytes behind the first, for these numbers
 abbrev pub entry_bytes : Entry → List ℕ
-entry_bytes numbers = replicate 7 0 ++ to_be_bytes w64 numbers.generation ++ to_be_bytes w64 numbers.place ++ to_be_bytes w64 numbers.len
+entry_bytes numbers =
+    replicate 7 0 ++ to_be_bytes w64 numbers.generation ++ to_be_bytes w64 numbers.place ++ to_be_bytes w64 numbers.len
 
 -- of two open cells that one wins which has the greater generation
 abbrev pub greater : ℕ → ℕ → Winner
@@ -60,5 +61,8 @@ greater first second = if first == second then Both else if nat_lt second first 
 unfoldable pub winner : List ℕ → Winner
 winner file =
     if is_open First file
-    then (if is_open Second file then greater (entry First file).generation (entry Second file).generation else Only First)
+    then (
+    if is_open Second file then greater (entry First file).generation (entry Second file).generation
+    else Only First
+    )
     else (if is_open Second file then Only Second else Nobody)

@@ -1,10 +1,11 @@
 -- A commit: what each of its parts makes of the bytes of a file.
-use Rattle.std.specs.Prelude.{ℕ, ◌+◌, ◌-◌, List, [], ◌∷◌, length, replicate, Option, Some, None, if◌then◌else◌, nat_lt, nat_le}
+use Rattle.std.specs.Prelude.{ℕ, ◌+◌, ◌-◌, List, [], ◌∷◌, length, replicate, Option, Some, None, if◌then◌else◌, nat_lt}
+use Rattle.std.specs.Prelude.{nat_le}
 use Rattle.yp_io.specs.Disk.{overwritten}
 use Rattle.yp_slot.specs.declared.cells.Cell.{Cell}
 use Rattle.yp_slot.specs.declared.cells.Cell.TheVariants.{First}
 use Rattle.yp_slot.specs.declared.cells.Entry.{Entry}
-use Rattle.yp_slot.specs.Cells.{cells_len, open_gate, place_of, other, is_open, entry, entry_bytes, winner}
+use Rattle.yp_slot.specs.Cells.{cells_len, open_gate, cell_place, other, is_open, entry, entry_bytes, winner}
 use Rattle.yp_slot.specs.declared.cells.Winner.{Winner}
 use Rattle.yp_slot.specs.declared.cells.Winner.TheVariants.{Nobody, Both, Only}
 
@@ -31,6 +32,10 @@ abbrev pub generation_of : Option Entry → ℕ
 generation_of None = 0
 generation_of (Some winner) = winner.generation
 
+-- the last generation
+abbrev pub generation_max : ℕ
+generation_max = 18446744073709551615
+
 -- where a body of n bytes goes: behind the cells where it fits there, else behind the winner's body
 abbrev pub place_for : Option Entry → ℕ → ℕ
 place_for None n = cells_len
@@ -46,17 +51,17 @@ laid file = if nat_lt (length file) cells_len then replicate cells_len 0 else fi
 
 -- the cell that is to be written is closed
 unfoldable pub closed : List ℕ → List ℕ
-closed file = if is_open (target file) file then overwritten (place_of (target file)) (0 ∷ []) file else file
+closed file = if is_open (target file) file then overwritten (cell_place (target file)) (0 ∷ []) file else file
 
 -- the body stands in the file, and its entry in the closed cell
 unfoldable pub filled : List ℕ → List ℕ → List ℕ
 filled body file =
     let next = next_entry (winning file) (length body) in
-    overwritten (place_of (target file) + 1) (entry_bytes next) (overwritten next.place body file)
+    overwritten (cell_place (target file) + 1) (entry_bytes next) (overwritten next.place body file)
 
 -- that cell is open
 unfoldable pub opened : List ℕ → List ℕ
-opened file = overwritten (place_of (target file)) (open_gate ∷ []) file
+opened file = overwritten (cell_place (target file)) (open_gate ∷ []) file
 
 -- the whole commit
 unfoldable pub committed : List ℕ → List ℕ → List ℕ

@@ -14,8 +14,10 @@ abbrev pub head_view : Front → Head
 head_view front = record { secure = front.secure; order = front.order; master = front.master.now; count = front.count }
 
 -- the rows that are expected were pushed into a draft
-abbrev pub ReadsRows : Result (List Row × Unread) IsWrong → Result (Unit {0}) BodyFault → Draft → Draft → Unread → Type 0
-ReadsRows expected (Ok done) old new left = (rows : List Row) × (expected ≡ Ok (rows, left)) × (new ≡ record old { rows = rows }) × IsRising rows
+abbrev pub ReadsRows : Result (List Row × Unread) IsWrong → Result (Unit {0}) BodyFault → Draft → Draft → Unread
+    → Type 0
+ReadsRows expected (Ok done) old new left = (rows : List Row) × (expected ≡ Ok (rows, left))
+    × (new ≡ record old { rows = rows }) × IsRising rows
 ReadsRows expected (Err (Wrong wrong)) old new left = expected ≡ Err wrong
 ReadsRows expected (Err NoMemory) old new left = ⊤
 

@@ -14,7 +14,8 @@ BodyIsReadAgain = (bytes : List ℕ) (version : MapVersion) → IsBody bytes ver
 
 -- a version that is read of bytes has them as its body
 abbrev pub ReadIsBody : Type 0
-ReadIsBody = (bytes : List ℕ) (version : MapVersion) → IsBytes bytes → length bytes ≤ body_max → body_at bytes ≡ Ok version → IsBody bytes version
+ReadIsBody = (bytes : List ℕ) (version : MapVersion) → IsBytes bytes → length bytes ≤ body_max
+    → body_at bytes ≡ Ok version → IsBody bytes version
 
 -- what a crash in a commit leaves of a file stands for what stood before, or for a version
 abbrev pub IsLeft : List ℕ → List ℕ → Type 0
@@ -27,4 +28,5 @@ AreLeft first (next ∷ files) = IsLeft first next × AreLeft next files
 
 -- Of a file that isn't damaged, whatever commits and crashes follow, none that is left is over the most bytes.
 abbrev pub FileIsBounded : Type 0
-FileIsBounded = (first : List ℕ) (files : List (List ℕ)) → IsSound (stands first) → AreLeft first files → AllByRecursion (λ file. length file ≤ file_max) (first ∷ files)
+FileIsBounded = (first : List ℕ) (files : List (List ℕ)) → IsSound (stands first) → AreLeft first files
+    → AllByRecursion (λ file. length file ≤ file_max) (first ∷ files)

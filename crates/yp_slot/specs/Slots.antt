@@ -1,5 +1,6 @@
 -- What a slot holds, and what it knows of its file.
-use Rattle.std.specs.Prelude.{◌≡◌, ◌⊎◌, ℕ, ◌+◌, ◌≤◌, Bool, true, false, List, [], length, Option, Some, None, IfSome, is_some, nat_le, ⊤}
+use Rattle.std.specs.Prelude.{◌≡◌, ◌⊎◌, ℕ, ◌+◌, ◌≤◌, Bool, true, false, List, [], length, Option, Some, None, IfSome}
+use Rattle.std.specs.Prelude.{is_some, nat_le, ⊤}
 use Rattle.yp_io.specs.Disk.{DiskState, History}
 use Rattle.yp_xdr.specs.Reading.{first_nonzero}
 use Rattle.yp_version.specs.Limits.{body_max}
@@ -71,7 +72,8 @@ Knows Loaded known next history = Settles known history
 Knows Laid known next history = (known.long ≡ true) × Settles known history
 Knows Closed known next history = (known.long ≡ true) × (known.gate_open ≡ false) × Settles known history
 Knows Filled known next history =
-    (known.long ≡ true) × (known.gate_open ≡ false) × Settles known history × LiesWithin next × (next.generation ≡ generation_of known.winner + 1)
+    (known.long ≡ true) × (known.gate_open ≡ false) × Settles known history × LiesWithin next
+    × (next.generation ≡ generation_of known.winner + 1)
     × Fills next history
 
 -- what is read is told, and has P
@@ -89,11 +91,17 @@ IsAsBeforeOr version history image = IsAsBefore history image ⊎ (stands image 
 
 -- for what is read now, or for what would be read once the cell is open
 abbrev pub IsAsBeforeOrOpened : Option History → List ℕ → Type 0
-IsAsBeforeOrOpened history image = IfSome history (λ h. (stands image ≡ stands h.state.reads) ⊎ (stands image ≡ stands (opened h.state.reads)))
+IsAsBeforeOrOpened history image = IfSome history (λ h.
+    (stands image ≡ stands h.state.reads) ⊎ (stands image ≡ stands (opened h.state.reads)))
 
 -- what is known once the cell is open
 abbrev pub with_winner : Known → Entry → Known
-with_winner known next = record { long = true; target = other known.target; gate_open = is_some known.winner; winner = Some next }
+with_winner known next = record {
+  long = true;
+  target = other known.target;
+  gate_open = is_some known.winner;
+  winner = Some next;
+}
 
 -- once the cell is open, the file stands for this version
 abbrev pub WouldStand : MapVersion → Option History → Type 0
@@ -104,6 +112,10 @@ abbrev pub Makes : (List ℕ → List ℕ) → Option History → Option History
 Makes change None new = ⊤
 Makes change (Some h) None = ⊥
 Makes change (Some h) (Some k) = k.state.reads ≡ change h.state.reads
+
+-- this is the generation of what a read gives
+abbrev pub HasGeneration : Option History → ℕ → Type 0
+HasGeneration history generation = IfSome history (λ h. generation ≡ generation_of (winning h.state.reads))
 
 -- whether the file is known
 abbrev pub is_ready : Stage → Bool

@@ -1,10 +1,11 @@
 -- What the bytes of a store file stand for.
-use Rattle.std.specs.Prelude.{ℕ, ◌+◌, Bool, ◌&&◌, List, length, Option, Some, None, Result, Ok, Err, if◌then◌else◌, nat_lt, nat_le}
+use Rattle.std.specs.Prelude.{ℕ, ◌+◌, Bool, ◌&&◌, List, length, Option, Some, None, Result, Ok, Err, if◌then◌else◌}
+use Rattle.std.specs.Prelude.{nat_lt, nat_le}
 use Rattle.yp_xdr.specs.Reading.{first_nonzero}
 use Rattle.yp_version.specs.Limits.{body_max}
 use Rattle.yp_version.specs.Versions.{MapVersion}
 use Rattle.yp_slot.specs.declared.cells.Entry.{Entry}
-use Rattle.yp_slot.specs.Cells.{cells_len, bytes_at, place_of, filler, entry, winner}
+use Rattle.yp_slot.specs.Cells.{cells_len, bytes_at, cell_place, filler, entry, winner}
 use Rattle.yp_slot.specs.declared.cells.Winner.{Winner}
 use Rattle.yp_slot.specs.declared.cells.Winner.TheVariants.{Nobody, Both, Only}
 use Rattle.yp_slot.specs.declared.wrong.Wrong.{Wrong}
@@ -21,7 +22,9 @@ pub data Stands : Type 0 where
 
 -- whether an entry's body lies behind the cells, within a file of this length
 abbrev pub has_room : Entry → ℕ → Bool
-has_room numbers size = nat_le cells_len numbers.place && nat_lt 0 numbers.len && nat_le numbers.len body_max && nat_le (numbers.place + numbers.len) size
+has_room numbers size =
+    nat_le cells_len numbers.place && nat_lt 0 numbers.len && nat_le numbers.len body_max
+    && nat_le (numbers.place + numbers.len) size
 
 -- rules 5 to 9: the body, at its place
 abbrev pub by_body : ℕ → Result MapVersion Wrong → Stands
@@ -44,7 +47,9 @@ by_filler cell (Some n) stands = Damaged (cell + 1 + n) 3
 unfoldable pub by_winner : Winner → List ℕ → Stands
 by_winner Nobody file = Nothing
 by_winner Both file = Damaged 32 2
-by_winner (Only cell) file = by_filler (place_of cell) (first_nonzero (filler cell file)) (by_entry (place_of cell) (entry cell file) file)
+by_winner (Only cell) file =
+    by_filler (cell_place cell) (first_nonzero (filler cell file))
+    (by_entry (cell_place cell) (entry cell file) file)
 
 -- rule 1: the file is over the most bytes; a file that is shorter than the cells meets no other rule
 unfoldable pub stands : List ℕ → Stands

@@ -23,11 +23,11 @@ pub enum Cell {
 }
 
 impl Cell {
-    ghost use Rattle.yp_slot.specs.Cells.{place_of, other, is_open, filler, entry};
+    ghost use Rattle.yp_slot.specs.Cells.{cell_place, other, is_open, filler, entry};
 
     /// The place of its first byte.
     pub(crate) fn place(self) -> u64
-        ensures value { result ≡ place_of self }
+        ensures value { result ≡ cell_place self }
         ensures bound { result ≤ 32 }
     {
         match self {

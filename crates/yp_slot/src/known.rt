@@ -2,7 +2,7 @@
 
 ghost use Rattle.std.specs.Prelude.{◌≡◌, ◌<◌, ◌≤◌, IfSome, length};
 ghost use Rattle.yp_version.specs.Limits.{body_max};
-ghost use Rattle.yp_slot.specs.Commits.{generation_of, next_entry};
+ghost use Rattle.yp_slot.specs.Commits.{generation_max, generation_of, next_entry};
 
 use crate::cells::{CELLS_LEN, Cell, Entry};
 
@@ -47,7 +47,7 @@ impl Known {
     /// The entry of a body of this length, which follows the winner's.
     pub(crate) fn next(&self, len: u64) -> Entry
         requires winner { IfSome self.now.winner LiesWithin }
-        requires generation { generation_of self.now.winner < 18446744073709551615 }
+        requires generation { generation_of self.now.winner < generation_max }
         ensures { result ≡ next_entry self.now.winner len }
     {
         let place = match self.winner {

@@ -18,5 +18,5 @@ mod wrong;
 
 pub use fault::SlotFault;
 pub use known::Stage;
-pub use slot::Slot;
+pub use slot::{GENERATION_MAX, Slot};
 pub use write::body_of;

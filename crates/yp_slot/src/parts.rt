@@ -6,8 +6,9 @@ ghost use Rattle.yp_io.specs.Counts.{CountsFaults};
 ghost use Rattle.yp_io.specs.Disk.{LeavesOnly, MayLeaveTorn, IsWithin, written_at, after_sync};
 ghost use Rattle.yp_version.specs.Versions.{MapVersion};
 ghost use Rattle.yp_slot.specs.Bodies.{IsBody};
-ghost use Rattle.yp_slot.specs.Commits.{generation_of, next_entry, laid, closed, filled, opened};
-ghost use Rattle.yp_slot.specs.Slots.{Settles, Fills, LiesWithin, IsAsBefore, IsAsBeforeOrOpened, with_winner, WouldStand, Makes};
+ghost use Rattle.yp_slot.specs.Commits.{generation_max, generation_of, next_entry, laid, closed, filled, opened};
+ghost use Rattle.yp_slot.specs.Slots.{Settles, Fills, LiesWithin, IsAsBefore, IsAsBeforeOrOpened, with_winner};
+ghost use Rattle.yp_slot.specs.Slots.{WouldStand, Makes};
 
 use crate::cells::{CELLS_LEN, CLOSED, Entry, OPEN};
 use crate::known::Known;
@@ -66,7 +67,7 @@ pub(crate) fn fill<D: Disk>(disk: &mut D, known: &Known, body: &[u8]) -> Result<
     requires closed { known.now.gate_open ≡ false }
     requires settled { Settles known.now (D.history disk.old) }
     requires winner { IfSome known.now.winner LiesWithin }
-    requires generation { generation_of known.now.winner < 18446744073709551615 }
+    requires generation { generation_of known.now.winner < generation_max }
     requires body { (version : MapVersion) × IsBody body.now version }
     ensures next { IfOk result (λ next. next ≡ next_entry known.now.winner (length body.now)) }
     ensures lies { IfOk result LiesWithin }

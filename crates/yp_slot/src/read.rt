@@ -101,7 +101,8 @@ fn read_rows(
     requires count { count ≤ rows_max }
     requires place { (unread cursor.old).at ≡ draft_len builder.old }
     requires size { (unread cursor.old).at + length (unread cursor.old).bytes ≤ body_max }
-    ensures read { ReadsRows (rows_at count None (unread cursor.old)) result builder.old builder.new (unread cursor.new) }
+    ensures read { ReadsRows (rows_at count None (unread cursor.old)) result
+        builder.old builder.new (unread cursor.new) }
     ensures passed { OnOk result (Passes (unread cursor.old) (unread cursor.new)) }
 {
     let mut last: Option<&[u8]> = None;

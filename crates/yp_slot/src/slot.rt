@@ -1,6 +1,7 @@
 //! The slot: a disk whose file keeps one version.
 
-ghost use Rattle.std.specs.Prelude.{◌≡◌, ◌⊎◌, ◌+◌, ◌<◌, ◌≤◌, ℕ, List, true, false, is_ok, IsTrue, OnOk, OnErr, IfOk, length, IfSome, IsErrOf, if◌then◌else◌};
+ghost use Rattle.std.specs.Prelude.{◌≡◌, ◌⊎◌, ◌+◌, ◌<◌, ◌≤◌, ℕ, List, true, false, is_ok, IsTrue, OnOk, OnErr, IfOk};
+ghost use Rattle.std.specs.Prelude.{length, IfSome, IsErrOf, if◌then◌else◌};
 ghost use Rattle.std.specs.Option.{option_map};
 ghost use Rattle.yp_io.specs.Counts.{CountsFaults, HasRisen};
 ghost use Rattle.yp_io.specs.Disk.{LeavesOnly, MayLeave, IsDurable, after_sync};
@@ -15,6 +16,9 @@ use std::marker::Model;
 use std::random::RandomSource;
 use yp_io::{Disk, Failed};
 use yp_version::Version;
+
+/// The last generation of a file.
+pub const GENERATION_MAX: u64 = 18_446_744_073_709_551_615;
 
 /// A file that keeps one version of a map, or none. A crash at any moment leaves the version that stood, or the one
 /// that was being stored.
@@ -41,9 +45,10 @@ impl<D: Disk> Slot<D> {
     ghost use Rattle.yp_slot.specs.declared.known.Stage.TheVariants.{Unready, Loaded, Laid, Closed, Filled};
     ghost use Rattle.yp_slot.specs.Bodies.{IsBody};
     ghost use Rattle.yp_slot.specs.Cells.{cells_len, is_open};
-    ghost use Rattle.yp_slot.specs.Commits.{generation_of, winning, target, laid, closed, filled, opened, committed};
+    ghost use Rattle.yp_slot.specs.Commits.{generation_max, target, laid, closed, filled, opened, committed};
     ghost use Rattle.yp_slot.specs.Loads.{Loads};
-    ghost use Rattle.yp_slot.specs.Slots.{is_ready, IsSound, IsTold, IsAsBefore, IsAsBeforeOr, IsAsBeforeOrOpened, WouldStand, Makes};
+    ghost use Rattle.yp_slot.specs.Slots.{is_ready, HasGeneration, IsSound, IsTold, IsAsBefore, IsAsBeforeOr};
+    ghost use Rattle.yp_slot.specs.Slots.{IsAsBeforeOrOpened, WouldStand, Makes};
     ghost use Rattle.yp_slot.specs.Stands.{Stored, file_max, stands};
 
     /// A slot over a disk. It isn't ready.
@@ -90,7 +95,8 @@ impl<D: Disk> Slot<D> {
 
     /// The generation of what the file stood for when it was known last, and 0 where nothing stood.
     pub fn generation(&self) -> u64
-        ensures { result ≡ self.now.generation }
+        ensures generation { result ≡ self.now.generation }
+        ensures numbered { IsTrue (is_ready self.now.stage) → HasGeneration (D.history self.now.disk) result }
     {
         self.known.generation()
     }
@@ -105,8 +111,7 @@ impl<D: Disk> Slot<D> {
 
         // It answers what the bytes stand for that a read gives.
         ensures stands { IfSome (D.history self.old.disk) (λ h. Loads (stands h.state.reads) result) }
-        ensures generation { OnOk result (IfSome (D.history self.old.disk)
-            (λ h. self.new.generation ≡ generation_of (winning h.state.reads))) }
+        ensures generation { OnOk result (HasGeneration (D.history self.old.disk) self.new.generation) }
         ensures generation_kept { OnErr result (self.new.generation ≡ self.old.generation) }
         ensures synced { OnOk result (D.history self.new.disk ≡ option_map after_sync (D.history self.old.disk)) }
         ensures nothing_written { (D.history self.new.disk ≡ D.history self.old.disk)
@@ -114,6 +119,7 @@ impl<D: Disk> Slot<D> {
         ensures any_moment { LeavesOnly (D.history self.old.disk) (D.history self.new.disk)
             (MayLeave (D.history self.old.disk)) }
         ensures durable { OnOk result (IsDurable (D.history self.new.disk)) }
+        ensures numbered { OnOk result (HasGeneration (D.history self.new.disk) self.new.generation) }
         ensures never_falls { D.faults self.old.disk ≤ D.faults self.new.disk }
         ensures cause { IsErrOf result SlotFault.DiskFault
             → HasRisen (D.faults self.old.disk) (D.faults self.new.disk) }
@@ -171,7 +177,7 @@ impl<D: Disk> Slot<D> {
     pub fn fill(&mut self, body: &[u8]) -> Result<(), Failed>
         requires stage { self.old.stage ≡ Closed }
         requires body { (version : MapVersion) × IsBody body.now version }
-        requires generation { self.old.generation < 18446744073709551615 }
+        requires generation { self.old.generation < generation_max }
         ensures stage { self.new.stage ≡ (if is_ok result then Filled else Unready) }
         ensures generation { self.new.generation ≡ self.old.generation }
         ensures filled { OnOk result (Makes (filled body.now) (D.history self.old.disk) (D.history self.new.disk)) }
@@ -211,11 +217,12 @@ impl<D: Disk> Slot<D> {
     pub fn commit(&mut self, body: &[u8]) -> Result<u64, Failed>
         requires ready { IsTrue (is_ready self.old.stage) }
         requires body { (version : MapVersion) × IsBody body.now version }
-        requires generation { self.old.generation < 18446744073709551615 }
+        requires generation { self.old.generation < generation_max }
         ensures stage { self.new.stage ≡ (if is_ok result then Loaded else Unready) }
         ensures generation { IfOk result (λ generation. generation ≡ self.old.generation + 1) }
         ensures generation_kept { self.new.generation ≡ self.old.generation + (if is_ok result then 1 else 0) }
-        ensures committed { OnOk result (Makes (committed body.now) (D.history self.old.disk) (D.history self.new.disk)) }
+        ensures committed { OnOk result
+            (Makes (committed body.now) (D.history self.old.disk) (D.history self.new.disk)) }
 
         // At each moment of the call each image stands for what stood, or for the version.
         ensures any_moment { (version : MapVersion) → IsBody body.now version
@@ -229,6 +236,7 @@ impl<D: Disk> Slot<D> {
             → (image : List ℕ) → MayLeave (D.history self.new.disk) image
             → IsAsBeforeOr version (D.history self.old.disk) image) }
         ensures durable { OnOk result (IsDurable (D.history self.new.disk)) }
+        ensures numbered { OnOk result (HasGeneration (D.history self.new.disk) self.new.generation) }
 
         // No image is larger than the largest file.
         ensures bound { LeavesOnly (D.history self.old.disk) (D.history self.new.disk)

@@ -59,7 +59,8 @@ fn set_rows(buf: &mut [u8], front: usize, version: &Version)
 
 /// The bytes of a version's body.
 pub fn body_of(alloc: Global, version: &Version) -> Result<Vec<u8>, NoMemory>
-    ensures { IfOk result (λ bytes. IsBody bytes.items version.now) }
+    ensures body { IfOk result (λ bytes. IsBody bytes.items version.now) }
+    ensures len { IfOk result (λ bytes. length bytes.items ≡ body_len version.now) }
 {
     let Ok(mut bytes) = vec![in alloc; 0; version.body_len()] else {
         return Err(NoMemory);

@@ -1,14 +1,3 @@
-pub mod Told
-pub mod Pushed
-pub mod Calls
-pub mod Gathered
-pub mod Counted
-pub mod Texts
-pub mod Raised
-pub mod Accepted
-pub mod OnDisk
-pub mod Telling
-pub mod Carried
-pub mod Ended
-pub mod Sessioned
-pub mod Completed
+pub mod Kept
+pub mod Dispatch
+pub mod Unparsed

@@ -1,13 +1,2 @@
-pub mod Numbers
-pub mod Lines
-pub mod Disks
-pub mod Once
-pub mod Status
-pub mod Callers
-pub mod Served
-pub mod Sample
-pub mod Check
-pub mod Text
-pub mod Session
-pub mod Questions
-pub mod Build
+pub mod Asking
+pub mod Commands

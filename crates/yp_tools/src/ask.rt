@@ -1,169 +1,77 @@
-//! Calls that the program makes itself, and their whole replies.
+//! The client commands: a server is asked, and its answer printed.
 
-ghost use Rattle.std.specs.Prelude.{◌≡◌, ◌+◌, ◌≤◌, ◌++◌, [], length, take, None, Some, if◌then◌else◌, IfOk, OnOk};
-ghost use Rattle.yp_xdr.specs.Spelling.{spelling};
-ghost use Rattle.yp_xdr.specs.Writing.{Sets};
-ghost use Rattle.yp_rpc.specs.Call.{front_kind, auth_kind, procedure_kind};
-ghost use Rattle.yp_version.specs.Limits.{key_max, value_max};
-ghost use Rattle.yp_answer.specs.Numbers.{record_max};
-ghost use Rattle.yp_answer.specs.Maps.{maps_of};
-ghost use Rattle.yp_answer.specs.Streams.{parts_left, joined};
-ghost use Rattle.yp_answer.specs.Answers.{IsInside};
-ghost use Rattle.yp_tools.specs.Callers.{reply_to};
-ghost use Rattle.yp_tools.specs.Sample.{front, heading, call_of, match_call, all_call, value_reply};
+ghost use Rattle.std.specs.Prelude.{◌≡◌, IsTrue, Err};
+ghost use Rattle.yp_query.specs.Questions.{bytes_of, QuestionIsWithin};
+ghost use Rattle.yp_query.specs.Faults.{IsTellable as MayBeTold};
+ghost use Rattle.yp_office.specs.Seeing.{seeing, IsPassedOn};
+ghost use Rattle.yp_office.specs.Status.{IsTellable};
+ghost use Rattle.yp_tools.specs.Asking.{AskDoes, ask_may_end, status_of};
 
-use crate::program::NOBODY;
-use yp_answer::{AllStream, Answered, answer};
-use yp_board::PlainBoard;
-use yp_io::NoMemory;
-use yp_msgs::protocol::{ALL, MATCH, YPPROG, YPVERS};
-use yp_msgs::{Message, ReqKey, ReqNokey, RespVal, YpStat};
-use yp_rpc::protocol::{AUTH_NONE, CALL, RPC_VERSION};
-use yp_rpc::{ReplyHead, write_reply};
-use yp_xdr::{NoRoom, set_opaque, set_u32};
+use std::alloc::Global;
+use std::random::RandomSource;
+use yp_client::ClientFault;
+use yp_io::{Clock, Dial, Disk, Peer, Sink, Source, Texts};
+use yp_office::{Office, Status, status_of_row};
+use yp_query::{QueryFault, Question, query};
 
-/// The domain and the name of the map that is asked, and the own name of its board.
-pub const SAMPLE: &[u8] = b"sample";
-
-/// The number of each call.
-const XID: u32 = 0;
-
-/// The front of a call.
-fn set_front(buf: &mut [u8], at: usize) -> usize
-    requires { at + 12 ≤ length buf.old }
-    ensures set { Sets (spelling front_kind front) at result buf.old buf.new }
-    ensures len { result ≡ at + 12 }
+/// The status of a call that was refused.
+fn status_of_call(fault: ClientFault) -> Status
+    requires { MayBeTold (QueryFault.Client fault) }
+    ensures { result ≡ status_of (Err (QueryFault.Client fault)) }
 {
-    let at = set_u32(buf, at, XID);
-    let at = set_u32(buf, at, CALL);
-    set_u32(buf, at, RPC_VERSION)
-}
-
-/// An empty credential or verifier.
-fn set_none(buf: &mut [u8], at: usize) -> usize
-    requires { at + 8 ≤ length buf.old }
-    ensures set { Sets (spelling auth_kind (0, [])) at result buf.old buf.new }
-    ensures len { result ≡ at + 8 }
-{
-    let at = set_u32(buf, at, AUTH_NONE);
-    set_opaque(buf, at, &[])
-}
-
-/// Which procedure is called.
-fn set_procedure(buf: &mut [u8], at: usize, procedure: u32) -> usize
-    requires { at + 28 ≤ length buf.old }
-    ensures set { Sets (spelling procedure_kind (heading procedure)) at result buf.old buf.new }
-    ensures len { result ≡ at + 28 }
-{
-    let at = set_u32(buf, at, YPPROG);
-    let at = set_u32(buf, at, YPVERS);
-    let at = set_u32(buf, at, procedure);
-    let at = set_none(buf, at);
-    set_none(buf, at)
-}
-
-/// Puts a call at the front of the buffer, and answers its length.
-fn set_call<M: Message>(buf: &mut [u8], procedure: u32, arguments: &M) -> usize
-    requires within { M.is_within arguments.now }
-    requires room { 40 + length (spelling M.kind (M.view arguments.now)) ≤ length buf.old }
-    ensures call { take result buf.new ≡ call_of M.kind procedure (M.view arguments.now) }
-    ensures within { result ≤ length buf.new }
-{
-    let at = set_front(buf, 0);
-    let at = set_procedure(buf, at, procedure);
-    arguments.set(buf, at)
-}
-
-/// Puts the call MATCH for a key at the front of the buffer, and answers its length.
-pub fn set_match(buf: &mut [u8], key: &[u8]) -> usize
-    requires room { record_max ≤ length buf.old }
-    requires key { length key.now ≤ key_max }
-    ensures call { take result buf.new ≡ match_call key.now }
-    ensures within { result ≤ length buf.new }
-{
-    let asked = ReqKey {
-        domain: SAMPLE,
-        map: SAMPLE,
-        key,
-    };
-    set_call(buf, MATCH, &asked)
-}
-
-/// Puts the call ALL at the front of the buffer, and answers its length.
-pub fn set_all(buf: &mut [u8]) -> usize
-    requires { record_max ≤ length buf.old }
-    ensures call { take result buf.new ≡ all_call }
-    ensures within { result ≤ length buf.new }
-{
-    let asked = ReqNokey {
-        domain: SAMPLE,
-        map: SAMPLE,
-    };
-    set_call(buf, ALL, &asked)
-}
-
-/// Puts the reply of MATCH that has this value at the front of the buffer, and answers its length.
-pub fn set_value(buf: &mut [u8], value: &[u8]) -> usize
-    requires room { record_max ≤ length buf.old }
-    requires value { length value.now ≤ value_max }
-    ensures reply { take result buf.new ≡ value_reply value.now }
-    ensures within { result ≤ length buf.new }
-{
-    let at = match write_reply(buf, XID, &ReplyHead::Success) {
-        Ok(at) => at,
-        Err(NoRoom) => unreachable!(),
-    };
-    let found = RespVal {
-        stat: YpStat::True,
-        val: value,
-    };
-    found.set(buf, at)
-}
-
-/// Adds the parts of a stream that are left to a reply.
-fn collect(
-    board: &PlainBoard,
-    stream: AllStream,
-    buf: &mut [u8],
-    reply: &mut Vec<u8>,
-) -> Result<(), NoMemory>
-    requires room { record_max ≤ length buf.old }
-    requires inside { IsInside (maps_of board.now) stream.source }
-    ensures { OnOk result (reply.new.items ≡ reply.old.items ++ joined (parts_left board.now.known stream)) }
-{
-    let mut stream = stream;
-    let mut len = stream.piece(board, buf);
-    while len > 0 {
-        let Ok(()) = reply.extend_from_slice(&buf[..len]) else {
-            return Err(NoMemory);
-        };
-        len = stream.piece(board, buf);
+    match fault {
+        ClientFault::Yp(stat) => Status::Yp { stat },
+        ClientFault::Denied(_) => Status::Denied,
+        ClientFault::BadReply { at } => Status::BadReply { at: at as u64 },
+        ClientFault::BadXid { want, got } => Status::BadXid { want, got },
+        ClientFault::Torn { at } => Status::Torn { at },
+        ClientFault::TooLong { at } => Status::TooLong { at },
+        ClientFault::ReadFault => Status::ReadFault,
+        ClientFault::WriteFault => Status::WriteFault,
+        ClientFault::Rows { row, fault } => status_of_row(row, fault),
+        ClientFault::Spent => unreachable!(),
+        ClientFault::NoMemory => unreachable!(),
     }
-    Ok(())
 }
 
-/// Asks the board, and puts the whole reply into `reply`, where there is one.
-pub fn ask(
-    board: &mut PlainBoard,
-    call: &[u8],
-    buf: &mut [u8],
-    reply: &mut Vec<u8>,
-) -> Result<bool, NoMemory>
-    requires { record_max ≤ length buf.old }
-    ensures reply { IfOk result (λ some. reply_to (maps_of board.old) call.now ≡ (if some then Some reply.new.items else None)) }
-    ensures maps { maps_of board.new ≡ maps_of board.old }
+/// The status of a question that has no answer.
+fn status_of(fault: QueryFault) -> Status
+    requires { MayBeTold fault }
+    ensures { result ≡ status_of (Err fault) }
 {
-    reply.clear();
-    match answer(board, call, NOBODY, buf) {
-        Answered::Silent => Ok(false),
-        Answered::Reply { len } => {
-            reply.extend_from_slice(&buf[..len]).map_err(|_| NoMemory)?;
-            Ok(true)
-        }
-        Answered::Stream(stream) => {
-            collect(board, stream, buf, reply)?;
-            Ok(true)
-        }
-        Answered::Make { .. } => Ok(false),
+    match fault {
+        QueryFault::NoKey => Status::No,
+        QueryFault::Client(fault) => status_of_call(fault),
+        QueryFault::Dial => Status::DialFault,
+        QueryFault::Output => Status::WriteFault,
+        QueryFault::NoMemory => Status::NoMemory,
+    }
+}
+
+/// Asks the server at `to` a question, and prints its answer.
+pub fn ask<S: Source, K: Sink, D: Disk, C: Clock, A: Dial, T: Texts>(
+    alloc: Global,
+    rt: &impl RandomSource,
+    to: Peer,
+    question: &Question<Vec<u8>>,
+    office: &mut Office<S, K, D, C, A, T>,
+) -> Status
+    requires { QuestionIsWithin (bytes_of question.now) }
+    ensures does { AskDoes (seeing S.Source K.Sink D.Disk C.Clock A.Dial T.Texts)
+        to (bytes_of question.now) result office.old office.new }
+    ensures may_end { IsTrue (ask_may_end result) }
+    ensures passed_on { IsPassedOn (seeing S.Source K.Sink D.Disk C.Clock A.Dial T.Texts) result office.old office.new }
+    ensures tellable { IsTellable result }
+{
+    match query(
+        alloc,
+        rt,
+        &mut office.dial,
+        to,
+        question,
+        &mut office.wire.sink,
+    ) {
+        Ok(()) => Status::Done,
+        Err(fault) => status_of(fault),
     }
 }

@@ -3,7 +3,7 @@
 ghost use Rattle.std.specs.Prelude.{◌≡◌, All, IfOk};
 ghost use Rattle.yp_io.specs.MemDial.{IsNew};
 ghost use Rattle.yp_words.specs.Words.{disk_names, texts};
-ghost use Rattle.yp_tools.specs.Disks.{names_of};
+ghost use Rattle.yp_office.specs.Disks.{names_of};
 
 use crate::given::assert_same;
 use std::alloc::{AllocError, Global};

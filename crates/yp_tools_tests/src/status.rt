@@ -2,7 +2,7 @@
 
 ghost use Rattle.yp_board.specs.Catalogues.{name_view};
 ghost use Rattle.yp_words.specs.Words.{IsNamed};
-ghost use Rattle.yp_tools.specs.Status.{IsTellable};
+ghost use Rattle.yp_office.specs.Status.{IsTellable};
 
 use crate::given::assert_same;
 use std::alloc::Global;

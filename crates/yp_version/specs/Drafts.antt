@@ -1,5 +1,6 @@
 -- What a builder has so far, and which rows it refuses.
-use Rattle.std.specs.Prelude.{ℕ, ◌+◌, ◌^◌, ◌<◌, ◌≤◌, List, [], ◌∷◌, ◌++◌, length, fold, All, Option, Some, None, is_some, if◌then◌else◌, nat_le, nat_lt}
+use Rattle.std.specs.Prelude.{ℕ, ◌+◌, ◌^◌, ◌<◌, ◌≤◌, List, [], ◌∷◌, ◌++◌, length, fold, All, Option, Some, None}
+use Rattle.std.specs.Prelude.{is_some, if◌then◌else◌, nat_le, nat_lt}
 use Rattle.std.specs.Option.{option_map_or}
 use Rattle.yp_version.specs.Limits.{key_max, value_max, master_max, rows_max, body_max}
 use Rattle.yp_version.specs.Rows.{Row, HasDistinctKeys, value_of, padded, row_len, rows_len}

@@ -1,6 +1,7 @@
 //! Building a version row by row.
 
-ghost use Rattle.std.specs.Prelude.{◌≡◌, ◌<◌, ◌≤◌, ◌⊎◌, ◌↔◌, [], ◌∷◌, ◌++◌, length, map, IsPermutation, false, None, Some, is_none, is_some, IsTrue, IfOk, IfErr, OnOk, OnErr};
+ghost use Rattle.std.specs.Prelude.{◌≡◌, ◌<◌, ◌≤◌, ◌⊎◌, ◌↔◌, [], ◌∷◌, ◌++◌, length, map, IsPermutation, false, None};
+ghost use Rattle.std.specs.Prelude.{Some, is_none, is_some, IsTrue, IfOk, IfErr, OnOk, OnErr};
 ghost use Rattle.yp_version.specs.Limits.{key_max, value_max, master_max};
 ghost use Rattle.yp_version.specs.Rows.{value_of, listed};
 ghost use Rattle.yp_version.specs.Pair.{row_view};

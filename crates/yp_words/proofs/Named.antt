@@ -1,19 +1,24 @@
 -- The names of a command are within their limits, and the maps of a server make a catalogue.
-use Rattle.std.proofs.Common.{◌≡◌, ℕ, zero, suc, ◌+◌, ◌<◌, ◌≤◌, Bool, true, false, cond, not, ◌&&◌, ◌||◌, eqb, List, [], ◌∷◌, ◌++◌, length, map, take, drop, Option, Some, None, refl, sym, ap, ◌∙◌, subst, arith, rules, tests, length-append, append_assoc}
+use Rattle.std.proofs.Common.{◌≡◌, ℕ, zero, suc, ◌+◌, ◌<◌, ◌≤◌, Bool, true, false, cond, not, ◌&&◌, List}
+use Rattle.std.proofs.Common.{[], ◌∷◌, ◌++◌, length, map, drop, Option, Some, None, refl, sym, ap, ◌∙◌, subst}
+use Rattle.std.proofs.Common.{arith, length-append, append_assoc}
 use Rattle.std.specs.Prelude.{nat_le, nat_lt, ◌==◌, is_some, IsSome, All, filter}
 use Rattle.std.specs.List.{find, list_any, prefix_len}
-use Rattle.std.specs.Option.{option_map, option_map_or}
+use Rattle.std.specs.Option.{option_map}
 use Rattle.std.proofs.lemmas.Bool.Decides.{nat_tests}
 use Rattle.std.proofs.lemmas.List.{append-nil, map-append, take_all}
 use Rattle.std.proofs.lemmas.List.Elements.{filter-append, All-append}
 use Rattle.yp_version.specs.Limits.{key_max}
-use Rattle.yp_board.specs.Catalogues.{Name, name_max, maps_max, is_same, is_map_name, is_name as is_short_name, again_from, numbered, bad_name, twice, maps_fault, catalog_fault}
-use Rattle.yp_board.specs.declared.catalog.CatalogFault.{CatalogFault}
-use Rattle.yp_board.specs.declared.catalog.CatalogFault.TheVariants.{BadName, Twice}
-use Rattle.yp_words.specs.Forms.{Form, has_form, before, after, is_name, is_store, is_kind_store, is_text, is_key, is_host}
-use Rattle.yp_words.specs.Forms as form
-use Rattle.yp_words.specs.Words.{Meaning, Question, Further, Sentence, once, session, check, build, build_flagged, sample, cat, catk, which, poll, match_key, maps, asking, sentences, further_fitting, serving_fitting, joins, is_new_store, served, fitting, is_whole, asked, name_of, kind_of, IsNamed, IsShort, HasNames}
-use Rattle.yp_words.specs.Words as meant
+use Rattle.yp_board.specs.Catalogues.{Name, name_max, maps_max, is_same, is_map_name, is_name as is_short_name}
+use Rattle.yp_board.specs.Catalogues.{again_from, with_numbers, bad_name, twice, catalog_fault}
+use Rattle.yp_words.specs.Forms.{Form, has_form, before, after, is_name, is_store, is_kind_store, is_text, is_key}
+use Rattle.yp_words.specs.Forms.{is_host}
+use Rattle.yp_words.specs.Words.{Meaning, Further, Sentence, once, session, check, build, build_flagged, sample}
+use Rattle.yp_words.specs.Words.{match_key, maps, asking, sentences, further_fitting}
+use Rattle.yp_words.specs.Words.{serving_fitting, joins, is_new_store, served, fitting, is_whole, asked, name_of}
+use Rattle.yp_words.specs.Words.{kind_of, IsNamed, HasNames}
+use Rattle.yp_query.specs.declared.question.Question.TheVariants.{Cat, Catk, Which, Poll}
+use Rattle.yp_query.specs.Questions.{ByteQuestion, QuestionIsWithin}
 
 -- words have these forms, in turn
 HaveForms : List Form → List (List ℕ) → Type 0
@@ -35,7 +40,8 @@ fits_first : (fit : Bool) (more count : ℕ) → cond fit (more + 1) 0 ≡ count
 fits_first true more count h = (refl, omega arith)
 fits_first false more count h = absurd (omega arith)
 
-forms_fit : (forms : List Form) (further : Further) (words : List (List ℕ)) → length forms ≤ length words → fitting forms further words ≡ length words → HaveForms forms words
+forms_fit : (forms : List Form) (further : Further) (words : List (List ℕ)) → length forms ≤ length words
+    → fitting forms further words ≡ length words → HaveForms forms words
 unfolding HaveForms
 forms_fit [] further words few fit = tt
 forms_fit (form ∷ forms) further [] few fit = absurd (omega arith)
@@ -43,7 +49,8 @@ forms_fit (form ∷ forms) further (word ∷ words) few fit =
     let first = fits_first (has_form form word) (fitting forms further words) (length words) (omega (arith, fit)) in
     (first.0, forms_fit forms further words (omega arith) first.1)
 
-further_fit : (forms : List Form) (further : Further) (words : List (List ℕ)) → length forms ≤ length words → fitting forms further words ≡ length words
+further_fit : (forms : List Form) (further : Further) (words : List (List ℕ)) → length forms ≤ length words
+    → fitting forms further words ≡ length words
     → further_fitting further (drop (length forms) words) ≡ length (drop (length forms) words)
 further_fit [] further words few fit = fit
 further_fit (form ∷ forms) further [] few fit = absurd (omega arith)
@@ -59,8 +66,10 @@ record Fit (sentence : Sentence) (words : List (List ℕ)) : Type 0 where
 whole_fit : (words : List (List ℕ)) (sentence : Sentence) → is_whole words sentence ≡ true → Fit sentence words
 unfolding HaveFurther
 whole_fit words sentence whole =
-    let few_and_all = both (nat_le (length sentence.forms) (length words) && fitting sentence.forms sentence.further words == length words) _ whole in
-    let h = both (nat_le (length sentence.forms) (length words)) (fitting sentence.forms sentence.further words == length words) few_and_all.0 in
+    let few_and_all = both (nat_le (length sentence.forms) (length words)
+    && fitting sentence.forms sentence.further words == length words) _ whole in
+    let h = both (nat_le (length sentence.forms) (length words))
+    (fitting sentence.forms sentence.further words == length words) few_and_all.0 in
     let few : length sentence.forms ≤ length words = grind (arith, nat_tests) in
     let all : fitting sentence.forms sentence.further words ≡ length words = grind (arith, nat_tests) in
     record {
@@ -113,7 +122,8 @@ AreNamed : List Name → Type 0
 AreNamed [] = Unit {0}
 AreNamed (store ∷ stores) = IsNamed store × AreNamed stores
 
-maps_more : (stores : List Name) (store : Name) → AreMaps stores → is_map_name store ≡ true → AreMaps (stores ++ store ∷ [])
+maps_more : (stores : List Name) (store : Name) → AreMaps stores → is_map_name store ≡ true
+    → AreMaps (stores ++ store ∷ [])
 unfolding AreMaps
 maps_more [] store are is = (is, tt)
 maps_more (other ∷ stores) store are is = (are.0, maps_more stores store are.1 is)
@@ -133,15 +143,20 @@ all_named [] are = λ k d lt. absurd (omega arith)
 all_named (store ∷ stores) are = All-append IsNamed (store ∷ []) stores (one_named store are.0) (all_named stores are.1)
 
 -- a name that isn't among those before it
-again_more : (at : ℕ) (before names : List Name) (name : Name) → again_from at before names ≡ None → list_any (is_same name) (before ++ names) ≡ false → again_from at before (names ++ name ∷ []) ≡ None
+again_more : (at : ℕ) (before names : List Name) (name : Name) → again_from at before names ≡ None
+    → list_any (is_same name) (before ++ names) ≡ false → again_from at before (names ++ name ∷ []) ≡ None
 again_more at before [] name none new =
-    let new' : list_any (is_same name) before ≡ false = subst (λ (l : List Name). list_any (is_same name) l ≡ false) (append-nil before) new in
+    let new' : list_any (is_same name) before ≡ false =
+    subst (λ (l : List Name). list_any (is_same name) l ≡ false) (append-nil before) new in
     rw new' refl
 again_more at before (first ∷ names) name none new =
-    (elim (list_any (is_same first) before) as (λ b. cond b (Some at) (again_from (at + 1) (before ++ first ∷ []) names) ≡ None → cond b (Some at) (again_from (at + 1) (before ++ first ∷ []) (names ++ name ∷ [])) ≡ None) [
+    (elim (list_any (is_same first) before) as
+    (λ b. cond b (Some at) (again_from (at + 1) (before ++ first ∷ []) names) ≡ None
+    → cond b (Some at) (again_from (at + 1) (before ++ first ∷ []) (names ++ name ∷ [])) ≡ None) [
       | true ↦ λ e. absurd cc
       | false ↦ λ e. again_more (at + 1) (before ++ first ∷ []) names name e
-          (subst (λ (l : List Name). list_any (is_same name) l ≡ false) (sym (append_assoc before (first ∷ []) names)) new)
+          (subst (λ (l : List Name). list_any (is_same name) l ≡ false)
+          (sym (append_assoc before (first ∷ []) names)) new)
     ]) none
 
 -- maps that make a catalogue
@@ -155,7 +170,8 @@ no_maps : AreGood []
 unfolding AreMaps AreNamed
 no_maps = record { each = tt; named = tt; distinct = refl; few = omega arith }
 
-good_more : (stores : List Name) (store : Name) → AreGood stores → IsNamed store → is_map_name store ≡ true → is_new_store stores store ≡ true → AreGood (stores ++ store ∷ [])
+good_more : (stores : List Name) (store : Name) → AreGood stores → IsNamed store → is_map_name store ≡ true
+    → is_new_store stores store ≡ true → AreGood (stores ++ store ∷ [])
 good_more stores store good named is new =
     let parts = both (not (list_any (is_same store) stores)) (nat_lt (length stores) maps_max) new in
     let other : list_any (is_same store) stores ≡ false = grind (arith, nat_tests) in
@@ -167,43 +183,55 @@ good_more stores store good named is new =
       few = omega (arith, length-append stores (store ∷ []));
     }
 
-served_behind : (earlier : List (List ℕ)) (word : List ℕ) (b : Bool) → is_store word ≡ b → served (earlier ++ word ∷ []) ≡ served earlier ++ cond b (name_of word ∷ []) []
+served_behind : (earlier : List (List ℕ)) (word : List ℕ) (b : Bool) → is_store word ≡ b
+    → served (earlier ++ word ∷ []) ≡ served earlier ++ cond b (name_of word ∷ []) []
 served_behind earlier word true is =
-    ap (λ (l : List (List ℕ)). map name_of l) (filter-append is_store earlier (word ∷ [])) ∙ map-append name_of (filter is_store earlier) (filter is_store (word ∷ []))
+    ap (λ (l : List (List ℕ)). map name_of l) (filter-append is_store earlier (word ∷ []))
+    ∙ map-append name_of (filter is_store earlier) (filter is_store (word ∷ []))
     ∙ ap (λ (b : Bool). served earlier ++ map name_of (cond b (word ∷ []) [])) is
 served_behind earlier word false is =
-    ap (λ (l : List (List ℕ)). map name_of l) (filter-append is_store earlier (word ∷ [])) ∙ map-append name_of (filter is_store earlier) (filter is_store (word ∷ []))
+    ap (λ (l : List (List ℕ)). map name_of l) (filter-append is_store earlier (word ∷ []))
+    ∙ map-append name_of (filter is_store earlier) (filter is_store (word ∷ []))
     ∙ ap (λ (b : Bool). served earlier ++ map name_of (cond b (word ∷ []) [])) is
 
-joined_good : (earlier : List (List ℕ)) (word : List ℕ) (b : Bool) → is_store word ≡ b → AreGood (served earlier) → cond b (is_new_store (served earlier) (name_of word)) (is_host word) ≡ true
+joined_good : (earlier : List (List ℕ)) (word : List ℕ) (b : Bool) → is_store word ≡ b → AreGood (served earlier)
+    → cond b (is_new_store (served earlier) (name_of word)) (is_host word) ≡ true
     → AreGood (served (earlier ++ word ∷ []))
 joined_good earlier word true is good joins =
-    subst AreGood (sym (served_behind earlier word true is)) (good_more (served earlier) (name_of word) good (store_named word is) (store_mapped word is) joins)
+    subst AreGood (sym (served_behind earlier word true is))
+    (good_more (served earlier) (name_of word) good (store_named word is) (store_mapped word is) joins)
 joined_good earlier word false is good joins =
     subst AreGood (sym (served_behind earlier word false is ∙ append-nil (served earlier))) good
 
-served_good : (earlier words : List (List ℕ)) → AreGood (served earlier) → serving_fitting earlier words ≡ length words → AreGood (served (earlier ++ words))
+served_good : (earlier words : List (List ℕ)) → AreGood (served earlier)
+    → serving_fitting earlier words ≡ length words → AreGood (served (earlier ++ words))
 served_good earlier [] good fit = subst (λ (l : List (List ℕ)). AreGood (served l)) (sym (append-nil earlier)) good
 served_good earlier (word ∷ words) good fit =
-    let first = fits_first (joins earlier word) (serving_fitting (earlier ++ word ∷ []) words) (length words) (omega (arith, fit)) in
+    let first = fits_first (joins earlier word) (serving_fitting (earlier ++ word ∷ []) words) (length words)
+    (omega (arith, fit)) in
     let more = joined_good earlier word (is_store word) refl good first.0 in
-    subst (λ (l : List (List ℕ)). AreGood (served l)) (append_assoc earlier (word ∷ []) words) (served_good (earlier ++ word ∷ []) words more first.1)
+    subst (λ (l : List (List ℕ)). AreGood (served l)) (append_assoc earlier (word ∷ []) words)
+    (served_good (earlier ++ word ∷ []) words more first.1)
 
 none_at : (n len : ℕ) → n ≡ len → cond (nat_lt n len) (Some n) None ≡ None
 none_at n len e = grind (arith, nat_tests)
 
-none_bad : (stores : List Name) → AreMaps stores → prefix_len (λ store. not (not (is_map_name store))) stores ≡ length stores
+none_bad : (stores : List Name) → AreMaps stores
+    → prefix_len (λ store. not (not (is_map_name store))) stores ≡ length stores
 unfolding AreMaps
 none_bad [] are = refl
 none_bad (store ∷ stores) are =
     rw are.0 (omega (arith, none_bad stores are.1))
 
-good_catalogue : (own : List ℕ) (stores : List Name) → is_short_name own ≡ true → AreGood stores → catalog_fault own stores ≡ None
+good_catalogue : (own : List ℕ) (stores : List Name) → is_short_name own ≡ true → AreGood stores
+    → catalog_fault own stores ≡ None
 good_catalogue own stores short good =
-    let all : numbered stores ≡ stores = take_all 4294967296 stores (omega (arith, good.few)) in
+    let all : with_numbers stores ≡ stores = take_all 4294967296 stores (omega (arith, good.few)) in
     let bad : bad_name stores ≡ None =
-    ap (λ (l : List Name). cond (nat_lt (prefix_len (λ store. not (not (is_map_name store))) l) (length l)) (Some (prefix_len (λ store. not (not (is_map_name store))) l)) None) all
-    ∙ none_at (prefix_len (λ store. not (not (is_map_name store))) stores) (length stores) (none_bad stores good.each) in
+    ap (λ (l : List Name). cond (nat_lt (prefix_len (λ store. not (not (is_map_name store))) l) (length l))
+    (Some (prefix_len (λ store. not (not (is_map_name store))) l)) None) all
+    ∙ none_at (prefix_len (λ store. not (not (is_map_name store))) stores) (length stores)
+    (none_bad stores good.each) in
     let once : twice stores ≡ None = ap (again_from 0 []) all ∙ good.distinct in
     let few : nat_lt maps_max (length stores) ≡ false = grind (arith, nat_tests) in
     rw (short, bad, once, few) refl
@@ -222,8 +250,13 @@ session_named [] h = absurd h.forms
 session_named (first ∷ []) h = absurd h.forms.1
 session_named (first ∷ name ∷ []) h = absurd h.forms.1.1
 session_named (first ∷ name ∷ address ∷ more) h =
-    let good : AreGood (served more) = served_good [] more no_maps h.further in
-    (good_catalogue name (served more) (name_some name h.forms.1.0) good, all_named (served more) good.named, name_short name h.forms.1.0, good.few)
+    let good : AreGood (served more) = served_good [] more no_maps h.further in (
+      good_catalogue name (served more) (name_some name h.forms.1.0) good,
+      all_named
+          (served more) good.named,
+      name_short name h.forms.1.0,
+      good.few,
+    )
 
 check_named : (words : List (List ℕ)) → Fit check words → HasNames (check.asks words)
 unfolding HaveForms
@@ -253,8 +286,10 @@ sample_named : (words : List (List ℕ)) → Fit sample words → HasNames (samp
 sample_named words h = tt
 
 -- a domain and a map of a question
-asked_short : (word : List ℕ) (question : List ℕ → List ℕ → Question) (words : List (List ℕ)) → Fit (asking word question) words
-    → ((domain map : List ℕ) → IsNamed (domain, map) → IsShort (question domain map)) → HasNames ((asking word question).asks words)
+asked_short : (word : List ℕ) (question : List ℕ → List ℕ → ByteQuestion) (words : List (List ℕ))
+    → Fit (asking word question) words
+    → ((domain map : List ℕ) → IsNamed (domain, map) → QuestionIsWithin (question domain map))
+    → HasNames ((asking word question).asks words)
 unfolding HaveForms
 asked_short word question [] h short = absurd h.forms
 asked_short word question (first ∷ []) h short = absurd h.forms.1
@@ -271,7 +306,7 @@ match_named (first ∷ address ∷ []) h = absurd h.forms.1.1
 match_named (first ∷ address ∷ domain ∷ []) h = absurd h.forms.1.1.1
 match_named (first ∷ address ∷ domain ∷ map ∷ []) h = absurd h.forms.1.1.1.1
 match_named (first ∷ address ∷ domain ∷ map ∷ key ∷ more) h =
-    ((text_short domain h.forms.1.1.0, text_short map h.forms.1.1.1.0), key_short key h.forms.1.1.1.1.0)
+    (text_short domain h.forms.1.1.0, text_short map h.forms.1.1.1.0, key_short key h.forms.1.1.1.1.0)
 
 maps_named : (words : List (List ℕ)) → Fit maps words → HasNames (maps.asks words)
 unfolding HaveForms
@@ -283,9 +318,11 @@ maps_named (first ∷ address ∷ domain ∷ more) h = text_short domain h.forms
 -- each of these sentences asks for a command with such names
 AllNamed : List Sentence → Type 0
 AllNamed [] = Unit {0}
-AllNamed (sentence ∷ rows) = ((words : List (List ℕ)) → Fit sentence words → HasNames (sentence.asks words)) × AllNamed rows
+AllNamed (sentence ∷ rows) =
+    ((words : List (List ℕ)) → Fit sentence words → HasNames (sentence.asks words)) × AllNamed rows
 
-found_named : (sentence : Sentence) (words : List (List ℕ)) (rest : Option Sentence) (meaning : Meaning) (b : Bool) → is_whole words sentence ≡ b
+found_named : (sentence : Sentence) (words : List (List ℕ)) (rest : Option Sentence) (meaning : Meaning) (b : Bool)
+    → is_whole words sentence ≡ b
     → ((words : List (List ℕ)) → Fit sentence words → HasNames (sentence.asks words))
     → (option_map (λ row. row.asks words) rest ≡ Some meaning → HasNames meaning)
     → option_map (λ (row : Sentence). row.asks words) (cond b (Some sentence) rest) ≡ Some meaning → HasNames meaning
@@ -294,11 +331,13 @@ found_named sentence words rest meaning true is here later e =
     subst HasNames same (here words (whole_fit words sentence is))
 found_named sentence words rest meaning false is here later e = later e
 
-rows_named : (rows : List Sentence) → AllNamed rows → (words : List (List ℕ)) (meaning : Meaning) → asked rows words ≡ Some meaning → HasNames meaning
+rows_named : (rows : List Sentence) → AllNamed rows → (words : List (List ℕ)) (meaning : Meaning)
+    → asked rows words ≡ Some meaning → HasNames meaning
 unfolding AllNamed
 rows_named [] each words meaning e = absurd cc
 rows_named (sentence ∷ rows) each words meaning e =
-    found_named sentence words (find (is_whole words) rows) meaning (is_whole words sentence) refl each.0 (rows_named rows each.1 words meaning) e
+    found_named sentence words (find (is_whole words) rows) meaning (is_whole words sentence) refl each.0
+    (rows_named rows each.1 words meaning) e
 
 -- what the words ask for has such names
 pub asked_named : (words : List (List ℕ)) (meaning : Meaning) → asked sentences words ≡ Some meaning → HasNames meaning
@@ -316,13 +355,13 @@ asked_named words meaning e = rows_named sentences (
           (
             sample_named,
             (
-              λ given fit. asked_short _ meant.Cat given fit (λ domain map short. short),
+              λ given fit. asked_short _ Cat given fit (λ domain map short. short),
               (
-                λ given fit. asked_short _ meant.Catk given fit (λ domain map short. short),
+                λ given fit. asked_short _ Catk given fit (λ domain map short. short),
                 (
-                  λ given fit. asked_short _ meant.Which given fit (λ domain map short. short),
+                  λ given fit. asked_short _ Which given fit (λ domain map short. short),
                   (
-                    λ given fit. asked_short _ meant.Poll given fit (λ domain map short. short),
+                    λ given fit. asked_short _ Poll given fit (λ domain map short. short),
                     (match_named, (maps_named, tt)),
                   ),
                 ),

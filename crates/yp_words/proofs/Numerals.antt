@@ -8,16 +8,19 @@ use Rattle.std.proofs.lemmas.Slice.Eq.{bytes_eq-Decides}
 use Rattle.yp_words.specs.Forms.{is_number, number_of}
 
 -- a number's decimal
-pub number_yes : {E : Type 0} (word : List ℕ) (r : Result ℕ E) (n : ℕ) → ParsesUnsigned 32 10 word r → r ≡ Ok n → decimal n ≡ word → number_of word ≡ Some n
+pub number_yes : {E : Type 0} (word : List ℕ) (r : Result ℕ E) (n : ℕ) → ParsesUnsigned 32 10 word r → r ≡ Ok n
+    → decimal n ≡ word → number_of word ≡ Some n
 number_yes {E} word r n parses is e =
     let P : Result ℕ E → Type 0 = λ r. ParsesUnsigned {E = E} 32 10 word r in
     let read : ParsesUnsigned {E = E} 32 10 word (Ok n) = subst P is parses in
     let small : n < 2 ^ 32 = omega (arith, read.0.1, read.1) in
-    let value : digits_value 10 word ≡ n = ap (digits_value 10) (sym e) ∙ (decimal_is_IsNumeral n (omega (arith, small))).1 in
+    let value : digits_value 10 word ≡ n =
+    ap (digits_value 10) (sym e) ∙ (decimal_is_IsNumeral n (omega (arith, small))).1 in
     rw (value, lt-ltb n (2 ^ 32) small, (bytes_eq-Decides (decimal n) word).1 e) refl
 
 -- and nothing else
-pub number_no : {E : Type 0} (word : List ℕ) (r : Result ℕ E) → ParsesUnsigned 32 10 word r → ((n : ℕ) → r ≡ Ok n → decimal n ≡ word → ⊥) → number_of word ≡ None
+pub number_no : {E : Type 0} (word : List ℕ) (r : Result ℕ E) → ParsesUnsigned 32 10 word r
+    → ((n : ℕ) → r ≡ Ok n → decimal n ≡ word → ⊥) → number_of word ≡ None
 number_no word r parses never =
     elim (cases_Bool (is_number word)) [
       | inl all ↦

@@ -1,5 +1,6 @@
 -- The forms of the words of the command line.
-use Rattle.std.specs.Prelude.{ℕ, ◌^◌, Bool, not, ◌&&◌, ◌||◌, nat_lt, nat_le, ◌==◌, if◌then◌else◌, List, [], ◌∷◌, length, slice_index_or, Option, Some, None, is_some, option_and_then, codes, decimal}
+use Rattle.std.specs.Prelude.{ℕ, ◌^◌, Bool, not, ◌&&◌, ◌||◌, nat_lt, nat_le, ◌==◌, if◌then◌else◌, List, [], ◌∷◌}
+use Rattle.std.specs.Prelude.{length, slice_index_or, Option, Some, None, is_some, option_and_then, codes, decimal}
 use Rattle.std.specs.List.{list_all, find, before_first, after_first}
 use Rattle.std.specs.Str.{bytes_eq}
 use Rattle.std.specs.Str.Parse.{digits_value}
@@ -20,7 +21,8 @@ is_name_byte c = nat_le 0x21 c && nat_le c 0x7e && not (c == 47) && not (c == 64
 
 -- a name: 1 to 64 such bytes, the first of which is no dot
 abbrev pub is_name : List ℕ → Bool
-is_name word = nat_le 1 (length word) && nat_le (length word) name_max && not (slice_index_or word 0 0 == 46) && list_all is_name_byte word
+is_name word = nat_le 1 (length word) && nat_le (length word) name_max && not (slice_index_or word 0 0 == 46)
+    && list_all is_name_byte word
 
 -- what stands before and after the first such byte
 abbrev pub before : ℕ → List ℕ → List ℕ
@@ -40,7 +42,8 @@ is_kind_store word = is_store word && is_some (find (λ kind. bytes_eq (kind_nam
 -- a row: a key, which isn't empty, and its value behind the first equals sign
 abbrev pub is_row : List ℕ → Bool
 is_row word =
-    nat_lt (length (before 61 word)) (length word) && nat_le 1 (length (before 61 word)) && nat_le (length (before 61 word)) key_max && nat_le (length (after 61 word)) value_max
+    nat_lt (length (before 61 word)) (length word) && nat_le 1 (length (before 61 word))
+    && nat_le (length (before 61 word)) key_max && nat_le (length (after 61 word)) value_max
 
 -- a number of 32 bits in decimal, without a sign and without zeros in front
 abbrev pub is_number : List ℕ → Bool
@@ -54,7 +57,8 @@ abbrev pub octet_of : List ℕ → Option ℕ
 octet_of word = if is_number word && nat_le (digits_value 10 word) 255 then Some (digits_value 10 word) else None
 
 abbrev pub port_of : List ℕ → Option ℕ
-port_of word = if is_number word && nat_le 1 (digits_value 10 word) && nat_le (digits_value 10 word) 65535 then Some (digits_value 10 word) else None
+port_of word = if is_number word && nat_le 1 (digits_value 10 word)
+    && nat_le (digits_value 10 word) 65535 then Some (digits_value 10 word) else None
 
 -- an address: four numbers of a byte with dots between, a colon and a port
 abbrev pub address_of : List ℕ → Option Peer

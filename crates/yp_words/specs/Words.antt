@@ -1,15 +1,18 @@
 -- The command line: sentences made of words.
-use Rattle.std.specs.Prelude.{◌≡◌, ℕ, ◌+◌, ◌≤◌, Bool, true, not, nat_le, nat_lt, bytes_eq, IsSome, ⊤, ◌&&◌, ◌==◌, max, if◌then◌else◌, List, [], ◌∷◌, ◌++◌, All, length, drop, map, filter, fold, slice_index_or, Option, Some, None, unwrap_or, Result, Ok, Err, codes, string_bytes}
+use Rattle.std.specs.Prelude.{◌≡◌, ℕ, ◌+◌, ◌≤◌, Bool, true, not, nat_le, nat_lt, bytes_eq, IsSome, ⊤, ◌&&◌, ◌==◌, max}
+use Rattle.std.specs.Prelude.{if◌then◌else◌, List, [], ◌∷◌, ◌++◌, All, length, drop, map, filter, fold}
+use Rattle.std.specs.Prelude.{slice_index_or, Option, Some, None, unwrap_or, Result, Ok, Err, codes, string_bytes}
 use Rattle.std.specs.List.{find, list_any}
 use Rattle.std.specs.Option.{option_map, ok_or}
 use Rattle.std.specs.declared.string.String.{String}
 use Rattle.std.specs.declared.alloc.Global.{Global}
 use Rattle.yp_version.specs.Rows.{Row}
 use Rattle.yp_io.specs.declared.stream.Peer.{Peer}
-use Rattle.yp_version.specs.Limits.{key_max}
 use Rattle.yp_board.specs.Catalogues.{Name, name_max, maps_max, name_view, is_same, catalog_fault}
 use Rattle.yp_build.specs.declared.kind.Kind.{Kind}
 use Rattle.yp_build.specs.Kinds.{kinds, name_of as kind_name}
+use Rattle.yp_query.specs.declared.question.Question.TheVariants.{Cat, Catk, Match, Which, Poll, Maps}
+use Rattle.yp_query.specs.Questions.{ByteQuestion, bytes_of, question_map, QuestionIsWithin}
 use Rattle.yp_words.specs.declared.command.KeyValue.{KeyValue}
 use Rattle.yp_words.specs.declared.command.HostWord.{HostWord}
 use Rattle.yp_words.specs.declared.command.Command.{Command}
@@ -21,24 +24,11 @@ use Rattle.yp_words.specs.declared.sentence.Task.{Task}
 use Rattle.yp_words.specs.declared.sentence.Task.TheVariants as task
 use Rattle.yp_words.specs.declared.words.ParseFault.{ParseFault}
 use Rattle.yp_words.specs.declared.words.ParseFault.TheVariants.{Usage, NoMemory}
-use Rattle.yp_words.specs.Forms.{Form, has_form, form_view, before, after, number_of, is_store, is_host, address_of, is_secure}
+use Rattle.yp_words.specs.Forms.{Form, has_form, form_view, before, after, number_of, is_store, is_host, address_of}
+use Rattle.yp_words.specs.Forms.{is_secure}
 use Rattle.yp_words.specs.Forms as form
 
 -- ---- what words mean
-
--- what a client asks of a server: of a domain, and mostly of one of its maps
-pub data Question : Type 0 where
-  -- the values of all rows, and the keys with them
-  Cat : (domain map : List ℕ) → Question
-  Catk : (domain map : List ℕ) → Question
-  -- the value of a key
-  Match : (domain map key : List ℕ) → Question
-  -- the master
-  Which : (domain map : List ℕ) → Question
-  -- the order, and the master
-  Poll : (domain map : List ℕ) → Question
-  -- the maps
-  Maps : (domain : List ℕ) → Question
 
 -- a host: its name and its address
 abbrev pub Host : Type 0
@@ -54,7 +44,7 @@ pub data Meaning : Type 0 where
   Build : (name : List ℕ) (store : Name) (flag : Option Bool) → Meaning
   Sample : (start count : ℕ) → Meaning
   -- a server, and what it is asked
-  Ask : (peer : Peer) (question : Question) → Meaning
+  Ask : (peer : Peer) (question : ByteQuestion) → Meaning
 
 -- the name of a map, of a word
 abbrev pub name_of : List ℕ → Name
@@ -151,7 +141,7 @@ sample = record {
 }
 
 -- a question to a server, of a map
-abbrev pub asking : List ℕ → (List ℕ → List ℕ → Question) → Sentence
+abbrev pub asking : List ℕ → (List ℕ → List ℕ → ByteQuestion) → Sentence
 asking word question = record {
   forms = form.Exactly word ∷ form.Address ∷ form.Text ∷ form.Text ∷ [];
   further = NoMore;
@@ -203,7 +193,8 @@ joins earlier word = if is_store word then is_new_store (served earlier) (name_o
 -- how many words at the front may stand behind these as maps and hosts
 abbrev pub serving_fitting : List (List ℕ) → List (List ℕ) → ℕ
 serving_fitting earlier [] = 0
-serving_fitting earlier (word ∷ words) = if joins earlier word then serving_fitting (earlier ++ word ∷ []) words + 1 else 0
+serving_fitting earlier (word ∷ words) =
+    if joins earlier word then serving_fitting (earlier ++ word ∷ []) words + 1 else 0
 
 -- how many words at the front are further ones
 abbrev pub further_fitting : Further → List (List ℕ) → ℕ
@@ -236,7 +227,8 @@ is_whole words sentence =
 abbrev pub asked : List Sentence → List (List ℕ) → Option Meaning
 asked rows words = option_map (λ sentence. sentence.asks words) (find (is_whole words) rows)
 
--- the first word that none of these sentences with the words before it has, or the number of words where they end too early
+-- the first word that none of these sentences with the words before it has, or the number of words where they end too
+-- early
 abbrev pub wrong_word : List Sentence → List (List ℕ) → ℕ
 wrong_word rows words = fold max 0 (map (fits_to words) rows)
 
@@ -278,12 +270,7 @@ meaning (command.Session name addr stores hosts) =
 meaning (command.Check store) = Check (name_view store)
 meaning (command.Build name store flag) = Build name.items (name_view store) flag
 meaning (command.Sample start count) = Sample start count
-meaning (command.Cat addr domain map) = Ask addr (Cat domain.items map.items)
-meaning (command.Catk addr domain map) = Ask addr (Catk domain.items map.items)
-meaning (command.Match addr domain map key) = Ask addr (Match domain.items map.items key.items)
-meaning (command.Which addr domain map) = Ask addr (Which domain.items map.items)
-meaning (command.Poll addr domain map) = Ask addr (Poll domain.items map.items)
-meaning (command.Maps addr domain) = Ask addr (Maps domain.items)
+meaning (command.Ask addr question) = Ask addr (bytes_of question)
 
 -- the bytes of each word
 abbrev pub texts : List (String Global) → List (List ℕ)
@@ -297,12 +284,8 @@ asks_of task.Check = check.asks
 asks_of task.Build = build.asks
 asks_of task.BuildFlagged = build_flagged.asks
 asks_of task.Sample = sample.asks
-asks_of task.Cat = cat.asks
-asks_of task.Catk = catk.asks
-asks_of task.Which = which.asks
-asks_of task.Poll = poll.asks
-asks_of task.Match = match_key.asks
-asks_of task.Maps = maps.asks
+asks_of (task.Ask question) =
+    λ words. Ask (peer_of (word_at 1 words)) (question_map (λ at. word_at at words) question)
 
 -- the further words that a `Further` of the code stands for
 abbrev pub further_view : CodeFurther → Further
@@ -324,15 +307,6 @@ sentence_view row = record {
 abbrev pub IsNamed : Name → Type 0
 IsNamed store = (length store.0 ≤ name_max) × (length store.1 ≤ name_max)
 
--- each name of a question is within its limit, and a key is
-abbrev pub IsShort : Question → Type 0
-IsShort (Cat domain map) = IsNamed (domain, map)
-IsShort (Catk domain map) = IsNamed (domain, map)
-IsShort (Match domain map key) = IsNamed (domain, map) × (length key ≤ key_max)
-IsShort (Which domain map) = IsNamed (domain, map)
-IsShort (Poll domain map) = IsNamed (domain, map)
-IsShort (Maps domain) = length domain ≤ name_max
-
 -- each name of a command is within its limit, and a map that is built has a kind
 abbrev pub HasNames : Meaning → Type 0
 HasNames (Once store rows) = IsNamed store
@@ -341,7 +315,7 @@ HasNames (Session own peer stores hosts) =
 HasNames (Check store) = IsNamed store
 HasNames (Build name store flag) = (length name ≤ name_max) × IsNamed store × IsSome (kind_of store)
 HasNames (Sample start count) = ⊤
-HasNames (Ask peer question) = IsShort question
+HasNames (Ask peer question) = QuestionIsWithin question
 
 -- ---- refusals
 

@@ -2,6 +2,7 @@
 
 use yp_board::MapName;
 use yp_io::Peer;
+use yp_query::Question;
 
 /// A row that the words give.
 #[derive(Debug, Drop)]
@@ -49,40 +50,9 @@ pub enum Command {
         start: u32,
         count: u32,
     },
-    /// Asks the server at `addr` for the values of all rows of a map.
-    Cat {
+    /// Asks the server at `addr` a question.
+    Ask {
         addr: Peer,
-        domain: Vec<u8>,
-        map: Vec<u8>,
-    },
-    /// Asks it for all rows of a map: keys and values.
-    Catk {
-        addr: Peer,
-        domain: Vec<u8>,
-        map: Vec<u8>,
-    },
-    /// Asks it for the value of a key.
-    Match {
-        addr: Peer,
-        domain: Vec<u8>,
-        map: Vec<u8>,
-        key: Vec<u8>,
-    },
-    /// Asks it for the master of a map.
-    Which {
-        addr: Peer,
-        domain: Vec<u8>,
-        map: Vec<u8>,
-    },
-    /// Asks it for the order of a map, and for its master.
-    Poll {
-        addr: Peer,
-        domain: Vec<u8>,
-        map: Vec<u8>,
-    },
-    /// Asks it for the maps of a domain.
-    Maps {
-        addr: Peer,
-        domain: Vec<u8>,
+        question: Question<Vec<u8>>,
     },
 }

@@ -2,7 +2,9 @@
 
 ghost use Rattle.std.specs.Prelude.{◌≡◌, ◌<◌, ◌≤◌};
 ghost use Rattle.std.specs.List.{list_all};
-ghost use Rattle.yp_words.specs.Forms.{is_name_byte, is_name, is_store, is_kind_store, is_row, number_of, octet_of, port_of, address_of, is_host, is_text, is_key, before, after, has_form, form_view};
+ghost use Rattle.yp_words.specs.Forms.{is_name_byte, is_name, is_store, is_kind_store, is_row, number_of, octet_of};
+ghost use Rattle.yp_words.specs.Forms.{port_of, address_of, is_host, is_text, is_key, before, after, has_form};
+ghost use Rattle.yp_words.specs.Forms.{form_view};
 
 use yp_board::NAME_MAX;
 use yp_build::Kind;

@@ -1,6 +1,7 @@
 //! The words of the command line: what they ask for, or the first that is wrong.
 //!
-//! The sentences are a table, and one reader judges the words by it. The promise stands on [`parse`]; which maps' files a
+//! The sentences are a table, and one reader judges the words by it. The promise stands on [`parse`]; which maps' files
+//! a
 //! command reads or writes, on [`disk_names`].
 #![tactic(auto)]
 
@@ -11,4 +12,4 @@ mod serving;
 mod words;
 
 pub use command::{Command, HostWord, KeyValue};
-pub use words::{ParseFault, disk_names, parse};
+pub use words::{ParseFault, disk_names, parse, stores_of};

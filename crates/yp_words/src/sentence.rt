@@ -3,10 +3,13 @@
 ghost use Rattle.std.specs.Prelude.{◌≡◌, ◌≤◌, [], length, map};
 ghost use Rattle.std.specs.Option.{option_map};
 ghost use Rattle.yp_words.specs.Forms.{form_view};
-ghost use Rattle.yp_words.specs.Words.{sentences, fits_to, fitting, each_fitting, serving_fitting, further_fitting, further_view, has_enough, joins, is_whole, asked, wrong_word, asks_of, sentence_view, texts};
+ghost use Rattle.yp_words.specs.Words.{sentences, fits_to, fitting, each_fitting, serving_fitting, further_fitting};
+ghost use Rattle.yp_words.specs.Words.{further_view, has_enough, joins, is_whole, asked, wrong_word, asks_of};
+ghost use Rattle.yp_words.specs.Words.{sentence_view, texts};
 
 use crate::form::Form;
 use crate::serving::{has_store, joins};
+use yp_query::Question;
 
 /// What the words of a sentence ask for.
 #[derive(Clone, Copy)]
@@ -17,12 +20,9 @@ pub enum Task {
     Build,
     BuildFlagged,
     Sample,
-    Cat,
-    Catk,
-    Which,
-    Poll,
-    Match,
-    Maps,
+    /// A question to the server that the word behind the first names. The numbers are those of the words that it is
+    /// made of, counted from 0.
+    Ask(Question<usize>),
 }
 
 /// The words behind those whose forms a sentence lists.
@@ -84,17 +84,17 @@ const SENTENCES: [Sentence; 12] = [
         further: Further::NoMore,
     },
     Sentence {
-        task: Task::Cat,
+        task: Task::Ask(Question::Cat { domain: 2, map: 3 }),
         forms: &[Form::Exactly("cat"), Form::Address, Form::Text, Form::Text],
         further: Further::NoMore,
     },
     Sentence {
-        task: Task::Catk,
+        task: Task::Ask(Question::Catk { domain: 2, map: 3 }),
         forms: &[Form::Exactly("catk"), Form::Address, Form::Text, Form::Text],
         further: Further::NoMore,
     },
     Sentence {
-        task: Task::Which,
+        task: Task::Ask(Question::Which { domain: 2, map: 3 }),
         forms: &[
             Form::Exactly("which"),
             Form::Address,
@@ -104,12 +104,16 @@ const SENTENCES: [Sentence; 12] = [
         further: Further::NoMore,
     },
     Sentence {
-        task: Task::Poll,
+        task: Task::Ask(Question::Poll { domain: 2, map: 3 }),
         forms: &[Form::Exactly("poll"), Form::Address, Form::Text, Form::Text],
         further: Further::NoMore,
     },
     Sentence {
-        task: Task::Match,
+        task: Task::Ask(Question::Match {
+            domain: 2,
+            map: 3,
+            key: 4,
+        }),
         forms: &[
             Form::Exactly("match"),
             Form::Address,
@@ -120,7 +124,7 @@ const SENTENCES: [Sentence; 12] = [
         further: Further::NoMore,
     },
     Sentence {
-        task: Task::Maps,
+        task: Task::Ask(Question::Maps { domain: 2 }),
         forms: &[Form::Exactly("maps"), Form::Address, Form::Text],
         further: Further::NoMore,
     },
@@ -211,7 +215,8 @@ impl Sentence {
 
 /// The task of the first of these sentences that the words are.
 fn whole_of(sentences: &[Sentence], words: &[String]) -> Option<Task>
-    ensures { option_map (λ task. asks_of task (texts words.now)) result ≡ asked (map sentence_view sentences.now) (texts words.now) }
+    ensures { option_map (λ task. asks_of task (texts words.now)) result
+        ≡ asked (map sentence_view sentences.now) (texts words.now) }
 {
     for sentence in sentences {
         if sentence.is_whole(words) {

@@ -1,15 +1,20 @@
 //! The words of the command line.
 
-ghost use Rattle.std.specs.Prelude.{◌≡◌, drop, map, Ok, IfOk, IfErr, OnErr};
+ghost use Rattle.std.specs.Prelude.{◌≡◌, [], ◌∷◌, drop, map, Ok, IfOk, IfErr, OnErr};
 ghost use Rattle.yp_board.specs.Catalogues.{name_view};
-ghost use Rattle.yp_words.specs.Words.{name_of, row_of, value_of, peer_of, host_of, served, known, word_at, command_of, disk_names, stores_of, row_view, host_view, meaning, texts, asks_of, once, session, check, sample, match_key, maps, Build, TakesMemory, IsSentenceOfWords, IsUsage, HasNames};
+ghost use Rattle.yp_query.specs.Questions.{bytes_of, question_map};
+ghost use Rattle.yp_words.specs.Words.{name_of, row_of, value_of, peer_of, host_of, served, known, word_at};
+ghost use Rattle.yp_words.specs.Words.{command_of, disk_names, stores_of, row_view, host_view, meaning, texts};
+ghost use Rattle.yp_words.specs.Words.{asks_of, once, session, check, sample, Build, TakesMemory, IsSentenceOfWords};
+ghost use Rattle.yp_words.specs.Words.{IsUsage, HasNames};
 
 use crate::command::{Command, HostWord, KeyValue};
 use crate::form::{SECURE, address_of, cut_at, is_host, is_store, number_of};
 use crate::sentence::{Task, task_of, wrong_word};
 use std::alloc::{AllocError, Global};
-use yp_board::MapName;
+use yp_board::{MapName, copy_names};
 use yp_io::{NoMemory, Peer};
+use yp_query::Question;
 
 /// Why the words are no command.
 #[derive(Clone, Copy, Debug, PartialEq, Eq)]
@@ -180,43 +185,49 @@ fn text_at(alloc: Global, words: &[String], at: usize) -> Result<Vec<u8>, AllocE
     Vec::from_slice(alloc, word_at(words, at).as_bytes())
 }
 
-fn match_of(alloc: Global, words: &[String]) -> Result<Command, AllocError>
-    ensures { IfOk result (λ command. meaning command ≡ match_key.asks (texts words.now)) }
+/// The question that these words are made to.
+fn question_of(
+    alloc: Global,
+    question: Question<usize>,
+    words: &[String],
+) -> Result<Question<Vec<u8>>, AllocError>
+    ensures { IfOk result (λ asked.
+        bytes_of asked ≡ question_map (λ at. word_at at (texts words.now)) question) }
 {
-    Ok(Command::Match {
-        addr: peer_of(word_at(words, 1)),
-        domain: text_at(alloc, words, 2)?,
-        map: text_at(alloc, words, 3)?,
-        key: text_at(alloc, words, 4)?,
+    Ok(match question {
+        Question::Cat { domain, map } => Question::Cat {
+            domain: text_at(alloc, words, domain)?,
+            map: text_at(alloc, words, map)?,
+        },
+        Question::Catk { domain, map } => Question::Catk {
+            domain: text_at(alloc, words, domain)?,
+            map: text_at(alloc, words, map)?,
+        },
+        Question::Match { domain, map, key } => Question::Match {
+            domain: text_at(alloc, words, domain)?,
+            map: text_at(alloc, words, map)?,
+            key: text_at(alloc, words, key)?,
+        },
+        Question::Which { domain, map } => Question::Which {
+            domain: text_at(alloc, words, domain)?,
+            map: text_at(alloc, words, map)?,
+        },
+        Question::Poll { domain, map } => Question::Poll {
+            domain: text_at(alloc, words, domain)?,
+            map: text_at(alloc, words, map)?,
+        },
+        Question::Maps { domain } => Question::Maps {
+            domain: text_at(alloc, words, domain)?,
+        },
     })
 }
 
-fn maps_of(alloc: Global, words: &[String]) -> Result<Command, AllocError>
-    ensures { IfOk result (λ command. meaning command ≡ maps.asks (texts words.now)) }
+fn ask_of(alloc: Global, question: Question<usize>, words: &[String]) -> Result<Command, AllocError>
+    ensures { IfOk result (λ command. meaning command ≡ asks_of (Task.Ask question) (texts words.now)) }
 {
-    Ok(Command::Maps {
+    Ok(Command::Ask {
         addr: peer_of(word_at(words, 1)),
-        domain: text_at(alloc, words, 2)?,
-    })
-}
-
-/// A server, and the map that it is asked for.
-#[derive(Drop)]
-struct Asked {
-    addr: Peer,
-    domain: Vec<u8>,
-    map: Vec<u8>,
-}
-
-fn asked_of(alloc: Global, words: &[String]) -> Result<Asked, AllocError>
-    ensures addr { IfOk result (λ asked. asked.addr ≡ peer_of (word_at 1 (texts words.now))) }
-    ensures domain { IfOk result (λ asked. asked.domain.items ≡ word_at 2 (texts words.now)) }
-    ensures map { IfOk result (λ asked. asked.map.items ≡ word_at 3 (texts words.now)) }
-{
-    Ok(Asked {
-        addr: peer_of(word_at(words, 1)),
-        domain: text_at(alloc, words, 2)?,
-        map: text_at(alloc, words, 3)?,
+        question: question_of(alloc, question, words)?,
     })
 }
 
@@ -232,24 +243,7 @@ fn command_for(alloc: Global, task: Task, words: &[String]) -> Result<Command, A
         Task::Build => build_of(alloc, words, None),
         Task::BuildFlagged => build_of(alloc, words, Some(word_at(words, 3) == SECURE)),
         Task::Sample => Ok(sample_of(words)),
-        Task::Cat => {
-            let Asked { addr, domain, map } = asked_of(alloc, words)?;
-            Ok(Command::Cat { addr, domain, map })
-        }
-        Task::Catk => {
-            let Asked { addr, domain, map } = asked_of(alloc, words)?;
-            Ok(Command::Catk { addr, domain, map })
-        }
-        Task::Which => {
-            let Asked { addr, domain, map } = asked_of(alloc, words)?;
-            Ok(Command::Which { addr, domain, map })
-        }
-        Task::Poll => {
-            let Asked { addr, domain, map } = asked_of(alloc, words)?;
-            Ok(Command::Poll { addr, domain, map })
-        }
-        Task::Match => match_of(alloc, words),
-        Task::Maps => maps_of(alloc, words),
+        Task::Ask(question) => ask_of(alloc, question, words),
     }
 }
 
@@ -270,60 +264,31 @@ pub fn parse(alloc: Global, words: &[String]) -> Result<Command, ParseFault>
     }
 }
 
-/// The maps whose files a command reads or writes.
-fn stores_of(alloc: Global, command: Command) -> Result<Vec<MapName>, AllocError>
-    ensures memory { OnErr result (TakesMemory (meaning command)) }
-    ensures stores { IfOk result (λ names. map name_view names.items ≡ stores_of (meaning command)) }
+/// The maps whose files a command reads or writes, in the order of its words.
+pub fn stores_of(alloc: Global, command: &Command) -> Result<Vec<MapName>, NoMemory>
+    ensures names { IfOk result (λ names. map name_view names.items ≡ stores_of (meaning command.now)) }
+    ensures memory { OnErr result (TakesMemory (meaning command.now)) }
 {
-    match command {
-        Command::Check { store } => Ok(vec![in alloc; store]?),
-        Command::Build {
-            name: _name,
-            store,
-            ..
-        } => Ok(vec![in alloc; store]?),
-        Command::Once {
-            store: _store,
-            rows: _rows,
-        } => Ok(Vec::new(alloc)),
-        Command::Sample { .. } => Ok(Vec::new(alloc)),
-        Command::Session {
-            name: _name,
-            addr: _,
-            stores,
-            hosts: _hosts,
-        } => Ok(stores),
-        Command::Cat {
-            addr: _,
-            domain: _domain,
-            map: _map,
-        } => Ok(Vec::new(alloc)),
-        Command::Catk {
-            addr: _,
-            domain: _domain,
-            map: _map,
-        } => Ok(Vec::new(alloc)),
-        Command::Which {
-            addr: _,
-            domain: _domain,
-            map: _map,
-        } => Ok(Vec::new(alloc)),
-        Command::Poll {
-            addr: _,
-            domain: _domain,
-            map: _map,
-        } => Ok(Vec::new(alloc)),
-        Command::Match {
-            addr: _,
-            domain: _domain,
-            map: _map,
-            key: _key,
-        } => Ok(Vec::new(alloc)),
-        Command::Maps {
-            addr: _,
-            domain: _domain,
-        } => Ok(Vec::new(alloc)),
+    let names = match command {
+        Command::Check { store } => only_name(alloc, store),
+        Command::Build { store, .. } => only_name(alloc, store),
+        Command::Session { stores, .. } => copy_names(alloc, stores),
+        Command::Once { .. } => return Ok(Vec::new(alloc)),
+        Command::Sample { .. } => return Ok(Vec::new(alloc)),
+        Command::Ask { .. } => return Ok(Vec::new(alloc)),
+    };
+    match names {
+        Ok(names) => Ok(names),
+        Err(AllocError) => Err(NoMemory),
     }
+}
+
+/// A list of one name.
+fn only_name(alloc: Global, store: &MapName) -> Result<Vec<MapName>, AllocError>
+    ensures { IfOk result (λ names. map name_view names.items ≡ name_view store.now ∷ []) }
+{
+    let store = store.copy(alloc)?;
+    Ok(vec![in alloc; store]?)
 }
 
 /// The maps whose files the command of these words reads or writes, in the order of the words. There are none where
@@ -337,8 +302,5 @@ pub fn disk_names(alloc: Global, words: &[String]) -> Result<Vec<MapName>, NoMem
         Err(ParseFault::Usage { .. }) => return Ok(Vec::new(alloc)),
         Err(ParseFault::NoMemory) => return Err(NoMemory),
     };
-    match stores_of(alloc, command) {
-        Ok(names) => Ok(names),
-        Err(AllocError) => Err(NoMemory),
-    }
+    stores_of(alloc, &command)
 }

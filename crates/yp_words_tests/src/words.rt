@@ -7,6 +7,7 @@ use std::alloc::Global;
 use std::process::Abort;
 use yp_board::MapName;
 use yp_io::Peer;
+use yp_query::Question;
 use yp_words::{Command, HostWord, KeyValue, ParseFault, disk_names, parse};
 
 fn strings(rt: &impl Abort, alloc: Global, words: &[&str]) -> Vec<String> {
@@ -328,30 +329,32 @@ fn at_most_64_maps(rt: HostRuntime) {
     );
 }
 
-/// What a question is, whom it asks, and the domain, the map and the key.
-type Question<'a> = (&'static str, Peer, [&'a [u8]; 3]);
+//// What a question is, whom it asks, and the domain, the map and the key.
+type Asked<'a> = (&'static str, Peer, [&'a [u8]; 3]);
 
-/// The question that a command asks. What it doesn't name is empty.
-fn question_of(command: &Command) -> Option<Question<'_>> {
+/// The question to this server. What it doesn't name is empty.
+fn asked(addr: Peer, question: &Question<Vec<u8>>) -> Asked<'_> {
+    match question {
+        Question::Cat { domain, map } => ("cat", addr, [domain, map, b""]),
+        Question::Catk { domain, map } => ("catk", addr, [domain, map, b""]),
+        Question::Which { domain, map } => ("which", addr, [domain, map, b""]),
+        Question::Poll { domain, map } => ("poll", addr, [domain, map, b""]),
+        Question::Match { domain, map, key } => ("match", addr, [domain, map, key]),
+        Question::Maps { domain } => ("maps", addr, [domain, b"", b""]),
+    }
+}
+
+/// The question that a command asks.
+fn question_of(command: &Command) -> Option<Asked<'_>> {
     match command {
-        Command::Cat { addr, domain, map } => Some(("cat", *addr, [domain, map, b""])),
-        Command::Catk { addr, domain, map } => Some(("catk", *addr, [domain, map, b""])),
-        Command::Which { addr, domain, map } => Some(("which", *addr, [domain, map, b""])),
-        Command::Poll { addr, domain, map } => Some(("poll", *addr, [domain, map, b""])),
-        Command::Match {
-            addr,
-            domain,
-            map,
-            key,
-        } => Some(("match", *addr, [domain, map, key])),
-        Command::Maps { addr, domain } => Some(("maps", *addr, [domain, b"", b""])),
+        Command::Ask { addr, question } => Some(asked(*addr, question)),
         _ => None,
     }
 }
 
 const HOSTS: [&[u8]; 3] = [b"lab", b"hosts.byname", b""];
 
-const QUESTIONS: [(&[&str], Question); 6] = [
+const QUESTIONS: [(&[&str], Asked); 6] = [
     (
         &["cat", "127.0.0.1:700", "lab", "hosts.byname"],
         ("cat", PEER, HOSTS),
@@ -378,7 +381,7 @@ const QUESTIONS: [(&[&str], Question); 6] = [
     ),
 ];
 
-fn check_question(rt: &impl Abort, alloc: Global, words: &[&str], question: Question) {
+fn check_question(rt: &impl Abort, alloc: Global, words: &[&str], question: Asked) {
     let command = parsed(rt, alloc, words);
     let came = question_of(&command);
     assert_same(rt, &came, &Some(question), "a question");

@@ -1,8 +1,11 @@
 -- Padded content that is read is what was written, and what was written is read again.
-use Rattle.std.proofs.Common.{◌≡◌, ℕ, suc, zero, ◌+◌, ◌≤◌, Bool, true, false, cond, eqb, ltb, not, List, [], ◌∷◌, ◌++◌, length, take, drop, replicate, Option, Some, None, Ok, refl, sym, ap, subst, ◌∙◌, append_assoc, arith}
+use Rattle.std.proofs.Common.{◌≡◌, ℕ, suc, zero, ◌+◌, ◌≤◌, Bool, true, false, cond, eqb, ltb, not, List, [], ◌∷◌}
+use Rattle.std.proofs.Common.{◌++◌, length, take, drop, replicate, Option, Some, None, Ok, refl, sym, ap, subst, ◌∙◌}
+use Rattle.std.proofs.Common.{append_assoc, arith}
 use Rattle.std.specs.List.{position_or_len}
 use Rattle.std.proofs.lemmas.Bool.{ltb-false, le-ltb, ne_eqb}
-use Rattle.std.proofs.lemmas.List.{take_at, drop_at, take-append-drop, length-append, length-take, length-drop, length-replicate, drop-drop}
+use Rattle.std.proofs.lemmas.List.{take_at, drop_at, take-append-drop, length-append, length-take, length-drop}
+use Rattle.std.proofs.lemmas.List.{length-replicate, drop-drop}
 use Rattle.std.proofs.lemmas.List.Folds.{prefix_len-replicate}
 use Rattle.yp_xdr.specs.declared.fault.XdrFault.TheVariants.{Short}
 use Rattle.yp_xdr.specs.Spelling.{padding_len, padding}
@@ -16,7 +19,8 @@ is_nonzero byte = not (eqb byte 0)
 -- among zeros there is no byte that isn't zero
 first_nonzero-replicate : (n : ℕ) → first_nonzero (replicate n 0) ≡ None
 first_nonzero-replicate n =
-    let all : position_or_len is_nonzero (replicate n 0) ≡ n = prefix_len-replicate (λ byte. not (is_nonzero byte)) n 0 refl in
+    let all : position_or_len is_nonzero (replicate n 0) ≡ n =
+    prefix_len-replicate (λ byte. not (is_nonzero byte)) n 0 refl in
     let zeros : List ℕ = replicate n 0 in
     let len : length zeros ≡ n = length-replicate n 0 in
     let none : ltb (position_or_len is_nonzero zeros) (length zeros) ≡ false = le-ltb _ _ (omega (arith, all, len)) in
@@ -39,10 +43,12 @@ none_from false n e = refl
 -- bytes among which none isn't zero are zeros
 zeros_from_none : (bytes : List ℕ) → first_nonzero bytes ≡ None → bytes ≡ replicate (length bytes) 0
 zeros_from_none bytes e =
-    zeros_from_len bytes (ltb-false _ _ (none_from (ltb (position_or_len is_nonzero bytes) (length bytes)) (position_or_len is_nonzero bytes) e))
+    zeros_from_len bytes (ltb-false _ _
+    (none_from (ltb (position_or_len is_nonzero bytes) (length bytes)) (position_or_len is_nonzero bytes) e))
 
 -- where padded content was not refused, no byte of the padding isn't zero
-padded_ok : (n : ℕ) (left : Unread) (place : Option ℕ) (y : List ℕ × Unread) → padded n left place ≡ Ok y → (place ≡ None) × ((take n left.bytes, past (n + padding_len n) left) ≡ y)
+padded_ok : (n : ℕ) (left : Unread) (place : Option ℕ) (y : List ℕ × Unread) → padded n left place ≡ Ok y
+    → (place ≡ None) × ((take n left.bytes, past (n + padding_len n) left) ≡ y)
 padded_ok n left None y e = (refl, ok_is _ y _ _ refl refl e)
 padded_ok n left (Some place) y e = absurd cc
 
@@ -53,12 +59,14 @@ pub record ContentTaken (n : ℕ) (old : Unread) (content : List ℕ) (new : Unr
   pub place : new.at ≡ old.at + (n + padding_len n)
 
 -- content that is read is what is at the front, padded
-pub content_takes : (start n : ℕ) (old new : Unread) (content : List ℕ) → content_at start n old ≡ Ok (content, new) → ContentTaken n old content new
+pub content_takes : (start n : ℕ) (old new : Unread) (content : List ℕ) → content_at start n old ≡ Ok (content, new)
+    → ContentTaken n old content new
 unfolding content_at
 content_takes start n old new content e =
     let pad = padding_len n in
     let zeros = take pad (drop n old.bytes) in
-    let g = guard_ok (ltb (length old.bytes) (n + pad)) (Short start) (padded n old (first_nonzero zeros)) (content, new) e in
+    let g = guard_ok (ltb (length old.bytes) (n + pad)) (Short start) (padded n old (first_nonzero zeros))
+    (content, new) e in
     let long : n + pad ≤ length old.bytes = ltb-false _ _ g.0 in
     let p = padded_ok n old (first_nonzero zeros) (content, new) g.1 in
     let len : length (take n old.bytes) ≡ n = omega (arith, length-take n old.bytes) in
@@ -66,11 +74,16 @@ content_takes start n old new content e =
     let padding_there : zeros ≡ padding n = zeros_from_none zeros p.0 ∙ ap (λ (k : ℕ). replicate k 0) pad_len in
     let behind : drop pad (drop n old.bytes) ≡ drop (n + pad) old.bytes = drop-drop pad n old.bytes in
     let parts : old.bytes ≡ take n old.bytes ++ padding n ++ drop (n + pad) old.bytes =
-    sym (take-append-drop n old.bytes) ∙ ap (λ (xs : List ℕ). take n old.bytes ++ xs) (sym (take-append-drop pad (drop n old.bytes)) ∙ rw (padding_there, behind) refl) ∙ sym (append_assoc (take n old.bytes) (padding n) (drop (n + pad) old.bytes)) in
+    sym (take-append-drop n old.bytes)
+    ∙ ap (λ (xs : List ℕ). take n old.bytes ++ xs)
+    (sym (take-append-drop pad (drop n old.bytes)) ∙ rw (padding_there, behind) refl)
+    ∙ sym (append_assoc (take n old.bytes) (padding n) (drop (n + pad) old.bytes)) in
     subst (λ (y : List ℕ × Unread). ContentTaken n old y.0 y.1) p.1 (record { len = len; parts = parts; place = refl })
 
 -- content that was written is read again
-pub content_again : (start at : ℕ) (content rest : List ℕ) → content_at start (length content) (record { at = at; bytes = content ++ padding (length content) ++ rest }) ≡ Ok (content, record { at = at + (length content + padding_len (length content)); bytes = rest })
+pub content_again : (start at : ℕ) (content rest : List ℕ)
+    → content_at start (length content) (record { at = at; bytes = content ++ padding (length content) ++ rest })
+    ≡ Ok (content, record { at = at + (length content + padding_len (length content)); bytes = rest })
 unfolding content_at
 content_again start at content rest =
     let n = length content in
@@ -79,7 +92,8 @@ content_again start at content rest =
     let pad_len : length (padding n) ≡ pad = length-replicate pad 0 in
     let split : bytes ≡ content ++ (padding n ++ rest) = append_assoc content (padding n) rest in
     let len : length (content ++ padding n) ≡ n + pad = omega (arith, length-append content (padding n)) in
-    let long : ltb (length bytes) (n + pad) ≡ false = le-ltb _ _ (omega (arith, length-append (content ++ padding n) rest)) in
+    let long : ltb (length bytes) (n + pad) ≡ false =
+    le-ltb _ _ (omega (arith, length-append (content ++ padding n) rest)) in
     let front : take n bytes ≡ content = rw split (take_at content (padding n ++ rest) n refl) in
     let behind : drop n bytes ≡ padding n ++ rest = rw split (drop_at content (padding n ++ rest) n refl) in
     let zeros : take pad (drop n bytes) ≡ padding n = rw behind (take_at (padding n) rest pad pad_len) in

@@ -3,4 +3,5 @@ pub mod Spelling
 pub mod Reading
 pub mod Writing
 pub mod Cursor
+pub mod Faults
 pub mod Laws

@@ -1,5 +1,7 @@
 -- What a reader answers: the value that the next bytes spell, or the fault of the first item that is refused.
-use Rattle.std.specs.Prelude.{◌≡◌, ℕ, ℤ, zero, suc, ◌+◌, ◌<◌, Bool, true, false, List, [], ◌∷◌, ◌++◌, length, take, drop, Option, Some, None, Result, Ok, Err, not, nat_lt, ◌==◌, if◌then◌else◌, position, slice_index}
+use Rattle.std.specs.Prelude.{◌≡◌, ℕ, ℤ, zero, suc, ◌+◌, ◌<◌, Bool, true, false, List, [], ◌∷◌, ◌++◌, length, take}
+use Rattle.std.specs.Prelude.{drop, Option, Some, None, Result, Ok, Err, not, nat_lt, ◌==◌, if◌then◌else◌, position}
+use Rattle.std.specs.Prelude.{slice_index}
 use Rattle.std.specs.Int.{w32, from_be_bytes, cast_signed}
 use Rattle.yp_xdr.specs.declared.fault.XdrFault.{XdrFault}
 use Rattle.yp_xdr.specs.declared.fault.XdrFault.TheVariants.{Short, TooLong, Pad, BadBool, BadEnum}
@@ -68,32 +70,38 @@ opaque_at max left = do
   if nat_lt max len.0 then Err (TooLong left.at len.0) else content_at left.at len.0 len.1
 
 -- a value that is there
-abbrev pub some_at : {V : Type 0} → (Unread → Result (V × Unread) XdrFault) → Unread → Result (Option V × Unread) XdrFault
+abbrev pub some_at : {V : Type 0} → (Unread → Result (V × Unread) XdrFault) → Unread
+    → Result (Option V × Unread) XdrFault
 some_at read left = do
   one ← read left
   Ok (Some one.0, one.1)
 
 -- a value behind TRUE, or FALSE
-abbrev pub optional_at : {V : Type 0} → (Unread → Result (V × Unread) XdrFault) → Unread → Result (Option V × Unread) XdrFault
+abbrev pub optional_at : {V : Type 0} → (Unread → Result (V × Unread) XdrFault) → Unread
+    → Result (Option V × Unread) XdrFault
 optional_at read left = do
   more ← bool_at left
   if more.0 then some_at read more.1 else Ok (None, more.1)
 
 -- a value, and the others behind it
-abbrev pub cons_at : {V : Type 0} → (Unread → Result (V × Unread) XdrFault) → (Unread → Result (List V × Unread) XdrFault) → Unread → Result (List V × Unread) XdrFault
+abbrev pub cons_at : {V : Type 0} → (Unread → Result (V × Unread) XdrFault)
+    → (Unread → Result (List V × Unread) XdrFault) → Unread → Result (List V × Unread) XdrFault
 cons_at read read_others left = do
   one ← read left
   others ← read_others one.1
   Ok (one.0 ∷ others.0, others.1)
 
 -- a value behind TRUE and the others behind it, or FALSE
-abbrev pub elements_at : {V : Type 0} → (Unread → Result (V × Unread) XdrFault) → (Unread → Result (List V × Unread) XdrFault) → Unread → Result (List V × Unread) XdrFault
+abbrev pub elements_at : {V : Type 0} → (Unread → Result (V × Unread) XdrFault)
+    → (Unread → Result (List V × Unread) XdrFault) → Unread → Result (List V × Unread) XdrFault
 elements_at read read_others left = do
   more ← bool_at left
   if more.0 then cons_at read read_others more.1 else Ok ([], more.1)
 
--- Each value behind TRUE, and then FALSE. There are at most n values. As many as there are bytes are enough, since each takes some.
-abbrev pub list_at : {V : Type 0} → (Unread → Result (V × Unread) XdrFault) → ℕ → Unread → Result (List V × Unread) XdrFault
+-- Each value behind TRUE, and then FALSE. There are at most n values. As many as there are bytes are enough, since each
+-- takes some.
+abbrev pub list_at : {V : Type 0} → (Unread → Result (V × Unread) XdrFault) → ℕ → Unread
+    → Result (List V × Unread) XdrFault
 list_at read zero left = Err (Short left.at)
 list_at read (suc n) left = elements_at read (list_at read n) left
 
@@ -117,7 +125,8 @@ abbrev pub end_of : Unread → ℕ
 end_of left = left.at + length left.bytes
 
 -- The answer of a reader, seen by view, is what is expected: it has moved to what is left, or not moved at all.
-abbrev pub ReadsAs : {X V : Type 0} → Result (V × Unread) XdrFault → (X → V) → Result X XdrFault → Unread → Unread → Type 0
+abbrev pub ReadsAs : {X V : Type 0} → Result (V × Unread) XdrFault → (X → V) → Result X XdrFault → Unread → Unread
+    → Type 0
 ReadsAs expected view (Ok x) old new = expected ≡ Ok (view x, new)
 ReadsAs expected view (Err fault) old new = (expected ≡ Err fault) × (new ≡ old)
 
@@ -134,7 +143,8 @@ pub record BeginsWith (kind : Kind) (value : Value kind) (old new : Unread) : Ty
 
 -- no value of the kind is spelled by a front of the bytes
 abbrev pub BeginsWithNone : Kind → List ℕ → Type 0
-BeginsWithNone kind bytes = (value : Value kind) (front rest : List ℕ) → Spells kind value front → bytes ≡ front ++ rest → ⊥
+BeginsWithNone kind bytes =
+    (value : Value kind) (front rest : List ℕ) → Spells kind value front → bytes ≡ front ++ rest → ⊥
 
 -- each is a byte
 abbrev pub IsBytes : List ℕ → Type 0

@@ -1,5 +1,6 @@
 -- How each value is spelled in bytes, by RFC 4506 sections 3 and 4.
-use Rattle.std.specs.Prelude.{◌≡◌, ℕ, ◌-◌, ◌%◌, ◌^◌, ◌<◌, ◌≤◌, ℤ, Bool, true, false, IsTrue, List, ◌++◌, length, replicate, flat_map, All, Option, Some, None, IfSome, FitsSigned}
+use Rattle.std.specs.Prelude.{◌≡◌, ℕ, ◌-◌, ◌%◌, ◌^◌, ◌<◌, ◌≤◌, ℤ, Bool, true, false, IsTrue, List, ◌++◌, length}
+use Rattle.std.specs.Prelude.{replicate, flat_map, All, Option, Some, None, IfSome, FitsSigned}
 use Rattle.std.specs.List.{list_any}
 use Rattle.std.specs.Ordering.{int_eq}
 use Rattle.std.specs.Int.{w32, to_be_bytes, cast_unsigned}

@@ -13,7 +13,8 @@ pub record Writes (bytes : List ℕ) (at : ℕ) (result : Result ℕ NoRoom) (ol
   pub no_room : OnErr result (length old < at + length bytes)
   pub unchanged : OnErr result (new ≡ old)
 
--- A writer that needs the room puts these bytes at the place, and answers the place after them. What is then written there stands
+-- A writer that needs the room puts these bytes at the place, and answers the place after them. What is then written
+-- there stands
 -- behind them as if both were written at once.
 pub record Sets (bytes : List ℕ) (at end : ℕ) (old new : List ℕ) : Type 0 where
   pub place : end ≡ at + length bytes

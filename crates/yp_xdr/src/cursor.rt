@@ -148,7 +148,8 @@ impl<'a> Cursor<'a> {
     #[tactic(auto, unfolding(crate::specs::Reading::content_at))]
     fn content(&mut self, start: usize, len: usize) -> Result<&'a [u8], XdrFault>
         requires { len < 2 ^ 32 }
-        ensures read { ReadsAs (content_at start len (unread self.old)) (λ s. s.now) result (unread self.old) (unread self.new) }
+        ensures read { ReadsAs (content_at start len (unread self.old)) (λ s. s.now) result (unread self.old)
+            (unread self.new) }
         ensures end { end_of (unread self.new) ≡ end_of (unread self.old) }
     {
         let padding = padding_of(len);

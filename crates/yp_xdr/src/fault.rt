@@ -1,5 +1,8 @@
 //! Why bytes can't be read or written.
 
+ghost use Rattle.std.specs.Prelude.{◌≡◌};
+ghost use Rattle.yp_xdr.specs.Faults.{fault_place};
+
 use thiserror::Error;
 
 /// The first item that is refused. Places count bytes from the first one that the cursor was given.
@@ -24,6 +27,21 @@ pub enum XdrFault {
     /// The number at this place isn't one of its enum's.
     #[error("no number of the enum at {at}")]
     BadEnum { at: usize },
+}
+
+impl XdrFault {
+    /// The place of the item.
+    pub fn place(self) -> usize
+        ensures { result ≡ fault_place self }
+    {
+        match self {
+            XdrFault::Short { at } => at,
+            XdrFault::TooLong { at, .. } => at,
+            XdrFault::Pad { at } => at,
+            XdrFault::BadBool { at } => at,
+            XdrFault::BadEnum { at } => at,
+        }
+    }
 }
 
 /// What was to be written doesn't fit into the buffer.

@@ -1,6 +1,7 @@
 //! What joins writing and reading, for values of every kind. Each law is the contract of a function that does nothing.
 
-ghost use Rattle.yp_xdr.specs.Laws.{OneSpelling, NoSpellingBeginsAnother, WrittenIsReadAgain, ReadIsSpelled, RefusedIsNotSpelled, ListIsReadInTurn, WrittenIsJoined, WritersJoin, SetsJoin};
+ghost use Rattle.yp_xdr.specs.Laws.{OneSpelling, NoSpellingBeginsAnother, WrittenIsReadAgain, ReadIsSpelled};
+ghost use Rattle.yp_xdr.specs.Laws.{RefusedIsNotSpelled, ListIsReadInTurn, WrittenIsJoined, WritersJoin, SetsJoin};
 
 /// A value has one spelling.
 pub fn one_spelling()

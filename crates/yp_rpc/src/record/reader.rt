@@ -1,6 +1,7 @@
 //! Records read from a stream.
 
-ghost use Rattle.std.specs.Prelude.{◌≡◌, ℕ, zero, ◌+◌, ◌-◌, ◌^◌, ◌<◌, ◌≤◌, false, List, [], ◌++◌, length, take, min, Option, Some, None, IfOk, IfErr, IfSome, IfNone, OnErr};
+ghost use Rattle.std.specs.Prelude.{◌≡◌, ℕ, zero, ◌+◌, ◌-◌, ◌^◌, ◌<◌, ◌≤◌, false, List, [], ◌++◌, length, take, min};
+ghost use Rattle.std.specs.Prelude.{Option, Some, None, IfOk, IfErr, IfSome, IfNone, OnErr};
 ghost use Rattle.std.specs.Io.KnownBytes.{Consumes, IsAtEnd};
 ghost use Rattle.yp_io.specs.Counts.{CountsFaults, last_count};
 ghost use Rattle.yp_rpc.specs.Records.{empty_max, head, fragment, IsEmpty, TakesRecord, HasCause, HasNoFragment};
@@ -40,8 +41,9 @@ const NOT_BEGUN: Part = Part {
     passed: 0,
 };
 
-/// Reads one record after another, each at once or piece by piece. It is seen as a place in the stream and what was read of
-/// the record there. The place is how many bytes were taken as whole records, or 2^64 - 1 where there were more.
+/// Reads one record after another, each at once or piece by piece. It is seen as a place in the stream and what was
+/// read of the record there. The place is how many bytes were taken as whole records, or 2^64 - 1 where there were
+/// more.
 #[derive(Debug, Drop)]
 pub struct RecordReader {
     place: u64,
@@ -93,7 +95,8 @@ impl RecordReader {
             TakesRecord (length buf.new) (take n buf.new)
             (S.input source.old) (S.input source.new) self.old.place self.new.place)) }
         // none: input had ended before a record's first byte
-        ensures none { IfOk result (λ found. IfNone found (IsEmpty (S.input source.old) (S.input source.new) × (self.new ≡ self.old))) }
+        ensures none { IfOk result
+            (λ found. IfNone found (IsEmpty (S.input source.old) (S.input source.new) × (self.new ≡ self.old))) }
         ensures between { self.new.part ≡ not_begun }
         ensures cause { IfErr result (λ fault. HasCause (length buf.new) self.old.place
             (S.input source.old) (S.input source.new)
@@ -121,9 +124,11 @@ impl RecordReader {
         requires { 0 < length buf.old }
         ensures within { IfOk result (λ n. n ≤ length buf.new) }
         // whatever was given of the record since its start
-        ensures given { (front : List ℕ) (start : Option (List ℕ)) → HasGiven limit front start (S.input source.old) self.old.part
+        ensures given { (front : List ℕ) (start : Option (List ℕ))
+            → HasGiven limit front start (S.input source.old) self.old.part
             → IfOk result (λ n. Gives limit front (take n buf.new) start (S.input source.new) self.old self.new) }
-        ensures cause { (front : List ℕ) (start : Option (List ℕ)) → HasGiven limit front start (S.input source.old) self.old.part
+        ensures cause { (front : List ℕ) (start : Option (List ℕ))
+            → HasGiven limit front start (S.input source.old) self.old.part
             → IfErr result (λ fault. HasNoPiece limit self.old.place start (S.input source.new)
             (S.faults source.old) (S.faults source.new) fault) }
         ensures stays { OnErr result (self.new ≡ self.old) }
@@ -157,11 +162,16 @@ fn read_piece<S: Source>(
 ) -> Result<Given, RecordFault>
     requires { 0 < length buf.old }
     ensures within { IfOk result (λ g. g.count ≤ length buf.new) }
-    ensures more { (front : List ℕ) (start : Option (List ℕ)) → HasGiven limit front start (S.input source.old) (part_of part)
-        → IfOk result (λ g. 0 < g.count → HasGiven limit (front ++ take g.count buf.new) start (S.input source.new) (part_of g.part)) }
-    ensures end { (front : List ℕ) (start : Option (List ℕ)) → HasGiven limit front start (S.input source.old) (part_of part)
-        → IfOk result (λ g. g.count ≡ 0 → TakesRecord limit front start (S.input source.new) place (min (place + g.part.passed) last_count)) }
-    ensures cause { (front : List ℕ) (start : Option (List ℕ)) → HasGiven limit front start (S.input source.old) (part_of part)
+    ensures more { (front : List ℕ) (start : Option (List ℕ))
+        → HasGiven limit front start (S.input source.old) (part_of part)
+        → IfOk result (λ g. 0 < g.count
+        → HasGiven limit (front ++ take g.count buf.new) start (S.input source.new) (part_of g.part)) }
+    ensures end { (front : List ℕ) (start : Option (List ℕ))
+        → HasGiven limit front start (S.input source.old) (part_of part)
+        → IfOk result (λ g. g.count ≡ 0
+        → TakesRecord limit front start (S.input source.new) place (min (place + g.part.passed) last_count)) }
+    ensures cause { (front : List ℕ) (start : Option (List ℕ))
+        → HasGiven limit front start (S.input source.old) (part_of part)
         → IfErr result (λ fault. HasNoPiece limit place start (S.input source.new)
         (S.faults source.old) (S.faults source.new) fault) }
     ensures counted { S.faults source.old ≤ S.faults source.new }
@@ -182,8 +192,8 @@ fn read_piece<S: Source>(
     Ok(Given { count, part })
 }
 
-// Reads the head of the next fragment of a record that began at `place`, where those before it were read and were not the
-// last. Behind a head that names too much nothing is read.
+// Reads the head of the next fragment of a record that began at `place`, where those before it were read and were not
+// the last. Behind a head that names too much nothing is read.
 fn begin_fragment<S: Source>(
     source: &mut S,
     part: Part,
@@ -192,10 +202,12 @@ fn begin_fragment<S: Source>(
 ) -> Result<Part, RecordFault>
     requires none_left { part.left ≡ 0 }
     requires more { part.last ≡ false }
-    ensures given { (front : List ℕ) (start : Option (List ℕ)) → HasGiven limit front start (S.input source.old) (part_of part)
+    ensures given { (front : List ℕ) (start : Option (List ℕ))
+        → HasGiven limit front start (S.input source.old) (part_of part)
         → IfOk result (λ p. HasGiven limit front start (S.input source.new) (part_of p)) }
     ensures nearer { IfOk result (λ p. (empty_max - p.empty) + (1 - p.left) < (empty_max - part.empty) + 1) }
-    ensures cause { (front : List ℕ) (start : Option (List ℕ)) → HasGiven limit front start (S.input source.old) (part_of part)
+    ensures cause { (front : List ℕ) (start : Option (List ℕ))
+        → HasGiven limit front start (S.input source.old) (part_of part)
         → IfErr result (λ fault. HasNoPiece limit place start (S.input source.new)
         (S.faults source.old) (S.faults source.new) fault) }
     ensures counted { S.faults source.old ≤ S.faults source.new }

@@ -1,6 +1,7 @@
 //! Records written to a stream.
 
-ghost use Rattle.std.specs.Prelude.{◌≡◌, ℕ, ◌<◌, ◌≤◌, ◌↔◌, IsTrue, List, [], ◌++◌, length, take, IsOk, IfOk, OnOk, OnErr};
+ghost use Rattle.std.specs.Prelude.{◌≡◌, ℕ, ◌<◌, ◌≤◌, ◌↔◌, IsTrue, List, [], ◌++◌, length, take, IsOk, IfOk, OnOk};
+ghost use Rattle.std.specs.Prelude.{OnErr};
 ghost use Rattle.std.specs.Io.KnownBytes.{Keeps, Appends};
 ghost use Rattle.yp_io.specs.Counts.{CountsFaults};
 ghost use Rattle.yp_rpc.specs.Records.{fragment_max, sent};
@@ -75,6 +76,21 @@ impl RecordWriter {
         self.batch.close(true);
         self.batch.send(sink)?;
         sink.flush()
+    }
+
+    /// Sends a whole message as one record, and flushes. Nothing waits then, even after `Failed`.
+    pub fn send<K: Sink>(&mut self, sink: &mut K, message: &[u8]) -> Result<(), Failed>
+        requires idle { self.old ≡ [] }
+        requires some { 0 < length message.now }
+        ensures sent { OnOk result (Appends (K.output sink.old) (K.output sink.new) (sent message.now)) }
+        ensures flushed { OnOk result (IsTrue (K.flushed sink.new)) }
+        ensures prefix { OnErr result ((n : ℕ)
+            × Appends (K.output sink.old) (K.output sink.new) (take n (sent message.now))) }
+        ensures as_new { self.new ≡ [] }
+        ensures cause { CountsFaults (K.faults sink.old) (K.faults sink.new) result }
+    {
+        self.put(sink, message)?;
+        self.end(sink)
     }
 }
 

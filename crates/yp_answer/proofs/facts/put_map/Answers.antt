@@ -1,10 +1,9 @@
-use Rattle.std.proofs.Common.{◌≡◌, ◌++◌, ◌&&◌, Bool, [], true, false, not, List, ℕ, length, take, Some, refl, sym, ap, ◌∙◌, subst, arith}
+use Rattle.std.proofs.Common.{◌≡◌, ◌++◌, Bool, true, false, not, List, ℕ, length, take, Some, refl, sym, ap, ◌∙◌, arith}
 use Rattle.std.specs.Prelude.{bytes_eq, is_some}
 use Rattle.std.proofs.lemmas.List.{append-nil}
 use Rattle.yp_xdr.specs.Spelling.{spelling}
 use Rattle.yp_msgs.specs.MapLists.{map_item}
-use Rattle.yp_version.specs.declared.version.Version.{Version}
-use Rattle.yp_board.specs.Catalogues.{Name, name_view}
+use Rattle.yp_board.specs.Catalogues.{name_view}
 use Rattle.yp_answer.specs.Maps.{Maps, maps_of}
 use Rattle.yp_answer.specs.Results.{map_part, is_listed}
 use Rattle.yp_answer.proofs.Fronts.{front_set}

@@ -1,5 +1,5 @@
-use Rattle.std.proofs.Common.{◌≡◌, ◌+◌, ◌*◌, ◌≤◌, ◌++◌, List, ℕ, [], length, take, map, None, sym, ap, ◌∙◌, append_assoc, arith}
-use Rattle.std.specs.Prelude.{slice_index_or, flat_map, filter}
+use Rattle.std.proofs.Common.{◌≡◌, ◌≤◌, ◌++◌, List, ℕ, [], length, take, map, None, sym, ap, ◌∙◌, append_assoc, arith}
+use Rattle.std.specs.Prelude.{slice_index_or, flat_map}
 use Rattle.std.proofs.lemmas.List.{length-map, take_all}
 use Rattle.yp_xdr.specs.Spelling.{spelling}
 use Rattle.yp_msgs.specs.MapLists.{map_item}

@@ -1,6 +1,5 @@
-use Rattle.std.proofs.Common.{◌≡◌, ◌+◌, ◌*◌, ◌≤◌, ◌++◌, [], length, take, map}
+use Rattle.std.proofs.Common.{◌≡◌, ◌+◌, ◌*◌, ◌≤◌, ◌++◌, [], take, map}
 use Rattle.std.specs.Prelude.{slice_index_or, flat_map}
-use Rattle.yp_board.specs.Catalogues.{Name}
 use Rattle.yp_answer.specs.Maps.{maps_of}
 use Rattle.yp_answer.specs.Results.{map_part}
 use Rattle.yp_answer.proofs.facts.put_maps.Given as goal

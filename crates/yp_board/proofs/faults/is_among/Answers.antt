@@ -9,5 +9,6 @@ pub returns : goal.returns
 returns c =
     let names = c.args.names.now in
     let name = name_view c.args.name.now in
-    let found = any_from_yields_List (λ other. is_same name (name_view other)) _ _ c.any.result c.any.ensures.ran (YieldsList-from_slice names cc) (λ x b q k. search (rules, tests)) in
+    let found = any_from_yields_List (λ other. is_same name (name_view other)) _ _ c.any.result c.any.ensures.ran
+    (YieldsList-from_slice names cc) (λ x b q k. search (rules, tests)) in
     found ∙ sym (list_any-map (is_same name) name_view names)

@@ -6,19 +6,21 @@ use Rattle.yp_board.proofs.Again.{again_from-drop, again_from-end}
 use Rattle.yp_board.proofs.faults.twice.Goals as goal
 use Rattle.yp_board.proofs.faults.twice.Goals.{After-is_among}
 
-step : (c : After-is_among) → again_from 0 [] (map name_view c.numbered-names.result.now)
+step : (c : After-is_among) → again_from 0 [] (map name_view c.with_numbers-names.result.now)
     ≡ cond c.is_among.result (Some c.loop-index.index)
     (again_from (c.loop-index.index + 1)
-    (take (c.loop-index.index + 1) (map name_view c.numbered-names.result.now))
-    (drop (c.loop-index.index + 1) (map name_view c.numbered-names.result.now)))
+    (take (c.loop-index.index + 1) (map name_view c.with_numbers-names.result.now))
+    (drop (c.loop-index.index + 1) (map name_view c.with_numbers-names.result.now)))
 step c =
-    let xs = c.numbered-names.result.now in
+    let xs = c.with_numbers-names.result.now in
     let names = map name_view xs in
     let i = c.loop-index.index in
     let x = c.index-names-index.result in
     let d = name_view x in
-    let here : get_or names i d ≡ d = get_or-map name_view xs i x d c.loop-index-test.true ∙ ap name_view (sym c.index-names-index.is) in
-    let among : c.is_among.result ≡ list_any (is_same (get_or names i d)) (take i names) = rw (here, take-map name_view i xs) c.is_among.ensures in
+    let here : get_or names i d ≡ d = get_or-map name_view xs i x d c.loop-index-test.true
+    ∙ ap name_view (sym c.index-names-index.is) in
+    let among : c.is_among.result ≡ list_any (is_same (get_or names i d)) (take i names) =
+    rw (here, take-map name_view i xs) c.is_among.ensures in
     let within : i < length names = rw (length-map xs name_view) c.loop-index-test.true in
     sym c.loop-index.invariant
     ∙ again_from-drop names i d within
@@ -27,15 +29,15 @@ step c =
 pub returns-then-is_among : goal.returns-then-is_among
 returns-then-is_among c =
     let e = rw c.if-is_among.true at (step (goal.at.returns-then-is_among c).After-is_among) in
-    sym e ∙ ap (again_from 0 []) c.numbered-names.ensures.names
+    sym e ∙ ap (again_from 0 []) c.with_numbers-names.ensures.names
 
 pub returns : goal.returns
 returns c =
-    let xs = c.numbered-names.result.now in
+    let xs = c.with_numbers-names.result.now in
     let names = map name_view xs in
     let i = c.loop-index.index in
     let past = again_from-end names i (rw (length-map xs name_view) c.loop-index-test.false) in
-    sym past ∙ c.loop-index.invariant ∙ ap (again_from 0 []) c.numbered-names.ensures.names
+    sym past ∙ c.loop-index.invariant ∙ ap (again_from 0 []) c.with_numbers-names.ensures.names
 
 pub loop-index-preserved : goal.loop-index-preserved
 loop-index-preserved c =

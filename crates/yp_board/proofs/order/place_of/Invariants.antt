@@ -6,4 +6,5 @@ use Rattle.yp_board.proofs.order.place_of.Given as goal
 abbrev pub invariant-loop-place : goal.invariant-loop-place
 invariant-loop-place l =
     (k : ℕ) → k < l.place
-    → is_le (name_cmp (name_view l.name) (slice_index_or (map name_view l.maps) (slice_index_or l.numbers k 0) ([], []))) ≡ false
+    → is_le (name_cmp (name_view l.name)
+    (slice_index_or (map name_view l.maps) (slice_index_or l.numbers k 0) ([], []))) ≡ false

@@ -12,7 +12,11 @@ loop-number-init c =
     let names = map name_view c.args.maps.now in
     record {
       within = rw c.in_ok-numbers.ensures.items (All-nil (λ number. number < length c.args.maps.now));
-      rising = rw (c.in_ok-numbers.ensures.items, drop_all (length c.args.maps.now) names (omega (arith, length-map c.args.maps.now name_view))) refl;
+      rising = rw (
+        c.in_ok-numbers.ensures.items,
+        drop_all (length c.args.maps.now) names
+            (omega (arith, length-map c.args.maps.now name_view)),
+      ) refl;
     }
 
 pub place_of-place-requires : goal.place_of-place-requires
@@ -27,12 +31,15 @@ loop-number-preserved c =
     let numbers = c.loop-number.numbers.items in
     let place = c.place_of-place.result in
     let within : n < length maps = omega arith in
-    let here : name_at names n ≡ name_view x = get_or-map name_view maps n x ([], []) within ∙ ap name_view (sym c.index-maps-number.is) in
+    let here : name_at names n ≡ name_view x = get_or-map name_view maps n x ([], []) within
+    ∙ ap name_view (sym c.index-maps-number.is) in
     let at : place ≡ position_or_len (λ number. is_le (name_cmp (name_at names n) (name_at names number))) numbers
     = rw (here, ← c.deref.ensures.value) c.place_of-place.ensures.place in
-    let e = listed-drop names n c.loop-number.number numbers place c.requires.distinct (omega (arith, length-map maps name_view)) (omega arith) c.loop-number.invariant.rising at in
+    let e = listed-drop names n c.loop-number.number numbers place c.requires.distinct
+    (omega (arith, length-map maps name_view)) (omega arith) c.loop-number.invariant.rising at in
     record {
-      within = rw c.in_ok-insert.ensures.items (All-insert (λ number. number < length maps) numbers place n within c.loop-number.invariant.within);
+      within = rw c.in_ok-insert.ensures.items
+          (All-insert (λ number. number < length maps) numbers place n within c.loop-number.invariant.within);
       rising = ap (map (name_at names)) c.in_ok-insert.ensures.items ∙ e;
     }
 

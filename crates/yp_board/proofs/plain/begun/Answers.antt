@@ -13,8 +13,9 @@ loop-map-preserved c =
     let x = c.index-start-map.result in
     let d = option_map arc_value x in
     let within : i < length start = omega arith in
-    let here : get_or versions i d ≡ d = get_or-map (option_map arc_value) start i x d within ∙ ap (option_map arc_value) (sym c.index-start-map.is) in
-    c.in_ok-begin.ensures
+    let here : get_or versions i d ≡ d = get_or-map (option_map arc_value) start i x d within
+    ∙ ap (option_map arc_value) (sym c.index-start-map.is) in
+    c.begin.ensures
     ∙ ap (λ front. front ++ starts i (d ∷ [])) c.loop-map.invariant
     ∙ ap (λ v. starts 0 (take i versions) ++ starts i (v ∷ [])) (sym here)
     ∙ sym (starts-more versions i d (rw length-map within))

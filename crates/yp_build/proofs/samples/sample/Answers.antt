@@ -9,5 +9,7 @@ pub loop-i-preserved : goal.loop-i-preserved
 loop-i-preserved g c = record {
   rows = c.in_ok-push_sample.ensures.rows;
   body = c.in_ok-push_sample.ensures.body;
-  left = samples-left (with_rows (empty_draft 1 (codes "sample")) (samples 0 c.args.start c.args.n)) c.loop-i.builder c.push_sample.new.into c.loop-i.i c.loop-i.x c.number_after-x.result c.args.n c.loop-i-test.true c.number_after-x.ensures c.in_ok-push_sample.ensures.row c.loop-i.invariant.left;
+  left = samples-left (with_rows (empty_draft 1 (codes "sample")) (samples 0 c.args.start c.args.n))
+      c.loop-i.builder c.push_sample.new.into c.loop-i.i c.loop-i.x c.number_after-x.result c.args.n c.loop-i-test.true
+      c.number_after-x.ensures c.in_ok-push_sample.ensures.row c.loop-i.invariant.left;
 }

@@ -10,4 +10,5 @@ returns-then-is_empty-clause-none c =
 pub returns-clause-words : goal.returns-clause-words
 returns-clause-words c =
     let some : 0 < length c.without_front_blanks-line.result.now = search (rules, tests) in
-    rw (c.after.ensures, c.place_of_blank-end.ensures.place) (words-cut c.args.line.now c.without_front_blanks-line.result.now c.without_front_blanks-line.ensures some)
+    rw (c.after.ensures, c.place_of_blank-end.ensures.place)
+    (words-cut c.args.line.now c.without_front_blanks-line.result.now c.without_front_blanks-line.ensures some)

@@ -4,4 +4,6 @@ use Rattle.std.proofs.lemmas.Iterator.Splits.{YieldsList-from_slice_split}
 use Rattle.yp_build.proofs.words.field.Goals as goal
 
 pub returns : goal.returns
-returns c = nth_from_yields_List _ _ c.args.number c.nth.ensures.ran (YieldsList-from_slice_split _ _ c.args.line.now c.split.ensures.rest c.split.ensures.done c.split.ensures.closure (λ x r q k. search (rules, tests)))
+returns c = nth_from_yields_List _ _ c.args.number c.nth.ensures.ran
+    (YieldsList-from_slice_split _ _ c.args.line.now c.split.ensures.rest c.split.ensures.done c.split.ensures.closure
+    (λ x r q k. search (rules, tests)))

@@ -13,9 +13,11 @@ pub returns-clause-call : goal.returns-clause-call
 returns-clause-call g c =
     let by = c.args.called in
     let arguments = spelling g.M.Message.kind (g.M.Message.view c.args.arguments.now) in
-    call_set c.written_is_joined.ensures c.args.buf.now c.write_call.new.buf c.set.new.buf (called c.args.xid by.prog by.vers by.procedure) arguments c.in-Ok.at c.set.result
+    call_set c.written_is_joined.ensures c.args.buf.now c.write_call.new.buf c.set.new.buf
+    (called c.args.xid by.prog by.vers by.procedure) arguments c.in-Ok.at c.set.result
     c.in-Ok.ensures.written.bytes_there c.in-Ok.ensures.written.place.0 c.set.ensures.bytes_there c.set.ensures.place
-    ∙ append_assoc (spelling front_kind (front c.args.xid)) (spelling procedure_kind (heading by.prog by.vers by.procedure)) arguments
+    ∙ append_assoc (spelling front_kind (front c.args.xid))
+    (spelling procedure_kind (heading by.prog by.vers by.procedure)) arguments
 
 pub set-requires-clause-room : goal.set-requires-clause-room
 unfolding opaque fixed

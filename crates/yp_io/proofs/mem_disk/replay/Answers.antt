@@ -10,4 +10,5 @@ returns c =
     let all : length c.args.steps.now ≤ c.loop-step.step-index = omega (arith, c.loop-step-test.false) in
     let none = ap steps_of (drop_all c.loop-step.step-index c.args.steps.now all) in
     let ended = ap (fold (after_crash_step c.args.kept) (crash_of c.loop-step.crash)) none in
-    ap (λ (r : Replayed). r.image) (sym ended ∙ c.loop-step.invariant) ∙ replay_all c.args.kept c.args.first.now (steps_of c.args.steps.now)
+    ap (λ (r : Replayed). r.image) (sym ended ∙ c.loop-step.invariant)
+    ∙ replay_all c.args.kept c.args.first.now (steps_of c.args.steps.now)

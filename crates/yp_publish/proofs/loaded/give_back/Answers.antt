@@ -4,12 +4,15 @@ use Rattle.yp_publish.proofs.Giving.{giving_none, giving_more}
 use Rattle.yp_publish.proofs.loaded.give_back.Goals as goal
 
 pub loop-stored-init : goal.loop-stored-init
-loop-stored-init g c = giving_none g.D.Disk.history c.args.maps.items c.args.rest.items (vec_capacity c.args.rest) c.requires
+loop-stored-init g c = giving_none g.D.Disk.history c.args.maps.items c.args.rest.items (vec_capacity c.args.rest)
+    c.requires
 
 pub loop-stored-preserved : goal.loop-stored-preserved
 loop-stored-preserved g c =
-    giving_more g.D.Disk.history c.args.maps.items c.args.rest.items c.loop-stored.maps.items c.pop.new.self.items c.in-Some.stored c.loop-stored.disks.items c.push_reserved.new.self.items c.into_disk.result _ _
-    c.loop-stored.invariant c.in-Some.ensures.items c.into_disk.ensures.disk c.push_reserved.ensures.items c.push_reserved.ensures.capacity c.into_disk.ensures.standing
+    giving_more g.D.Disk.history c.args.maps.items c.args.rest.items c.loop-stored.maps.items c.pop.new.self.items
+    c.in-Some.stored c.loop-stored.disks.items c.push_reserved.new.self.items c.into_disk.result _ _
+    c.loop-stored.invariant c.in-Some.ensures.items c.into_disk.ensures.disk c.push_reserved.ensures.items
+    c.push_reserved.ensures.capacity c.into_disk.ensures.standing
 
 pub push_reserved-requires : goal.push_reserved-requires
 push_reserved-requires g c =
@@ -20,10 +23,14 @@ push_reserved-requires g c =
 pub returns-clause-disks : goal.returns-clause-disks
 returns-clause-disks g c =
     let none : c.loop-stored.maps.items ≡ [] = search rules in
-    c.reverse.ensures.items ∙ sym (c.loop-stored.invariant.kept ∙ ap (λ (l : List (Kept g.row.D.Denot)). map (λ (k : Kept g.row.D.Denot). k.disk) l ++ reverse c.loop-stored.disks.items) none)
+    c.reverse.ensures.items ∙ sym (c.loop-stored.invariant.kept
+    ∙ ap (λ (l : List (Kept g.row.D.Denot)). map (λ (k : Kept g.row.D.Denot). k.disk)
+    l ++ reverse c.loop-stored.disks.items) none)
 
 pub returns-clause-standing : goal.returns-clause-standing
 returns-clause-standing g c =
     let none : c.loop-stored.maps.items ≡ [] = search rules in
-    let all : c.args.maps.items ≡ c.loop-stored.invariant.given = c.loop-stored.invariant.front ∙ ap (λ (l : List (Kept g.row.D.Denot)). l ++ c.loop-stored.invariant.given) none in
-    λ k. subst (λ (l : List (Kept g.row.D.Denot)). OfMap k l (IsStanding g.D.Disk.history)) (sym all) (c.loop-stored.invariant.stands k)
+    let all : c.args.maps.items ≡ c.loop-stored.invariant.given = c.loop-stored.invariant.front
+    ∙ ap (λ (l : List (Kept g.row.D.Denot)). l ++ c.loop-stored.invariant.given) none in
+    λ k. subst (λ (l : List (Kept g.row.D.Denot)). OfMap k l (IsStanding g.D.Disk.history)) (sym all)
+    (c.loop-stored.invariant.stands k)

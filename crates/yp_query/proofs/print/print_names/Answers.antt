@@ -14,7 +14,8 @@ returns-in_err-put_line-clause-puts g c =
     let rest = lines (drop (i + 1) names) in
     let p = err_from_is_err_and c.from_residual.result c.from_residual.ensures.1 in
     rw (flat_map-split line names i name (sym c.in-Some.ensures))
-    (puts_more (lines (take i names)) (line name ++ rest) c.from_residual.result _ c.loop-i.text _ _ _ _ c.loop-i.invariant.puts
+    (puts_more (lines (take i names))
+    (line name ++ rest) c.from_residual.result _ c.loop-i.text _ _ _ _ c.loop-i.invariant.puts
     (puts_stopped (line name) rest c.from_residual.result p.0 _ _ _ _ p.1 c.in_err-put_line.ensures.puts))
 
 pub loop-i-preserved : goal.loop-i-preserved
@@ -25,6 +26,9 @@ loop-i-preserved g c =
     let output = g.K.Sink.output in
     record {
       puts = rw (flat_map-next line names i name (sym c.in-Some.ensures))
-          (puts_more {E = Failed} (lines (take i names)) (line name) (Ok tt) c.args.text.now c.loop-i.text c.put_line.new.self (output c.args.sink.now) (output c.loop-i.sink) (output c.put_line.new.sink) c.loop-i.invariant.puts c.in_ok-put_line.ensures.puts);
+          (puts_more {E = Failed} (lines (take i names)) (line name)
+          (Ok tt) c.args.text.now c.loop-i.text c.put_line.new.self (output c.args.sink.now)
+          (output c.loop-i.sink)
+          (output c.put_line.new.sink) c.loop-i.invariant.puts c.in_ok-put_line.ensures.puts);
       faults = omega (arith, c.loop-i.invariant.faults, c.in_ok-put_line.ensures.cause.never_falls);
     }

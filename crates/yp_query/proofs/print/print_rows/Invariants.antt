@@ -6,6 +6,7 @@ use Rattle.yp_query.proofs.print.print_rows.Given as goal
 
 abbrev pub invariant-loop-i : goal.invariant-loop-i
 invariant-loop-i g l = record {
-  puts : Puts {E = Failed} (rows_text l.keyed (take l.i l.version.rows)) (Ok tt) l.initial.text l.text (g.K.Sink.output l.initial.sink) (g.K.Sink.output l.sink);
+  puts : Puts {E = Failed} (rows_text l.keyed (take l.i l.version.rows)) (Ok tt) l.initial.text l.text
+      (g.K.Sink.output l.initial.sink) (g.K.Sink.output l.sink);
   faults : g.K.Sink.faults l.initial.sink ≤ g.K.Sink.faults l.sink;
 }

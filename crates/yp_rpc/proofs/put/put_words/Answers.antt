@@ -12,10 +12,19 @@ loop-number-init c = sets_none c.args.buf.now
 
 pub set_u32-at-requires : goal.set_u32-at-requires
 set_u32-at-requires c =
-    omega (arith, c.loop-number.invariant.place, length-words (take c.loop-number.number-index c.args.numbers.now), length-take c.loop-number.number-index c.args.numbers.now)
+    omega (
+      arith,
+      c.loop-number.invariant.place,
+      length-words
+          (take c.loop-number.number-index c.args.numbers.now),
+      length-take c.loop-number.number-index c.args.numbers.now,
+    )
 
 pub loop-number-preserved : goal.loop-number-preserved
-loop-number-preserved c = words_set c.args.buf.now c.loop-number.buf c.set_u32-at.new.buf c.args.numbers.now c.loop-number.number-index c.loop-number.at c.set_u32-at.result (omega arith) c.loop-number.invariant c.set_u32-at.ensures
+loop-number-preserved c =
+    words_set c.args.buf.now c.loop-number.buf c.set_u32-at.new.buf c.args.numbers.now c.loop-number.number-index
+    c.loop-number.at c.set_u32-at.result (omega arith) c.loop-number.invariant c.set_u32-at.ensures
 
 pub returns : goal.returns
-returns c = words_done c.args.buf.now c.loop-number.buf c.args.numbers.now c.loop-number.number-index c.loop-number.at (omega arith) (omega arith) c.loop-number.invariant
+returns c = words_done c.args.buf.now c.loop-number.buf c.args.numbers.now c.loop-number.number-index c.loop-number.at
+    (omega arith) (omega arith) c.loop-number.invariant

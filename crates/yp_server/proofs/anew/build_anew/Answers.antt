@@ -1,9 +1,22 @@
-use Rattle.std.proofs.Common.{rules}
-use Rattle.yp_server.proofs.Building.{if_err, unbuilt}
+use Rattle.std.proofs.Common.{Err, None, ap, ◌∙◌, rules}
+use Rattle.yp_build.specs.After.{material_of, basis_of}
+use Rattle.yp_build.specs.declared.after.AfterFault.TheVariants.{Build}
+use Rattle.yp_session.specs.Causes.{IsTold}
+use Rattle.yp_server.specs.Locals.{told_by}
+use Rattle.yp_server.proofs.Building.{unbuilt}
 use Rattle.yp_server.proofs.anew.build_anew.Goals as goal
 
-pub returns-clause-unbuilt : goal.returns-clause-unbuilt
-returns-clause-unbuilt g c =
-    if_err c.build_marked.result
-    (λ stat refused. unbuilt _ _ _ stat _ _ c.in_ok-check_master.ensures.own (search rules) refused)
-    c.build_marked.ensures.refused
+pub returns-in-Ok-clause-anew : goal.returns-in-Ok-clause-anew
+returns-in-Ok-clause-anew g c = record {
+  material = material_of c.in_ok-text.text.items c.now-now.result;
+  of_told = record { text = c.in_ok-text.ensures.text; moment = c.now-now.ensures.told };
+  built = search rules;
+}
+
+pub returns-in-Err-Build-clause-unbuilt : goal.returns-in-Err-Build-clause-unbuilt
+returns-in-Err-Build-clause-unbuilt g c =
+    let material = material_of c.in_ok-text.text.items c.now-now.result in
+    let told : IsTold (told_by g.T.Texts.text g.C.Clock.moment c.args.desk.now) (basis_of c.args.kind c.args.own.now None _) material
+    = record { text = c.in_ok-text.ensures.text; moment = c.now-now.ensures.told } in
+    rw c.build_stat.ensures (unbuilt _ _ material c.in-Err-Build.fault _ _ (search rules) told (search rules)
+    (λ e. c.in-Err-Build.ensures.spent (ap Err (c.in-Err-Build.field-0-is ∙ ap Build e))))

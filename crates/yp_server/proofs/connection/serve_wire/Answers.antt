@@ -1,12 +1,13 @@
-use Rattle.std.proofs.Common.{Ok, ap, ◌∙◌, rules}
+use Rattle.std.proofs.Common.{Ok, ap, ◌∙◌, rules, arith}
 use Rattle.std.specs.List.{AllZip}
 use Rattle.std.proofs.lemmas.Slice.Zip.{AllZip-long}
 use Rattle.yp_publish.specs.Opens.{IsOpened}
 use Rattle.yp_session.specs.Wires.{wire_of}
 use Rattle.yp_session.specs.declared.session.End.{End}
-use Rattle.yp_server.specs.Locals.{keeping_of, telling_of}
+use Rattle.yp_publish.specs.Keeping.{keeping_of}
+use Rattle.yp_server.specs.Locals.{telling_of}
 use Rattle.yp_server.specs.Connections.{plain_log, service_of, connection_of, IsLast}
-use Rattle.yp_server.proofs.Hosting.{tells_same}
+use Rattle.yp_server.proofs.Hosting.{used_never}
 use Rattle.yp_server.proofs.Serving.{Unwritten, opened_zip, stopped_zip, no_more_at, bound_at, falls_at, count_of, unserved_so, first_from, went_on, served, served_bound, served_falls, served_count, served_desk}
 use Rattle.yp_server.proofs.connection.serve_wire.Goals as goal
 
@@ -29,11 +30,13 @@ returns-in-Err g c =
       unserved = rw c.refusal_of.ensures (unserved_so g.D.Disk.history g.D.Disk.faults old new _ _ c.in-Err.ensures.refused);
       untouched = search rules;
       unasked = search rules;
+      unseen = search rules;
       unwritten = no_more_at g.D.Disk.history g.D.Disk.faults old new all;
       bound = bound_at g.D.Disk.history g.D.Disk.faults old new all;
       never_falls = falls_at g.D.Disk.history g.D.Disk.faults old new all;
       count = count_of g.D.Disk.history g.D.Disk.faults old new all;
-      desk = tells_same _ c.args.stock.desk;
+      desk = used_never _ c.args.stock.desk;
+      counts = record { reads = omega arith; writes = omega arith };
       read_fault = search rules;
       write_fault = search rules;
       flushed = search rules;
@@ -41,7 +44,7 @@ returns-in-Err g c =
 
 pub returns-in-Ok-prepare : goal.returns-in-Ok-prepare
 returns-in-Ok-prepare g c =
-    let wire = wire_of g.S.Source.input g.S.Source.faults g.K.Sink.output g.K.Sink.flushed g.K.Sink.faults in
+    let wire = wire_of g.S.Source g.K.Sink in
     let service = service_of (keeping_of g.D.Disk.history g.D.Disk.faults plain_log) (telling_of g.T.Texts.text g.T.Texts.faults g.C.Clock.moment) c.args.catalog c.args.peer in
     let old = connection_of (wire c.args.wire.now) c.args.stock in
     let new = connection_of (wire c.run-end.new.wire) c.stock_of.result in
@@ -50,20 +53,22 @@ returns-in-Ok-prepare g c =
     let first = first_from service old new start finish c.in-Ok.loaded c.in-Ok-prepare.field-0.board c.new-publisher.result c.new-host.ensures c.new-publisher.ensures
     c.in-Ok.ensures.loaded (search rules) in
     let runs = c.run-end.ensures.runs in
-    let went = went_on service old new start finish c.open_is_unrefused.ensures c.starts_are_shown.ensures c.run-end.result c.run-end.new.self.calls c.run-end.new.self.place first runs in
+    let went = went_on service old new start finish c.starts_are_shown.ensures c.run-end.result c.run-end.new.self runs.more first runs.done in
     let last : IsLast service finish new = record { disks = c.stock_of.ensures.disks; desk = c.stock_of.ensures.desk; shows = c.stock_of.ensures.shows; standing = c.stock_of.ensures.standing } in
     record {
-      served = served service old new start finish c.run-end.result c.run-end.new.self.calls c.run-end.new.self.place first runs went last;
+      served = record { more = runs.more; behind = runs.behind; done = served service old new start finish c.log_rises.ensures c.beginning_is_start.ensures c.run-end.result c.run-end.new.self runs.more first runs.done went last };
       unserved = search rules;
       untouched = search rules;
       unasked = search rules;
+      unseen = search rules;
       unwritten = search rules;
       bound = served_bound service old new start finish first went last;
       never_falls = served_falls service old new start finish first went last;
       count = served_count service old new start finish first went last;
       desk = served_desk service old new start finish first went last;
-      read_fault = search rules;
-      write_fault = search rules;
+      counts = c.run-end.ensures.counts;
+      read_fault = λ is. c.run-end.ensures.read_fault cc;
+      write_fault = λ is. c.run-end.ensures.write_fault cc;
       flushed = λ kept. c.run-end.ensures.flushed (λ same. kept (ap (λ (end : End). Ok end) same));
     }
 
@@ -77,11 +82,13 @@ returns-in-Err-prepare g c =
       unserved = search rules;
       untouched = search rules;
       unasked = search rules;
+      unseen = search rules;
       unwritten = no_more_at g.D.Disk.history g.D.Disk.faults old new all;
       bound = bound_at g.D.Disk.history g.D.Disk.faults old new all;
       never_falls = falls_at g.D.Disk.history g.D.Disk.faults old new all;
       count = count_of g.D.Disk.history g.D.Disk.faults old new all;
-      desk = tells_same _ c.args.stock.desk;
+      desk = used_never _ c.args.stock.desk;
+      counts = record { reads = omega arith; writes = omega arith };
       read_fault = search rules;
       write_fault = search rules;
       flushed = search rules;

@@ -5,7 +5,7 @@ use Rattle.yp_server.proofs.local.build_for.Goals as goal
 
 pub returns-clause-follows : goal.returns-clause-follows
 returns-clause-follows g c =
+    let own = c.own-own.ensures.own ∙ ap (λ (k : Catalogue). k.own) c.catalog.ensures.catalogue in
     if_ok c.build_anew.result
-    (λ version anew. follows_at _ _ _ version _ _ c.args.map _ anew
-    (c.own-own.ensures.own ∙ ap (λ (k : Catalogue). k.own) c.catalog.ensures.catalogue) c.held-shown.ensures.version c.held-shown.ensures.kept)
-    c.build_anew.ensures.anew
+    (λ version follows. follows_at version _ _ _ c.args.map _ (rw c.held-shown.ensures.version at follows) own c.held-shown.ensures.kept)
+    c.build_anew.ensures.follows

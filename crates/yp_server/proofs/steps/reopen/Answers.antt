@@ -3,4 +3,4 @@ use Rattle.yp_server.proofs.steps.reopen.Goals as goal
 
 pub returns-in-Ok-clause-grown : goal.returns-in-Ok-clause-grown
 returns-in-Ok-clause-grown g c =
-    opened_front g.B.Show.log g.B.Show.showed c.args.map c.args.publisher.now c.reopen.new.self c.requires c.in-Ok.ensures.elsewhere c.in-Ok.ensures.log
+    opened_front g.B.Show.log c.args.map c.args.publisher.now c.reopen.new.self c.requires c.in-Ok.ensures.opened.upheld.elsewhere c.in-Ok.ensures.opened.shown

@@ -1,86 +1,110 @@
-use Rattle.std.proofs.Common.{Some, None, take}
-use Rattle.std.proofs.lemmas.Result.{on_ok_weaker, on_err_weaker}
-use Rattle.yp_msgs.specs.Transfers.{req_make_view}
+use Rattle.std.proofs.Common.{true, false, refl, take}
 use Rattle.yp_answer.specs.declared.procedure.Path.TheVariants.{Stream}
-use Rattle.yp_answer.specs.Maps.{maps_of}
 use Rattle.yp_answer.specs.Streams.{parts_left, joined}
 use Rattle.yp_session.specs.Hosts.{conduct_of}
-use Rattle.yp_session.proofs.Sending.{Appends-none}
+use Rattle.yp_session.proofs.Sending.{Appends-none, on_ok_two, on_err_two}
 use Rattle.yp_session.proofs.Links.{link_silent, link_bytes, link_open}
 use Rattle.yp_session.proofs.session.reply_to.Goals as goal
 
-pub make-len-requires-clause-unrefused : goal.make-len-requires-clause-unrefused
-make-len-requires-clause-unrefused g c =
-    c.open_is_unrefused.ensures Stream (maps_of (g.H.View.seen c.answer.new.view)) c.args.peer c.args.record.now c.in-Make.xid (req_make_view c.in-Make.request)
-    c.in-Make.ensures.reply
-
 pub returns-in-Silent-clause-sent : goal.returns-in-Silent-clause-sent
 returns-in-Silent-clause-sent g c =
-    let conduct = conduct_of g.H.View.seen g.H.Host.files g.H.View.stepped g.H.Host.made in
-    record {
-      answer = None;
-      link = link_silent conduct c.args.peer c.args.record.now g.met.H.Host.step_counts_nothing c.args.host.now c.answer.new.view c.in-Silent.ensures.step c.in-Silent.ensures.reply;
-      done = Appends-none (g.K.Sink.output c.args.sink.now);
-    }
+    let conduct = conduct_of g.H.View.seen g.H.Host.told g.H.Host.counts g.H.View.stepped g.H.Host.made in (
+      _,
+      refl,
+      record {
+        link = link_silent conduct Stream c.args.peer c.args.message.now true g.met.H.Host.step_counts_nothing c.args.host.now c.answer.new.view
+            c.in-Silent.ensures.step c.in-Silent.ensures.reply;
+        flush = refl;
+        sends = (Appends-none (g.K.Sink.output c.args.sink.now), refl);
+      },
+    )
 
 pub returns-in-Reply-clause-sent : goal.returns-in-Reply-clause-sent
 returns-in-Reply-clause-sent g c =
-    let conduct = conduct_of g.H.View.seen g.H.Host.files g.H.View.stepped g.H.Host.made in
+    let conduct = conduct_of g.H.View.seen g.H.Host.told g.H.Host.counts g.H.View.stepped g.H.Host.made in
     let bytes = take c.in-Reply.len c.answer.new.buf in
-    on_ok_weaker c.send.result (λ done. record {
-      answer = Some bytes;
-      link = link_bytes conduct c.args.peer c.args.record.now g.met.H.Host.step_counts_nothing bytes c.args.host.now c.answer.new.view c.in-Reply.ensures.step c.in-Reply.ensures.reply.bytes;
-      done = done;
-    }) c.send.ensures.sent
+    on_ok_two c.send.result (λ done more. (
+      _,
+      refl,
+      record {
+        link = link_bytes conduct Stream c.args.peer c.args.message.now true g.met.H.Host.step_counts_nothing bytes c.args.host.now c.answer.new.view
+            c.in-Reply.ensures.step c.in-Reply.ensures.reply.bytes;
+        flush = refl;
+        sends = (done, more);
+      },
+    )) c.send.ensures.sent c.send.ensures.flushed
 
-pub returns-in-Reply-clause-prefix : goal.returns-in-Reply-clause-prefix
-returns-in-Reply-clause-prefix g c =
-    let conduct = conduct_of g.H.View.seen g.H.Host.files g.H.View.stepped g.H.Host.made in
+pub returns-in-Reply-clause-unsent : goal.returns-in-Reply-clause-unsent
+returns-in-Reply-clause-unsent g c =
+    let conduct = conduct_of g.H.View.seen g.H.Host.told g.H.Host.counts g.H.View.stepped g.H.Host.made in
     let bytes = take c.in-Reply.len c.answer.new.buf in
-    on_err_weaker c.send.result (λ done. record {
-      answer = Some bytes;
-      link = link_bytes conduct c.args.peer c.args.record.now g.met.H.Host.step_counts_nothing bytes c.args.host.now c.answer.new.view c.in-Reply.ensures.step c.in-Reply.ensures.reply.bytes;
-      done = done;
-    }) c.send.ensures.prefix
+    on_err_two c.send.result (λ done more. (
+      _,
+      refl,
+      record {
+        link = link_bytes conduct Stream c.args.peer c.args.message.now false g.met.H.Host.step_counts_nothing bytes c.args.host.now c.answer.new.view
+            c.in-Reply.ensures.step c.in-Reply.ensures.reply.bytes;
+        flush = refl;
+        sends = (done, more);
+      },
+    )) c.send.ensures.prefix c.send.ensures.cause.risen
 
 pub returns-in-Stream-clause-sent : goal.returns-in-Stream-clause-sent
 returns-in-Stream-clause-sent g c =
-    let conduct = conduct_of g.H.View.seen g.H.Host.files g.H.View.stepped g.H.Host.made in
+    let conduct = conduct_of g.H.View.seen g.H.Host.told g.H.Host.counts g.H.View.stepped g.H.Host.made in
     let bytes = joined (parts_left (g.H.View.seen c.answer.new.view).known c.in-Stream.stream) in
-    on_ok_weaker c.send_stream.result (λ done. record {
-      answer = Some bytes;
-      link = link_bytes conduct c.args.peer c.args.record.now g.met.H.Host.step_counts_nothing bytes c.args.host.now c.answer.new.view c.in-Stream.ensures.step c.in-Stream.ensures.reply.whole;
-      done = done;
-    }) c.send_stream.ensures.sent
+    on_ok_two c.send_stream.result (λ done more. (
+      _,
+      refl,
+      record {
+        link = link_bytes conduct Stream c.args.peer c.args.message.now true g.met.H.Host.step_counts_nothing bytes c.args.host.now c.answer.new.view
+            c.in-Stream.ensures.step c.in-Stream.ensures.reply.whole;
+        flush = refl;
+        sends = (done, more);
+      },
+    )) c.send_stream.ensures.sent c.send_stream.ensures.flushed
 
-pub returns-in-Stream-clause-prefix : goal.returns-in-Stream-clause-prefix
-returns-in-Stream-clause-prefix g c =
-    let conduct = conduct_of g.H.View.seen g.H.Host.files g.H.View.stepped g.H.Host.made in
+pub returns-in-Stream-clause-unsent : goal.returns-in-Stream-clause-unsent
+returns-in-Stream-clause-unsent g c =
+    let conduct = conduct_of g.H.View.seen g.H.Host.told g.H.Host.counts g.H.View.stepped g.H.Host.made in
     let bytes = joined (parts_left (g.H.View.seen c.answer.new.view).known c.in-Stream.stream) in
-    on_err_weaker c.send_stream.result (λ done. record {
-      answer = Some bytes;
-      link = link_bytes conduct c.args.peer c.args.record.now g.met.H.Host.step_counts_nothing bytes c.args.host.now c.answer.new.view c.in-Stream.ensures.step c.in-Stream.ensures.reply.whole;
-      done = done;
-    }) c.send_stream.ensures.prefix
+    on_err_two c.send_stream.result (λ done more. (
+      _,
+      refl,
+      record {
+        link = link_bytes conduct Stream c.args.peer c.args.message.now false g.met.H.Host.step_counts_nothing bytes c.args.host.now c.answer.new.view
+            c.in-Stream.ensures.step c.in-Stream.ensures.reply.whole;
+        flush = refl;
+        sends = (done, more);
+      },
+    )) c.send_stream.ensures.prefix c.send_stream.ensures.cause.risen
 
 pub returns-in-Make-clause-sent : goal.returns-in-Make-clause-sent
 returns-in-Make-clause-sent g c =
-    let conduct = conduct_of g.H.View.seen g.H.Host.files g.H.View.stepped g.H.Host.made in
+    let conduct = conduct_of g.H.View.seen g.H.Host.told g.H.Host.counts g.H.View.stepped g.H.Host.made in
     let made = c.make-len.ensures.made in
-    on_ok_weaker c.send-in-Make.result (λ done. record {
-      answer = _;
-      link = link_open conduct c.args.peer c.args.record.now g.met.H.Host.step_counts_nothing c.in-Make.xid (req_make_view c.in-Make.request) made.0
-          c.args.host.now c.answer.new.view c.make-len.new.host c.in-Make.ensures.step c.in-Make.ensures.reply made.2;
-      done = rw made.1 at done;
-    }) c.send-in-Make.ensures.sent
+    on_ok_two c.send-in-Make.result (λ done more. (
+      _,
+      refl,
+      record {
+        link = link_open conduct Stream c.args.peer c.args.message.now true g.met.H.Host.step_counts_nothing c.in-Make.xid c.in-Make.job made.0
+            c.args.host.now c.answer.new.view c.make-len.new.host c.in-Make.ensures.step c.in-Make.ensures.reply.left_open made.2;
+        flush = refl;
+        sends = (rw made.1 at done, more);
+      },
+    )) c.send-in-Make.ensures.sent c.send-in-Make.ensures.flushed
 
-pub returns-in-Make-clause-prefix : goal.returns-in-Make-clause-prefix
-returns-in-Make-clause-prefix g c =
-    let conduct = conduct_of g.H.View.seen g.H.Host.files g.H.View.stepped g.H.Host.made in
+pub returns-in-Make-clause-unsent : goal.returns-in-Make-clause-unsent
+returns-in-Make-clause-unsent g c =
+    let conduct = conduct_of g.H.View.seen g.H.Host.told g.H.Host.counts g.H.View.stepped g.H.Host.made in
     let made = c.make-len.ensures.made in
-    on_err_weaker c.send-in-Make.result (λ done. record {
-      answer = _;
-      link = link_open conduct c.args.peer c.args.record.now g.met.H.Host.step_counts_nothing c.in-Make.xid (req_make_view c.in-Make.request) made.0
-          c.args.host.now c.answer.new.view c.make-len.new.host c.in-Make.ensures.step c.in-Make.ensures.reply made.2;
-      done = rw made.1 at done;
-    }) c.send-in-Make.ensures.prefix
+    on_err_two c.send-in-Make.result (λ done more. (
+      _,
+      refl,
+      record {
+        link = link_open conduct Stream c.args.peer c.args.message.now false g.met.H.Host.step_counts_nothing c.in-Make.xid c.in-Make.job made.0
+            c.args.host.now c.answer.new.view c.make-len.new.host c.in-Make.ensures.step c.in-Make.ensures.reply.left_open made.2;
+        flush = refl;
+        sends = (rw made.1 at done, more);
+      },
+    )) c.send-in-Make.ensures.prefix c.send-in-Make.ensures.cause.risen

@@ -11,7 +11,8 @@ left_sound before after sound (inr stored) = subst IsSound (sym stored.1) tt
 
 bounded : FileIsBounded
 bounded first [] sound left = (sound_small first sound, tt)
-bounded first (next ∷ files) sound left = (sound_small first sound, bounded next files (left_sound first next sound left.0) left.1)
+bounded first (next ∷ files) sound left =
+    (sound_small first sound, bounded next files (left_sound first next sound left.0) left.1)
 
 pub returns : goal.returns
 returns c = bounded

@@ -8,7 +8,8 @@ use Rattle.yp_slot.proofs.read.read_rows.Given as goal
 
 abbrev pub invariant-loop-number : goal.invariant-loop-number
 invariant-loop-number l = record {
-  rows : HasRead l.count (unread l.fn.cursor) l.fn.builder l.builder l._number (option_map (λ last. last.now) l.last) (unread l.cursor);
+  rows : HasRead l.count (unread l.fn.cursor) l.fn.builder l.builder l._number (option_map (λ last. last.now) l.last)
+      (unread l.cursor);
   passed : Passes (unread l.fn.cursor) (unread l.cursor);
   place : (unread l.cursor).at ≡ draft_len l.builder;
   len : length l.builder.rows ≡ l._number;

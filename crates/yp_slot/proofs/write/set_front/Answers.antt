@@ -47,10 +47,18 @@ returns c =
     let w2 = spelling U32 c.order.result in
     let m = opaque c.master.result.now in
     let w3 = spelling U32 c.len.result in
-    let one = sets_more [] w1 0 c.set_u32-at.result c.args.buf.now c.set_u32-at.new.buf total (spelled_none c.args.buf.now total size) c.set_u32-at.ensures (omega arith) in
-    let two = sets_more w1 w2 c.set_u32-at.result c.set_u32-at-2.result c.set_u32-at.new.buf c.set_u32-at-2.new.buf total one c.set_u32-at-2.ensures (omega arith) in
-    let three = sets_more (w1 ++ w2) m c.set_u32-at-2.result c.set_opaque-at.result c.set_u32-at-2.new.buf c.set_opaque-at.new.buf total two c.set_opaque-at.ensures (omega arith) in
-    let four = sets_more (w1 ++ w2 ++ m) w3 c.set_opaque-at.result c.set_u32.result c.set_opaque-at.new.buf c.set_u32.new.buf total three c.set_u32.ensures (omega arith) in
-    let is_format : c.format_of.result ≡ format c.args.version.now.secure = c.format_of.ensures ∙ ap format c.secure.ensures.secure in
+    let one = sets_more [] w1 0 c.set_u32-at.result c.args.buf.now c.set_u32-at.new.buf total
+    (spelled_none c.args.buf.now total size) c.set_u32-at.ensures (omega arith) in
+    let two = sets_more w1 w2 c.set_u32-at.result c.set_u32-at-2.result c.set_u32-at.new.buf c.set_u32-at-2.new.buf
+    total one c.set_u32-at-2.ensures (omega arith) in
+    let three = sets_more (w1 ++ w2)
+    m c.set_u32-at-2.result c.set_opaque-at.result c.set_u32-at-2.new.buf c.set_opaque-at.new.buf total two
+    c.set_opaque-at.ensures (omega arith) in
+    let four = sets_more (w1 ++ w2 ++ m)
+    w3 c.set_opaque-at.result c.set_u32.result c.set_opaque-at.new.buf c.set_u32.new.buf total three
+    c.set_u32.ensures (omega arith) in
+    let is_format : c.format_of.result ≡ format c.args.version.now.secure = c.format_of.ensures
+    ∙ ap format c.secure.ensures.secure in
     subst (λ (l : List ℕ). IsSpelled l c.set_u32.result c.set_u32.new.buf total)
-    (λ i. spelling U32 (is_format i) ++ spelling U32 (c.order.ensures.order i) ++ opaque (c.master.ensures.master i) ++ spelling U32 (c.len.ensures.len i)) four
+    (λ i. spelling U32 (is_format i) ++ spelling U32 (c.order.ensures.order i) ++ opaque (c.master.ensures.master i)
+    ++ spelling U32 (c.len.ensures.len i)) four

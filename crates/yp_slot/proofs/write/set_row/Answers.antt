@@ -30,6 +30,11 @@ returns c = λ front size s.
     let place = c.set_opaque-at.ensures.place in
     let key = length-opaque key_max c.args.key.now in
     let value = length-opaque value_max c.args.value.now in
-    let one = sets_more front (opaque c.args.key.now) c.args.at c.set_opaque-at.result c.args.buf.now c.set_opaque-at.new.buf size s c.set_opaque-at.ensures (omega arith) in
-    let two = sets_more (front ++ opaque c.args.key.now) (opaque c.args.value.now) c.set_opaque-at.result c.set_opaque.result c.set_opaque-at.new.buf c.set_opaque.new.buf size one c.set_opaque.ensures (omega arith) in
-    subst (λ (l : List ℕ). IsSpelled l c.set_opaque.result c.set_opaque.new.buf size) (append_assoc front (opaque c.args.key.now) (opaque c.args.value.now)) two
+    let one = sets_more front (opaque c.args.key.now)
+    c.args.at c.set_opaque-at.result c.args.buf.now c.set_opaque-at.new.buf size s c.set_opaque-at.ensures
+    (omega arith) in
+    let two = sets_more (front ++ opaque c.args.key.now) (opaque c.args.value.now)
+    c.set_opaque-at.result c.set_opaque.result c.set_opaque-at.new.buf c.set_opaque.new.buf size one
+    c.set_opaque.ensures (omega arith) in
+    subst (λ (l : List ℕ). IsSpelled l c.set_opaque.result c.set_opaque.new.buf size)
+    (append_assoc front (opaque c.args.key.now) (opaque c.args.value.now)) two

@@ -7,4 +7,5 @@ use Rattle.yp_slot.specs.Spelled.{IsSpelled}
 use Rattle.yp_slot.proofs.write.set_rows.Given as goal
 
 abbrev pub invariant-loop-number : goal.invariant-loop-number
-invariant-loop-number l = IsSpelled (head_bytes l.version ++ flat_map row_bytes (take l.number l.version.rows)) l.at l.buf (body_len l.version)
+invariant-loop-number l = IsSpelled (head_bytes l.version ++ flat_map row_bytes (take l.number l.version.rows))
+    l.at l.buf (body_len l.version)

@@ -7,13 +7,16 @@ use Rattle.yp_words.proofs.form.number_of.Goals as goal
 pub returns-in-Ok : goal.returns-in-Ok
 returns-in-Ok c =
     let same = (bytes_eq-Decides c.format.result.now c.args.word.now).0 (sym c.eq.ensures ∙ c.if-eq.true) in
-    sym (number_yes c.args.word.now c.parse.result c.in-Ok.number c.parse.ensures.value.0 c.in-Ok.is (sym c.format.ensures.text ∙ same))
+    sym (number_yes c.args.word.now c.parse.result c.in-Ok.number c.parse.ensures.value.0 c.in-Ok.is
+    (sym c.format.ensures.text ∙ same))
 
 pub returns-in_default : goal.returns-in_default
 returns-in_default c = sym (number_no c.args.word.now c.parse.result c.parse.ensures.value.0 (λ n is same.
     let read = c.in-Ok.is in
     let number : c.in-Ok.number ≡ n = cc in
-    let equal : c.eq.result ≡ true = c.eq.ensures ∙ (bytes_eq-Decides c.format.result.now c.args.word.now).1 (c.format.ensures.text ∙ ap decimal number ∙ same) in
+    let equal : c.eq.result ≡ true =
+    c.eq.ensures
+    ∙ (bytes_eq-Decides c.format.result.now c.args.word.now).1 (c.format.ensures.text ∙ ap decimal number ∙ same) in
     let unequal = c.if-eq.false in
     absurd cc))
 

@@ -5,10 +5,12 @@ use Rattle.yp_words.specs.declared.form.Form.{Form as CodeForm}
 use Rattle.yp_words.specs.Forms.{form_view}
 use Rattle.yp_words.specs.Words.{Further, fitting, further_view}
 use Rattle.yp_words.proofs.sentence.fitting.Goals as goal
-use Rattle.yp_words.proofs.sentence.fitting.Goals.{then-i-words-via-then-i-words, then-i-words-via-else-i-words+then-not-fits}
+use Rattle.yp_words.proofs.sentence.fitting.Goals.{then-i-words-via-then-i-words}
+use Rattle.yp_words.proofs.sentence.fitting.Goals.{then-i-words-via-else-i-words+then-not-fits}
 
 -- where a word is missing, none fits
-none_fits : (forms : List CodeForm) (further : Further) → 0 < length forms → fitting (map form_view forms) further [] ≡ 0
+none_fits : (forms : List CodeForm) (further : Further) → 0 < length forms
+    → fitting (map form_view forms) further [] ≡ 0
 none_fits [] further some = absurd (omega (arith, some))
 none_fits (form ∷ forms) further some = refl
 

@@ -4,4 +4,5 @@ use Rattle.yp_words.proofs.sentence.whole_of.Given as goal
 
 abbrev pub invariant-loop-sentence : goal.invariant-loop-sentence
 invariant-loop-sentence l =
-    asked (map sentence_view (drop l.sentence-index l.sentences)) (texts l.words) ≡ asked (map sentence_view l.sentences) (texts l.words)
+    asked (map sentence_view (drop l.sentence-index l.sentences)) (texts l.words)
+    ≡ asked (map sentence_view l.sentences) (texts l.words)

@@ -6,4 +6,5 @@ use Rattle.yp_words.proofs.serving.names.Given as goal
 
 abbrev pub invariant-loop-word : goal.invariant-loop-word
 invariant-loop-word l =
-    list_any (is_same (name_of l.store)) (served (texts (drop l.word-index l.words))) ≡ list_any (is_same (name_of l.store)) (served (texts l.words))
+    list_any (is_same (name_of l.store)) (served (texts (drop l.word-index l.words)))
+    ≡ list_any (is_same (name_of l.store)) (served (texts l.words))

@@ -1,23 +1,27 @@
 use Rattle.std.proofs.Common.{◌≡◌, ℕ, List, Some, None, Result, Ok, Err, sym, ap, subst, ◌∙◌}
 use Rattle.std.specs.Option.{ok_or}
-use Rattle.yp_words.specs.Words.{Meaning, command_of, asked, sentences, wrong_word, texts, asks_of, IsSentenceOfWords, HasNames}
+use Rattle.yp_words.specs.Words.{Meaning, command_of, asked, sentences, wrong_word, texts, asks_of, IsSentenceOfWords}
+use Rattle.yp_words.specs.Words.{HasNames}
 use Rattle.yp_words.proofs.Named.{asked_named}
 use Rattle.yp_words.proofs.words.parse.Goals as goal
 
 -- words that ask for something are a command
-is_command : (words : List (List ℕ)) (meaning : Meaning) → Some meaning ≡ asked sentences words → command_of words ≡ Ok meaning
+is_command : (words : List (List ℕ)) (meaning : Meaning) → Some meaning ≡ asked sentences words
+    → command_of words ≡ Ok meaning
 unfolding command_of
 is_command words meaning e = ap (λ o. ok_or o (wrong_word sentences words)) (sym e)
 
 -- other words have a wrong one
-is_none : (words : List (List ℕ)) (word : ℕ) → None ≡ asked sentences words → word ≡ wrong_word sentences words → command_of words ≡ Err word
+is_none : (words : List (List ℕ)) (word : ℕ) → None ≡ asked sentences words → word ≡ wrong_word sentences words
+    → command_of words ≡ Err word
 unfolding command_of
 is_none words word e is =
     let wrong : ℕ → Result Meaning ℕ = λ w. Err w in
     ap (λ o. ok_or o (wrong_word sentences words)) (sym e) ∙ ap wrong (sym is)
 
 pub returns-in_default-clause-usage : goal.returns-in_default-clause-usage
-returns-in_default-clause-usage c = is_none (texts c.args.words.now) c.wrong_word.result c.in_default.ensures c.wrong_word.ensures
+returns-in_default-clause-usage c =
+    is_none (texts c.args.words.now) c.wrong_word.result c.in_default.ensures c.wrong_word.ensures
 
 pub returns-in-Ok-clause-sentence : goal.returns-in-Ok-clause-sentence
 returns-in-Ok-clause-sentence c =

@@ -4,4 +4,5 @@ use Rattle.yp_words.specs.Words.{served, texts}
 use Rattle.yp_words.proofs.words.served.Given as goal
 
 abbrev pub invariant-loop-word : goal.invariant-loop-word
-invariant-loop-word l = map name_view l.stores.items ++ served (texts (drop l.word-index l.words)) ≡ served (texts l.words)
+invariant-loop-word l = map name_view l.stores.items ++ served (texts (drop l.word-index l.words))
+    ≡ served (texts l.words)

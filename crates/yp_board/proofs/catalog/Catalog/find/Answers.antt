@@ -11,7 +11,9 @@ found : (c : After-position) → c.position.result ≡ find c.args.domain.now c.
 found c =
     let maps = c.self.inside.maps.items in
     let named = is_named c.args.domain.now c.args.map.now in
-    let at : c.position.result ≡ position (λ x. named (name_view x)) maps = position_from_yields_List (λ x. named (name_view x)) _ _ c.position.result c.position.ensures.ran (YieldsList-from_slice maps cc) (λ x b q k. search (rules, tests)) in
+    let at : c.position.result ≡ position (λ x. named (name_view x)) maps =
+    position_from_yields_List (λ x. named (name_view x)) _ _ c.position.result c.position.ensures.ran
+    (YieldsList-from_slice maps cc) (λ x b q k. search (rules, tests)) in
     rw (← c.self.view_is) (at ∙ sym (position-map named name_view maps))
 
 pub returns-clause-found : goal.returns-clause-found
@@ -19,4 +21,5 @@ returns-clause-found c = sym c.in_ok-place.was ∙ found (goal.at.returns-clause
 
 pub returns-in_err-place-clause-found : goal.returns-in_err-place-clause-found
 returns-in_err-place-clause-found c =
-    c.from_residual.ensures ∙ sym c.in_err-place.was ∙ found (goal.at.returns-in_err-place-clause-found c).After-position
+    c.from_residual.ensures ∙ sym c.in_err-place.was
+    ∙ found (goal.at.returns-in_err-place-clause-found c).After-position

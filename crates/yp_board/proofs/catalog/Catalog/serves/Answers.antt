@@ -9,5 +9,6 @@ pub returns-clause-served : goal.returns-clause-served
 returns-clause-served c =
     let maps = c.self.inside.maps.items in
     let domain = c.args.domain.now in
-    let found = any_from_yields_List (λ name. bytes_eq name.domain.items domain) _ _ c.any.result c.any.ensures.ran (YieldsList-from_slice maps cc) (λ x b q k. search (rules, tests)) in
+    let found = any_from_yields_List (λ name. bytes_eq name.domain.items domain) _ _ c.any.result c.any.ensures.ran
+    (YieldsList-from_slice maps cc) (λ x b q k. search (rules, tests)) in
     rw (← c.self.view_is) (found ∙ sym (list_any-map (λ name. bytes_eq name.0 domain) name_view maps))

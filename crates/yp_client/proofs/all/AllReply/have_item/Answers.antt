@@ -9,10 +9,12 @@ returns-then-self-clause-more g c = ([], λ whole. (refl, whole), gives_nothing 
 
 pub returns-clause-more : goal.returns-clause-more
 returns-clause-more g c =
-    let whole : c.to_front.new.self.whole ≡ c.args.self.now.whole = ap (λ (r : AllReply). r.whole) c.to_front.ensures.same in
+    let whole : c.to_front.new.self.whole ≡ c.args.self.now.whole =
+    ap (λ (r : AllReply). r.whole) c.to_front.ensures.same in
     rw (whole, c.to_front.ensures.waiting) at c.read_on.ensures.more
 
 pub returns-clause-cause : goal.returns-clause-cause
 returns-clause-cause g c =
-    let whole : c.to_front.new.self.whole ≡ c.args.self.now.whole = ap (λ (r : AllReply). r.whole) c.to_front.ensures.same in
+    let whole : c.to_front.new.self.whole ≡ c.args.self.now.whole =
+    ap (λ (r : AllReply). r.whole) c.to_front.ensures.same in
     rw whole at c.read_on.ensures.cause

@@ -8,8 +8,11 @@ use Rattle.yp_client.proofs.all.AllReply.push_rows.Given as goal
 
 abbrev pub invariant-loop-self : goal.invariant-loop-self
 invariant-loop-self g l = record {
-  so_far : PushedSoFar l.fn.into l.into l.fn.self l.self l.fn.buf l.buf (progress (g.S.Source.input l.fn.source) l.fn.reader l.fn.self.whole) (progress (g.S.Source.input l.source) l.reader l.self.whole);
-  underway : IsUnderway (l.self.at + length (waiting l.self l.buf)) (progress (g.S.Source.input l.source) l.reader l.self.whole);
+  so_far : PushedSoFar l.fn.into l.into l.fn.self l.self l.fn.buf l.buf
+      (progress (g.S.Source.input l.fn.source) l.fn.reader l.fn.self.whole)
+      (progress (g.S.Source.input l.source) l.reader l.self.whole);
+  underway : IsUnderway (l.self.at + length (waiting l.self l.buf))
+      (progress (g.S.Source.input l.source) l.reader l.self.whole);
   kept : Grows l.fn.into l.into;
   few : l.self.rows ≤ l.self.at;
   stands : StandsIn l.self l.buf;

@@ -1,5 +1,5 @@
 -- How far `skip` has come.
-use Rattle.std.proofs.Common.{◌≡◌, ◌+◌, ◌-◌, ◌≤◌, cond}
+use Rattle.std.proofs.Common.{◌+◌, ◌-◌, ◌≤◌, cond}
 use Rattle.yp_client.specs.Limits.{all_max}
 use Rattle.yp_client.specs.Windows.{progress}
 use Rattle.yp_client.proofs.Waiting.{Skips}
@@ -7,8 +7,8 @@ use Rattle.yp_client.proofs.all.AllReply.skip.Given as goal
 
 abbrev pub invariant-loop-self : goal.invariant-loop-self
 invariant-loop-self g l = record {
-  skipped : Skips (progress (g.S.Source.input l.fn.source) l.fn.reader l.fn.self.whole) (progress (g.S.Source.input l.source) l.reader l.self.whole) l.self.at;
-  rows : l.self.rows ≡ l.fn.self.rows;
+  skipped : Skips (progress (g.S.Source.input l.fn.source) l.fn.reader l.fn.self.whole)
+      (progress (g.S.Source.input l.source) l.reader l.self.whole) l.self.at;
   never_fell : g.S.Source.faults l.fn.source ≤ g.S.Source.faults l.source;
 }
 

@@ -13,9 +13,14 @@ returns-clause-calls g c =
     rw (← c.self.view_is) (elim c.match-fetched.branch [
       | in-Ok w ↦
           let says = rw xid at w.in-Ok.ensures.says in
-          rw w.said-is (called_ok _ _ _ _ w.in-Ok.said says.0 _ _ c.if-self.false w.in-Ok.ensures.of_reply says.2 (rw xid at w.in-Ok.ensures.sent) says.1
-          (c.is_spent_by-self-inside.ensures ∙ ap spends w.said-is) refl c.fetch-fetched.ensures.reads c.fetch-fetched.ensures.writes)
+          rw w.said-is (called_ok _ _ _ _ w.in-Ok.said says.0 _ _ c.if-self.false w.in-Ok.ensures.of_reply says.2
+          (rw xid at w.in-Ok.ensures.sent) w.in-Ok.ensures.waited says.1
+          (c.is_spent_by-self-inside.ensures ∙ ap spends w.said-is) refl c.fetch-fetched.ensures.reads
+          c.fetch-fetched.ensures.writes)
       | in-Err w ↦
-          rw w.said-is (called_err_at (Unit {0}) (Result (Unit {0}) ClientFault) _ (all_call c.args.domain.now c.args.map.now) _ w.in-Err.fault _ _ _ xid c.if-self.false w.in-Err.ensures.cause w.in-Err.ensures.sent
-          (c.is_spent_by-self-inside.ensures ∙ ap spends w.said-is) refl c.fetch-fetched.ensures.reads c.fetch-fetched.ensures.writes)
+          rw w.said-is (called_err_at (Unit {0}) (Result (Unit {0}) ClientFault) _
+          (all_call c.args.domain.now c.args.map.now) _ w.in-Err.fault _ _ _ xid c.if-self.false
+          w.in-Err.ensures.cause w.in-Err.ensures.sent w.in-Err.ensures.waited
+          (c.is_spent_by-self-inside.ensures ∙ ap spends w.said-is) refl c.fetch-fetched.ensures.reads
+          c.fetch-fetched.ensures.writes)
     ])

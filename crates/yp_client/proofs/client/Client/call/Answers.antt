@@ -1,4 +1,4 @@
-use Rattle.std.proofs.Common.{◌≡◌, ◌++◌, ◌∙◌, ap, refl, arith, length, take, drop}
+use Rattle.std.proofs.Common.{◌≡◌, ℕ, ◌++◌, ◌∙◌, ap, refl, arith, length, take, drop}
 use Rattle.std.proofs.lemmas.List.{take_at}
 use Rattle.std.proofs.lemmas.Grind.{common_steps}
 use Rattle.yp_client.specs.Calls.{spends}
@@ -6,17 +6,21 @@ use Rattle.yp_client.proofs.Judging.{called_ok, called_err}
 use Rattle.yp_client.proofs.client.Client.call.Goals as goal
 use Rattle.yp_client.proofs.client.Client.call.Goals.{in-Ok, in-Err}
 
-pub returns-clause-calls : goal.returns-clause-calls
-returns-clause-calls g c = rw (← c.self.view_is) (elim c.match-read.branch [
+pub returns : goal.returns
+returns g c = rw (← c.self.view_is) (elim c.match-read.branch [
   | in-Ok w ↦
       let buf = c.exchange-read.new.buf in
       let old = c.self.inside.buf in
       let size : length buf ≡ old.len = grind (arith, common_steps) in
-      let whole : take old.len (buf ++ drop (length buf) old.items) ≡ buf = take_at buf (drop (length buf) old.items) old.len size in
+      let whole : take old.len (buf ++ drop (length buf) old.items) ≡ buf =
+      take_at buf (drop (length buf) old.items) old.len size in
       let says = rw (w.deref.ensures.value, whole) at w.judge-judged.ensures.answers in
-      rw w.judged-is (called_ok _ _ _ _ w.judge-judged.result _ _ _ c.if-self.false w.judge-judged.ensures.of_reply says w.in-Ok.ensures.sent w.in-Ok.ensures.taken
-      (c.is_spent_by-self-inside.ensures ∙ ap spends w.judged-is) refl c.exchange-read.ensures.reads c.exchange-read.ensures.writes)
+      rw w.judged-is (called_ok _ _ _ _ w.judge-judged.result _ _ _ c.if-self.false w.judge-judged.ensures.of_reply
+      says w.in-Ok.ensures.sent w.in-Ok.ensures.waited w.in-Ok.ensures.taken
+      (c.is_spent_by-self-inside.ensures ∙ ap spends w.judged-is) refl c.exchange-read.ensures.reads
+      c.exchange-read.ensures.writes)
   | in-Err w ↦
-      rw w.judged-is (called_err _ _ _ _ w.in-Err.fault _ _ c.if-self.false w.in-Err.ensures.cause w.in-Err.ensures.sent
-      (c.is_spent_by-self-inside.ensures ∙ ap spends w.judged-is) refl c.exchange-read.ensures.reads c.exchange-read.ensures.writes)
+      rw w.judged-is (called_err _ ℕ _ _ _ w.in-Err.fault _ _ c.if-self.false w.in-Err.ensures.cause
+      w.in-Err.ensures.sent w.in-Err.ensures.waited (c.is_spent_by-self-inside.ensures ∙ ap spends w.judged-is) refl
+      c.exchange-read.ensures.reads c.exchange-read.ensures.writes)
 ])

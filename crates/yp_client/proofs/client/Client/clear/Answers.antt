@@ -6,5 +6,5 @@ pub call-requires-clause-room : goal.call-requires-clause-room
 unfolding fixed
 call-requires-clause-room g c = omega arith
 
-pub returns-clause-calls : goal.returns-clause-calls
-returns-clause-calls g c = c.call.ensures.calls
+pub returns : goal.returns
+returns g c = c.call.ensures

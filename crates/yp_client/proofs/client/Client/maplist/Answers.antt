@@ -5,5 +5,5 @@ use Rattle.yp_client.proofs.client.Client.maplist.Goals as goal
 pub call-requires-clause-room : goal.call-requires-clause-room
 call-requires-clause-room g c = room_domain c.args.domain.now (omega (arith, c.requires))
 
-pub returns-clause-calls : goal.returns-clause-calls
-returns-clause-calls g c = c.call.ensures.calls
+pub returns : goal.returns
+returns g c = c.call.ensures

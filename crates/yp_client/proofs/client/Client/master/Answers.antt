@@ -1,8 +1,5 @@
 use Rattle.yp_client.proofs.Calling.{room_map}
 use Rattle.yp_client.proofs.client.Client.master.Goals as goal
 
-pub call-requires-clause-room : goal.call-requires-clause-room
-call-requires-clause-room g c = room_map c.args.domain.now c.args.map.now c.requires.domain c.requires.map
-
-pub returns-clause-calls : goal.returns-clause-calls
-returns-clause-calls g c = c.call.ensures.calls
+pub lend-requires-clause-room : goal.lend-requires-clause-room
+lend-requires-clause-room g c = room_map c.args.domain.now c.args.map.now c.requires.domain c.requires.map

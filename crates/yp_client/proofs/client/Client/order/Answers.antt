@@ -4,5 +4,5 @@ use Rattle.yp_client.proofs.client.Client.order.Goals as goal
 pub call-requires-clause-room : goal.call-requires-clause-room
 call-requires-clause-room g c = room_map c.args.domain.now c.args.map.now c.requires.domain c.requires.map
 
-pub returns-clause-calls : goal.returns-clause-calls
-returns-clause-calls g c = c.call.ensures.calls
+pub returns : goal.returns
+returns g c = c.call.ensures

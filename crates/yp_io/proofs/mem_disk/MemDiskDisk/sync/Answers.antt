@@ -11,7 +11,8 @@ returns-clause-crash c =
     let old = steps_of c.self.inside.steps.items in
     let new = steps_of c.sync_step.new.steps.items in
     let last : new ≡ old ++ Synced ∷ [] = search rules in
-    subst (λ (d : Platter). LeavesOnly (Some (history_of d)) (Some (played first new)) (MayLeave (Some (history_of d)))) c.self.view_is (sync_leaves first old new last)
+    subst (λ (d : Platter). LeavesOnly (Some (history_of d)) (Some (played first new))
+    (MayLeave (Some (history_of d)))) c.self.view_is (sync_leaves first old new last)
 
 pub returns-clause-durable : goal.returns-clause-durable
 returns-clause-durable c =

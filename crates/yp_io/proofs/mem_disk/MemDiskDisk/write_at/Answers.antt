@@ -13,4 +13,6 @@ returns-clause-crash c =
     let at = c.args.at in
     let piece = c.args.piece.now in
     let last : new ≡ old ++ Wrote at piece ∷ [] = search rules in
-    subst (λ (d : Platter). LeavesOnly (Some (history_of d)) (Some (played first new)) (MayLeaveTorn at (length piece) (Some (history_of d)))) c.self.view_is (write_leaves first old new at piece last)
+    subst (λ (d : Platter). LeavesOnly (Some (history_of d)) (Some (played first new))
+    (MayLeaveTorn at (length piece) (Some (history_of d)))) c.self.view_is
+    (write_leaves first old new at piece last)

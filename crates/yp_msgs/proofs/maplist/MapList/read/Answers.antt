@@ -8,10 +8,12 @@ use Rattle.yp_msgs.specs.declared.maplist.MapListFault.TheVariants.{Xdr, NoMemor
 use Rattle.yp_msgs.specs.MapLists.{map_list, map_list_view, ReadsInMemory, RefusesInMemory}
 use Rattle.yp_msgs.proofs.maplist.MapList.read.Goals as goal
 
-refused : RefusedIsNotSpelled → (result : Result MapList MapListFault) (old new : Unread) → ReadsInMemory map_list map_list_view result old new → RefusesInMemory map_list result old
+refused : RefusedIsNotSpelled → (result : Result MapList MapListFault) (old new : Unread)
+    → ReadsInMemory map_list map_list_view result old new → RefusesInMemory map_list result old
 refused law (Ok answer) old new reads = tt
 refused law (Err (Xdr fault)) old new reads = law map_list old fault reads.0
 refused law (Err NoMemory) old new reads = tt
 
 pub returns-clause-refused : goal.returns-clause-refused
-returns-clause-refused c = refused c.refused_is_not_spelled.ensures _ (unread c.args.cursor.now) _ c.read_map_list.ensures
+returns-clause-refused c =
+    refused c.refused_is_not_spelled.ensures _ (unread c.args.cursor.now) _ c.read_map_list.ensures

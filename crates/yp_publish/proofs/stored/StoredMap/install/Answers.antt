@@ -14,9 +14,11 @@ returns-in-Err-clause-any_moment g c =
     let H = g.D.Disk.history in
     let L = g.met.D.Disk in
     let v = option_map arc_value i.version in
-    let all = level_either H c.args.self.now i.slot.disk c.commit.new.self.disk i.slot.generation v (standing_of i.failed) w c.self.view_is c.requires.level c.self.invariant.images (L.reads_image i.slot.disk)
+    let all = level_either H c.args.self.now i.slot.disk c.commit.new.self.disk i.slot.generation v
+    (standing_of i.failed) w c.self.view_is c.requires.level c.self.invariant.images (L.reads_image i.slot.disk)
     (c.commit.ensures.any_moment w body) in
-    install_moments H c.args.self.now i.slot.disk c.commit.new.self.disk i.slot.generation v (standing_of i.failed) w c.self.view_is all
+    install_moments H c.args.self.now i.slot.disk c.commit.new.self.disk i.slot.generation v (standing_of i.failed)
+    w c.self.view_is c.requires.level all
 
 pub returns-in-Ok-show-clause-any_moment : goal.returns-in-Ok-show-clause-any_moment
 returns-in-Ok-show-clause-any_moment g c =
@@ -26,9 +28,11 @@ returns-in-Ok-show-clause-any_moment g c =
     let H = g.D.Disk.history in
     let L = g.met.D.Disk in
     let v = option_map arc_value i.version in
-    let all = level_either H c.args.self.now i.slot.disk c.commit.new.self.disk i.slot.generation v (standing_of i.failed) w c.self.view_is c.requires.level c.self.invariant.images (L.reads_image i.slot.disk)
+    let all = level_either H c.args.self.now i.slot.disk c.commit.new.self.disk i.slot.generation v
+    (standing_of i.failed) w c.self.view_is c.requires.level c.self.invariant.images (L.reads_image i.slot.disk)
     (c.commit.ensures.any_moment w body) in
-    install_moments H c.args.self.now i.slot.disk c.commit.new.self.disk i.slot.generation v (standing_of i.failed) w c.self.view_is all
+    install_moments H c.args.self.now i.slot.disk c.commit.new.self.disk i.slot.generation v (standing_of i.failed)
+    w c.self.view_is c.requires.level all
 
 pub returns-clause-any_moment : goal.returns-clause-any_moment
 returns-clause-any_moment g c =
@@ -38,9 +42,11 @@ returns-clause-any_moment g c =
     let H = g.D.Disk.history in
     let L = g.met.D.Disk in
     let v = option_map arc_value i.version in
-    let all = level_either H c.args.self.now i.slot.disk c.commit.new.self.disk i.slot.generation v (standing_of i.failed) w c.self.view_is c.requires.level c.self.invariant.images (L.reads_image i.slot.disk)
+    let all = level_either H c.args.self.now i.slot.disk c.commit.new.self.disk i.slot.generation v
+    (standing_of i.failed) w c.self.view_is c.requires.level c.self.invariant.images (L.reads_image i.slot.disk)
     (c.commit.ensures.any_moment w body) in
-    install_moments H c.args.self.now i.slot.disk c.commit.new.self.disk i.slot.generation v (standing_of i.failed) w c.self.view_is all
+    install_moments H c.args.self.now i.slot.disk c.commit.new.self.disk i.slot.generation v (standing_of i.failed)
+    w c.self.view_is c.requires.level all
 
 pub returns-in-Err-clause-standing : goal.returns-in-Err-clause-standing
 returns-in-Err-clause-standing g c =
@@ -50,7 +56,8 @@ returns-in-Err-clause-standing g c =
     let H = g.D.Disk.history in
     let L = g.met.D.Disk in
     let v = option_map arc_value i.version in
-    let all = level_either H c.args.self.now i.slot.disk c.commit.new.self.disk i.slot.generation v (standing_of i.failed) w c.self.view_is c.requires.level c.self.invariant.images (L.reads_image i.slot.disk)
+    let all = level_either H c.args.self.now i.slot.disk c.commit.new.self.disk i.slot.generation v
+    (standing_of i.failed) w c.self.view_is c.requires.level c.self.invariant.images (L.reads_image i.slot.disk)
     (c.commit.ensures.any_moment w body) in
     at_end (H i.slot.disk) (H c.commit.new.self.disk) (L.counts_now i.slot.disk c.commit.new.self.disk) all
 
@@ -62,6 +69,12 @@ invariant_of-self g c =
     let H = g.D.Disk.history in
     let L = g.met.D.Disk in
     let v = option_map arc_value i.version in
-    let all = level_either H c.args.self.now i.slot.disk c.commit.new.self.disk i.slot.generation v (standing_of i.failed) w c.self.view_is c.requires.level c.self.invariant.images (L.reads_image i.slot.disk)
+    let all = level_either H c.args.self.now i.slot.disk c.commit.new.self.disk i.slot.generation v
+    (standing_of i.failed) w c.self.view_is c.requires.level c.self.invariant.images (L.reads_image i.slot.disk)
     (c.commit.ensures.any_moment w body) in
-    record { ready = λ (e : Behind w ≡ Level). cc; images = at_end (H i.slot.disk) (H c.commit.new.self.disk) (L.counts_now i.slot.disk c.commit.new.self.disk) all }
+    record {
+      ready = λ (e : Behind w ≡ Level). cc;
+      numbered = λ (e : Behind w ≡ Level). cc;
+      images = at_end (H i.slot.disk) (H c.commit.new.self.disk) (L.counts_now i.slot.disk c.commit.new.self.disk)
+          all;
+    }

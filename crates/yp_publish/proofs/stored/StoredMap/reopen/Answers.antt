@@ -1,25 +1,41 @@
-use Rattle.std.proofs.Common.{◌≡◌, inl, inr, List, ℕ, true, IfSome, IsSome, option_map, subst, sym, rules}
+use Rattle.std.proofs.Common.{◌≡◌, inl, inr, List, ℕ, true, option_map, subst, sym, rules}
 use Rattle.std.specs.Arc.{arc_value}
 use Rattle.std.proofs.lemmas.Result.{err_from_is_err_and}
 use Rattle.yp_io.specs.Disk.{MayLeave}
-use Rattle.yp_slot.specs.Commits.{generation_of, winning}
-use Rattle.yp_slot.specs.Slots.{Held, is_ready}
+use Rattle.yp_slot.specs.Slots.{Held, HasGeneration, is_ready}
 use Rattle.yp_slot.specs.Stands.{stands}
-use Rattle.yp_publish.specs.Opens.{IsOutside, IsWhatStood}
+use Rattle.yp_publish.specs.Keeping.{keeping_of}
+use Rattle.yp_publish.specs.Opens.{IsOpenCause, IsWhatStood}
 use Rattle.yp_publish.specs.Standing.{Kept, Level, stands_for}
 use Rattle.yp_publish.specs.Shared.{standing_of}
-use Rattle.yp_publish.proofs.Moments.{IsSettled, settled, level_after, not_damaged}
+use Rattle.yp_publish.proofs.Moments.{IsSettled, settled, level_after, open_cause}
 use Rattle.yp_publish.proofs.stored.StoredMap.reopen.Goals as goal
-use Rattle.yp_publish.proofs.stored.StoredMap.reopen.Goals.{in-Some+then-not-is_shown+in_ok-show+in-Some-1, in-Some+then-not-is_shown+in_ok-show+in-None-1, in-Some+else-not-is_shown, in_default}
+use Rattle.yp_publish.proofs.stored.StoredMap.reopen.Goals.{in-Some+then-not-is_shown+in_ok-show+in-Some-1}
+use Rattle.yp_publish.proofs.stored.StoredMap.reopen.Goals.{in-Some+then-not-is_shown+in_ok-show+in-None-1}
+use Rattle.yp_publish.proofs.stored.StoredMap.reopen.Goals.{in-Some+else-not-is_shown, in_default}
 
-pub returns-in_err-version-clause-outside : goal.returns-in_err-version-clause-outside
-returns-in_err-version-clause-outside g c =
+pub returns-in_err-version-clause-cause : goal.returns-in_err-version-clause-cause
+returns-in_err-version-clause-cause g c =
     let p = err_from_is_err_and c.from_residual.result c.from_residual.ensures.1 in
     let H = g.D.Disk.history in
     let i = c.self.inside in
-    let fault = c.in_err-version.field-0.0 in
-    let outside = not_damaged (H i.slot.disk) (standing_of i.failed) (option_map arc_value i.version) fault (g.met.D.Disk.reads_image i.slot.disk) c.self.invariant.images c.in_err-version.ensures.loads in
-    rw (p.1, p.2) (subst (λ (k : Kept g.row.D.Denot). IsSome (H k.disk) → IsOutside fault) c.self.view_is outside)
+    let why = c.in_err-version.field-0.0 in
+    let K = keeping_of H g.D.Disk.faults g.B.Show.log in
+    let inside : Kept g.row.D.Denot = record {
+      disk = i.slot.disk;
+      generation = i.slot.generation;
+      version = option_map arc_value i.version;
+      standing = standing_of i.failed;
+    } in
+    let after : Kept g.row.D.Denot = record {
+      disk = c.load_shared.new.slot.disk;
+      generation = c.load_shared.new.slot.generation;
+      version = option_map arc_value i.version;
+      standing = standing_of i.failed;
+    } in
+    let cause = open_cause K inside after why (g.met.D.Disk.reads_image i.slot.disk)
+    c.self.invariant.images c.in_err-version.ensures.loads (search rules) in
+    rw (p.1, p.2) (subst (λ (k : Kept g.row.D.Denot). IsOpenCause K why k after) c.self.view_is cause)
 
 pub returns-clause-standing : goal.returns-clause-standing
 returns-clause-standing g c =
@@ -27,7 +43,8 @@ returns-clause-standing g c =
     let i = c.self.inside in
     let m = c.match-branch-2.self-inside in
     let after = option_map arc_value m.version in
-    let is : IsSettled (option_map arc_value i.version) (option_map arc_value c.in_ok-version.field-0) after = elim c.match-branch-2.branch [
+    let is : IsSettled (option_map arc_value i.version) (option_map arc_value c.in_ok-version.field-0) after =
+    elim c.match-branch-2.branch [
       | in-Some+then-not-is_shown+in_ok-show+in-Some-1 w ↦ inl (search rules)
       | in-Some+then-not-is_shown+in_ok-show+in-None-1 w ↦ inl (search rules)
       | in-Some+else-not-is_shown w ↦ inl (search rules)
@@ -39,10 +56,14 @@ returns-clause-standing g c =
       | in-Some+else-not-is_shown w ↦ search rules
       | in_default w ↦ search rules
     ] in
-    let stood = settled (H i.slot.disk) (standing_of i.failed) (option_map arc_value i.version) (option_map arc_value c.in_ok-version.field-0) after (g.met.D.Disk.reads_image i.slot.disk) c.self.invariant.images
+    let stood = settled (H i.slot.disk) (standing_of i.failed) (option_map arc_value i.version)
+    (option_map arc_value c.in_ok-version.field-0) after (g.met.D.Disk.reads_image i.slot.disk)
+    c.self.invariant.images
     c.in_ok-version.ensures.loads is in
-    let end = level_after (H i.slot.disk) (H c.load_shared.new.slot.disk) after c.in_ok-version.ensures.synced c.in_ok-version.ensures.durable stood in
-    let images = subst (λ (s : Held g.row.D.Denot). (image : List ℕ) → MayLeave (H s.disk) image → stands image ≡ stands_for after) (sym same) end in
+    let end = level_after (H i.slot.disk) (H c.load_shared.new.slot.disk)
+    after c.in_ok-version.ensures.synced c.in_ok-version.ensures.durable stood in
+    let images = subst (λ (s : Held g.row.D.Denot). (image : List ℕ) → MayLeave (H s.disk) image
+    → stands image ≡ stands_for after) (sym same) end in
     images
 
 pub invariant_of-self-2 : goal.invariant_of-self-2
@@ -51,7 +72,8 @@ invariant_of-self-2 g c =
     let i = c.self.inside in
     let m = c.match-branch-2.self-inside in
     let after = option_map arc_value m.version in
-    let is : IsSettled (option_map arc_value i.version) (option_map arc_value c.in_ok-version.field-0) after = elim c.match-branch-2.branch [
+    let is : IsSettled (option_map arc_value i.version) (option_map arc_value c.in_ok-version.field-0) after =
+    elim c.match-branch-2.branch [
       | in-Some+then-not-is_shown+in_ok-show+in-Some-1 w ↦ inl (search rules)
       | in-Some+then-not-is_shown+in_ok-show+in-None-1 w ↦ inl (search rules)
       | in-Some+else-not-is_shown w ↦ inl (search rules)
@@ -63,12 +85,18 @@ invariant_of-self-2 g c =
       | in-Some+else-not-is_shown w ↦ search rules
       | in_default w ↦ search rules
     ] in
-    let stood = settled (H i.slot.disk) (standing_of i.failed) (option_map arc_value i.version) (option_map arc_value c.in_ok-version.field-0) after (g.met.D.Disk.reads_image i.slot.disk) c.self.invariant.images
+    let stood = settled (H i.slot.disk) (standing_of i.failed) (option_map arc_value i.version)
+    (option_map arc_value c.in_ok-version.field-0) after (g.met.D.Disk.reads_image i.slot.disk)
+    c.self.invariant.images
     c.in_ok-version.ensures.loads is in
-    let end = level_after (H i.slot.disk) (H c.load_shared.new.slot.disk) after c.in_ok-version.ensures.synced c.in_ok-version.ensures.durable stood in
-    let images = subst (λ (s : Held g.row.D.Denot). (image : List ℕ) → MayLeave (H s.disk) image → stands image ≡ stands_for after) (sym same) end in
+    let end = level_after (H i.slot.disk) (H c.load_shared.new.slot.disk)
+    after c.in_ok-version.ensures.synced c.in_ok-version.ensures.durable stood in
+    let images = subst (λ (s : Held g.row.D.Denot). (image : List ℕ) → MayLeave (H s.disk) image
+    → stands image ≡ stands_for after) (sym same) end in
     let ready = subst (λ (s : Held g.row.D.Denot). is_ready s.stage ≡ true) (sym same) c.in_ok-version.ensures.ready in
-    record { ready = λ level. ready; images = images }
+    let numbered = subst (λ (s : Held g.row.D.Denot). HasGeneration (H s.disk) s.generation)
+    (sym same) c.in_ok-version.ensures.numbered in
+    record { ready = λ level. ready; numbered = λ level. numbered; images = images }
 
 pub returns-clause-stood : goal.returns-clause-stood
 returns-clause-stood g c = λ behind.
@@ -76,7 +104,8 @@ returns-clause-stood g c = λ behind.
     let i = c.self.inside in
     let m = c.match-branch-2.self-inside in
     let after = option_map arc_value m.version in
-    let is : IsSettled (option_map arc_value i.version) (option_map arc_value c.in_ok-version.field-0) after = elim c.match-branch-2.branch [
+    let is : IsSettled (option_map arc_value i.version) (option_map arc_value c.in_ok-version.field-0) after =
+    elim c.match-branch-2.branch [
       | in-Some+then-not-is_shown+in_ok-show+in-Some-1 w ↦ inl (search rules)
       | in-Some+then-not-is_shown+in_ok-show+in-None-1 w ↦ inl (search rules)
       | in-Some+else-not-is_shown w ↦ inl (search rules)
@@ -88,8 +117,19 @@ returns-clause-stood g c = λ behind.
       | in-Some+else-not-is_shown w ↦ search rules
       | in_default w ↦ search rules
     ] in
-    let stood = settled (H i.slot.disk) (standing_of i.failed) (option_map arc_value i.version) (option_map arc_value c.in_ok-version.field-0) after (g.met.D.Disk.reads_image i.slot.disk) c.self.invariant.images
+    let stood = settled (H i.slot.disk) (standing_of i.failed) (option_map arc_value i.version)
+    (option_map arc_value c.in_ok-version.field-0) after (g.met.D.Disk.reads_image i.slot.disk)
+    c.self.invariant.images
     c.in_ok-version.ensures.loads is in
-    let now : Kept g.row.D.Denot = record { disk = m.slot.disk; generation = m.slot.generation; version = after; standing = Level } in
-    let generation = subst (λ (s : Held g.row.D.Denot). IfSome (H i.slot.disk) (λ h. s.generation ≡ generation_of (winning h.state.reads))) (sym same) c.in_ok-version.ensures.generation in
-    subst (λ (k : Kept g.row.D.Denot). IsWhatStood H k.disk now) c.self.view_is (record { version = stood; generation = generation })
+    let now : Kept g.row.D.Denot = record {
+      disk = m.slot.disk;
+      generation = m.slot.generation;
+      version = after;
+      standing = Level;
+    } in
+    let generation = subst (λ (s : Held g.row.D.Denot). HasGeneration (H i.slot.disk) s.generation)
+    (sym same) c.in_ok-version.ensures.generation in
+    subst (λ (k : Kept g.row.D.Denot). IsWhatStood H k.disk now) c.self.view_is (record {
+      version = stood;
+      generation = generation;
+    })

@@ -1,6 +1,6 @@
 use Rattle.std.proofs.Common.{subst, option_map}
 use Rattle.std.specs.Arc.{arc_value}
-use Rattle.yp_publish.specs.Installs.{LeavesFew}
+use Rattle.yp_publish.specs.Keeping.{LeavesFew}
 use Rattle.yp_publish.specs.Shared.{standing_of}
 use Rattle.yp_publish.specs.Standing.{Kept}
 use Rattle.yp_publish.proofs.Moments.{left_alone, few}
@@ -13,5 +13,6 @@ returns-clause-bound g c =
     let i = c.self.inside in
     let disk = i.slot.disk in
     let all = left_alone (H disk) (L.stays disk) (L.only_now disk)
-    (λ image left. few c.file_is_bounded.ensures (standing_of i.failed) (option_map arc_value i.version) image (c.self.invariant.images image left)) in
+    (λ image left. few c.file_is_bounded.ensures (standing_of i.failed) (option_map arc_value i.version) image
+    (c.self.invariant.images image left)) in
     subst (λ (k : Kept g.row.D.Denot). LeavesFew H k k) c.self.view_is all

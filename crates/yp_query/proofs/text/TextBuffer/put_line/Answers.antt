@@ -9,4 +9,5 @@ returns-in_err-put-clause-puts g c =
     puts_stopped c.args.text.now (10 ∷ []) c.from_residual.result p.0 _ _ _ _ p.1 c.in_err-put.ensures.puts
 
 pub returns-clause-puts : goal.returns-clause-puts
-returns-clause-puts g c = puts_more c.args.text.now (10 ∷ []) c.put-2.result _ _ _ _ _ _ c.in_ok-put.ensures.puts c.put-2.ensures.puts
+returns-clause-puts g c =
+    puts_more c.args.text.now (10 ∷ []) c.put-2.result _ _ _ _ _ _ c.in_ok-put.ensures.puts c.put-2.ensures.puts

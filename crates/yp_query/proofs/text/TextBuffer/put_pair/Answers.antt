@@ -9,7 +9,8 @@ returns-in_err-put-clause-puts g c =
     let first = c.args.first.now in
     let second = c.args.second.now in
     let p = err_from_is_err_and c.from_residual.result c.from_residual.ensures.1 in
-    rw (append_assoc first (32 ∷ second) (10 ∷ [])) (puts_stopped first (32 ∷ line second) c.from_residual.result p.0 _ _ _ _ p.1 c.in_err-put.ensures.puts)
+    rw (append_assoc first (32 ∷ second) (10 ∷ []))
+    (puts_stopped first (32 ∷ line second) c.from_residual.result p.0 _ _ _ _ p.1 c.in_err-put.ensures.puts)
 
 pub returns-in_err-put-2-clause-puts : goal.returns-in_err-put-2-clause-puts
 returns-in_err-put-2-clause-puts g c =
@@ -27,4 +28,5 @@ returns-clause-puts g c =
     let second = c.args.second.now in
     rw (append_assoc first (32 ∷ second) (10 ∷ []))
     (puts_more first (32 ∷ line second) c.put_line.result _ _ _ _ _ _ c.in_ok-put.ensures.puts
-    (puts_more (32 ∷ []) (line second) c.put_line.result _ _ _ _ _ _ c.in_ok-put-2.ensures.puts c.put_line.ensures.puts))
+    (puts_more (32 ∷ []) (line second) c.put_line.result _ _ _ _ _ _ c.in_ok-put-2.ensures.puts
+    c.put_line.ensures.puts))

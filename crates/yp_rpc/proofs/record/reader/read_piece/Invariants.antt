@@ -7,7 +7,9 @@ use Rattle.yp_rpc.proofs.record.reader.read_piece.Given as goal
 
 abbrev pub invariant-loop-part : goal.invariant-loop-part
 invariant-loop-part g l = record {
-  given : (front : List ℕ) (start : Option (List ℕ)) → HasGiven l.limit front start (g.S.Source.input l.fn.source) (part_of l.fn.part) → HasGiven l.limit front start (g.S.Source.input l.source) (part_of l.part);
+  given : (front : List ℕ) (start : Option (List ℕ))
+      → HasGiven l.limit front start (g.S.Source.input l.fn.source) (part_of l.fn.part)
+      → HasGiven l.limit front start (g.S.Source.input l.source) (part_of l.part);
   never_fell : g.S.Source.faults l.fn.source ≤ g.S.Source.faults l.source;
 }
 

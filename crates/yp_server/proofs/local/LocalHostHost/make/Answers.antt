@@ -1,17 +1,24 @@
 use Rattle.std.proofs.Common.{rules}
+use Rattle.yp_msgs.specs.declared.transfer.XfrStat.TheVariants.{Succ, File}
+use Rattle.yp_publish.specs.Keeping.{keeping_of}
+use Rattle.yp_server.specs.Locals.{telling_of}
 use Rattle.yp_server.proofs.Making.{recounted}
+use Rattle.yp_server.proofs.Causing.{fulfilled}
 use Rattle.yp_server.proofs.local.LocalHostHost.make.Goals as goal
 
+pub returns-in-Ok : goal.returns-in-Ok
+returns-in-Ok g c =
+    fulfilled (keeping_of g.D.Disk.history g.D.Disk.faults g.B.Show.log) (telling_of g.T.Texts.text g.T.Texts.faults g.C.Clock.moment)
+    c.args.job c.args.self.now c.make_anew.new.self Succ (search rules) (search rules) (search rules) (search rules) (search rules)
+
+pub returns-in-Err : goal.returns-in-Err
+returns-in-Err g c =
+    fulfilled (keeping_of g.D.Disk.history g.D.Disk.faults g.B.Show.log) (telling_of g.T.Texts.text g.T.Texts.faults g.C.Clock.moment)
+    c.args.job c.args.self.now c.make_anew.new.self c.in-Err.stat (search rules) (search rules) (search rules) (search rules) (search rules)
+
 pub returns-in-Err-File : goal.returns-in-Err-File
-returns-in-Err-File g c = record {
-  made = (
-    record { number = c.in-Some-find.map; kind = c.in-Some.kind },
-    record { kind = search rules; number = search rules; kept = search rules },
-    recounted _ _ _ _ _ _ _ c.saturating_add-self-inside.result c.self-2.view_is
-        (rw c.in-Err-File.field-0-is at c.in-Err-File.ensures.unmade),
-  );
-  allowed = search rules;
-  catalogue = search rules;
-  grown = search rules;
-  files = search rules;
-}
+returns-in-Err-File g c =
+    fulfilled (keeping_of g.D.Disk.history g.D.Disk.faults g.B.Show.log) (telling_of g.T.Texts.text g.T.Texts.faults g.C.Clock.moment)
+    c.args.job c.args.self.now _ File (search rules)
+    (recounted _ _ _ _ _ _ _ c.saturating_add-self-inside.result c.self.view_is (rw c.in-Err-File.field-0-is at c.in-Err-File.ensures.unmade))
+    (search rules) (search rules) (search rules)

@@ -1,59 +1,77 @@
-use Rattle.std.proofs.Common.{arith, ◌∙◌, ap, ℕ, refl}
+use Rattle.std.proofs.Common.{arith, refl}
+use Rattle.yp_session.specs.Wires.{wire_of}
+use Rattle.yp_session.specs.Progress.{begun}
 use Rattle.yp_session.specs.Hosts.{conduct_of}
-use Rattle.yp_session.specs.Runs.{moment_of}
-use Rattle.yp_session.specs.Progress.{calls_after}
-use Rattle.yp_session.specs.declared.session.Step.TheVariants.{Ended}
-use Rattle.yp_session.proofs.Sessions.{SoFar-none, SoFar-more, Runs-ended, Runs-enough}
+use Rattle.yp_session.specs.Runs.{dialogue_at}
+use Rattle.yp_session.specs.declared.session.End.TheVariants.{Enough}
+use Rattle.yp_session.proofs.Sessions.{SoFar-none, SoFar-more, Runs-of, ends_by, falls_then, answered_flushed, answered_falls, ended_flushed, ended_falls, read_fault, write_fault}
 use Rattle.yp_session.proofs.session.Session.run.Goals as goal
 
 pub loop-init : goal.loop-init
 loop-init g c =
-    let conduct = conduct_of g.H.View.seen g.H.Host.files g.H.View.stepped g.H.Host.made in
-    let moment = moment_of g.S.Source.input g.S.Source.faults g.K.Sink.output g.K.Sink.flushed g.K.Sink.faults in
+    let conduct = conduct_of g.H.View.seen g.H.Host.told g.H.Host.counts g.H.View.stepped g.H.Host.made in
+    let wire = wire_of g.S.Source g.K.Sink in
     record {
-      so_far = rw c.begin.ensures (SoFar-none conduct c.args.peer (moment c.args.host.now c.args.wire.now 0));
-      calls = rw c.begin.ensures refl;
-      reads = omega arith;
-      writes = omega arith;
+      so_far = rw c.begin.ensures (SoFar-none conduct c.args.peer (dialogue_at c.args.host.now (wire c.args.wire.now) begun) (g.W.Witness.wires c.args.witness.now));
+      counts = record { reads = omega arith; writes = omega arith };
       flushed = λ old. old;
     }
 
 pub returns-in-Ended : goal.returns-in-Ended
 returns-in-Ended g c =
-    let conduct = conduct_of g.H.View.seen g.H.Host.files g.H.View.stepped g.H.Host.made in
-    let moment = moment_of g.S.Source.input g.S.Source.faults g.K.Sink.output g.K.Sink.flushed g.K.Sink.faults in
+    let conduct = conduct_of g.H.View.seen g.H.Host.told g.H.Host.counts g.H.View.stepped g.H.Host.made in
+    let wire = wire_of g.S.Source g.K.Sink in
     let so_far = c.loop.invariant in
-    let step = c.step.new in
+    let old = dialogue_at c.args.host.now (wire c.args.wire.now) begun in
+    let last = dialogue_at c.loop.host (wire c.loop.wire) c.loop.self in
+    let new = dialogue_at c.step.new.host (wire c.step.new.wire) c.step.new.self in
+    let end = c.in-Ended.end in
+    let does = c.in-Ended.ensures in
+    let falls = ended_falls conduct c.args.peer last new end does in
     record {
-      runs = Runs-ended conduct c.args.peer c.in-Ended.end c.loop.counter c.args.most step.self.calls
-          (moment c.args.host.now c.args.wire.now 0) (moment c.loop.host c.loop.wire c.loop.self.place) (moment step.host step.wire step.self.place)
-          so_far.so_far c.loop-test.true (omega arith) so_far.reads so_far.writes
-          (c.in-Ended.ensures.calls ∙ ap (λ (n : ℕ). calls_after n (Ended c.in-Ended.end)) so_far.calls) c.in-Ended.ensures.does;
-      flushed = λ ended old. c.in-Ended.ensures.flushed (λ e. ended cc) (so_far.flushed old);
+      runs = record {
+        more = _;
+        behind = so_far.so_far.watched;
+        done = Runs-of conduct c.args.peer c.args.most c.loop.counter end old last new _ _ (omega arith) (omega arith) refl so_far.so_far
+            (ends_by conduct c.args.peer c.args.most c.loop.counter end last new c.loop-test.true does);
+      };
+      flushed = λ other old_flushed. ended_flushed conduct c.args.peer last new end does (λ e. other cc) (so_far.flushed old_flushed);
+      counts = falls_then so_far.counts falls;
+      read_fault = λ is. read_fault conduct c.args.peer old.wire last new so_far.counts end is does;
+      write_fault = λ is. write_fault conduct c.args.peer old.wire last new so_far.counts end is does;
     }
 
 pub loop-preserved : goal.loop-preserved
 loop-preserved g c =
-    let conduct = conduct_of g.H.View.seen g.H.Host.files g.H.View.stepped g.H.Host.made in
-    let moment = moment_of g.S.Source.input g.S.Source.faults g.K.Sink.output g.K.Sink.flushed g.K.Sink.faults in
+    let conduct = conduct_of g.H.View.seen g.H.Host.told g.H.Host.counts g.H.View.stepped g.H.Host.made in
+    let wire = wire_of g.S.Source g.K.Sink in
     let so_far = c.loop.invariant in
-    let step = c.step.new in
+    let old = dialogue_at c.args.host.now (wire c.args.wire.now) begun in
+    let last = dialogue_at c.loop.host (wire c.loop.wire) c.loop.self in
+    let new = dialogue_at c.step.new.host (wire c.step.new.wire) c.step.new.self in
+    let does = c.in-Answered.ensures in
+    let falls = answered_falls conduct c.args.peer last new does in
     record {
-      so_far = SoFar-more conduct c.args.peer c.loop.counter (moment c.args.host.now c.args.wire.now 0)
-          (moment c.loop.host c.loop.wire c.loop.self.place) (moment step.host step.wire step.self.place) so_far.so_far c.in-Answered.ensures.does;
-      calls = c.in-Answered.ensures.calls ∙ omega (arith, so_far.calls);
-      reads = omega (arith, so_far.reads, c.in-Answered.ensures.reads);
-      writes = omega (arith, so_far.writes, c.in-Answered.ensures.writes);
-      flushed = λ old. c.in-Answered.ensures.flushed (λ e. cc) (so_far.flushed old);
+      so_far = SoFar-more conduct c.args.peer c.loop.counter old last new _ _ _ so_far.so_far does c.answered.ensures;
+      counts = falls_then so_far.counts falls;
+      flushed = λ old_flushed. answered_flushed conduct c.args.peer last new does (so_far.flushed old_flushed);
     }
 
 pub returns : goal.returns
 returns g c =
-    let conduct = conduct_of g.H.View.seen g.H.Host.files g.H.View.stepped g.H.Host.made in
-    let moment = moment_of g.S.Source.input g.S.Source.faults g.K.Sink.output g.K.Sink.flushed g.K.Sink.faults in
+    let conduct = conduct_of g.H.View.seen g.H.Host.told g.H.Host.counts g.H.View.stepped g.H.Host.made in
+    let wire = wire_of g.S.Source g.K.Sink in
     let so_far = c.loop.invariant in
+    let old = dialogue_at c.args.host.now (wire c.args.wire.now) begun in
+    let last = dialogue_at c.loop.host (wire c.loop.wire) c.loop.self in
     record {
-      runs = Runs-enough conduct c.args.peer c.loop.counter c.args.most c.loop.self.calls
-          (moment c.args.host.now c.args.wire.now 0) (moment c.loop.host c.loop.wire c.loop.self.place) so_far.so_far (omega arith) so_far.calls;
-      flushed = λ ended old. so_far.flushed old;
+      runs = record {
+        more = _;
+        behind = so_far.so_far.watched;
+        done = Runs-of conduct c.args.peer c.args.most c.loop.counter Enough old last last _ _ (omega arith) (omega arith) refl so_far.so_far (omega arith, refl);
+      };
+      flushed = λ other old_flushed. so_far.flushed old_flushed;
+      counts = so_far.counts;
+      read_fault = λ is. absurd cc;
+      write_fault = λ is. absurd cc;
     }

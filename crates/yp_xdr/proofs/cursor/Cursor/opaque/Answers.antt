@@ -9,15 +9,19 @@ use Rattle.yp_xdr.proofs.cursor.Cursor.opaque.Goals as goal
 
 pub returns-in_err-len-clause-refused : goal.returns-in_err-len-clause-refused
 unfolding opaque_at
-returns-in_err-len-clause-refused c = refused (Opaque c.args.max) (λ s. s.now) _ (unread c.args.self.now) (unread c.args.self.now) (search rules)
+returns-in_err-len-clause-refused c =
+    refused (Opaque c.args.max) (λ s. s.now) _ (unread c.args.self.now) (unread c.args.self.now) (search rules)
 
 pub returns-then-len-max-clause-refused : goal.returns-then-len-max-clause-refused
 unfolding opaque_at
-returns-then-len-max-clause-refused c = refused_is_not_spelled (Opaque c.args.max) (unread c.args.self.now) (TooLong c.args.self.now.at c.in_ok-len.len) (search rules)
+returns-then-len-max-clause-refused c =
+    refused_is_not_spelled (Opaque c.args.max) (unread c.args.self.now) (TooLong c.args.self.now.at c.in_ok-len.len)
+    (search rules)
 
 pub returns-in_err-bytes-clause-refused : goal.returns-in_err-bytes-clause-refused
 unfolding opaque_at
-returns-in_err-bytes-clause-refused c = refused (Opaque c.args.max) (λ s. s.now) _ (unread c.args.self.now) (unread c.args.self.now) (search rules)
+returns-in_err-bytes-clause-refused c =
+    refused (Opaque c.args.max) (λ s. s.now) _ (unread c.args.self.now) (unread c.args.self.now) (search rules)
 
 pub returns-clause-spelled : goal.returns-clause-spelled
 unfolding opaque_at

@@ -1,0 +1,40 @@
+use Rattle.std.proofs.Common.{◌≡◌, ℕ, List, ◌++◌, ◌∙◌, refl, arith, length, take, drop, Bor}
+use Rattle.std.proofs.lemmas.List.{take_at}
+use Rattle.std.proofs.lemmas.Grind.{common_steps}
+use Rattle.yp_client.proofs.Judging.{called_ok, called_err, no_reply_spends, same_spends}
+use Rattle.yp_client.proofs.client.Client.lend.Goals as goal
+
+pub returns-in-Err : goal.returns-in-Err
+returns-in-Err g c = (
+  (
+    refl,
+    λ _. tt,
+    rw (← c.self.view_is) (called_err (Bor (List ℕ)) ℕ _ _ _ c.in-Err.fault _ _ c.if-self.false
+        c.in-Err.ensures.cause c.in-Err.ensures.sent c.in-Err.ensures.waited
+        (no_reply_spends (Bor (List ℕ)) _ c.in-Err.fault _ _ c.in-Err.ensures.cause) refl c.exchange-read.ensures.reads
+        c.exchange-read.ensures.writes),
+  ),
+  record { calls = tt },
+)
+
+pub returns : goal.returns
+returns g c =
+    let buf = c.exchange-read.new.buf in
+    let old = c.self.inside.buf in
+    let size : length buf ≡ old.len = grind (arith, common_steps) in
+    let whole : take old.len (buf ++ drop (length buf) old.items) ≡ buf =
+    take_at buf (drop (length buf) old.items) old.len size in
+    let first = rw (c.deref.ensures.value, whole) at c.read.ensures.says in
+    let second = rw (c.deref-2.ensures.value, whole) at c.read-2.ensures.says in
+    let spent = same_spends (λ (bytes : Bor (List ℕ)). bytes.now)
+    (g.L.Lending.said c.self.inside.xid (take c.in-Ok.len buf)) c.read.result c.read-2.result first second in (
+      (
+        refl,
+        λ _. tt,
+        rw (← c.self.view_is) (called_ok _ _ _ _ c.read-2.result _ _ _ c.if-self.false
+            c.read-2.ensures.of_reply second c.in-Ok.ensures.sent c.in-Ok.ensures.waited c.in-Ok.ensures.taken
+            (c.is_spent_by-self-inside.ensures ∙ spent) refl c.exchange-read.ensures.reads
+            c.exchange-read.ensures.writes),
+      ),
+      record { calls = tt },
+    )

@@ -1,0 +1,256 @@
+-- The laws of the queries.
+use Rattle.std.proofs.Common.{◌≡◌, ℕ, ◌+◌, ◌%◌, ◌^◌, ◌≤◌, Bool, true, false, cond, List, [], ◌∷◌, ◌++◌, length, Option, Some, None, Result, Ok, Err, refl, sym, ap, ◌∙◌, subst, arith, inl, inr, ◌⊎◌}
+use Rattle.std.specs.Prelude.{⊤, IsOk, IfOk}
+use Rattle.std.specs.Borrow.{Bor}
+use Rattle.std.proofs.lemmas.List.{length-append}
+use Rattle.yp_io.specs.declared.stream.Peer.{Peer}
+use Rattle.yp_io.specs.Dials.{WireState, Dialed, Wires, Comes, GoesBack}
+use Rattle.yp_msgs.specs.declared.stat.YpStat.{YpStat}
+use Rattle.yp_msgs.specs.declared.maplist.MapList.{MapList}
+use Rattle.yp_version.specs.Rows.{Row, listed}
+use Rattle.yp_version.specs.Versions.{MapVersion}
+use Rattle.yp_version.specs.Drafts.{Draft}
+use Rattle.yp_version.specs.Laws.{RisingStays}
+use Rattle.yp_client.specs.declared.fault.ClientFault.{ClientFault}
+use Rattle.yp_client.specs.declared.fault.ClientFault.TheVariants.{Yp, NoMemory as ClientNoMemory}
+use Rattle.yp_client.specs.Limits.{reply_max, all_max}
+use Rattle.yp_client.specs.States.{ClientState}
+use Rattle.yp_client.specs.Results.{Says, SaysInMemory, value_of, master_of, order_of, maps_of}
+use Rattle.yp_client.specs.Said.{SaysNumber, SaysBytes, SaysNames}
+use Rattle.yp_client.specs.All.{AllSaid, all_said, IsSaid, SaysAll}
+use Rattle.yp_client.specs.Asked.{all_call, match_call, master_call, order_call, maplist_call}
+use Rattle.yp_client.specs.Calls.{Calls}
+use Rattle.yp_query.specs.declared.fault.QueryFault.TheVariants.{Dial}
+use Rattle.yp_query.specs.declared.question.Question.TheVariants.{Cat, Catk, Match, Which, Poll, Maps as MapsOf}
+use Rattle.yp_query.specs.Lines.{line, lines, rows_text, standing_text}
+use Rattle.yp_query.specs.Faults.{query_fault, match_fault}
+use Rattle.yp_query.specs.Asked.{Outcome, meant_by, no_rows, TakesRows, MakesMaster, MakesCalls}
+use Rattle.yp_query.specs.Questions.{ByteQuestion, QuestionIsWithin}
+use Rattle.yp_query.specs.Complete.{HasCome}
+use Rattle.yp_query.specs.Scenes.{IsFirst, Exchanges}
+use Rattle.yp_answer.specs.Maps.{Maps, map_check, row_check}
+use Rattle.yp_exchange.specs.Told.{told, of_version, value_in, all_in, master_in, order_in, all_told, names_in}
+use Rattle.yp_exchange.specs.Served.{AreServed, HasRoom}
+use Rattle.yp_exchange.specs.Answered.{GivesReply, GivesStanding, GivesReplies, standing_told, text_told, ComesTo}
+use Rattle.yp_exchange.specs.Laws.{MatchTells, AllTells, RoomForVersion, MasterTells, OrderTells, MaplistTells}
+use Rattle.yp_exchange.specs.QueryLaws.{CallsAreTold, QueryPrintsTold}
+use Rattle.yp_exchange.proofs.Sound.{IsSound, row_sound}
+use Rattle.yp_exchange.proofs.Hearing.{Records, Heard, IsWireFault, call_heard}
+use Rattle.yp_exchange.proofs.Queries.{comes_same, comes_in_memory, tells_of, says_in_memory, Passes, wire_comes, memory_comes, call_comes}
+
+-- what the replies to the calls of a question say
+pub record Replies : Type 0 where
+  pub value : MatchTells
+  pub all : AllTells
+  pub room : RoomForVersion
+  pub master : MasterTells
+  pub order : OrderTells
+  pub names : MaplistTells
+
+-- and the laws of rows and records
+pub record Laws : Type 0 where
+  pub replies : Replies
+  pub stays : RisingStays
+  pub records : Records
+
+fault_passes : Passes query_fault
+fault_passes = record { memory = refl; reading = refl; writing = refl }
+
+match_passes : Passes match_fault
+match_passes = record { memory = refl; reading = refl; writing = refl }
+
+-- bytes that are lent want no memory
+bytes_said : (said : ℕ → List ℕ → Result (List ℕ) ClientFault) (xid : ℕ) (message : List ℕ) (answer : Result (Bor (List ℕ)) ClientFault) → SaysBytes said xid message answer
+    → SaysInMemory (λ (bytes : Bor (List ℕ)). bytes.now) (said xid message) answer
+bytes_said said xid message answer says = says_in_memory (λ (bytes : Bor (List ℕ)). bytes.now) (said xid message) answer says
+
+-- ---- rows
+
+-- an answer of ALL is what is said, unless memory ran out
+rows_in_memory : (said : AllSaid) (draft : Draft) (rows : ℕ) (answer : Result (Unit {0}) ClientFault) → IsSaid said draft rows answer
+    → (said ≡ record { draft = draft; rows = rows; end = answer }) ⊎ (answer ≡ Err ClientNoMemory)
+rows_in_memory said draft rows (Ok done) says = inl says
+rows_in_memory said draft rows (Err ClientNoMemory) says = inr refl
+rows_in_memory said draft rows (Err fault) says = inl says
+
+-- the rows of a version stand in the builder, in their order
+rows_meant : RisingStays → (keyed : Bool) (held : Result MapVersion YpStat) (draft : Draft) (rows : ℕ) (answer : Result (Unit {0}) ClientFault) → IsSound held
+    → record { draft = draft; rows = rows; end = answer } ≡ all_told no_rows held
+    → meant_by query_fault (λ _. rows_text keyed (listed draft.rows)) answer ≡ meant_by query_fault (rows_text keyed) (told (of_version all_in held))
+rows_meant stays keyed (Ok version) draft rows (Ok done) is said =
+    let same : draft.rows ≡ version.rows = ap (λ (s : AllSaid). s.draft.rows) said in
+    ap (λ (all : List Row). Ok (rows_text keyed (listed all))) same ∙ ap (λ (all : List Row). Ok (rows_text keyed all)) (stays version.rows is.rising)
+rows_meant stays keyed (Ok version) draft rows (Err fault) is said = absurd (let ends : Err fault ≡ Ok tt = ap (λ (s : AllSaid). s.end) said in cc)
+rows_meant stays keyed (Err stat) draft rows (Ok done) is said = absurd (let ends : Ok done ≡ Err (Yp stat) = ap (λ (s : AllSaid). s.end) said in cc)
+rows_meant stays keyed (Err stat) draft rows (Err fault) is said =
+    let ends : Err fault ≡ Err (Yp stat) = ap (λ (s : AllSaid). s.end) said in
+    let same : fault ≡ Yp stat = cc in
+    ap (λ (f : ClientFault). Err (query_fault f)) same
+
+-- any master is as long as none
+any_master : (held : Result MapVersion YpStat) → IfOk held (λ version. 0 ≤ length version.master)
+any_master (Ok version) = omega arith
+any_master (Err stat) = tt
+
+-- a builder of a question has room for the rows of every version
+pub no_rows_room : RoomForVersion → (maps : Maps) (port : ℕ) (domain map : List ℕ) → AreServed maps → HasRoom no_rows (row_check maps port domain map)
+no_rows_room law maps port domain map served = law maps port domain map 0 [] served (any_master (row_check maps port domain map))
+
+rows_come : Laws → (maps : Maps) (peer : Peer) (keyed : Bool) (domain map stream : List ℕ) (outcome : Outcome) (old new : ClientState) → AreServed maps → length domain ≤ 64 → length map ≤ 64
+    → GivesReply maps peer all_max (all_call domain map 1) stream (λ rest. ⊤) → IsFirst old → old.wire.input ≡ Some stream → TakesRows keyed domain map outcome old new
+    → ComesTo (meant_by query_fault (rows_text keyed) (told (of_version all_in (row_check maps peer.port domain map)))) outcome
+rows_come laws maps peer keyed domain map stream outcome old new served d m good first told_input takes =
+    let held = row_check maps peer.port domain map in
+    let sound = row_sound maps peer.port domain map served in
+    let answer = takes.makes.answer in
+    let to = meant_by query_fault (rows_text keyed) (told (of_version all_in held)) in
+    let text = λ (done : Unit {0}). rows_text keyed (listed takes.draft.rows) in
+    let says : all_said no_rows 1 good.reply ≡ all_told no_rows held =
+    tells_of maps peer all_max (all_call domain map 1) (all_said no_rows 1) (all_told no_rows held) good.reply
+    (laws.replies.all maps peer 1 domain served (omega arith) d map m no_rows (no_rows_room laws.replies.room maps peer.port domain map served)) good.good.0 in
+    comes_in_memory to (meant_by query_fault text answer) outcome
+    (elim (call_heard laws.records all_max stream _ good (all_call domain map) (SaysAll no_rows takes.draft) old new told_input answer takes.makes.calls first.spent) [
+      | inr failed ↦ wire_comes to query_fault text answer fault_passes failed
+      | inl heard ↦ elim (rows_in_memory (all_said no_rows old.xid good.reply) takes.draft heard.by_reply.0 answer heard.by_reply.1) [
+        | inr none ↦ memory_comes to query_fault text answer fault_passes none
+        | inl is ↦ comes_same to (meant_by query_fault text answer)
+            (rows_meant laws.stays keyed held takes.draft heard.by_reply.0 answer sound (sym is ∙ ap (λ (xid : ℕ). all_said no_rows xid good.reply) first.xid ∙ says))
+      ]
+    ]) takes.makes.meant
+
+-- ---- an order, and then a master
+
+-- an order that is said is the answer
+number_said : (said : Result ℕ ClientFault) (answer : Result ℕ ClientFault) → Says (λ n. n) said answer → said ≡ answer
+number_said said (Ok n) says = says
+number_said said (Err fault) says = says
+
+-- a map that has an order is there
+order_there : (held : Result MapVersion YpStat) (order : ℕ) → Ok order ≡ told (of_version order_in held) → IsOk held
+order_there (Ok version) order is = refl
+order_there (Err stat) order is = absurd (let same : Ok order ≡ Err (Yp stat) = is in cc)
+
+-- a second call of a client that was heard goes on
+goes_on : {X : Type 0} (limit : ℕ) (call : ℕ → List ℕ) (answers : ℕ → List ℕ → Result X ClientFault → Type 0) (x : X) (old new : ClientState) → Calls limit call answers (Ok x) old new → IsFirst old
+    → (new.xid ≡ 2) × (new.spent ≡ false)
+goes_on limit call answers x old new calls first =
+    (calls.xid ∙ ap (λ (b : Bool). cond b old.xid ((old.xid + 1) % 2 ^ 32)) first.spent ∙ ap (λ (n : ℕ). (n + 1) % 2 ^ 32) first.xid, calls.spent)
+
+module _ (laws : Laws) (first second : Maps) (peer : Peer) (domain map stream : List ℕ) (one : AreServed first) (other : AreServed second) (d : length domain ≤ 64) (m : length map ≤ 64)
+    (good : GivesStanding first second peer domain map stream)
+    (outcome : Outcome) (old mid new : ClientState) (begins : IsFirst old) (told_input : old.wire.input ≡ Some stream) where
+  -- the order that is told, and the master
+  abbrev order_told : Result ℕ ClientFault
+  order_told = told (of_version order_in (map_check first domain map))
+
+  abbrev master_told : Result (List ℕ) ClientFault
+  master_told = told (of_version master_in (map_check second domain map))
+
+  order_says : order_of 1 good.reply ≡ order_told
+  order_says =
+      tells_of first peer reply_max (order_call domain map 1) (order_of 1) order_told good.reply
+      (laws.replies.order first peer 1 domain one (omega arith) d map m) good.good.0
+
+  -- an answer that was heard is what is told
+  order_is : (order : Result ℕ ClientFault) → SaysNumber order_of old.xid good.reply order → order ≡ order_told
+  order_is order says =
+      sym (number_said (order_of old.xid good.reply) order says) ∙ ap (λ (xid : ℕ). order_of xid good.reply) begins.xid ∙ order_says
+
+  master_comes : (order : ℕ) → Calls reply_max (order_call domain map) (SaysNumber order_of) (Ok order) old mid → Heard (SaysNumber order_of old.xid good.reply (Ok order)) good.rest mid
+      → MakesMaster domain map (Ok order) outcome mid new → ComesTo (standing_told (Ok order) master_told) outcome
+  master_comes order calls heard follows =
+      let next = goes_on reply_max (order_call domain map) (SaysNumber order_of) order old mid calls begins in
+      let there : GivesReply second peer reply_max (master_call domain map 2) good.rest (λ behind. ⊤) = good.good.1 (order_there (map_check first domain map) order (order_is (Ok order) heard.by_reply)) in
+      let says : master_of 2 there.reply ≡ master_told =
+      tells_of second peer reply_max (master_call domain map 2) (master_of 2) master_told there.reply
+      (laws.replies.master second peer 2 domain other (omega arith) d map m) there.good.0 in
+      call_comes laws.records reply_max 2 good.rest _ there (master_call domain map) (λ (bytes : Bor (List ℕ)). bytes.now) master_of (SaysBytes master_of) query_fault (standing_text order) master_told outcome mid new
+      (bytes_said master_of) fault_passes follows heard.left next.1 next.0 says
+
+  order_comes : (order : Result ℕ ClientFault) → Heard (SaysNumber order_of old.xid good.reply order) good.rest mid ⊎ IsWireFault order
+      → Calls reply_max (order_call domain map) (SaysNumber order_of) order old mid → MakesMaster domain map order outcome mid new → ComesTo (standing_told order_told master_told) outcome
+  order_comes (Ok order) (inl heard) calls follows =
+      subst (λ (said : Result ℕ ClientFault). ComesTo (standing_told said master_told) outcome) (order_is (Ok order) heard.by_reply) (master_comes order calls heard follows)
+  order_comes (Ok order) (inr failed) calls follows = absurd failed
+  order_comes (Err fault) (inl heard) calls follows =
+      comes_same (standing_told order_told master_told) outcome
+      (follows.0 ∙ ap (λ (said : Result ℕ ClientFault). standing_told said master_told) (order_is (Err fault) heard.by_reply))
+  order_comes (Err fault) (inr failed) calls follows =
+      subst (ComesTo (standing_told order_told master_told)) (sym follows.0)
+      (wire_comes (standing_told order_told master_told) query_fault (λ (n : ℕ). []) (Err fault) fault_passes failed)
+
+  pub polls_come : (order : Result ℕ ClientFault) → Calls reply_max (order_call domain map) (SaysNumber order_of) order old mid → MakesMaster domain map order outcome mid new
+      → ComesTo (standing_told order_told master_told) outcome
+  polls_come order calls follows =
+      order_comes order (call_heard laws.records reply_max stream _ good (order_call domain map) (SaysNumber order_of) old mid told_input order calls begins.spent) calls follows
+
+-- ---- each question
+
+module _ (laws : Laws) (first second : Maps) (peer : Peer) (stream : List ℕ) (outcome : Outcome) (old new : ClientState) (one : AreServed first) (other : AreServed second) (begins : IsFirst old) (told_input : old.wire.input ≡ Some stream) where
+  calls_come : (question : ByteQuestion) → QuestionIsWithin question → GivesReplies first second peer question stream → MakesCalls question outcome old new → ComesTo (text_told first second peer question) outcome
+  calls_come (Cat domain map) within good makes = rows_come laws first peer false domain map stream outcome old new one within.0 within.1 good begins told_input makes
+  calls_come (Catk domain map) within good makes = rows_come laws first peer true domain map stream outcome old new one within.0 within.1 good begins told_input makes
+  calls_come (Match domain map key) within good makes =
+      let expected = told (of_version (value_in key) (row_check first peer.port domain map)) in
+      call_comes laws.records reply_max 1 stream _ good (match_call domain map key) (λ (bytes : Bor (List ℕ)). bytes.now) value_of (SaysBytes value_of) match_fault line expected outcome old new
+      (bytes_said value_of) match_passes makes told_input begins.spent begins.xid
+      (tells_of first peer reply_max (match_call domain map key 1) (value_of 1) expected good.reply
+      (laws.replies.value first peer 1 domain one (omega arith) within.0 map within.1 key within.2) good.good.0)
+  calls_come (Which domain map) within good makes =
+      let expected = told (of_version master_in (map_check first domain map)) in
+      call_comes laws.records reply_max 1 stream _ good (master_call domain map) (λ (bytes : Bor (List ℕ)). bytes.now) master_of (SaysBytes master_of) query_fault line expected outcome old new
+      (bytes_said master_of) fault_passes makes told_input begins.spent begins.xid
+      (tells_of first peer reply_max (master_call domain map 1) (master_of 1) expected good.reply
+      (laws.replies.master first peer 1 domain one (omega arith) within.0 map within.1) good.good.0)
+  calls_come (Poll domain map) within good makes =
+      polls_come laws first second peer domain map stream one other within.0 within.1 good outcome old makes.mid new begins told_input makes.order makes.calls makes.follows
+  calls_come (MapsOf domain) within good makes =
+      let expected = told (names_in first domain) in
+      call_comes laws.records reply_max 1 stream _ good (maplist_call domain) (λ (list : MapList). list.maps) maps_of (SaysNames maps_of) query_fault lines expected outcome old new
+      (λ xid message answer says. says) fault_passes makes told_input begins.spent begins.xid
+      (tells_of first peer reply_max (maplist_call domain 1) (maps_of 1) expected good.reply
+      (laws.replies.names first peer 1 domain one (omega arith) within) good.good.0)
+
+pub calls_are_told : Laws → CallsAreTold
+calls_are_told laws first second peer question stream outcome old new one other within good begins told_input (inl makes) =
+    calls_come laws first second peer stream outcome old new one other begins told_input question within good makes
+calls_are_told laws first second peer question stream outcome old new one other within good begins told_input (inr none) =
+    subst (ComesTo (text_told first second peer question)) (sym none.0) tt
+
+-- ---- the wire that came
+
+last_same : {A : Type 0} (xs : List A) (x y : A) → xs ++ x ∷ [] ≡ xs ++ y ∷ [] → x ≡ y
+last_same [] x y e = cc
+last_same (z ∷ xs) x y e = let rest : xs ++ x ∷ [] ≡ xs ++ y ∷ [] = cc in last_same xs x y rest
+
+-- the wire that came is the one to that peer, which gives the stream
+dialed_is : (dialed : Dialed) (last : WireState) (mid : Option Wires) (before after : Wires) (peer : Peer) (stream : List ℕ) → Comes dialed (Some before) mid → GoesBack last mid (Some after)
+    → after.came ≡ before.came ++ (peer, Some stream) ∷ [] → dialed ≡ (peer, Some stream)
+dialed_is dialed last None before after peer stream comes back came = absurd comes
+dialed_is dialed last (Some others) before after peer stream comes back came =
+    let mine : others.came ≡ before.came ++ dialed ∷ [] = ap (λ (w : Wires). w.came) comes in
+    let kept : after.came ≡ others.came = ap (λ (w : Wires). w.came) back in
+    last_same before.came dialed (peer, Some stream) (sym mine ∙ sym kept ∙ came)
+
+-- where no wire came, none did
+none_came : (peer : Peer) (stream : List ℕ) (old new : Option Wires) → HasCome peer stream old new → new ≡ old → ⊥
+none_came peer stream old new came same =
+    let e : Some came.after ≡ Some came.before = sym came.is ∙ same ∙ came.was in
+    let both : came.after ≡ came.before = cc in
+    omega (arith, ap (λ (w : Wires). length w.came) both, ap length came.came, length-append came.before.came ((peer, Some stream) ∷ []))
+
+exchange_told : CallsAreTold → (first second : Maps) (server caller : Peer) (question : ByteQuestion) (stream : List ℕ) (outcome : Outcome) (old new : Option Wires) → AreServed first → AreServed second
+    → QuestionIsWithin question → GivesReplies first second caller question stream → HasCome server stream old new → Exchanges server question outcome old new → ComesTo (text_told first second caller question) outcome
+exchange_told laws first second server caller question stream outcome old new one other within good came did =
+    let dialed : Dialed = (server, did.first.wire.input) in
+    let comes : Comes dialed (Some came.before) did.mid = subst (λ (w : Option Wires). Comes dialed w did.mid) came.was did.comes in
+    let back : GoesBack did.last.wire did.mid (Some came.after) = subst (λ (w : Option Wires). GoesBack did.last.wire did.mid w) came.is did.goes_back in
+    let same = dialed_is dialed did.last.wire did.mid came.before came.after server stream comes back came.came in
+    laws first second caller question stream outcome did.first did.last one other within good did.begins (ap (λ (d : Dialed). d.1) same) did.converses
+
+pub query_prints_told : CallsAreTold → QueryPrintsTold
+query_prints_told laws first second server caller question stream (Err Dial) old new one other within good came asks = absurd (none_came server stream old.dial.past new.dial.past came asks.0)
+query_prints_told laws first second server caller question stream (Err fault) old new one other within good came asks =
+    record { outcome = asks.0; comes_to = exchange_told laws first second server caller question stream asks.0 old.dial.past new.dial.past one other within good came asks.1; prints = asks.2 }
+query_prints_told laws first second server caller question stream (Ok done) old new one other within good came asks =
+    record { outcome = asks.0; comes_to = exchange_told laws first second server caller question stream asks.0 old.dial.past new.dial.past one other within good came asks.1; prints = asks.2 }

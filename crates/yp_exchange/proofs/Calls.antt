@@ -1,0 +1,57 @@
+-- A call of a client is heard as that call, and its arguments are read as they were written.
+use Rattle.std.proofs.Common.{◌≡◌, ℕ, List, [], ◌++◌, length, Result, Ok, refl, sym, ap, ◌∙◌, append_assoc, arith}
+use Rattle.std.proofs.lemmas.List.{append-nil, drop_at}
+use Rattle.yp_io.specs.declared.stream.Peer.{Peer}
+use Rattle.yp_xdr.specs.Kind.{Kind, Value}
+use Rattle.yp_xdr.specs.Spelling.{spelling, opaque, fixed, Fits}
+use Rattle.yp_xdr.specs.Laws.{WrittenIsReadAgain}
+use Rattle.yp_rpc.specs.declared.call.CallHead.{CallHead}
+use Rattle.yp_rpc.specs.declared.call.Heard.{Heard}
+use Rattle.yp_rpc.specs.declared.reply.ReplyHead.{ReplyHead}
+use Rattle.yp_rpc.specs.Call.{front_kind, procedure_kind}
+use Rattle.yp_rpc.specs.Called.{front, heading, called, call_of}
+use Rattle.yp_rpc.specs.Laws.{IsWord, CallIsHeardAgain}
+use Rattle.yp_msgs.specs.Numbers.{program, version}
+use Rattle.yp_answer.specs.declared.procedure.Path.TheVariants.{Stream}
+use Rattle.yp_answer.specs.declared.procedure.Procedure.{Procedure}
+use Rattle.yp_answer.specs.declared.caller.Caller.{Caller}
+use Rattle.yp_answer.specs.Maps.{Maps}
+use Rattle.yp_answer.specs.Reply.{arguments_of, procedure_reply, admitted, call_reply, heard_reply, reply}
+
+-- what the head of a call says
+abbrev pub call_head : ℕ → ℕ → CallHead
+call_head xid procedure = record { xid = xid; prog = program; vers = version; procedure = procedure; flavor = 0; body = 40 }
+
+-- a caller over a stream
+abbrev pub caller_of : ℕ → Peer → Caller
+caller_of xid peer = record { path = Stream; xid = xid; peer = peer }
+
+-- the head of a call takes 40 bytes
+length-called : (xid prog vers procedure : ℕ) → length (called xid prog vers procedure) ≡ 40
+unfolding opaque fixed
+length-called xid prog vers procedure = refl
+
+-- the call is its head and its arguments
+call_is : (kind : Kind) (xid procedure : ℕ) (arguments : Value kind) → call_of kind xid program version procedure arguments ≡ called xid program version procedure ++ spelling kind arguments
+call_is kind xid procedure arguments =
+    sym (append_assoc (spelling front_kind (front xid)) (spelling procedure_kind (heading program version procedure)) (spelling kind arguments))
+
+-- its arguments are read behind its head
+pub arguments_again : WrittenIsReadAgain → (kind : Kind) (arguments : Value kind) → Fits kind arguments
+    → arguments_of kind (spelling kind arguments) ≡ Ok (arguments, record { at = length (spelling kind arguments); bytes = [] })
+arguments_again law kind arguments fits =
+    ap (λ (bytes : List ℕ). arguments_of kind bytes) (sym (append-nil (spelling kind arguments)))
+    ∙ law kind arguments (spelling kind arguments) [] 0 (record { fits = fits; spelled = refl })
+    ∙ ap (λ (n : ℕ). Ok (arguments, record { at = n; bytes = [] })) (omega arith)
+
+-- the reply to a call is that of its procedure to its arguments
+pub reply_to_call : CallIsHeardAgain → (maps : Maps) (peer : Peer) (kind : Kind) (xid number : ℕ) (arguments : Value kind) (procedure : Procedure) → IsWord xid → IsWord number
+    → admitted Stream (call_head xid number) ≡ Ok procedure
+    → reply Stream maps peer (call_of kind xid program version number arguments) ≡ procedure_reply maps (caller_of xid peer) procedure (spelling kind arguments)
+reply_to_call law maps peer kind xid number arguments procedure x n is =
+    let head = called xid program version number in
+    let bytes = spelling kind arguments in
+    ap (λ (message : List ℕ). reply Stream maps peer message) (call_is kind xid number arguments)
+    ∙ ap (λ (h : Heard). heard_reply Stream maps peer (head ++ bytes) h) (law xid program version number bytes x (omega arith) (omega arith) n)
+    ∙ ap (λ (a : Result Procedure ReplyHead). call_reply Stream maps peer (head ++ bytes) (call_head xid number) a) is
+    ∙ ap (λ (rest : List ℕ). procedure_reply maps (caller_of xid peer) procedure rest) (drop_at head bytes 40 (length-called xid program version number))

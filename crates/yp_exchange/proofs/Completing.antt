@@ -1,0 +1,120 @@
+-- Where the maps of a server tell a text, its replies answer the calls of a question.
+use Rattle.std.proofs.Common.{◌≡◌, ℕ, ◌≤◌, Bool, true, false, List, length, Result, Ok, Err, refl, sym, ap, ◌∙◌, subst, arith}
+use Rattle.std.specs.Prelude.{⊤, IsOk}
+use Rattle.yp_io.specs.declared.stream.Peer.{Peer}
+use Rattle.yp_msgs.specs.declared.stat.YpStat.{YpStat}
+use Rattle.yp_msgs.specs.declared.stat.YpStat.TheVariants.{Nokey}
+use Rattle.yp_version.specs.declared.builder.VersionFault.{VersionFault}
+use Rattle.yp_version.specs.declared.builder.VersionFault.TheVariants.{NoMemory as RowNoMemory}
+use Rattle.yp_version.specs.Versions.{MapVersion}
+use Rattle.yp_client.specs.declared.fault.ClientFault.{ClientFault}
+use Rattle.yp_client.specs.declared.fault.ClientFault.TheVariants.{Yp, Rows, NoMemory}
+use Rattle.yp_client.specs.Limits.{reply_max, all_max}
+use Rattle.yp_client.specs.Results.{value_of, master_of, order_of, maps_of}
+use Rattle.yp_client.specs.All.{AllSaid, all_said}
+use Rattle.yp_client.specs.Asked.{all_call, match_call, master_call, order_call, maplist_call}
+use Rattle.yp_query.specs.declared.question.Question.TheVariants.{Cat, Catk, Match, Which, Poll, Maps as MapsOf}
+use Rattle.yp_query.specs.Lines.{line, lines, rows_text, standing_text}
+use Rattle.yp_query.specs.Faults.{query_fault, match_fault}
+use Rattle.yp_query.specs.Asked.{meant_by, no_rows}
+use Rattle.yp_query.specs.Questions.{ByteQuestion, QuestionIsWithin}
+use Rattle.yp_query.specs.Complete.{BeginsWithReply, IsFound, HasAnswer}
+use Rattle.yp_answer.specs.Maps.{Maps, map_check, row_check}
+use Rattle.yp_exchange.specs.Told.{told, of_version, value_in, all_in, master_in, order_in, all_told, names_in}
+use Rattle.yp_exchange.specs.Served.{AreServed}
+use Rattle.yp_exchange.specs.Answered.{GivesReply, GivesStanding, GivesReplies, standing_told, text_told, HasText}
+use Rattle.yp_exchange.specs.QueryLaws.{ToldIsAnswered}
+use Rattle.yp_exchange.proofs.Queries.{tells_of}
+use Rattle.yp_exchange.proofs.Asking.{Replies, no_rows_room}
+
+-- ---- what has a text
+
+all_end : (keyed : Bool) (held : Result MapVersion YpStat) → HasText (meant_by query_fault (rows_text keyed) (told (of_version all_in held))) → (all_told no_rows held).end ≡ Ok tt
+all_end keyed (Ok version) has = refl
+all_end keyed (Err stat) has = absurd has
+
+-- a fault has no text
+row_no_text : (row : ℕ) (fault : VersionFault) → HasText (Err (query_fault (Rows row fault))) → ⊥
+row_no_text row RowNoMemory has = has
+row_no_text row fault has = has
+
+no_text : (fault : ClientFault) → HasText (Err (query_fault fault)) → ⊥
+no_text NoMemory has = has
+no_text (Rows row fault) has = row_no_text row fault has
+no_text fault has = has
+
+found : (said : Result (List ℕ) ClientFault) → HasText (meant_by match_fault line said) → IsFound said
+found (Ok value) has = tt
+found (Err (Yp Nokey)) has = tt
+found (Err (Yp stat)) has = absurd has
+found (Err (Rows row fault)) has = absurd (row_no_text row fault has)
+found (Err fault) has = absurd has
+
+said_ok : {V : Type 0} (text : V → List ℕ) (said : Result V ClientFault) → HasText (meant_by query_fault text said) → IsOk said
+said_ok text (Ok value) has = refl
+said_ok text (Err fault) has = absurd (no_text fault has)
+
+both_ok : (order : Result ℕ ClientFault) (master : Result (List ℕ) ClientFault) → HasText (standing_told order master) → IsOk order × IsOk master
+both_ok (Ok order) master has = (refl, said_ok (standing_text order) master has)
+both_ok (Err fault) master has = absurd (no_text fault has)
+
+-- an order that is told is that of a map that is there
+there : (held : Result MapVersion YpStat) → IsOk (told (of_version order_in held)) → IsOk held
+there (Ok version) ok = refl
+there (Err stat) ok = absurd cc
+
+-- ---- each question
+
+-- a reply that is given, with what holds of it
+given : (limit : ℕ) (stream : List ℕ) (P Q : List ℕ → List ℕ → Type 0) (good : BeginsWithReply limit stream P) → Q good.reply good.rest → BeginsWithReply limit stream Q
+given limit stream P Q good holds = record { reply = good.reply; bytes = good.bytes; rest = good.rest; fragments = good.fragments; whole = good.whole; good = holds }
+
+module _ (laws : Replies) (first second : Maps) (peer : Peer) (stream : List ℕ) (one : AreServed first) (other : AreServed second) where
+  rows_answered : (keyed : Bool) (domain map : List ℕ) → length domain ≤ 64 → length map ≤ 64 → GivesReply first peer all_max (all_call domain map 1) stream (λ rest. ⊤)
+      → HasText (meant_by query_fault (rows_text keyed) (told (of_version all_in (row_check first peer.port domain map))))
+      → BeginsWithReply all_max stream (λ reply rest. (all_said no_rows 1 reply).end ≡ Ok tt)
+  rows_answered keyed domain map d m good has =
+      let held = row_check first peer.port domain map in
+      let says : all_said no_rows 1 good.reply ≡ all_told no_rows held =
+      tells_of first peer all_max (all_call domain map 1) (all_said no_rows 1) (all_told no_rows held) good.reply
+      (laws.all first peer 1 domain one (omega arith) d map m no_rows (no_rows_room laws.room first peer.port domain map one)) good.good.0 in
+      given all_max stream _ (λ reply rest. (all_said no_rows 1 reply).end ≡ Ok tt) good (ap (λ (said : AllSaid). said.end) says ∙ all_end keyed held has)
+
+  poll_answered : (domain map : List ℕ) → length domain ≤ 64 → length map ≤ 64
+      → GivesStanding first second peer domain map stream
+      → HasText (standing_told (told (of_version order_in (map_check first domain map))) (told (of_version master_in (map_check second domain map))))
+      → BeginsWithReply reply_max stream (λ reply rest. IsOk (order_of 1 reply) × BeginsWithReply reply_max rest (λ second behind. IsOk (master_of 2 second)))
+  poll_answered domain map d m good has =
+      let order = told (of_version order_in (map_check first domain map)) in
+      let master = told (of_version master_in (map_check second domain map)) in
+      let ok = both_ok order master has in
+      let behind = good.good.1 (there (map_check first domain map) ok.0) in
+      let says = tells_of first peer reply_max (order_call domain map 1) (order_of 1) order good.reply (laws.order first peer 1 domain one (omega arith) d map m) good.good.0 in
+      let then = tells_of second peer reply_max (master_call domain map 2) (master_of 2) master behind.reply (laws.master second peer 2 domain other (omega arith) d map m) behind.good.0 in
+      given reply_max stream _ (λ reply rest. IsOk (order_of 1 reply) × BeginsWithReply reply_max rest (λ second end. IsOk (master_of 2 second))) good (
+        subst (λ (said : Result ℕ ClientFault). IsOk said) (sym says) ok.0,
+        given reply_max good.rest _ (λ second end. IsOk (master_of 2 second)) behind (subst (λ (said : Result (List ℕ) ClientFault). IsOk said) (sym then) ok.1),
+      )
+
+  answered : (question : ByteQuestion) → QuestionIsWithin question → GivesReplies first second peer question stream → HasText (text_told first second peer question) → HasAnswer question stream
+  answered (Cat domain map) within good has = rows_answered false domain map within.0 within.1 good has
+  answered (Catk domain map) within good has = rows_answered true domain map within.0 within.1 good has
+  answered (Match domain map key) within good has =
+      let expected = told (of_version (value_in key) (row_check first peer.port domain map)) in
+      let says = tells_of first peer reply_max (match_call domain map key 1) (value_of 1) expected good.reply
+      (laws.value first peer 1 domain one (omega arith) within.0 map within.1 key within.2) good.good.0 in
+      given reply_max stream _ (λ reply rest. IsFound (value_of 1 reply)) good (subst IsFound (sym says) (found expected has))
+  answered (Which domain map) within good has =
+      let expected = told (of_version master_in (map_check first domain map)) in
+      let says = tells_of first peer reply_max (master_call domain map 1) (master_of 1) expected good.reply
+      (laws.master first peer 1 domain one (omega arith) within.0 map within.1) good.good.0 in
+      given reply_max stream _ (λ reply rest. IsOk (master_of 1 reply)) good (subst (λ (said : Result (List ℕ) ClientFault). IsOk said) (sym says) (said_ok line expected has))
+  answered (Poll domain map) within good has = poll_answered domain map within.0 within.1 good has
+  answered (MapsOf domain) within good has =
+      let expected = told (names_in first domain) in
+      let says = tells_of first peer reply_max (maplist_call domain 1) (maps_of 1) expected good.reply
+      (laws.names first peer 1 domain one (omega arith) within) good.good.0 in
+      given reply_max stream _ (λ reply rest. IsOk (maps_of 1 reply)) good (subst (λ (said : Result (List (List ℕ)) ClientFault). IsOk said) (sym says) (said_ok lines expected has))
+
+pub told_is_answered : Replies → ToldIsAnswered
+told_is_answered laws first second peer question stream one other within good has = answered laws first second peer stream one other question within good has

@@ -1,0 +1,16 @@
+use Rattle.yp_exchange.proofs.Asking.{calls_are_told}
+use Rattle.yp_exchange.proofs.laws.calls_are_told.Goals as goal
+
+pub returns : goal.returns
+returns c = calls_are_told (record {
+  replies = record {
+    value = c.match_tells.ensures;
+    all = c.all_tells.ensures;
+    room = c.room_for_version.ensures;
+    master = c.master_tells.ensures;
+    order = c.order_tells.ensures;
+    names = c.maplist_tells.ensures;
+  };
+  stays = c.rising_stays.ensures;
+  records = record { first = c.first_is_one.ensures; rest = c.rest_is_not_whole.ensures };
+})

@@ -1,0 +1,5 @@
+use Rattle.yp_exchange.proofs.LookUps.{order_tells}
+use Rattle.yp_exchange.proofs.laws.order_tells.Goals as goal
+
+pub returns : goal.returns
+returns c = order_tells c.written_is_read_again.ensures c.call_is_heard_again.ensures

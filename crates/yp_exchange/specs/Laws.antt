@@ -1,0 +1,80 @@
+-- What a client is told is what the maps of the server have, for each procedure.
+use Rattle.std.specs.Prelude.{ℕ, ◌≤◌, List, [], length, Ok, IfOk}
+use Rattle.yp_io.specs.declared.stream.Peer.{Peer}
+use Rattle.yp_rpc.specs.Laws.{IsWord}
+use Rattle.yp_msgs.specs.Numbers.{name_max, key_max}
+use Rattle.yp_version.specs.Drafts.{Draft}
+use Rattle.yp_board.specs.Catalogues.{serves}
+use Rattle.yp_answer.specs.Maps.{Maps, row_check}
+use Rattle.yp_client.specs.Limits.{reply_max, all_max}
+use Rattle.yp_client.specs.Results.{served_of, value_of, row_of, master_of, order_of, maps_of}
+use Rattle.yp_client.specs.All.{all_said}
+use Rattle.yp_client.specs.Asked.{domain_call, match_call, first_call, next_call, all_call, master_call, order_call}
+use Rattle.yp_client.specs.Asked.{maplist_call}
+use Rattle.yp_exchange.specs.Told.{told, rows_tell, map_tells, value_in, first_in, next_in}
+use Rattle.yp_exchange.specs.Told.{master_in, order_in, all_told, names_in}
+use Rattle.yp_exchange.specs.Served.{AreServed, ReplyTells, HasRoom}
+
+-- a call about a domain, about a map, and about a key, whose parts are within their limits
+abbrev pub ForDomain : (Maps → Peer → ℕ → List ℕ → Type 0) → Type 0
+ForDomain P = (maps : Maps) (peer : Peer) (xid : ℕ) (domain : List ℕ)
+    → AreServed maps
+    → IsWord xid
+    → length domain ≤ name_max
+    → P maps peer xid domain
+
+abbrev pub ForMap : (Maps → Peer → ℕ → List ℕ → List ℕ → Type 0) → Type 0
+ForMap P = ForDomain (λ maps peer xid domain. (map : List ℕ) → length map ≤ name_max → P maps peer xid domain map)
+
+abbrev pub ForKey : (Maps → Peer → ℕ → List ℕ → List ℕ → List ℕ → Type 0) → Type 0
+ForKey P = ForMap (λ maps peer xid domain map. (key : List ℕ) → length key ≤ key_max → P maps peer xid domain map key)
+
+-- DOMAIN: whether it is served
+abbrev pub DomainTells : Type 0
+DomainTells = ForDomain (λ maps peer xid domain.
+    ReplyTells maps peer reply_max (domain_call domain xid) (served_of xid) (Ok (serves domain maps.catalogue)))
+
+-- MATCH: the value of the key in the version that is shown
+abbrev pub MatchTells : Type 0
+MatchTells = ForKey (λ maps peer xid domain map key.
+    ReplyTells maps peer reply_max (match_call domain map key xid) (value_of xid)
+    (rows_tell (value_in key) maps peer domain map))
+
+-- FIRST: its first row
+abbrev pub FirstTells : Type 0
+FirstTells = ForMap (λ maps peer xid domain map.
+    ReplyTells maps peer reply_max (first_call domain map xid) (row_of xid) (rows_tell first_in maps peer domain map))
+
+-- NEXT: the row behind the one with the key
+abbrev pub NextTells : Type 0
+NextTells = ForKey (λ maps peer xid domain map key.
+    ReplyTells maps peer reply_max (next_call domain map key xid) (row_of xid)
+    (rows_tell (next_in key) maps peer domain map))
+
+-- ALL: all its rows, onto a builder that has room for them
+abbrev pub AllTells : Type 0
+AllTells = ForMap (λ maps peer xid domain map. (draft : Draft) → HasRoom draft (row_check maps peer.port domain map) →
+    ReplyTells maps peer all_max (all_call domain map xid) (all_said draft xid)
+    (all_told draft (row_check maps peer.port domain map)))
+
+-- MASTER: the name of its master
+abbrev pub MasterTells : Type 0
+MasterTells = ForMap (λ maps peer xid domain map.
+    ReplyTells maps peer reply_max (master_call domain map xid) (master_of xid) (map_tells master_in maps domain map))
+
+-- ORDER: its order
+abbrev pub OrderTells : Type 0
+OrderTells = ForMap (λ maps peer xid domain map.
+    ReplyTells maps peer reply_max (order_call domain map xid) (order_of xid) (map_tells order_in maps domain map))
+
+-- MAPLIST: the names of the domain's maps that have a version
+abbrev pub MaplistTells : Type 0
+MaplistTells = ForDomain (λ maps peer xid domain.
+    ReplyTells maps peer reply_max (maplist_call domain xid) (maps_of xid) (told (names_in maps domain)))
+
+-- ALL finds room: a builder without rows, whose master isn't longer than that of the version, has room for its rows
+abbrev pub RoomForVersion : Type 0
+RoomForVersion = (maps : Maps) (port : ℕ) (domain map : List ℕ) (order : ℕ) (master : List ℕ)
+    → AreServed maps
+    → IfOk (row_check maps port domain map) (λ version. length master ≤ length version.master)
+    → HasRoom (record { order = order; master = master; rows = [] }) (row_check maps port domain map)

@@ -1,0 +1,66 @@
+-- What a question comes to is what the maps of the server have, where the wire gives the replies of that server.
+use Rattle.std.specs.Prelude.{◌≡◌, List, ◌++◌, ℕ, Some, Result}
+use Rattle.yp_io.specs.declared.stream.Peer.{Peer}
+use Rattle.yp_board.specs.Catalogues.{Catalogue}
+use Rattle.yp_board.specs.Logs.{Log}
+use Rattle.yp_answer.specs.Maps.{Maps}
+use Rattle.yp_client.specs.States.{ClientState}
+use Rattle.yp_query.specs.declared.fault.QueryFault.{QueryFault}
+use Rattle.yp_query.specs.Questions.{ByteQuestion, QuestionIsWithin}
+use Rattle.yp_query.specs.Asked.{Outcome, Converses}
+use Rattle.yp_query.specs.Complete.{HasCome, HasAnswer}
+use Rattle.yp_query.specs.Scenes.{Scene, IsFirst, Asks}
+use Rattle.yp_exchange.specs.Served.{AreServed}
+use Rattle.yp_exchange.specs.Runs.{maps_on, RepliesInTurn, sent_all, calls_made, PrintsOnLogs}
+use Rattle.yp_exchange.specs.Answered.{GivesReplies, text_told, HasText, ComesTo, PrintsTold}
+
+-- the calls of a question over such a wire come to the text of what the maps tell
+abbrev pub CallsAreTold : Type 0
+CallsAreTold =
+    (first second : Maps) (caller : Peer) (question : ByteQuestion) (stream : List ℕ) (outcome : Outcome)
+    (old new : ClientState)
+    → AreServed first
+    → AreServed second
+    → QuestionIsWithin question
+    → GivesReplies first second caller question stream
+    → IsFirst old
+    → old.wire.input ≡ Some stream
+    → Converses question outcome old new
+    → ComesTo (text_told first second caller question) outcome
+
+-- so this is what a question prints, where the server that was dialed gave such a wire
+abbrev pub QueryPrintsTold : Type 0
+QueryPrintsTold =
+    (first second : Maps) (server caller : Peer) (question : ByteQuestion) (stream : List ℕ)
+    (result : Result (Unit {0}) QueryFault) (old new : Scene)
+    → AreServed first
+    → AreServed second
+    → QuestionIsWithin question
+    → GivesReplies first second caller question stream
+    → HasCome server stream old.dial.past new.dial.past
+    → Asks server question result old new
+    → PrintsTold (text_told first second caller question) result old.output new.output
+
+-- and where the wire gives the replies of a server to the calls of the question in turn, on a log that grows: on two
+-- logs of that server
+abbrev pub RunIsPrinted : Type 0
+RunIsPrinted =
+    (catalogue : Catalogue) (server caller : Peer) (question : ByteQuestion) (replies : List (List ℕ))
+    (rest : List ℕ) (before after : Log) (result : Result (Unit {0}) QueryFault) (old new : Scene)
+    → AreServed (maps_on catalogue after)
+    → QuestionIsWithin question
+    → RepliesInTurn catalogue caller (calls_made question replies) replies before after
+    → HasCome server (sent_all replies ++ rest) old.dial.past new.dial.past
+    → Asks server question result old new
+    → PrintsOnLogs catalogue caller question before after result old.output new.output
+
+-- Where the maps tell a text, or that there is no such key, such a wire answers the calls of the question.
+abbrev pub ToldIsAnswered : Type 0
+ToldIsAnswered =
+    (first second : Maps) (caller : Peer) (question : ByteQuestion) (stream : List ℕ)
+    → AreServed first
+    → AreServed second
+    → QuestionIsWithin question
+    → GivesReplies first second caller question stream
+    → HasText (text_told first second caller question)
+    → HasAnswer question stream

@@ -1,0 +1,66 @@
+-- A server's replies to the calls of a question in turn, while versions of its maps are shown.
+use Rattle.std.specs.Prelude.{◌≡◌, ℕ, List, [], ◌∷◌, flat_map, Option, Result, Ok, Err}
+use Rattle.yp_io.specs.declared.stream.Peer.{Peer}
+use Rattle.yp_rpc.specs.Records.{sent}
+use Rattle.yp_board.specs.Catalogues.{Catalogue}
+use Rattle.yp_board.specs.Logs.{Log}
+use Rattle.yp_board.specs.Views.{IsFront}
+use Rattle.yp_answer.specs.declared.procedure.Path.TheVariants.{Stream}
+use Rattle.yp_answer.specs.Maps.{Maps}
+use Rattle.yp_answer.specs.Reply.{Bytes, reply}
+use Rattle.yp_client.specs.declared.fault.ClientFault.{ClientFault}
+use Rattle.yp_client.specs.Results.{order_of}
+use Rattle.yp_client.specs.Asked.{all_call, match_call, master_call, order_call, maplist_call}
+use Rattle.yp_query.specs.declared.fault.QueryFault.{QueryFault}
+use Rattle.yp_query.specs.declared.question.Question.TheVariants.{Cat, Catk, Match, Which, Poll, Maps as MapsOf}
+use Rattle.yp_query.specs.Questions.{ByteQuestion}
+use Rattle.yp_exchange.specs.Answered.{text_told, PrintsTold}
+
+-- the maps of a catalogue, of which a log is known
+abbrev pub maps_on : Catalogue → Log → Maps
+maps_on catalogue log = record { catalogue = catalogue; log = log }
+
+-- Calls were answered one after the other, each on a log that begins with the one before. Versions may be shown between
+-- any two.
+abbrev pub RepliesInTurn : Catalogue → Peer → List (List ℕ) → List (List ℕ) → Log → Log → Type 0
+RepliesInTurn catalogue peer [] [] old new = IsFront old new
+RepliesInTurn catalogue peer (call ∷ calls) (bytes ∷ replies) old new =
+    (mid : Log) × IsFront old mid × (reply Stream (maps_on catalogue mid) peer call ≡ Bytes bytes)
+    × RepliesInTurn catalogue peer calls replies mid new
+RepliesInTurn catalogue peer [] (bytes ∷ replies) old new = ⊥
+RepliesInTurn catalogue peer (call ∷ calls) [] old new = ⊥
+
+-- what is sent of them
+abbrev pub sent_all : List (List ℕ) → List ℕ
+sent_all replies = flat_map sent replies
+
+-- a call that is made behind an order number, and not behind a refusal
+abbrev pub behind_order : List ℕ → Result ℕ ClientFault → List (List ℕ)
+behind_order call (Ok order) = call ∷ []
+behind_order call (Err fault) = []
+
+abbrev pub poll_calls : List ℕ → List ℕ → List (List ℕ) → List (List ℕ)
+poll_calls domain map [] = order_call domain map 1 ∷ []
+poll_calls domain map (bytes ∷ replies) =
+    order_call domain map 1 ∷ behind_order (master_call domain map 2) (order_of 1 bytes)
+
+-- the calls that are made for a question, which get these replies
+abbrev pub calls_made : ByteQuestion → List (List ℕ) → List (List ℕ)
+calls_made (Cat domain map) replies = all_call domain map 1 ∷ []
+calls_made (Catk domain map) replies = all_call domain map 1 ∷ []
+calls_made (Match domain map key) replies = match_call domain map key 1 ∷ []
+calls_made (Which domain map) replies = master_call domain map 1 ∷ []
+calls_made (Poll domain map) replies = poll_calls domain map replies
+calls_made (MapsOf domain) replies = maplist_call domain 1 ∷ []
+
+-- What these maps tell was printed, on two logs between an old and a new one: as they were at the first reply, and at
+-- the second.
+pub record PrintsOnLogs (catalogue : Catalogue) (peer : Peer) (question : ByteQuestion) (old new : Log)
+    (result : Result (Unit {0}) QueryFault) (before after : Option (List ℕ)) : Type 0 where
+  pub first : Log
+  pub second : Log
+  pub begins : IsFront old first
+  pub grows : IsFront first second
+  pub ends : IsFront second new
+  pub printed : PrintsTold (text_told (maps_on catalogue first) (maps_on catalogue second) peer question) result
+      before after

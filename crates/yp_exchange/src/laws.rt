@@ -1,0 +1,143 @@
+//! What joins the replies of a server with what a client reads of them. Each law is the contract of a function that
+//! does nothing.
+
+ghost use Rattle.yp_exchange.specs.Laws.{DomainTells, MatchTells, FirstTells, NextTells, AllTells, RoomForVersion};
+ghost use Rattle.yp_exchange.specs.Laws.{MasterTells, OrderTells, MaplistTells};
+ghost use Rattle.yp_exchange.specs.CallLaws.{NumberIsTold, TruthIsTold, BytesAreTold, RowIsTold, NamesAreTold};
+ghost use Rattle.yp_exchange.specs.CallLaws.{RowsAreTold};
+ghost use Rattle.yp_exchange.specs.QueryLaws.{CallsAreTold, QueryPrintsTold, RunIsPrinted, ToldIsAnswered};
+
+use yp_rpc::laws::{call_is_heard_again, first_is_one, rest_is_not_whole};
+use yp_version::laws::{rising_is_distinct, rising_stays};
+use yp_xdr::laws::written_is_read_again;
+
+/// The reply to DOMAIN says whether the domain is served.
+pub fn domain_tells()
+    ensures { DomainTells }
+{
+    written_is_read_again();
+    call_is_heard_again();
+}
+
+/// The reply to MATCH says the value of the key in the version that is shown, or the status that refuses it.
+pub fn match_tells()
+    ensures { MatchTells }
+{
+    written_is_read_again();
+    call_is_heard_again();
+}
+
+/// The reply to FIRST says its first row.
+pub fn first_tells()
+    ensures { FirstTells }
+{
+    written_is_read_again();
+    call_is_heard_again();
+}
+
+/// The reply to NEXT says the row behind the one with the key.
+pub fn next_tells()
+    ensures { NextTells }
+{
+    written_is_read_again();
+    call_is_heard_again();
+}
+
+/// The reply to MASTER says the name of its master.
+pub fn master_tells()
+    ensures { MasterTells }
+{
+    written_is_read_again();
+    call_is_heard_again();
+}
+
+/// The reply to ORDER says its order.
+pub fn order_tells()
+    ensures { OrderTells }
+{
+    written_is_read_again();
+    call_is_heard_again();
+}
+
+/// The reply to MAPLIST says the names of the domain's maps that have a version.
+pub fn maplist_tells()
+    ensures { MaplistTells }
+{
+    written_is_read_again();
+    call_is_heard_again();
+}
+
+/// The reply to ALL says all its rows, onto a builder that has room for them.
+pub fn all_tells()
+    ensures { AllTells }
+{
+    written_is_read_again();
+    call_is_heard_again();
+    rising_is_distinct();
+}
+
+/// A builder without rows, whose master isn't longer than that of the version, has room for its rows.
+pub fn room_for_version()
+    ensures { RoomForVersion }
+{}
+
+/// Over a wire that gives a server's reply, a call of a client answers what is told: a number, whether, bytes, a row,
+/// names, or the rows of a builder. Names and rows alone may want memory.
+pub fn answers_are_told()
+    ensures number { NumberIsTold }
+    ensures truth { TruthIsTold }
+    ensures bytes { BytesAreTold }
+    ensures row { RowIsTold }
+    ensures names { NamesAreTold }
+    ensures rows { RowsAreTold }
+{
+    first_is_one();
+    rest_is_not_whole();
+}
+
+/// The calls of a question over a wire that gives a server's replies come to the text of what its maps tell.
+pub fn calls_are_told()
+    ensures { CallsAreTold }
+{
+    match_tells();
+    all_tells();
+    room_for_version();
+    master_tells();
+    order_tells();
+    maplist_tells();
+    rising_stays();
+    first_is_one();
+    rest_is_not_whole();
+}
+
+/// So this is what a question prints, where the server that was dialed gave a wire of such replies.
+pub fn query_prints_told()
+    ensures { QueryPrintsTold }
+{
+    calls_are_told();
+}
+
+/// And where that wire gives what a server sent for the calls of the question in turn, on a log that grows.
+pub fn run_is_printed()
+    ensures { RunIsPrinted }
+{
+    query_prints_told();
+    match_tells();
+    all_tells();
+    room_for_version();
+    master_tells();
+    order_tells();
+    maplist_tells();
+}
+
+/// Where the maps tell a text, or that there is no such key, a server's replies answer the calls of a question.
+pub fn told_is_answered()
+    ensures { ToldIsAnswered }
+{
+    match_tells();
+    all_tells();
+    room_for_version();
+    master_tells();
+    order_tells();
+    maplist_tells();
+}

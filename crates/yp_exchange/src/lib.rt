@@ -1,0 +1,8 @@
+//! What a client is told is what the server has.
+//!
+//! That a server's one reply to each call says what its maps have stands on [`laws::match_tells`] and its like; that a
+//! call of a client answers so, on [`laws::answers_are_told`]; and that a query prints the rows, the value, the names
+//! or the order of one version, on [`laws::query_prints_told`] and [`laws::run_is_printed`].
+#![tactic(auto)]
+
+pub mod laws;

@@ -1,0 +1,231 @@
+//! Calls of a client, with what they answer where the wire gives the reply of a server.
+
+ghost use Rattle.std.specs.Prelude.{◌≤◌, ℕ, List, ◌++◌, length, Ok};
+ghost use Rattle.std.specs.Borrow.{sem};
+ghost use Rattle.yp_io.specs.declared.stream.Peer.{Peer as Caller};
+ghost use Rattle.yp_io.specs.Counts.{HasRisen};
+ghost use Rattle.yp_rpc.specs.Laws.{IsWord};
+ghost use Rattle.yp_msgs.specs.Numbers.{name_max, key_max};
+ghost use Rattle.yp_board.specs.Catalogues.{Catalogue, serves};
+ghost use Rattle.yp_board.specs.Logs.{Log};
+ghost use Rattle.yp_query.specs.Questions.{bytes_of, QuestionIsWithin};
+ghost use Rattle.yp_query.specs.Complete.{HasCome, IsAnswered};
+ghost use Rattle.yp_answer.specs.Maps.{Maps, row_check};
+ghost use Rattle.yp_client.specs.Limits.{reply_max, all_max};
+ghost use Rattle.yp_client.specs.States.{state_of};
+ghost use Rattle.yp_client.specs.Lent.{ClientRests};
+ghost use Rattle.yp_client.specs.Asked.{domain_call, match_call, first_call, next_call, all_call};
+ghost use Rattle.yp_client.specs.Asked.{master_call, order_call, maplist_call};
+ghost use Rattle.yp_exchange.specs.Told.{told, rows_tell, map_tells, value_in, first_in, next_in};
+ghost use Rattle.yp_exchange.specs.Told.{master_in, order_in, all_told, names_in};
+ghost use Rattle.yp_exchange.specs.Served.{AreServed, HasRoom};
+ghost use Rattle.yp_exchange.specs.CallLaws.{AnswersAsTold, AnswersInMemory, AllAnswersAsTold, GivesNextReply};
+ghost use Rattle.yp_exchange.specs.Answered.{GivesReplies, text_told, HasText, PrintsTold};
+ghost use Rattle.yp_exchange.specs.Runs.{maps_on, RepliesInTurn, sent_all, calls_made, PrintsOnLogs};
+
+use std::alloc::Global;
+use std::random::RandomSource;
+use yp_client::{Client, ClientFault, Row};
+use yp_exchange::laws;
+use yp_io::{Dial, Peer, Sink, Source};
+use yp_msgs::MapList;
+use yp_query::{QueryFault, Question};
+use yp_version::VersionBuilder;
+
+/// DOMAIN: whether it is served.
+pub fn domain<S: Source, K: Sink>(
+    client: &mut Client<S, K>,
+    domain: &[u8],
+) -> Result<bool, ClientFault>
+    requires { length domain.now ≤ name_max }
+    ensures { (maps : Maps) (peer : Caller) (rest : List ℕ) → AreServed maps → IsWord client.old.xid
+        → GivesNextReply maps peer reply_max (domain_call domain.now) rest
+        (state_of S.Source K.Sink client.old)
+        → AnswersAsTold (λ value. value) (Ok (serves domain.now maps.catalogue)) rest result
+        (state_of S.Source K.Sink client.new) }
+{
+    laws::domain_tells();
+    laws::answers_are_told();
+    client.domain(domain)
+}
+
+/// MATCH: the value of the key.
+pub fn match_key<'a, S: Source, K: Sink>(
+    client: &'a mut Client<S, K>,
+    domain: &[u8],
+    map: &[u8],
+    key: &[u8],
+) -> Result<&'a [u8], ClientFault>
+    requires domain { length domain.now ≤ name_max }
+    requires map { length map.now ≤ name_max }
+    requires key { length key.now ≤ key_max }
+    ensures* { sem 𝓛 (ClientRests S.row K.row S.Source K.Sink client.entry (λ last.
+        (maps : Maps) (peer : Caller) (rest : List ℕ) → AreServed maps → IsWord client.old.xid
+        → GivesNextReply maps peer reply_max (match_call domain.now map.now key.now) rest
+        (state_of S.Source K.Sink client.old)
+        → AnswersAsTold (λ bytes. bytes.now) (rows_tell (value_in key.now) maps peer domain.now map.now)
+        rest result
+        (state_of S.Source K.Sink last))) }
+{
+    laws::match_tells();
+    laws::answers_are_told();
+    client.match_key(domain, map, key)
+}
+
+/// FIRST: the first row.
+pub fn first<'a, S: Source, K: Sink>(
+    client: &'a mut Client<S, K>,
+    domain: &[u8],
+    map: &[u8],
+) -> Result<Row<'a>, ClientFault>
+    requires domain { length domain.now ≤ name_max }
+    requires map { length map.now ≤ name_max }
+    ensures* { sem 𝓛 (ClientRests S.row K.row S.Source K.Sink client.entry (λ last.
+        (maps : Maps) (peer : Caller) (rest : List ℕ) → AreServed maps → IsWord client.old.xid
+        → GivesNextReply maps peer reply_max (first_call domain.now map.now) rest
+        (state_of S.Source K.Sink client.old)
+        → AnswersAsTold (λ row. (row.value.now, row.key.now))
+        (rows_tell first_in maps peer domain.now map.now) rest result
+        (state_of S.Source K.Sink last))) }
+{
+    laws::first_tells();
+    laws::answers_are_told();
+    client.first(domain, map)
+}
+
+/// NEXT: the row behind the one with the key.
+pub fn next<'a, S: Source, K: Sink>(
+    client: &'a mut Client<S, K>,
+    domain: &[u8],
+    map: &[u8],
+    key: &[u8],
+) -> Result<Row<'a>, ClientFault>
+    requires domain { length domain.now ≤ name_max }
+    requires map { length map.now ≤ name_max }
+    requires key { length key.now ≤ key_max }
+    ensures* { sem 𝓛 (ClientRests S.row K.row S.Source K.Sink client.entry (λ last.
+        (maps : Maps) (peer : Caller) (rest : List ℕ) → AreServed maps → IsWord client.old.xid
+        → GivesNextReply maps peer reply_max (next_call domain.now map.now key.now) rest
+        (state_of S.Source K.Sink client.old)
+        → AnswersAsTold (λ row. (row.value.now, row.key.now))
+        (rows_tell (next_in key.now) maps peer domain.now map.now) rest result
+        (state_of S.Source K.Sink last))) }
+{
+    laws::next_tells();
+    laws::answers_are_told();
+    client.next(domain, map, key)
+}
+
+/// MASTER: the name of the master.
+pub fn master<'a, S: Source, K: Sink>(
+    client: &'a mut Client<S, K>,
+    domain: &[u8],
+    map: &[u8],
+) -> Result<&'a [u8], ClientFault>
+    requires domain { length domain.now ≤ name_max }
+    requires map { length map.now ≤ name_max }
+    ensures* { sem 𝓛 (ClientRests S.row K.row S.Source K.Sink client.entry (λ last.
+        (maps : Maps) (peer : Caller) (rest : List ℕ) → AreServed maps → IsWord client.old.xid
+        → GivesNextReply maps peer reply_max (master_call domain.now map.now) rest
+        (state_of S.Source K.Sink client.old)
+        → AnswersAsTold (λ bytes. bytes.now) (map_tells master_in maps domain.now map.now) rest result
+        (state_of S.Source K.Sink last))) }
+{
+    laws::master_tells();
+    laws::answers_are_told();
+    client.master(domain, map)
+}
+
+/// ORDER: the order.
+pub fn order<S: Source, K: Sink>(
+    client: &mut Client<S, K>,
+    domain: &[u8],
+    map: &[u8],
+) -> Result<u32, ClientFault>
+    requires domain { length domain.now ≤ name_max }
+    requires map { length map.now ≤ name_max }
+    ensures { (maps : Maps) (peer : Caller) (rest : List ℕ) → AreServed maps → IsWord client.old.xid
+        → GivesNextReply maps peer reply_max (order_call domain.now map.now) rest
+        (state_of S.Source K.Sink client.old)
+        → AnswersAsTold (λ value. value) (map_tells order_in maps domain.now map.now) rest result
+        (state_of S.Source K.Sink client.new) }
+{
+    laws::order_tells();
+    laws::answers_are_told();
+    client.order(domain, map)
+}
+
+/// MAPLIST: the names of the domain's maps.
+pub fn maplist<S: Source, K: Sink>(
+    client: &mut Client<S, K>,
+    domain: &[u8],
+) -> Result<MapList, ClientFault>
+    requires { length domain.now ≤ name_max }
+    ensures { (maps : Maps) (peer : Caller) (rest : List ℕ) → AreServed maps → IsWord client.old.xid
+        → GivesNextReply maps peer reply_max (maplist_call domain.now) rest
+        (state_of S.Source K.Sink client.old)
+        → AnswersInMemory (λ list. list.maps) (told (names_in maps domain.now)) rest result
+        (state_of S.Source K.Sink client.new) }
+{
+    laws::maplist_tells();
+    laws::answers_are_told();
+    client.maplist(domain)
+}
+
+/// ALL: all rows, onto a builder that has room for them.
+pub fn all<S: Source, K: Sink>(
+    client: &mut Client<S, K>,
+    domain: &[u8],
+    map: &[u8],
+    into: &mut VersionBuilder,
+) -> Result<(), ClientFault>
+    requires domain { length domain.now ≤ name_max }
+    requires map { length map.now ≤ name_max }
+    ensures { (maps : Maps) (peer : Caller) (rest : List ℕ) → AreServed maps → IsWord client.old.xid
+        → HasRoom into.old (row_check maps peer.port domain.now map.now)
+        → GivesNextReply maps peer all_max (all_call domain.now map.now) rest
+        (state_of S.Source K.Sink client.old)
+        → AllAnswersAsTold (all_told into.old (row_check maps peer.port domain.now map.now))
+        rest into.new result
+        (state_of S.Source K.Sink client.new) }
+{
+    laws::all_tells();
+    laws::answers_are_told();
+    client.all(domain, map, into)
+}
+
+/// A question prints what the maps tell, where the peer that was dialed gave a server's replies, and where a server
+/// answered its calls in turn.
+pub fn query_told<A: Dial, K: Sink>(
+    alloc: Global,
+    rt: &impl RandomSource,
+    dial: &mut A,
+    to: Peer,
+    question: &Question<Vec<u8>>,
+    sink: &mut K,
+) -> Result<(), QueryFault>
+    requires { QuestionIsWithin (bytes_of question.now) }
+    ensures told { (first second : Maps) (caller : Caller) (stream : List ℕ) → AreServed first → AreServed second
+        → GivesReplies first second caller (bytes_of question.now) stream
+        → HasCome to stream (A.past dial.old) (A.past dial.new)
+        → PrintsTold (text_told first second caller (bytes_of question.now)) result
+        (K.output sink.old) (K.output sink.new) }
+    ensures run { (catalogue : Catalogue) (caller : Caller) (replies : List (List ℕ)) (rest : List ℕ)
+        (before after : Log)
+        → AreServed (maps_on catalogue after)
+        → RepliesInTurn catalogue caller (calls_made (bytes_of question.now) replies) replies before after
+        → HasCome to (sent_all replies ++ rest) (A.past dial.old) (A.past dial.new)
+        → PrintsOnLogs catalogue caller (bytes_of question.now) before after result
+        (K.output sink.old) (K.output sink.new) }
+    ensures answered { (first second : Maps) (caller : Caller) (stream : List ℕ)
+        → AreServed first → AreServed second → GivesReplies first second caller (bytes_of question.now) stream
+        → HasText (text_told first second caller (bytes_of question.now))
+        → HasCome to stream (A.past dial.old) (A.past dial.new)
+        → ¬ HasRisen (A.faults dial.old) (A.faults dial.new) → ¬ HasRisen (K.faults sink.old) (K.faults sink.new)
+        → IsAnswered result }
+{
+    laws::query_prints_told();
+    laws::run_is_printed();
+    laws::told_is_answered();
+    yp_query::query(alloc, rt, dial, to, question, sink)
+}

@@ -1,0 +1,30 @@
+-- The disks of maps, as a run has them.
+use Rattle.std.specs.Prelude.{◌≡◌, ℕ, ◌+◌, List, [], ◌∷◌, map, Option, None, Some}
+use Rattle.yp_io.specs.Disk.{History}
+use Rattle.yp_board.specs.Catalogues.{Name, name_view}
+use Rattle.yp_office.specs.declared.disks.NamedDisk.{NamedDisk}
+
+-- the maps of disks, in their order
+abbrev pub names_of : {D : Type 0} → List (NamedDisk D) → List Name
+names_of disks = map (λ disk. name_view disk.name) disks
+
+-- the disks of maps, in their order
+abbrev pub disks_of : {D : Type 0} → List (NamedDisk D) → List D
+disks_of disks = map (λ disk. disk.disk) disks
+
+-- what the only disk tells, where there is one alone
+abbrev pub only_history : {D : Type 0} → (D → Option History) → List D → Option History
+only_history history [] = None
+only_history history (disk ∷ []) = history disk
+only_history history (disk ∷ another ∷ more) = None
+
+abbrev pub history_of : {D : Type 0} → (D → Option History) → List (NamedDisk D) → Option History
+history_of history disks = only_history history (disks_of disks)
+
+-- how often disks have failed, together
+abbrev pub total_faults : {D : Type 0} → (D → ℕ) → List D → ℕ
+total_faults faults [] = 0
+total_faults faults (disk ∷ disks) = faults disk + total_faults faults disks
+
+abbrev pub faults_of : {D : Type 0} → (D → ℕ) → List (NamedDisk D) → ℕ
+faults_of faults disks = total_faults faults (disks_of disks)

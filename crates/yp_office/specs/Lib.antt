@@ -1,0 +1,6 @@
+pub mod Lines
+pub mod Disks
+pub mod Status
+pub mod Files
+pub mod Seeing
+pub mod Rows

@@ -1,0 +1,75 @@
+-- The status of a run: its code, and the note that tells it.
+use Rattle.std.specs.Prelude.{ℕ, ◌≤◌, List, [], ◌++◌, length, codes, decimal, ⊤}
+use Rattle.std.specs.Fmt.{signed_decimal}
+use Rattle.yp_msgs.specs.Statuses.{stat_number}
+use Rattle.yp_version.specs.Limits.{master_max}
+use Rattle.yp_board.specs.Catalogues.{name_view}
+use Rattle.yp_office.specs.Lines.{map_text}
+use Rattle.yp_words.specs.Words.{IsNamed}
+use Rattle.yp_office.specs.declared.status.Status.{Status}
+use Rattle.yp_office.specs.declared.status.Status.TheVariants.{Done, No, Usage, ReadFault, WriteFault, Torn, TooLong}
+use Rattle.yp_office.specs.declared.status.Status.TheVariants.{NoMemory, Damaged, NoVersion, DiskFault, Yp, Denied}
+use Rattle.yp_office.specs.declared.status.Status.TheVariants.{BadReply, BadXid, DialFault, Rows, OrderSpent, Refused}
+use Rattle.yp_office.specs.declared.status.Status.TheVariants.{GenerationsSpent, Enough}
+
+-- the code with which the program ends
+abbrev pub code_of : Status → ℕ
+code_of Done = 0
+code_of No = 1
+code_of (Usage word) = 2
+code_of ReadFault = 3
+code_of WriteFault = 4
+code_of (Torn at) = 5
+code_of (TooLong at) = 6
+code_of NoMemory = 7
+code_of (Damaged map at rule) = 8
+code_of (NoVersion map) = 9
+code_of (DiskFault map) = 10
+code_of (Yp stat) = 11
+code_of Denied = 12
+code_of (BadReply at) = 13
+code_of (BadXid want got) = 14
+code_of DialFault = 15
+code_of (Rows row rule) = 17
+code_of OrderSpent = 18
+code_of (Refused master) = 19
+code_of (GenerationsSpent map) = 20
+code_of Enough = 23
+
+-- a line of the program
+abbrev pub line : List ℕ → List ℕ
+line text = codes "yp: " ++ text ++ codes "\n"
+
+-- the note of a status, and none where all was done, or the answer is no
+abbrev pub note : Status → List ℕ
+note Done = []
+note No = []
+note (Usage word) = line (codes "usage at word " ++ decimal word)
+note ReadFault = line (codes "read fault")
+note WriteFault = line (codes "write fault")
+note (Torn at) = line (codes "torn record at " ++ decimal at)
+note (TooLong at) = line (codes "too long at " ++ decimal at)
+note NoMemory = line (codes "no memory")
+note (Damaged map at rule) =
+    line (codes "damaged " ++ map_text (name_view map) ++ codes " at " ++ decimal at ++ codes " rule " ++ decimal rule)
+note (NoVersion map) = line (codes "no version of " ++ map_text (name_view map))
+note (DiskFault map) = line (codes "disk fault in " ++ map_text (name_view map))
+note (Yp stat) = line (codes "server says " ++ signed_decimal (stat_number stat))
+note Denied = line (codes "refused by rpc")
+note (BadReply at) = line (codes "bad reply at " ++ decimal at)
+note (BadXid want got) = line (codes "wrong xid " ++ decimal got ++ codes " wanted " ++ decimal want)
+note DialFault = line (codes "cannot dial")
+note (Rows row rule) = line (codes "row " ++ decimal row ++ codes " rule " ++ decimal rule)
+note OrderSpent = line (codes "order spent")
+note (Refused master) = line (codes "mastered by " ++ master.items)
+note (GenerationsSpent map) = line (codes "generations spent in " ++ map_text (name_view map))
+note Enough = line (codes "enough calls")
+
+-- each name of a status is one that a line has room for
+abbrev pub IsTellable : Status → Type 0
+IsTellable (Damaged map at rule) = IsNamed (name_view map)
+IsTellable (NoVersion map) = IsNamed (name_view map)
+IsTellable (DiskFault map) = IsNamed (name_view map)
+IsTellable (GenerationsSpent map) = IsNamed (name_view map)
+IsTellable (Refused master) = length master.items ≤ master_max
+IsTellable _ = ⊤

@@ -1,0 +1,19 @@
+//! What every command has before it and behind it: the outside that it reaches, and the status with which it ends.
+//!
+//! A command takes an [`Office`] by `&mut` and answers a [`Status`]. What it did is a relation between the office
+//! before and after; what the parts of an office tell is seen through one record, `Seeing`.
+#![tactic(auto)]
+
+mod disks;
+mod file;
+mod lines;
+mod office;
+mod row;
+mod status;
+
+pub use disks::{Apart, NamedDisk, named_disks, put_together, take_apart};
+pub use file::status_of_file;
+pub use lines::{LINE_MAX, Line, add, add_map, add_number};
+pub use office::Office;
+pub use row::status_of_row;
+pub use status::Status;

@@ -1,0 +1,19 @@
+//! The outside of a command.
+
+use crate::disks::NamedDisk;
+use yp_io::Pair;
+
+/// What a command reaches outside itself.
+#[derive(Drop)]
+pub struct Office<S, K, D, C, A, T> {
+    /// What it reads and writes.
+    pub wire: Pair<S, K>,
+    /// The disks of the maps that its words name, in their order.
+    pub disks: Vec<NamedDisk<D>>,
+    /// The clock.
+    pub clock: C,
+    /// What opens connections to servers.
+    pub dial: A,
+    /// The texts that maps are made of.
+    pub texts: T,
+}

@@ -1,0 +1,213 @@
+//! How a run ended, and the note that tells it.
+
+ghost use Rattle.std.specs.Prelude.{◌≡◌, ◌≤◌, ◌++◌, length, decimal, codes};
+ghost use Rattle.std.specs.Fmt.{signed_decimal};
+ghost use Rattle.arrayvec.specs.ArrayVec.{array_vec_len};
+ghost use Rattle.yp_msgs.specs.Statuses.{stat_number};
+ghost use Rattle.yp_board.specs.Catalogues.{name_view};
+ghost use Rattle.yp_office.specs.Lines.{map_text};
+ghost use Rattle.yp_office.specs.Status.{code_of, note, line as note_line, IsTellable};
+ghost use Rattle.yp_words.specs.Words.{IsNamed};
+
+use crate::lines::{Line, add, add_map, add_number};
+use yp_board::MapName;
+use yp_msgs::YpStat;
+
+/// How a run ended.
+#[derive(Debug, PartialEq, Eq, Drop)]
+pub enum Status {
+    /// All was done.
+    Done,
+    /// The map has no such key.
+    No,
+    /// The words are no sentence, and this is the first that fits none, counted from 0.
+    Usage { word: usize },
+    /// The input failed.
+    ReadFault,
+    /// The output failed.
+    WriteFault,
+    /// Input ended inside the record that began at this place, in bytes.
+    Torn { at: u64 },
+    /// The record that began at this place, in bytes, is too long, or the text is over this limit.
+    TooLong { at: u64 },
+    /// Memory ran out.
+    NoMemory,
+    /// The stored file of this map breaks this rule of its format, first at this place, in bytes.
+    Damaged { map: MapName, at: u64, rule: u8 },
+    /// No version of this map is stored.
+    NoVersion { map: MapName },
+    /// The disk of this map failed.
+    DiskFault { map: MapName },
+    /// The server answered this status.
+    Yp { stat: YpStat },
+    /// The call was refused by RPC.
+    Denied,
+    /// The reply has an item that can't be read, at this place in its record, in bytes.
+    BadReply { at: u64 },
+    /// The reply is to another call than the one with this number.
+    BadXid { want: u32, got: u32 },
+    /// No connection came.
+    DialFault,
+    /// This row is the first past a limit, by this rule: 1 its key is too long, 2 its value is too long, 3 there are too
+    /// many rows, 4 they have too many bytes. The row is the number of its word, counted from 0, of its line, from 1, or
+    /// of a row that a server sent, from 1.
+    Rows { row: u32, rule: u8 },
+    /// The stored version has the greatest order that there is.
+    OrderSpent,
+    /// This other host is the master of the stored version.
+    Refused { master: Vec<u8> },
+    /// The stored file of this map has the greatest generation that there is.
+    GenerationsSpent { map: MapName },
+    /// As many calls were read as a session may have.
+    Enough,
+}
+
+impl Status {
+    /// The code with which the program ends.
+    pub fn code(&self) -> u8
+        ensures { result ≡ code_of self.now }
+    {
+        match self {
+            Status::Done => 0,
+            Status::No => 1,
+            Status::Usage { .. } => 2,
+            Status::ReadFault => 3,
+            Status::WriteFault => 4,
+            Status::Torn { .. } => 5,
+            Status::TooLong { .. } => 6,
+            Status::NoMemory => 7,
+            Status::Damaged { .. } => 8,
+            Status::NoVersion { .. } => 9,
+            Status::DiskFault { .. } => 10,
+            Status::Yp { .. } => 11,
+            Status::Denied => 12,
+            Status::BadReply { .. } => 13,
+            Status::BadXid { .. } => 14,
+            Status::DialFault => 15,
+            Status::Rows { .. } => 17,
+            Status::OrderSpent => 18,
+            Status::Refused { .. } => 19,
+            Status::GenerationsSpent { .. } => 20,
+            Status::Enough => 23,
+        }
+    }
+
+    /// The line that tells it, or an empty text where all was done, or the answer is no.
+    pub fn note(&self) -> Line
+        requires { IsTellable self.now }
+        ensures { result.items ≡ note self.now }
+    {
+        match self {
+            Status::Done => Line::new(),
+            Status::No => Line::new(),
+            Status::Usage { word } => numbered(b"usage at word ", *word as u64),
+            Status::ReadFault => line(b"read fault", b""),
+            Status::WriteFault => line(b"write fault", b""),
+            Status::Torn { at } => numbered(b"torn record at ", *at),
+            Status::TooLong { at } => numbered(b"too long at ", *at),
+            Status::NoMemory => line(b"no memory", b""),
+            Status::Damaged { map, at, rule } => damaged(map, *at, *rule),
+            Status::NoVersion { map } => named(b"no version of ", map),
+            Status::DiskFault { map } => named(b"disk fault in ", map),
+            Status::Yp { stat } => answered(*stat),
+            Status::Denied => line(b"refused by rpc", b""),
+            Status::BadReply { at } => numbered(b"bad reply at ", *at),
+            Status::BadXid { want, got } => mistaken(*want, *got),
+            Status::DialFault => line(b"cannot dial", b""),
+            Status::Rows { row, rule } => ruled(*row, *rule),
+            Status::OrderSpent => line(b"order spent", b""),
+            Status::Refused { master } => line(b"mastered by ", master),
+            Status::GenerationsSpent { map } => named(b"generations spent in ", map),
+            Status::Enough => line(b"enough calls", b""),
+        }
+    }
+}
+
+/// A line of the program.
+fn line(text: &[u8], more: &[u8]) -> Line
+    requires text { length text.now ≤ 21 }
+    requires more { length more.now ≤ 64 }
+    ensures { result.items ≡ note_line (text.now ++ more.now) }
+{
+    let mut note = Line::new();
+    add(&mut note, b"yp: ");
+    add(&mut note, text);
+    add(&mut note, more);
+    add(&mut note, b"\n");
+    note
+}
+
+/// A line with a number at its end.
+fn numbered(text: &[u8], number: u64) -> Line
+    requires { length text.now ≤ 21 }
+    ensures { result.items ≡ note_line (text.now ++ decimal number) }
+{
+    line(text, itoa::Buffer::new().format(number).as_bytes())
+}
+
+/// The line of the status that a server answered.
+fn answered(stat: YpStat) -> Line
+    ensures { result.items ≡ note_line (codes "server says " ++ signed_decimal (stat_number stat)) }
+{
+    line(
+        b"server says ",
+        itoa::Buffer::new().format(stat.number()).as_bytes(),
+    )
+}
+
+/// The line of a reply to another call.
+fn mistaken(want: u32, got: u32) -> Line
+    ensures { result.items ≡ note_line (codes "wrong xid " ++ decimal got ++ codes " wanted " ++ decimal want) }
+{
+    let mut note = Line::new();
+    add(&mut note, b"yp: wrong xid ");
+    add_number(&mut note, u64::from(got));
+    add(&mut note, b" wanted ");
+    add_number(&mut note, u64::from(want));
+    add(&mut note, b"\n");
+    note
+}
+
+/// A line with the name of a map at its end.
+fn named(text: &[u8], map: &MapName) -> Line
+    requires text { length text.now ≤ 21 }
+    requires short { IsNamed (name_view map.now) }
+    ensures { result.items ≡ note_line (text.now ++ map_text (name_view map.now)) }
+{
+    let mut note = Line::new();
+    add(&mut note, b"yp: ");
+    add(&mut note, text);
+    add_map(&mut note, map);
+    add(&mut note, b"\n");
+    note
+}
+
+/// The line of a row, and of the rule that it breaks.
+fn ruled(row: u32, rule: u8) -> Line
+    ensures { result.items ≡ note_line (codes "row " ++ decimal row ++ codes " rule " ++ decimal rule) }
+{
+    let mut note = Line::new();
+    add(&mut note, b"yp: row ");
+    add_number(&mut note, u64::from(row));
+    add(&mut note, b" rule ");
+    add_number(&mut note, u64::from(rule));
+    add(&mut note, b"\n");
+    note
+}
+
+/// The line of a damaged file.
+fn damaged(map: &MapName, at: u64, rule: u8) -> Line
+    requires { IsNamed (name_view map.now) }
+    ensures { result.items ≡ note_line (codes "damaged " ++ map_text (name_view map.now)
+        ++ codes " at " ++ decimal at ++ codes " rule " ++ decimal rule) }
+{
+    let mut note = Line::new();
+    add(&mut note, b"yp: damaged ");
+    add_map(&mut note, map);
+    add(&mut note, b" at ");
+    add_number(&mut note, at);
+    add(&mut note, b" rule ");
+    add_number(&mut note, u64::from(rule));
+    add(&mut note, b"\n");
+    note
+}

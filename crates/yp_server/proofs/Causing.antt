@@ -1,0 +1,152 @@
+-- Why a map that was made has its status.
+use Rattle.std.proofs.Common.{◌≡◌, inl, inr, ℕ, ◌<◌, true, List, [], ◌∷◌, ◌++◌, length, Option, Some, None, Ok, Err, IfSome, refl, sym, ◌∙◌, ap, subst, arith, is_some}
+use Rattle.std.proofs.lemmas.List.{append-nil, length-append}
+use Rattle.yp_msgs.specs.declared.transfer.XfrStat.{XfrStat}
+use Rattle.yp_msgs.specs.declared.transfer.XfrStat.TheVariants.{Succ, Age, Nomap, Nodom, Rsrc, Rpc, Maddr, Yperr, Badargs, Dbm, File, Skew, Clear, Force, Xfrerr, Refused}
+use Rattle.yp_version.specs.Versions.{MapVersion}
+use Rattle.yp_slot.specs.declared.fault.SlotFault.{SlotFault}
+use Rattle.yp_slot.specs.declared.fault.SlotFault.TheVariants as slot
+use Rattle.yp_board.specs.Catalogues.{Catalogue}
+use Rattle.yp_board.specs.Logs.{Log, shown}
+use Rattle.yp_board.specs.Views.{IsFront}
+use Rattle.yp_build.specs.Kinds.{text_of}
+use Rattle.yp_build.specs.After.{HasFault, other_master, built_after, IsOver}
+use Rattle.yp_answer.specs.declared.make.Job.{Job}
+use Rattle.yp_publish.specs.declared.install.InstallFault.{InstallFault}
+use Rattle.yp_publish.specs.declared.install.InstallFault.TheVariants as install
+use Rattle.yp_publish.specs.Standing.{Published}
+use Rattle.yp_publish.specs.Rising.{Moment, with_shown}
+use Rattle.yp_publish.specs.Keeping.{Keeping}
+use Rattle.yp_publish.specs.Installs.{Installs}
+use Rattle.yp_publish.specs.Opens.{Opens}
+use Rattle.yp_session.specs.Causes.{IsAnew, IsCaused, basis_at}
+use Rattle.yp_session.specs.Causes as causes
+use Rattle.yp_session.specs.Hosts.{Fulfils, counts_after}
+use Rattle.yp_server.specs.Locals.{Local, Telling}
+use Rattle.yp_server.specs.Anew.{IsUnbuilt, HasBadRow}
+use Rattle.yp_server.specs.Steps.{open_stat, IsInstallStat, built_offer}
+use Rattle.yp_server.specs.Made.{site_at, Makes, OpensAndTries}
+use Rattle.yp_server.specs.Connections.{local_conduct}
+use Rattle.yp_server.proofs.Growing.{opened_front}
+
+-- a master is another's
+another : (master : Option (List ℕ)) → is_some master ≡ true → (name : List ℕ) × (master ≡ Some name)
+another None e = absurd cc
+another (Some name) e = (name, refl)
+
+-- a log isn't the one with more behind it
+longer : (log : Log) (number : ℕ) (version : MapVersion) → with_shown number version log ≡ log → ⊥
+longer log number version e =
+    let same : length (log ++ (number, version) ∷ []) ≡ length log = ap length e in
+    absurd (omega (arith, same, length-append log ((number, version) ∷ [])))
+
+module _ {D B E : Type 0} (keeping : Keeping D B) (telling : Telling E) (job : Job) (old new : Local D B E) where
+  -- why it has a status
+  abbrev Caused : XfrStat → Type 0
+  Caused stat =
+      IsCaused (telling.told old.desk) old.published.catalogue.own job stat (keeping.log old.published.board) (keeping.log new.published.board)
+
+  -- what holds for the own name of the maps between holds for that of the maps before
+  of_old : (P : List ℕ → Type 0) (middle : Published D B) → Opens keeping job.map old.published middle → P middle.catalogue.own → P old.published.catalogue.own
+  of_old P middle opens h = subst (λ (k : Catalogue). P k.own) opens.upheld.catalogue h
+
+  front_to : (middle : Published D B) → new.published ≡ middle → IsFront (keeping.log middle.board) (keeping.log new.published.board)
+  front_to middle e = ([], ap (λ (p : Published D B). keeping.log p.board) e ∙ sym (append-nil (keeping.log middle.board)))
+
+  -- an order over the last one
+  over : (version : MapVersion) (middle : Published D B) → Installs keeping job.map (built_offer version) middle new.published
+      → IsOver (shown job.map (keeping.log middle.board)) version
+  over version middle installs = elim (installs.rising refl) [
+    | inl e ↦ absurd (longer (keeping.log middle.board) job.map version (sym installs.log ∙ ap (λ (m : Moment). m.log) e))
+    | inr stores ↦ stores.0
+  ]
+
+  shown_anew : job.map < length old.published.maps → (version : MapVersion) (middle : Published D B) → Opens keeping job.map old.published middle
+      → IsAnew (telling.told old.desk) (site_at keeping job middle) version → Installs keeping job.map (built_offer version) middle new.published → Caused Succ
+  shown_anew kept version middle opens anew installs =
+      let log = keeping.log middle.board in
+      record {
+        version = version;
+        before = log;
+        entry = ([], installs.log ∙ sym (append-nil (with_shown job.map version log)));
+        anew = of_old (λ own. IsAnew (telling.told old.desk) (basis_at own job log) version) middle opens anew;
+        over = record {
+          log = log;
+          begins = opened_front keeping.log job.map old.published middle kept opens.upheld.elsewhere opens.shown;
+          goes_on = ((job.map, version) ∷ [], installs.log);
+          holds = over version middle installs;
+        };
+      }
+
+  bad_row : (own : List ℕ) (log : Log) (bad : HasBadRow (telling.told old.desk) (basis_at own job log)) (told : Option (List ℕ))
+      → IfSome told (λ known. bad.material.text ≡ known) → IfSome told (causes.HasBadRow own job)
+  bad_row own log bad None h = tt
+  bad_row own log bad (Some text) h = record {
+    log = log;
+    moment = bad.material.moment;
+    fault = bad.fault;
+    of_row = bad.of_row;
+    refused = subst (λ (t : List ℕ). built_after (basis_at own job log) (record { text = t; moment = bad.material.moment }) ≡ Err (HasFault bad.fault)) h bad.cause;
+  }
+
+  unbuilt : (stat : XfrStat) (middle : Published D B) → Opens keeping job.map old.published middle → new.published ≡ middle
+      → IsUnbuilt telling (site_at keeping job middle) stat old.desk new.desk → Caused stat
+  unbuilt Refused middle opens same none =
+      let log = keeping.log middle.board in
+      let master = of_old (λ own. (master : List ℕ) × (other_master own (shown job.map log) ≡ Some master)) middle opens
+      (another (other_master middle.catalogue.own (shown job.map log)) none) in
+      (log, front_to middle same, master.0, master.1)
+  unbuilt Age middle opens same none = (keeping.log middle.board, front_to middle same, none.1)
+  unbuilt Dbm middle opens same none =
+      of_old (λ own. IfSome ((telling.told old.desk).text (text_of job.kind)) (causes.HasBadRow own job)) middle opens
+      (bad_row middle.catalogue.own (keeping.log middle.board) none.1 ((telling.told old.desk).text (text_of job.kind)) none.1.of_told.text)
+  unbuilt File middle opens same none = tt
+  unbuilt Rsrc middle opens same none = tt
+  unbuilt Succ middle opens same none = absurd none
+  unbuilt Nomap middle opens same none = absurd none
+  unbuilt Nodom middle opens same none = absurd none
+  unbuilt Rpc middle opens same none = absurd none
+  unbuilt Maddr middle opens same none = absurd none
+  unbuilt Yperr middle opens same none = absurd none
+  unbuilt Badargs middle opens same none = absurd none
+  unbuilt Skew middle opens same none = absurd none
+  unbuilt Clear middle opens same none = absurd none
+  unbuilt Force middle opens same none = absurd none
+  unbuilt Xfrerr middle opens same none = absurd none
+
+  uninstalled : (fault : InstallFault) (stat : XfrStat) → IsInstallStat fault stat → Caused stat
+  uninstalled install.GenerationsSpent stat is = subst Caused (sym is) tt
+  uninstalled install.DiskFault stat is = subst Caused (sym is) tt
+  uninstalled install.NoMemory stat is = subst Caused (sym is) tt
+  uninstalled install.Behind stat is = absurd is
+  uninstalled (install.Refused master) stat is = absurd is
+  uninstalled (install.Age shown order) stat is = absurd is
+
+  tried : job.map < length old.published.maps → (stat : XfrStat) → OpensAndTries keeping telling job stat old new → Caused stat
+  tried kept stat step = elim step.tries [
+    | inl none ↦ unbuilt stat step.middle step.opens none.1 none.0
+    | inr made ↦ elim made.2 [
+      | inl done ↦ subst Caused (sym done.0) (shown_anew kept made.0 step.middle step.opens made.1 done.1)
+      | inr failed ↦ uninstalled failed.fault stat failed.stat_is
+    ]
+  ]
+
+  unopened : (fault : SlotFault) → Caused (open_stat fault)
+  unopened slot.NoMemory = tt
+  unopened slot.DiskFault = tt
+  unopened (slot.Damaged at rule) = tt
+
+  -- a map that was made has its status for a reason
+  caused : (stat : XfrStat) → job.map < length old.published.maps → Makes keeping telling job stat old new → Caused stat
+  caused stat kept made = elim made.ends [
+    | inl stays ↦ subst Caused (sym stays.stat_is) (unopened stays.fault)
+    | inr step ↦ tried kept stat step
+  ]
+
+  -- what a host of one thread does for an open MAKE
+  pub fulfilled : (stat : XfrStat) → job.map < length old.published.maps → Makes keeping telling job stat old new
+      → new.published.catalogue ≡ old.published.catalogue → IsFront (keeping.log old.published.board) (keeping.log new.published.board)
+      → (local_conduct keeping telling).counts new ≡ counts_after ((local_conduct keeping telling).counts old) stat
+      → Fulfils (local_conduct keeping telling) job stat old new
+  fulfilled stat kept made catalogue grown counted =
+      record { made = (kept, made); cause = caused stat kept made; catalogue = catalogue; grown = grown; counted = counted }

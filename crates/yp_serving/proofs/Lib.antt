@@ -1,0 +1,10 @@
+pub mod Told
+pub mod Pushed
+pub mod Calling
+pub mod Gathered
+pub mod Counted
+pub mod Ended
+pub mod Watching
+pub mod Sessioned
+pub mod Completed
+pub mod Foregone

@@ -1,0 +1,24 @@
+-- What a witness saw of a session over a board.
+use Rattle.std.proofs.Common.{List, refl}
+use Rattle.yp_board.specs.Views.{Seen}
+use Rattle.yp_session.specs.declared.session.End.{End}
+use Rattle.yp_session.specs.declared.session.End.TheVariants as ends
+use Rattle.yp_session.specs.declared.session.TheConstants.{CALLS_MAX}
+use Rattle.yp_session.specs.Progress.{Progress, begun}
+use Rattle.yp_session.specs.Wires.{Wire}
+use Rattle.yp_session.specs.Runs.{Runs}
+use Rattle.yp_session.specs.Runs.{dialogue_at}
+use Rattle.yp_serving.specs.Callers.{nobody}
+use Rattle.yp_serving.specs.Served.{IsAnswered, IsWatched, fixed_conduct, status_of}
+
+module _ (board finish : Seen) (progress : Progress) (old new : Wire) (wires : List Wire) where
+  answered : (end : End) → Runs fixed_conduct nobody CALLS_MAX end (dialogue_at board old begun) (dialogue_at finish new progress) wires → IsAnswered board (status_of end) old new wires
+  answered end runs = record { end = end; told = refl; finish = finish; progress = progress; runs = runs }
+
+  pub watched : (end : End) → Runs fixed_conduct nobody CALLS_MAX end (dialogue_at board old begun) (dialogue_at finish new progress) wires → IsWatched board (status_of end) old new wires
+  watched ends.Clean runs = answered ends.Clean runs
+  watched (ends.Torn at) runs = answered (ends.Torn at) runs
+  watched (ends.TooLong at) runs = answered (ends.TooLong at) runs
+  watched ends.ReadFault runs = answered ends.ReadFault runs
+  watched ends.WriteFault runs = answered ends.WriteFault runs
+  watched ends.Enough runs = answered ends.Enough runs

@@ -1,0 +1,47 @@
+use Rattle.std.proofs.Common.{refl, sym, ap, ◌∙◌, subst, inl}
+use Rattle.yp_answer.specs.Maps.{Maps, maps_of}
+use Rattle.yp_session.specs.Progress.{begun}
+use Rattle.yp_session.specs.Wires.{wire_of}
+use Rattle.yp_session.specs.Runs.{dialogue_at}
+use Rattle.yp_office.specs.declared.status.Status.{Status}
+use Rattle.yp_serving.specs.Callers.{nobody}
+use Rattle.yp_serving.specs.Served.{Traffic, Serves, IsStatusOf, fixed_conduct, status_of}
+use Rattle.yp_serving.proofs.Told.{serves_told, none_is_open, if_told}
+use Rattle.yp_serving.proofs.Ended.{status_of_end}
+use Rattle.yp_serving.proofs.Watching.{watched}
+use Rattle.yp_serving.proofs.once.serve.Goals as goal
+
+pub returns-clause-served : goal.returns-clause-served
+returns-clause-served g c =
+    let maps : Maps = maps_of c.args.board in
+    let wire = wire_of g.S.Source g.K.Sink in
+    let traffic : Traffic = record { left = g.S.Source.input c.run.new.wire.source; before = g.K.Sink.output c.args.wire.now.sink; after = g.K.Sink.output c.run.new.wire.sink } in
+    if_told (g.S.Source.input c.args.wire.now.source) (λ stream. Serves maps c.status_of_end.result stream traffic) (λ stream e.
+    subst (λ status. Serves maps status stream traffic) (sym c.status_of_end.ensures.status)
+    (serves_told maps stream fixed_conduct (dialogue_at c.new-host.result (wire c.args.wire.now) begun) (dialogue_at c.run.new.host (wire c.run.new.wire) c.run.new.self) _ c.run.result (record {
+      none = none_is_open c.open_is_from_own_host.ensures;
+      keeps = λ old new h. ap maps_of h;
+      is = ap maps_of c.new-host.ensures;
+      input = e;
+      start = refl;
+      runs = c.run.ensures.runs.done;
+    })))
+
+pub returns-clause-watched : goal.returns-clause-watched
+returns-clause-watched g c =
+    let wire = wire_of g.S.Source g.K.Sink in
+    let runs = c.run.ensures.runs in
+    record {
+      more = runs.more;
+      behind = runs.behind;
+      done = rw (c.status_of_end.ensures.status, ← c.new-host.ensures) (watched c.new-host.result c.run.new.host c.run.new.self (wire c.args.wire.now) (wire c.run.new.wire) runs.more c.run.result runs.done);
+    }
+
+pub returns-clause-complete : goal.returns-clause-complete
+returns-clause-complete g c = λ stream messages rest told cut reads writes.
+    let wire = wire_of g.S.Source g.K.Sink in
+    let is = c.status_of_end.ensures.status in
+    inl (subst (λ (status : Status). IsStatusOf stream messages rest status) (sym is)
+    (status_of_end (record { one = c.cut_is_one.ensures; front = c.first_is_one.ensures; rest = c.rest_is_not_whole.ensures }) stream messages rest cut fixed_conduct nobody
+    (dialogue_at c.new-host.result (wire c.args.wire.now) begun) (dialogue_at c.run.new.host (wire c.run.new.wire) c.run.new.self) _ told refl c.run.result c.run.ensures.runs.done
+    (λ e. reads (is ∙ ap status_of e)) (λ e. writes (is ∙ ap status_of e))))

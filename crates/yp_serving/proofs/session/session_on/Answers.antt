@@ -1,0 +1,41 @@
+use Rattle.std.proofs.Common.{List, map, ap, sym, ◌∙◌}
+use Rattle.yp_board.specs.Catalogues.{Catalogue, name_view}
+use Rattle.yp_board.specs.declared.catalog.MapName.{MapName}
+use Rattle.yp_session.specs.Wires.{wire_of}
+use Rattle.yp_publish.specs.Keeping.{keeping_of}
+use Rattle.yp_server.specs.Locals.{telling_of}
+use Rattle.yp_server.specs.Connections.{plain_log}
+use Rattle.yp_serving.proofs.Sessioned.{session_served, wires_same, write_told, fault_risen, cause_named}
+use Rattle.yp_serving.proofs.session.session_on.Goals as goal
+
+pub returns-clause-sessions : goal.returns-clause-sessions
+returns-clause-sessions g c =
+    let did = c.serve_wire-served in
+    let apart = c.in-Ok-take_apart.apart in
+    let given : Catalogue = record { own = c.args.own.items; maps = map name_view c.args.stores.items } in
+    session_served (keeping_of g.D.Disk.history g.D.Disk.faults plain_log) (telling_of g.T.Texts.text g.T.Texts.faults g.C.Clock.moment) c.in-Ok.catalog given c.args.peer did.result.0 (map name_view c.deref.result.now) c.status_of-status.result
+    (record { wire = wire_of g.S.Source g.K.Sink c.args.wire.now; disks = apart.disks.items; desk = c.args.desk })
+    (record { wire = wire_of g.S.Source g.K.Sink did.new.wire; disks = did.result.1.disks.items; desk = did.result.1.desk })
+    (g.W.Witness.wires c.args.witness.now) (g.W.Witness.wires did.new.witness) c.args.disks.now.items c.put_together.new.named.items
+    (record {
+      catalogue_is = c.in-Ok.ensures.ok;
+      names_are = sym c.requires.disks ∙ sym c.in-Ok-take_apart.ensures.names ∙ ap (λ (l : List MapName). map name_view l) (sym c.deref.ensures.value);
+      old_are = c.in-Ok-take_apart.ensures.disks;
+      new_are = sym c.put_together.ensures.disks;
+    })
+    did.ensures.served did.ensures.unserved (wires_same (wire_of g.S.Source g.K.Sink) did.result.0 c.args.wire.now did.new.wire did.ensures.untouched)
+    did.ensures.unasked (wires_same g.W.Witness.wires did.result.0 c.args.witness.now did.new.witness did.ensures.unseen) did.ensures.unwritten c.status_of-status.ensures.tells
+
+pub returns-clause-flushed : goal.returns-clause-flushed
+returns-clause-flushed g c = λ other old.
+    let did = c.serve_wire-served in
+    did.ensures.flushed (λ e. other (write_told did.result.0 (map name_view c.deref.result.now) c.status_of-status.result e c.status_of-status.ensures.tells)) old
+
+pub returns-clause-disk_fault : goal.returns-clause-disk_fault
+returns-clause-disk_fault g c = λ store e.
+    let did = c.serve_wire-served in
+    let apart = c.in-Ok-take_apart.apart in
+    fault_risen g.D.Disk.history g.D.Disk.faults did.result.0 (map name_view c.deref.result.now) c.status_of-status.result store c.args.disks.now.items c.put_together.new.named.items
+    c.status_of-status.ensures.tells e
+    (cause_named g.D.Disk.history g.D.Disk.faults did.result.0 apart.disks.items did.result.1.disks.items c.args.disks.now.items c.put_together.new.named.items
+    c.in-Ok-take_apart.ensures.disks (sym c.put_together.ensures.disks) did.ensures.unserved)

@@ -1,0 +1,5 @@
+pub mod Callers
+pub mod Served
+pub mod Once
+pub mod Sample
+pub mod Session

@@ -1,0 +1,129 @@
+-- What `session` does: it serves its input as one connection over stored maps.
+use Rattle.std.specs.Prelude.{◌≡◌, ◌≢◌, ◌⊎◌, ◌<◌, ◌≤◌, ℕ, Bool, true, List, [], All, length, slice_get}
+use Rattle.std.specs.Prelude.{Option, Some, Result, Ok, Err, ⊤}
+use Rattle.yp_io.specs.Disk.{History}
+use Rattle.yp_slot.specs.declared.fault.SlotFault.{SlotFault}
+use Rattle.yp_slot.specs.declared.fault.SlotFault.TheVariants as fault
+use Rattle.yp_slot.specs.Stands.{stands, file_max}
+use Rattle.yp_slot.specs.Stands as stood
+use Rattle.yp_io.specs.declared.stream.Peer.{Peer}
+use Rattle.yp_board.specs.Catalogues.{Name, name_view}
+use Rattle.yp_board.specs.Views.{Seen}
+use Rattle.yp_board.specs.declared.catalog.MapName.{MapName}
+use Rattle.yp_publish.specs.Opens.{LeavesNoMore}
+use Rattle.yp_session.specs.declared.session.End.{End}
+use Rattle.yp_session.specs.declared.session.End.TheVariants as ends
+use Rattle.yp_session.specs.Wires.{Wire, Grows}
+use Rattle.yp_server.specs.declared.desk.Desk.{Desk}
+use Rattle.yp_server.specs.declared.connection.Unserved.{Unserved}
+use Rattle.yp_server.specs.declared.connection.Unserved.TheVariants as unserved
+use Rattle.yp_publish.specs.Keeping.{keeping_of}
+use Rattle.yp_server.specs.Locals.{telling_of}
+use Rattle.yp_server.specs.Connections.{Service, Connection, Serves, IsUnserved, AtDisk, LeavesOr}
+use Rattle.yp_server.specs.Connections.{service_of, plain_log}
+use Rattle.yp_office.specs.Files.{Fails}
+use Rattle.yp_office.specs.declared.office.Office.{Office}
+use Rattle.yp_office.specs.Seeing.{Seeing, moment, HasCauses, DiskFails}
+use Rattle.yp_office.specs.declared.disks.NamedDisk.{NamedDisk}
+use Rattle.yp_office.specs.Disks.{names_of, disks_of}
+use Rattle.yp_serving.specs.Served.{status_of, serve_may_end, wire, Completes}
+use Rattle.yp_office.specs.declared.status.Status.{Status}
+use Rattle.yp_office.specs.declared.status.Status.TheVariants.{Done, ReadFault, WriteFault, Torn, TooLong, NoMemory}
+use Rattle.yp_office.specs.declared.status.Status.TheVariants.{Damaged, DiskFault, Enough}
+
+-- the connection of a wire, named disks and a desk
+abbrev pub connection_at : {D E : Type 0} → Wire → List (NamedDisk D) → E → Connection D E
+connection_at wire disks desk = record { wire = wire; disks = disks_of disks; desk = desk }
+
+-- A connection wasn't served, for this reason: nothing was read of its wire or written to it, and nothing to its disks,
+-- and none of these wires is behind a record.
+pub record Declines {D B E : Type 0} (service : Service D B E) (why : Unserved) (old new : Connection D E)
+    (wires : List Wire) : Type 0 where
+  pub unseen : wires ≡ []
+  pub wire : new.wire ≡ old.wire
+  pub desk : new.desk ≡ old.desk
+  pub cause : IsUnserved service.keeping.history service.keeping.faults why old.disks new.disks
+  pub unwritten : (number : ℕ) → AtDisk number old.disks new.disks (LeavesNoMore service.keeping.history)
+
+-- The same for a map of this name, whose file wasn't loaded, the first one.
+pub record DeclinesFor {D B E : Type 0} (service : Service D B E) (map : MapName) (why : SlotFault)
+    (old new : Connection D E) (wires : List Wire) : Type 0 where
+  pub number : ℕ
+  pub named : slice_get service.catalogue.maps number ≡ Some (name_view map)
+  pub declines : Declines service (unserved.Refused number why) old new wires
+
+-- What a session does, for each status: it serves its connection to that end, with these wires behind the records that
+-- it answered, or tells the map whose file it couldn't load.
+abbrev pub Sessions : {D B E : Type 0} → Service D B E → Status → (old new : Connection D E) → List Wire → Type 0
+Sessions service Done old new wires = Serves service ends.Clean old new wires
+Sessions service (Torn at) old new wires = Serves service (ends.Torn at) old new wires
+Sessions service (TooLong at) old new wires = Serves service (ends.TooLong at) old new wires
+Sessions service ReadFault old new wires = Serves service ends.ReadFault old new wires
+Sessions service WriteFault old new wires = Serves service ends.WriteFault old new wires
+Sessions service Enough old new wires = Serves service ends.Enough old new wires
+Sessions service (Damaged map at rule) old new wires = DeclinesFor service map (fault.Damaged at rule) old new wires
+Sessions service (DiskFault map) old new wires = DeclinesFor service map fault.DiskFault old new wires
+Sessions service NoMemory old new wires = Declines service unserved.NoMemory old new wires
+Sessions service _ old new wires = ⊥
+
+-- the file of a map is told, and isn't damaged
+pub record IsSound {D : Type 0} (history : D → Option History) (disk : NamedDisk D) : Type 0 where
+  pub told : History
+  pub tells : history disk.disk ≡ Some told
+  pub sound : (at rule : ℕ) → stands told.state.reads ≢ stood.Damaged at rule
+
+-- ---- what `session` does
+
+-- what it serves by: what the parts of the office tell, and the maps, by their host
+abbrev pub service : {S K D C A T : Type 0} → Seeing S K D C A T → List ℕ → Peer → List Name
+    → Service D Seen (Desk T C)
+service seen own peer stores =
+    service_of (keeping_of seen.disk.history seen.disk.faults plain_log)
+    (telling_of seen.texts.text seen.texts.faults seen.clock.moment) (record { own = own; maps = stores }) peer
+
+-- the connection that an office is at
+abbrev pub connection : {S K D C A T : Type 0} → Seeing S K D C A T → Office S K D C A T → Connection D (Desk T C)
+connection seen office =
+    connection_at (wire seen office) office.disks.items (record { texts = office.texts; clock = office.clock })
+
+-- the statuses with which it may end
+abbrev pub session_may_end : Status → Bool
+session_may_end (Damaged map at rule) = true
+session_may_end (DiskFault map) = true
+session_may_end status = serve_may_end status
+
+-- What it does: it serves its input as one connection over the stored maps. What they stood for is shown first, each
+-- record is answered on what is then shown, and a map that is asked for is built, stored and shown before its reply. At
+-- each moment a crash leaves of each map what was shown of it, or the version that was being installed. Where a file
+-- can't be loaded nothing is read or written. Over files that aren't damaged its status is that of the one cut of its
+-- input. What a witness has seen grows by the wires behind the records that were answered.
+pub record SessionDoes {S K D C A T : Type 0} (seen : Seeing S K D C A T) (own : List ℕ) (peer : Peer)
+    (stores : List Name) (status : Status) (old new : Office S K D C A T) (before after : List Wire) : Type 0 where
+  pub serves : Grows before after
+      (Sessions (service seen own peer stores) status (connection seen old) (connection seen new))
+  pub bound : (number : ℕ) → AtDisk number (disks_of old.disks.items) (disks_of new.disks.items)
+      (LeavesOr seen.disk.history (λ image. length image ≤ file_max))
+  pub complete : All (IsSound seen.disk.history) old.disks.items → ¬ DiskFails seen old new
+      → Completes seen status old new
+  pub causes : HasCauses seen status old new
+  pub names : names_of new.disks.items ≡ names_of old.disks.items
+  pub told : moment seen new ≡ moment seen old
+  pub dial : new.dial ≡ old.dial
+
+-- ---- statuses
+
+-- The fault of a map's file is told with its name, unless memory ran out for that.
+abbrev pub TellsOf : List Name → ℕ → SlotFault → Status → Type 0
+TellsOf names number why status =
+    (status ≡ NoMemory) ⊎ ((store : Name) × (slice_get names number ≡ Some store) × Fails store why status)
+
+-- How a connection ended, or why it wasn't served, is told by this status, where maps have these names.
+abbrev pub Tells : Result End Unserved → List Name → Status → Type 0
+Tells (Ok end) names status = status ≡ status_of end
+Tells (Err unserved.NoMemory) names status = status ≡ NoMemory
+Tells (Err (unserved.Refused number why)) names status = TellsOf names number why status
+
+-- the number of a map whose file wasn't loaded is that of one of so many
+abbrev pub IsNumbered : Result End Unserved → ℕ → Type 0
+IsNumbered (Err (unserved.Refused number why)) count = number < count
+IsNumbered served count = ⊤

@@ -1,0 +1,162 @@
+//! The command `session`: one connection over stored maps.
+
+ghost use Rattle.std.specs.Prelude.{◌≡◌, ◌≢◌, ℕ, ◌≤◌, ◌<◌, None, IsTrue, All, map, length};
+ghost use Rattle.yp_io.specs.Counts.{HasRisen};
+ghost use Rattle.yp_slot.specs.Stands.{file_max};
+ghost use Rattle.yp_board.specs.Catalogues.{name_view, maps_max, catalog_fault};
+ghost use Rattle.yp_publish.specs.Keeping.{keeping_of};
+ghost use Rattle.yp_session.specs.Wires.{wire_of, Grows};
+ghost use Rattle.yp_server.specs.Locals.{telling_of};
+ghost use Rattle.yp_server.specs.Connections.{plain_log, service_of, AtDisk, LeavesOr};
+ghost use Rattle.yp_words.specs.Words.{IsNamed};
+ghost use Rattle.yp_office.specs.Disks.{names_of, disks_of, faults_of};
+ghost use Rattle.yp_serving.specs.Session.{Sessions, Tells, TellsOf, IsNumbered, connection_at};
+ghost use Rattle.yp_serving.specs.Session.{SessionDoes, session_may_end};
+ghost use Rattle.yp_office.specs.Seeing.{seeing, IsPassedOn};
+ghost use Rattle.yp_office.specs.Status.{IsTellable};
+
+use crate::end::status_of_end;
+use std::alloc::{AllocError, Global};
+use std::random::RandomSource;
+use yp_board::{Catalog, CatalogFault, MapName};
+use yp_io::{Clock, Dial, Disk, NoMemory, Pair, Peer, Sink, Source, Texts};
+use yp_office::{Apart, NamedDisk, Office, Status, put_together, status_of_file, take_apart};
+use yp_rpc::laws;
+use yp_server::{Desk, Stock, Unserved, serve_wire};
+use yp_session::{End, Witness};
+use yp_slot::SlotFault;
+
+/// The status of a map whose file wasn't loaded, by its number. Memory may run out for its name.
+fn status_of_map(alloc: Global, names: &[MapName], number: u32, fault: SlotFault) -> Status
+    requires number { number < length names.now }
+    requires named { All IsNamed (map name_view names.now) }
+    ensures tells { TellsOf (map name_view names.now) number fault result }
+    ensures may_end { IsTrue (session_may_end result) }
+    ensures tellable { IsTellable result }
+{
+    match names[number as usize].copy(alloc) {
+        Ok(store) => status_of_file(store, fault),
+        Err(AllocError) => Status::NoMemory,
+    }
+}
+
+/// The status of a connection that ended, or of one that wasn't served.
+fn status_of(alloc: Global, served: Result<End, Unserved>, names: &[MapName]) -> Status
+    requires number { IsNumbered served (length names.now) }
+    requires named { All IsNamed (map name_view names.now) }
+    ensures tells { Tells served (map name_view names.now) result }
+    ensures may_end { IsTrue (session_may_end result) }
+    ensures tellable { IsTellable result }
+{
+    match served {
+        Ok(end) => status_of_end(end),
+        Err(Unserved::NoMemory) => Status::NoMemory,
+        Err(Unserved::Refused { map, fault }) => status_of_map(alloc, names, map, fault),
+    }
+}
+
+/// Serves a wire as one connection over the stored versions of maps, by the host `own`, to a caller at `peer`. The
+/// disks come back under their names, and so does the desk. The witness sees the wire behind each record that was
+/// answered.
+fn session_on<S: Source, K: Sink, D: Disk, T: Texts, C: Clock, W: Witness<S, K>>(
+    alloc: Global,
+    rt: &impl RandomSource,
+    own: Vec<u8>,
+    peer: Peer,
+    stores: Vec<MapName>,
+    wire: &mut Pair<S, K>,
+    disks: &mut Vec<NamedDisk<D>>,
+    desk: Desk<T, C>,
+    witness: &mut W,
+) -> (Status, Desk<T, C>)
+    requires catalogue { catalog_fault own.items (map name_view stores.items) ≡ None }
+    requires named { All IsNamed (map name_view stores.items) }
+    requires count { length (map name_view stores.items) ≤ maps_max }
+    requires disks { names_of disks.old.items ≡ map name_view stores.items }
+    ensures sessions { Grows (W.wires witness.old) (W.wires witness.new) (Sessions
+        (service_of (keeping_of D.history D.faults plain_log) (telling_of T.text T.faults C.moment)
+        (record { own = own.items; maps = map name_view stores.items }) peer) result.0
+        (connection_at (wire_of S.Source K.Sink wire.old) disks.old.items desk)
+        (connection_at (wire_of S.Source K.Sink wire.new) disks.new.items result.1)) }
+    ensures bound { (number : ℕ) → AtDisk number (disks_of disks.old.items) (disks_of disks.new.items)
+        (LeavesOr D.history (λ image. length image ≤ file_max)) }
+    ensures names { names_of disks.new.items ≡ names_of disks.old.items }
+    ensures clock { C.moment result.1.clock ≡ C.moment desk.clock }
+    ensures flushed { result.0 ≢ Status.WriteFault
+        → IsTrue (K.flushed wire.old.sink) → IsTrue (K.flushed wire.new.sink) }
+    ensures read_fault { result.0 ≡ Status.ReadFault → HasRisen (S.faults wire.old.source) (S.faults wire.new.source) }
+    ensures write_fault { result.0 ≡ Status.WriteFault → HasRisen (K.faults wire.old.sink) (K.faults wire.new.sink) }
+    ensures disk_fault { (map : MapName) → result.0 ≡ Status.DiskFault map
+        → HasRisen (faults_of D.faults disks.old.items) (faults_of D.faults disks.new.items) }
+    ensures may_end { IsTrue (session_may_end result.0) }
+    ensures tellable { IsTellable result.0 }
+{
+    let catalog = match Catalog::new(alloc, own, stores) {
+        Ok(catalog) => catalog,
+        Err(CatalogFault::NoMemory) => return (Status::NoMemory, desk),
+        Err(_) => unreachable!(),
+    };
+    let Apart {
+        names,
+        disks: apart,
+    } = match take_apart(alloc, disks) {
+        Ok(apart) => apart,
+        Err(NoMemory) => return (Status::NoMemory, desk),
+    };
+    let stock = Stock { disks: apart, desk };
+    let (served, stock) = serve_wire(alloc, rt, catalog, peer, wire, stock, witness);
+    let Stock { disks: apart, desk } = stock;
+    let status = status_of(alloc, served, &names);
+    let apart = Apart {
+        names,
+        disks: apart,
+    };
+    put_together(disks, apart);
+    (status, desk)
+}
+
+/// Serves the input as one connection over the stored versions of these maps, by the host `own`, to a caller at `peer`.
+/// The witness sees the wire behind each record that was answered.
+pub fn serve_session<S: Source, K: Sink, D: Disk, C: Clock, A: Dial, T: Texts, W: Witness<S, K>>(
+    alloc: Global,
+    rt: &impl RandomSource,
+    own: Vec<u8>,
+    peer: Peer,
+    stores: Vec<MapName>,
+    office: Office<S, K, D, C, A, T>,
+    witness: &mut W,
+) -> (Status, Office<S, K, D, C, A, T>)
+    requires catalogue { catalog_fault own.items (map name_view stores.items) ≡ None }
+    requires named { All IsNamed (map name_view stores.items) }
+    requires count { length (map name_view stores.items) ≤ maps_max }
+    requires disks { names_of office.disks.items ≡ map name_view stores.items }
+    ensures does { SessionDoes (seeing S.Source K.Sink D.Disk C.Clock A.Dial T.Texts)
+        own.items peer (map name_view stores.items) result.0 office result.1
+        (W.wires witness.old) (W.wires witness.new) }
+    ensures may_end { IsTrue (session_may_end result.0) }
+    ensures passed_on { IsPassedOn (seeing S.Source K.Sink D.Disk C.Clock A.Dial T.Texts) result.0 office result.1 }
+    ensures tellable { IsTellable result.0 }
+{
+    laws::cut_is_one();
+    laws::first_is_one();
+    laws::rest_is_not_whole();
+    let Office {
+        mut wire,
+        mut disks,
+        clock,
+        dial,
+        texts,
+    } = office;
+    let desk = Desk { texts, clock };
+    let (status, desk) = session_on(
+        alloc, rt, own, peer, stores, &mut wire, &mut disks, desk, witness,
+    );
+    let office = Office {
+        wire,
+        disks,
+        clock: desk.clock,
+        dial,
+        texts: desk.texts,
+    };
+    (status, office)
+}

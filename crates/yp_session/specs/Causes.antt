@@ -1,0 +1,71 @@
+-- Why a map that was to be made has its status, by the logs before and after.
+use Rattle.std.specs.Prelude.{◌≡◌, ◌≢◌, ℕ, List, [], ◌∷◌, ◌++◌, Option, Some, None, Ok, Err, IfSome, ⊤}
+use Rattle.yp_io.specs.declared.texts.TextFile.{TextFile}
+use Rattle.yp_msgs.specs.declared.transfer.XfrStat.{XfrStat}
+use Rattle.yp_msgs.specs.declared.transfer.XfrStat.TheVariants.{Succ, Age, Rsrc, Dbm, File, Refused}
+use Rattle.yp_version.specs.Versions.{MapVersion}
+use Rattle.yp_board.specs.Logs.{Log, shown}
+use Rattle.yp_board.specs.Views.{IsFront}
+use Rattle.yp_build.specs.declared.fault.BuildFault.{BuildFault}
+use Rattle.yp_build.specs.declared.fault.BuildFault.TheVariants.{OrderSpent}
+use Rattle.yp_build.specs.Kinds.{text_of}
+use Rattle.yp_build.specs.Builds.{order_max}
+use Rattle.yp_build.specs.After.{Basis, Material, HasFault, basis_of, other_master, last_order, built_after, IsOver}
+use Rattle.yp_answer.specs.declared.make.Job.{Job}
+
+-- what a host tells of its texts and of its clock, where it does
+pub record Told : Type 0 where
+  pub text : TextFile → Option (List ℕ)
+  pub moment : Option ℕ
+
+-- what a version is built of is what is told
+pub record IsTold (told : Told) (basis : Basis) (material : Material) : Type 0 where
+  pub text : IfSome (told.text (text_of basis.kind)) (λ text. material.text ≡ text)
+  pub moment : IfSome told.moment (λ moment. material.moment ≡ moment)
+
+-- a version that was built anew, of what is told
+pub record IsAnew (told : Told) (basis : Basis) (version : MapVersion) : Type 0 where
+  pub material : Material
+  pub of_told : IsTold told basis material
+  pub built : built_after basis material ≡ Ok version
+
+-- what a version of a map is built for, behind a log
+abbrev pub basis_at : List ℕ → Job → Log → Basis
+basis_at own job log = basis_of job.kind own None (shown job.map log)
+
+-- P holds of a log from one up to another
+pub record Between (first last : Log) (P : Log → Type 0) : Type 0 where
+  pub log : Log
+  pub begins : IsFront first log
+  pub goes_on : IsFront log last
+  pub holds : P log
+
+-- A version was built anew, behind the versions of its map before it, and was shown. Its order is over that of the
+-- version that was shown at a moment of the making.
+pub record IsShownAnew (told : Told) (own : List ℕ) (job : Job) (old new : Log) : Type 0 where
+  pub version : MapVersion
+  pub before : Log
+  pub entry : IsFront (before ++ (job.map, version) ∷ []) new
+  pub anew : IsAnew told (basis_at own job before) version
+  pub over : Between old new (λ log. IsOver (shown job.map log) version)
+
+-- a row of the text passes a limit, whatever the map and the moment are
+pub record HasBadRow (own : List ℕ) (job : Job) (text : List ℕ) : Type 0 where
+  pub log : Log
+  pub moment : ℕ
+  pub fault : BuildFault
+  pub of_row : fault ≢ OrderSpent
+  pub refused : built_after (basis_at own job log) (record { text = text; moment = moment }) ≡ Err (HasFault fault)
+
+-- Why a map that was made has its status: it was shown anew; some version of it has another master, or the last order;
+-- the text has a row past a limit. FILE is counted, and memory may run out at any time.
+abbrev pub IsCaused : Told → List ℕ → Job → XfrStat → Log → Log → Type 0
+IsCaused told own job Succ old new = IsShownAnew told own job old new
+IsCaused told own job Refused old new =
+    (log : Log) × IsFront log new × (master : List ℕ) × (other_master own (shown job.map log) ≡ Some master)
+IsCaused told own job Age old new =
+    (log : Log) × IsFront log new × (last_order (shown job.map log) ≡ Some order_max)
+IsCaused told own job Dbm old new = IfSome (told.text (text_of job.kind)) (HasBadRow own job)
+IsCaused told own job File old new = ⊤
+IsCaused told own job Rsrc old new = ⊤
+IsCaused told own job _ old new = ⊥

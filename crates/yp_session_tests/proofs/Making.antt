@@ -1,0 +1,61 @@
+-- What a host of the tests makes.
+use Rattle.std.proofs.Common.{◌≡◌, inl, inr, ℕ, List, [], ◌∷◌, ◌++◌, Option, Some, None, Ok, refl, sym, ◌∙◌, ap, subst}
+use Rattle.std.proofs.lemmas.List.{append-nil}
+use Rattle.yp_msgs.specs.declared.transfer.XfrStat.{XfrStat}
+use Rattle.yp_msgs.specs.declared.transfer.XfrStat.TheVariants.{Succ, Age, Nomap, Nodom, Rsrc, Rpc, Maddr, Yperr, Badargs, Dbm, File, Skew, Clear, Force, Xfrerr, Refused}
+use Rattle.yp_version.specs.Versions.{MapVersion}
+use Rattle.yp_board.specs.Logs.{Log, shown}
+use Rattle.yp_board.specs.Views.{IsFront}
+use Rattle.yp_build.specs.declared.kind.Kind.{Kind}
+use Rattle.yp_build.specs.After.{Material, material_of, basis_of, other_master, built_after, IsOver}
+use Rattle.yp_answer.specs.declared.make.Job.{Job}
+use Rattle.yp_session.specs.Causes.{IsCaused, basis_at}
+use Rattle.yp_session.specs.Hosts.{Counts, counts_after}
+
+pub front : (log : Log) → IsFront log log
+front log = ([], sym (append-nil log))
+
+-- the same names and versions have the same master of another, and the same build
+pub other_so : {own name : List ℕ} {last now : Option MapVersion} {found : Option (List ℕ)} → own ≡ name → last ≡ now → found ≡ other_master own last → other_master name now ≡ found
+other_so {own} {name} {last} o l e = ap (λ (v : Option MapVersion). other_master name v) (sym l) ∙ ap (λ (n : List ℕ). other_master n last) (sym o) ∙ sym e
+
+pub built_so : {own name : List ℕ} {last now : Option MapVersion} (kind : Kind) (text : List ℕ) (moment : ℕ) (version : MapVersion) → own ≡ name → last ≡ now
+    → built_after (basis_of kind own None last) (material_of text moment) ≡ Ok version → IsOver last version
+    → (material : Material) × (built_after (basis_of kind name None now) material ≡ Ok version) × IsOver now version
+built_so {own} {name} {last} {now} kind text moment version o l e over = (
+  material_of text moment,
+  subst (λ (v : Option MapVersion). built_after (basis_of kind name None v) (material_of text moment) ≡ Ok version) l
+      (subst (λ (n : List ℕ). built_after (basis_of kind n None last) (material_of text moment) ≡ Ok version) o e),
+  subst (λ (v : Option MapVersion). IsOver v version) l over,
+)
+
+-- a version that was built and is shown
+pub shown_anew : (own : List ℕ) (job : Job) (log : Log) (version : MapVersion) (new : Log)
+    → (material : Material) × (built_after (basis_at own job log) material ≡ Ok version) × IsOver (shown job.map log) version
+    → new ≡ log ++ (job.map, version) ∷ [] → IsCaused (record { text = λ file. None; moment = None }) own job Succ log new
+shown_anew own job log version new made is = record {
+  version = version;
+  before = log;
+  entry = ([], is ∙ sym (append-nil (log ++ (job.map, version) ∷ [])));
+  anew = record { material = made.0; of_told = record { text = tt; moment = tt }; built = made.1 };
+  over = record { log = log; begins = front log; goes_on = ((job.map, version) ∷ [], is); holds = made.2 };
+}
+
+-- another status than FILE counts nothing
+pub uncounted : (counts : Counts) (stat : XfrStat) → (stat ≡ File → ⊥) → counts ≡ counts_after counts stat
+uncounted counts File other = absurd (other refl)
+uncounted counts Succ other = refl
+uncounted counts Age other = refl
+uncounted counts Nomap other = refl
+uncounted counts Nodom other = refl
+uncounted counts Rsrc other = refl
+uncounted counts Rpc other = refl
+uncounted counts Maddr other = refl
+uncounted counts Yperr other = refl
+uncounted counts Badargs other = refl
+uncounted counts Dbm other = refl
+uncounted counts Skew other = refl
+uncounted counts Clear other = refl
+uncounted counts Force other = refl
+uncounted counts Xfrerr other = refl
+uncounted counts Refused other = refl

@@ -1,0 +1,5 @@
+pub mod Accepted
+pub mod OnDisk
+pub mod Telling
+pub mod Checking
+pub mod Ending

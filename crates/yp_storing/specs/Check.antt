@@ -1,0 +1,77 @@
+-- What `check` tells: what the bytes of a stored file stand for.
+use Rattle.std.specs.Prelude.{◌≡◌, ◌⊎◌, ℕ, Bool, true, false, List, [], ◌++◌, length, Option, if◌then◌else◌}
+use Rattle.std.specs.Prelude.{codes, decimal, IfSome}
+use Rattle.std.specs.Option.{option_map}
+use Rattle.std.specs.Io.KnownBytes.{Appends}
+use Rattle.yp_io.specs.Streams.{AppendsFront}
+use Rattle.yp_io.specs.Disk.{History, LeavesOnly, MayLeave, after_sync}
+use Rattle.yp_version.specs.Versions.{MapVersion}
+use Rattle.yp_slot.specs.Commits.{generation_of, winning}
+use Rattle.yp_slot.specs.Stands.{Stands, stands}
+use Rattle.yp_slot.specs.Stands as stood
+use Rattle.yp_board.specs.Catalogues.{Name, name_view}
+use Rattle.yp_office.specs.Lines.{map_text}
+use Rattle.yp_office.specs.declared.status.Status.{Status}
+use Rattle.yp_office.specs.declared.status.Status.TheVariants.{Done, WriteFault, NoMemory, Damaged, NoVersion}
+use Rattle.yp_office.specs.declared.status.Status.TheVariants.{DiskFault}
+use Rattle.yp_office.specs.declared.office.Office.{Office}
+use Rattle.yp_office.specs.Disks.{names_of}
+use Rattle.yp_office.specs.Seeing.{Seeing, history, output, DiskFails, WriteFails, HasCauses}
+
+-- what stands behind the generation of a secure version
+abbrev pub mark_text : Bool → List ℕ
+mark_text secure = if secure then codes " secure" else []
+
+-- the line of a version that stands
+abbrev pub check_line : Name → ℕ → MapVersion → List ℕ
+check_line store generation version =
+    map_text store ++ codes " order " ++ decimal version.order ++ codes " master " ++ version.master ++ codes " rows "
+    ++ decimal (length version.rows) ++ codes " generation " ++ decimal generation ++ mark_text version.secure
+    ++ codes "\n"
+
+-- the line of the version that a file stands for
+abbrev pub line_of : Name → List ℕ → MapVersion → List ℕ
+line_of store file version = check_line store (generation_of (winning file)) version
+
+-- What is told of a file, for each status: what it stands for, or that the disk failed or memory ran out.
+abbrev pub Checks : Name → List ℕ → Status → Option (List ℕ) → Option (List ℕ) → Type 0
+Checks store file Done before after =
+    (version : MapVersion) × (stands file ≡ stood.Stored version) × Appends before after (line_of store file version)
+Checks store file WriteFault before after =
+    (version : MapVersion) × (stands file ≡ stood.Stored version)
+    × AppendsFront (line_of store file version) before after
+Checks store file (NoVersion map) before after =
+    (name_view map ≡ store) × (stands file ≡ stood.Nothing) × (after ≡ before)
+Checks store file (Damaged map at rule) before after =
+    (name_view map ≡ store) × (stands file ≡ stood.Damaged at rule) × (after ≡ before)
+Checks store file (DiskFault map) before after = (name_view map ≡ store) × (after ≡ before)
+Checks store file NoMemory before after = after ≡ before
+Checks store file _ before after = ⊥
+
+-- Nothing was written to a disk: it stays, or was synced, and no crash left what one might not have left before.
+pub record IsUnwritten (old new : Option History) : Type 0 where
+  pub same : (new ≡ old) ⊎ (new ≡ option_map after_sync old)
+  pub any_moment : LeavesOnly old new (MayLeave old)
+
+-- the statuses with which `check` may end
+abbrev pub check_may_end : Status → Bool
+check_may_end Done = true
+check_may_end WriteFault = true
+check_may_end NoMemory = true
+check_may_end (Damaged map at rule) = true
+check_may_end (NoVersion map) = true
+check_may_end (DiskFault map) = true
+check_may_end _ = false
+
+-- What `check` does: it tells what the file of its map stands for, and writes nothing to its disk. Where nothing fails a
+-- version that stands is told.
+pub record CheckDoes {S K D C A T : Type 0} (seen : Seeing S K D C A T) (store : Name) (status : Status)
+    (old new : Office S K D C A T) : Type 0 where
+  pub tells : IfSome (history seen old)
+      (λ h. Checks store h.state.reads status (output seen old) (output seen new))
+  pub unwritten : IsUnwritten (history seen old) (history seen new)
+  pub complete : (version : MapVersion) → IfSome (history seen old) (λ h. stands h.state.reads ≡ stood.Stored version
+      → ¬ DiskFails seen old new → ¬ WriteFails seen old new → (status ≡ Done) ⊎ (status ≡ NoMemory))
+  pub causes : HasCauses seen status old new
+  pub names : names_of new.disks.items ≡ names_of old.disks.items
+  pub stays : new ≡ record old { wire = record old.wire { sink = new.wire.sink }; disks = new.disks }

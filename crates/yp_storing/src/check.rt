@@ -1,0 +1,94 @@
+//! The command `check`: what a stored file stands for.
+
+ghost use Rattle.std.specs.Prelude.{◌≡◌, ◌≢◌, [], ◌∷◌, IsTrue, IfSome};
+ghost use Rattle.yp_io.specs.Counts.{HasRisen};
+ghost use Rattle.yp_board.specs.Catalogues.{name_view};
+ghost use Rattle.yp_storing.specs.Check.{check_line, Checks, IsUnwritten, CheckDoes, check_may_end};
+ghost use Rattle.yp_office.specs.Disks.{names_of};
+ghost use Rattle.yp_office.specs.Seeing.{seeing, IsPassedOn};
+ghost use Rattle.yp_office.specs.Status.{IsTellable};
+ghost use Rattle.yp_words.specs.Words.{IsNamed};
+
+use std::alloc::Global;
+use std::random::RandomSource;
+use yp_board::MapName;
+use yp_io::{Clock, Dial, Disk, Failed, Sink, Source, Texts, write_through};
+use yp_office::{Line, NamedDisk, Office, Status, add, add_map, add_number, status_of_file};
+use yp_slot::Slot;
+use yp_version::Version;
+
+/// The line of a version that stands.
+fn line(store: &MapName, generation: u64, version: &Version) -> Line
+    requires { IsNamed (name_view store.now) }
+    ensures { result.items ≡ check_line (name_view store.now) generation version.now }
+{
+    let mut line = Line::new();
+    add_map(&mut line, store);
+    add(&mut line, b" order ");
+    add_number(&mut line, u64::from(version.order()));
+    add(&mut line, b" master ");
+    add(&mut line, version.master());
+    add(&mut line, b" rows ");
+    add_number(&mut line, version.len() as u64);
+    add(&mut line, b" generation ");
+    add_number(&mut line, generation);
+    add(&mut line, if version.secure() { b" secure" } else { b"" });
+    add(&mut line, b"\n");
+    line
+}
+
+/// Tells what the file of a map stands for, and hands its disk back. It writes nothing to the disk.
+fn check_disk<D: Disk, K: Sink>(
+    alloc: Global,
+    rt: &impl RandomSource,
+    store: MapName,
+    disk: D,
+    sink: &mut K,
+) -> (Status, D)
+    requires { IsNamed (name_view store) }
+    ensures checks { IfSome (D.history disk) (λ h.
+        Checks (name_view store) h.state.reads result.0 (K.output sink.old) (K.output sink.new)) }
+    ensures unwritten { IsUnwritten (D.history disk) (D.history result.1) }
+    ensures may_end { IsTrue (check_may_end result.0) }
+    ensures tellable { IsTellable result.0 }
+    ensures flushed { result.0 ≢ Status.WriteFault → IsTrue (K.flushed sink.old) → IsTrue (K.flushed sink.new) }
+    ensures write_fault { result.0 ≡ Status.WriteFault → HasRisen (K.faults sink.old) (K.faults sink.new) }
+    ensures disk_fault { (map : _) → result.0 ≡ Status.DiskFault map → HasRisen (D.faults disk) (D.faults result.1) }
+{
+    let mut slot = Slot::new(disk);
+    let loaded = slot.load(alloc, rt);
+    let generation = slot.generation();
+    let disk = slot.into_disk();
+    let status = match loaded {
+        Err(fault) => status_of_file(store, fault),
+        Ok(None) => Status::NoVersion { map: store },
+        Ok(Some(version)) => match write_through(sink, &line(&store, generation, &version)) {
+            Ok(()) => Status::Done,
+            Err(Failed) => Status::WriteFault,
+        },
+    };
+    (status, disk)
+}
+
+/// Tells what the file of the only map stands for. It writes nothing to the disk.
+pub fn check_map<S: Source, K: Sink, D: Disk, C: Clock, A: Dial, T: Texts>(
+    alloc: Global,
+    rt: &impl RandomSource,
+    store: MapName,
+    office: &mut Office<S, K, D, C, A, T>,
+) -> Status
+    requires named { IsNamed (name_view store) }
+    requires only { names_of office.old.disks.items ≡ name_view store ∷ [] }
+    ensures does { CheckDoes (seeing S.Source K.Sink D.Disk C.Clock A.Dial T.Texts)
+        (name_view store) result office.old office.new }
+    ensures may_end { IsTrue (check_may_end result) }
+    ensures passed_on { IsPassedOn (seeing S.Source K.Sink D.Disk C.Clock A.Dial T.Texts) result office.old office.new }
+    ensures tellable { IsTellable result }
+{
+    let Some(NamedDisk { name, disk }) = office.disks.pop() else {
+        unreachable!()
+    };
+    let (status, disk) = check_disk(alloc, rt, store, disk, &mut office.wire.sink);
+    office.disks.push_reserved(NamedDisk { name, disk });
+    status
+}

@@ -1,0 +1,6 @@
+-- A read that was interrupted consumed nothing.
+use Rattle.std.specs.Io.KnownBytes.{Keeps}
+use Rattle.yp_system.proofs.streams.write_uninterrupted.Given as goal
+
+abbrev pub invariant-loop : goal.invariant-loop
+invariant-loop g l = Keeps (g.W.Write.contents l.initial.writer) (g.W.Write.contents l.writer)

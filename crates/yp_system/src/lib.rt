@@ -1,0 +1,24 @@
+//! The real outside of the program: standard streams, files, the clock, connections over TCP, and texts in a folder.
+//!
+//! Each is proved to keep the trait of `yp_io` that it stands for. Which bytes the system gives them no contract says, so
+//! they are done with care: a failed sync is never trusted again, a file has one writer, and each wire that is dialed has
+//! a limit of time.
+#![tactic(auto)]
+
+mod clock;
+mod dial;
+mod disk;
+mod locked;
+mod patient;
+mod streams;
+mod texts;
+mod words;
+
+pub use clock::SystemClock;
+pub use dial::{TcpDial, TcpWire};
+pub use disk::FileDisk;
+pub use locked::{LockedFile, Locking, MapFile};
+pub use patient::Patient;
+pub use streams::{BlockReader, DirectWriter, StandardStream};
+pub use texts::TextFolder;
+pub use words::{WORD_MAX, read_words};

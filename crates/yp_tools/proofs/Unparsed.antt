@@ -1,0 +1,44 @@
+-- What is done for words that weren't parsed.
+use Rattle.std.proofs.Common.{◌≡◌, ℕ, List, Result, Ok, Err, refl, inr, true}
+use Rattle.yp_session.specs.Wires.{Wire}
+use Rattle.yp_words.specs.Words.{Meaning, Once, Session, Check, Build, Sample, Ask, TakesMemory, IsSentenceOfWords, IsUsage}
+use Rattle.yp_words.specs.declared.words.ParseFault.{ParseFault}
+use Rattle.yp_words.specs.declared.words.ParseFault.TheVariants as fault
+use Rattle.yp_office.specs.declared.office.Office.{Office}
+use Rattle.yp_office.specs.declared.status.Status.TheVariants.{Usage, NoMemory}
+use Rattle.yp_office.specs.Seeing.{Seeing}
+use Rattle.yp_tools.specs.Commands.{Does, MayEnd, may_end, parse_status}
+
+usage_may : (command : Result Meaning ℕ) (word : ℕ) → command ≡ Err word → MayEnd command (Usage word)
+usage_may (Ok meaning) word e = absurd cc
+usage_may (Err other) word e = let same : other ≡ word = cc in rw same refl
+
+command_may : (meaning : Meaning) → may_end meaning NoMemory ≡ true
+unfolding may_end
+command_may (Once store rows) = refl
+command_may (Session own peer stores hosts) = refl
+command_may (Check store) = refl
+command_may (Build name store flag) = refl
+command_may (Sample start count) = refl
+command_may (Ask peer question) = refl
+
+memory_may : (command : Result Meaning ℕ) → IsSentenceOfWords command → MayEnd command NoMemory
+memory_may (Ok meaning) h = command_may meaning
+memory_may (Err word) h = absurd h
+
+pub unparsed_may : (command : Result Meaning ℕ) (why : ParseFault) → IsUsage command why → MayEnd command (parse_status why)
+unparsed_may command (fault.Usage word) h = usage_may command word h
+unparsed_may command fault.NoMemory h = memory_may command h
+
+module _ {S K D C A T : Type 0} (seen : Seeing S K D C A T) (office : Office S K D C A T) (wires : List Wire) where
+  usage_does : (command : Result Meaning ℕ) (word : ℕ) → command ≡ Err word → Does seen command (Usage word) office office wires wires
+  usage_does (Ok meaning) word e = absurd cc
+  usage_does (Err other) word e = let same : other ≡ word = cc in rw same (refl, refl, refl)
+
+  memory_does : (command : Result Meaning ℕ) → IsSentenceOfWords command → Does seen command NoMemory office office wires wires
+  memory_does (Ok meaning) h = inr (record { takes_memory = h; told = refl; stays = refl; unseen = refl })
+  memory_does (Err word) h = absurd h
+
+  pub unparsed_does : (command : Result Meaning ℕ) (why : ParseFault) → IsUsage command why → Does seen command (parse_status why) office office wires wires
+  unparsed_does command (fault.Usage word) h = usage_does command word h
+  unparsed_does command fault.NoMemory h = memory_does command h

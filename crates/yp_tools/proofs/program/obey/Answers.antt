@@ -1,0 +1,96 @@
+use Rattle.std.proofs.Common.{◌≡◌, ◌∙◌, List, map, ap, sym, refl}
+use Rattle.yp_board.specs.Catalogues.{name_view}
+use Rattle.yp_query.specs.Questions.{bytes_of}
+use Rattle.yp_words.specs.declared.command.KeyValue.{KeyValue}
+use Rattle.yp_words.specs.Words.{Once, Session, Check, Build, Sample, Ask, meaning, row_view, host_view}
+use Rattle.yp_office.specs.Seeing.{Seeing, seeing}
+use Rattle.yp_tools.specs.Commands.{CommandDoes, may_end}
+use Rattle.yp_tools.proofs.Dispatch.{same_does, same_passed, same_end}
+use Rattle.yp_tools.proofs.program.obey.Goals.{in-Once, in-Sample, in-Check, in-Build, in-Ask+in-Cat-1, in-Ask+in-Catk-1, in-Ask+in-Match-1, in-Ask+in-Which-1, in-Ask+in-Poll-1, in-Ask+in-Maps-1}
+use Rattle.yp_tools.proofs.program.obey.Goals as goal
+
+pub returns-in-Session-clause-does : goal.returns-in-Session-clause-does
+unfolding CommandDoes
+returns-in-Session-clause-does g c =
+    let wires = g.W.Witness.wires in
+    same_does (seeing g.S.Source g.K.Sink g.D.Disk g.C.Clock g.A.Dial g.T.Texts) c.args.office (wires c.args.witness.now) (meaning c.args.command)
+    (Session c.in-Session.name.items c.in-Session.addr (map name_view c.in-Session.stores.items) (map host_view c.in-Session._hosts.items))
+    c.serve_session.result.0 c.serve_session.result.0 c.serve_session.result.1 c.serve_session.result.1 (wires c.serve_session.new.witness) (wires c.serve_session.new.witness)
+    (ap meaning c.in-Session.is) refl refl refl c.serve_session.ensures.does
+
+pub returns-in-Session-clause-may_end : goal.returns-in-Session-clause-may_end
+unfolding may_end
+returns-in-Session-clause-may_end g c =
+    same_end (meaning c.args.command)
+    (Session c.in-Session.name.items c.in-Session.addr (map name_view c.in-Session.stores.items) (map host_view c.in-Session._hosts.items))
+    c.serve_session.result.0 c.serve_session.result.0 (ap meaning c.in-Session.is) refl c.serve_session.ensures.may_end
+
+pub returns-clause-does : goal.returns-clause-does
+unfolding CommandDoes
+returns-clause-does g c =
+    let wires = g.W.Witness.wires in
+    let by = same_does (seeing g.S.Source g.K.Sink g.D.Disk g.C.Clock g.A.Dial g.T.Texts) c.args.office (wires c.args.witness.now) (meaning c.args.command) in
+    elim c.match-command.branch [
+      | in-Once w ↦
+          by (Once (name_view w.in-Once.store) (map row_view w.deref.result.now)) c.match-command.status w.serve_once-status.result c.match-command.office w.serve_once-status.new.office (wires c.match-command.witness) (wires w.serve_once-status.new.witness)
+          (ap meaning w.in-Once.is ∙ ap (λ (l : List KeyValue). Once (name_view w.in-Once.store) (map row_view l)) (sym w.deref.ensures.value)) w.status-is w.office-is (ap wires w.witness-is) w.serve_once-status.ensures.does
+      | in-Sample w ↦
+          by (Sample w.in-Sample.start w.in-Sample.count) c.match-command.status w.tell_sample-status.result c.match-command.office w.tell_sample-status.new.office (wires c.match-command.witness) (wires c.args.witness.now)
+          (ap meaning w.in-Sample.is) w.status-is w.office-is (ap wires w.witness-is) (w.tell_sample-status.ensures.does, refl)
+      | in-Check w ↦
+          by (Check (name_view w.in-Check.store)) c.match-command.status w.check_map-status.result c.match-command.office w.check_map-status.new.office (wires c.match-command.witness) (wires c.args.witness.now)
+          (ap meaning w.in-Check.is) w.status-is w.office-is (ap wires w.witness-is) (w.check_map-status.ensures.does, refl)
+      | in-Build w ↦
+          by (Build w.in-Build.name.items (name_view w.in-Build.store) w.in-Build.flag) c.match-command.status w.build_map-status.result c.match-command.office w.build_map-status.new.office (wires c.match-command.witness) (wires c.args.witness.now)
+          (ap meaning w.in-Build.is) w.status-is w.office-is (ap wires w.witness-is) (w.build_map-status.ensures.does, refl)
+      | in-Ask+in-Cat-1 w ↦
+          by (Ask w.in-Ask.addr (bytes_of w.in-Ask.question)) c.match-command.status w.ask-status.result c.match-command.office w.ask-status.new.office (wires c.match-command.witness) (wires c.args.witness.now)
+          (ap meaning w.in-Ask.is) w.status-is w.office-is (ap wires w.witness-is) (w.ask-status.ensures.does, refl)
+      | in-Ask+in-Catk-1 w ↦
+          by (Ask w.in-Ask.addr (bytes_of w.in-Ask.question)) c.match-command.status w.ask-status.result c.match-command.office w.ask-status.new.office (wires c.match-command.witness) (wires c.args.witness.now)
+          (ap meaning w.in-Ask.is) w.status-is w.office-is (ap wires w.witness-is) (w.ask-status.ensures.does, refl)
+      | in-Ask+in-Match-1 w ↦
+          by (Ask w.in-Ask.addr (bytes_of w.in-Ask.question)) c.match-command.status w.ask-status.result c.match-command.office w.ask-status.new.office (wires c.match-command.witness) (wires c.args.witness.now)
+          (ap meaning w.in-Ask.is) w.status-is w.office-is (ap wires w.witness-is) (w.ask-status.ensures.does, refl)
+      | in-Ask+in-Which-1 w ↦
+          by (Ask w.in-Ask.addr (bytes_of w.in-Ask.question)) c.match-command.status w.ask-status.result c.match-command.office w.ask-status.new.office (wires c.match-command.witness) (wires c.args.witness.now)
+          (ap meaning w.in-Ask.is) w.status-is w.office-is (ap wires w.witness-is) (w.ask-status.ensures.does, refl)
+      | in-Ask+in-Poll-1 w ↦
+          by (Ask w.in-Ask.addr (bytes_of w.in-Ask.question)) c.match-command.status w.ask-status.result c.match-command.office w.ask-status.new.office (wires c.match-command.witness) (wires c.args.witness.now)
+          (ap meaning w.in-Ask.is) w.status-is w.office-is (ap wires w.witness-is) (w.ask-status.ensures.does, refl)
+      | in-Ask+in-Maps-1 w ↦
+          by (Ask w.in-Ask.addr (bytes_of w.in-Ask.question)) c.match-command.status w.ask-status.result c.match-command.office w.ask-status.new.office (wires c.match-command.witness) (wires c.args.witness.now)
+          (ap meaning w.in-Ask.is) w.status-is w.office-is (ap wires w.witness-is) (w.ask-status.ensures.does, refl)
+    ]
+
+pub returns-clause-may_end : goal.returns-clause-may_end
+unfolding may_end
+returns-clause-may_end g c =
+    elim c.match-command.branch [
+      | in-Once w ↦ same_end (meaning c.args.command) (Once (name_view w.in-Once.store) (map row_view w.deref.result.now)) c.match-command.status w.serve_once-status.result (ap meaning w.in-Once.is ∙ ap (λ (l : List KeyValue). Once (name_view w.in-Once.store) (map row_view l)) (sym w.deref.ensures.value)) w.status-is w.serve_once-status.ensures.may_end
+      | in-Sample w ↦ same_end (meaning c.args.command) (Sample w.in-Sample.start w.in-Sample.count) c.match-command.status w.tell_sample-status.result (ap meaning w.in-Sample.is) w.status-is w.tell_sample-status.ensures.may_end
+      | in-Check w ↦ same_end (meaning c.args.command) (Check (name_view w.in-Check.store)) c.match-command.status w.check_map-status.result (ap meaning w.in-Check.is) w.status-is w.check_map-status.ensures.may_end
+      | in-Build w ↦ same_end (meaning c.args.command) (Build w.in-Build.name.items (name_view w.in-Build.store) w.in-Build.flag) c.match-command.status w.build_map-status.result (ap meaning w.in-Build.is) w.status-is w.build_map-status.ensures.may_end
+      | in-Ask+in-Cat-1 w ↦ same_end (meaning c.args.command) (Ask w.in-Ask.addr (bytes_of w.in-Ask.question)) c.match-command.status w.ask-status.result (ap meaning w.in-Ask.is) w.status-is w.ask-status.ensures.may_end
+      | in-Ask+in-Catk-1 w ↦ same_end (meaning c.args.command) (Ask w.in-Ask.addr (bytes_of w.in-Ask.question)) c.match-command.status w.ask-status.result (ap meaning w.in-Ask.is) w.status-is w.ask-status.ensures.may_end
+      | in-Ask+in-Match-1 w ↦ same_end (meaning c.args.command) (Ask w.in-Ask.addr (bytes_of w.in-Ask.question)) c.match-command.status w.ask-status.result (ap meaning w.in-Ask.is) w.status-is w.ask-status.ensures.may_end
+      | in-Ask+in-Which-1 w ↦ same_end (meaning c.args.command) (Ask w.in-Ask.addr (bytes_of w.in-Ask.question)) c.match-command.status w.ask-status.result (ap meaning w.in-Ask.is) w.status-is w.ask-status.ensures.may_end
+      | in-Ask+in-Poll-1 w ↦ same_end (meaning c.args.command) (Ask w.in-Ask.addr (bytes_of w.in-Ask.question)) c.match-command.status w.ask-status.result (ap meaning w.in-Ask.is) w.status-is w.ask-status.ensures.may_end
+      | in-Ask+in-Maps-1 w ↦ same_end (meaning c.args.command) (Ask w.in-Ask.addr (bytes_of w.in-Ask.question)) c.match-command.status w.ask-status.result (ap meaning w.in-Ask.is) w.status-is w.ask-status.ensures.may_end
+    ]
+
+pub returns-clause-passed_on : goal.returns-clause-passed_on
+returns-clause-passed_on g c =
+    let by = same_passed (seeing g.S.Source g.K.Sink g.D.Disk g.C.Clock g.A.Dial g.T.Texts) c.args.office in
+    elim c.match-command.branch [
+      | in-Once w ↦ by c.match-command.status w.serve_once-status.result c.match-command.office w.serve_once-status.new.office w.status-is w.office-is w.serve_once-status.ensures.passed_on
+      | in-Sample w ↦ by c.match-command.status w.tell_sample-status.result c.match-command.office w.tell_sample-status.new.office w.status-is w.office-is w.tell_sample-status.ensures.passed_on
+      | in-Check w ↦ by c.match-command.status w.check_map-status.result c.match-command.office w.check_map-status.new.office w.status-is w.office-is w.check_map-status.ensures.passed_on
+      | in-Build w ↦ by c.match-command.status w.build_map-status.result c.match-command.office w.build_map-status.new.office w.status-is w.office-is w.build_map-status.ensures.passed_on
+      | in-Ask+in-Cat-1 w ↦ by c.match-command.status w.ask-status.result c.match-command.office w.ask-status.new.office w.status-is w.office-is w.ask-status.ensures.passed_on
+      | in-Ask+in-Catk-1 w ↦ by c.match-command.status w.ask-status.result c.match-command.office w.ask-status.new.office w.status-is w.office-is w.ask-status.ensures.passed_on
+      | in-Ask+in-Match-1 w ↦ by c.match-command.status w.ask-status.result c.match-command.office w.ask-status.new.office w.status-is w.office-is w.ask-status.ensures.passed_on
+      | in-Ask+in-Which-1 w ↦ by c.match-command.status w.ask-status.result c.match-command.office w.ask-status.new.office w.status-is w.office-is w.ask-status.ensures.passed_on
+      | in-Ask+in-Poll-1 w ↦ by c.match-command.status w.ask-status.result c.match-command.office w.ask-status.new.office w.status-is w.office-is w.ask-status.ensures.passed_on
+      | in-Ask+in-Maps-1 w ↦ by c.match-command.status w.ask-status.result c.match-command.office w.ask-status.new.office w.status-is w.office-is w.ask-status.ensures.passed_on
+    ]

@@ -1,0 +1,79 @@
+-- What the client commands do: a server is asked, and its answer printed.
+use Rattle.std.specs.Prelude.{◌≡◌, ◌⊎◌, ℕ, Bool, true, false, List, Result, Ok, Err}
+use Rattle.yp_io.specs.declared.stream.Peer.{Peer}
+use Rattle.yp_client.specs.declared.fault.ClientFault.TheVariants as client
+use Rattle.yp_query.specs.declared.fault.QueryFault.{QueryFault}
+use Rattle.yp_query.specs.declared.fault.QueryFault.TheVariants as fault
+use Rattle.yp_query.specs.Questions.{ByteQuestion}
+use Rattle.yp_query.specs.Scenes.{Scene, Asks, scene_of}
+use Rattle.yp_query.specs.Complete.{HasAnswer, HasCome}
+use Rattle.yp_office.specs.Rows.{row_status}
+use Rattle.yp_office.specs.declared.status.Status.{Status}
+use Rattle.yp_office.specs.declared.status.Status.TheVariants.{Done, No, ReadFault, WriteFault, Torn, TooLong, NoMemory}
+use Rattle.yp_office.specs.declared.status.Status.TheVariants.{Yp, Denied, BadReply, BadXid, DialFault, Rows}
+use Rattle.yp_office.specs.declared.office.Office.{Office}
+use Rattle.yp_office.specs.Seeing.{Seeing, WriteFails, DialFails}
+
+-- the status of a question: done, or why it has no answer
+abbrev pub status_of : Result (Unit {0}) QueryFault → Status
+status_of (Ok done) = Done
+status_of (Err fault.NoKey) = No
+status_of (Err fault.Dial) = DialFault
+status_of (Err fault.Output) = WriteFault
+status_of (Err fault.NoMemory) = NoMemory
+status_of (Err (fault.Client (client.Yp stat))) = Yp stat
+status_of (Err (fault.Client (client.Denied head))) = Denied
+status_of (Err (fault.Client (client.BadReply at))) = BadReply at
+status_of (Err (fault.Client (client.BadXid want got))) = BadXid want got
+status_of (Err (fault.Client (client.Torn at))) = Torn at
+status_of (Err (fault.Client (client.TooLong at))) = TooLong at
+status_of (Err (fault.Client client.ReadFault)) = ReadFault
+status_of (Err (fault.Client client.WriteFault)) = WriteFault
+status_of (Err (fault.Client client.Spent)) = NoMemory
+status_of (Err (fault.Client (client.Rows row why))) = row_status row why
+status_of (Err (fault.Client client.NoMemory)) = NoMemory
+
+-- what the dial and the output of an office tell
+abbrev pub scene : {S K D C A T : Type 0} → Seeing S K D C A T → Office S K D C A T → Scene
+scene seen office =
+    scene_of seen.dial.past seen.dial.faults seen.sink.output seen.sink.faults office.dial office.wire.sink
+
+-- A question was asked, and its answer or fault is told by this status.
+pub record AsksAs (peer : Peer) (question : ByteQuestion) (status : Status) (old new : Scene) : Type 0 where
+  pub result : Result (Unit {0}) QueryFault
+  pub asks : Asks peer question result old new
+  pub told : status ≡ status_of result
+
+-- an answer, that there is no such key, or want of memory
+abbrev pub IsAnswer : Status → Type 0
+IsAnswer status = (status ≡ Done) ⊎ (status ≡ No) ⊎ (status ≡ NoMemory)
+
+-- the statuses with which a client command may end
+abbrev pub ask_may_end : Status → Bool
+ask_may_end Done = true
+ask_may_end No = true
+ask_may_end ReadFault = true
+ask_may_end WriteFault = true
+ask_may_end (Torn at) = true
+ask_may_end (TooLong at) = true
+ask_may_end NoMemory = true
+ask_may_end (Yp stat) = true
+ask_may_end Denied = true
+ask_may_end (BadReply at) = true
+ask_may_end (BadXid want got) = true
+ask_may_end DialFault = true
+ask_may_end (Rows row rule) = true
+ask_may_end _ = false
+
+-- What a client command does: it asks one server, on one connection, and prints what its replies say, or tells the first
+-- refusal. Where the wire that came gives whole replies that answer its calls, and nothing fails, it is answered.
+pub record AskDoes {S K D C A T : Type 0} (seen : Seeing S K D C A T) (peer : Peer) (question : ByteQuestion)
+    (status : Status) (old new : Office S K D C A T) : Type 0 where
+  pub asks : AsksAs peer question status (scene seen old) (scene seen new)
+  pub complete : (stream : List ℕ) → HasAnswer question stream
+      → HasCome peer stream (seen.dial.past old.dial) (seen.dial.past new.dial)
+      → ¬ DialFails seen old new → ¬ WriteFails seen old new → IsAnswer status
+  pub read_fault : status ≡ ReadFault → DialFails seen old new
+  pub write_fault : status ≡ WriteFault → WriteFails seen old new ⊎ DialFails seen old new
+  pub dial_fault : status ≡ DialFault → DialFails seen old new
+  pub stays : new ≡ record old { wire = record old.wire { sink = new.wire.sink }; dial = new.dial }

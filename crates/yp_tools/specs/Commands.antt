@@ -1,0 +1,74 @@
+-- What the program does, by its command: one line each.
+use Rattle.std.specs.Prelude.{◌≡◌, ◌⊎◌, ℕ, Bool, IsTrue, List, Result, Ok, Err}
+use Rattle.yp_session.specs.Wires.{Wire}
+use Rattle.yp_words.specs.Words.{Meaning, Once, Session, Check, Build, Sample, Ask, TakesMemory}
+use Rattle.yp_words.specs.declared.words.ParseFault.{ParseFault}
+use Rattle.yp_words.specs.declared.words.ParseFault.TheVariants as fault
+use Rattle.yp_office.specs.declared.office.Office.{Office}
+use Rattle.yp_office.specs.declared.status.Status.{Status}
+use Rattle.yp_office.specs.declared.status.Status.TheVariants.{Usage, NoMemory}
+use Rattle.yp_office.specs.Seeing.{Seeing}
+use Rattle.yp_serving.specs.Once.{OnceDoes, once_may_end}
+use Rattle.yp_serving.specs.Sample.{SampleDoes, sample_may_end}
+use Rattle.yp_serving.specs.Session.{SessionDoes, session_may_end}
+use Rattle.yp_storing.specs.Build.{BuildDoes, build_may_end}
+use Rattle.yp_storing.specs.Check.{CheckDoes, check_may_end}
+use Rattle.yp_tools.specs.Asking.{AskDoes, ask_may_end}
+use Rattle.yp_tools.specs.declared.program.Outside.{Outside}
+
+-- what a command does to the office and to a witness's wires, with this status
+unfoldable pub CommandDoes : {S K D C A T : Type 0} → Seeing S K D C A T → Meaning → Status
+    → (old new : Office S K D C A T) → (before after : List Wire) → Type 0
+CommandDoes seen (Once store rows) status old new before after = OnceDoes seen store rows status old new before after
+CommandDoes seen (Session own peer stores hosts) status old new before after =
+    SessionDoes seen own peer stores status old new before after
+CommandDoes seen (Check store) status old new before after = CheckDoes seen store status old new × (after ≡ before)
+CommandDoes seen (Build name store flag) status old new before after =
+    BuildDoes seen name store flag status old new × (after ≡ before)
+CommandDoes seen (Sample start count) status old new before after =
+    SampleDoes seen start count status old new × (after ≡ before)
+CommandDoes seen (Ask peer question) status old new before after =
+    AskDoes seen peer question status old new × (after ≡ before)
+
+-- memory ran out for what is copied of the words, and nothing has changed
+pub record IsForgone {S K D C A T : Type 0} (meaning : Meaning) (status : Status) (old new : Office S K D C A T)
+    (before after : List Wire) : Type 0 where
+  pub takes_memory : TakesMemory meaning
+  pub told : status ≡ NoMemory
+  pub stays : new ≡ old
+  pub unseen : after ≡ before
+
+-- what is done for the command that the words are; words that are none are told, and nothing is done
+abbrev pub Does : {S K D C A T : Type 0} → Seeing S K D C A T → Result Meaning ℕ → Status
+    → (old new : Office S K D C A T) → (before after : List Wire) → Type 0
+Does seen (Ok meaning) status old new before after =
+    CommandDoes seen meaning status old new before after ⊎ IsForgone meaning status old new before after
+Does seen (Err word) status old new before after = (status ≡ Usage word) × (new ≡ old) × (after ≡ before)
+
+-- the statuses with which a command may end
+unfoldable pub may_end : Meaning → Status → Bool
+may_end (Once store rows) status = once_may_end status
+may_end (Session own peer stores hosts) status = session_may_end status
+may_end (Check store) status = check_may_end status
+may_end (Build name store flag) status = build_may_end status
+may_end (Sample start count) status = sample_may_end status
+may_end (Ask peer question) status = ask_may_end status
+
+abbrev pub MayEnd : Result Meaning ℕ → Status → Type 0
+MayEnd (Ok meaning) status = IsTrue (may_end meaning status)
+MayEnd (Err word) status = status ≡ Usage word
+
+-- the status of words that weren't parsed
+abbrev pub parse_status : ParseFault → Status
+parse_status (fault.Usage word) = Usage word
+parse_status fault.NoMemory = NoMemory
+
+-- what a command reaches of the outside
+abbrev pub office_of : {S K D C A T : Type 0} → Outside S K D C A T → Office S K D C A T
+office_of outside = record {
+  wire = record { source = outside.input; sink = outside.output };
+  disks = outside.disks;
+  clock = outside.clock;
+  dial = outside.dial;
+  texts = outside.texts;
+}
