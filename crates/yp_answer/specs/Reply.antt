@@ -36,7 +36,8 @@ use Rattle.yp_answer.specs.Procedures.{procedure_of, make_procedure_of}
 use Rattle.yp_answer.specs.declared.make.Job.{Job}
 use Rattle.yp_answer.specs.Make.{make_check}
 
--- What a record gets: no reply, this reply message, or, to the call with this xid, the status of a map that is made first.
+-- What a record gets: no reply, this reply message, or, to the call with this xid, the status of a map that is made
+-- first.
 pub data Response : Type 0 where
   Silence : Response
   Bytes : (bytes : List ℕ) → Response

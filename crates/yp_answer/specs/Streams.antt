@@ -13,7 +13,8 @@ use Rattle.yp_version.specs.Versions.{MapVersion}
 use Rattle.yp_board.specs.Logs.{Log, shown}
 use Rattle.yp_answer.specs.Results.{all_items}
 
--- a reply of ALL that is given in parts: for which call, of which map or with which status, and how many parts were given
+-- a reply of ALL that is given in parts: for which call, of which map or with which status, and how many parts were
+-- given
 pub record Streamed : Type 0 where
   pub xid : ℕ
   pub source : Result ℕ YpStat

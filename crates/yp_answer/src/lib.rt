@@ -1,8 +1,8 @@
 //! The reply to one call, on one state of the maps.
 //!
-//! A record is answered by [`answer`], and a call in a datagram by [`answer_datagram`]. That each gives the one reply of
-//! YP version 2 (yp.x) over RPC (RFC 5531) on what its view knows, after at most one read step, stands on their clauses.
-//! The reply of ALL goes out in pieces of whole items, by [`AllStream::piece`].
+//! A record is answered by [`answer`], and a call in a datagram by [`answer_datagram`]. That each gives the one reply
+//! of YP version 2 (yp.x) over RPC (RFC 5531) on what its view knows, after at most one read step, stands on their
+//! clauses. The reply of ALL goes out in pieces of whole items, by [`AllStream::piece`].
 #![tactic(auto)]
 
 mod caller;

@@ -19,11 +19,12 @@ use yp_msgs::{AllItem, Message, YpStat};
 use yp_rpc::ReplyHead;
 use yp_version::{KEY_MAX, VALUE_MAX, Version};
 
-/// The bytes that are enough for one item: its two first words, and its value and key, each behind its length and padded.
+/// The bytes that are enough for one item: its two first words, and its value and key, each behind its length and
+/// padded.
 const ITEM_MAX: usize = 8 + (8 + VALUE_MAX) + (8 + KEY_MAX);
 
-/// The reply of ALL, which goes out in pieces of whole items. It is the reply on the one version that was shown when the
-/// call was answered, as long as the view that it is taken from makes no read step.
+/// The reply of ALL, which goes out in pieces of whole items. It is the reply on the one version that was shown when
+/// the call was answered, as long as the view that it is taken from makes no read step.
 #[derive(Debug, Drop)]
 pub struct AllStream {
     xid: u32,

@@ -49,14 +49,14 @@ abbrev pub was_secure : Option MapVersion → Bool
 was_secure last = option_map_or (λ version. version.secure) last false
 
 -- a version that is secure as the flag says, or where it says nothing as the last one
-abbrev pub marked : Option Bool → Option MapVersion → MapVersion → MapVersion
-marked flag last version =
+abbrev pub secured : Option Bool → Option MapVersion → MapVersion → MapVersion
+secured flag last version =
     record version { secure = unwrap_or flag (was_secure last) }
 
 -- what is built, marked
-abbrev pub marked_build : Option Bool → Option MapVersion → Result MapVersion BuildFault → Result MapVersion Hindrance
-marked_build flag last (Ok version) = Ok (marked flag last version)
-marked_build flag last (Err fault) = Err (HasFault fault)
+abbrev pub secured_build : Option Bool → Option MapVersion → Result MapVersion BuildFault → Result MapVersion Hindrance
+secured_build flag last (Ok version) = Ok (secured flag last version)
+secured_build flag last (Err fault) = Err (HasFault fault)
 
 -- what the text makes at that moment behind the last version
 abbrev pub next_build : Basis → Material → Result MapVersion BuildFault
@@ -66,7 +66,7 @@ next_build basis material = built basis.kind material.text (last_order basis.las
 abbrev pub built_after : Basis → Material → Result MapVersion Hindrance
 built_after basis material =
     option_map_or (λ master. Err (HasOther master)) (other_master basis.own basis.last)
-    (marked_build basis.flag basis.last (next_build basis material))
+    (secured_build basis.flag basis.last (next_build basis material))
 
 -- a fault is the hindrance that is expected; memory may run out at any time
 abbrev pub IsHindered : Result MapVersion Hindrance → AfterFault → Type 0
@@ -83,6 +83,6 @@ TellsMaster own last (Foreign master) = other_master own last ≡ Some master.it
 TellsMaster own last (Build fault) = ⊤
 
 -- the master that a fault tells is within its limit
-abbrev pub IsShort : AfterFault → Type 0
-IsShort (Foreign master) = length master.items ≤ master_max
-IsShort (Build fault) = ⊤
+abbrev pub HasShortMaster : AfterFault → Type 0
+HasShortMaster (Foreign master) = length master.items ≤ master_max
+HasShortMaster (Build fault) = ⊤

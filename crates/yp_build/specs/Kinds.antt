@@ -37,14 +37,14 @@ name_of ProtocolsBynumber = codes "protocols.bynumber"
 name_of Netgroup = codes "netgroup"
 name_of Ypservers = codes "ypservers"
 
-abbrev pub text_of : Kind → TextFile
-text_of PasswdByname = file.Passwd
-text_of PasswdByuid = file.Passwd
-text_of GroupByname = file.Group
-text_of GroupBygid = file.Group
-text_of HostsByname = file.Hosts
-text_of HostsByaddr = file.Hosts
-text_of ServicesByname = file.Services
-text_of ProtocolsBynumber = file.Protocols
-text_of Netgroup = file.Netgroup
-text_of Ypservers = file.Ypservers
+abbrev pub file_of : Kind → TextFile
+file_of PasswdByname = file.Passwd
+file_of PasswdByuid = file.Passwd
+file_of GroupByname = file.Group
+file_of GroupBygid = file.Group
+file_of HostsByname = file.Hosts
+file_of HostsByaddr = file.Hosts
+file_of ServicesByname = file.Services
+file_of ProtocolsBynumber = file.Protocols
+file_of Netgroup = file.Netgroup
+file_of Ypservers = file.Ypservers

@@ -5,7 +5,7 @@ ghost use Rattle.yp_io.specs.Texts.{text_max};
 ghost use Rattle.yp_version.specs.Limits.{master_max};
 ghost use Rattle.yp_build.specs.Builds.{order_max};
 ghost use Rattle.yp_build.specs.After.{basis_of, material_of, other_master, last_order, built_after, was_secure};
-ghost use Rattle.yp_build.specs.After.{IsHindered, IsOver, TellsMaster, IsShort};
+ghost use Rattle.yp_build.specs.After.{IsHindered, IsOver, TellsMaster, HasShortMaster};
 
 use crate::fault::BuildFault;
 use crate::kind::Kind;
@@ -87,7 +87,7 @@ pub fn build_after(
     ensures spent { result ≡ Err (AfterFault.Build BuildFault.OrderSpent)
         → last_order (option_map (λ last. last.now) last.entry) ≡ Some order_max }
     ensures master { IfErr result (TellsMaster own.now (option_map (λ last. last.now) last.entry)) }
-    ensures short { IfErr result IsShort }
+    ensures short { IfErr result HasShortMaster }
 {
     if let Some(master) = other_master(own, last) {
         return match Vec::from_slice(alloc, master) {

@@ -3,7 +3,7 @@
 ghost use Rattle.std.specs.Prelude.{◌≡◌, ◌==◌};
 ghost use Rattle.std.specs.List.{find};
 ghost use Rattle.std.specs.Str.{bytes_eq};
-ghost use Rattle.yp_build.specs.Kinds.{kinds, number_of, name_of, text_of};
+ghost use Rattle.yp_build.specs.Kinds.{kinds, number_of, name_of, file_of};
 
 use yp_io::TextFile;
 
@@ -77,7 +77,7 @@ impl Kind {
 
     /// The text that its map is made of.
     pub fn text(self) -> TextFile
-        ensures { result ≡ text_of self }
+        ensures { result ≡ file_of self }
     {
         match self {
             Kind::PasswdByname | Kind::PasswdByuid => TextFile::Passwd,

@@ -7,7 +7,7 @@ use Rattle.yp_client.specs.States.{ClientState}
 use Rattle.yp_client.specs.Results.{Says, SaysInMemory}
 use Rattle.yp_query.specs.declared.fault.QueryFault.{QueryFault}
 use Rattle.yp_query.specs.declared.fault.QueryFault.TheVariants.{Client, NoMemory}
-use Rattle.yp_query.specs.Asked.{Outcome, meant_by, IsInMemory, Makes}
+use Rattle.yp_query.specs.Asked.{Outcome, meant_by, IsInMemory, CallIsMade}
 use Rattle.yp_query.specs.Complete.{BeginsWithReply}
 use Rattle.yp_answer.specs.declared.procedure.Path.TheVariants.{Stream}
 use Rattle.yp_answer.specs.Maps.{Maps}
@@ -86,7 +86,7 @@ IsSaidInMemory {X} view said answers = (xid : ℕ) (message : List ℕ) (answer 
 
 pub call_comes : Records → {X V : Type 0} (limit n : ℕ) (stream : List ℕ) (P : List ℕ → List ℕ → Type 0) (good : BeginsWithReply limit stream P) (call : ℕ → List ℕ) (view : X → V) (said : ℕ → List ℕ → Result V ClientFault)
     (answers : ℕ → List ℕ → Result X ClientFault → Type 0) (refused : ClientFault → QueryFault) (text : V → List ℕ) (expected : Result V ClientFault) (outcome : Outcome) (old new : ClientState)
-    → IsSaidInMemory view said answers → Passes refused → Makes limit call answers (meant_by refused (λ x. text (view x))) outcome old new
+    → IsSaidInMemory view said answers → Passes refused → CallIsMade limit call answers (meant_by refused (λ x. text (view x))) outcome old new
     → old.wire.input ≡ Some stream → old.spent ≡ false → old.xid ≡ n → said n good.reply ≡ expected → ComesTo (meant_by refused text expected) outcome
 call_comes laws {X} {V} limit n stream P good call view said answers refused text expected outcome old new means passes makes told fresh number says =
     let to = meant_by refused text expected in

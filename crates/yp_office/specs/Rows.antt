@@ -5,12 +5,26 @@ use Rattle.yp_version.specs.declared.builder.VersionFault.TheVariants as fault
 use Rattle.yp_office.specs.declared.status.Status.{Status}
 use Rattle.yp_office.specs.declared.status.Status.TheVariants.{NoMemory, Rows}
 
--- the number of the rule by which a row is refused
+-- the numbers of the rules by which a row is refused: its key or its value is too long, there are too many rows, or
+-- they have too many bytes
+abbrev pub key_rule : ℕ
+key_rule = 1
+
+abbrev pub value_rule : ℕ
+value_rule = 2
+
+abbrev pub rows_rule : ℕ
+rows_rule = 3
+
+abbrev pub bytes_rule : ℕ
+bytes_rule = 4
+
+-- the rule by which a version refuses a row
 abbrev pub rule_of : VersionFault → ℕ
-rule_of (fault.KeyLong len) = 1
-rule_of (fault.ValueLong len) = 2
-rule_of fault.TooManyRows = 3
-rule_of fault.TooBig = 4
+rule_of (fault.KeyLong len) = key_rule
+rule_of (fault.ValueLong len) = value_rule
+rule_of fault.TooManyRows = rows_rule
+rule_of fault.TooBig = bytes_rule
 rule_of fault.NoMemory = 0
 
 -- the status of a row with this number that is refused

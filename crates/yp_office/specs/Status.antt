@@ -37,33 +37,34 @@ code_of (GenerationsSpent map) = 20
 code_of Enough = 23
 
 -- a line of the program
-abbrev pub line : List ℕ → List ℕ
-line text = codes "yp: " ++ text ++ codes "\n"
+abbrev pub note_line : List ℕ → List ℕ
+note_line text = codes "yp: " ++ text ++ codes "\n"
 
 -- the note of a status, and none where all was done, or the answer is no
 abbrev pub note : Status → List ℕ
 note Done = []
 note No = []
-note (Usage word) = line (codes "usage at word " ++ decimal word)
-note ReadFault = line (codes "read fault")
-note WriteFault = line (codes "write fault")
-note (Torn at) = line (codes "torn record at " ++ decimal at)
-note (TooLong at) = line (codes "too long at " ++ decimal at)
-note NoMemory = line (codes "no memory")
+note (Usage word) = note_line (codes "usage at word " ++ decimal word)
+note ReadFault = note_line (codes "read fault")
+note WriteFault = note_line (codes "write fault")
+note (Torn at) = note_line (codes "torn record at " ++ decimal at)
+note (TooLong at) = note_line (codes "too long at " ++ decimal at)
+note NoMemory = note_line (codes "no memory")
 note (Damaged map at rule) =
-    line (codes "damaged " ++ map_text (name_view map) ++ codes " at " ++ decimal at ++ codes " rule " ++ decimal rule)
-note (NoVersion map) = line (codes "no version of " ++ map_text (name_view map))
-note (DiskFault map) = line (codes "disk fault in " ++ map_text (name_view map))
-note (Yp stat) = line (codes "server says " ++ signed_decimal (stat_number stat))
-note Denied = line (codes "refused by rpc")
-note (BadReply at) = line (codes "bad reply at " ++ decimal at)
-note (BadXid want got) = line (codes "wrong xid " ++ decimal got ++ codes " wanted " ++ decimal want)
-note DialFault = line (codes "cannot dial")
-note (Rows row rule) = line (codes "row " ++ decimal row ++ codes " rule " ++ decimal rule)
-note OrderSpent = line (codes "order spent")
-note (Refused master) = line (codes "mastered by " ++ master.items)
-note (GenerationsSpent map) = line (codes "generations spent in " ++ map_text (name_view map))
-note Enough = line (codes "enough calls")
+    note_line (codes "damaged " ++ map_text (name_view map) ++ codes " at " ++ decimal at
+    ++ codes " rule " ++ decimal rule)
+note (NoVersion map) = note_line (codes "no version of " ++ map_text (name_view map))
+note (DiskFault map) = note_line (codes "disk fault in " ++ map_text (name_view map))
+note (Yp stat) = note_line (codes "server says " ++ signed_decimal (stat_number stat))
+note Denied = note_line (codes "refused by rpc")
+note (BadReply at) = note_line (codes "bad reply at " ++ decimal at)
+note (BadXid want got) = note_line (codes "wrong xid " ++ decimal got ++ codes " wanted " ++ decimal want)
+note DialFault = note_line (codes "cannot dial")
+note (Rows row rule) = note_line (codes "row " ++ decimal row ++ codes " rule " ++ decimal rule)
+note OrderSpent = note_line (codes "order spent")
+note (Refused master) = note_line (codes "mastered by " ++ master.items)
+note (GenerationsSpent map) = note_line (codes "generations spent in " ++ map_text (name_view map))
+note Enough = note_line (codes "enough calls")
 
 -- each name of a status is one that a line has room for
 abbrev pub IsTellable : Status → Type 0

@@ -15,5 +15,5 @@ pub use disks::{Apart, NamedDisk, named_disks, put_together, take_apart};
 pub use file::status_of_file;
 pub use lines::{LINE_MAX, Line, add, add_map, add_number};
 pub use office::Office;
-pub use row::status_of_row;
+pub use row::{BYTES_RULE, KEY_RULE, ROWS_RULE, VALUE_RULE, status_of_row};
 pub use status::Status;

@@ -6,7 +6,7 @@ ghost use Rattle.arrayvec.specs.ArrayVec.{array_vec_len};
 ghost use Rattle.yp_msgs.specs.Statuses.{stat_number};
 ghost use Rattle.yp_board.specs.Catalogues.{name_view};
 ghost use Rattle.yp_office.specs.Lines.{map_text};
-ghost use Rattle.yp_office.specs.Status.{code_of, note, line as note_line, IsTellable};
+ghost use Rattle.yp_office.specs.Status.{code_of, note, note_line, IsTellable};
 ghost use Rattle.yp_words.specs.Words.{IsNamed};
 
 use crate::lines::{Line, add, add_map, add_number};
@@ -48,9 +48,9 @@ pub enum Status {
     BadXid { want: u32, got: u32 },
     /// No connection came.
     DialFault,
-    /// This row is the first past a limit, by this rule: 1 its key is too long, 2 its value is too long, 3 there are too
-    /// many rows, 4 they have too many bytes. The row is the number of its word, counted from 0, of its line, from 1, or
-    /// of a row that a server sent, from 1.
+    /// This row is the first past a limit, by this rule: 1 its key is too long, 2 its value is too long, 3 there are
+    /// too many rows, 4 they have too many bytes. The row is the number of its word, counted from 0, of its line, from
+    /// 1, or of a row that a server sent, from 1.
     Rows { row: u32, rule: u8 },
     /// The stored version has the greatest order that there is.
     OrderSpent,

@@ -16,7 +16,7 @@ use Rattle.yp_publish.specs.Standing.{Level, Kept, Published, IsStanding, IsNumb
 use Rattle.yp_publish.specs.Keeping.{Keeping, LeavesFew, Upholds, IsNotShown}
 use Rattle.yp_publish.specs.Opens.{LeavesNoMore, IsAnother, IsWhatStood, StandsMeanwhile, Opens, IsOpenCause}
 use Rattle.yp_publish.specs.Opens.{IsStillBehind, StaysBehind}
-use Rattle.yp_publish.specs.Installs.{Offer, IsCause, IsUnopposed, IsUnsure, IsUnshown, Leaves, refusal}
+use Rattle.yp_publish.specs.Installs.{Offer, IsCause, IsUnopposed, IsUnsure, IsUnshown, Leaves, install_refusal}
 use Rattle.yp_publish.specs.Rising.{with_shown, moment_of, Reopens}
 use Rattle.yp_publish.proofs.Moments.{weaker, few}
 use Rattle.yp_publish.proofs.Maps.{of_read, of_set, at_set, at_same, elsewhere_set, put_back, Reshown, reopens_done}
@@ -205,11 +205,11 @@ leaves_late keeping number offered why old new late unopposed risen unsure unsho
 pub no_cause_late : {D B : Type 0} (number : ℕ) (offered : Offer) (why : InstallFault) (old : Published D B)
     → (why ≡ fault.DiskFault) ⊎ (why ≡ fault.NoMemory)
     → IsUnopposed number offered old
-    → OfMap number old.maps (λ kept. IsCause why (refusal old.catalogue.own offered kept))
+    → OfMap number old.maps (λ kept. IsCause why (install_refusal old.catalogue.own offered kept))
 no_cause_late number offered why old late unopposed = elim late [
   | inl e ↦ subst (λ (f : InstallFault). OfMap number old.maps
-      (λ kept. IsCause f (refusal old.catalogue.own offered kept))) (sym e) unopposed
+      (λ kept. IsCause f (install_refusal old.catalogue.own offered kept))) (sym e) unopposed
   | inr e ↦ subst (λ (f : InstallFault). OfMap number old.maps
-      (λ kept. IsCause f (refusal old.catalogue.own offered kept))) (sym e)
+      (λ kept. IsCause f (install_refusal old.catalogue.own offered kept))) (sym e)
       (if_some (slice_get old.maps number) (λ kept none. inl none) unopposed)
 ]

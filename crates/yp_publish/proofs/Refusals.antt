@@ -12,7 +12,7 @@ use Rattle.yp_board.specs.Logs.{Log, shown}
 use Rattle.yp_publish.specs.Rising.{IsNewer}
 use Rattle.yp_publish.specs.Standing.{Level, Kept, OfMap, Shows, versions}
 use Rattle.yp_publish.specs.Installs.{Offer, Refusal, IsBehind, HasMaster, IsNotNewer, is_behind, is_foreign}
-use Rattle.yp_publish.specs.Installs.{is_no_newer, not_following, no_further, refusal}
+use Rattle.yp_publish.specs.Installs.{is_no_newer, not_following, no_further, install_refusal}
 
 first_some : (a b : Option Refusal) → IsSome a → option_or a b ≡ a
 first_some None b some = cc
@@ -27,7 +27,7 @@ none_level (Some v) is_none = cc
 pub refusal_from : {D : Type 0} (own : List ℕ) (offered : Offer) (kept : Kept D) (shown : MapVersion)
     → kept.standing ≡ Level → kept.version ≡ Some shown
     → IsSome (not_following own offered (Some shown))
-    → refusal own offered kept ≡ not_following own offered (Some shown)
+    → install_refusal own offered kept ≡ not_following own offered (Some shown)
 refusal_from own offered kept shown level version some =
     rw (level, version) (first_some (not_following own offered (Some shown)) (no_further kept.generation) some)
 
@@ -55,7 +55,7 @@ newer_than own offered (Some shown) none free =
     grind (arith, nat_tests)
 
 -- a version that isn't refused and isn't forced is newer than the one that is shown
-pub newer : {D : Type 0} (own : List ℕ) (offered : Offer) (kept : Kept D) → refusal own offered kept ≡ None
+pub newer : {D : Type 0} (own : List ℕ) (offered : Offer) (kept : Kept D) → install_refusal own offered kept ≡ None
     → offered.force ≡ false → IfSome kept.version (λ last. last.order < offered.version.order)
 newer own offered kept none free =
     newer_than own offered kept.version
@@ -63,14 +63,14 @@ newer own offered kept none free =
     free
 
 newer_than_kept : {D : Type 0} (own : List ℕ) (offered : Offer) (kept : Option (Kept D))
-    → IfSome kept (λ k. refusal own offered k ≡ None) → offered.force ≡ false
+    → IfSome kept (λ k. install_refusal own offered k ≡ None) → offered.force ≡ false
     → IfSome (unwrap_or (option_map (λ (k : Kept D). k.version) kept) None) (λ last. last.order < offered.version.order)
 newer_than_kept own offered None none free = tt
 newer_than_kept own offered (Some kept) none free = newer own offered kept none free
 
 -- the same of what the board shows
 pub newer_shown : {D : Type 0} (own : List ℕ) (offered : Offer) (maps : List (Kept D)) (n : ℕ) (log : Log)
-    → OfMap n maps (λ kept. refusal own offered kept ≡ None) → Shows log (versions maps) → offered.force ≡ false
+    → OfMap n maps (λ kept. install_refusal own offered kept ≡ None) → Shows log (versions maps) → offered.force ≡ false
     → IsNewer n offered.version log
 newer_shown {D} own offered maps n log none shows free =
     let f : Kept D → Option MapVersion = λ kept. kept.version in

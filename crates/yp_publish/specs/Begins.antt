@@ -13,7 +13,7 @@ use Rattle.yp_publish.specs.Standing.{Published, versions}
 use Rattle.yp_publish.specs.Opens.{IsOpened, IsStopped, LeavesNoMore}
 
 -- Each map is level with what its disk stood for, and exactly that is shown.
-pub record IsBegun {D : Type 0} (history : D → Option History) (faults : D → ℕ) (served : Catalogue)
+pub record BeginsLevel {D : Type 0} (history : D → Option History) (faults : D → ℕ) (served : Catalogue)
     (disks : List D) (begun : Published D Seen) : Type 0 where
   pub catalogue : begun.catalogue ≡ served
   pub opened : AllZip (IsOpened history faults) disks begun.maps

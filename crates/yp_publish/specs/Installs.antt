@@ -58,8 +58,8 @@ abbrev pub no_further : ℕ → Option Refusal
 no_further generation = if generation == generation_max then Some IsSpent else None
 
 -- why a version isn't installed, the first reason that applies
-abbrev pub refusal : {D : Type 0} → List ℕ → Offer → Kept D → Option Refusal
-refusal own offered kept =
+abbrev pub install_refusal : {D : Type 0} → List ℕ → Offer → Kept D → Option Refusal
+install_refusal own offered kept =
     if is_behind kept.standing then Some IsBehind
     else option_or (not_following own offered kept.version) (no_further kept.generation)
 
@@ -96,7 +96,7 @@ LeavesEither history version before after =
 -- nothing stands against an offered version
 abbrev pub IsUnopposed : {D B : Type 0} → ℕ → Offer → Published D B → Type 0
 IsUnopposed number offered published =
-    OfMap number published.maps (λ kept. refusal published.catalogue.own offered kept ≡ None)
+    OfMap number published.maps (λ kept. install_refusal published.catalogue.own offered kept ≡ None)
 
 -- The disk failed, and the version may be stored or not.
 pub record FailsOnDisk {D B : Type 0} (keeping : Keeping D B) (number : ℕ) (offered : Offer)
@@ -140,7 +140,7 @@ pub record Installs {D B : Type 0} (keeping : Keeping D B) (number : ℕ) (offer
 pub record Refuses {D B : Type 0} (keeping : Keeping D B) (number : ℕ) (offered : Offer) (fault : InstallFault)
     (old new : Published D B) : Type 0 where
   pub upheld : Upholds keeping number old new
-  pub cause : OfMap number old.maps (λ kept. IsCause fault (refusal old.catalogue.own offered kept))
+  pub cause : OfMap number old.maps (λ kept. IsCause fault (install_refusal old.catalogue.own offered kept))
   pub left : Leaves keeping number offered fault old new
   pub meanwhile : At number old.maps new.maps (LeavesEither keeping.history offered.version)
   pub rising : GoesOnRising keeping number offered old new

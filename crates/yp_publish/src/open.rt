@@ -4,7 +4,7 @@ ghost use Rattle.std.specs.Prelude.{◌≡◌, length, IfOk, IfErr};
 ghost use Rattle.std.specs.List.{AllZip};
 ghost use Rattle.yp_board.specs.Logs.{starts};
 ghost use Rattle.yp_publish.specs.Standing.{versions};
-ghost use Rattle.yp_publish.specs.Begins.{open_fault, plain_log, IsBegun, IsUnwritten, IsUnopened};
+ghost use Rattle.yp_publish.specs.Begins.{open_fault, plain_log, BeginsLevel, IsUnwritten, IsUnopened};
 ghost use Rattle.yp_publish.specs.Rising.{moment_of, IsStart};
 
 use crate::laws::{beginning_is_start, starts_are_shown};
@@ -42,7 +42,7 @@ pub fn open_publisher<D: Disk>(
     disks: Vec<D>,
 ) -> Result<Publisher<D, PlainBoard>, OpenRefused<D>>
     requires { length disks.items ≡ length catalog.maps }
-    ensures begun { IfOk result (IsBegun D.history D.faults catalog disks.items) }
+    ensures begun { IfOk result (BeginsLevel D.history D.faults catalog disks.items) }
 
     // From here on the log rises.
     ensures start { IfOk result (λ publisher. IsStart (moment_of plain_log publisher)) }

@@ -10,7 +10,7 @@ ghost use Rattle.yp_slot.specs.Commits.{generation_max};
 ghost use Rattle.yp_board.specs.Logs.{shown};
 ghost use Rattle.yp_publish.specs.Standing.{Level, IsStanding, IsNumbered, OfMap, At, versions, Shows, standing_name};
 ghost use Rattle.yp_publish.specs.Keeping.{keeping_of, Upholds};
-ghost use Rattle.yp_publish.specs.Installs.{offer, refusal, IsCause, IsUnopposed, IsInstalled, IsUnsure, IsUnshown};
+ghost use Rattle.yp_publish.specs.Installs.{offer, install_refusal, IsCause, IsUnopposed, IsInstalled, IsUnsure, IsUnshown};
 ghost use Rattle.yp_publish.specs.Installs.{LeavesEither, Installs, Refuses};
 ghost use Rattle.yp_publish.specs.Opens.{IsAnother, Opens, StaysBehind};
 ghost use Rattle.yp_publish.specs.Rising.{moment_of, with_shown, Stores};
@@ -178,7 +178,7 @@ impl<D: Disk, B: Show> Publisher<D, B> {
         requires { map < length self.now.maps }
         ensures unopposed { OnOk result (IsUnopposed map (offer version.now origin force) self.now) }
         ensures refused { IfErr result (λ fault. OfMap map self.now.maps
-            (λ kept. IsCause fault (refusal self.now.catalogue.own (offer version.now origin force) kept))) }
+            (λ kept. IsCause fault (install_refusal self.now.catalogue.own (offer version.now origin force) kept))) }
         ensures no_disk { IsErrOf result InstallFault.DiskFault → ⊥ }
         ensures generation { OnOk result (OfMap map self.now.maps (λ kept. kept.generation < generation_max)) }
 

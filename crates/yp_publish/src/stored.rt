@@ -13,7 +13,7 @@ ghost use Rattle.yp_slot.specs.Stands.{stands};
 ghost use Rattle.yp_publish.specs.Standing.{Level, Behind, IsStanding, IsNumbered, standing_name};
 ghost use Rattle.yp_publish.specs.Keeping.{keeping_of, LeavesFew};
 ghost use Rattle.yp_publish.specs.Shared.{LoadsShared};
-ghost use Rattle.yp_publish.specs.Installs.{offer, refusal, not_following, IsCause};
+ghost use Rattle.yp_publish.specs.Installs.{offer, install_refusal, not_following, IsCause};
 ghost use Rattle.yp_publish.specs.Installs.{IsInstalled, IsUnsure, IsUnshown, LeavesEither};
 ghost use Rattle.yp_publish.specs.Opens.{IsOpened, IsRefused, IsAnother, IsWhatStood, LeavesNoMore};
 ghost use Rattle.yp_publish.specs.Opens.{IsGenerationLeft, IsStillBehind, IsOpenCause};
@@ -150,9 +150,9 @@ impl<D: Disk> StoredMap<D> {
         origin: Origin,
         force: bool,
     ) -> Result<(), InstallFault>
-        ensures accepted { OnOk result (refusal own.now (offer version.now origin force) self.now ≡ None) }
+        ensures accepted { OnOk result (install_refusal own.now (offer version.now origin force) self.now ≡ None) }
         ensures refused { IfErr result (λ fault.
-            IsCause fault (refusal own.now (offer version.now origin force) self.now)) }
+            IsCause fault (install_refusal own.now (offer version.now origin force) self.now)) }
         ensures generation { OnOk result (self.now.generation < generation_max) }
         ensures no_disk { IsErrOf result InstallFault.DiskFault → ⊥ }
     {

@@ -19,7 +19,7 @@ use Rattle.yp_query.specs.declared.fault.QueryFault.TheVariants.{Dial, Output, N
 use Rattle.yp_question.specs.declared.question.Question.TheVariants.{Cat, Catk, Match, Which, Poll, Maps}
 use Rattle.yp_question.specs.Questions.{ByteQuestion}
 use Rattle.yp_query.specs.Faults.{query_fault, match_fault, IsTellable}
-use Rattle.yp_query.specs.Asked.{Outcome, meant_by, IsInMemory, Makes, no_rows, TakesRows, MakesMaster, MakesCalls}
+use Rattle.yp_query.specs.Asked.{Outcome, meant_by, IsInMemory, CallIsMade, no_rows, TakesRows, MakesMaster, MakesCalls}
 use Rattle.yp_query.specs.Asked.{Converses}
 use Rattle.yp_query.specs.Scenes.{Exchanges, Dials, Prints}
 
@@ -61,7 +61,7 @@ makes_tells : {X : Type 0} (limit : ℕ) (call : ℕ → List ℕ) (answers : �
     (means : ClientFault → QueryFault) (text : X → List ℕ) (outcome : Outcome) (old new : ClientState)
     → old.spent ≡ false
     → ((fault : ClientFault) → (fault ≡ client_faults.Spent → ⊥) → IsTellable (means fault))
-    → Makes limit call answers (meant_by means text) outcome old new → MayTell outcome
+    → CallIsMade limit call answers (meant_by means text) outcome old new → MayTell outcome
 makes_tells {X} limit call answers means text outcome old new fresh k h =
     let P : Result X ClientFault → Type 0 = λ r. Calls limit call answers r old new in
     meant_tells means text h.answer outcome

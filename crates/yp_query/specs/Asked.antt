@@ -32,8 +32,9 @@ IsInMemory meant (Err NoMemory) = ⊤
 IsInMemory meant outcome = outcome ≡ meant
 
 -- One call was made, whose reply has at most so many bytes, and came to this.
-pub record Makes {X : Type 0} (limit : ℕ) (call : ℕ → List ℕ) (answers : ℕ → List ℕ → Result X ClientFault → Type 0)
-    (means : Result X ClientFault → Outcome) (outcome : Outcome) (old new : ClientState) : Type 0 where
+pub record CallIsMade {X : Type 0} (limit : ℕ) (call : ℕ → List ℕ)
+    (answers : ℕ → List ℕ → Result X ClientFault → Type 0) (means : Result X ClientFault → Outcome)
+    (outcome : Outcome) (old new : ClientState) : Type 0 where
   pub answer : Result X ClientFault
   pub calls : Calls limit call answers answer old new
   pub meant : IsInMemory (means answer) outcome
@@ -45,13 +46,13 @@ no_rows = record { order = 0; master = []; rows = [] }
 -- ALL was made for the rows of a version: their text, with keys or without, or the number of a row that none takes
 pub record TakesRows (keyed : Bool) (domain map : List ℕ) (outcome : Outcome) (old new : ClientState) : Type 0 where
   pub draft : Draft
-  pub makes : Makes all_max (all_call domain map) (SaysAll no_rows draft)
+  pub makes : CallIsMade all_max (all_call domain map) (SaysAll no_rows draft)
       (meant_by query_fault (λ _. rows_text keyed (listed draft.rows))) outcome old new
 
 -- MASTER follows an order number, and nothing a fault.
 abbrev pub MakesMaster : List ℕ → List ℕ → Result ℕ ClientFault → Outcome → ClientState → ClientState → Type 0
 MakesMaster domain map (Ok order) outcome old new =
-    Makes reply_max (master_call domain map) (SaysBytes master_of)
+    CallIsMade reply_max (master_call domain map) (SaysBytes master_of)
     (meant_by query_fault (λ master. standing_text order master.now)) outcome old new
 MakesMaster domain map (Err fault) outcome old new = (outcome ≡ Err (query_fault fault)) × (new ≡ old)
 
@@ -67,14 +68,14 @@ abbrev pub MakesCalls : ByteQuestion → Outcome → ClientState → ClientState
 MakesCalls (Cat domain map) outcome old new = TakesRows false domain map outcome old new
 MakesCalls (Catk domain map) outcome old new = TakesRows true domain map outcome old new
 MakesCalls (Match domain map key) outcome old new =
-    Makes reply_max (match_call domain map key) (SaysBytes value_of)
+    CallIsMade reply_max (match_call domain map key) (SaysBytes value_of)
     (meant_by match_fault (λ value. line value.now)) outcome old new
 MakesCalls (Which domain map) outcome old new =
-    Makes reply_max (master_call domain map) (SaysBytes master_of)
+    CallIsMade reply_max (master_call domain map) (SaysBytes master_of)
     (meant_by query_fault (λ master. line master.now)) outcome old new
 MakesCalls (Poll domain map) outcome old new = Polls domain map outcome old new
 MakesCalls (Maps domain) outcome old new =
-    Makes reply_max (maplist_call domain) (SaysNames maps_of)
+    CallIsMade reply_max (maplist_call domain) (SaysNames maps_of)
     (meant_by query_fault (λ list. lines list.maps)) outcome old new
 
 -- These calls were made, or none for want of memory.

@@ -9,7 +9,7 @@ ghost use Rattle.yp_client.specs.States.{state_of};
 ghost use Rattle.yp_query.specs.Lines.{line, lines};
 ghost use Rattle.yp_question.specs.Questions.{bytes_of, QuestionIsWithin};
 ghost use Rattle.yp_query.specs.Faults.{query_fault, match_fault};
-ghost use Rattle.yp_query.specs.Asked.{meant_by, Makes, TakesRows, Polls, IsUnlessMemory, Converses};
+ghost use Rattle.yp_query.specs.Asked.{meant_by, CallIsMade, TakesRows, Polls, IsUnlessMemory, Converses};
 ghost use Rattle.yp_client.specs.Limits.{reply_max};
 ghost use Rattle.yp_query.specs.Answers.{outcome_of};
 
@@ -100,7 +100,7 @@ fn ask_value<S: Source, K: Sink>(
     requires domain { length domain.now ≤ name_max }
     requires map { length map.now ≤ name_max }
     requires key { length key.now ≤ key_max }
-    ensures { Makes reply_max (match_call domain.now map.now key.now) (SaysBytes value_of)
+    ensures { CallIsMade reply_max (match_call domain.now map.now key.now) (SaysBytes value_of)
         (meant_by match_fault (λ value. line value.now)) (outcome_of result)
         (state_of S.Source K.Sink client.old) (state_of S.Source K.Sink client.new) }
 {
@@ -118,7 +118,7 @@ fn ask_master<S: Source, K: Sink>(
 ) -> Result<Answer, QueryFault>
     requires domain { length domain.now ≤ name_max }
     requires map { length map.now ≤ name_max }
-    ensures { Makes reply_max (master_call domain.now map.now) (SaysBytes master_of)
+    ensures { CallIsMade reply_max (master_call domain.now map.now) (SaysBytes master_of)
         (meant_by query_fault (λ master. line master.now)) (outcome_of result)
         (state_of S.Source K.Sink client.old) (state_of S.Source K.Sink client.new) }
 {
@@ -158,7 +158,7 @@ fn ask_maps<S: Source, K: Sink>(
     domain: &[u8],
 ) -> Result<Answer, QueryFault>
     requires { length domain.now ≤ name_max }
-    ensures { Makes reply_max (maplist_call domain.now) (SaysNames maps_of)
+    ensures { CallIsMade reply_max (maplist_call domain.now) (SaysNames maps_of)
         (meant_by query_fault (λ list. lines list.maps)) (outcome_of result)
         (state_of S.Source K.Sink client.old) (state_of S.Source K.Sink client.new) }
 {

@@ -9,7 +9,7 @@ use Rattle.yp_slot.specs.declared.fault.SlotFault.TheVariants as slot
 use Rattle.yp_board.specs.Catalogues.{Catalogue}
 use Rattle.yp_board.specs.Logs.{Log, shown}
 use Rattle.yp_board.specs.Views.{IsFront}
-use Rattle.yp_build.specs.Kinds.{text_of}
+use Rattle.yp_build.specs.Kinds.{file_of}
 use Rattle.yp_build.specs.After.{HasFault, other_master, built_after, IsOver}
 use Rattle.yp_answer.specs.declared.make.Job.{Job}
 use Rattle.yp_publish.specs.declared.install.InstallFault.{InstallFault}
@@ -98,8 +98,8 @@ module _ {D B E : Type 0} (keeping : Keeping D B) (telling : Telling E) (job : J
       (log, front_to middle same, master.0, master.1)
   unbuilt Age middle opens same none = (keeping.log middle.board, front_to middle same, none.1)
   unbuilt Dbm middle opens same none =
-      of_old (λ own. IfSome ((telling.told old.desk).text (text_of job.kind)) (causes.HasBadRow own job)) middle opens
-      (bad_row middle.catalogue.own (keeping.log middle.board) none.1 ((telling.told old.desk).text (text_of job.kind)) none.1.of_told.text)
+      of_old (λ own. IfSome ((telling.told old.desk).text (file_of job.kind)) (causes.HasBadRow own job)) middle opens
+      (bad_row middle.catalogue.own (keeping.log middle.board) none.1 ((telling.told old.desk).text (file_of job.kind)) none.1.of_told.text)
   unbuilt File middle opens same none = tt
   unbuilt Rsrc middle opens same none = tt
   unbuilt Succ middle opens same none = absurd none

@@ -7,7 +7,7 @@ use Rattle.yp_msgs.specs.declared.transfer.XfrStat.{XfrStat}
 use Rattle.yp_version.specs.Versions.{MapVersion}
 use Rattle.yp_board.specs.Catalogues.{Catalogue}
 use Rattle.yp_board.specs.Logs.{shown}
-use Rattle.yp_build.specs.Kinds.{text_of}
+use Rattle.yp_build.specs.Kinds.{file_of}
 use Rattle.yp_publish.specs.Standing.{Published}
 use Rattle.yp_answer.specs.declared.procedure.Path.TheVariants.{Stream}
 use Rattle.yp_answer.specs.Answers.{StepsWhere}
@@ -46,7 +46,7 @@ anew_before : (first now : Told) (site : Basis) (version : MapVersion) → Tells
 anew_before first now site version same anew = record {
   material = anew.material;
   of_told = record {
-    text = subst (λ (o : Option (List ℕ)). IfSome o (λ text. anew.material.text ≡ text)) (same.texts (text_of site.kind)) anew.of_told.text;
+    text = subst (λ (o : Option (List ℕ)). IfSome o (λ text. anew.material.text ≡ text)) (same.texts (file_of site.kind)) anew.of_told.text;
     moment = subst (λ (o : Option ℕ). IfSome o (λ moment. anew.material.moment ≡ moment)) same.moment anew.of_told.moment;
   };
   built = anew.built;

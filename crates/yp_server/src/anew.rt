@@ -5,7 +5,7 @@ ghost use Rattle.yp_io.specs.Counts.{HasRisen};
 ghost use Rattle.yp_io.specs.Texts.{text_max};
 ghost use Rattle.yp_io.specs.declared.texts.TextFile.{TextFile};
 ghost use Rattle.yp_version.specs.Limits.{master_max};
-ghost use Rattle.yp_build.specs.Kinds.{text_of};
+ghost use Rattle.yp_build.specs.Kinds.{file_of};
 ghost use Rattle.yp_publish.specs.declared.install.Origin.TheVariants.{Built};
 ghost use Rattle.yp_publish.specs.Installs.{offer, not_following};
 ghost use Rattle.yp_server.specs.Locals.{told_by, telling_of, IsUsed};
@@ -56,7 +56,7 @@ pub(crate) fn build_anew<T: Texts, C: Clock>(
 
 /// The text of a kind.
 fn read_text<T: Texts>(alloc: Global, texts: &mut T, kind: Kind) -> Result<Vec<u8>, XfrStat>
-    ensures text { IfOk result (λ text. IfSome (T.text texts.old (text_of kind)) (λ told. text.items ≡ told)) }
+    ensures text { IfOk result (λ text. IfSome (T.text texts.old (file_of kind)) (λ told. text.items ≡ told)) }
     ensures limit { IfOk result (λ text. length text.items ≤ text_max) }
     ensures fault { IfErr result (λ stat. (stat ≡ XfrStat.Rsrc)
         ⊎ ((stat ≡ XfrStat.File) × HasRisen (T.faults texts.old) (T.faults texts.new))) }

@@ -3,9 +3,9 @@
 //! That every reply rests on one published state, and what a crash leaves of each map at any moment, stands on
 //! [`serve_wire`], from the loading of the files to the handing back of their disks.
 //!
-//! What the making of a map does to the maps, their files and the board, and with which status, stands on
-//! [`LocalHost`] as a [`Host`](yp_session::Host): the relation `made` of its `make`. Its steps, one for each reason why a
-//! map isn't made, have contracts of their own.
+//! What the making of a map does to the maps, their files and the board, and with which status, stands on [`LocalHost`]
+//! as a [`Host`](yp_session::Host): the relation `made` of its `make`. Its steps, one for each reason why a map isn't
+//! made, have contracts of their own.
 #![tactic(auto)]
 
 mod anew;

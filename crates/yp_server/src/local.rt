@@ -64,8 +64,8 @@ impl<D: Disk, B: Show, T: Texts, C: Clock, R: RandomSource + Drop> Model
 }
 
 impl<D: Disk, B: Show, T: Texts, C: Clock, R: RandomSource + Drop> LocalHost<D, B, T, C, R> {
-    /// A host over the maps of a publisher, with a copy of the publisher's catalogue. Its memory is taken by `alloc`, and
-    /// the tables of its builds are made with the randomness of `rt`.
+    /// A host over the maps of a publisher, with a copy of the publisher's catalogue. Its memory is taken by `alloc`,
+    /// and the tables of its builds are made with the randomness of `rt`.
     pub fn new(
         alloc: Global,
         rt: R,

@@ -9,7 +9,7 @@ use Rattle.yp_session.specs.declared.session.TheConstants.{CALLS_MAX}
 use Rattle.yp_session.specs.Hosts.{Conduct}
 use Rattle.yp_session.specs.Wires.{Wire}
 use Rattle.yp_session.specs.Runs.{Dialogue, Runs}
-use Rattle.yp_serving.specs.Served.{Begins, IsStatusOf, status_of, place_of}
+use Rattle.yp_serving.specs.Served.{Begins, IsStatusOf, status_of, rest_place}
 use Rattle.yp_serving.proofs.Told.{Reaches, read_by, reached}
 
 -- What the laws of records say, for the limit of a call.
@@ -50,12 +50,12 @@ module _ (laws : CutLaws) (stream : List ℕ) (messages : List (List ℕ)) (rest
     status_of_end (ends.Torn at) runs reads writes =
         let r = reaches (ends.Torn at) runs in
         let same = same_cut _ r.0 r.1 r.2 in
-        (same.0, subst (IsTorn record_max) same.1 r.3, r.4 ∙ ap (place_of stream) same.1)
+        (same.0, subst (IsTorn record_max) same.1 r.3, r.4 ∙ ap (rest_place stream) same.1)
     status_of_end (ends.TooLong at) runs reads writes =
         let r = reaches (ends.TooLong at) runs in
         let long : IsLong record_max (r.0 ++ r.1) = (r.0, r.1, r.4, refl) in
         let same = same_cut _ (r.0 ++ r.1) r.2 r.3 in
-        (same.0, subst (IsLong record_max) same.1 long, r.5 ∙ ap (place_of stream) same.1)
+        (same.0, subst (IsLong record_max) same.1 long, r.5 ∙ ap (rest_place stream) same.1)
     status_of_end ends.ReadFault runs reads writes = absurd (reads refl)
     status_of_end ends.WriteFault runs reads writes = absurd (writes refl)
     status_of_end ends.Enough runs reads writes =

@@ -10,7 +10,7 @@ use Rattle.yp_office.specs.declared.office.Office.{Office}
 use Rattle.yp_office.specs.declared.status.Status.{Status}
 use Rattle.yp_office.specs.declared.status.Status.TheVariants.{ReadFault, WriteFault, DiskFault, NoMemory, Rows}
 use Rattle.yp_office.specs.Seeing.{Seeing, input, HasCauses}
-use Rattle.yp_serving.specs.Served.{Serves, IsWatched, traffic_of, wire}
+use Rattle.yp_serving.specs.Served.{ServesInput, IsWatched, traffic_of, wire}
 use Rattle.yp_serving.specs.Once.{once_maps, once_board, rows_fault, IsRows, OnceDoes}
 
 -- all that is told stays told
@@ -24,7 +24,7 @@ rows_same row rule row' rule' e =
     ap (λ (fault : ℕ × ℕ). Rows fault.0 fault.1) same
 
 module _ {S K D C A T : Type 0} (seen : Seeing S K D C A T) (store : Name) (rows : List Row) (office : Office S K D C A T) (seen_before : List Wire) where
-  no_stream : (told : Option (List ℕ)) → input seen office ≡ told → IfSome told (λ stream. Serves (once_maps store rows) NoMemory stream (traffic_of seen office office))
+  no_stream : (told : Option (List ℕ)) → input seen office ≡ told → IfSome told (λ stream. ServesInput (once_maps store rows) NoMemory stream (traffic_of seen office office))
   no_stream None e = tt
   no_stream (Some stream) e = (e, keeps _)
 

@@ -4,7 +4,7 @@ use Rattle.std.specs.Prelude.{is_some}
 use Rattle.yp_version.specs.Rows.{Row, value_of, listed}
 use Rattle.yp_version.specs.Versions.{MapVersion}
 use Rattle.yp_version.specs.Drafts.{Draft, with_row, with_rows}
-use Rattle.yp_serving.specs.Once.{empty_draft, once_version}
+use Rattle.yp_serving.specs.Once.{once_draft, once_version}
 
 -- a row leaves the order and the master
 row_keeps : (draft : Draft) (row : Row) → ((with_row draft row).order ≡ draft.order) × ((with_row draft row).master ≡ draft.master)
@@ -24,11 +24,11 @@ rows_keep draft (row ∷ rows) =
     (rest.0 ∙ first.0, rest.1 ∙ first.1)
 
 -- what is finished is the version of the rows
-pub once_finished : (rows : List Row) (start draft : Draft) (version : MapVersion) → start ≡ empty_draft → draft ≡ with_rows start rows
+pub once_finished : (rows : List Row) (start draft : Draft) (version : MapVersion) → start ≡ once_draft → draft ≡ with_rows start rows
     → version ≡ record { order = draft.order; master = draft.master; secure = false; rows = listed draft.rows } → version ≡ once_version rows
 once_finished rows start draft version begins pushed is =
-    let all : draft ≡ with_rows empty_draft rows = pushed ∙ ap (λ (d : Draft). with_rows d rows) begins in
-    let kept = rows_keep empty_draft rows in
+    let all : draft ≡ with_rows once_draft rows = pushed ∙ ap (λ (d : Draft). with_rows d rows) begins in
+    let kept = rows_keep once_draft rows in
     is ∙ ap (λ (d : Draft). record { order = d.order; master = d.master; secure = false; rows = listed d.rows }) all
-    ∙ ap (λ (order : ℕ). record { order = order; master = (with_rows empty_draft rows).master; secure = false; rows = listed (with_rows empty_draft rows).rows }) kept.0
-    ∙ ap (λ (master : List ℕ). record { order = 1; master = master; secure = false; rows = listed (with_rows empty_draft rows).rows }) kept.1
+    ∙ ap (λ (order : ℕ). record { order = order; master = (with_rows once_draft rows).master; secure = false; rows = listed (with_rows once_draft rows).rows }) kept.0
+    ∙ ap (λ (master : List ℕ). record { order = 1; master = master; secure = false; rows = listed (with_rows once_draft rows).rows }) kept.1

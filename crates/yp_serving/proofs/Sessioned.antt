@@ -28,12 +28,12 @@ use Rattle.yp_words.specs.Words.{IsNamed}
 use Rattle.yp_office.specs.Files.{Fails}
 use Rattle.yp_serving.specs.Served.{status_of}
 use Rattle.yp_office.specs.Disks.{disks_of, total_faults, faults_of}
-use Rattle.yp_serving.specs.Session.{Declines, Sessions, Tells}
+use Rattle.yp_serving.specs.Session.{Declines, Sessions, TellsEnd}
 
 -- ---- its status
 
 -- the end of a session has its status
-end_told : {D B E : Type 0} (service : Service D B E) (end : End) (status : Status) (old new : Connection D E) (wires : List Wire) → Serves service end old new wires → Tells (Ok end) [] status
+end_told : {D B E : Type 0} (service : Service D B E) (end : End) (status : Status) (old new : Connection D E) (wires : List Wire) → Serves service end old new wires → TellsEnd (Ok end) [] status
     → Sessions service status old new wires
 end_told service ends.Clean status old new wires serves is = subst (λ s. Sessions service s old new wires) (sym is) serves
 end_told service (ends.Torn at) status old new wires serves is = subst (λ s. Sessions service s old new wires) (sym is) serves
@@ -66,7 +66,7 @@ fault_told service number why store status old new declines found fails = absurd
 
 -- what wasn't served is told
 unserved_told : {D B E : Type 0} (service : Service D B E) (why : Unserved) (names : List Name) (status : Status) (old new : Connection D E) → service.catalogue.maps ≡ names
-    → Declines service why old new [] → Tells (Err why) names status → Sessions service status old new []
+    → Declines service why old new [] → TellsEnd (Err why) names status → Sessions service status old new []
 unserved_told service unserved.NoMemory names status old new same declines is = memory_told service unserved.NoMemory status old new declines is
 unserved_told service (unserved.Refused number why) names status old new same declines (inl is) = memory_told service (unserved.Refused number why) status old new declines is
 unserved_told service (unserved.Refused number why) names status old new same declines (inr (store, found, fails)) =
@@ -74,7 +74,7 @@ unserved_told service (unserved.Refused number why) names status old new same de
 
 -- what was served or not is told, with what a witness saw
 session_told : {D B E : Type 0} (service : Service D B E) (served : Result End Unserved) (names : List Name) (status : Status) (old new : Connection D E) (before after : List Wire) → service.catalogue.maps ≡ names
-    → IfOk served (λ end. Grows before after (Serves service end old new)) → IfErr served (λ why. Declines service why old new []) → OnErr served (after ≡ before) → Tells served names status
+    → IfOk served (λ end. Grows before after (Serves service end old new)) → IfErr served (λ why. Declines service why old new []) → OnErr served (after ≡ before) → TellsEnd served names status
     → Grows before after (Sessions service status old new)
 session_told service (Ok end) names status old new before after same serves declines unseen is =
     record { more = serves.more; behind = serves.behind; done = end_told service end status old new serves.more serves.done is }
@@ -135,7 +135,7 @@ end_no_fault ends.WriteFault map e = cc
 end_no_fault ends.Enough map e = cc
 
 pub fault_risen : {D : Type 0} (history : D → Option History) (faults : D → ℕ) (served : Result End Unserved) (names : List Name) (status : Status) (map : MapName) (old new : List (NamedDisk D))
-    → Tells served names status → status ≡ DiskFault map → IfErr served (λ why. IsUnserved history faults why (disks_of old) (disks_of new)) → HasRisen (faults_of faults old) (faults_of faults new)
+    → TellsEnd served names status → status ≡ DiskFault map → IfErr served (λ why. IsUnserved history faults why (disks_of old) (disks_of new)) → HasRisen (faults_of faults old) (faults_of faults new)
 fault_risen history faults (Ok end) names status map old new tells e cause = absurd (end_no_fault end map (sym tells ∙ e))
 fault_risen history faults (Err unserved.NoMemory) names status map old new tells e cause = absurd (let none : NoMemory ≡ DiskFault map = sym tells ∙ e in cc)
 fault_risen history faults (Err (unserved.Refused number why)) names status map old new (inl tells) e cause = absurd (let none : NoMemory ≡ DiskFault map = sym tells ∙ e in cc)
@@ -146,10 +146,10 @@ fault_risen history faults (Err (unserved.Refused number fault.NoMemory)) names 
     absurd (subst (λ s. Fails store fault.NoMemory s) e fails)
 
 -- a write fault is told as one
-pub write_told : (served : Result End Unserved) (names : List Name) (status : Status) → served ≡ Ok ends.WriteFault → Tells served names status → status ≡ WriteFault
-write_told served names status e tells = subst (λ (s : Result End Unserved). Tells s names status) e tells
+pub write_told : (served : Result End Unserved) (names : List Name) (status : Status) → served ≡ Ok ends.WriteFault → TellsEnd served names status → status ≡ WriteFault
+write_told served names status e tells = subst (λ (s : Result End Unserved). TellsEnd s names status) e tells
 
-pub read_told : (served : Result End Unserved) (names : List Name) (status : Status) → Tells served names status → status ≡ ReadFault → served ≡ Ok ends.ReadFault
+pub read_told : (served : Result End Unserved) (names : List Name) (status : Status) → TellsEnd served names status → status ≡ ReadFault → served ≡ Ok ends.ReadFault
 read_told (Ok ends.Clean) names status tells e = absurd (let none : Done ≡ ReadFault = sym tells ∙ e in cc)
 read_told (Ok (ends.Torn at)) names status tells e = absurd (let none : Torn at ≡ ReadFault = sym tells ∙ e in cc)
 read_told (Ok (ends.TooLong at)) names status tells e = absurd (let none : TooLong at ≡ ReadFault = sym tells ∙ e in cc)
@@ -198,7 +198,7 @@ pub session_served : {D B E : Type 0} (keeping : Keeping D B) (telling : Telling
     (old new : Connection D E) (first last : List Wire) (before after : List (NamedDisk D)) → IsNamedSo catalogue given names old.disks new.disks before after
     → IfOk served (λ end. Grows first last (Serves (service_of keeping telling catalogue peer) end old new))
     → IfErr served (λ why. IsUnserved keeping.history keeping.faults why old.disks new.disks) → OnErr served (new.wire ≡ old.wire) → OnErr served (new.desk ≡ old.desk)
-    → OnErr served (last ≡ first) → OnErr served ((number : ℕ) → AtDisk number old.disks new.disks (LeavesNoMore keeping.history)) → Tells served names status
+    → OnErr served (last ≡ first) → OnErr served ((number : ℕ) → AtDisk number old.disks new.disks (LeavesNoMore keeping.history)) → TellsEnd served names status
     → Grows first last (Sessions (service_of keeping telling given peer) status (record old { disks = disks_of before }) (record new { disks = disks_of after }))
 session_served {D} {B} {E} keeping telling catalogue given peer served names status old new first last before after is serves cause wire desk unseen unwritten tells =
     let service = service_of keeping telling catalogue peer in

@@ -21,8 +21,9 @@ use Rattle.yp_session.specs.declared.session.TheConstants.{CALLS_MAX}
 use Rattle.yp_session.specs.Hosts.{Conduct, Turn, Carries, Link}
 use Rattle.yp_session.specs.Wires.{Wire}
 use Rattle.yp_session.specs.Runs.{Dialogue, Chain, Runs, sent_reply}
-use Rattle.yp_serving.specs.Callers.{nobody, reply_to}
-use Rattle.yp_serving.specs.Served.{Traffic, Begins, AnswersInPart, Serves, status_of, place_of, answer_to, answers}
+use Rattle.yp_words.specs.Words.{nobody}
+use Rattle.yp_serving.specs.Callers.{reply_to}
+use Rattle.yp_serving.specs.Served.{Traffic, Begins, AnswersInPart, ServesInput, status_of, rest_place, answer_to, answers}
 
 -- ---- told bytes
 
@@ -81,7 +82,7 @@ cut_from [] stream rest h end = (h, end)
 cut_from (message ∷ messages) stream rest h end = (h.0, h.1, h.2, h.3, cut_from messages h.1 rest h.4 end)
 
 -- the place of a rest, counted from the front
-place_is : (stream rest : List ℕ) (place : ℕ) → place ≡ min (0 + (length stream - length rest)) last_count → place ≡ place_of stream rest
+place_is : (stream rest : List ℕ) (place : ℕ) → place ≡ min (0 + (length stream - length rest)) last_count → place ≡ rest_place stream rest
 place_is stream rest place h = omega (arith, h)
 
 -- ---- a run
@@ -94,9 +95,9 @@ ReadsPast stream messages left = (part rest : List ℕ) × Begins stream message
 abbrev pub Reaches : End → List ℕ → List (List ℕ) → Option (List ℕ) → Type 0
 Reaches ends.Clean stream messages left = Cut record_max stream messages [] × (length messages < CALLS_MAX) × (left ≡ Some [])
 Reaches (ends.Torn at) stream messages left =
-    (rest : List ℕ) × Cut record_max stream messages rest × (length messages < CALLS_MAX) × IsTorn record_max rest × (at ≡ place_of stream rest) × (left ≡ Some [])
+    (rest : List ℕ) × Cut record_max stream messages rest × (length messages < CALLS_MAX) × IsTorn record_max rest × (at ≡ rest_place stream rest) × (left ≡ Some [])
 Reaches (ends.TooLong at) stream messages left =
-    (front more : List ℕ) × Cut record_max stream messages (front ++ more) × (length messages < CALLS_MAX) × IsTooLong record_max front × (at ≡ place_of stream (front ++ more)) × (left ≡ Some more)
+    (front more : List ℕ) × Cut record_max stream messages (front ++ more) × (length messages < CALLS_MAX) × IsTooLong record_max front × (at ≡ rest_place stream (front ++ more)) × (left ≡ Some more)
 Reaches ends.ReadFault stream messages left = ReadsPast stream messages left
 Reaches ends.WriteFault stream messages left = ReadsPast stream messages left
 Reaches ends.Enough stream messages left = ReadsPast stream messages left × (length messages ≡ CALLS_MAX)
@@ -137,7 +138,7 @@ module _ {H : Type 0} (conduct : Conduct H) (peer : Peer) (old new : Dialogue H)
         cut_from (messages_of runs.answered) stream torn (rw whole at t.begins) (inr (inl e.2)),
         omega (arith, runs.ends.0, length-map runs.answered (λ (one : Turn × Dialogue H). one.0.message)),
         e.2,
-        e.0 ∙ place_is stream t.rest runs.last.progress.place t.counted ∙ ap (place_of stream) whole,
+        e.0 ∙ place_is stream t.rest runs.last.progress.place t.counted ∙ ap (rest_place stream) whole,
         behind.1 ∙ ap (λ (xs : List ℕ). Some xs) none,
       )
   reached stream (ends.TooLong at) runs input start =
@@ -150,7 +151,7 @@ module _ {H : Type 0} (conduct : Conduct H) (peer : Peer) (old new : Dialogue H)
         cut_from (messages_of runs.answered) stream (front ++ behind.0) (rw behind.2 at t.begins) (inr (inr (front, behind.0, e.2, refl))),
         omega (arith, runs.ends.0, length-map runs.answered (λ (one : Turn × Dialogue H). one.0.message)),
         e.2,
-        e.0 ∙ place_is stream t.rest runs.last.progress.place t.counted ∙ ap (place_of stream) behind.2,
+        e.0 ∙ place_is stream t.rest runs.last.progress.place t.counted ∙ ap (rest_place stream) behind.2,
         behind.1,
       )
   reached stream ends.ReadFault runs input start =
@@ -260,7 +261,7 @@ module _ (maps : Maps) (stream : List ℕ) {H : Type 0} (conduct : Conduct H) (o
         answered = Appends-trans old.wire.sink.output h.runs.last.wire.sink.output new.wire.sink.output (answers maps (messages_of h.runs.answered)) (take count (answer_to maps turn.message)) so_far.0 here;
       }
 
-  pub serves_told : (end : End) → Ran maps stream conduct end old new wires → Serves maps (status_of end) stream traffic
+  pub serves_told : (end : End) → Ran maps stream conduct end old new wires → ServesInput maps (status_of end) stream traffic
   serves_told ends.Clean h =
       let r = reaches ends.Clean h in
       (record { messages = messages_of h.runs.answered; cut = r.0; few = r.1; answered = took_all ends.Clean h h.runs.ends.1.1.sink }, r.2)

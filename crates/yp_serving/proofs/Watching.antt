@@ -8,7 +8,7 @@ use Rattle.yp_session.specs.Progress.{Progress, begun}
 use Rattle.yp_session.specs.Wires.{Wire}
 use Rattle.yp_session.specs.Runs.{Runs}
 use Rattle.yp_session.specs.Runs.{dialogue_at}
-use Rattle.yp_serving.specs.Callers.{nobody}
+use Rattle.yp_words.specs.Words.{nobody}
 use Rattle.yp_serving.specs.Served.{IsAnswered, IsWatched, fixed_conduct, status_of}
 
 module _ (board finish : Seen) (progress : Progress) (old new : Wire) (wires : List Wire) where

@@ -1,13 +1,9 @@
--- The caller that the program answers without a server: nobody, who is let to no MAKE.
-use Rattle.std.specs.Prelude.{ℕ, List, [], ◌∷◌, Option}
-use Rattle.yp_io.specs.declared.stream.Peer.{Peer}
+-- What the program answers without a server: the calls of nobody, who is let to no MAKE.
+use Rattle.std.specs.Prelude.{ℕ, List, Option}
 use Rattle.yp_answer.specs.declared.procedure.Path.TheVariants.{Stream}
 use Rattle.yp_answer.specs.Maps.{Maps}
 use Rattle.yp_answer.specs.Reply.{reply, reply_at_once}
-
--- the address 0.0.0.0 and port 0
-abbrev pub nobody : Peer
-nobody = record { addr = 0 ∷ 0 ∷ 0 ∷ 0 ∷ []; port = 0 }
+use Rattle.yp_words.specs.Words.{nobody}
 
 -- the reply to a record from nobody, or silence
 abbrev pub reply_to : Maps → List ℕ → Option (List ℕ)

@@ -5,6 +5,7 @@ use Rattle.std.specs.Option.{option_map}
 use Rattle.yp_version.specs.Rows.{Row, listed}
 use Rattle.yp_version.specs.Versions.{MapVersion}
 use Rattle.yp_version.specs.Drafts.{Draft, with_rows, first_refused}
+use Rattle.yp_build.specs.Builds.{empty_draft}
 use Rattle.yp_board.specs.Catalogues.{Name}
 use Rattle.yp_board.specs.Views.{Seen}
 use Rattle.yp_answer.specs.Maps.{Maps}
@@ -14,20 +15,20 @@ use Rattle.yp_office.specs.declared.status.Status.TheVariants.{NoMemory, Rows}
 use Rattle.yp_office.specs.Rows.{rule_of}
 use Rattle.yp_office.specs.declared.office.Office.{Office}
 use Rattle.yp_office.specs.Seeing.{Seeing, input, HasCauses}
-use Rattle.yp_serving.specs.Served.{Serves, IsWatched, serve_may_end, traffic_of, wire, Completes}
+use Rattle.yp_serving.specs.Served.{ServesInput, IsWatched, serve_may_end, traffic_of, wire, Completes}
 
 -- its own name
 abbrev pub once_name : List ℕ
 once_name = codes "once"
 
 -- a version of order 1, to which no row was pushed yet
-abbrev pub empty_draft : Draft
-empty_draft = record { order = 1; master = once_name; rows = [] }
+abbrev pub once_draft : Draft
+once_draft = empty_draft 1 once_name
 
 -- the version of these rows, of which the first of equal keys stands
 abbrev pub once_version : List Row → MapVersion
 once_version rows =
-    record { order = 1; master = once_name; secure = false; rows = listed (with_rows empty_draft rows).rows }
+    record { order = 1; master = once_name; secure = false; rows = listed (with_rows once_draft rows).rows }
 
 -- the one map with this version
 abbrev pub once_maps : Name → List Row → Maps
@@ -47,7 +48,7 @@ word_of row = min (row + 2) 4294967295
 
 -- the first row past a limit, by the number of its word and the rule
 abbrev pub rows_fault : List Row → Option (ℕ × ℕ)
-rows_fault rows = option_map (λ refused. (word_of refused.0, rule_of refused.1)) (first_refused empty_draft rows)
+rows_fault rows = option_map (λ refused. (word_of refused.0, rule_of refused.1)) (first_refused once_draft rows)
 
 -- the status tells the first row past a limit
 abbrev pub IsRows : Option (ℕ × ℕ) → Status → Type 0
@@ -65,7 +66,7 @@ once_may_end status = serve_may_end status
 pub record OnceDoes {S K D C A T : Type 0} (seen : Seeing S K D C A T) (store : Name) (rows : List Row)
     (status : Status) (old new : Office S K D C A T) (before after : List Wire) : Type 0 where
   pub serves : rows_fault rows ≡ None
-      → IfSome (input seen old) (λ stream. Serves (once_maps store rows) status stream (traffic_of seen old new))
+      → IfSome (input seen old) (λ stream. ServesInput (once_maps store rows) status stream (traffic_of seen old new))
   pub watched : Grows before after (IsWatched (once_board store rows) status (wire seen old) (wire seen new))
   pub refused : (row rule : ℕ) → rows_fault rows ≡ Some (row, rule)
       → ((status ≡ Rows row rule) ⊎ (status ≡ NoMemory)) × (new ≡ old)

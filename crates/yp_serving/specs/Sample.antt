@@ -17,6 +17,7 @@ use Rattle.yp_serving.specs.Callers.{reply_to}
 use Rattle.yp_serving.specs.declared.tally.Tally.{Tally}
 use Rattle.yp_office.specs.declared.status.Status.{Status}
 use Rattle.yp_office.specs.declared.status.Status.TheVariants.{Done, WriteFault, NoMemory, Rows}
+use Rattle.yp_office.specs.Rows.{rows_rule}
 use Rattle.yp_office.specs.declared.office.Office.{Office}
 use Rattle.yp_office.specs.Seeing.{Seeing, output, HasCauses}
 
@@ -78,22 +79,19 @@ sample_line start count = tally_line (tally_of (sampled start count))
 
 -- ---- what is done
 
--- the first row over the limit of rows, and the number of that rule
+-- the first row over the limit of rows
 abbrev pub first_over : ℕ
 first_over = 262145
 
-abbrev pub too_many_rows : ℕ
-too_many_rows = 3
-
 -- What is told, for each status. There are too many rows exactly where that is told.
-abbrev pub Tells : ℕ → ℕ → Status → Option (List ℕ) → Option (List ℕ) → Type 0
-Tells start count Done before after = (count ≤ rows_max) × Appends before after (sample_line start count)
-Tells start count WriteFault before after =
+abbrev pub TellsSample : ℕ → ℕ → Status → Option (List ℕ) → Option (List ℕ) → Type 0
+TellsSample start count Done before after = (count ≤ rows_max) × Appends before after (sample_line start count)
+TellsSample start count WriteFault before after =
     (count ≤ rows_max) × AppendsFront (sample_line start count) before after
-Tells start count NoMemory before after = (count ≤ rows_max) × (after ≡ before)
-Tells start count (Rows row rule) before after =
-    (rows_max < count) × (row ≡ first_over) × (rule ≡ too_many_rows) × (after ≡ before)
-Tells start count _ before after = ⊥
+TellsSample start count NoMemory before after = (count ≤ rows_max) × (after ≡ before)
+TellsSample start count (Rows row rule) before after =
+    (rows_max < count) × (row ≡ first_over) × (rule ≡ rows_rule) × (after ≡ before)
+TellsSample start count _ before after = ⊥
 
 -- the statuses with which `sample` may end
 abbrev pub sample_may_end : Status → Bool
@@ -106,7 +104,7 @@ sample_may_end _ = false
 -- What `sample` does: it tells the numbers of its rows, or that there are too many, and then writes nothing.
 pub record SampleDoes {S K D C A T : Type 0} (seen : Seeing S K D C A T) (start count : ℕ) (status : Status)
     (old new : Office S K D C A T) : Type 0 where
-  pub tells : Tells start count status (output seen old) (output seen new)
-  pub many : rows_max < count → (status ≡ Rows first_over too_many_rows) × (new ≡ old)
+  pub tells : TellsSample start count status (output seen old) (output seen new)
+  pub many : rows_max < count → (status ≡ Rows first_over rows_rule) × (new ≡ old)
   pub causes : HasCauses seen status old new
   pub stays : new ≡ record old { wire = record old.wire { sink = new.wire.sink } }

@@ -16,7 +16,8 @@ use Rattle.yp_session.specs.Wires.{Wire, wire_of}
 use Rattle.yp_session.specs.Hosts.{Conduct, conduct_of}
 use Rattle.yp_session.specs.Runs.{Runs, sent_reply}
 use Rattle.yp_session.specs.Runs.{dialogue_at}
-use Rattle.yp_serving.specs.Callers.{nobody, reply_to}
+use Rattle.yp_words.specs.Words.{nobody}
+use Rattle.yp_serving.specs.Callers.{reply_to}
 use Rattle.yp_office.specs.declared.status.Status.{Status}
 use Rattle.yp_office.specs.declared.status.Status.TheVariants.{Done, ReadFault, WriteFault, Torn, TooLong}
 use Rattle.yp_office.specs.declared.status.Status.TheVariants.{NoMemory, Enough, Rows}
@@ -58,8 +59,8 @@ Begins stream (message ∷ messages) rest =
     (bytes more : List ℕ) × Fragments record_max message bytes × (stream ≡ bytes ++ more) × Begins more messages rest
 
 -- the place of the rest in the stream
-abbrev pub place_of : List ℕ → List ℕ → ℕ
-place_of stream rest = min (length stream - length rest) last_count
+abbrev pub rest_place : List ℕ → List ℕ → ℕ
+rest_place stream rest = min (length stream - length rest) last_count
 
 -- what of the outside a session may change: what is left of the input, and what the output took before and after
 pub record Traffic : Type 0 where
@@ -97,28 +98,30 @@ pub record AnswersInPart (maps : Maps) (messages : List (List ℕ)) (traffic : T
   pub answered : Takes traffic (answers maps before ++ take count (answer_to maps last))
 
 -- What is done with an input, for each status, and what is left of it. All records before the rest are answered.
-abbrev pub Serves : Maps → Status → List ℕ → Traffic → Type 0
-Serves maps Done stream traffic = AnswersUpTo maps stream [] traffic × (traffic.left ≡ Some [])
-Serves maps (Torn at) stream traffic =
+abbrev pub ServesInput : Maps → Status → List ℕ → Traffic → Type 0
+ServesInput maps Done stream traffic = AnswersUpTo maps stream [] traffic × (traffic.left ≡ Some [])
+ServesInput maps (Torn at) stream traffic =
     (rest : List ℕ) × AnswersUpTo maps stream rest traffic × IsTorn record_max rest
-    × (at ≡ place_of stream rest) × (traffic.left ≡ Some [])
-Serves maps (TooLong at) stream traffic =
+    × (at ≡ rest_place stream rest) × (traffic.left ≡ Some [])
+ServesInput maps (TooLong at) stream traffic =
     (front more : List ℕ) × AnswersUpTo maps stream (front ++ more) traffic × IsTooLong record_max front
-    × (at ≡ place_of stream (front ++ more)) × (traffic.left ≡ Some more)
-Serves maps ReadFault stream traffic = AnswersSome stream traffic (λ messages. Takes traffic (answers maps messages))
-Serves maps WriteFault stream traffic = AnswersSome stream traffic (λ messages. AnswersInPart maps messages traffic)
-Serves maps Enough stream traffic =
+    × (at ≡ rest_place stream (front ++ more)) × (traffic.left ≡ Some more)
+ServesInput maps ReadFault stream traffic =
+    AnswersSome stream traffic (λ messages. Takes traffic (answers maps messages))
+ServesInput maps WriteFault stream traffic =
+    AnswersSome stream traffic (λ messages. AnswersInPart maps messages traffic)
+ServesInput maps Enough stream traffic =
     AnswersSome stream traffic (λ messages. (length messages ≡ CALLS_MAX) × Takes traffic (answers maps messages))
-Serves maps NoMemory stream traffic = (traffic.left ≡ Some stream) × Keeps traffic.before traffic.after
-Serves maps _ stream traffic = ⊥
+ServesInput maps NoMemory stream traffic = (traffic.left ≡ Some stream) × Keeps traffic.before traffic.after
+ServesInput maps _ stream traffic = ⊥
 
 -- The status of a stream that is cut into these records and this rest, where nothing fails.
 abbrev pub IsStatusOf : List ℕ → List (List ℕ) → List ℕ → Status → Type 0
 IsStatusOf stream messages rest Done = (length messages < CALLS_MAX) × (rest ≡ [])
 IsStatusOf stream messages rest (Torn at) =
-    (length messages < CALLS_MAX) × IsTorn record_max rest × (at ≡ place_of stream rest)
+    (length messages < CALLS_MAX) × IsTorn record_max rest × (at ≡ rest_place stream rest)
 IsStatusOf stream messages rest (TooLong at) =
-    (length messages < CALLS_MAX) × IsLong record_max rest × (at ≡ place_of stream rest)
+    (length messages < CALLS_MAX) × IsLong record_max rest × (at ≡ rest_place stream rest)
 IsStatusOf stream messages rest Enough = CALLS_MAX ≤ length messages
 IsStatusOf stream messages rest _ = ⊥
 

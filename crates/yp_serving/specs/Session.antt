@@ -118,12 +118,12 @@ TellsOf names number why status =
     (status ≡ NoMemory) ⊎ ((store : Name) × (slice_get names number ≡ Some store) × Fails store why status)
 
 -- How a connection ended, or why it wasn't served, is told by this status, where maps have these names.
-abbrev pub Tells : Result End Unserved → List Name → Status → Type 0
-Tells (Ok end) names status = status ≡ status_of end
-Tells (Err unserved.NoMemory) names status = status ≡ NoMemory
-Tells (Err (unserved.Refused number why)) names status = TellsOf names number why status
+abbrev pub TellsEnd : Result End Unserved → List Name → Status → Type 0
+TellsEnd (Ok end) names status = status ≡ status_of end
+TellsEnd (Err unserved.NoMemory) names status = status ≡ NoMemory
+TellsEnd (Err (unserved.Refused number why)) names status = TellsOf names number why status
 
 -- the number of a map whose file wasn't loaded is that of one of so many
-abbrev pub IsNumbered : Result End Unserved → ℕ → Type 0
-IsNumbered (Err (unserved.Refused number why)) count = number < count
-IsNumbered served count = ⊤
+abbrev pub HasMapNumber : Result End Unserved → ℕ → Type 0
+HasMapNumber (Err (unserved.Refused number why)) count = number < count
+HasMapNumber served count = ⊤

@@ -14,8 +14,8 @@ ghost use Rattle.yp_words.specs.Words.{row_view};
 ghost use Rattle.yp_office.specs.Rows.{row_status};
 ghost use Rattle.yp_office.specs.Seeing.{seeing, IsPassedOn};
 ghost use Rattle.yp_office.specs.Status.{IsTellable};
-ghost use Rattle.yp_serving.specs.Served.{Serves, IsWatched, IsStatusOf, serve_may_end};
-ghost use Rattle.yp_serving.specs.Once.{empty_draft, once_name, once_version, rows_fault, word_of, IsRows};
+ghost use Rattle.yp_serving.specs.Served.{ServesInput, IsWatched, IsStatusOf, serve_may_end};
+ghost use Rattle.yp_serving.specs.Once.{once_draft, once_name, once_version, rows_fault, word_of, IsRows};
 ghost use Rattle.yp_serving.specs.Once.{OnceDoes, once_may_end};
 
 use crate::end::status_of_end;
@@ -146,7 +146,7 @@ fn serve<S: Source, K: Sink, W: Witness<S, K>>(
     wire: &mut Pair<S, K>,
     witness: &mut W,
 ) -> Status
-    ensures served { IfSome (S.input wire.old.source) (λ stream. Serves (maps_of board) result stream
+    ensures served { IfSome (S.input wire.old.source) (λ stream. ServesInput (maps_of board) result stream
         (record { left = S.input wire.new.source; before = K.output wire.old.sink; after = K.output wire.new.sink })) }
     ensures watched { Grows (W.wires witness.old) (W.wires witness.new)
         (IsWatched board result (wire_of S.Source K.Sink wire.old) (wire_of S.Source K.Sink wire.new)) }

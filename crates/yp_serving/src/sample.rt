@@ -7,10 +7,11 @@ ghost use Rattle.yp_build.specs.Samples.{sampled};
 ghost use Rattle.yp_answer.specs.Numbers.{record_max};
 ghost use Rattle.yp_answer.specs.Maps.{maps_of};
 ghost use Rattle.yp_office.specs.Seeing.{seeing, IsPassedOn};
+ghost use Rattle.yp_office.specs.Rows.{rows_rule};
 ghost use Rattle.yp_office.specs.Status.{IsTellable};
 ghost use Rattle.yp_serving.specs.Callers.{reply_to};
 ghost use Rattle.yp_serving.specs.Sample.{sample_maps, is_matched, reply_len, all_call, tally_of, first_over};
-ghost use Rattle.yp_serving.specs.Sample.{too_many_rows, SampleDoes, sample_may_end};
+ghost use Rattle.yp_serving.specs.Sample.{SampleDoes, sample_may_end};
 
 use crate::calls::{SAMPLE, ask, set_all, set_match, set_value};
 use crate::once::shown_on;
@@ -22,11 +23,8 @@ use yp_answer::RECORD_MAX;
 use yp_board::{MapName, PlainBoard};
 use yp_build::BuildFault;
 use yp_io::{Clock, Dial, Disk, Failed, NoMemory, Sink, Source, Texts, write_through, zeros};
-use yp_office::{Office, Status};
+use yp_office::{Office, ROWS_RULE, Status};
 use yp_version::Version;
-
-/// The rule that there are at most 262,144 rows.
-const TOO_MANY_ROWS: u8 = 3;
 
 /// Whether MATCH has this value for this key.
 fn is_matched(
@@ -149,7 +147,7 @@ fn tally_of(alloc: Global, version: Version) -> Result<Tally, NoMemory>
 fn sampled(alloc: Global, rt: &impl RandomSource, start: u32, count: u32) -> Result<Tally, Status>
     ensures tally { IfOk result (λ tally. tally ≡ tally_of (sampled start count)) }
     ensures few { OnOk result (count ≤ rows_max) }
-    ensures cause { IfErr result (λ status. ((rows_max < count) × (status ≡ Status.Rows first_over too_many_rows))
+    ensures cause { IfErr result (λ status. ((rows_max < count) × (status ≡ Status.Rows first_over rows_rule))
         ⊎ ((count ≤ rows_max) × (status ≡ Status.NoMemory))) }
 {
     let version = match yp_build::sample(alloc, rt, start, count) {
@@ -157,7 +155,7 @@ fn sampled(alloc: Global, rt: &impl RandomSource, start: u32, count: u32) -> Res
         Err(BuildFault::TooManyRows { line }) => {
             return Err(Status::Rows {
                 row: line,
-                rule: TOO_MANY_ROWS,
+                rule: ROWS_RULE,
             });
         }
         Err(_) => return Err(Status::NoMemory),

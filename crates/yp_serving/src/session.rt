@@ -10,7 +10,7 @@ ghost use Rattle.yp_server.specs.Locals.{telling_of};
 ghost use Rattle.yp_server.specs.Connections.{plain_log, service_of, AtDisk, LeavesOr};
 ghost use Rattle.yp_words.specs.Words.{IsNamed};
 ghost use Rattle.yp_office.specs.Disks.{names_of, disks_of, faults_of};
-ghost use Rattle.yp_serving.specs.Session.{Sessions, Tells, TellsOf, IsNumbered, connection_at};
+ghost use Rattle.yp_serving.specs.Session.{Sessions, TellsEnd, TellsOf, HasMapNumber, connection_at};
 ghost use Rattle.yp_serving.specs.Session.{SessionDoes, session_may_end};
 ghost use Rattle.yp_office.specs.Seeing.{seeing, IsPassedOn};
 ghost use Rattle.yp_office.specs.Status.{IsTellable};
@@ -42,9 +42,9 @@ fn status_of_map(alloc: Global, names: &[MapName], number: u32, fault: SlotFault
 
 /// The status of a connection that ended, or of one that wasn't served.
 fn status_of(alloc: Global, served: Result<End, Unserved>, names: &[MapName]) -> Status
-    requires number { IsNumbered served (length names.now) }
+    requires number { HasMapNumber served (length names.now) }
     requires named { All IsNamed (map name_view names.now) }
-    ensures tells { Tells served (map name_view names.now) result }
+    ensures tells { TellsEnd served (map name_view names.now) result }
     ensures may_end { IsTrue (session_may_end result) }
     ensures tellable { IsTellable result }
 {

@@ -8,7 +8,7 @@ use Rattle.yp_board.specs.Logs.{Log, shown}
 use Rattle.yp_board.specs.Views.{IsFront}
 use Rattle.yp_build.specs.declared.fault.BuildFault.{BuildFault}
 use Rattle.yp_build.specs.declared.fault.BuildFault.TheVariants.{OrderSpent}
-use Rattle.yp_build.specs.Kinds.{text_of}
+use Rattle.yp_build.specs.Kinds.{file_of}
 use Rattle.yp_build.specs.Builds.{order_max}
 use Rattle.yp_build.specs.After.{Basis, Material, HasFault, basis_of, other_master, last_order, built_after, IsOver}
 use Rattle.yp_answer.specs.declared.make.Job.{Job}
@@ -20,7 +20,7 @@ pub record Told : Type 0 where
 
 -- what a version is built of is what is told
 pub record IsTold (told : Told) (basis : Basis) (material : Material) : Type 0 where
-  pub text : IfSome (told.text (text_of basis.kind)) (λ text. material.text ≡ text)
+  pub text : IfSome (told.text (file_of basis.kind)) (λ text. material.text ≡ text)
   pub moment : IfSome told.moment (λ moment. material.moment ≡ moment)
 
 -- a version that was built anew, of what is told
@@ -65,7 +65,7 @@ IsCaused told own job Refused old new =
     (log : Log) × IsFront log new × (master : List ℕ) × (other_master own (shown job.map log) ≡ Some master)
 IsCaused told own job Age old new =
     (log : Log) × IsFront log new × (last_order (shown job.map log) ≡ Some order_max)
-IsCaused told own job Dbm old new = IfSome (told.text (text_of job.kind)) (HasBadRow own job)
+IsCaused told own job Dbm old new = IfSome (told.text (file_of job.kind)) (HasBadRow own job)
 IsCaused told own job File old new = ⊤
 IsCaused told own job Rsrc old new = ⊤
 IsCaused told own job _ old new = ⊥

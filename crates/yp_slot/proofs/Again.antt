@@ -205,16 +205,3 @@ body_bounds bytes version is =
     let len : length bytes ≡ body_len version = ap length is.spelled ∙ length-body version in
     let few = is.within.body in
     (omega arith, omega arith)
-
--- ---- places
-
-pub word_place : (n : ℕ) (old new : Unread) → BeginsWith U32 n old new → new.at ≡ old.at + 4
-word_place n old new begins = let len = ap length begins.spells.spelled in let place = begins.place in omega arith
-
-pub opaque_place : (max : ℕ) (content : List ℕ) (old new : Unread) → BeginsWith (Opaque max) content old new
-    → new.at ≡ old.at + 4 + padded (length content)
-opaque_place max content old new begins =
-    let len = ap length begins.spells.spelled in
-    let place = begins.place in
-    let size = length-opaque max content in
-    omega arith

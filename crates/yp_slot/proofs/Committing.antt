@@ -6,7 +6,7 @@ use Rattle.yp_io.specs.Disk.{History, GoesOn, LeftBetween, LeavesOnly, MayLeave,
 use Rattle.yp_version.specs.Versions.{MapVersion}
 use Rattle.yp_slot.specs.Stands.{file_max, stands}
 use Rattle.yp_slot.specs.Commits.{laid, closed, filled, opened, committed}
-use Rattle.yp_slot.specs.Slots.{IsSound, IsTold, IsAsBefore, IsAsBeforeOr, IsAsBeforeOrOpened, WouldStand, Makes}
+use Rattle.yp_slot.specs.Slots.{IsSound, IsTold, IsAsBefore, IsAsBeforeOr, IsAsBeforeOrOpened, WouldStand, ReadsChanged}
 use Rattle.yp_slot.proofs.Moments.{weaker, then}
 use Rattle.yp_slot.proofs.Sits.{sound_small}
 
@@ -40,8 +40,8 @@ alike_told None new went is_image here = tt
 alike_told (Some h) None went is_image here = absurd went
 alike_told (Some h) (Some k) went is_image here = here k.state.reads is_image
 
-pub makes_all : (body : List ℕ) (a b c d e : Option History) → Makes laid a b → Makes closed b c
-    → Makes (filled body) c d → Makes opened d e → Makes (committed body) a e
+pub makes_all : (body : List ℕ) (a b c d e : Option History) → ReadsChanged laid a b → ReadsChanged closed b c
+    → ReadsChanged (filled body) c d → ReadsChanged opened d e → ReadsChanged (committed body) a e
 unfolding committed
 makes_all body None b c d e one two three four = tt
 makes_all body (Some a) None c d e one two three four = absurd one

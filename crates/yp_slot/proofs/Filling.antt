@@ -16,7 +16,7 @@ use Rattle.yp_slot.specs.Bodies.{body, body_at}
 use Rattle.yp_slot.specs.Stands.{file_max, has_room, by_body, Stored, stands, standing}
 use Rattle.yp_slot.specs.Commits.{generation_max, winning, target, generation_of, place_for, next_entry, filled, opened}
 use Rattle.yp_slot.specs.Slots.{IsSound, IsKnown, IsQuiet, Settles, IsFilled, Fills, LiesWithin, IsAsBefore}
-use Rattle.yp_slot.specs.Slots.{IsAsBeforeOrOpened, with_winner, WouldStand, Makes}
+use Rattle.yp_slot.specs.Slots.{IsAsBeforeOrOpened, with_winner, WouldStand, ReadsChanged}
 use Rattle.yp_slot.proofs.Sits.{Sits, sits_winning, sits_target, sits_stands}
 use Rattle.yp_slot.proofs.Images.{has_room_from}
 use Rattle.yp_slot.proofs.Stays.{cell_below, Stays, gate_range}
@@ -274,12 +274,12 @@ pub fill_done : (known : Known) (old middle new : Option History) (body : List �
     → body_at body ≡ Ok version
     → middle ≡ option_map (written_at (place_for known.winner (length body)) body) old
     → new ≡ after (cell_place known.target + 1) (entry_bytes (next_entry known.winner (length body))) middle
-    → Settles known new × Makes (filled body) old new × Fills (next_entry known.winner (length body)) new
+    → Settles known new × ReadsChanged (filled body) old new × Fills (next_entry known.winner (length body)) new
     × WouldStand version new
 fill_done known None middle new body long shut some few unspent s version read is done =
     let at = cell_place known.target + 1 in
     let bytes = entry_bytes (next_entry known.winner (length body)) in
-    let P : Option History → Type 0 = λ h. Settles known h × Makes (filled body) None h
+    let P : Option History → Type 0 = λ h. Settles known h × ReadsChanged (filled body) None h
     × Fills (next_entry known.winner (length body)) h × WouldStand version h in
     subst P (sym (done ∙ ap (after at bytes) is)) (tt, tt, tt, tt)
 fill_done known (Some h) middle new body long shut some few unspent s version read is done =
@@ -287,7 +287,7 @@ fill_done known (Some h) middle new body long shut some few unspent s version re
     let next = next_entry known.winner (length body) in
     let bytes = entry_bytes next in
     let f = h.state.reads in
-    let P : Option History → Type 0 = λ k. Settles known k × Makes (filled body) (Some h) k × Fills next k
+    let P : Option History → Type 0 = λ k. Settles known k × ReadsChanged (filled body) (Some h) k × Fills next k
     × WouldStand version k in
     let file = fill_file known f body s.file long shut some few unspent in
     let filled_in = fill_filled known f body s.file long shut some few unspent version read in
@@ -310,9 +310,9 @@ open_torn known (Some h) next long shut s filled image left =
 
 pub open_done : (known : Known) (old new : Option History) (next : Entry) (at : ℕ) → at ≡ cell_place known.target
     → known.long ≡ true → known.gate_open ≡ false → Settles known old → Fills next old
-    → new ≡ after at (1 ∷ []) old → Settles (with_winner known next) new × Makes opened old new
+    → new ≡ after at (1 ∷ []) old → Settles (with_winner known next) new × ReadsChanged opened old new
 open_done known None new next at is long shut s filled done =
-    let P : Option History → Type 0 = λ h. Settles (with_winner known next) h × Makes opened None h in
+    let P : Option History → Type 0 = λ h. Settles (with_winner known next) h × ReadsChanged opened None h in
     subst P (sym (done ∙ ap (λ (n : ℕ). after n (1 ∷ []) None) is)) (tt, tt)
 open_done known (Some h) new next at is long shut s filled done =
     let f = h.state.reads in
@@ -320,7 +320,7 @@ open_done known (Some h) new next at is long shut s filled done =
     let fills = fills_from known f next s.file long shut filled in
     let cell : target f ≡ t = sym s.file.cell in
     let sound : IsSound (standing (Some next) f) = filled.sound in
-    let P : Option History → Type 0 = λ k. Settles (with_winner known next) k × Makes opened (Some h) k in
+    let P : Option History → Type 0 = λ k. Settles (with_winner known next) k × ReadsChanged opened (Some h) k in
     subst P (sym (done ∙ ap (λ (n : ℕ). after n (1 ∷ []) (Some h)) is)) (
       record {
         quiet = quiet_after (written_at (cell_place t) (1 ∷ []) h);
@@ -376,7 +376,7 @@ pub fill_result : (known : Known) (old middle new : Option History) (body bytes 
     → p ≡ cell_place known.target → bytes ≡ entry_bytes next
     → middle ≡ option_map (written_at next.place body) old → new ≡ after (p + 1) bytes middle → (version : MapVersion)
     → body_at body ≡ Ok version
-    → Settles known new × Makes (filled body) old new × Fills next new × WouldStand version new
+    → Settles known new × ReadsChanged (filled body) old new × Fills next new × WouldStand version new
 fill_result known old middle new body bytes next p long shut bounds unspent s next_is p_is bytes_is is done version read
     =
     let expected = next_entry known.winner (length body) in
@@ -386,7 +386,7 @@ fill_result known old middle new body bytes next p long shut bounds unspent s ne
     done ∙ ap (λ (n : ℕ). after (n + 1) bytes middle) p_is
     ∙ ap (λ (b : List ℕ). after (cell_place known.target + 1) b middle) (bytes_is ∙ ap entry_bytes next_is) in
     let all = fill_done known old middle new body long shut bounds.0 bounds.1 unspent s version read first second in
-    subst (λ (e : Entry). Settles known new × Makes (filled body) old new × Fills e new
+    subst (λ (e : Entry). Settles known new × ReadsChanged (filled body) old new × Fills e new
     × WouldStand version new) (sym next_is) all
 
 pub fill_entry_left : (known : Known) (old middle : Option History) (body : List ℕ) (next : Entry) (p n : ℕ)

@@ -6,6 +6,7 @@ pub mod Writes
 pub mod Moments
 pub mod Steps
 pub mod Again
+pub mod Past
 pub mod Filling
 pub mod Committing
 pub mod Rows

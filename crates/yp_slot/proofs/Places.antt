@@ -13,7 +13,8 @@ use Rattle.yp_xdr.specs.Reading.{◌>>=◌ as ◌>>>=◌, Unread, past, word_at,
 use Rattle.yp_version.specs.Limits.{key_max, value_max, master_max, rows_max}
 use Rattle.yp_version.specs.Versions.{MapVersion}
 use Rattle.yp_slot.specs.declared.wrong.Wrong.{Wrong}
-use Rattle.yp_slot.specs.Bodies.{◌>>=◌, fault_place, by_xdr, item, guard, head_at, is_over, row_at, rows_at, body_at}
+use Rattle.yp_xdr.specs.Faults.{fault_place}
+use Rattle.yp_slot.specs.Bodies.{◌>>=◌, by_xdr, item, guard, head_at, is_over, row_at, rows_at, body_at}
 
 -- where the bytes end
 abbrev end_of : Unread → ℕ

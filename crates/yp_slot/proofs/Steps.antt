@@ -15,7 +15,7 @@ use Rattle.yp_slot.specs.declared.known.Known.{Known}
 use Rattle.yp_slot.specs.Cells.{cell_place, is_open}
 use Rattle.yp_slot.specs.Stands.{file_max, Nothing, stands, standing}
 use Rattle.yp_slot.specs.Commits.{winning, target, laid, closed}
-use Rattle.yp_slot.specs.Slots.{IsSound, IsTold, IsKnown, IsQuiet, Settles, IsAsBefore, Makes}
+use Rattle.yp_slot.specs.Slots.{IsSound, IsTold, IsKnown, IsQuiet, Settles, IsAsBefore, ReadsChanged}
 use Rattle.yp_slot.proofs.Sits.{Sits, sits_winning, sits_target, sits_stands, sits_from, short_stands}
 use Rattle.yp_slot.proofs.Stays.{cell_below, Stays, gate_range, gate_spares, gate_spares_numbers, stays_older}
 use Rattle.yp_slot.proofs.Writes.{gate_written, gate_image}
@@ -145,7 +145,7 @@ close_file known f long gate k =
 pub close_settled : (known : Known) (history : Option History) → known.long ≡ true → known.gate_open ≡ true
     → Settles known history
     → Settles (record known { gate_open = false }) (after (cell_place known.target) (0 ∷ []) history)
-    × Makes closed history (after (cell_place known.target) (0 ∷ []) history)
+    × ReadsChanged closed history (after (cell_place known.target) (0 ∷ []) history)
 close_settled known None long gate s = (tt, tt)
 close_settled known (Some h) long gate s =
     let file = close_file known h.state.reads long gate s.file in
@@ -153,7 +153,7 @@ close_settled known (Some h) long gate s =
 
 -- where it is closed already
 pub closed_closed : (known : Known) (history : Option History) → known.long ≡ true → known.gate_open ≡ false
-    → Settles known history → Makes closed history history
+    → Settles known history → ReadsChanged closed history history
 unfolding closed
 closed_closed known None long gate s = tt
 closed_closed known (Some h) long gate s =
@@ -165,9 +165,9 @@ closed_closed known (Some h) long gate s =
 -- the same of the history that the code has then
 pub close_done : (known : Known) (old new : Option History) (at : ℕ) → at ≡ cell_place known.target → known.long ≡ true
     → known.gate_open ≡ true → Settles known old → new ≡ after at (0 ∷ []) old
-    → Settles (record known { gate_open = false }) new × Makes closed old new
+    → Settles (record known { gate_open = false }) new × ReadsChanged closed old new
 close_done known old new at is long gate s done =
-    let P : Option History → Type 0 = λ h. Settles (record known { gate_open = false }) h × Makes closed old h in
+    let P : Option History → Type 0 = λ h. Settles (record known { gate_open = false }) h × ReadsChanged closed old h in
     subst P (sym (done ∙ ap (λ (n : ℕ). after n (0 ∷ []) old) is)) (close_settled known old long gate s)
 
 -- ---- laying
@@ -253,16 +253,16 @@ zeros_known known f k lt =
 
 pub lay_done : (known : Known) (old middle new : Option History) → known.long ≡ false → Settles known old
     → middle ≡ after 0 (replicate 63 0) old → new ≡ after 63 (0 ∷ []) middle
-    → Settles (record known { long = true }) new × Makes laid old new
+    → Settles (record known { long = true }) new × ReadsChanged laid old new
 unfolding laid
 lay_done known None middle new short s is done =
-    let P : Option History → Type 0 = λ h. Settles (record known { long = true }) h × Makes laid None h in
+    let P : Option History → Type 0 = λ h. Settles (record known { long = true }) h × ReadsChanged laid None h in
     subst P (sym (done ∙ ap (after 63 (0 ∷ [])) is)) (tt, tt)
 lay_done known (Some h) middle new short s is done =
     let f = h.state.reads in
     let lt = short_known known f s.file short in
     let e : ltb (length f) 64 ≡ true = grind (arith, nat_tests) in
-    let P : Option History → Type 0 = λ k. Settles (record known { long = true }) k × Makes laid (Some h) k in
+    let P : Option History → Type 0 = λ k. Settles (record known { long = true }) k × ReadsChanged laid (Some h) k in
     let all : overwritten 63 (0 ∷ []) (overwritten 0 (replicate 63 0) f) ≡ zeros 64 =
     ap (overwritten 63 (0 ∷ [])) (lay_first f lt) in
     let one = after_sync (written_at 0 (replicate 63 0) h) in
@@ -276,7 +276,7 @@ lay_done known (Some h) middle new short s is done =
 
 -- where it has both cells already
 pub laid_laid : (known : Known) (history : Option History) → known.long ≡ true → Settles known history
-    → Makes laid history history
+    → ReadsChanged laid history history
 laid_laid known None long s = tt
 laid_laid known (Some h) long s = sym (laid_long h.state.reads (known_long known h.state.reads s.file long))
 

@@ -4,7 +4,7 @@ use Rattle.std.specs.Prelude.{None, Result, Ok, Err, if◌then◌else◌, ◌==�
 use Rattle.std.specs.List.{flat_map}
 use Rattle.std.specs.Ordering.{is_lt}
 use Rattle.yp_xdr.specs.declared.fault.XdrFault.{XdrFault}
-use Rattle.yp_xdr.specs.declared.fault.XdrFault.TheVariants.{Short, TooLong, Pad, BadBool, BadEnum}
+use Rattle.yp_xdr.specs.Faults.{fault_place}
 use Rattle.yp_xdr.specs.Kind.{Kind, U32, Opaque, Value}
 use Rattle.yp_xdr.specs.Spelling.{spelling}
 use Rattle.yp_xdr.specs.Reading.{Unread, reading}
@@ -45,14 +45,6 @@ infixl 10 ◌>>=◌
 abbrev pub ◌>>=◌ : {A B : Type 0} → Result A Wrong → (A → Result B Wrong) → Result B Wrong
 (Ok x) >>= f = f x
 (Err wrong) >>= f = Err wrong
-
--- the place of an item that XDR refuses
-abbrev pub fault_place : XdrFault → ℕ
-fault_place (Short at) = at
-fault_place (TooLong at len) = at
-fault_place (Pad at) = at
-fault_place (BadBool at) = at
-fault_place (BadEnum at) = at
 
 -- rule 5: an item is refused
 abbrev pub by_xdr : {A : Type 0} → Result A XdrFault → Result A Wrong

@@ -108,10 +108,10 @@ abbrev pub WouldStand : MapVersion → Option History → Type 0
 WouldStand version history = IfSome history (λ h. stands (opened h.state.reads) ≡ Stored version)
 
 -- a read gives what a function makes of what it gave
-abbrev pub Makes : (List ℕ → List ℕ) → Option History → Option History → Type 0
-Makes change None new = ⊤
-Makes change (Some h) None = ⊥
-Makes change (Some h) (Some k) = k.state.reads ≡ change h.state.reads
+abbrev pub ReadsChanged : (List ℕ → List ℕ) → Option History → Option History → Type 0
+ReadsChanged change None new = ⊤
+ReadsChanged change (Some h) None = ⊥
+ReadsChanged change (Some h) (Some k) = k.state.reads ≡ change h.state.reads
 
 -- this is the generation of what a read gives
 abbrev pub HasGeneration : Option History → ℕ → Type 0
@@ -126,6 +126,6 @@ is_ready Closed = true
 is_ready Filled = true
 
 -- all that a slot keeps of its file
-pub record Keeps (stage : Stage) (known : Known) (next : Entry) (history : Option History) : Type 0 where
+pub record KeepsFile (stage : Stage) (known : Known) (next : Entry) (history : Option History) : Type 0 where
   pub winner : IfSome known.winner LiesWithin
   pub file : Knows stage known next history

@@ -8,7 +8,7 @@ ghost use Rattle.yp_version.specs.Versions.{MapVersion};
 ghost use Rattle.yp_slot.specs.Bodies.{IsBody};
 ghost use Rattle.yp_slot.specs.Commits.{generation_max, generation_of, next_entry, laid, closed, filled, opened};
 ghost use Rattle.yp_slot.specs.Slots.{Settles, Fills, LiesWithin, IsAsBefore, IsAsBeforeOrOpened, with_winner};
-ghost use Rattle.yp_slot.specs.Slots.{WouldStand, Makes};
+ghost use Rattle.yp_slot.specs.Slots.{WouldStand, ReadsChanged};
 
 use crate::cells::{CELLS_LEN, CLOSED, Entry, OPEN};
 use crate::known::Known;
@@ -33,7 +33,7 @@ fn write_and_sync<D: Disk>(disk: &mut D, at: u64, piece: &[u8]) -> Result<(), Fa
 pub(crate) fn lay<D: Disk>(disk: &mut D, known: &Known) -> Result<(), Failed>
     requires { Settles known.now (D.history disk.old) }
     ensures settled { OnOk result (Settles (record known.now { long = true }) (D.history disk.new)) }
-    ensures laid { OnOk result (Makes laid (D.history disk.old) (D.history disk.new)) }
+    ensures laid { OnOk result (ReadsChanged laid (D.history disk.old) (D.history disk.new)) }
     ensures no_call { known.now.long ≡ true → disk.new ≡ disk.old }
     ensures crash { LeavesOnly (D.history disk.old) (D.history disk.new) (IsAsBefore (D.history disk.old)) }
     ensures cause { CountsFaults (D.faults disk.old) (D.faults disk.new) result }
@@ -50,7 +50,7 @@ pub(crate) fn close<D: Disk>(disk: &mut D, known: &Known) -> Result<(), Failed>
     requires long { known.now.long ≡ true }
     requires settled { Settles known.now (D.history disk.old) }
     ensures settled { OnOk result (Settles (record known.now { gate_open = false }) (D.history disk.new)) }
-    ensures closed { OnOk result (Makes closed (D.history disk.old) (D.history disk.new)) }
+    ensures closed { OnOk result (ReadsChanged closed (D.history disk.old) (D.history disk.new)) }
     ensures no_call { known.now.gate_open ≡ false → disk.new ≡ disk.old }
     ensures crash { LeavesOnly (D.history disk.old) (D.history disk.new) (IsAsBefore (D.history disk.old)) }
     ensures cause { CountsFaults (D.faults disk.old) (D.faults disk.new) result }
@@ -72,7 +72,7 @@ pub(crate) fn fill<D: Disk>(disk: &mut D, known: &Known, body: &[u8]) -> Result<
     ensures next { IfOk result (λ next. next ≡ next_entry known.now.winner (length body.now)) }
     ensures lies { IfOk result LiesWithin }
     ensures settled { OnOk result (Settles known.now (D.history disk.new)) }
-    ensures filled { OnOk result (Makes (filled body.now) (D.history disk.old) (D.history disk.new)) }
+    ensures filled { OnOk result (ReadsChanged (filled body.now) (D.history disk.old) (D.history disk.new)) }
     ensures entry { IfOk result (λ next. Fills next (D.history disk.new)) }
     ensures version { OnOk result ((version : MapVersion) → IsBody body.now version
         → WouldStand version (D.history disk.new)) }
@@ -94,7 +94,7 @@ pub(crate) fn open<D: Disk>(disk: &mut D, known: &Known, next: Entry) -> Result<
     requires filled { Fills next (D.history disk.old) }
     ensures known { IfOk result (λ after. after ≡ with_winner known.now next) }
     ensures settled { OnOk result (Settles (with_winner known.now next) (D.history disk.new)) }
-    ensures opened { OnOk result (Makes opened (D.history disk.old) (D.history disk.new)) }
+    ensures opened { OnOk result (ReadsChanged opened (D.history disk.old) (D.history disk.new)) }
     ensures crash { LeavesOnly (D.history disk.old) (D.history disk.new) (IsAsBeforeOrOpened (D.history disk.old)) }
     ensures cause { CountsFaults (D.faults disk.old) (D.faults disk.new) result }
 {

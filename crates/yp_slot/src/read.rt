@@ -30,7 +30,7 @@ pub(crate) struct Front<'a> {
 }
 
 /// Reads what stands before the rows.
-#[tactic(auto, using(crate::proofs::Again::word_place, crate::proofs::Again::opaque_place), unfolding(crate::specs::Bodies::head_at))]
+#[tactic(auto, using(crate::proofs::Past::word, crate::proofs::Past::opaque), unfolding(crate::specs::Bodies::head_at))]
 fn read_front<'a>(cursor: &mut Cursor<'a>) -> Result<Front<'a>, Wrong>
     ensures read { Answers (head_at (unread cursor.old)) head_view result (unread cursor.new) }
     ensures passed { OnOk result (Passes (unread cursor.old) (unread cursor.new)) }
@@ -71,7 +71,7 @@ fn is_over(last: Option<&[u8]>, key: &[u8]) -> bool
 }
 
 /// Reads a row, whose key has to be over the one before it.
-#[tactic(auto, using(crate::proofs::Again::opaque_place), unfolding(crate::specs::Bodies::row_at))]
+#[tactic(auto, using(crate::proofs::Past::opaque), unfolding(crate::specs::Bodies::row_at))]
 fn read_row<'a>(cursor: &mut Cursor<'a>, last: Option<&[u8]>) -> Result<(&'a [u8], &'a [u8]), Wrong>
     ensures read { Answers (row_at (option_map (λ last. last.now) last.entry) (unread cursor.old))
         (λ row. (row.0.now, row.1.now)) result (unread cursor.new) }

@@ -32,13 +32,13 @@ pub struct Slot<D: Disk> {
 
 impl<D: Disk> Model for Slot<D> {
     ghost use Rattle.yp_slot.specs.Commits.{generation_of};
-    ghost use Rattle.yp_slot.specs.Slots.{Held, Keeps};
+    ghost use Rattle.yp_slot.specs.Slots.{Held, KeepsFile};
 
     ghost Value = { Held D };
 
     ghost view = { λ s. record { disk = s.disk; stage = s.stage; generation = generation_of s.known.winner } };
 
-    ghost invariant = { λ s. Keeps s.stage s.known s.next (D.history s.disk) };
+    ghost invariant = { λ s. KeepsFile s.stage s.known s.next (D.history s.disk) };
 }
 
 impl<D: Disk> Slot<D> {
@@ -48,7 +48,7 @@ impl<D: Disk> Slot<D> {
     ghost use Rattle.yp_slot.specs.Commits.{generation_max, target, laid, closed, filled, opened, committed};
     ghost use Rattle.yp_slot.specs.Loads.{Loads};
     ghost use Rattle.yp_slot.specs.Slots.{is_ready, HasGeneration, IsSound, IsTold, IsAsBefore, IsAsBeforeOr};
-    ghost use Rattle.yp_slot.specs.Slots.{IsAsBeforeOrOpened, WouldStand, Makes};
+    ghost use Rattle.yp_slot.specs.Slots.{IsAsBeforeOrOpened, WouldStand, ReadsChanged};
     ghost use Rattle.yp_slot.specs.Stands.{Stored, file_max, stands};
 
     /// A slot over a disk. It isn't ready.
@@ -136,7 +136,7 @@ impl<D: Disk> Slot<D> {
         requires { IsTrue (is_ready self.old.stage) }
         ensures stage { self.new.stage ≡ (if is_ok result then Laid else Unready) }
         ensures generation { self.new.generation ≡ self.old.generation }
-        ensures laid { OnOk result (Makes laid (D.history self.old.disk) (D.history self.new.disk)) }
+        ensures laid { OnOk result (ReadsChanged laid (D.history self.old.disk) (D.history self.new.disk)) }
         ensures sound { IfSome (D.history self.old.disk) (λ h. IsSound (stands h.state.reads)) }
         ensures no_call { IsTold (λ file. cells_len ≤ length file) (D.history self.old.disk)
             → self.new.disk ≡ self.old.disk }
@@ -158,7 +158,7 @@ impl<D: Disk> Slot<D> {
         requires { self.old.stage ≡ Laid }
         ensures stage { self.new.stage ≡ (if is_ok result then Closed else Unready) }
         ensures generation { self.new.generation ≡ self.old.generation }
-        ensures closed { OnOk result (Makes closed (D.history self.old.disk) (D.history self.new.disk)) }
+        ensures closed { OnOk result (ReadsChanged closed (D.history self.old.disk) (D.history self.new.disk)) }
         ensures no_call { IsTold (λ file. is_open (target file) file ≡ false) (D.history self.old.disk)
             → self.new.disk ≡ self.old.disk }
         ensures any_moment { LeavesOnly (D.history self.old.disk) (D.history self.new.disk)
@@ -180,7 +180,8 @@ impl<D: Disk> Slot<D> {
         requires generation { self.old.generation < generation_max }
         ensures stage { self.new.stage ≡ (if is_ok result then Filled else Unready) }
         ensures generation { self.new.generation ≡ self.old.generation }
-        ensures filled { OnOk result (Makes (filled body.now) (D.history self.old.disk) (D.history self.new.disk)) }
+        ensures filled { OnOk result
+            (ReadsChanged (filled body.now) (D.history self.old.disk) (D.history self.new.disk)) }
         ensures version { OnOk result ((version : MapVersion) → IsBody body.now version
             → WouldStand version (D.history self.new.disk)) }
         ensures any_moment { LeavesOnly (D.history self.old.disk) (D.history self.new.disk)
@@ -199,7 +200,7 @@ impl<D: Disk> Slot<D> {
         requires { self.old.stage ≡ Filled }
         ensures stage { self.new.stage ≡ (if is_ok result then Loaded else Unready) }
         ensures generation { self.new.generation ≡ self.old.generation + (if is_ok result then 1 else 0) }
-        ensures opened { OnOk result (Makes opened (D.history self.old.disk) (D.history self.new.disk)) }
+        ensures opened { OnOk result (ReadsChanged opened (D.history self.old.disk) (D.history self.new.disk)) }
         ensures durable { OnOk result (IsDurable (D.history self.new.disk)) }
         ensures any_moment { LeavesOnly (D.history self.old.disk) (D.history self.new.disk)
             (IsAsBeforeOrOpened (D.history self.old.disk)) }
@@ -222,7 +223,7 @@ impl<D: Disk> Slot<D> {
         ensures generation { IfOk result (λ generation. generation ≡ self.old.generation + 1) }
         ensures generation_kept { self.new.generation ≡ self.old.generation + (if is_ok result then 1 else 0) }
         ensures committed { OnOk result
-            (Makes (committed body.now) (D.history self.old.disk) (D.history self.new.disk)) }
+            (ReadsChanged (committed body.now) (D.history self.old.disk) (D.history self.new.disk)) }
 
         // At each moment of the call each image stands for what stood, or for the version.
         ensures any_moment { (version : MapVersion) → IsBody body.now version

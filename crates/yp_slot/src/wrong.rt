@@ -14,19 +14,15 @@ pub(crate) struct Wrong {
 
 impl From<XdrFault> for Wrong {
     ghost use Rattle.std.specs.Prelude.{◌≡◌};
-    ghost use Rattle.yp_slot.specs.Bodies.{fault_place};
+    ghost use Rattle.yp_xdr.specs.Faults.{fault_place};
 
     ghost from_gives = { λ fault wrong. wrong ≡ record { at = fault_place fault; rule = 5 } };
 
     fn from(fault: XdrFault) -> Self {
-        let at = match fault {
-            XdrFault::Short { at }
-            | XdrFault::TooLong { at, .. }
-            | XdrFault::Pad { at }
-            | XdrFault::BadBool { at }
-            | XdrFault::BadEnum { at } => at,
-        };
-        Wrong { at, rule: 5 }
+        Wrong {
+            at: fault.place(),
+            rule: 5,
+        }
     }
 }
 

@@ -7,7 +7,7 @@ use Rattle.yp_version.specs.Versions.{MapVersion}
 use Rattle.yp_build.specs.After.{other_master, IsOver}
 use Rattle.yp_publish.specs.declared.install.Origin.TheVariants as Origin
 use Rattle.yp_publish.specs.Standing.{MapStanding, Level, Behind, Kept, OfMap}
-use Rattle.yp_publish.specs.Installs.{offer, refusal, is_behind, not_following, no_further}
+use Rattle.yp_publish.specs.Installs.{offer, install_refusal, is_behind, not_following, no_further}
 use Rattle.yp_publish.specs.Installs as installs
 use Rattle.yp_storing.specs.Build.{IsAccepted}
 

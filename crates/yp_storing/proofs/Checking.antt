@@ -14,7 +14,7 @@ use Rattle.yp_office.specs.declared.disks.NamedDisk.{NamedDisk}
 use Rattle.yp_office.specs.declared.office.Office.{Office}
 use Rattle.yp_office.specs.Disks.{names_of, history_of}
 use Rattle.yp_office.specs.Seeing.{Seeing, output, DiskFails, WriteFails}
-use Rattle.yp_storing.specs.Check.{Checks, IsUnwritten, CheckDoes, check_may_end}
+use Rattle.yp_storing.specs.Check.{Checks, IsOnlyRead, CheckDoes, check_may_end}
 
 -- a version that stands is told, but for faults and want of memory
 pub checked_whole : (store : Name) (file : List ℕ) (version : MapVersion) (status : Status) (before after : Option (List ℕ)) → Checks store file status before after → stands file ≡ Stored version
@@ -50,7 +50,7 @@ told_more (Some x) P Q f h = f x h
 -- what was done to the only disk, and to the sink
 pub record Checked {S K D C A T : Type 0} (seen : Seeing S K D C A T) (store : Name) (status : Status) (before after : NamedDisk D) (old new : K) : Type 0 where
   pub tells : IfSome (seen.disk.history before.disk) (λ h. Checks store h.state.reads status (seen.sink.output old) (seen.sink.output new))
-  pub unwritten : IsUnwritten (seen.disk.history before.disk) (seen.disk.history after.disk)
+  pub unwritten : IsOnlyRead (seen.disk.history before.disk) (seen.disk.history after.disk)
   pub write_fault : status ≡ WriteFault → HasRisen (seen.sink.faults old) (seen.sink.faults new)
   pub disk_fault : (map : MapName) → status ≡ DiskFault map → HasRisen (seen.disk.faults before.disk) (seen.disk.faults after.disk)
   pub name : after.name ≡ before.name

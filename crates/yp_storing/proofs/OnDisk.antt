@@ -24,7 +24,7 @@ use Rattle.yp_office.specs.Disks.{only_history, total_faults}
 use Rattle.yp_storing.specs.declared.build.Built.{Built}
 use Rattle.yp_storing.specs.declared.build.Stop.{Stop}
 use Rattle.yp_storing.specs.declared.build.Stop.TheVariants as stop
-use Rattle.yp_storing.specs.Build.{Job, site_of, Refusal, IsLong, IsDamaged, stop_of_open, over, offered, numbered, planned, plan_of, is_early, Stops, IsBuilt, IsPlanned, IsShownOrPlanned, IsBeforeOrPlanned, IsStored, LeavesFew, BuildsOn}
+use Rattle.yp_storing.specs.Build.{Job, site_of, Refusal, IsLong, IsDamaged, stop_of_open, over, offered, with_generation, planned, plan_of, is_early, Stops, IsBuilt, IsPlanned, IsShownOrPlanned, IsBeforeOrPlanned, IsStored, LeavesFew, BuildsOn}
 
 -- ---- options and results
 
@@ -42,7 +42,7 @@ on_ok_more (Err e) P Q f h = tt
 
 -- ---- the plan
 
-over_is : (job : Job) (text : List ℕ) (now generation : ℕ) (version : Option MapVersion) → over job text now generation (stands_for version) ≡ numbered generation (offered job text now version)
+over_is : (job : Job) (text : List ℕ) (now generation : ℕ) (version : Option MapVersion) → over job text now generation (stands_for version) ≡ with_generation generation (offered job text now version)
 over_is job text now generation None = refl
 over_is job text now generation (Some last) = refl
 
@@ -57,7 +57,7 @@ planned_is job text now kept h few stood numbers =
     sym (short text job (over job text now (generation_of (winning h.state.reads)) (stands h.state.reads)) (nat_lt text_max (length text)) (grind (arith, nat_tests))
     ∙ ap (λ (s : Stands). over job text now (generation_of (winning h.state.reads)) s) stood
     ∙ over_is job text now (generation_of (winning h.state.reads)) kept.version
-    ∙ ap (λ (n : ℕ). numbered n (offered job text now kept.version)) (sym numbers))
+    ∙ ap (λ (n : ℕ). with_generation n (offered job text now kept.version)) (sym numbers))
 
 -- where the history is told, the plan is that of the file
 told_plan : {D : Type 0} (history : Option History) (job : Job) (text : List ℕ) (now : ℕ) (kept : Kept D) (P : History → Result MapVersion Refusal → Type 0) → length text ≤ text_max

@@ -27,7 +27,7 @@ use Rattle.yp_words.specs.Words.{kind_of}
 use Rattle.yp_publish.specs.declared.install.Origin.TheVariants as Origin
 use Rattle.yp_publish.specs.declared.open.OpenFault.{OpenFault}
 use Rattle.yp_publish.specs.declared.open.OpenFault.TheVariants as opening
-use Rattle.yp_publish.specs.Installs.{offer, no_further, refusal}
+use Rattle.yp_publish.specs.Installs.{offer, no_further, install_refusal}
 use Rattle.yp_publish.specs.Installs as installs
 use Rattle.yp_publish.specs.Standing.{Kept, Level, stands_for}
 use Rattle.yp_office.specs.Lines.{map_text}
@@ -42,6 +42,7 @@ use Rattle.yp_office.specs.declared.status.Status.{Status}
 use Rattle.yp_office.specs.declared.status.Status.TheVariants.{Done, ReadFault, WriteFault, TooLong, NoMemory, Damaged}
 use Rattle.yp_office.specs.declared.status.Status.TheVariants.{DiskFault, Rows, OrderSpent, Refused, GenerationsSpent}
 use Rattle.yp_office.specs.declared.office.Office.{Office}
+use Rattle.yp_office.specs.Rows.{key_rule, value_rule, rows_rule, bytes_rule}
 use Rattle.yp_office.specs.Disks.{names_of}
 use Rattle.yp_office.specs.Seeing.{Seeing, input, output, history, moment, ReadFails, WriteFails, DiskFails, HasCauses}
 
@@ -82,14 +83,14 @@ abbrev pub offered : Job → List ℕ → ℕ → Option MapVersion → Result M
 offered job text now standing = built_after (basis_of job.kind job.name job.flag standing) (material_of text now)
 
 -- a version needs a further generation of its file
-abbrev pub numbered : ℕ → Result MapVersion Hindrance → Result MapVersion Refusal
-numbered generation (Ok version) = if generation == generation_max then Err IsSpent else Ok version
-numbered generation (Err why) = Err (Hinders why)
+abbrev pub with_generation : ℕ → Result MapVersion Hindrance → Result MapVersion Refusal
+with_generation generation (Ok version) = if generation == generation_max then Err IsSpent else Ok version
+with_generation generation (Err why) = Err (Hinders why)
 
 -- by what the file stands for
 abbrev pub over : Job → List ℕ → ℕ → ℕ → Stands → Result MapVersion Refusal
-over job text now generation Nothing = numbered generation (offered job text now None)
-over job text now generation (Stored last) = numbered generation (offered job text now (Some last))
+over job text now generation Nothing = with_generation generation (offered job text now None)
+over job text now generation (Stored last) = with_generation generation (offered job text now (Some last))
 over job text now generation (stood.Damaged at rule) = Err (IsDamaged at rule)
 
 -- the version that is to be stored, or the first reason why none is
@@ -169,10 +170,10 @@ line_of job site version =
 
 -- the row and the rule that the fault of a build tells
 abbrev pub row_of : BuildFault → Option (ℕ × ℕ)
-row_of (fault.KeyLong line) = Some (line, 1)
-row_of (fault.ValueLong line) = Some (line, 2)
-row_of (fault.TooManyRows line) = Some (line, 3)
-row_of (fault.TooBig line) = Some (line, 4)
+row_of (fault.KeyLong line) = Some (line, key_rule)
+row_of (fault.ValueLong line) = Some (line, value_rule)
+row_of (fault.TooManyRows line) = Some (line, rows_rule)
+row_of (fault.TooBig line) = Some (line, bytes_rule)
 row_of _ = None
 
 -- What comes of a build, for each status, and what the output took. Each refusal comes exactly where it is planned.
@@ -211,10 +212,10 @@ unread_status unread.NoMemory = NoMemory
 abbrev pub fault_status : BuildFault → Status
 fault_status fault.OrderSpent = OrderSpent
 fault_status fault.NoMemory = NoMemory
-fault_status (fault.KeyLong line) = Rows line 1
-fault_status (fault.ValueLong line) = Rows line 2
-fault_status (fault.TooManyRows line) = Rows line 3
-fault_status (fault.TooBig line) = Rows line 4
+fault_status (fault.KeyLong line) = Rows line key_rule
+fault_status (fault.ValueLong line) = Rows line value_rule
+fault_status (fault.TooManyRows line) = Rows line rows_rule
+fault_status (fault.TooBig line) = Rows line bytes_rule
 
 -- the status of a build of this map that was stopped
 abbrev pub IsStatusOfStop : MapName → Stop → Status → Type 0
@@ -275,12 +276,12 @@ LeavesFew old new = LeavesOnly old new (λ image. MayLeave old image ⊎ (length
 
 -- what is planned behind the version that is shown
 abbrev pub plan_of : {D : Type 0} → Job → List ℕ → ℕ → Kept D → Result MapVersion Refusal
-plan_of job text now kept = numbered kept.generation (offered job text now kept.version)
+plan_of job text now kept = with_generation kept.generation (offered job text now kept.version)
 
 -- nothing but the generation may stand against a version that was built
 pub record IsAccepted {D : Type 0} (own : List ℕ) (version : MapVersion) (kept : Kept D) : Type 0 where
   pub level : kept.standing ≡ Level
-  pub cause : refusal own (offer version Origin.Built false) kept ≡ no_further kept.generation
+  pub cause : install_refusal own (offer version Origin.Built false) kept ≡ no_further kept.generation
 
 -- an install of such a version was stopped by its generation, or by the disk or for want of memory
 abbrev pub StopsInstall : Option installs.Refusal → Stop → Type 0
@@ -332,8 +333,8 @@ build_may_end (GenerationsSpent map) = true
 build_may_end _ = false
 
 -- What is done for a job: the version that is planned of what the office held is stored, or the first reason why there
--- is none is told. At each moment a crash leaves what it might have left before, or a file that stands for what stood or
--- for that version. Where nothing fails a version that is planned is stored and told.
+-- is none is told. At each moment a crash leaves what it might have left before, or a file that stands for what stood
+-- or for that version. Where nothing fails a version that is planned is stored and told.
 pub record JobDoes {S K D C A T : Type 0} (seen : Seeing S K D C A T) (job : Job) (status : Status)
     (old new : Office S K D C A T) : Type 0 where
   pub tells : AtSite seen old (λ site. Builds job site status (output seen old) (output seen new))

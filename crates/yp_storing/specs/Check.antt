@@ -49,7 +49,7 @@ Checks store file NoMemory before after = after ≡ before
 Checks store file _ before after = ⊥
 
 -- Nothing was written to a disk: it stays, or was synced, and no crash left what one might not have left before.
-pub record IsUnwritten (old new : Option History) : Type 0 where
+pub record IsOnlyRead (old new : Option History) : Type 0 where
   pub same : (new ≡ old) ⊎ (new ≡ option_map after_sync old)
   pub any_moment : LeavesOnly old new (MayLeave old)
 
@@ -63,13 +63,13 @@ check_may_end (NoVersion map) = true
 check_may_end (DiskFault map) = true
 check_may_end _ = false
 
--- What `check` does: it tells what the file of its map stands for, and writes nothing to its disk. Where nothing fails a
--- version that stands is told.
+-- What `check` does: it tells what the file of its map stands for, and writes nothing to its disk. Where nothing fails
+-- a version that stands is told.
 pub record CheckDoes {S K D C A T : Type 0} (seen : Seeing S K D C A T) (store : Name) (status : Status)
     (old new : Office S K D C A T) : Type 0 where
   pub tells : IfSome (history seen old)
       (λ h. Checks store h.state.reads status (output seen old) (output seen new))
-  pub unwritten : IsUnwritten (history seen old) (history seen new)
+  pub unwritten : IsOnlyRead (history seen old) (history seen new)
   pub complete : (version : MapVersion) → IfSome (history seen old) (λ h. stands h.state.reads ≡ stood.Stored version
       → ¬ DiskFails seen old new → ¬ WriteFails seen old new → (status ≡ Done) ⊎ (status ≡ NoMemory))
   pub causes : HasCauses seen status old new

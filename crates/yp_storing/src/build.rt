@@ -15,7 +15,7 @@ ghost use Rattle.yp_office.specs.Disks.{names_of, history_of, faults_of, only_hi
 ghost use Rattle.yp_office.specs.Seeing.{seeing, IsPassedOn};
 ghost use Rattle.yp_office.specs.Status.{IsTellable};
 ghost use Rattle.yp_storing.specs.Build.{job_view, last_view, build_line, plan_of, is_early, StopsInstall, IsAccepted};
-ghost use Rattle.yp_storing.specs.Build.{Stops, IsBuilt, IsPlanned, IsShownOrPlanned, LeavesFew, numbered, BuildsOn};
+ghost use Rattle.yp_storing.specs.Build.{Stops, IsBuilt, IsPlanned, IsShownOrPlanned, LeavesFew, with_generation, BuildsOn};
 ghost use Rattle.yp_storing.specs.Build.{unread_status, fault_status, stop_of_open, stop_of_build, stop_of_after};
 ghost use Rattle.yp_storing.specs.Build.{IsStatusOfStop, TellsLine, IsEnd, IsShortStop, BuildDoes, build_may_end};
 
@@ -28,7 +28,8 @@ use yp_io::{
     write_through,
 };
 use yp_office::{
-    Apart, Line, NamedDisk, Office, Status, add, add_map, add_number, put_together, take_apart,
+    Apart, BYTES_RULE, KEY_RULE, Line, NamedDisk, Office, ROWS_RULE, Status, VALUE_RULE, add,
+    add_map, add_number, put_together, take_apart,
 };
 use yp_publish::{InstallFault, Installed, OpenFault, Origin, Publisher, open_publisher};
 use yp_slot::SlotFault;
@@ -161,7 +162,7 @@ fn store_version<D: Disk>(
     ensures short { IfErr result IsShortStop }
     ensures early { IfErr result (λ stop. IsTrue (is_early stop) → publisher.new ≡ publisher.old) }
     ensures any_moment { At 0 publisher.old.maps publisher.new.maps (λ before after. LeavesOnly (D.history before.disk)
-        (D.history after.disk) (IsShownOrPlanned (numbered before.generation (Ok version)) before)) }
+        (D.history after.disk) (IsShownOrPlanned (with_generation before.generation (Ok version)) before)) }
     ensures now { At 0 publisher.old.maps publisher.new.maps (λ before after. (image : List ℕ)
         → MayLeave (D.history after.disk) image → OnOk result (stands image ≡ Stored version)) }
     ensures few { At 0 publisher.old.maps publisher.new.maps
@@ -330,10 +331,10 @@ fn status_of_fault(fault: BuildFault) -> Status
     let (row, rule) = match fault {
         BuildFault::OrderSpent => return Status::OrderSpent,
         BuildFault::NoMemory => return Status::NoMemory,
-        BuildFault::KeyLong { line } => (line, 1),
-        BuildFault::ValueLong { line } => (line, 2),
-        BuildFault::TooManyRows { line } => (line, 3),
-        BuildFault::TooBig { line } => (line, 4),
+        BuildFault::KeyLong { line } => (line, KEY_RULE),
+        BuildFault::ValueLong { line } => (line, VALUE_RULE),
+        BuildFault::TooManyRows { line } => (line, ROWS_RULE),
+        BuildFault::TooBig { line } => (line, BYTES_RULE),
     };
     Status::Rows { row, rule }
 }
@@ -386,7 +387,8 @@ fn tell_end<K: Sink>(sink: &mut K, store: MapName, built: Result<Built, Stop>) -
     }
 }
 
-/// Builds a map of the text on the input, stores it on the only disk, and tells what was stored. `name` is the own name.
+/// Builds a map of the text on the input, stores it on the only disk, and tells what was stored. `name` is the own
+/// name.
 pub fn build_map<S: Source, K: Sink, D: Disk, C: Clock, A: Dial, T: Texts>(
     alloc: Global,
     rt: &impl RandomSource,

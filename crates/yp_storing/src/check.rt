@@ -3,7 +3,7 @@
 ghost use Rattle.std.specs.Prelude.{◌≡◌, ◌≢◌, [], ◌∷◌, IsTrue, IfSome};
 ghost use Rattle.yp_io.specs.Counts.{HasRisen};
 ghost use Rattle.yp_board.specs.Catalogues.{name_view};
-ghost use Rattle.yp_storing.specs.Check.{check_line, Checks, IsUnwritten, CheckDoes, check_may_end};
+ghost use Rattle.yp_storing.specs.Check.{check_line, Checks, IsOnlyRead, CheckDoes, check_may_end};
 ghost use Rattle.yp_office.specs.Disks.{names_of};
 ghost use Rattle.yp_office.specs.Seeing.{seeing, IsPassedOn};
 ghost use Rattle.yp_office.specs.Status.{IsTellable};
@@ -48,7 +48,7 @@ fn check_disk<D: Disk, K: Sink>(
     requires { IsNamed (name_view store) }
     ensures checks { IfSome (D.history disk) (λ h.
         Checks (name_view store) h.state.reads result.0 (K.output sink.old) (K.output sink.new)) }
-    ensures unwritten { IsUnwritten (D.history disk) (D.history result.1) }
+    ensures unwritten { IsOnlyRead (D.history disk) (D.history result.1) }
     ensures may_end { IsTrue (check_may_end result.0) }
     ensures tellable { IsTellable result.0 }
     ensures flushed { result.0 ≢ Status.WriteFault → IsTrue (K.flushed sink.old) → IsTrue (K.flushed sink.new) }

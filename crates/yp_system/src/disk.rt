@@ -21,8 +21,8 @@ const FILE_MODE: u32 = 0o600;
 /// The permissions of a folder that is made.
 const FOLDER_MODE: u32 = 0o700;
 
-/// The file of a map as a disk, which tells nothing of its bytes. It is opened and locked at its first call. A file that
-/// isn't there is an empty one, and is made at the first write, with its folders.
+/// The file of a map as a disk, which tells nothing of its bytes. It is opened and locked at its first call. A file
+/// that isn't there is an empty one, and is made at the first write, with its folders.
 #[derive(Drop)]
 pub struct FileDisk<R: Files + Clock + Drop> {
     place: Place<R>,
@@ -30,8 +30,8 @@ pub struct FileDisk<R: Files + Clock + Drop> {
 }
 
 impl<R: Files + Clock + Drop> FileDisk<R> {
-    /// The file of the map of this name, of which what isn't text stands as one replacement character. Nothing is opened
-    /// yet.
+    /// The file of the map of this name, of which what isn't text stands as one replacement character. Nothing is
+    /// opened yet.
     pub fn new(
         alloc: Global,
         system: R,

@@ -1,8 +1,8 @@
 //! The real outside of the program: standard streams, files, the clock, connections over TCP, and texts in a folder.
 //!
-//! Each is proved to keep the trait of `yp_io` that it stands for. Which bytes the system gives them no contract says, so
-//! they are done with care: a failed sync is never trusted again, a file has one writer, and each wire that is dialed has
-//! a limit of time.
+//! Each is proved to keep the trait of `yp_io` that it stands for. Which bytes the system gives them no contract says,
+//! so they are done with care: a failed sync is never trusted again, a file has one writer, and each wire that is
+//! dialed has a limit of time.
 #![tactic(auto)]
 
 mod clock;

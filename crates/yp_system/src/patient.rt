@@ -10,8 +10,8 @@ use std::time::{Clock, Duration};
 // The pause between two tries.
 const PAUSE_MILLISECONDS: u64 = 5;
 
-/// A stream that is tried again, after a pause, where it would block. Whoever shares a terminal, a pipe or a socket with
-/// this program can make it so. It tells nothing of its bytes.
+/// A stream that is tried again, after a pause, where it would block. Whoever shares a terminal, a pipe or a socket
+/// with this program can make it so. It tells nothing of its bytes.
 #[derive(Drop)]
 pub struct Patient<S, C> {
     stream: S,

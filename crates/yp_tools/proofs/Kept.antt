@@ -9,18 +9,18 @@ use Rattle.yp_office.specs.Seeing.{Seeing, moment}
 use Rattle.yp_tools.specs.Commands.{CommandDoes}
 
 -- both
-pub record Keeps {S K D C A T : Type 0} (seen : Seeing S K D C A T) (old new : Office S K D C A T) : Type 0 where
+pub record KeepsOffice {S K D C A T : Type 0} (seen : Seeing S K D C A T) (old new : Office S K D C A T) : Type 0 where
   pub names : names_of new.disks.items ≡ names_of old.disks.items
   pub told : moment seen new ≡ moment seen old
 
 module _ {S K D C A T : Type 0} (seen : Seeing S K D C A T) (status : Status) (old new : Office S K D C A T) (before after : List Wire) where
-  by_stays : (all : Office S K D C A T) → new ≡ all → names_of all.disks.items ≡ names_of old.disks.items → moment seen all ≡ moment seen old → Keeps seen old new
+  by_stays : (all : Office S K D C A T) → new ≡ all → names_of all.disks.items ≡ names_of old.disks.items → moment seen all ≡ moment seen old → KeepsOffice seen old new
   by_stays all same names told = record {
     names = ap (λ (o : Office S K D C A T). names_of o.disks.items) same ∙ names;
     told = ap (λ (o : Office S K D C A T). seen.clock.moment o.clock) same ∙ told;
   }
 
-  pub command_keeps : (meaning : Meaning) → CommandDoes seen meaning status old new before after → Keeps seen old new
+  pub command_keeps : (meaning : Meaning) → CommandDoes seen meaning status old new before after → KeepsOffice seen old new
   unfolding CommandDoes
   command_keeps (Once store rows) h = by_stays (record old { wire = new.wire }) h.stays refl refl
   command_keeps (Session own peer stores hosts) h = record { names = h.names; told = h.told }

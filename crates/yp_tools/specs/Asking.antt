@@ -65,8 +65,8 @@ ask_may_end DialFault = true
 ask_may_end (Rows row rule) = true
 ask_may_end _ = false
 
--- What a client command does: it asks one server, on one connection, and prints what its replies say, or tells the first
--- refusal. Where the wire that came gives whole replies that answer its calls, and nothing fails, it is answered.
+-- What a client command does: it asks one server, on one connection, and prints what its replies say, or tells the
+-- first refusal. Where the wire that came gives whole replies that answer its calls, and nothing fails, it is answered.
 pub record AskDoes {S K D C A T : Type 0} (seen : Seeing S K D C A T) (peer : Peer) (question : ByteQuestion)
     (status : Status) (old new : Office S K D C A T) : Type 0 where
   pub asks : AsksAs peer question status (scene seen old) (scene seen new)

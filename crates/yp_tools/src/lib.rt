@@ -1,7 +1,7 @@
 //! The commands of Pinthou, and the one call that does all that the program does.
 //!
-//! What the words of the command line mean is said by `yp_words`, whose calls are offered here too. What is read, written
-//! and stored for each command, and the cause of each status, stands on [`run`].
+//! What the words of the command line mean is said by `yp_words`, whose calls are offered here too. What is read,
+//! written and stored for each command, and the cause of each status, stands on [`run`].
 #![tactic(auto)]
 
 mod ask;

@@ -1,4 +1,5 @@
--- The limits of a version, in bytes and in rows. They are this project's choices, but for the length of a name (`yp.x`).
+-- The limits of a version, in bytes and in rows. They are this project's choices, but for the length of a name
+-- (`yp.x`).
 use Rattle.std.specs.Prelude.{ℕ}
 
 -- the most bytes of a key

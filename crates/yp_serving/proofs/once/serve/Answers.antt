@@ -4,8 +4,8 @@ use Rattle.yp_session.specs.Progress.{begun}
 use Rattle.yp_session.specs.Wires.{wire_of}
 use Rattle.yp_session.specs.Runs.{dialogue_at}
 use Rattle.yp_office.specs.declared.status.Status.{Status}
-use Rattle.yp_serving.specs.Callers.{nobody}
-use Rattle.yp_serving.specs.Served.{Traffic, Serves, IsStatusOf, fixed_conduct, status_of}
+use Rattle.yp_words.specs.Words.{nobody}
+use Rattle.yp_serving.specs.Served.{Traffic, ServesInput, IsStatusOf, fixed_conduct, status_of}
 use Rattle.yp_serving.proofs.Told.{serves_told, none_is_open, if_told}
 use Rattle.yp_serving.proofs.Ended.{status_of_end}
 use Rattle.yp_serving.proofs.Watching.{watched}
@@ -16,8 +16,8 @@ returns-clause-served g c =
     let maps : Maps = maps_of c.args.board in
     let wire = wire_of g.S.Source g.K.Sink in
     let traffic : Traffic = record { left = g.S.Source.input c.run.new.wire.source; before = g.K.Sink.output c.args.wire.now.sink; after = g.K.Sink.output c.run.new.wire.sink } in
-    if_told (g.S.Source.input c.args.wire.now.source) (λ stream. Serves maps c.status_of_end.result stream traffic) (λ stream e.
-    subst (λ status. Serves maps status stream traffic) (sym c.status_of_end.ensures.status)
+    if_told (g.S.Source.input c.args.wire.now.source) (λ stream. ServesInput maps c.status_of_end.result stream traffic) (λ stream e.
+    subst (λ status. ServesInput maps status stream traffic) (sym c.status_of_end.ensures.status)
     (serves_told maps stream fixed_conduct (dialogue_at c.new-host.result (wire c.args.wire.now) begun) (dialogue_at c.run.new.host (wire c.run.new.wire) c.run.new.self) _ c.run.result (record {
       none = none_is_open c.open_is_from_own_host.ensures;
       keeps = λ old new h. ap maps_of h;

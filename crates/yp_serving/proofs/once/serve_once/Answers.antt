@@ -4,7 +4,7 @@ use Rattle.yp_version.specs.Versions.{MapVersion}
 use Rattle.yp_answer.specs.Maps.{maps_of}
 use Rattle.yp_board.specs.Catalogues.{name_view}
 use Rattle.yp_board.specs.Views.{Seen}
-use Rattle.yp_serving.specs.Served.{Serves, traffic_of}
+use Rattle.yp_serving.specs.Served.{ServesInput, traffic_of}
 use Rattle.yp_words.specs.Words.{row_view}
 use Rattle.yp_office.specs.Seeing.{Seeing, seeing, input}
 use Rattle.yp_serving.specs.Once.{once_board}
@@ -31,7 +31,7 @@ returns-in-Ok-board_of-clause-does g c =
     let shown : MapVersion → Seen = λ version. record { catalogue = board.catalogue; known = (0, version) ∷ []; asked = 0 } in
     let same : c.in-Ok-board_of.board ≡ board = ◌∙◌ {b = shown c.in-Ok.version} c.in-Ok-board_of.ensures (ap shown c.in-Ok.ensures.ok) in
     record {
-      serves = λ none. subst (λ (b : Seen). IfSome (input seen old) (λ stream. Serves (maps_of b) c.serve.result stream (traffic_of seen old new))) same did.served;
+      serves = λ none. subst (λ (b : Seen). IfSome (input seen old) (λ stream. ServesInput (maps_of b) c.serve.result stream (traffic_of seen old new))) same did.served;
       watched = rw (← same) did.watched;
       refused = search rules;
       complete = λ none stream messages rest told cut reads writes. did.complete stream messages rest told cut (λ e. reads (did.read_fault e)) (λ e. writes (did.write_fault e));
