@@ -1,8 +1,9 @@
 #!/usr/bin/env python3
 """Runs the gate's proofs, edits and tests, and prints the minutes of each crate: bench/gate.py [WORD ..]
 
-The words are those of rt ci. With --anew all is done from nothing, which is what to measure, on a machine that does
-nothing else. It ends with the status of rt ci.
+The words are those of rt ci, where the kit's takes some. One that keeps what it proved does all from nothing with
+--anew; one that takes no words always does. From nothing, on a machine that does nothing else, is what to measure. It
+ends with the status of rt ci.
 
 Twice a second it looks at the provers that run. The processor time of each is what it had at the last look, so it is
 short by half a second at most. The proof of a crate's must-fail edits is theirs, and so is the proof of the crate that
