@@ -17,3 +17,4 @@ pub mod Sent
 pub mod Asking
 pub mod Running
 pub mod Completing
+pub mod OnLogs

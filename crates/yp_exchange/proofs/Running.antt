@@ -37,10 +37,10 @@ pub record Laws : Type 0 where
 
 -- ---- logs that grow
 
-front_same : (log : Log) → IsFront log log
+pub front_same : (log : Log) → IsFront log log
 front_same log = ([], sym (append-nil log))
 
-front_then : (a b c : Log) → IsFront a b → IsFront b c → IsFront a c
+pub front_then : (a b c : Log) → IsFront a b → IsFront b c → IsFront a c
 front_then a b c one other = (one.0 ++ other.0, other.1 ∙ ap (λ (log : Log). log ++ other.0) one.1 ∙ append_assoc a one.0 other.0)
 
 -- what holds of a log holds of its front
@@ -48,7 +48,7 @@ front_all : (P : ℕ × MapVersion → Type 0) (front more : Log) → All P (fro
 front_all P [] more all = All-nil P
 front_all P (entry ∷ front) more all = All-cons P entry front (All-head P entry (front ++ more) all) (front_all P front more (All-tail P entry (front ++ more) all))
 
-served_before : (catalogue : Catalogue) (old new : Log) → IsFront old new → AreServed (maps_on catalogue new) → AreServed (maps_on catalogue old)
+pub served_before : (catalogue : Catalogue) (old new : Log) → IsFront old new → AreServed (maps_on catalogue new) → AreServed (maps_on catalogue old)
 served_before catalogue old new front served = record {
   catalogue = served.catalogue;
   versions = front_all (λ entry. IsVersion entry.1) old front.0 (subst (λ (log : Log). All (λ entry. IsVersion entry.1) log) front.1 served.versions);

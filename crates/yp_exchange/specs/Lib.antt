@@ -5,3 +5,5 @@ pub mod Answered
 pub mod CallLaws
 pub mod Runs
 pub mod QueryLaws
+pub mod LogRuns
+pub mod RunLaws

@@ -6,6 +6,8 @@ ghost use Rattle.yp_exchange.specs.Laws.{MasterTells, OrderTells, MaplistTells};
 ghost use Rattle.yp_exchange.specs.CallLaws.{NumberIsTold, TruthIsTold, BytesAreTold, RowIsTold, NamesAreTold};
 ghost use Rattle.yp_exchange.specs.CallLaws.{RowsAreTold};
 ghost use Rattle.yp_exchange.specs.QueryLaws.{CallsAreTold, QueryPrintsTold, RunIsPrinted, ToldIsAnswered};
+ghost use Rattle.yp_exchange.specs.RunLaws.{DomainHasReply, MatchHasReply, FirstHasReply, NextHasReply, AllHasReply};
+ghost use Rattle.yp_exchange.specs.RunLaws.{MasterHasReply, OrderHasReply, MaplistHasReply, RunIsInTurn, LogRunIsPrinted};
 
 use yp_rpc::laws::{call_is_heard_again, first_is_one, rest_is_not_whole};
 use yp_version::laws::{rising_is_distinct, rising_stays};
@@ -128,6 +130,45 @@ pub fn run_is_printed()
     master_tells();
     order_tells();
     maplist_tells();
+}
+
+/// Each call of a client that asks for what the maps have gets one reply of a server, at once: it isn't met by silence,
+/// and makes no map first.
+pub fn calls_have_replies()
+    ensures domain { DomainHasReply }
+    ensures value { MatchHasReply }
+    ensures first { FirstHasReply }
+    ensures next { NextHasReply }
+    ensures all { AllHasReply }
+    ensures master { MasterHasReply }
+    ensures order { OrderHasReply }
+    ensures names { MaplistHasReply }
+{
+    domain_tells();
+    match_tells();
+    first_tells();
+    next_tells();
+    all_tells();
+    room_for_version();
+    master_tells();
+    order_tells();
+    maplist_tells();
+}
+
+/// A run on logs over records that get replies at once answered them in turn, on the states of fronts of one log, each
+/// of which begins with the one before.
+pub fn run_is_in_turn()
+    ensures { RunIsInTurn }
+{}
+
+/// So a question prints the state of a server's maps, where the wire of the peer that was dialed gives what that server
+/// sent in a run over the calls of the question.
+pub fn log_run_is_printed()
+    ensures { LogRunIsPrinted }
+{
+    calls_have_replies();
+    run_is_in_turn();
+    run_is_printed();
 }
 
 /// Where the maps tell a text, or that there is no such key, a server's replies answer the calls of a question.

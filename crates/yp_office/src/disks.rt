@@ -1,6 +1,6 @@
 //! The disks of maps, each with its map's name.
 
-ghost use Rattle.std.specs.Prelude.{◌≡◌, ◌<◌, ◌≤◌, [], ◌∷◌, map, length, vec_capacity, IfOk, OnOk, OnErr};
+ghost use Rattle.std.specs.Prelude.{◌≡◌, ◌≤◌, [], map, length, vec_capacity, IfOk, OnOk, OnErr};
 ghost use Rattle.yp_board.specs.Catalogues.{name_view};
 ghost use Rattle.yp_office.specs.Disks.{names_of, disks_of};
 
@@ -32,31 +32,6 @@ pub fn named_disks<D: Drop, F: FnMut(&MapName) -> Result<D, AllocError>>(
         disks.push(NamedDisk { name, disk })?;
     }
     Ok(disks)
-}
-
-/// Takes the only disk out. Its room stays.
-pub fn take_only<D>(disks: &mut Vec<NamedDisk<D>>) -> NamedDisk<D>
-    requires { length disks.old.items ≡ 1 }
-    ensures taken { disks.old.items ≡ result ∷ [] }
-    ensures empty { disks.new.items ≡ [] }
-    ensures room { 0 < vec_capacity disks.new }
-{
-    match disks.pop() {
-        Some(disk) => disk,
-        None => unreachable!(),
-    }
-}
-
-/// Puts a disk back as the only one.
-pub fn put_only<D>(disks: &mut Vec<NamedDisk<D>>, disk: NamedDisk<D>)
-    requires empty { disks.old.items ≡ [] }
-    requires room { 0 < vec_capacity disks.old }
-    ensures { disks.new.items ≡ disk ∷ [] }
-{
-    match disks.push(disk) {
-        Ok(()) => {}
-        Err(_) => unreachable!(),
-    }
 }
 
 /// The names of maps, and their disks, in the same order.

@@ -1,18 +1,23 @@
 -- What the client commands do: a server is asked, and its answer printed.
-use Rattle.std.specs.Prelude.{◌≡◌, ◌⊎◌, ℕ, Bool, true, false, List, Result, Ok, Err}
+use Rattle.std.specs.Prelude.{◌≡◌, ◌⊎◌, ℕ, Bool, true, false, List, ◌++◌, Result, Ok, Err}
 use Rattle.yp_io.specs.declared.stream.Peer.{Peer}
+use Rattle.yp_board.specs.Catalogues.{Catalogue}
+use Rattle.yp_board.specs.Logs.{Log}
+use Rattle.yp_session.specs.Hosts.{Turn}
 use Rattle.yp_client.specs.declared.fault.ClientFault.TheVariants as client
 use Rattle.yp_query.specs.declared.fault.QueryFault.{QueryFault}
 use Rattle.yp_query.specs.declared.fault.QueryFault.TheVariants as fault
 use Rattle.yp_question.specs.Questions.{ByteQuestion}
 use Rattle.yp_query.specs.Scenes.{Scene, Asks, scene_of}
 use Rattle.yp_query.specs.Complete.{HasAnswer, HasCome}
+use Rattle.yp_exchange.specs.Runs.{sent_all, PrintsOnLogs}
+use Rattle.yp_exchange.specs.LogRuns.{replies_of, AnswersCalls}
 use Rattle.yp_office.specs.Rows.{row_status}
 use Rattle.yp_office.specs.declared.status.Status.{Status}
 use Rattle.yp_office.specs.declared.status.Status.TheVariants.{Done, No, ReadFault, WriteFault, Torn, TooLong, NoMemory}
 use Rattle.yp_office.specs.declared.status.Status.TheVariants.{Yp, Denied, BadReply, BadXid, DialFault, Rows}
 use Rattle.yp_office.specs.declared.office.Office.{Office}
-use Rattle.yp_office.specs.Seeing.{Seeing, WriteFails, DialFails}
+use Rattle.yp_office.specs.Seeing.{Seeing, output, WriteFails, DialFails}
 
 -- the status of a question: done, or why it has no answer
 abbrev pub status_of : Result (Unit {0}) QueryFault → Status
@@ -65,11 +70,18 @@ ask_may_end DialFault = true
 ask_may_end (Rows row rule) = true
 ask_may_end _ = false
 
--- What a client command does: it asks one server, on one connection, and prints what its replies say, or tells the
--- first refusal. Where the wire that came gives whole replies that answer its calls, and nothing fails, it is answered.
+-- What a client command does: it asks one server, on one connection, and prints what its replies say, or tells the first
+-- refusal. Where the wire that came gives what a server of this product sent in a run over the calls of the question,
+-- the text, or the refusal, is what the maps of that server tell at its first call, and for `poll` at its second: all
+-- rows of one version, the value of the key in it, its master, its order, or the names of maps. Where the wire gives
+-- whole replies that answer its calls, and nothing fails, it is answered.
 pub record AskDoes {S K D C A T : Type 0} (seen : Seeing S K D C A T) (peer : Peer) (question : ByteQuestion)
     (status : Status) (old new : Office S K D C A T) : Type 0 where
   pub asks : AsksAs peer question status (scene seen old) (scene seen new)
+  pub prints : (catalogue : Catalogue) (caller : Peer) (turns : List Turn) (rest : List ℕ) (before after : Log)
+      → AnswersCalls catalogue caller question turns before after
+      → HasCome peer (sent_all (replies_of turns) ++ rest) (seen.dial.past old.dial) (seen.dial.past new.dial)
+      → PrintsOnLogs catalogue caller question before after asks.result (output seen old) (output seen new)
   pub complete : (stream : List ℕ) → HasAnswer question stream
       → HasCome peer stream (seen.dial.past old.dial) (seen.dial.past new.dial)
       → ¬ DialFails seen old new → ¬ WriteFails seen old new → IsAnswer status

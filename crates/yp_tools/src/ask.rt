@@ -10,6 +10,7 @@ ghost use Rattle.yp_tools.specs.Asking.{AskDoes, ask_may_end, status_of};
 use std::alloc::Global;
 use std::random::RandomSource;
 use yp_client::ClientFault;
+use yp_exchange::laws;
 use yp_io::{Clock, Dial, Disk, Peer, Sink, Source, Texts};
 use yp_office::{Office, Status, status_of_row};
 use yp_query::{QueryFault, query};
@@ -64,6 +65,7 @@ pub fn ask<S: Source, K: Sink, D: Disk, C: Clock, A: Dial, T: Texts>(
     ensures passed_on { IsPassedOn (seeing S.Source K.Sink D.Disk C.Clock A.Dial T.Texts) result office.old office.new }
     ensures tellable { IsTellable result }
 {
+    laws::log_run_is_printed();
     match query(
         alloc,
         rt,

@@ -162,6 +162,19 @@ fn refusals(rt: HostRuntime) {
     }
 }
 
+#[test]
+fn places(rt: HostRuntime) {
+    for (fault, place) in [
+        (XdrFault::Short { at: 0 }, 0),
+        (XdrFault::TooLong { at: 4, len: 9 }, 4),
+        (XdrFault::Pad { at: 7 }, 7),
+        (XdrFault::BadBool { at: 12 }, 12),
+        (XdrFault::BadEnum { at: 16 }, 16),
+    ] {
+        assert_same(&rt, &fault.place(), &place, "a place");
+    }
+}
+
 // What is read behind another item: what is refused, and how far the cursor is then.
 #[derive(Debug, PartialEq, Eq, Drop)]
 struct Behind<'a> {

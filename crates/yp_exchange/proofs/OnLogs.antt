@@ -1,0 +1,98 @@
+-- The laws of a server's run on logs.
+use Rattle.std.proofs.Common.{◌≡◌, ℕ, ◌≤◌, List, [], ◌∷◌, length, Option, Some, Result, Ok, Err, sym, ◌∙◌, subst, arith, All}
+use Rattle.std.specs.List.{cons_option}
+use Rattle.std.proofs.lemmas.List.{append-nil}
+use Rattle.std.proofs.lemmas.List.Elements.{All-nil, All-cons, All-head, All-tail}
+use Rattle.yp_io.specs.declared.stream.Peer.{Peer}
+use Rattle.yp_board.specs.Catalogues.{Catalogue}
+use Rattle.yp_board.specs.Logs.{Log}
+use Rattle.yp_board.specs.Views.{IsFront}
+use Rattle.yp_client.specs.declared.fault.ClientFault.{ClientFault}
+use Rattle.yp_client.specs.Results.{order_of}
+use Rattle.yp_client.specs.Asked.{all_call, match_call, master_call, order_call, maplist_call}
+use Rattle.yp_query.specs.declared.question.Question.TheVariants.{Cat, Catk, Match, Which, Poll, Maps as MapsOf}
+use Rattle.yp_query.specs.Questions.{ByteQuestion, QuestionIsWithin}
+use Rattle.yp_answer.specs.declared.procedure.Path.TheVariants.{Stream}
+use Rattle.yp_answer.specs.Reply.{Response, Bytes, reply}
+use Rattle.yp_session.specs.Hosts.{Turn}
+use Rattle.yp_session.specs.LogRuns.{Gets, LogRun}
+use Rattle.yp_exchange.specs.Runs.{maps_on, RepliesInTurn, behind_order, poll_calls, calls_made}
+use Rattle.yp_exchange.specs.QueryLaws.{RunIsPrinted}
+use Rattle.yp_exchange.specs.LogRuns.{records_of, replies_of, IsRepliedTo}
+use Rattle.yp_exchange.specs.RunLaws.{MatchHasReply, AllHasReply, MasterHasReply, OrderHasReply, MaplistHasReply, RunIsInTurn, LogRunIsPrinted}
+use Rattle.yp_exchange.proofs.Running.{front_then, served_before}
+
+-- ---- a run
+
+-- replies from a later log on are replies from an earlier one on
+earlier : (catalogue : Catalogue) (peer : Peer) (calls replies : List (List ℕ)) (first second last : Log) → IsFront first second → RepliesInTurn catalogue peer calls replies second last
+    → RepliesInTurn catalogue peer calls replies first last
+earlier catalogue peer [] [] first second last front run = front_then first second last front run
+earlier catalogue peer [] (bytes ∷ replies) first second last front run = absurd run
+earlier catalogue peer (call ∷ calls) [] first second last front run = absurd run
+earlier catalogue peer (call ∷ calls) (bytes ∷ replies) first second last front run = (run.0, front_then first second run.0 front run.1, run.2, run.3)
+
+-- a run goes from a log to one that begins with it
+log_front : (catalogue : Catalogue) (peer : Peer) (turns : List Turn) (before after : Log) → LogRun catalogue Stream peer turns before after → IsFront before after
+log_front catalogue peer [] before after run = ([], run ∙ sym (append-nil before))
+log_front catalogue peer (turn ∷ turns) before after run =
+    front_then before run.0 after (front_then before run.1.log run.0 run.1.begins run.1.goes_on) (log_front catalogue peer turns run.0 after run.2)
+
+-- a reply at once is what a record got
+gets_bytes : (own : List ℕ) (response : Response) (bytes : List ℕ) (answer : Option (List ℕ)) (log next : Log) → response ≡ Bytes bytes → Gets own response answer log next → answer ≡ Some bytes
+gets_bytes own response bytes answer log next is gets = subst (λ (r : Response). Gets own r answer log next) is gets
+
+pub run_is_in_turn : RunIsInTurn
+run_is_in_turn catalogue peer [] before after served run all = log_front catalogue peer [] before after run
+run_is_in_turn catalogue peer (turn ∷ turns) before after served run all =
+    let one = run.1 in
+    let maps = maps_on catalogue one.log in
+    let behind = front_then one.log run.0 after one.goes_on (log_front catalogue peer turns run.0 after run.2) in
+    let has = All-head (IsRepliedTo peer) turn.message (records_of turns) all maps (served_before catalogue one.log after behind served) in
+    let rest = run_is_in_turn catalogue peer turns run.0 after served run.2 (All-tail (IsRepliedTo peer) turn.message (records_of turns) all) in
+    let later = earlier catalogue peer (records_of turns) (replies_of turns) one.log run.0 after one.goes_on rest in
+    let got = gets_bytes catalogue.own (reply Stream maps peer turn.message) has.0 turn.answer one.log run.0 has.1 one.gets in
+    subst (λ (answer : Option (List ℕ)). RepliesInTurn catalogue peer (turn.message ∷ records_of turns) (cons_option answer (replies_of turns)) before after) (sym got)
+    (one.log, one.begins, has.1, later)
+
+-- ---- the calls of a question
+
+-- the calls of a question have replies
+pub record Replied : Type 0 where
+  pub value : MatchHasReply
+  pub all : AllHasReply
+  pub master : MasterHasReply
+  pub order : OrderHasReply
+  pub names : MaplistHasReply
+
+module _ (laws : Replied) (peer : Peer) where
+  one_call : (call : List ℕ) → IsRepliedTo peer call → All (IsRepliedTo peer) (call ∷ [])
+  one_call call is = All-cons (IsRepliedTo peer) call [] is (All-nil (IsRepliedTo peer))
+
+  behind_replied : (domain map : List ℕ) (said : Result ℕ ClientFault) → length domain ≤ 64 → length map ≤ 64 → All (IsRepliedTo peer) (behind_order (master_call domain map 2) said)
+  behind_replied domain map (Ok order) d m = one_call (master_call domain map 2) (λ maps served. laws.master maps peer 2 domain served (omega arith) d map m)
+  behind_replied domain map (Err fault) d m = All-nil (IsRepliedTo peer)
+
+  order_replied : (domain map : List ℕ) → length domain ≤ 64 → length map ≤ 64 → IsRepliedTo peer (order_call domain map 1)
+  order_replied domain map d m maps served = laws.order maps peer 1 domain served (omega arith) d map m
+
+  poll_replied : (domain map : List ℕ) (replies : List (List ℕ)) → length domain ≤ 64 → length map ≤ 64 → All (IsRepliedTo peer) (poll_calls domain map replies)
+  poll_replied domain map [] d m = one_call (order_call domain map 1) (order_replied domain map d m)
+  poll_replied domain map (bytes ∷ replies) d m =
+      All-cons (IsRepliedTo peer) (order_call domain map 1) (behind_order (master_call domain map 2) (order_of 1 bytes)) (order_replied domain map d m) (behind_replied domain map (order_of 1 bytes) d m)
+
+  calls_replied : (question : ByteQuestion) (replies : List (List ℕ)) → QuestionIsWithin question → All (IsRepliedTo peer) (calls_made question replies)
+  calls_replied (Cat domain map) replies within = one_call (all_call domain map 1) (λ maps served. laws.all maps peer 1 domain served (omega arith) within.0 map within.1)
+  calls_replied (Catk domain map) replies within = one_call (all_call domain map 1) (λ maps served. laws.all maps peer 1 domain served (omega arith) within.0 map within.1)
+  calls_replied (Match domain map key) replies within = one_call (match_call domain map key 1) (λ maps served. laws.value maps peer 1 domain served (omega arith) within.0 map within.1 key within.2)
+  calls_replied (Which domain map) replies within = one_call (master_call domain map 1) (λ maps served. laws.master maps peer 1 domain served (omega arith) within.0 map within.1)
+  calls_replied (Poll domain map) replies within = poll_replied domain map replies within.0 within.1
+  calls_replied (MapsOf domain) replies within = one_call (maplist_call domain 1) (λ maps served. laws.names maps peer 1 domain served (omega arith) within)
+
+pub log_run_is_printed : Replied → RunIsInTurn → RunIsPrinted → LogRunIsPrinted
+log_run_is_printed replied in_turn printed catalogue server caller question turns rest before after result old new within answers came asks =
+    let calls = calls_made question (replies_of turns) in
+    let all = subst (λ (records : List (List ℕ)). All (IsRepliedTo caller) records) (sym answers.calls) (calls_replied replied caller question (replies_of turns) within) in
+    let run = subst (λ (records : List (List ℕ)). RepliesInTurn catalogue caller records (replies_of turns) before after) answers.calls
+    (in_turn catalogue caller turns before after answers.served answers.run all) in
+    printed catalogue server caller question (replies_of turns) rest before after result old new answers.served within run came asks

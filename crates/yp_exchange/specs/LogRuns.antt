@@ -1,0 +1,36 @@
+-- What a server replies in a run on logs, while others may show versions.
+use Rattle.std.specs.Prelude.{◌≡◌, ℕ, List, map}
+use Rattle.std.specs.List.{filter_map}
+use Rattle.yp_io.specs.declared.stream.Peer.{Peer}
+use Rattle.yp_board.specs.Catalogues.{Catalogue}
+use Rattle.yp_board.specs.Logs.{Log}
+use Rattle.yp_answer.specs.declared.procedure.Path.TheVariants.{Stream}
+use Rattle.yp_answer.specs.Maps.{Maps}
+use Rattle.yp_answer.specs.Reply.{Bytes, reply}
+use Rattle.yp_session.specs.Hosts.{Turn}
+use Rattle.yp_session.specs.LogRuns.{LogRun}
+use Rattle.yp_query.specs.Questions.{ByteQuestion}
+use Rattle.yp_exchange.specs.Served.{AreServed}
+use Rattle.yp_exchange.specs.Runs.{maps_on, calls_made}
+
+-- the records that were answered, and the replies of those that got one
+abbrev pub records_of : List Turn → List (List ℕ)
+records_of turns = map (λ turn. turn.message) turns
+
+abbrev pub replies_of : List Turn → List (List ℕ)
+replies_of turns = filter_map (λ turn. turn.answer) turns
+
+-- A server that knows these maps replies to a record at once: it isn't silent, and makes no map first.
+abbrev pub HasReply : Maps → Peer → List ℕ → Type 0
+HasReply maps peer message = (bytes : List ℕ) × (reply Stream maps peer message ≡ Bytes bytes)
+
+-- So does every server.
+abbrev pub IsRepliedTo : Peer → List ℕ → Type 0
+IsRepliedTo peer message = (maps : Maps) → AreServed maps → HasReply maps peer message
+
+-- A run of a server, on a log that grows from one to another, was over the calls that are made for a question.
+pub record AnswersCalls (catalogue : Catalogue) (peer : Peer) (question : ByteQuestion) (turns : List Turn)
+    (before after : Log) : Type 0 where
+  pub served : AreServed (maps_on catalogue after)
+  pub run : LogRun catalogue Stream peer turns before after
+  pub calls : records_of turns ≡ calls_made question (replies_of turns)
