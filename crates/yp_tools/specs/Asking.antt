@@ -70,11 +70,11 @@ ask_may_end DialFault = true
 ask_may_end (Rows row rule) = true
 ask_may_end _ = false
 
--- What a client command does: it asks one server, on one connection, and prints what its replies say, or tells the first
--- refusal. Where the wire that came gives what a server of this product sent in a run over the calls of the question,
--- the text, or the refusal, is what the maps of that server tell at its first call, and for `poll` at its second: all
--- rows of one version, the value of the key in it, its master, its order, or the names of maps. Where the wire gives
--- whole replies that answer its calls, and nothing fails, it is answered.
+-- What a client command does: it asks one server, on one connection, and prints what its replies say, or tells the
+-- first refusal. Where the wire that came gives what a server of this product sent in a run over the calls of the
+-- question, the text, or the refusal, is what the maps of that server tell at its first call, and for `poll` at its
+-- second: all rows of one version, the value of the key in it, its master, its order, or the names of maps. Where the
+-- wire gives whole replies that answer its calls, and nothing fails, it is answered.
 pub record AskDoes {S K D C A T : Type 0} (seen : Seeing S K D C A T) (peer : Peer) (question : ByteQuestion)
     (status : Status) (old new : Office S K D C A T) : Type 0 where
   pub asks : AsksAs peer question status (scene seen old) (scene seen new)

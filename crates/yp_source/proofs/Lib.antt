@@ -1,0 +1,6 @@
+pub mod Showing
+pub mod Rising
+pub mod Hearing
+pub mod Going
+pub mod Giving
+pub mod Keeping

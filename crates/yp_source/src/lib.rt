@@ -1,0 +1,8 @@
+//! What is fetched of a map is what its source shows.
+//!
+//! That a version is the one that the source showed at all of its replies stands on
+//! [`laws::fetched_is_shown`], and that a fetch of a map that doesn't change meanwhile gives it on
+//! [`laws::shown_is_fetched`].
+#![tactic(auto)]
+
+pub mod laws;
