@@ -10,8 +10,8 @@ use Rattle.yp_client.specs.Limits.{reply_max, all_max}
 use Rattle.yp_client.specs.Asked.{all_call, match_call, master_call, order_call, maplist_call}
 use Rattle.yp_query.specs.declared.fault.QueryFault.{QueryFault}
 use Rattle.yp_query.specs.declared.fault.QueryFault.TheVariants.{NoKey, Client, NoMemory}
-use Rattle.yp_query.specs.declared.question.Question.TheVariants.{Cat, Catk, Match, Which, Poll, Maps as MapsOf}
-use Rattle.yp_query.specs.Questions.{ByteQuestion}
+use Rattle.yp_question.specs.declared.question.Question.TheVariants.{Cat, Catk, Match, Which, Poll, Maps as MapsOf}
+use Rattle.yp_question.specs.Questions.{ByteQuestion}
 use Rattle.yp_query.specs.Lines.{line, lines, rows_text, standing_text}
 use Rattle.yp_query.specs.Faults.{query_fault, match_fault}
 use Rattle.yp_query.specs.Asked.{Outcome, meant_by}

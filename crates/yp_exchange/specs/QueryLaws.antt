@@ -6,7 +6,7 @@ use Rattle.yp_board.specs.Logs.{Log}
 use Rattle.yp_answer.specs.Maps.{Maps}
 use Rattle.yp_client.specs.States.{ClientState}
 use Rattle.yp_query.specs.declared.fault.QueryFault.{QueryFault}
-use Rattle.yp_query.specs.Questions.{ByteQuestion, QuestionIsWithin}
+use Rattle.yp_question.specs.Questions.{ByteQuestion, QuestionIsWithin}
 use Rattle.yp_query.specs.Asked.{Outcome, Converses}
 use Rattle.yp_query.specs.Complete.{HasCome, HasAnswer}
 use Rattle.yp_query.specs.Scenes.{Scene, IsFirst, Asks}

@@ -26,8 +26,8 @@ use Rattle.yp_msgs.specs.declared.maplist.MapList.{MapList}
 use Rattle.yp_query.specs.Lines.{line, lines, standing_text}
 use Rattle.yp_query.specs.declared.fault.QueryFault.{QueryFault}
 use Rattle.yp_query.specs.declared.fault.QueryFault.TheVariants.{NoKey, Client, Dial, Output, NoMemory}
-use Rattle.yp_query.specs.declared.question.Question.TheVariants.{Cat, Catk, Match, Which, Poll, Maps}
-use Rattle.yp_query.specs.Questions.{ByteQuestion}
+use Rattle.yp_question.specs.declared.question.Question.TheVariants.{Cat, Catk, Match, Which, Poll, Maps}
+use Rattle.yp_question.specs.Questions.{ByteQuestion}
 use Rattle.yp_query.specs.Faults.{query_fault, match_fault}
 use Rattle.yp_query.specs.Asked.{Outcome, meant_by, IsInMemory, no_rows, TakesRows, MakesMaster}
 use Rattle.yp_query.specs.Asked.{MakesCalls}

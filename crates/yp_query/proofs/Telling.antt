@@ -16,8 +16,8 @@ use Rattle.yp_client.specs.States.{ClientState}
 use Rattle.yp_client.specs.Calls.{Calls}
 use Rattle.yp_query.specs.declared.fault.QueryFault.{QueryFault}
 use Rattle.yp_query.specs.declared.fault.QueryFault.TheVariants.{Dial, Output, NoMemory}
-use Rattle.yp_query.specs.declared.question.Question.TheVariants.{Cat, Catk, Match, Which, Poll, Maps}
-use Rattle.yp_query.specs.Questions.{ByteQuestion}
+use Rattle.yp_question.specs.declared.question.Question.TheVariants.{Cat, Catk, Match, Which, Poll, Maps}
+use Rattle.yp_question.specs.Questions.{ByteQuestion}
 use Rattle.yp_query.specs.Faults.{query_fault, match_fault, IsTellable}
 use Rattle.yp_query.specs.Asked.{Outcome, meant_by, IsInMemory, Makes, no_rows, TakesRows, MakesMaster, MakesCalls}
 use Rattle.yp_query.specs.Asked.{Converses}

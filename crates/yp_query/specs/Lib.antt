@@ -1,4 +1,3 @@
-pub mod Questions
 pub mod Lines
 pub mod Printed
 pub mod Faults

@@ -8,7 +8,7 @@ use Rattle.yp_client.specs.declared.fault.ClientFault.TheVariants.{ReadFault, Wr
 use Rattle.yp_client.specs.States.{ClientState}
 use Rattle.yp_query.specs.declared.fault.QueryFault.{QueryFault}
 use Rattle.yp_query.specs.declared.fault.QueryFault.TheVariants.{Client, Dial, Output, NoMemory}
-use Rattle.yp_query.specs.Questions.{ByteQuestion}
+use Rattle.yp_question.specs.Questions.{ByteQuestion}
 use Rattle.yp_io.specs.Streams.{AppendsFront}
 use Rattle.yp_query.specs.Asked.{Outcome, Converses}
 

@@ -7,19 +7,19 @@ ghost use Rattle.yp_client.specs.Said.{SaysBytes, SaysNames};
 ghost use Rattle.yp_client.specs.Asked.{match_call, master_call, maplist_call};
 ghost use Rattle.yp_client.specs.States.{state_of};
 ghost use Rattle.yp_query.specs.Lines.{line, lines};
-ghost use Rattle.yp_query.specs.Questions.{bytes_of, QuestionIsWithin};
+ghost use Rattle.yp_question.specs.Questions.{bytes_of, QuestionIsWithin};
 ghost use Rattle.yp_query.specs.Faults.{query_fault, match_fault};
 ghost use Rattle.yp_query.specs.Asked.{meant_by, Makes, TakesRows, Polls, IsUnlessMemory, Converses};
 ghost use Rattle.yp_client.specs.Limits.{reply_max};
 ghost use Rattle.yp_query.specs.Answers.{outcome_of};
 
 use crate::fault::{QueryFault, of_match};
-use crate::question::Question;
 use std::alloc::Global;
 use std::random::RandomSource;
 use yp_client::Client;
 use yp_io::{NoMemory, Sink, Source};
 use yp_msgs::Names;
+use yp_question::Question;
 use yp_version::{Version, VersionBuilder};
 
 /// The whole answer to a question.

@@ -8,9 +8,7 @@ mod answer;
 mod dialed;
 mod fault;
 mod print;
-mod question;
 mod text;
 
 pub use dialed::query;
 pub use fault::QueryFault;
-pub use question::Question;

@@ -4,7 +4,7 @@ use Rattle.yp_io.specs.declared.stream.Peer.{Peer}
 use Rattle.yp_client.specs.declared.fault.ClientFault.TheVariants as client
 use Rattle.yp_query.specs.declared.fault.QueryFault.{QueryFault}
 use Rattle.yp_query.specs.declared.fault.QueryFault.TheVariants as fault
-use Rattle.yp_query.specs.Questions.{ByteQuestion}
+use Rattle.yp_question.specs.Questions.{ByteQuestion}
 use Rattle.yp_query.specs.Scenes.{Scene, Asks, scene_of}
 use Rattle.yp_query.specs.Complete.{HasAnswer, HasCome}
 use Rattle.yp_office.specs.Rows.{row_status}

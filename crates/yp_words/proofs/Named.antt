@@ -17,8 +17,8 @@ use Rattle.yp_words.specs.Words.{Meaning, Further, Sentence, once, session, chec
 use Rattle.yp_words.specs.Words.{match_key, maps, asking, sentences, further_fitting}
 use Rattle.yp_words.specs.Words.{serving_fitting, joins, is_new_store, served, fitting, is_whole, asked, name_of}
 use Rattle.yp_words.specs.Words.{kind_of, IsNamed, HasNames}
-use Rattle.yp_query.specs.declared.question.Question.TheVariants.{Cat, Catk, Which, Poll}
-use Rattle.yp_query.specs.Questions.{ByteQuestion, QuestionIsWithin}
+use Rattle.yp_question.specs.declared.question.Question.TheVariants.{Cat, Catk, Which, Poll}
+use Rattle.yp_question.specs.Questions.{ByteQuestion, QuestionIsWithin}
 
 -- words have these forms, in turn
 HaveForms : List Form → List (List ℕ) → Type 0

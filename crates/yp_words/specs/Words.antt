@@ -11,8 +11,8 @@ use Rattle.yp_io.specs.declared.stream.Peer.{Peer}
 use Rattle.yp_board.specs.Catalogues.{Name, name_max, maps_max, name_view, is_same, catalog_fault}
 use Rattle.yp_build.specs.declared.kind.Kind.{Kind}
 use Rattle.yp_build.specs.Kinds.{kinds, name_of as kind_name}
-use Rattle.yp_query.specs.declared.question.Question.TheVariants.{Cat, Catk, Match, Which, Poll, Maps}
-use Rattle.yp_query.specs.Questions.{ByteQuestion, bytes_of, question_map, QuestionIsWithin}
+use Rattle.yp_question.specs.declared.question.Question.TheVariants.{Cat, Catk, Match, Which, Poll, Maps}
+use Rattle.yp_question.specs.Questions.{ByteQuestion, bytes_of, question_map, QuestionIsWithin}
 use Rattle.yp_words.specs.declared.command.KeyValue.{KeyValue}
 use Rattle.yp_words.specs.declared.command.HostWord.{HostWord}
 use Rattle.yp_words.specs.declared.command.Command.{Command}

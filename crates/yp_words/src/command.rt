@@ -2,7 +2,7 @@
 
 use yp_board::MapName;
 use yp_io::Peer;
-use yp_query::Question;
+use yp_question::Question;
 
 /// A row that the words give.
 #[derive(Debug, Drop)]

@@ -1,8 +1,7 @@
 //! The words of the command line: what they ask for, or the first that is wrong.
 //!
 //! The sentences are a table, and one reader judges the words by it. The promise stands on [`parse`]; which maps' files
-//! a
-//! command reads or writes, on [`disk_names`].
+//! a command reads or writes, on [`disk_names`].
 #![tactic(auto)]
 
 mod command;

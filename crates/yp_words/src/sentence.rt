@@ -9,7 +9,7 @@ ghost use Rattle.yp_words.specs.Words.{sentence_view, texts};
 
 use crate::form::Form;
 use crate::serving::{has_store, joins};
-use yp_query::Question;
+use yp_question::Question;
 
 /// What the words of a sentence ask for.
 #[derive(Clone, Copy)]

@@ -2,7 +2,7 @@
 
 ghost use Rattle.std.specs.Prelude.{◌≡◌, [], ◌∷◌, drop, map, Ok, IfOk, IfErr, OnErr};
 ghost use Rattle.yp_board.specs.Catalogues.{name_view};
-ghost use Rattle.yp_query.specs.Questions.{bytes_of, question_map};
+ghost use Rattle.yp_question.specs.Questions.{bytes_of, question_map};
 ghost use Rattle.yp_words.specs.Words.{name_of, row_of, value_of, peer_of, host_of, served, known, word_at};
 ghost use Rattle.yp_words.specs.Words.{command_of, disk_names, stores_of, row_view, host_view, meaning, texts};
 ghost use Rattle.yp_words.specs.Words.{asks_of, once, session, check, sample, Build, TakesMemory, IsSentenceOfWords};
@@ -14,7 +14,7 @@ use crate::sentence::{Task, task_of, wrong_word};
 use std::alloc::{AllocError, Global};
 use yp_board::{MapName, copy_names};
 use yp_io::{NoMemory, Peer};
-use yp_query::Question;
+use yp_question::Question;
 
 /// Why the words are no command.
 #[derive(Clone, Copy, Debug, PartialEq, Eq)]

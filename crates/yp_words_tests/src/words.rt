@@ -7,7 +7,7 @@ use std::alloc::Global;
 use std::process::Abort;
 use yp_board::MapName;
 use yp_io::Peer;
-use yp_query::Question;
+use yp_question::Question;
 use yp_words::{Command, HostWord, KeyValue, ParseFault, disk_names, parse};
 
 fn strings(rt: &impl Abort, alloc: Global, words: &[&str]) -> Vec<String> {

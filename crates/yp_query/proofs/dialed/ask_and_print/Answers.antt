@@ -1,5 +1,5 @@
 use Rattle.std.proofs.lemmas.Result.{err_from_is_err_and}
-use Rattle.yp_query.specs.Questions.{bytes_of}
+use Rattle.yp_question.specs.Questions.{bytes_of}
 use Rattle.yp_query.proofs.Telling.{dials_tells, prints_tells}
 use Rattle.yp_query.proofs.dialed.ask_and_print.Goals as goal
 

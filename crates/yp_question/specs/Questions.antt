@@ -2,8 +2,8 @@
 use Rattle.std.specs.Prelude.{ℕ, ◌≤◌, List, length, Vec}
 use Rattle.std.specs.declared.alloc.Global.{Global}
 use Rattle.yp_msgs.specs.Numbers.{name_max, key_max}
-use Rattle.yp_query.specs.declared.question.Question.{Question}
-use Rattle.yp_query.specs.declared.question.Question.TheVariants.{Cat, Catk, Match, Which, Poll, Maps}
+use Rattle.yp_question.specs.declared.question.Question.{Question}
+use Rattle.yp_question.specs.declared.question.Question.TheVariants.{Cat, Catk, Match, Which, Poll, Maps}
 
 -- a question, each name and key of which is replaced
 abbrev pub question_map : {A B : Type 0} → (A → B) → Question A → Question B

@@ -2,7 +2,7 @@
 
 ghost use Rattle.std.specs.Prelude.{◌↔◌, ◌≤◌, length, IsTrue};
 ghost use Rattle.yp_msgs.specs.Numbers.{name_max};
-ghost use Rattle.yp_query.specs.Questions.{bytes_of, QuestionIsWithin};
+ghost use Rattle.yp_question.specs.Questions.{bytes_of, QuestionIsWithin};
 
 use yp_msgs::protocol::{KEY_MAX, NAME_MAX};
 
