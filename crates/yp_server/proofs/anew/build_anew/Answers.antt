@@ -16,7 +16,7 @@ returns-in-Ok-clause-anew g c = record {
 pub returns-in-Err-Build-clause-unbuilt : goal.returns-in-Err-Build-clause-unbuilt
 returns-in-Err-Build-clause-unbuilt g c =
     let material = material_of c.in_ok-text.text.items c.now-now.result in
-    let told : IsTold (told_by g.T.Texts.text g.C.Clock.moment c.args.desk.now) (basis_of c.args.kind c.args.own.now None _) material
+    let told : IsTold (told_by g.T.Texts g.C.Clock c.args.desk.now) (basis_of c.args.kind c.args.own.now None _) material
     = record { text = c.in_ok-text.ensures.text; moment = c.now-now.ensures.told } in
     rw c.build_stat.ensures (unbuilt _ _ material c.in-Err-Build.fault _ _ (search rules) told (search rules)
     (λ e. c.in-Err-Build.ensures.spent (ap Err (c.in-Err-Build.field-0-is ∙ ap Build e))))
