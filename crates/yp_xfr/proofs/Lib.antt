@@ -1,0 +1,6 @@
+pub mod ByBytes
+pub mod OneOutcome
+pub mod Going
+pub mod Finding
+pub mod Setting
+pub mod Offering

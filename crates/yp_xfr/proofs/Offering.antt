@@ -1,0 +1,35 @@
+-- A version that is offered once its map is level.
+use Rattle.std.proofs.Common.{◌≡◌, ℕ, ◌+◌, Bool, Option, Result, Ok, Err, subst, inr}
+use Rattle.yp_version.specs.Versions.{MapVersion}
+use Rattle.yp_board.specs.Logs.{shown}
+use Rattle.yp_publish.specs.declared.install.InstallFault.{InstallFault}
+use Rattle.yp_publish.specs.declared.install.Installed.{Installed}
+use Rattle.yp_publish.specs.declared.install.Origin.TheVariants.{Fetched}
+use Rattle.yp_publish.specs.Standing.{Published, OfMap}
+use Rattle.yp_publish.specs.Keeping.{Keeping}
+use Rattle.yp_publish.specs.Installs.{offer, Installs, Refuses}
+use Rattle.yp_publish.specs.Opens.{Opens}
+use Rattle.yp_xfr.specs.declared.fault.XfrFault.{XfrFault}
+use Rattle.yp_xfr.specs.Installing.{of_install, marking, Offers, InstallsFetched}
+
+module _ {D B : Type 0} (keeping : Keeping D B) (number : ℕ) (version marked : MapVersion) (force : Bool)
+    (mark : Option Bool) (old middle new : Published D B) (opens : Opens keeping number old middle)
+    (is : marked ≡ record version { secure = marking mark (shown number (keeping.log middle.board)) }) where
+  taken : (result : Result Installed XfrFault) → Offers keeping number (offer marked Fetched force) result middle new
+      → InstallsFetched keeping number version force mark result old new
+  taken result offers = inr (record {
+    middle = middle;
+    opens = opens;
+    offers = subst (λ (v : MapVersion). Offers keeping number (offer v Fetched force) result middle new) is offers;
+  })
+
+  pub is_taken : (installed : Installed) → Installs keeping number (offer marked Fetched force) middle new
+      → OfMap number middle.maps (λ kept. installed ≡ record { order = marked.order; generation = kept.generation + 1 })
+      → InstallsFetched keeping number version force mark (Ok installed) old new
+  is_taken installed installs answer = taken (Ok installed) (record { installs = installs; answer = answer })
+
+  pub is_not_taken : (why : InstallFault) (fault : XfrFault) → fault ≡ of_install why
+      → Refuses keeping number (offer marked Fetched force) why middle new
+      → InstallsFetched keeping number version force mark (Err fault) old new
+  is_not_taken why fault fault_is refuses =
+      taken (Err fault) (record { why = why; fault_is = fault_is; refuses = refuses })

@@ -1,0 +1,11 @@
+pub mod Faults
+pub mod Fetching
+pub mod Begun
+pub mod Fetched
+pub mod Called
+pub mod HostTable
+pub mod Dialing
+pub mod Installing
+pub mod Transfers
+pub mod CallBack
+pub mod Laws

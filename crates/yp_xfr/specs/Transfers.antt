@@ -1,0 +1,43 @@
+-- A transfer: what is fetched of a map is installed.
+use Rattle.std.specs.Prelude.{◌≡◌, ℕ, Bool, List, Option, option_map, IfSome, slice_get, Result, Ok, Err}
+use Rattle.yp_board.specs.Catalogues.{Name}
+use Rattle.yp_board.specs.Logs.{shown}
+use Rattle.yp_publish.specs.declared.install.Installed.{Installed}
+use Rattle.yp_publish.specs.Standing.{Published}
+use Rattle.yp_publish.specs.Keeping.{Keeping}
+use Rattle.yp_xfr.specs.declared.fault.XfrFault.{XfrFault}
+use Rattle.yp_xfr.specs.Fetching.{Wanted, wanted_of, Outcome}
+use Rattle.yp_xfr.specs.HostTable.{HostList}
+use Rattle.yp_xfr.specs.Dialing.{Dialing, FetchesFrom}
+use Rattle.yp_xfr.specs.Installing.{InstallsFetched}
+
+-- what is asked for: a map by its number, from a source by its name, whether it is forced, and its mark, if it has one
+pub record Request : Type 0 where
+  pub number : ℕ
+  pub source : List ℕ
+  pub force : Bool
+  pub mark : Option Bool
+
+abbrev pub request_of : ℕ → List ℕ → Bool → Option Bool → Request
+request_of number source force mark = record { number = number; source = source; force = force; mark = mark }
+
+-- the map by its name in the catalogue, and the order of the version that is shown of it
+abbrev pub wanted_at : {D B : Type 0} → Keeping D B → Request → Name → Published D B → Wanted
+wanted_at keeping request name published =
+    wanted_of name.0 name.1
+    (option_map (λ version. version.order) (shown request.number (keeping.log published.board))) request.force
+
+-- What was fetched is installed; where nothing was, the maps stay.
+abbrev pub InstallsOutcome : {D B : Type 0} → Keeping D B → Request → Outcome → Result Installed XfrFault
+    → Published D B → Published D B → Type 0
+InstallsOutcome keeping request (Ok version) result old new =
+    InstallsFetched keeping request.number version request.force request.mark result old new
+InstallsOutcome keeping request (Err fault) result old new = (result ≡ Err fault) × (new ≡ old)
+
+-- The map was fetched from the source, the wire was given back, and then what came of it was installed.
+pub record Transfers {D B : Type 0} (keeping : Keeping D B) (hosts : HostList) (request : Request)
+    (result : Result Installed XfrFault) (before after : Dialing) (old new : Published D B) : Type 0 where
+  pub outcome : Outcome
+  pub fetches : IfSome (slice_get old.catalogue.maps request.number)
+      (λ name. FetchesFrom hosts request.source (wanted_at keeping request name old) outcome before after)
+  pub installs : InstallsOutcome keeping request outcome result old new

@@ -1,0 +1,176 @@
+//! A version that is fetched over a client.
+
+ghost use Rattle.std.specs.Prelude.{◌≡◌, ◌≤◌, false, [], length, IfOk, option_map};
+ghost use Rattle.yp_msgs.specs.Numbers.{name_max};
+ghost use Rattle.yp_client.specs.States.{state_of};
+ghost use Rattle.yp_xfr.specs.Fetching.{wanted_of, against_order, AsksMaster, AsksRows, AsksAgain};
+ghost use Rattle.yp_xfr.specs.Fetching.{InMemory, Unless, Gives};
+ghost use Rattle.yp_xfr.specs.Fetched.{IsFetched};
+ghost use Rattle.yp_xfr.specs.Called.{by_calls, FetchesByCalls};
+ghost use Rattle.yp_xfr.specs.Begun.{Begins};
+
+use crate::fault::XfrFault;
+use std::alloc::Global;
+use std::random::RandomSource;
+use yp_client::Client;
+use yp_io::{NoMemory, Sink, Source};
+use yp_msgs::protocol::NAME_MAX;
+use yp_version::{Version, VersionBuilder};
+
+/// Fetches a map of a domain from the server that the client calls: ORDER, MASTER, ALL and again ORDER, each where
+/// nothing stands against it. The rows go from the reply into the version, which isn't secure.
+///
+/// `shown` is the order of the version that is shown, if one is; unless it is forced, an order that isn't over that is
+/// refused after the first reply.
+pub fn fetch<S: Source, K: Sink>(
+    alloc: Global,
+    rt: &impl RandomSource,
+    client: &mut Client<S, K>,
+    domain: &[u8],
+    map: &[u8],
+    shown: Option<u32>,
+    force: bool,
+) -> Result<Version, XfrFault>
+    requires domain { length domain.now ≤ name_max }
+    requires map { length map.now ≤ name_max }
+    requires unspent { client.old.spent ≡ false }
+
+    // What was called, and what it came to.
+    ensures fetches { FetchesByCalls (wanted_of domain.now map.now shown force) result
+        (state_of S.Source K.Sink client.old) (state_of S.Source K.Sink client.new) }
+
+    // It is what the bytes of the replies say.
+    ensures fetched { IsFetched (wanted_of domain.now map.now shown force) result
+        (state_of S.Source K.Sink client.old) (state_of S.Source K.Sink client.new) }
+{
+    fetch_by_calls(alloc, rt, client, domain, map, shown, force)
+}
+
+/// The same by its calls alone.
+fn fetch_by_calls<S: Source, K: Sink>(
+    alloc: Global,
+    rt: &impl RandomSource,
+    client: &mut Client<S, K>,
+    domain: &[u8],
+    map: &[u8],
+    shown: Option<u32>,
+    force: bool,
+) -> Result<Version, XfrFault>
+    requires domain { length domain.now ≤ name_max }
+    requires map { length map.now ≤ name_max }
+    ensures { FetchesByCalls (wanted_of domain.now map.now shown force) result
+        (state_of S.Source K.Sink client.old) (state_of S.Source K.Sink client.new) }
+{
+    if domain.is_empty() || map.is_empty() {
+        return Err(XfrFault::Badargs);
+    }
+    let order = match client.order(domain, map) {
+        Ok(order) => order,
+        Err(fault) => return Err(fault.into()),
+    };
+    if let Some(fault) = against_order(shown, force, order) {
+        return Err(fault);
+    }
+    fetch_newer(alloc, rt, client, domain, map, order)
+}
+
+/// Why a version with this order isn't fetched.
+fn against_order(shown: Option<u32>, force: bool, order: u32) -> Option<XfrFault>
+    ensures { result ≡ against_order (wanted_of [] [] shown force) order }
+{
+    match shown {
+        Some(shown) if !force && order <= shown => Some(XfrFault::Age {
+            shown,
+            offered: order,
+        }),
+        _ => None,
+    }
+}
+
+/// Fetches the version of an order, against which nothing stands.
+fn fetch_newer<S: Source, K: Sink>(
+    alloc: Global,
+    rt: &impl RandomSource,
+    client: &mut Client<S, K>,
+    domain: &[u8],
+    map: &[u8],
+    order: u32,
+) -> Result<Version, XfrFault>
+    requires domain { length domain.now ≤ name_max }
+    requires map { length map.now ≤ name_max }
+    ensures { AsksMaster (by_calls domain.now map.now) order result
+        (state_of S.Source K.Sink client.old) (state_of S.Source K.Sink client.new) }
+{
+    let begun = match client.master(domain, map) {
+        Ok(master) => begin(alloc, rt, order, master),
+        Err(fault) => Err(fault.into()),
+    };
+    match begun {
+        Ok(builder) => fetch_rows(client, domain, map, builder),
+        Err(fault) => Err(fault),
+    }
+}
+
+/// A builder of a version with an order and a master, who needs a name.
+fn begin(
+    alloc: Global,
+    rt: &impl RandomSource,
+    order: u32,
+    master: &[u8],
+) -> Result<VersionBuilder, XfrFault>
+    ensures { Begins order master.now result }
+{
+    if master.is_empty() || master.len() > NAME_MAX as usize {
+        return Err(XfrFault::Dbm);
+    }
+    match VersionBuilder::new(alloc, rt, order, master) {
+        Ok(builder) => Ok(builder),
+        Err(NoMemory) => Err(XfrFault::NoMemory),
+    }
+}
+
+/// Fetches the rows of a version.
+fn fetch_rows<S: Source, K: Sink>(
+    client: &mut Client<S, K>,
+    domain: &[u8],
+    map: &[u8],
+    builder: VersionBuilder,
+) -> Result<Version, XfrFault>
+    requires domain { length domain.now ≤ name_max }
+    requires map { length map.now ≤ name_max }
+    ensures { AsksRows (by_calls domain.now map.now) builder result
+        (state_of S.Source K.Sink client.old) (state_of S.Source K.Sink client.new) }
+{
+    let mut builder = builder;
+    match client.all(domain, map, &mut builder) {
+        Ok(()) => {}
+        Err(fault) => return Err(fault.into()),
+    }
+    fetch_second(client, domain, map, builder)
+}
+
+/// Asks for the order again. The version is the source's where it is the same.
+fn fetch_second<S: Source, K: Sink>(
+    client: &mut Client<S, K>,
+    domain: &[u8],
+    map: &[u8],
+    builder: VersionBuilder,
+) -> Result<Version, XfrFault>
+    requires domain { length domain.now ≤ name_max }
+    requires map { length map.now ≤ name_max }
+    ensures { AsksAgain (by_calls domain.now map.now) builder result
+        (state_of S.Source K.Sink client.old) (state_of S.Source K.Sink client.new) }
+{
+    let first = builder.order();
+    let second = match client.order(domain, map) {
+        Ok(second) => second,
+        Err(fault) => return Err(fault.into()),
+    };
+    if first != second {
+        return Err(XfrFault::Skew { first, second });
+    }
+    match builder.finish() {
+        Ok(version) => Ok(version),
+        Err(NoMemory) => Err(XfrFault::NoMemory),
+    }
+}

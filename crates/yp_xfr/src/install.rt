@@ -1,0 +1,87 @@
+//! The installing of a fetched version.
+
+ghost use Rattle.std.specs.Prelude.{◌≡◌, ◌<◌, length, option_map};
+ghost use Rattle.std.specs.Arc.{arc_value};
+ghost use Rattle.yp_publish.specs.Keeping.{keeping_of};
+ghost use Rattle.yp_xfr.specs.Installing.{of_slot, of_install, marking, InstallsFetched};
+
+use crate::fault::XfrFault;
+use std::alloc::Global;
+use std::random::RandomSource;
+use std::sync::Arc;
+use yp_board::Show;
+use yp_io::Disk;
+use yp_publish::{InstallFault, Installed, Origin, Publisher};
+use yp_slot::SlotFault;
+use yp_version::Version;
+
+/// Installs a fetched version of a map, and shows it. A map that is behind is opened again first. The version is
+/// marked secure or not as `mark` says, and without a mark as the version that is then shown, so not secure where none
+/// is.
+///
+/// At each moment a crash leaves a file that stands as the map stood, or for that version.
+pub fn install_fetched<D: Disk, B: Show>(
+    alloc: Global,
+    rt: &impl RandomSource,
+    publisher: &mut Publisher<D, B>,
+    map: u32,
+    version: Version,
+    force: bool,
+    mark: Option<bool>,
+) -> Result<Installed, XfrFault>
+    requires { map < length publisher.old.maps }
+    ensures { InstallsFetched (keeping_of D.history D.faults B.log) map version force mark result
+        publisher.old publisher.new }
+{
+    match publisher.reopen(alloc, rt, map) {
+        Ok(()) => {}
+        Err(fault) => return Err(of_slot(fault)),
+    }
+    let secure = marking(mark, publisher.shown(map));
+    let marked = version.marked(secure);
+    match publisher.install(alloc, map, marked, Origin::Fetched, force) {
+        Ok(installed) => Ok(installed),
+        Err(fault) => Err(of_install(&fault)),
+    }
+}
+
+/// Whether a version is secure, by its mark and the version that is shown.
+fn marking(mark: Option<bool>, shown: Option<&Arc<Version>>) -> bool
+    ensures { result ≡ marking mark (option_map (λ version. arc_value version.now) shown.entry) }
+{
+    match mark {
+        Some(secure) => secure,
+        None => match shown {
+            Some(version) => version.secure(),
+            None => false,
+        },
+    }
+}
+
+/// The fault of a file that isn't opened again.
+fn of_slot(fault: SlotFault) -> XfrFault
+    ensures { result ≡ of_slot fault }
+{
+    match fault {
+        SlotFault::NoMemory => XfrFault::NoMemory,
+        SlotFault::DiskFault => XfrFault::File,
+        SlotFault::Damaged { .. } => XfrFault::File,
+    }
+}
+
+/// The fault of a version that isn't installed.
+fn of_install(fault: &InstallFault) -> XfrFault
+    ensures { result ≡ of_install fault.now }
+{
+    match fault {
+        InstallFault::Behind => XfrFault::File,
+        InstallFault::Refused { .. } => XfrFault::Refused,
+        InstallFault::Age { shown, offered } => XfrFault::Age {
+            shown: *shown,
+            offered: *offered,
+        },
+        InstallFault::GenerationsSpent => XfrFault::File,
+        InstallFault::DiskFault => XfrFault::File,
+        InstallFault::NoMemory => XfrFault::NoMemory,
+    }
+}

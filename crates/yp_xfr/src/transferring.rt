@@ -1,0 +1,58 @@
+//! A map that is transferred.
+
+ghost use Rattle.std.specs.Prelude.{◌≡◌, ◌<◌, ◌≤◌, length, min};
+ghost use Rattle.yp_io.specs.Counts.{last_count};
+ghost use Rattle.yp_publish.specs.Keeping.{keeping_of};
+ghost use Rattle.yp_xfr.specs.Dialing.{dialing_of};
+ghost use Rattle.yp_xfr.specs.Transfers.{request_of, Transfers};
+
+use crate::dialed::fetch_from;
+use crate::fault::XfrFault;
+use crate::hosts::Hosts;
+use crate::install::install_fetched;
+use std::alloc::Global;
+use std::random::RandomSource;
+use yp_board::Show;
+use yp_io::{Dial, Disk};
+use yp_publish::{Installed, Publisher};
+
+/// Fetches a map from a source, by the names of the catalogue and with the order of the version that is shown, and
+/// installs what came. The wire is given back before the disk is called.
+///
+/// After a refusal the map is as after the refusal of the call that gave it.
+pub fn transfer<D: Disk, B: Show, A: Dial>(
+    alloc: Global,
+    rt: &impl RandomSource,
+    publisher: &mut Publisher<D, B>,
+    dial: &mut A,
+    hosts: &Hosts,
+    map: u32,
+    source: &[u8],
+    force: bool,
+    mark: Option<bool>,
+) -> Result<Installed, XfrFault>
+    requires { map < length publisher.old.maps }
+    ensures transfers { Transfers (keeping_of D.history D.faults B.log) hosts.now
+        (request_of map source.now force mark) result
+        (dialing_of A.past A.faults dial.old) (dialing_of A.past A.faults dial.new) publisher.old publisher.new }
+    ensures letters { A.letters dial.new ≡ A.letters dial.old }
+    ensures faults { min (A.faults dial.old) last_count ≤ A.faults dial.new }
+{
+    let shown = publisher.shown(map).map(|version| version.order());
+    let name = publisher.catalog().name(map);
+    let fetched = fetch_from(
+        alloc,
+        rt,
+        dial,
+        hosts,
+        source,
+        &name.domain,
+        &name.map,
+        shown,
+        force,
+    );
+    match fetched {
+        Ok(version) => install_fetched(alloc, rt, publisher, map, version, force, mark),
+        Err(fault) => Err(fault),
+    }
+}
