@@ -65,8 +65,8 @@ anew_before first now site version same anew = record {
   built = anew.built;
 }
 
-module _ {D B E : Type 0} (service : Service D B E) (turns : List Turn) (first : Told) (hosts : HostList) where
-  pub respects : Respects (IsGiven service turns first hosts)
+module _ {D B E : Type 0} (service : Service D B E) (turns : List Turn) (first : Told) (table : HostList) where
+  pub respects : Respects (IsGiven service turns first table)
   respects number log other version e given = elim given [
     | inl made ↦ inl (record {
       job = made.job;
@@ -89,14 +89,14 @@ module _ {D B E : Type 0} (service : Service D B E) (turns : List Turn) (first :
 
   -- what holds of the host at each moment
   pub record SoundHost (host : Local D B E) : Type 0 where
-    pub maps : Sound service.keeping (IsGiven service turns first hosts) respects host.published
+    pub maps : Sound service.keeping (IsGiven service turns first table) respects host.published
     pub catalogue : host.published.catalogue ≡ service.catalogue
     pub told : TellsSame first (service.telling.told host.desk)
-    pub hosts : service.telling.hosts host.desk ≡ hosts
+    pub hosts : service.telling.hosts host.desk ≡ table
 
   -- what holds of it at two moments
   pub record PassesHost (old new : Local D B E) : Type 0 where
-    pub maps : Passes service.keeping (IsGiven service turns first hosts) respects old.published new.published
+    pub maps : Passes service.keeping (IsGiven service turns first table) respects old.published new.published
     pub desk : IsUsed service.telling old.desk new.desk
 
   -- it was so before, and passed so
@@ -106,20 +106,20 @@ module _ {D B E : Type 0} (service : Service D B E) (turns : List Turn) (first :
   goes_nowhere : (old new : Local D B E) → new ≡ old → SoundHost old → GoesOnTo old new
   goes_nowhere old new e sound =
       subst (λ (h : Local D B E). GoesOnTo old h) (sym e)
-      (sound, record { maps = passes_none service.keeping (IsGiven service turns first hosts) respects old.published; desk = used_never service.telling old.desk })
+      (sound, record { maps = passes_none service.keeping (IsGiven service turns first table) respects old.published; desk = used_never service.telling old.desk })
 
   goes_twice : (old middle new : Local D B E) → GoesOnTo old middle → GoesOnTo middle new → GoesOnTo old new
   goes_twice old middle new f s = (
     s.0,
     record {
-      maps = passes_then service.keeping (IsGiven service turns first hosts) respects old.published middle.published new.published f.1.maps s.1.maps;
+      maps = passes_then service.keeping (IsGiven service turns first table) respects old.published middle.published new.published f.1.maps s.1.maps;
       desk = used_then service.telling old.desk middle.desk new.desk f.1.desk s.1.desk;
     },
   )
 
   -- a host whose maps went on, over a desk that tells the same
   with_maps : (old new : Local D B E) → SoundHost old → IsUsed service.telling old.desk new.desk
-      → Sound service.keeping (IsGiven service turns first hosts) respects new.published × Passes service.keeping (IsGiven service turns first hosts) respects old.published new.published
+      → Sound service.keeping (IsGiven service turns first table) respects new.published × Passes service.keeping (IsGiven service turns first table) respects old.published new.published
       → GoesOnTo old new
   with_maps old new sound same went = (
     record { maps = went.0; catalogue = went.1.catalogue ∙ sound.catalogue; told = told_then sound.told same.tells; hosts = same.hosts ∙ sound.hosts },
@@ -131,7 +131,7 @@ module _ {D B E : Type 0} (service : Service D B E) (turns : List Turn) (first :
   is_made : (job : Job) (old : Local D B E) (middle : Published D B) (version : MapVersion)
       → IsCalledFor service turns job → SoundHost old → middle.catalogue ≡ old.published.catalogue
       → IsAnew (service.telling.told old.desk) (site_of job.kind middle.catalogue.own (shown job.map (service.keeping.log middle.board))) version
-      → IsGiven service turns first hosts job.map (service.keeping.log middle.board) version
+      → IsGiven service turns first table job.map (service.keeping.log middle.board) version
   is_made job old middle version called sound same anew = inl (record {
     job = job;
     of_map = refl;
@@ -143,9 +143,9 @@ module _ {D B E : Type 0} (service : Service D B E) (turns : List Turn) (first :
 
   opened_on : (stat : XfrStat) (job : Job) (old new : Local D B E) → IsCalledFor service turns job → SoundHost old
       → job.map < length old.published.maps → OpensAndTries service.keeping service.telling job stat old new
-      → Sound service.keeping (IsGiven service turns first hosts) respects new.published × Passes service.keeping (IsGiven service turns first hosts) respects old.published new.published
+      → Sound service.keeping (IsGiven service turns first table) respects new.published × Passes service.keeping (IsGiven service turns first table) respects old.published new.published
   opened_on stat job old new called sound kept step =
-      let Is = IsGiven service turns first hosts in
+      let Is = IsGiven service turns first table in
       let opened = opens_on service.keeping Is respects job.map old.published step.middle kept sound.maps step.opens in
       elim step.tries [
         | inl none ↦ subst (λ (p : Published D B). Sound service.keeping Is respects p × Passes service.keeping Is respects old.published p) (sym none.1) opened
@@ -160,7 +160,7 @@ module _ {D B E : Type 0} (service : Service D B E) (turns : List Turn) (first :
       → Made service.keeping service.telling job stat old new → GoesOnTo old new
   made_on stat job old new called sound made =
       with_maps old new sound made.1.desk (elim made.1.ends [
-        | inl stays ↦ stays_on service.keeping (IsGiven service turns first hosts) respects job.map stays.fault old.published new.published sound.maps stays.stays
+        | inl stays ↦ stays_on service.keeping (IsGiven service turns first table) respects job.map stays.fault old.published new.published sound.maps stays.stays
         | inr tries ↦ opened_on stat job old new called sound made.0 tries
       ])
 
@@ -169,7 +169,7 @@ module _ {D B E : Type 0} (service : Service D B E) (turns : List Turn) (first :
   is_fetched : (taken : Taken) (old : Local D B E) (middle : Published D B) (version : MapVersion) (before after : Dialing)
       → IsTaken service turns taken → SoundHost old
       → IfSome (slice_get old.published.catalogue.maps taken.map) (λ name. FetchesFrom (service.telling.hosts old.desk) taken.source (wanted_at service.keeping (request_for taken) name old.published) (Ok version) before after)
-      → IsGiven service turns first hosts taken.map (service.keeping.log middle.board) (fetched_offer service.keeping taken.map version false None middle).version
+      → IsGiven service turns first table taken.map (service.keeping.log middle.board) (fetched_offer service.keeping taken.map version false None middle).version
   is_fetched taken old middle version before after by_turn sound fetches = inr (record {
     taken = taken;
     of_map = refl;
@@ -189,9 +189,9 @@ module _ {D B E : Type 0} (service : Service D B E) (turns : List Turn) (first :
       → IsTaken service turns taken → SoundHost old → taken.map < length old.published.maps
       → IfSome (slice_get old.published.catalogue.maps taken.map) (λ name. FetchesFrom (service.telling.hosts old.desk) taken.source (wanted_at service.keeping (request_for taken) name old.published) (Ok version) before after)
       → OpensAndOffers service.keeping taken.map version false None result old.published new.published
-      → Sound service.keeping (IsGiven service turns first hosts) respects new.published × Passes service.keeping (IsGiven service turns first hosts) respects old.published new.published
+      → Sound service.keeping (IsGiven service turns first table) respects new.published × Passes service.keeping (IsGiven service turns first table) respects old.published new.published
   offers_fetched taken result old new version before after by_turn sound kept fetches step =
-      let Is = IsGiven service turns first hosts in
+      let Is = IsGiven service turns first table in
       let opened = opens_on service.keeping Is respects taken.map old.published step.middle kept sound.maps step.opens in
       let within : taken.map < length step.middle.maps = subst (λ (n : ℕ). taken.map < n) (sym step.opens.upheld.elsewhere.count) kept in
       let given = is_fetched taken old step.middle version before after by_turn sound fetches in
@@ -203,13 +203,13 @@ module _ {D B E : Type 0} (service : Service D B E) (turns : List Turn) (first :
       → IsTaken service turns taken → SoundHost old → taken.map < length old.published.maps
       → IfSome (slice_get old.published.catalogue.maps taken.map) (λ name. FetchesFrom (service.telling.hosts old.desk) taken.source (wanted_at service.keeping (request_for taken) name old.published) outcome before after)
       → InstallsOutcome service.keeping (request_for taken) outcome result old.published new.published
-      → Sound service.keeping (IsGiven service turns first hosts) respects new.published × Passes service.keeping (IsGiven service turns first hosts) respects old.published new.published
+      → Sound service.keeping (IsGiven service turns first table) respects new.published × Passes service.keeping (IsGiven service turns first table) respects old.published new.published
   installs_fetched taken (Err fault) result old new before after by_turn sound kept fetches installs =
-      let Is = IsGiven service turns first hosts in
+      let Is = IsGiven service turns first table in
       subst (λ (p : Published D B). Sound service.keeping Is respects p × Passes service.keeping Is respects old.published p) (sym installs.1)
       (sound.maps, passes_none service.keeping Is respects old.published)
   installs_fetched taken (Ok version) result old new before after by_turn sound kept fetches installs = elim installs [
-    | inl stays ↦ stays_on service.keeping (IsGiven service turns first hosts) respects taken.map stays.why old.published new.published sound.maps stays.stays
+    | inl stays ↦ stays_on service.keeping (IsGiven service turns first table) respects taken.map stays.why old.published new.published sound.maps stays.stays
     | inr step ↦ offers_fetched taken result old new version before after by_turn sound kept fetches step
   ]
 
@@ -232,7 +232,7 @@ module _ {D B E : Type 0} (service : Service D B E) (turns : List Turn) (first :
   counted old new e sound =
       subst (λ (h : Local D B E). GoesOnTo old h) (sym e)
       (with_maps old (record old { asked = next_count old.asked }) sound (used_never service.telling old.desk)
-      (sound.maps, passes_none service.keeping (IsGiven service turns first hosts) respects old.published))
+      (sound.maps, passes_none service.keeping (IsGiven service turns first table) respects old.published))
 
   stepped_on : (asked : Bool) (old new : Local D B E) → SoundHost old
       → StepsWhere asked (λ old new. new ≡ record old { asked = next_count old.asked }) (seen_of service.keeping.log) old new → GoesOnTo old new
@@ -279,14 +279,14 @@ module _ {D B E : Type 0} (service : Service D B E) (turns : List Turn) (first :
   ends_on most count Enough last new ends among sound = goes_nowhere last.host new.host (ap (λ (d : Dialogue (Local D B E)). d.host) ends.1) sound
 
 -- the whole run of a session
-pub session_on : {D B E : Type 0} (service : Service D B E) (first : Told) (hosts : HostList) (most : ℕ) (end : End) (old new : Dialogue (Local D B E)) (wires : List Wire)
+pub session_on : {D B E : Type 0} (service : Service D B E) (first : Told) (table : HostList) (most : ℕ) (end : End) (old new : Dialogue (Local D B E)) (wires : List Wire)
     (runs : Runs (local_conduct service.keeping service.telling) service.peer most end old new wires)
-    → SoundHost service runs.turns first hosts old.host → GoesOnTo service runs.turns first hosts old.host new.host
-session_on service first hosts most end old new wires runs sound =
+    → SoundHost service runs.turns first table old.host → GoesOnTo service runs.turns first table old.host new.host
+session_on service first table most end old new wires runs sound =
     let all = recursion_from_All (Contains runs.turns) runs.turns (All-contains_itself runs.turns) in
     let rest = unsent (local_conduct service.keeping service.telling) service.peer most (length runs.answered) end runs.last new runs.ends in
     let among : AllByRecursion (Contains runs.turns) (map (λ one. one.0) runs.answered ++ rest) =
     subst (λ (turns : List Turn). AllByRecursion (Contains runs.turns) turns) runs.all all in
-    let chain = chain_on service runs.turns first hosts runs.answered rest old runs.last among sound runs.chain in
-    goes_twice service runs.turns first hosts old.host runs.last.host new.host chain.0
-    (ends_on service runs.turns first hosts most (length runs.answered) end runs.last new runs.ends chain.1 chain.0.0)
+    let chain = chain_on service runs.turns first table runs.answered rest old runs.last among sound runs.chain in
+    goes_twice service runs.turns first table old.host runs.last.host new.host chain.0
+    (ends_on service runs.turns first table most (length runs.answered) end runs.last new runs.ends chain.1 chain.0.0)

@@ -1,7 +1,7 @@
 -- One connection over stored maps: the host that it starts with, the one that it ends with, and what a crash leaves at
 -- each moment between.
 use Rattle.std.specs.Prelude.{◌≡◌, ◌≢◌, ◌⊎◌, ℕ, List, [], ◌∷◌, ◌++◌, map, slice_get, All, Contains, Option}
-use Rattle.std.specs.Prelude.{IfSome, IsSome, IsTrue, None, Ok, ⊤}
+use Rattle.std.specs.Prelude.{IfSome, IsSome, IsTrue, None, Ok, false, ⊤}
 use Rattle.std.specs.List.{AllZip}
 use Rattle.yp_io.specs.Counts.{next_count}
 use Rattle.yp_io.specs.Disk.{History, LeavesOnly, MayLeave}

@@ -1,13 +1,12 @@
 //! A transfer that is carried out: the map is fetched and installed, and the caller is told.
 
-ghost use Rattle.std.specs.Prelude.{◌≡◌, ◌<◌, ◌≤◌, ◌↔◌, IsTrue, length, option_map_or, Some, None, min};
-ghost use Rattle.yp_io.specs.Counts.{last_count};
+ghost use Rattle.std.specs.Prelude.{◌≡◌, ◌<◌, ◌≤◌, IsTrue, false, length, Some, None};
 ghost use Rattle.yp_msgs.specs.Numbers.{name_max};
 ghost use Rattle.yp_board.specs.Views.{IsFront};
 ghost use Rattle.yp_publish.specs.Keeping.{keeping_of};
 ghost use Rattle.yp_answer.specs.Transfer.{taken_view};
 ghost use Rattle.yp_server.specs.Locals.{telling_of};
-ghost use Rattle.yp_server.specs.Carried.{outcome_stat, wants_call, called_at, CallsBack, CarriesOver};
+ghost use Rattle.yp_server.specs.Carried.{outcome_stat, wants_call, CallsBack, CarriesOver};
 
 use crate::desk::Desk;
 use std::alloc::Global;
@@ -80,10 +79,8 @@ fn tell_back<A: Dial>(dial: &mut A, errand: &Errand<'_>, peer: Peer, stat: XfrSt
     ensures never_falls { A.faults dial.old ≤ A.faults dial.new }
 {
     if let Some(port) = port_of(errand) {
-        let to = Peer {
-            addr: peer.addr,
-            port,
-        };
+        let addr = peer.addr;
+        let to = Peer { addr, port };
         let _ = call_back(dial, to, errand.prog, errand.transid, stat);
     }
 }

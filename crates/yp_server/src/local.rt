@@ -68,7 +68,14 @@ impl<D: Disk, B: Show, A: Dial, T: Texts, C: Clock, R: RandomSource + Drop> Mode
         × (length h.publisher.maps ≡ length h.catalog.maps) };
 }
 
-impl<D: Disk, B: Show, A: Dial, T: Texts, C: Clock, R: RandomSource + Drop> LocalHost<D, B, A, T, C, R> {
+impl<D: Disk, B: Show, A: Dial, T: Texts, C: Clock, R: RandomSource + Drop> LocalHost<
+    D,
+    B,
+    A,
+    T,
+    C,
+    R,
+> {
     /// A host over the maps of a publisher, with a copy of the publisher's catalogue. Its memory is taken by `alloc`, and
     /// the tables of its builds are made with the randomness of `rt`.
     pub fn new(
