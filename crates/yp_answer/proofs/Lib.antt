@@ -5,3 +5,5 @@ pub mod Itemized
 pub mod Streaming
 pub mod Fronts
 pub mod Opened
+mod Targets
+mod Untaken

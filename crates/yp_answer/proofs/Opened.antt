@@ -1,11 +1,9 @@
 -- A MAKE that is left open.
-use Rattle.std.proofs.Common.{◌≡◌, ℕ, Bool, true, false, not, cond, List, drop, Result, Ok, Err, ap, inl, inr}
+use Rattle.std.proofs.Common.{◌≡◌, ℕ, Bool, true, false, not, cond, List, drop, Result, Ok, Err, ap, subst, refl, inl, inr}
 use Rattle.std.specs.Prelude.{bytes_eq}
 use Rattle.std.proofs.lemmas.Bool.{cases_Bool}
 use Rattle.std.proofs.lemmas.Slice.Eq.{bytes_eq-Decides}
 use Rattle.yp_io.specs.declared.stream.Peer.{Peer}
-use Rattle.yp_xdr.specs.declared.fault.XdrFault.{XdrFault}
-use Rattle.yp_xdr.specs.Reading.{Unread}
 use Rattle.yp_rpc.specs.declared.call.CallHead.{CallHead}
 use Rattle.yp_rpc.specs.declared.call.Heard.{Heard}
 use Rattle.yp_rpc.specs.declared.call.Heard.TheVariants.{Call, WrongRpc, Noise}
@@ -13,71 +11,84 @@ use Rattle.yp_rpc.specs.declared.reply.ReplyHead.{ReplyHead}
 use Rattle.yp_msgs.specs.declared.transfer.XfrStat.{XfrStat}
 use Rattle.yp_msgs.specs.declared.transfer.XfrStat.TheVariants.{Refused}
 use Rattle.yp_msgs.specs.Messages.{req_domain, req_key, req_nokey}
-use Rattle.yp_msgs.specs.Transfers.{req_make}
+use Rattle.yp_msgs.specs.Transfers.{req_xfr, req_make}
 use Rattle.yp_board.specs.Catalogues.{serves}
 use Rattle.yp_answer.specs.declared.caller.Caller.{Caller}
 use Rattle.yp_answer.specs.declared.procedure.Path.{Path}
 use Rattle.yp_answer.specs.declared.procedure.Procedure.{Procedure}
-use Rattle.yp_answer.specs.declared.procedure.Procedure.TheVariants.{Null, Domain, DomainNonack, Match, First, Next, Clear, All, Master, Order, Maplist, Make}
+use Rattle.yp_answer.specs.declared.procedure.Procedure.TheVariants.{Null, Domain, DomainNonack, Match, First, Next, Xfr, Clear, All, Master, Order, Maplist, Make}
 use Rattle.yp_answer.specs.Maps.{Maps}
 use Rattle.yp_answer.specs.declared.make.Job.{Job}
 use Rattle.yp_answer.specs.Make.{MakeRequest, own_host, make_check}
-use Rattle.yp_answer.specs.Reply.{Response, Silence, Bytes, Open, arguments_of, with_arguments, make_response, procedure_reply, admitted, call_reply, heard_reply}
+use Rattle.yp_answer.specs.Transfer.{XfrRequest, Taken, taken_for, xfr_check}
+use Rattle.yp_answer.specs.Reply.{Response, Bytes, Takes, Open, arguments_of, xfr_response, make_response, procedure_reply, admitted, call_reply, heard_reply}
+use Rattle.yp_answer.proofs.Targets.{IsSpecial, not_of_bytes, of_arguments, not_of_either}
 
--- arguments that get bytes leave nothing open
-not_of_bytes : {V : Type 0} (number xid : ℕ) (job : Job) (read : Result (V × Unread) XdrFault) (bytes_of : V → List ℕ)
-    → with_arguments number read (λ v. Bytes (bytes_of v)) ≡ Open xid job → ⊥
-not_of_bytes number xid job (Ok read) bytes_of e = absurd cc
-not_of_bytes number xid job (Err fault) bytes_of e = absurd cc
+-- ---- which replies are special: those of XFR and MAKE
 
--- what is open is so by the arguments
-of_arguments : {V : Type 0} (number xid : ℕ) (job : Job) (read : Result (V × Unread) XdrFault) (reply_to : V → Response) (P : Type 0)
-    → with_arguments number read reply_to ≡ Open xid job → ((v : V) → reply_to v ≡ Open xid job → P) → P
-of_arguments number xid job (Ok read) reply_to P e h = h read.0 e
-of_arguments number xid job (Err fault) reply_to P e h = absurd cc
+-- a map is made for what was asked for, or a transfer is taken
+abbrev pub IsAsked : Maps → Peer → Response → Type 0
+IsAsked maps peer (Open xid job) = (asked : MakeRequest) × (make_check maps.catalogue peer asked ≡ Ok job)
+IsAsked maps peer (Takes bytes taken) = (asked : XfrRequest) × (map : ℕ) × (xfr_check maps asked ≡ Ok map) × (taken ≡ taken_for asked map)
+IsAsked maps peer _ = ⊥
 
--- bytes or silence aren't open
-not_open : (some : Bool) (bytes : List ℕ) (xid : ℕ) (job : Job) → cond some (Bytes bytes) Silence ≡ Open xid job → ⊥
-not_open true bytes xid job e = absurd cc
-not_open false bytes xid job e = absurd cc
+open_is_special : (xid : ℕ) (job : Job) → IsSpecial (Open xid job)
+open_is_special xid job = record { no_bytes = λ bytes e. absurd cc; no_silence = λ e. absurd cc }
 
--- a MAKE that is refused isn't open
-unrefused : (number xid : ℕ) (job : Job) (check : Result Job XfrStat) → make_response number check ≡ Open xid job → check ≡ Ok job
-unrefused number xid job (Err stat) e = absurd cc
-unrefused number xid job (Ok found) e = let same : found ≡ job = cc in ap (λ (j : Job). Ok j) same
+takes_is_special : (bytes : List ℕ) (taken : Taken) → IsSpecial (Takes bytes taken)
+takes_is_special bytes taken = record { no_bytes = λ some e. absurd cc; no_silence = λ e. absurd cc }
 
--- a map is made for what was asked for
-abbrev pub IsAsked : Maps → Peer → Job → Type 0
-IsAsked maps peer job = (asked : MakeRequest) × (make_check maps.catalogue peer asked ≡ Ok job)
+of_make : (maps : Maps) (peer : Peer) (target : Response) (number : ℕ) (asked : MakeRequest) (check : Result Job XfrStat) → make_check maps.catalogue peer asked ≡ check → IsSpecial target
+    → make_response number check ≡ target → IsAsked maps peer target
+of_make maps peer target number asked (Err stat) is special e = absurd (special.no_bytes _ e)
+of_make maps peer target number asked (Ok job) is special e = subst (IsAsked maps peer) e (asked, is)
 
-of_procedure : (maps : Maps) (caller : Caller) (procedure : Procedure) (bytes : List ℕ) (xid : ℕ) (job : Job) → procedure_reply maps caller procedure bytes ≡ Open xid job
-    → IsAsked maps caller.peer job
-of_procedure maps caller Null bytes xid job e = absurd cc
-of_procedure maps caller Clear bytes xid job e = absurd cc
-of_procedure maps caller Domain bytes xid job e = absurd (not_of_bytes caller.xid xid job (arguments_of req_domain bytes) _ e)
-of_procedure maps caller DomainNonack bytes xid job e =
-    of_arguments caller.xid xid job (arguments_of req_domain bytes) _ _ e (λ (v : List ℕ) h. absurd (not_open (serves v maps.catalogue) _ xid job h))
-of_procedure maps caller Match bytes xid job e = absurd (not_of_bytes caller.xid xid job (arguments_of req_key bytes) _ e)
-of_procedure maps caller First bytes xid job e = absurd (not_of_bytes caller.xid xid job (arguments_of req_nokey bytes) _ e)
-of_procedure maps caller Next bytes xid job e = absurd (not_of_bytes caller.xid xid job (arguments_of req_key bytes) _ e)
-of_procedure maps caller All bytes xid job e = absurd (not_of_bytes caller.xid xid job (arguments_of req_nokey bytes) _ e)
-of_procedure maps caller Master bytes xid job e = absurd (not_of_bytes caller.xid xid job (arguments_of req_nokey bytes) _ e)
-of_procedure maps caller Order bytes xid job e = absurd (not_of_bytes caller.xid xid job (arguments_of req_nokey bytes) _ e)
-of_procedure maps caller Maplist bytes xid job e = absurd (not_of_bytes caller.xid xid job (arguments_of req_domain bytes) _ e)
-of_procedure maps caller Make bytes xid job e = of_arguments caller.xid xid job (arguments_of req_make bytes) _ _ e (λ (v : MakeRequest) h.
-    (v, unrefused caller.xid xid job (make_check maps.catalogue caller.peer v) h))
+of_xfr : (maps : Maps) (peer : Peer) (target : Response) (number : ℕ) (asked : XfrRequest) (check : Result ℕ XfrStat) → xfr_check maps asked ≡ check → IsSpecial target
+    → xfr_response number asked check ≡ target → IsAsked maps peer target
+of_xfr maps peer target number asked (Err stat) is special e = absurd (special.no_bytes _ e)
+of_xfr maps peer target number asked (Ok map) is special e = subst (IsAsked maps peer) e (asked, map, is, refl)
 
-of_call : (path : Path) (maps : Maps) (peer : Peer) (message : List ℕ) (call : CallHead) (let_to : Result Procedure ReplyHead) (xid : ℕ) (job : Job)
-    → call_reply path maps peer message call let_to ≡ Open xid job → IsAsked maps peer job
-of_call path maps peer message call (Ok procedure) xid job e =
-    of_procedure maps (record { path = path; xid = call.xid; peer = peer }) procedure (drop call.body message) xid job e
-of_call path maps peer message call (Err head) xid job e = absurd cc
+of_procedure : (maps : Maps) (caller : Caller) (procedure : Procedure) (bytes : List ℕ) (target : Response) → IsSpecial target → procedure_reply maps caller procedure bytes ≡ target
+    → IsAsked maps caller.peer target
+of_procedure maps caller Null bytes target special e = absurd (special.no_bytes _ e)
+of_procedure maps caller Clear bytes target special e = absurd (special.no_bytes _ e)
+of_procedure maps caller Domain bytes target special e = absurd (not_of_bytes target caller.xid (arguments_of req_domain bytes) _ special e)
+of_procedure maps caller DomainNonack bytes target special e =
+    of_arguments target caller.xid (arguments_of req_domain bytes) _ _ special e (λ (v : List ℕ) h. absurd (not_of_either target (serves v maps.catalogue) _ special h))
+of_procedure maps caller Match bytes target special e = absurd (not_of_bytes target caller.xid (arguments_of req_key bytes) _ special e)
+of_procedure maps caller First bytes target special e = absurd (not_of_bytes target caller.xid (arguments_of req_nokey bytes) _ special e)
+of_procedure maps caller Next bytes target special e = absurd (not_of_bytes target caller.xid (arguments_of req_key bytes) _ special e)
+of_procedure maps caller Xfr bytes target special e =
+    of_arguments target caller.xid (arguments_of req_xfr bytes) _ _ special e (λ (v : XfrRequest) h. of_xfr maps caller.peer target caller.xid v (xfr_check maps v) refl special h)
+of_procedure maps caller All bytes target special e = absurd (not_of_bytes target caller.xid (arguments_of req_nokey bytes) _ special e)
+of_procedure maps caller Master bytes target special e = absurd (not_of_bytes target caller.xid (arguments_of req_nokey bytes) _ special e)
+of_procedure maps caller Order bytes target special e = absurd (not_of_bytes target caller.xid (arguments_of req_nokey bytes) _ special e)
+of_procedure maps caller Maplist bytes target special e = absurd (not_of_bytes target caller.xid (arguments_of req_domain bytes) _ special e)
+of_procedure maps caller Make bytes target special e =
+    of_arguments target caller.xid (arguments_of req_make bytes) _ _ special e (λ (v : MakeRequest) h.
+    of_make maps caller.peer target caller.xid v (make_check maps.catalogue caller.peer v) refl special h)
 
-pub of_heard : (path : Path) (maps : Maps) (peer : Peer) (message : List ℕ) (was : Heard) (xid : ℕ) (job : Job)
-    → heard_reply path maps peer message was ≡ Open xid job → IsAsked maps peer job
-of_heard path maps peer message Noise xid job e = absurd cc
-of_heard path maps peer message (WrongRpc number) xid job e = absurd cc
-of_heard path maps peer message (Call call) xid job e = of_call path maps peer message call (admitted path call) xid job e
+of_call : (path : Path) (maps : Maps) (peer : Peer) (message : List ℕ) (call : CallHead) (let_to : Result Procedure ReplyHead) (target : Response) → IsSpecial target
+    → call_reply path maps peer message call let_to ≡ target → IsAsked maps peer target
+of_call path maps peer message call (Ok procedure) target special e =
+    of_procedure maps (record { path = path; xid = call.xid; peer = peer }) procedure (drop call.body message) target special e
+of_call path maps peer message call (Err head) target special e = absurd (special.no_bytes _ e)
+
+of_heard : (path : Path) (maps : Maps) (peer : Peer) (message : List ℕ) (was : Heard) (target : Response) → IsSpecial target → heard_reply path maps peer message was ≡ target
+    → IsAsked maps peer target
+of_heard path maps peer message Noise target special e = absurd (special.no_silence e)
+of_heard path maps peer message (WrongRpc number) target special e = absurd (special.no_bytes _ e)
+of_heard path maps peer message (Call call) target special e = of_call path maps peer message call (admitted path call) target special e
+
+pub open_is_asked : (path : Path) (maps : Maps) (peer : Peer) (message : List ℕ) (was : Heard) (xid : ℕ) (job : Job) → heard_reply path maps peer message was ≡ Open xid job
+    → IsAsked maps peer (Open xid job)
+open_is_asked path maps peer message was xid job e = of_heard path maps peer message was (Open xid job) (open_is_special xid job) e
+
+pub taken_is_asked : (path : Path) (maps : Maps) (peer : Peer) (message : List ℕ) (was : Heard) (bytes : List ℕ) (taken : Taken) → heard_reply path maps peer message was ≡ Takes bytes taken
+    → IsAsked maps peer (Takes bytes taken)
+taken_is_asked path maps peer message was bytes taken e = of_heard path maps peer message was (Takes bytes taken) (takes_is_special bytes taken) e
+
+-- ---- what a MAKE that is left open rests on
 
 -- a caller elsewhere is refused
 from_own_host : (addr : List ℕ) (job : Job) (later : Result Job XfrStat) → cond (not (bytes_eq addr own_host)) (Err Refused) later ≡ Ok job → addr ≡ own_host
@@ -87,5 +98,5 @@ from_own_host addr job later e =
       | inr other ↦ let refused : Err Refused ≡ Ok job = rw other at e in absurd cc
     ]
 
-pub asked_is_local : (maps : Maps) (peer : Peer) (job : Job) → IsAsked maps peer job → peer.addr ≡ own_host
-asked_is_local maps peer job asked = from_own_host peer.addr job _ asked.1
+pub asked_is_local : (maps : Maps) (peer : Peer) (xid : ℕ) (job : Job) → IsAsked maps peer (Open xid job) → peer.addr ≡ own_host
+asked_is_local maps peer xid job asked = from_own_host peer.addr job _ asked.1

@@ -2,15 +2,18 @@
 use Rattle.std.specs.Prelude.{◌≡◌, ◌≢◌, ℕ, ◌<◌, ◌≤◌, Bool, true, false, List, [], length, take, Ok, Err, Result}
 use Rattle.yp_io.specs.declared.stream.Peer.{Peer}
 use Rattle.yp_msgs.specs.declared.stat.YpStat.{YpStat}
+use Rattle.yp_msgs.specs.Numbers.{name_max}
 use Rattle.yp_board.specs.Views.{Seen, Refreshes}
 use Rattle.yp_answer.specs.declared.procedure.Path.{Path}
 use Rattle.yp_answer.specs.declared.procedure.Procedure.{Procedure}
 use Rattle.yp_answer.specs.declared.caller.Caller.{Caller}
 use Rattle.yp_answer.specs.declared.calls.Answered.{Answered}
 use Rattle.yp_answer.specs.declared.make.Job.{Job}
+use Rattle.yp_answer.specs.declared.transfer.Errand.{Errand}
+use Rattle.yp_answer.specs.Transfer.{taken_view}
 use Rattle.yp_answer.specs.declared.calls.Answered.TheVariants as answers
 use Rattle.yp_answer.specs.Maps.{Maps}
-use Rattle.yp_answer.specs.Reply.{Response, Silence, Bytes, Open, reply, procedure_reply}
+use Rattle.yp_answer.specs.Reply.{Response, Silence, Bytes, Takes, Open, reply, procedure_reply}
 use Rattle.yp_answer.specs.Streams.{Streamed, parts_left, joined}
 
 -- the map of a stream is one of the catalogue
@@ -30,16 +33,26 @@ pub record Streams (maps : Maps) (expected : Response) (stream : Streamed) : Typ
   pub some : parts_left maps.log stream ≢ []
   pub whole : expected ≡ Bytes (joined (parts_left maps.log stream))
 
+-- The reply is at the front of the buffer, and takes a transfer of one of the catalogue's maps.
+pub record TakesTransfer (maps : Maps) (expected : Response) (len : ℕ) (errand : Errand) (buf : List ℕ) : Type 0 where
+  pub inside : errand.map < length maps.catalogue.maps
+  pub source_len : length errand.source.now ≤ name_max
+  pub some : 0 < len
+  pub within : len ≤ length buf
+  pub takes : expected ≡ Takes (take len buf) (taken_view errand)
+
 -- The reply waits for a map, one of the catalogue, that is made first.
 pub record Waits (maps : Maps) (expected : Response) (xid : ℕ) (job : Job) : Type 0 where
   pub inside : job.map < length maps.catalogue.maps
   pub left_open : expected ≡ Open xid job
 
--- an answer has this reply: silence, the front of the buffer, or a stream; or it has the map that is made first
+-- an answer has this reply: silence, the front of the buffer, which may take a transfer, or a stream; or it has the map
+-- that is made first
 abbrev pub HasReply : Maps → Response → Answered → List ℕ → Type 0
 HasReply maps expected answers.Silent buf = expected ≡ Silence
 HasReply maps expected (answers.Reply len) buf = Replies expected len buf
 HasReply maps expected (answers.Stream stream) buf = Streams maps expected stream
+HasReply maps expected (answers.Transfer len errand) buf = TakesTransfer maps expected len errand buf
 HasReply maps expected (answers.Make xid job) buf = Waits maps expected xid job
 
 -- the answer has the reply of a procedure

@@ -4,6 +4,7 @@ pub mod Held
 pub mod Results
 pub mod Procedures
 pub mod Make
+pub mod Transfer
 pub mod Reply
 pub mod Streams
 pub mod Items

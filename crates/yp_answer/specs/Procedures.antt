@@ -5,7 +5,7 @@ use Rattle.yp_answer.specs.declared.procedure.Path.{Path}
 use Rattle.yp_answer.specs.declared.procedure.Path.TheVariants.{Stream, Datagram}
 use Rattle.yp_answer.specs.declared.procedure.Procedure.{Procedure}
 use Rattle.yp_answer.specs.declared.procedure.Procedure.TheVariants.{Null, Domain, DomainNonack, Match, First, Next}
-use Rattle.yp_answer.specs.declared.procedure.Procedure.TheVariants.{Clear, All, Master, Order, Maplist, Make}
+use Rattle.yp_answer.specs.declared.procedure.Procedure.TheVariants.{Xfr, Clear, All, Master, Order, Maplist, Make}
 
 -- a whole map is sent over a stream alone
 abbrev pub all_on : Path → Option Procedure
@@ -21,12 +21,13 @@ procedure_of path number =
     else (if number == numbers.match_procedure then Some Match
     else (if number == numbers.first_procedure then Some First
     else (if number == numbers.next_procedure then Some Next
+    else (if number == numbers.xfr_procedure then Some Xfr
     else (if number == numbers.clear_procedure then Some Clear
     else (if number == numbers.all_procedure then all_on path
     else (if number == numbers.master_procedure then Some Master
     else (if number == numbers.order_procedure then Some Order
     else (if number == numbers.maplist_procedure then Some Maplist
-    else None))))))))))
+    else None)))))))))))
 
 -- the procedure of the make program with a number
 abbrev pub make_procedure_of : ℕ → Option Procedure

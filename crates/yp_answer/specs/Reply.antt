@@ -1,4 +1,5 @@
--- What a record gets: silence, its one reply, or a map that is made first (yp.x, RFC 5531 section 9).
+-- What a record gets: silence, its one reply, which may take a transfer, or a map that is made first (yp.x, RFC 5531
+-- section 9).
 use Rattle.std.specs.Prelude.{ℕ, Bool, true, false, not, ◌&&◌, ◌==◌, nat_lt, if◌then◌else◌, List, ◌++◌, length, drop}
 use Rattle.std.specs.Prelude.{Option, Some, None, Result, Ok, Err, is_ok}
 use Rattle.std.specs.Option.{ok_or}
@@ -16,18 +17,19 @@ use Rattle.yp_rpc.specs.Call.{heard}
 use Rattle.yp_rpc.specs.Reply.{reply_head}
 use Rattle.yp_msgs.specs.declared.stat.YpStat.TheVariants.{Yperr}
 use Rattle.yp_msgs.specs.declared.transfer.XfrStat.{XfrStat}
+use Rattle.yp_msgs.specs.declared.transfer.XfrStat.TheVariants.{Succ}
 use Rattle.yp_io.specs.declared.stream.Peer.{Peer}
 use Rattle.yp_msgs.specs.Numbers.{program, version, make_program, make_version}
 use Rattle.yp_msgs.specs.Messages.{req_domain, req_key, req_nokey, resp_val, key_val, resp_master, resp_order}
 use Rattle.yp_msgs.specs.MapLists.{map_list}
-use Rattle.yp_msgs.specs.Transfers.{req_make, resp_make, xfr_number}
+use Rattle.yp_msgs.specs.Transfers.{req_xfr, resp_xfr, req_make, resp_make, xfr_number}
 use Rattle.yp_board.specs.Catalogues.{serves}
 use Rattle.yp_answer.specs.declared.procedure.Path.{Path}
 use Rattle.yp_answer.specs.declared.procedure.Path.TheVariants.{Stream, Datagram}
 use Rattle.yp_answer.specs.declared.procedure.Procedure.{Procedure}
 use Rattle.yp_answer.specs.declared.caller.Caller.{Caller}
 use Rattle.yp_answer.specs.declared.procedure.Procedure.TheVariants.{Null, Domain, DomainNonack, Match, First, Next}
-use Rattle.yp_answer.specs.declared.procedure.Procedure.TheVariants.{Clear, All, Master, Order, Maplist, Make}
+use Rattle.yp_answer.specs.declared.procedure.Procedure.TheVariants.{Xfr, Clear, All, Master, Order, Maplist, Make}
 use Rattle.yp_answer.specs.Numbers.{auth_none, auth_sys, auth_rejectedcred, rpc_version, datagram_max}
 use Rattle.yp_answer.specs.Maps.{Maps, map_check, row_check}
 use Rattle.yp_answer.specs.Results.{no_value, no_row, matched, first_row, next_row, all_items, mastered, ordered}
@@ -35,12 +37,14 @@ use Rattle.yp_answer.specs.Results.{maps_listed}
 use Rattle.yp_answer.specs.Procedures.{procedure_of, make_procedure_of}
 use Rattle.yp_answer.specs.declared.make.Job.{Job}
 use Rattle.yp_answer.specs.Make.{make_check}
+use Rattle.yp_answer.specs.Transfer.{XfrRequest, Taken, asked_transid, taken_for, xfr_check}
 
--- What a record gets: no reply, this reply message, or, to the call with this xid, the status of a map that is made
--- first.
+-- What a record gets: no reply, this reply message, the same and a transfer is taken, or, to the call with this xid, the
+-- status of a map that is made first.
 pub data Response : Type 0 where
   Silence : Response
   Bytes : (bytes : List ℕ) → Response
+  Takes : (bytes : List ℕ) (taken : Taken) → Response
   Open : (xid : ℕ) (job : Job) → Response
 
 -- these bytes, or silence
@@ -52,6 +56,7 @@ bytes_or_silence None = Silence
 abbrev pub reply_at_once : Response → Option (List ℕ)
 reply_at_once Silence = None
 reply_at_once (Bytes bytes) = Some bytes
+reply_at_once (Takes bytes taken) = Some bytes
 reply_at_once (Open xid job) = None
 
 -- the head of a reply with results, and the results
@@ -86,6 +91,15 @@ abbrev pub make_response : ℕ → Result Job XfrStat → Response
 make_response xid (Err stat) = Bytes (make_reply xid stat)
 make_response xid (Ok job) = Open xid job
 
+-- the reply of XFR with a status, to the request with this transaction
+abbrev pub xfr_reply : ℕ → ℕ → XfrStat → List ℕ
+xfr_reply xid transid stat = success xid resp_xfr (transid, xfr_number stat)
+
+-- XFR has the status that refuses it, or SUCC, and then the transfer is taken
+abbrev pub xfr_response : ℕ → XfrRequest → Result ℕ XfrStat → Response
+xfr_response xid asked (Err stat) = Bytes (xfr_reply xid (asked_transid asked) stat)
+xfr_response xid asked (Ok map) = Takes (xfr_reply xid (asked_transid asked) Succ) (taken_for asked map)
+
 -- the reply of a procedure to its arguments
 abbrev pub procedure_reply : Maps → Caller → Procedure → List ℕ → Response
 procedure_reply maps caller Null bytes = Bytes (reply_head caller.xid Success)
@@ -108,6 +122,9 @@ procedure_reply maps caller Next bytes =
     with_arguments caller.xid (arguments_of req_key bytes) (λ asked.
     Bytes (look_up caller.path caller.xid key_val
     (next_row asked.1.1 (row_check maps caller.peer.port asked.0 asked.1.0)) (no_row Yperr)))
+procedure_reply maps caller Xfr bytes =
+    with_arguments caller.xid (arguments_of req_xfr bytes)
+    (λ asked. xfr_response caller.xid asked (xfr_check maps asked))
 procedure_reply maps caller All bytes =
     with_arguments caller.xid (arguments_of req_nokey bytes) (λ asked.
     Bytes (success caller.xid (ListOf key_val) (all_items (row_check maps caller.peer.port asked.0 asked.1))))
@@ -164,6 +181,7 @@ asks_for Make bytes = false
 asks_for Match bytes = is_ok (arguments_of req_key bytes)
 asks_for First bytes = is_ok (arguments_of req_nokey bytes)
 asks_for Next bytes = is_ok (arguments_of req_key bytes)
+asks_for Xfr bytes = is_ok (arguments_of req_xfr bytes)
 asks_for All bytes = is_ok (arguments_of req_nokey bytes)
 asks_for Master bytes = is_ok (arguments_of req_nokey bytes)
 asks_for Order bytes = is_ok (arguments_of req_nokey bytes)

@@ -16,6 +16,7 @@ use crate::look_up::{answer_first, answer_match, answer_next};
 use crate::make::{Job, make_check, make_reply};
 use crate::procedure::{Path, Procedure};
 use crate::stream::AllStream;
+use crate::transfer::{Errand, answer_xfr};
 use yp_board::View;
 use yp_io::Peer;
 use yp_msgs::protocol::{MAKEPROG, MAKEVERS, YPPROG, YPVERS};
@@ -26,7 +27,7 @@ use yp_xdr::Cursor;
 
 /// The answer to a record.
 #[derive(Debug, Drop)]
-pub enum Answered {
+pub enum Answered<'a> {
     /// No reply goes out.
     Silent,
 
@@ -35,6 +36,9 @@ pub enum Answered {
 
     /// The reply goes out in pieces, which are taken from the view that the call was answered on.
     Stream(AllStream),
+
+    /// The reply is the first `len` bytes of the buffer. Once it is out, the transfer is carried out.
+    Transfer { len: usize, errand: Errand<'a> },
 
     /// A map is made first, and then the reply has the status of that, by [`make_reply`](crate::make_reply).
     Make { xid: u32, job: Job },
@@ -64,7 +68,12 @@ fn admit(path: Path, call: &CallHead) -> Result<Procedure, ReplyHead>
 }
 
 /// Answers ALL: the rows go out in pieces.
-fn answer_all<V: View>(view: &mut V, caller: &Caller, arguments: &[u8], buf: &mut [u8]) -> Answered
+fn answer_all<'a, V: View>(
+    view: &mut V,
+    caller: &Caller,
+    arguments: &'a [u8],
+    buf: &mut [u8],
+) -> Answered<'a>
     requires { room_of caller.now.path ≤ length buf.old }
     ensures reply { IsProcedureAnswer (maps_of (V.seen view.new)) caller.now Procedure.All arguments.now
         result buf.new }
@@ -84,7 +93,12 @@ fn answer_all<V: View>(view: &mut V, caller: &Caller, arguments: &[u8], buf: &mu
 }
 
 /// Answers MAKE: with the status that refuses it, or with what is to be made.
-fn answer_make<V: View>(view: &V, caller: &Caller, arguments: &[u8], buf: &mut [u8]) -> Answered
+fn answer_make<'a, V: View>(
+    view: &V,
+    caller: &Caller,
+    arguments: &'a [u8],
+    buf: &mut [u8],
+) -> Answered<'a>
     requires { room_of caller.now.path ≤ length buf.old }
     ensures { IsProcedureAnswer (maps_of (V.seen view.now)) caller.now Procedure.Make arguments.now result buf.new }
 {
@@ -105,13 +119,13 @@ fn answer_make<V: View>(view: &V, caller: &Caller, arguments: &[u8], buf: &mut [
 }
 
 /// Answers a call that is let to a procedure.
-fn answer_procedure<V: View>(
+fn answer_procedure<'a, V: View>(
     view: &mut V,
     caller: &Caller,
     procedure: Procedure,
-    arguments: &[u8],
+    arguments: &'a [u8],
     buf: &mut [u8],
-) -> Answered
+) -> Answered<'a>
     requires { room_of caller.now.path ≤ length buf.old }
     ensures reply { IsProcedureAnswer (maps_of (V.seen view.new)) caller.now procedure arguments.now result buf.new }
     ensures step { StepsWhere (asks_for procedure arguments.now) V.stepped V.seen view.old view.new }
@@ -128,6 +142,7 @@ fn answer_procedure<V: View>(
         Procedure::Match => answer_match(view, caller, arguments, buf),
         Procedure::First => answer_first(view, caller, arguments, buf),
         Procedure::Next => answer_next(view, caller, arguments, buf),
+        Procedure::Xfr => return answer_xfr(view, caller, arguments, buf),
         Procedure::All => return answer_all(view, caller, arguments, buf),
         Procedure::Master => answer_master(view, caller, arguments, buf),
         Procedure::Order => answer_order(view, caller, arguments, buf),
@@ -138,13 +153,13 @@ fn answer_procedure<V: View>(
 }
 
 /// Answers a record that came on a path.
-fn answer_on<V: View>(
+fn answer_on<'a, V: View>(
     path: Path,
     view: &mut V,
-    record: &[u8],
+    record: &'a [u8],
     peer: Peer,
     buf: &mut [u8],
-) -> Answered
+) -> Answered<'a>
     requires { room_of path ≤ length buf.old }
     ensures reply { IsAnswer path (maps_of (V.seen view.new)) peer record.now result buf.new }
     ensures step { StepsWhere (asks path record.now) V.stepped V.seen view.old view.new }
@@ -178,7 +193,12 @@ fn answer_on<V: View>(
 }
 
 /// Answers a record of a stream, on the state that the view knows after at most one read step.
-pub fn answer<V: View>(view: &mut V, record: &[u8], peer: Peer, buf: &mut [u8]) -> Answered
+pub fn answer<'a, V: View>(
+    view: &mut V,
+    record: &'a [u8],
+    peer: Peer,
+    buf: &mut [u8],
+) -> Answered<'a>
     requires { record_max ≤ length buf.old }
     ensures reply { IsAnswer paths.Stream (maps_of (V.seen view.new)) peer record.now result buf.new }
     ensures step { StepsWhere (asks paths.Stream record.now) V.stepped V.seen view.old view.new }
@@ -188,7 +208,12 @@ pub fn answer<V: View>(view: &mut V, record: &[u8], peer: Peer, buf: &mut [u8]) 
 
 /// Answers a call in a datagram, on the state that the view knows after at most one read step. It knows no ALL, and has
 /// YPERR for a row that a datagram can't carry.
-pub fn answer_datagram<V: View>(view: &mut V, call: &[u8], peer: Peer, buf: &mut [u8]) -> Answered
+pub fn answer_datagram<'a, V: View>(
+    view: &mut V,
+    call: &'a [u8],
+    peer: Peer,
+    buf: &mut [u8],
+) -> Answered<'a>
     requires { datagram_max ≤ length buf.old }
     ensures reply { IsAnswer paths.Datagram (maps_of (V.seen view.new)) peer call.now result buf.new }
     ensures step { StepsWhere (asks paths.Datagram call.now) V.stepped V.seen view.old view.new }

@@ -15,9 +15,11 @@ mod look_up;
 mod make;
 mod procedure;
 mod stream;
+mod transfer;
 
 pub use calls::{Answered, answer, answer_datagram};
 pub use limits::{DATAGRAM_MAX, RECORD_MAX};
 pub use make::{Job, make_reply};
 pub use procedure::{Path, Procedure};
 pub use stream::AllStream;
+pub use transfer::Errand;

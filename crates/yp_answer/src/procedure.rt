@@ -5,7 +5,7 @@ ghost use Rattle.yp_answer.specs.Procedures.{procedure_of, make_procedure_of};
 
 use yp_msgs::protocol::{
     ALL, CLEAR, DOMAIN, DOMAIN_NONACK, FIRST, MAKE, MAKE_NULL, MAPLIST, MASTER, MATCH, NEXT, NULL,
-    ORDER,
+    ORDER, XFR,
 };
 
 /// How a call comes and its reply goes.
@@ -26,6 +26,7 @@ pub enum Procedure {
     Match,
     First,
     Next,
+    Xfr,
     Clear,
     All,
     Master,
@@ -46,6 +47,7 @@ impl Procedure {
             MATCH => Some(Procedure::Match),
             FIRST => Some(Procedure::First),
             NEXT => Some(Procedure::Next),
+            XFR => Some(Procedure::Xfr),
             CLEAR => Some(Procedure::Clear),
             ALL => match path {
                 Path::Stream => Some(Procedure::All),

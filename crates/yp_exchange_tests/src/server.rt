@@ -117,7 +117,7 @@ fn reply_by(
 {
     match answer(board, record, CALLER, buf) {
         Answered::Silent => Vec::new(alloc),
-        Answered::Reply { len } => front(rt, alloc, buf, len),
+        Answered::Reply { len } | Answered::Transfer { len, .. } => front(rt, alloc, buf, len),
         Answered::Make { .. } => panic!(rt; "a MAKE that is left open"),
         Answered::Stream(stream) => {
             let mut stream = stream;

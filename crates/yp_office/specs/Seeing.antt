@@ -3,6 +3,7 @@ use Rattle.std.specs.Prelude.{◌≡◌, ◌≢◌, ℕ, List, Option, IsTrue}
 use Rattle.yp_io.specs.Counts.{HasRisen}
 use Rattle.yp_io.specs.Disk.{History}
 use Rattle.yp_io.specs.Dials.{Wires}
+use Rattle.yp_io.specs.declared.stream.Peer.{Peer}
 use Rattle.yp_io.specs.declared.stream.Source as source
 use Rattle.yp_io.specs.declared.stream.Sink as sink
 use Rattle.yp_io.specs.declared.disk.Disk as disk
@@ -15,9 +16,10 @@ use Rattle.yp_office.specs.declared.status.Status.{Status}
 use Rattle.yp_office.specs.declared.status.Status.TheVariants.{ReadFault, WriteFault, DiskFault, DialFault}
 use Rattle.yp_office.specs.Disks.{names_of, history_of, faults_of}
 
--- what a dial tells: its wires, and how often it has failed
+-- what a dial tells: its wires, the datagrams that were sent, and how often it has failed
 pub record Dialing (A : Type 0) : Type 0 where
   pub past : A → Option Wires
+  pub letters : A → Option (List (Peer × List ℕ))
   pub faults : A → ℕ
 
 -- what its source, sink, disks, clock, dial and texts tell
@@ -31,8 +33,14 @@ pub record Seeing (S K D C A T : Type 0) : Type 1 where
 
 abbrev pub seeing : {S K D C A T X Y : Type 0} → source.Ghosts S → sink.Ghosts K → disk.Ghosts D → clock.Ghosts C
     → dial.Ghosts A X Y → texts.Ghosts T → Seeing S K D C A T
-seeing s k d c a t =
-    record { source = s; sink = k; disk = d; clock = c; dial = record { past = a.past; faults = a.faults }; texts = t }
+seeing s k d c a t = record {
+  source = s;
+  sink = k;
+  disk = d;
+  clock = c;
+  dial = record { past = a.past; letters = a.letters; faults = a.faults };
+  texts = t;
+}
 
 -- ---- what is told
 

@@ -1,5 +1,5 @@
 -- How a host over stored maps passes from one moment of a session to a later one.
-use Rattle.std.proofs.Common.{◌≡◌, inl, inr, ℕ, ◌<◌, Bool, true, false, List, [], ◌∷◌, ◌++◌, map, length, Option, IfSome, refl, sym, ◌∙◌, ap, subst, arith}
+use Rattle.std.proofs.Common.{◌≡◌, ◌⊎◌, inl, inr, Ok, Err, None, Result, slice_get, option_map, ℕ, ◌<◌, Bool, true, false, List, [], ◌∷◌, ◌++◌, map, length, Option, IfSome, refl, sym, ◌∙◌, ap, subst, arith}
 use Rattle.std.specs.List.{Contains, AllByRecursion}
 use Rattle.std.proofs.lemmas.List.Elements.{recursion_from_All, All-contains_itself}
 use Rattle.yp_io.specs.Counts.{next_count}
@@ -13,29 +13,42 @@ use Rattle.yp_answer.specs.declared.procedure.Path.TheVariants.{Stream}
 use Rattle.yp_answer.specs.Answers.{StepsWhere}
 use Rattle.yp_answer.specs.declared.make.Job.{Job}
 use Rattle.yp_answer.specs.Maps.{maps_of}
-use Rattle.yp_answer.specs.Reply.{Response, Silence, Bytes, Open, reply, asks}
+use Rattle.yp_answer.specs.Transfer.{Taken}
+use Rattle.yp_answer.specs.Reply.{Response, Silence, Bytes, Takes, Open, reply, asks}
 use Rattle.yp_session.specs.declared.session.End.{End}
 use Rattle.yp_session.specs.declared.session.End.TheVariants.{Clean, Torn, TooLong, ReadFault, WriteFault, Enough}
 use Rattle.yp_session.specs.Wires.{Wire}
-use Rattle.yp_session.specs.Hosts.{Turn, Carries, Link}
+use Rattle.yp_session.specs.Hosts.{Turn, CarriesWhere, Carries, Link}
 use Rattle.yp_session.specs.Runs.{Dialogue, Chain, Ends, unsent, Runs}
 use Rattle.yp_server.specs.Locals.{Local, Telling, TellsSame, IsUsed, seen_of}
 use Rattle.yp_build.specs.After.{Basis}
+use Rattle.yp_io.specs.declared.stream.Peer.{Peer}
+use Rattle.std.specs.Prelude.{IsTrue}
+use Rattle.yp_publish.specs.declared.install.Installed.{Installed}
+use Rattle.yp_xfr.specs.declared.fault.XfrFault.{XfrFault}
+use Rattle.yp_xfr.specs.HostTable.{HostList}
+use Rattle.yp_xfr.specs.Fetching.{Outcome, wanted_of}
+use Rattle.yp_xfr.specs.Dialing.{Dialing, FetchesFrom}
+use Rattle.yp_xfr.specs.Installing.{OpensAndOffers, marking, fetched_offer}
+use Rattle.yp_xfr.specs.Transfers.{InstallsOutcome, wanted_at}
+use Rattle.yp_server.specs.Carried.{Carried, request_for}
 use Rattle.yp_session.specs.Causes.{Told, IsAnew}
 use Rattle.yp_server.specs.Anew.{site_of}
 use Rattle.yp_server.specs.Made.{Made, OpensAndTries}
-use Rattle.yp_server.specs.Connections.{Service, IsCalledFor, IsMade, local_conduct}
-use Rattle.yp_server.proofs.Passing.{Respects, Sound, Passes, passes_none, passes_then, stays_on, opens_on, offered_on}
+use Rattle.yp_server.specs.Connections.{Service, IsCalledFor, IsMade, IsTaken, IsFetched, IsGiven, local_conduct}
+use Rattle.yp_server.proofs.Passing.{Respects, Sound, Passes, passes_none, passes_then, stays_on, opens_on, offered_on, fetched_on}
 
 -- ---- desks
 
 pub used_never : {E : Type 0} (telling : Telling E) (desk : E) → IsUsed telling desk desk
-used_never telling desk = record { tells = record { texts = λ file. refl; moment = refl }; never_falls = omega arith }
+used_never telling desk = record { tells = record { texts = λ file. refl; moment = refl }; hosts = refl; never_falls = omega arith; dial_never_falls = omega arith }
 
 pub used_then : {E : Type 0} (telling : Telling E) (a b c : E) → IsUsed telling a b → IsUsed telling b c → IsUsed telling a c
 used_then telling a b c first second = record {
   tells = record { texts = λ file. second.tells.texts file ∙ first.tells.texts file; moment = second.tells.moment ∙ first.tells.moment };
+  hosts = second.hosts ∙ first.hosts;
   never_falls = omega (arith, first.never_falls, second.never_falls);
+  dial_never_falls = omega (arith, first.dial_never_falls, second.dial_never_falls);
 }
 
 pub told_then : {a b c : Told} → TellsSame a b → TellsSame b c → TellsSame a c
@@ -52,24 +65,38 @@ anew_before first now site version same anew = record {
   built = anew.built;
 }
 
-module _ {D B E : Type 0} (service : Service D B E) (turns : List Turn) (first : Told) where
-  pub respects : Respects (IsMade service turns first)
-  respects number log other version e made = record {
-    job = made.job;
-    of_map = made.of_map;
-    called = made.called;
-    anew = subst (λ (s : Option MapVersion). IsAnew first (site_of made.job.kind service.catalogue.own s) version) e made.anew;
-  }
+module _ {D B E : Type 0} (service : Service D B E) (turns : List Turn) (first : Told) (table : HostList) where
+  pub respects : Respects (IsGiven service turns first table)
+  respects number log other version e given = elim given [
+    | inl made ↦ inl (record {
+      job = made.job;
+      of_map = made.of_map;
+      called = made.called;
+      anew = subst (λ (s : Option MapVersion). IsAnew first (site_of made.job.kind service.catalogue.own s) version) e made.anew;
+    })
+    | inr fetched ↦ inr (record {
+      taken = fetched.taken;
+      of_map = fetched.of_map;
+      by_turn = fetched.by_turn;
+      order = fetched.order;
+      fetched = fetched.fetched;
+      before = fetched.before;
+      after = fetched.after;
+      fetches = fetched.fetches;
+      marked = subst (λ (s : Option MapVersion). version ≡ record fetched.fetched { secure = marking None s }) e fetched.marked;
+    })
+  ]
 
   -- what holds of the host at each moment
   pub record SoundHost (host : Local D B E) : Type 0 where
-    pub maps : Sound service.keeping (IsMade service turns first) respects host.published
+    pub maps : Sound service.keeping (IsGiven service turns first table) respects host.published
     pub catalogue : host.published.catalogue ≡ service.catalogue
     pub told : TellsSame first (service.telling.told host.desk)
+    pub hosts : service.telling.hosts host.desk ≡ table
 
   -- what holds of it at two moments
   pub record PassesHost (old new : Local D B E) : Type 0 where
-    pub maps : Passes service.keeping (IsMade service turns first) respects old.published new.published
+    pub maps : Passes service.keeping (IsGiven service turns first table) respects old.published new.published
     pub desk : IsUsed service.telling old.desk new.desk
 
   -- it was so before, and passed so
@@ -79,23 +106,23 @@ module _ {D B E : Type 0} (service : Service D B E) (turns : List Turn) (first :
   goes_nowhere : (old new : Local D B E) → new ≡ old → SoundHost old → GoesOnTo old new
   goes_nowhere old new e sound =
       subst (λ (h : Local D B E). GoesOnTo old h) (sym e)
-      (sound, record { maps = passes_none service.keeping (IsMade service turns first) respects old.published; desk = used_never service.telling old.desk })
+      (sound, record { maps = passes_none service.keeping (IsGiven service turns first table) respects old.published; desk = used_never service.telling old.desk })
 
   goes_twice : (old middle new : Local D B E) → GoesOnTo old middle → GoesOnTo middle new → GoesOnTo old new
   goes_twice old middle new f s = (
     s.0,
     record {
-      maps = passes_then service.keeping (IsMade service turns first) respects old.published middle.published new.published f.1.maps s.1.maps;
+      maps = passes_then service.keeping (IsGiven service turns first table) respects old.published middle.published new.published f.1.maps s.1.maps;
       desk = used_then service.telling old.desk middle.desk new.desk f.1.desk s.1.desk;
     },
   )
 
   -- a host whose maps went on, over a desk that tells the same
   with_maps : (old new : Local D B E) → SoundHost old → IsUsed service.telling old.desk new.desk
-      → Sound service.keeping (IsMade service turns first) respects new.published × Passes service.keeping (IsMade service turns first) respects old.published new.published
+      → Sound service.keeping (IsGiven service turns first table) respects new.published × Passes service.keeping (IsGiven service turns first table) respects old.published new.published
       → GoesOnTo old new
   with_maps old new sound same went = (
-    record { maps = went.0; catalogue = went.1.catalogue ∙ sound.catalogue; told = told_then sound.told same.tells },
+    record { maps = went.0; catalogue = went.1.catalogue ∙ sound.catalogue; told = told_then sound.told same.tells; hosts = same.hosts ∙ sound.hosts },
     record { maps = went.1; desk = same },
   )
 
@@ -104,21 +131,21 @@ module _ {D B E : Type 0} (service : Service D B E) (turns : List Turn) (first :
   is_made : (job : Job) (old : Local D B E) (middle : Published D B) (version : MapVersion)
       → IsCalledFor service turns job → SoundHost old → middle.catalogue ≡ old.published.catalogue
       → IsAnew (service.telling.told old.desk) (site_of job.kind middle.catalogue.own (shown job.map (service.keeping.log middle.board))) version
-      → IsMade service turns first job.map (service.keeping.log middle.board) version
-  is_made job old middle version called sound same anew = record {
+      → IsGiven service turns first table job.map (service.keeping.log middle.board) version
+  is_made job old middle version called sound same anew = inl (record {
     job = job;
     of_map = refl;
     called = called;
     anew =
         anew_before first (service.telling.told old.desk) (site_of job.kind service.catalogue.own (shown job.map (service.keeping.log middle.board))) version sound.told
         (subst (λ (k : Catalogue). IsAnew (service.telling.told old.desk) (site_of job.kind k.own (shown job.map (service.keeping.log middle.board))) version) (same ∙ sound.catalogue) anew);
-  }
+  })
 
   opened_on : (stat : XfrStat) (job : Job) (old new : Local D B E) → IsCalledFor service turns job → SoundHost old
       → job.map < length old.published.maps → OpensAndTries service.keeping service.telling job stat old new
-      → Sound service.keeping (IsMade service turns first) respects new.published × Passes service.keeping (IsMade service turns first) respects old.published new.published
+      → Sound service.keeping (IsGiven service turns first table) respects new.published × Passes service.keeping (IsGiven service turns first table) respects old.published new.published
   opened_on stat job old new called sound kept step =
-      let Is = IsMade service turns first in
+      let Is = IsGiven service turns first table in
       let opened = opens_on service.keeping Is respects job.map old.published step.middle kept sound.maps step.opens in
       elim step.tries [
         | inl none ↦ subst (λ (p : Published D B). Sound service.keeping Is respects p × Passes service.keeping Is respects old.published p) (sym none.1) opened
@@ -133,9 +160,71 @@ module _ {D B E : Type 0} (service : Service D B E) (turns : List Turn) (first :
       → Made service.keeping service.telling job stat old new → GoesOnTo old new
   made_on stat job old new called sound made =
       with_maps old new sound made.1.desk (elim made.1.ends [
-        | inl stays ↦ stays_on service.keeping (IsMade service turns first) respects job.map stays.fault old.published new.published sound.maps stays.stays
+        | inl stays ↦ stays_on service.keeping (IsGiven service turns first table) respects job.map stays.fault old.published new.published sound.maps stays.stays
         | inr tries ↦ opened_on stat job old new called sound made.0 tries
       ])
+
+  -- ---- a transfer
+
+  is_fetched : (taken : Taken) (old : Local D B E) (middle : Published D B) (version : MapVersion) (before after : Dialing)
+      → IsTaken service turns taken → SoundHost old
+      → IfSome (slice_get old.published.catalogue.maps taken.map) (λ name. FetchesFrom (service.telling.hosts old.desk) taken.source (wanted_at service.keeping (request_for taken) name old.published) (Ok version) before after)
+      → IsGiven service turns first table taken.map (service.keeping.log middle.board) (fetched_offer service.keeping taken.map version false None middle).version
+  is_fetched taken old middle version before after by_turn sound fetches = inr (record {
+    taken = taken;
+    of_map = refl;
+    by_turn = by_turn;
+    order = option_map (λ (v : MapVersion). v.order) (shown taken.map (service.keeping.log old.published.board));
+    fetched = version;
+    before = before;
+    after = after;
+    fetches =
+        let order = option_map (λ (v : MapVersion). v.order) (shown taken.map (service.keeping.log old.published.board)) in
+        let P : HostList → Catalogue → Type 0 = λ h k. IfSome (slice_get k.maps taken.map) (λ name. FetchesFrom h taken.source (wanted_of name.0 name.1 order false) (Ok version) before after) in
+        subst (λ (h : HostList). P h service.catalogue) sound.hosts (subst (λ (k : Catalogue). P (service.telling.hosts old.desk) k) sound.catalogue fetches);
+    marked = refl;
+  })
+
+  offers_fetched : (taken : Taken) (result : Result Installed XfrFault) (old new : Local D B E) (version : MapVersion) (before after : Dialing)
+      → IsTaken service turns taken → SoundHost old → taken.map < length old.published.maps
+      → IfSome (slice_get old.published.catalogue.maps taken.map) (λ name. FetchesFrom (service.telling.hosts old.desk) taken.source (wanted_at service.keeping (request_for taken) name old.published) (Ok version) before after)
+      → OpensAndOffers service.keeping taken.map version false None result old.published new.published
+      → Sound service.keeping (IsGiven service turns first table) respects new.published × Passes service.keeping (IsGiven service turns first table) respects old.published new.published
+  offers_fetched taken result old new version before after by_turn sound kept fetches step =
+      let Is = IsGiven service turns first table in
+      let opened = opens_on service.keeping Is respects taken.map old.published step.middle kept sound.maps step.opens in
+      let within : taken.map < length step.middle.maps = subst (λ (n : ℕ). taken.map < n) (sym step.opens.upheld.elsewhere.count) kept in
+      let given = is_fetched taken old step.middle version before after by_turn sound fetches in
+      let installed = fetched_on service.keeping Is respects taken.map (fetched_offer service.keeping taken.map version false None step.middle) result step.middle new.published
+      within opened.0 step.opens.level refl given step.offers in
+      (installed.0, passes_then service.keeping Is respects old.published step.middle new.published opened.1 installed.1)
+
+  installs_fetched : (taken : Taken) (outcome : Outcome) (result : Result Installed XfrFault) (old new : Local D B E) (before after : Dialing)
+      → IsTaken service turns taken → SoundHost old → taken.map < length old.published.maps
+      → IfSome (slice_get old.published.catalogue.maps taken.map) (λ name. FetchesFrom (service.telling.hosts old.desk) taken.source (wanted_at service.keeping (request_for taken) name old.published) outcome before after)
+      → InstallsOutcome service.keeping (request_for taken) outcome result old.published new.published
+      → Sound service.keeping (IsGiven service turns first table) respects new.published × Passes service.keeping (IsGiven service turns first table) respects old.published new.published
+  installs_fetched taken (Err fault) result old new before after by_turn sound kept fetches installs =
+      let Is = IsGiven service turns first table in
+      subst (λ (p : Published D B). Sound service.keeping Is respects p × Passes service.keeping Is respects old.published p) (sym installs.1)
+      (sound.maps, passes_none service.keeping Is respects old.published)
+  installs_fetched taken (Ok version) result old new before after by_turn sound kept fetches installs = elim installs [
+    | inl stays ↦ stays_on service.keeping (IsGiven service turns first table) respects taken.map stays.why old.published new.published sound.maps stays.stays
+    | inr step ↦ offers_fetched taken result old new version before after by_turn sound kept fetches step
+  ]
+
+  carried_out : (taken : Taken) (peer : Peer) (old new : Local D B E) → IsTaken service turns taken → SoundHost old
+      → Carried service.keeping service.telling taken peer old new → GoesOnTo old new
+  carried_out taken peer old new by_turn sound step =
+      let carries = step.carries in
+      with_maps old new sound carries.used
+      (installs_fetched taken carries.transfers.outcome carries.result old new _ _ by_turn sound step.inside carries.transfers.fetches carries.transfers.installs)
+
+  -- it is carried out where its reply was flushed
+  carried_where : (flushed : Bool) (taken : Taken) (old new : Local D B E) → (IsTrue flushed → IsTaken service turns taken) → SoundHost old
+      → CarriesWhere flushed (local_conduct service.keeping service.telling) taken service.peer old new → GoesOnTo old new
+  carried_where true taken old new by_turn sound step = carried_out taken service.peer old new (by_turn refl) sound step.carried
+  carried_where false taken old new by_turn sound step = goes_nowhere old new step sound
 
   -- ---- a record
 
@@ -143,7 +232,7 @@ module _ {D B E : Type 0} (service : Service D B E) (turns : List Turn) (first :
   counted old new e sound =
       subst (λ (h : Local D B E). GoesOnTo old h) (sym e)
       (with_maps old (record old { asked = next_count old.asked }) sound (used_never service.telling old.desk)
-      (sound.maps, passes_none service.keeping (IsMade service turns first) respects old.published))
+      (sound.maps, passes_none service.keeping (IsGiven service turns first table) respects old.published))
 
   stepped_on : (asked : Bool) (old new : Local D B E) → SoundHost old
       → StepsWhere asked (λ old new. new ≡ record old { asked = next_count old.asked }) (seen_of service.keeping.log) old new → GoesOnTo old new
@@ -152,13 +241,17 @@ module _ {D B E : Type 0} (service : Service D B E) (turns : List Turn) (first :
 
   carried_on : (response : Response) (turn : Turn) (old new : Local D B E) → Contains turns turn → SoundHost old
       → reply Stream (maps_of (seen_of service.keeping.log old)) service.peer turn.message ≡ response
-      → Carries (local_conduct service.keeping service.telling) response turn old new → GoesOnTo old new
-  carried_on Silence turn old new among sound is carried = goes_nowhere old new carried.2 sound
-  carried_on (Bytes bytes) turn old new among sound is carried = goes_nowhere old new carried.2 sound
+      → Carries (local_conduct service.keeping service.telling) service.peer response turn old new → GoesOnTo old new
+  carried_on Silence turn old new among sound is carried = goes_nowhere old new carried.3 sound
+  carried_on (Bytes bytes) turn old new among sound is carried = goes_nowhere old new carried.3 sound
+  carried_on (Takes bytes taken) turn old new among sound is carried =
+      let by_turn : IsTrue turn.flushed → IsTaken service turns taken = λ flushed.
+      record { turn = turn; among = among; flushed = flushed; maps = maps_of (seen_of service.keeping.log old); of_catalogue = sound.catalogue; bytes = bytes; takes = is } in
+      carried_where turn.flushed taken old new by_turn sound carried.3
   carried_on (Open xid job) turn old new among sound is carried =
       let called : IsCalledFor service turns job =
       record { turn = turn; among = among; maps = maps_of (seen_of service.keeping.log old); of_catalogue = sound.catalogue; xid = xid; left_open = is } in
-      made_on carried.0 job old new called sound carried.3.made
+      made_on carried.0 job old new called sound carried.4.made
 
   linked_on : (turn : Turn) (old new : Local D B E) → Contains turns turn → SoundHost old
       → Link (local_conduct service.keeping service.telling) Stream service.peer turn old new → GoesOnTo old new
@@ -186,14 +279,14 @@ module _ {D B E : Type 0} (service : Service D B E) (turns : List Turn) (first :
   ends_on most count Enough last new ends among sound = goes_nowhere last.host new.host (ap (λ (d : Dialogue (Local D B E)). d.host) ends.1) sound
 
 -- the whole run of a session
-pub session_on : {D B E : Type 0} (service : Service D B E) (first : Told) (most : ℕ) (end : End) (old new : Dialogue (Local D B E)) (wires : List Wire)
+pub session_on : {D B E : Type 0} (service : Service D B E) (first : Told) (table : HostList) (most : ℕ) (end : End) (old new : Dialogue (Local D B E)) (wires : List Wire)
     (runs : Runs (local_conduct service.keeping service.telling) service.peer most end old new wires)
-    → SoundHost service runs.turns first old.host → GoesOnTo service runs.turns first old.host new.host
-session_on service first most end old new wires runs sound =
+    → SoundHost service runs.turns first table old.host → GoesOnTo service runs.turns first table old.host new.host
+session_on service first table most end old new wires runs sound =
     let all = recursion_from_All (Contains runs.turns) runs.turns (All-contains_itself runs.turns) in
     let rest = unsent (local_conduct service.keeping service.telling) service.peer most (length runs.answered) end runs.last new runs.ends in
     let among : AllByRecursion (Contains runs.turns) (map (λ one. one.0) runs.answered ++ rest) =
     subst (λ (turns : List Turn). AllByRecursion (Contains runs.turns) turns) runs.all all in
-    let chain = chain_on service runs.turns first runs.answered rest old runs.last among sound runs.chain in
-    goes_twice service runs.turns first old.host runs.last.host new.host chain.0
-    (ends_on service runs.turns first most (length runs.answered) end runs.last new runs.ends chain.1 chain.0.0)
+    let chain = chain_on service runs.turns first table runs.answered rest old runs.last among sound runs.chain in
+    goes_twice service runs.turns first table old.host runs.last.host new.host chain.0
+    (ends_on service runs.turns first table most (length runs.answered) end runs.last new runs.ends chain.1 chain.0.0)

@@ -1,5 +1,5 @@
--- How published maps pass from one moment to a later one, and what each step of a making keeps.
-use Rattle.std.proofs.Common.{◌≡◌, ◌⊎◌, inl, inr, ℕ, ◌<◌, ◌≤◌, List, [], ◌∷◌, ◌++◌, map, length, slice_get, slice_set, Option, Some, None, IfSome, IsSome, option_map, refl, sym, ◌∙◌, ap, subst, arith, append_assoc}
+-- How published maps pass from one moment to a later one, and what each step of a making and of a transfer keeps.
+use Rattle.std.proofs.Common.{◌≡◌, ◌⊎◌, inl, inr, false, Result, Ok, Err, ℕ, ◌<◌, ◌≤◌, List, [], ◌∷◌, ◌++◌, map, length, slice_get, slice_set, Option, Some, None, IfSome, IsSome, option_map, refl, sym, ◌∙◌, ap, subst, arith, append_assoc}
 use Rattle.std.proofs.lemmas.List.{append-nil, length-set, length-map, get_or-set_same}
 use Rattle.std.proofs.lemmas.Option.{slice_get_cases, slice_get_read, slice_get-map, get_or_from_slice_get, same_Some}
 use Rattle.std.proofs.lemmas.Bool.{cases_eq}
@@ -15,7 +15,10 @@ use Rattle.yp_publish.specs.Opens.{IsAnother, StandsMeanwhile, Opens, IsStillBeh
 use Rattle.yp_publish.specs.Rising as rising
 use Rattle.yp_publish.specs.Rising.{with_shown, Reopens, InstallsNewer}
 use Rattle.yp_publish.specs.Keeping.{Keeping, Upholds}
-use Rattle.yp_publish.specs.Installs.{LeavesEither}
+use Rattle.yp_publish.specs.Installs.{Offer, LeavesEither}
+use Rattle.yp_publish.specs.declared.install.Installed.{Installed}
+use Rattle.yp_xfr.specs.declared.fault.XfrFault.{XfrFault}
+use Rattle.yp_xfr.specs.Installing as fetching
 use Rattle.yp_server.specs.Steps.{Offers}
 use Rattle.yp_server.specs.Connections.{Making, AreMade, GrowsBy, IsOfBetween, IsBehindMade, LeavesOr}
 use Rattle.yp_server.proofs.Leading.{Leads, leads_one, leads_none, leads_then, stand_same}
@@ -390,3 +393,12 @@ module _ {D B : Type 0} (keeping : Keeping D B) (Is : Making) (same : Respects I
     | inl ok ↦ offers_on number version old new within sound level made ok.1.upheld ok.1.meanwhile (ok.1.rising refl)
     | inr failed ↦ offers_on number version old new within sound level made failed.refuses.upheld failed.refuses.meanwhile (failed.refuses.rising refl)
   ]
+
+  -- a version that was fetched and is offered, not forced
+  pub fetched_on : (number : ℕ) (offered : Offer) (result : Result Installed XfrFault) (old new : Published D B) → number < length old.maps → Sound old
+      → OfMap number old.maps (λ kept. kept.standing ≡ Level) → offered.force ≡ false → Is number (keeping.log old.board) offered.version
+      → fetching.Offers keeping number offered result old new → Sound new × Passes old new
+  fetched_on number offered (Ok installed) old new within sound level unforced given step =
+      offers_on number offered.version old new within sound level given step.installs.upheld step.installs.meanwhile (step.installs.rising unforced)
+  fetched_on number offered (Err fault) old new within sound level unforced given step =
+      offers_on number offered.version old new within sound level given step.refuses.upheld step.refuses.meanwhile (step.refuses.rising unforced)

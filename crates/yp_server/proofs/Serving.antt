@@ -19,7 +19,7 @@ use Rattle.yp_session.specs.Runs.{dialogue_at, Runs}
 use Rattle.yp_session.specs.declared.session.End.{End}
 use Rattle.yp_session.specs.declared.session.TheConstants.{CALLS_MAX}
 use Rattle.yp_server.specs.Locals.{Local, TellsSame, IsUsed}
-use Rattle.yp_server.specs.Connections.{Service, Connection, local_conduct, IsFirst, IsLast, IsMade, IsOfBetween, IsBehindMade, AtDisk, LeavesOr, AreTold, Serves, IsUnserved, refusal}
+use Rattle.yp_server.specs.Connections.{Service, Connection, local_conduct, IsFirst, IsLast, IsGiven, IsOfBetween, IsBehindMade, AtDisk, LeavesOr, AreTold, Serves, IsUnserved, refusal}
 use Rattle.yp_server.proofs.Leaving.{weaker, left_alone, both_leave_or, told_on, opt_both, opt_then, opt_second, opt_at, opt_put_map, same_places, zip_at, all_at}
 use Rattle.yp_server.proofs.Leading.{rises_from}
 use Rattle.yp_server.proofs.Hosting.{SoundHost, GoesOnTo, session_on}
@@ -85,33 +85,34 @@ module _ {D : Type 0} (history : D → Option History) (faults : D → ℕ) wher
 module _ {D B E : Type 0} (service : Service D B E) (old new : Connection D E) (start finish : Local D B E) where
   -- the host that is made of what was loaded
   pub first_from : (loaded : List (Kept D)) (board : B) (published : Published D B)
-      → start ≡ record { published = published; desk = old.desk; asked = 0; files = 0 } → published ≡ record { catalogue = service.catalogue; maps = loaded; board = board }
+      → start ≡ record { published = published; desk = old.desk; asked = 0; files = 0; transfers = 0 } → published ≡ record { catalogue = service.catalogue; maps = loaded; board = board }
       → AllZip (IsOpened service.keeping.history service.keeping.faults) old.disks loaded → service.keeping.log board ≡ starts 0 (versions loaded) → IsFirst service old start
   first_from loaded board published is parts opened log =
-      let whole : start ≡ record { published = record { catalogue = service.catalogue; maps = loaded; board = board }; desk = old.desk; asked = 0; files = 0 } =
-      is ∙ ap (λ (p : Published D B). record { published = p; desk = old.desk; asked = 0; files = 0 }) parts in
+      let whole : start ≡ record { published = record { catalogue = service.catalogue; maps = loaded; board = board }; desk = old.desk; asked = 0; files = 0; transfers = 0 } =
+      is ∙ ap (λ (p : Published D B). record { published = p; desk = old.desk; asked = 0; files = 0; transfers = 0 }) parts in
       subst (λ (host : Local D B E). IsFirst service old host) (sym whole)
-      record { catalogue = refl; opened = opened; log = log; desk = refl; asked = refl; files = refl }
+      record { catalogue = refl; opened = opened; log = log; desk = refl; asked = refl; files = refl; transfers = refl }
 
-  first_sound : (turns : List Turn) → StartsAreShown → IsFirst service old start → SoundHost service turns (service.telling.told old.desk) start
+  first_sound : (turns : List Turn) → StartsAreShown → IsFirst service old start → SoundHost service turns (service.telling.told old.desk) (service.telling.hosts old.desk) start
   first_sound turns law first = record {
     maps = record {
       shows = subst (λ (l : Log). Shows l (versions start.published.maps)) (sym first.log) (law (versions start.published.maps));
       behind = λ number.
           opt_second {P = IsOpened service.keeping.history service.keeping.faults} (slice_get old.disks number) (slice_get start.published.maps number)
           (same_places start.published.maps old.disks number (AllZip-long (IsOpened service.keeping.history service.keeping.faults) old.disks start.published.maps first.opened))
-          (λ disk kept there here opened told. subst (λ (s : MapStanding). IsBehindMade (IsMade service turns (service.telling.told old.desk)) number (service.keeping.log start.published.board) s) (sym opened.level) tt)
+          (λ disk kept there here opened told. subst (λ (s : MapStanding). IsBehindMade (IsGiven service turns (service.telling.told old.desk) (service.telling.hosts old.desk)) number (service.keeping.log start.published.board) s) (sym opened.level) tt)
           (zip_at (IsOpened service.keeping.history service.keeping.faults) old.disks start.published.maps number first.opened);
     };
     catalogue = first.catalogue;
     told = subst (λ (d : E). TellsSame (service.telling.told old.desk) (service.telling.told d)) (sym first.desk) (record { texts = λ file. refl; moment = refl });
+    hosts = ap service.telling.hosts first.desk;
   }
 
   pub went_on : StartsAreShown → (end : End) (progress : Progress) (wires : List Wire) → IsFirst service old start
       → (runs : Runs (local_conduct service.keeping service.telling) service.peer CALLS_MAX end (dialogue_at start old.wire begun) (dialogue_at finish new.wire progress) wires)
-      → GoesOnTo service runs.turns (service.telling.told old.desk) start finish
+      → GoesOnTo service runs.turns (service.telling.told old.desk) (service.telling.hosts old.desk) start finish
   went_on shown end progress wires first runs =
-      session_on service (service.telling.told old.desk) CALLS_MAX end (dialogue_at start old.wire begun) (dialogue_at finish new.wire progress) wires runs (first_sound runs.turns shown first)
+      session_on service (service.telling.told old.desk) (service.telling.hosts old.desk) CALLS_MAX end (dialogue_at start old.wire begun) (dialogue_at finish new.wire progress) wires runs (first_sound runs.turns shown first)
 
   -- what holds of a disk from its opening to its handing back
   through : (P : D → D → Type 0) (Q : Kept D → Kept D → Type 0) (number : ℕ)
@@ -142,7 +143,7 @@ module _ {D B E : Type 0} (service : Service D B E) (old new : Connection D E) (
 
   pub served : LogRises → BeginningIsStart → (end : End) (progress : Progress) (wires : List Wire) → IsFirst service old start
       → (runs : Runs (local_conduct service.keeping service.telling) service.peer CALLS_MAX end (dialogue_at start old.wire begun) (dialogue_at finish new.wire progress) wires)
-      → GoesOnTo service runs.turns (service.telling.told old.desk) start finish → IsLast service finish new → Serves service end old new wires
+      → GoesOnTo service runs.turns (service.telling.told old.desk) (service.telling.hosts old.desk) start finish → IsLast service finish new → Serves service end old new wires
   served rises begins end progress wires first runs went last = record {
     start = start;
     finish = finish;
@@ -151,8 +152,8 @@ module _ {D B E : Type 0} (service : Service D B E) (old new : Connection D E) (
     runs = runs;
     last = last;
     any_moment = λ number.
-        through (LeavesOr service.keeping.history (IsOfBetween (IsMade service runs.turns (service.telling.told old.desk)) number (service.keeping.log start.published.board) (service.keeping.log finish.published.board)))
-        (λ before after. LeavesOr service.keeping.history (IsOfBetween (IsMade service runs.turns (service.telling.told old.desk)) number (service.keeping.log start.published.board) (service.keeping.log finish.published.board)) before.disk after.disk)
+        through (LeavesOr service.keeping.history (IsOfBetween (IsGiven service runs.turns (service.telling.told old.desk) (service.telling.hosts old.desk)) number (service.keeping.log start.published.board) (service.keeping.log finish.published.board)))
+        (λ before after. LeavesOr service.keeping.history (IsOfBetween (IsGiven service runs.turns (service.telling.told old.desk) (service.telling.hosts old.desk)) number (service.keeping.log start.published.board) (service.keeping.log finish.published.board)) before.disk after.disk)
         number with_opening first (went.1.maps.moments number) last;
     behind = went.0.maps.behind;
     grown = λ told. went.1.maps.entries (told_maps first told);
@@ -160,24 +161,24 @@ module _ {D B E : Type 0} (service : Service D B E) (old new : Connection D E) (
         first.opened first.log (went.1.maps.leads (told_maps first told));
   }
 
-  pub served_bound : {turns : List Turn} → IsFirst service old start → GoesOnTo service turns (service.telling.told old.desk) start finish → IsLast service finish new
+  pub served_bound : {turns : List Turn} → IsFirst service old start → GoesOnTo service turns (service.telling.told old.desk) (service.telling.hosts old.desk) start finish → IsLast service finish new
       → (number : ℕ) → AtDisk number old.disks new.disks (LeavesOr service.keeping.history (λ image. length image ≤ file_max))
   served_bound first went last number =
       through (LeavesOr service.keeping.history (λ image. length image ≤ file_max)) (λ before after. LeavesOr service.keeping.history (λ image. length image ≤ file_max) before.disk after.disk)
       number with_opening first (went.1.maps.bound number) last
 
-  pub served_falls : {turns : List Turn} → IsFirst service old start → GoesOnTo service turns (service.telling.told old.desk) start finish → IsLast service finish new
+  pub served_falls : {turns : List Turn} → IsFirst service old start → GoesOnTo service turns (service.telling.told old.desk) (service.telling.hosts old.desk) start finish → IsLast service finish new
       → (number : ℕ) → AtDisk number old.disks new.disks (λ before after. service.keeping.faults before ≤ service.keeping.faults after)
   served_falls first went last number =
       through (λ before after. service.keeping.faults before ≤ service.keeping.faults after) (λ before after. service.keeping.faults before.disk ≤ service.keeping.faults after.disk)
       number (λ disk before after opened le. omega (arith, opened.never_falls)) first (went.1.maps.never_falls number) last
 
-  pub served_count : {turns : List Turn} → IsFirst service old start → GoesOnTo service turns (service.telling.told old.desk) start finish → IsLast service finish new → length new.disks ≡ length old.disks
+  pub served_count : {turns : List Turn} → IsFirst service old start → GoesOnTo service turns (service.telling.told old.desk) (service.telling.hosts old.desk) start finish → IsLast service finish new → length new.disks ≡ length old.disks
   served_count first went last =
       ap length last.disks ∙ length-map finish.published.maps (λ (kept : Kept D). kept.disk) ∙ went.1.maps.count
       ∙ AllZip-long (IsOpened service.keeping.history service.keeping.faults) old.disks start.published.maps first.opened
 
-  pub served_desk : {turns : List Turn} → IsFirst service old start → GoesOnTo service turns (service.telling.told old.desk) start finish → IsLast service finish new → IsUsed service.telling old.desk new.desk
+  pub served_desk : {turns : List Turn} → IsFirst service old start → GoesOnTo service turns (service.telling.told old.desk) (service.telling.hosts old.desk) start finish → IsLast service finish new → IsUsed service.telling old.desk new.desk
   served_desk first went last =
       subst (λ (d : E). IsUsed service.telling d new.desk) first.desk
       (subst (λ (d : E). IsUsed service.telling start.desk d) (sym last.desk) went.1.desk)

@@ -1,7 +1,7 @@
 -- One connection over stored maps: the host that it starts with, the one that it ends with, and what a crash leaves at
 -- each moment between.
 use Rattle.std.specs.Prelude.{◌≡◌, ◌≢◌, ◌⊎◌, ℕ, List, [], ◌∷◌, ◌++◌, map, slice_get, All, Contains, Option}
-use Rattle.std.specs.Prelude.{IfSome, IsSome, ⊤}
+use Rattle.std.specs.Prelude.{IfSome, IsSome, IsTrue, None, Ok, false, ⊤}
 use Rattle.std.specs.List.{AllZip}
 use Rattle.yp_io.specs.Counts.{next_count}
 use Rattle.yp_io.specs.Disk.{History, LeavesOnly, MayLeave}
@@ -15,11 +15,16 @@ use Rattle.yp_board.specs.Logs.{Log, shown, starts}
 use Rattle.yp_board.specs.Views.{Seen}
 use Rattle.yp_answer.specs.declared.procedure.Path.TheVariants.{Stream}
 use Rattle.yp_answer.specs.Maps.{Maps}
-use Rattle.yp_answer.specs.Reply.{Open, reply}
+use Rattle.yp_answer.specs.Transfer.{Taken}
+use Rattle.yp_answer.specs.Reply.{Takes, Open, reply}
 use Rattle.yp_answer.specs.declared.make.Job.{Job}
 use Rattle.yp_publish.specs.Standing.{MapStanding, Level, Behind, IsStanding, OfMap, Shows, stands_for, versions}
 use Rattle.yp_publish.specs.Opens.{IsOpened, IsStopped}
 use Rattle.yp_publish.specs.Rising.{IsRisingLog}
+use Rattle.yp_xfr.specs.HostTable.{HostList}
+use Rattle.yp_xfr.specs.Fetching.{wanted_of}
+use Rattle.yp_xfr.specs.Dialing.{Dialing, FetchesFrom}
+use Rattle.yp_xfr.specs.Installing.{marking}
 use Rattle.yp_session.specs.Progress.{Progress, begun}
 use Rattle.yp_session.specs.Hosts.{Conduct, Turn, conduct_of}
 use Rattle.yp_session.specs.Runs.{dialogue_at, Runs}
@@ -35,6 +40,7 @@ use Rattle.yp_server.specs.Locals.{Local, Telling, seen_of}
 use Rattle.yp_session.specs.Causes.{Told, Between, IsAnew}
 use Rattle.yp_server.specs.Anew.{site_of}
 use Rattle.yp_server.specs.Made.{Made}
+use Rattle.yp_server.specs.Carried.{Carried}
 
 -- what was shown on a plain board
 abbrev pub plain_log : Seen → Log
@@ -58,15 +64,16 @@ pub record Connection (D E : Type 0) : Type 0 where
   pub disks : List D
   pub desk : E
 
-abbrev pub connection_of : {D T C : Type 0} → Wire → Stock D T C → Connection D (Desk T C)
+abbrev pub connection_of : {D A T C : Type 0} → Wire → Stock D A T C → Connection D (Desk A T C)
 connection_of wire stock = record { wire = wire; disks = stock.disks.items; desk = stock.desk }
 
--- what a host over stored maps tells and does: a read step counts, and the making of a map is `Made`
+-- what a host over stored maps tells and does: a read step counts, the making of a map is `Made`, and the
+-- carrying out of a transfer is `Carried`
 abbrev pub local_conduct : {D B E : Type 0} → Keeping D B → Telling E → Conduct (Local D B E)
 local_conduct keeping telling =
     conduct_of (seen_of keeping.log) (λ host. telling.told host.desk)
-    (λ host. record { files = host.files; transfers = 0 })
-    (λ old new. new ≡ record old { asked = next_count old.asked }) (Made keeping telling)
+    (λ host. record { files = host.files; transfers = host.transfers })
+    (λ old new. new ≡ record old { asked = next_count old.asked }) (Made keeping telling) (Carried keeping telling)
 
 -- what was shown on the board of a host
 abbrev pub log_of : {D B E : Type 0} → Service D B E → Local D B E → Log
@@ -83,6 +90,7 @@ pub record IsFirst {D B E : Type 0} (service : Service D B E) (old : Connection 
   pub desk : start.desk ≡ old.desk
   pub asked : start.asked ≡ 0
   pub files : start.files ≡ 0
+  pub transfers : start.transfers ≡ 0
 
 -- The host that it ends with, of which the disks and the desk are handed back: what is shown of each map agrees with
 -- what a crash may leave of its disk now.
@@ -93,7 +101,7 @@ pub record IsLast {D B E : Type 0} (service : Service D B E) (finish : Local D B
   pub shows : Shows (log_of service finish) (versions finish.published.maps)
   pub standing : (number : ℕ) → OfMap number finish.published.maps (IsStanding service.keeping.history)
 
--- ---- versions that were made
+-- ---- versions that were made or fetched
 
 -- One of these records was a call that may have this map made, and its reply was left open.
 pub record IsCalledFor {D B E : Type 0} (service : Service D B E) (turns : List Turn) (job : Job) : Type 0 where
@@ -113,19 +121,48 @@ pub record IsMade {D B E : Type 0} (service : Service D B E) (turns : List Turn)
   pub called : IsCalledFor service turns job
   pub anew : IsAnew told (site_of job.kind service.catalogue.own (shown number log)) version
 
--- what it is that a version was made of a map behind a log
+-- One of these records took this transfer, and its reply was flushed.
+pub record IsTaken {D B E : Type 0} (service : Service D B E) (turns : List Turn) (taken : Taken) : Type 0 where
+  pub turn : Turn
+  pub among : Contains turns turn
+  pub flushed : IsTrue turn.flushed
+  pub maps : Maps
+  pub of_catalogue : maps.catalogue ≡ service.catalogue
+  pub bytes : List ℕ
+  pub takes : reply Stream maps service.peer turn.message ≡ Takes bytes taken
+
+-- A version was fetched of a map behind a log: one of these records took a transfer of this map, its source has one of
+-- these addresses, and a wire to it gave the version, over an order that was shown. It is marked as what the log shows.
+pub record IsFetched {D B E : Type 0} (service : Service D B E) (turns : List Turn) (hosts : HostList)
+    (number : ℕ) (log : Log) (version : MapVersion) : Type 0 where
+  pub taken : Taken
+  pub of_map : taken.map ≡ number
+  pub by_turn : IsTaken service turns taken
+  pub order : Option ℕ
+  pub fetched : MapVersion
+  pub before : Dialing
+  pub after : Dialing
+  pub fetches : IfSome (slice_get service.catalogue.maps number) (λ name.
+      FetchesFrom hosts taken.source (wanted_of name.0 name.1 order false) (Ok fetched) before after)
+  pub marked : version ≡ record fetched { secure = marking None (shown number log) }
+
+-- what it is that a version was made or fetched of a map behind a log
 abbrev pub Making : Type 1
 Making = ℕ → Log → MapVersion → Type 0
 
-abbrev pub made_for : {D B E : Type 0} → Service D B E → List Turn → E → Making
-made_for service turns desk = IsMade service turns (service.telling.told desk)
+abbrev pub IsGiven : {D B E : Type 0} → Service D B E → List Turn → Told → HostList → Making
+IsGiven service turns told hosts number log version =
+    IsMade service turns told number log version ⊎ IsFetched service turns hosts number log version
 
--- Each of these entries was made behind the log and the entries before it.
+abbrev pub given_for : {D B E : Type 0} → Service D B E → List Turn → E → Making
+given_for service turns desk = IsGiven service turns (service.telling.told desk) (service.telling.hosts desk)
+
+-- Each of these entries was made or fetched behind the log and the entries before it.
 abbrev pub AreMade : Making → Log → Log → Type 0
 AreMade Is log [] = ⊤
 AreMade Is log (entry ∷ more) = Is entry.0 log entry.1 × AreMade Is (log ++ entry ∷ []) more
 
--- A log grew by versions that were made, each behind the log before it.
+-- A log grew by versions that were made or fetched, each behind the log before it.
 pub record GrowsBy (Is : Making) (first last : Log) : Type 0 where
   pub more : Log
   pub last_is : last ≡ first ++ more
@@ -133,7 +170,7 @@ pub record GrowsBy (Is : Making) (first last : Log) : Type 0 where
 
 -- ---- what a crash leaves
 
--- The bytes stand for what the log shows of a map, or for a version that was made of it behind the log.
+-- The bytes stand for what the log shows of a map, or for a version that was made or fetched of it behind the log.
 abbrev pub IsShownOrMade : Making → ℕ → Log → List ℕ → Type 0
 IsShownOrMade Is number log image =
     (stands image ≡ stands_for (shown number log))
@@ -143,7 +180,7 @@ IsShownOrMade Is number log image =
 abbrev pub IsOfBetween : Making → ℕ → Log → Log → List ℕ → Type 0
 IsOfBetween Is number first last image = Between first last (λ log. IsShownOrMade Is number log image)
 
--- A map is level, or behind a version that was made of it behind the log.
+-- A map is level, or behind a version that was made or fetched of it behind the log.
 abbrev pub IsBehindMade : Making → ℕ → Log → MapStanding → Type 0
 IsBehindMade Is number log Level = ⊤
 IsBehindMade Is number log (Behind version) = Is number log version
@@ -165,7 +202,7 @@ AreTold history disks = All (λ disk. IsSome (history disk)) disks
 
 -- A connection was served, and ended so. From its first host to its last the records of its wire were answered in turn,
 -- and behind each the wire was one of these. At each moment a crash leaves of each map what was shown of it or what was
--- being installed. Only versions that were made were shown, and the orders of each map rise.
+-- being installed. Only versions that were made or fetched were shown, and the orders of each map rise.
 pub record Serves {D B E : Type 0} (service : Service D B E) (end : End) (old new : Connection D E)
     (wires : List Wire) : Type 0 where
   pub start : Local D B E
@@ -176,11 +213,11 @@ pub record Serves {D B E : Type 0} (service : Service D B E) (end : End) (old ne
       (dialogue_at start old.wire begun) (dialogue_at finish new.wire progress) wires
   pub last : IsLast service finish new
   pub any_moment : (number : ℕ) → AtDisk number old.disks new.disks (LeavesOr service.keeping.history
-      (IsOfBetween (made_for service runs.turns old.desk) number (log_of service start) (log_of service finish)))
+      (IsOfBetween (given_for service runs.turns old.desk) number (log_of service start) (log_of service finish)))
   pub behind : (number : ℕ) → OfMap number finish.published.maps (λ kept. IsSome (service.keeping.history kept.disk)
-      → IsBehindMade (made_for service runs.turns old.desk) number (log_of service finish) kept.standing)
+      → IsBehindMade (given_for service runs.turns old.desk) number (log_of service finish) kept.standing)
   pub grown : AreTold service.keeping.history old.disks
-      → GrowsBy (made_for service runs.turns old.desk) (log_of service start) (log_of service finish)
+      → GrowsBy (given_for service runs.turns old.desk) (log_of service start) (log_of service finish)
   pub rises : AreTold service.keeping.history old.disks → IsRisingLog (log_of service finish)
 
 -- what a connection isn't served for, where the disk of a map isn't loaded

@@ -1,30 +1,52 @@
 -- A host of one thread, and what its parts tell.
-use Rattle.std.specs.Prelude.{◌≡◌, ◌≤◌, ℕ, List, Option}
+use Rattle.std.specs.Prelude.{◌≡◌, ◌≤◌, ℕ, List, Option, min}
+use Rattle.yp_io.specs.Counts.{last_count}
+use Rattle.yp_io.specs.Dials.{Wires}
+use Rattle.yp_io.specs.declared.stream.Peer.{Peer}
+use Rattle.yp_io.specs.declared.texts.Texts as texts
+use Rattle.yp_io.specs.declared.clock.Clock as clock
 use Rattle.yp_io.specs.declared.texts.TextFile.{TextFile}
 use Rattle.yp_board.specs.Logs.{Log}
 use Rattle.yp_board.specs.Views.{Seen}
 use Rattle.yp_publish.specs.Standing.{Published}
 use Rattle.yp_session.specs.Causes.{Told}
+use Rattle.yp_xfr.specs.HostTable.{HostList}
 use Rattle.yp_server.specs.declared.desk.Desk.{Desk}
 
--- a host: its maps and the board, its desk, how often it was asked, and how often it answered FILE
+-- a host: its maps and the board, its desk, how often it was asked, how often it answered FILE, and how many transfers
+-- it carried out
 pub record Local (D B E : Type 0) : Type 0 where
   pub published : Published D B
   pub desk : E
   pub asked : ℕ
   pub files : ℕ
+  pub transfers : ℕ
 
--- what a desk tells of its texts and of its clock, and how often a text wasn't read
+-- what a dial tells: its wires, the datagrams that were sent, and how often it has failed
+pub record DialTells : Type 0 where
+  pub past : Option Wires
+  pub letters : Option (List (Peer × List ℕ))
+  pub faults : ℕ
+
+-- what a desk tells of its texts and of its clock, how often a text wasn't read, the addresses of its hosts, and what
+-- its dial tells
 pub record Telling (E : Type 0) : Type 0 where
   pub told : E → Told
   pub faults : E → ℕ
+  pub hosts : E → HostList
+  pub dial : E → DialTells
 
-abbrev pub told_by : {T C : Type 0} → (T → TextFile → Option (List ℕ)) → (C → Option ℕ) → Desk T C → Told
-told_by text moment desk = record { text = text desk.texts; moment = moment desk.clock }
+abbrev pub told_by : {A T C : Type 0} → texts.Ghosts T → clock.Ghosts C → Desk A T C → Told
+told_by texts clock desk = record { text = texts.text desk.texts; moment = clock.moment desk.clock }
 
-abbrev pub telling_of : {T C : Type 0} → (T → TextFile → Option (List ℕ)) → (T → ℕ) → (C → Option ℕ)
-    → Telling (Desk T C)
-telling_of text faults moment = record { told = told_by text moment; faults = λ desk. faults desk.texts }
+abbrev pub telling_of : {A T C : Type 0} → texts.Ghosts T → clock.Ghosts C → (A → Option Wires)
+    → (A → Option (List (Peer × List ℕ))) → (A → ℕ) → Telling (Desk A T C)
+telling_of texts clock past letters faults = record {
+  told = told_by texts clock;
+  faults = λ desk. texts.faults desk.texts;
+  hosts = λ desk. desk.hosts;
+  dial = λ desk. record { past = past desk.dial; letters = letters desk.dial; faults = faults desk.dial };
+}
 
 -- what a host tells: it knows the whole log
 abbrev pub seen_of : {D B E : Type 0} → (B → Log) → Local D B E → Seen
@@ -36,7 +58,13 @@ pub record TellsSame (old new : Told) : Type 0 where
   pub texts : (file : TextFile) → new.text file ≡ old.text file
   pub moment : new.moment ≡ old.moment
 
--- A desk was used: it tells what it told, and its count of faults hasn't fallen.
+-- Its dial stays.
+abbrev pub LeavesDial : {E : Type 0} → Telling E → E → E → Type 0
+LeavesDial telling old new = telling.dial new ≡ telling.dial old
+
+-- A desk was used: it tells what it told, its hosts stay, and its counts of faults haven't fallen.
 pub record IsUsed {E : Type 0} (telling : Telling E) (old new : E) : Type 0 where
   pub tells : TellsSame (telling.told old) (telling.told new)
+  pub hosts : telling.hosts new ≡ telling.hosts old
   pub never_falls : telling.faults old ≤ telling.faults new
+  pub dial_never_falls : min (telling.dial old).faults last_count ≤ (telling.dial new).faults

@@ -6,7 +6,7 @@ use Rattle.yp_answer.specs.declared.make.Job.{Job}
 use Rattle.yp_publish.specs.Standing.{Published}
 use Rattle.yp_publish.specs.Keeping.{Keeping}
 use Rattle.yp_publish.specs.Opens.{Opens}
-use Rattle.yp_server.specs.Locals.{Local, Telling, IsUsed}
+use Rattle.yp_server.specs.Locals.{Local, Telling, IsUsed, LeavesDial}
 use Rattle.yp_build.specs.After.{Basis}
 use Rattle.yp_session.specs.Causes.{IsAnew, basis_at}
 use Rattle.yp_server.specs.Anew.{IsUnbuilt}
@@ -35,7 +35,9 @@ pub record OpensAndTries {D B E : Type 0} (keeping : Keeping D B) (telling : Tel
 pub record Makes {D B E : Type 0} (keeping : Keeping D B) (telling : Telling E) (job : Job) (stat : XfrStat)
     (old new : Local D B E) : Type 0 where
   pub desk : IsUsed telling old.desk new.desk
+  pub dial : LeavesDial telling old.desk new.desk
   pub asked : new.asked ≡ old.asked
+  pub transfers : new.transfers ≡ old.transfers
   pub ends : IsNotReopened keeping job.map stat old.published new.published
       ⊎ OpensAndTries keeping telling job stat old new
 

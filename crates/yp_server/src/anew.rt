@@ -8,7 +8,7 @@ ghost use Rattle.yp_version.specs.Limits.{master_max};
 ghost use Rattle.yp_build.specs.Kinds.{file_of};
 ghost use Rattle.yp_publish.specs.declared.install.Origin.TheVariants.{Built};
 ghost use Rattle.yp_publish.specs.Installs.{offer, not_following};
-ghost use Rattle.yp_server.specs.Locals.{told_by, telling_of, IsUsed};
+ghost use Rattle.yp_server.specs.Locals.{told_by, telling_of, IsUsed, LeavesDial};
 ghost use Rattle.yp_session.specs.Causes.{IsAnew};
 ghost use Rattle.yp_server.specs.Anew.{site_of, stat_of, IsUnbuilt};
 
@@ -16,7 +16,7 @@ use crate::desk::Desk;
 use std::alloc::Global;
 use std::random::RandomSource;
 use yp_build::{AfterFault, BuildFault, Kind, build_after, other_master};
-use yp_io::{Clock, TextFault, Texts};
+use yp_io::{Clock, Dial, TextFault, Texts};
 use yp_msgs::XfrStat;
 use yp_version::Version;
 
@@ -25,22 +25,23 @@ use yp_version::Version;
 ///
 /// A map with another master is REFUSED, a text that isn't read is FILE, an order that is spent AGE, and a row that
 /// passes a limit DBM. Want of memory is RSRC.
-pub(crate) fn build_anew<T: Texts, C: Clock>(
+pub(crate) fn build_anew<A: Dial, T: Texts, C: Clock>(
     alloc: Global,
     rt: &impl RandomSource,
-    desk: &mut Desk<T, C>,
+    desk: &mut Desk<A, T, C>,
     kind: Kind,
     own: &[u8],
     shown: Option<&Version>,
 ) -> Result<Version, XfrStat>
     requires { length own.now ≤ master_max }
-    ensures anew { IfOk result (IsAnew (told_by T.text C.moment desk.old)
+    ensures anew { IfOk result (IsAnew (told_by T.Texts C.Clock desk.old)
         (site_of kind own.now (option_map (λ version. version.now) shown.entry))) }
     ensures follows { IfOk result (λ version.
         not_following own.now (offer version Built false) (option_map (λ version. version.now) shown.entry) ≡ None) }
-    ensures unbuilt { IfErr result (λ stat. IsUnbuilt (telling_of T.text T.faults C.moment)
+    ensures unbuilt { IfErr result (λ stat. IsUnbuilt (telling_of T.Texts C.Clock A.past A.letters A.faults)
         (site_of kind own.now (option_map (λ version. version.now) shown.entry)) stat desk.old desk.new) }
-    ensures desk { IsUsed (telling_of T.text T.faults C.moment) desk.old desk.new }
+    ensures desk { IsUsed (telling_of T.Texts C.Clock A.past A.letters A.faults) desk.old desk.new }
+    ensures dial { LeavesDial (telling_of T.Texts C.Clock A.past A.letters A.faults) desk.old desk.new }
 {
     if other_master(own, shown).is_some() {
         return Err(XfrStat::Refused);

@@ -17,7 +17,7 @@ use crate::local::LocalHost;
 use std::alloc::Global;
 use std::random::RandomSource;
 use yp_board::{Catalog, PlainBoard};
-use yp_io::{Clock, Disk, NoMemory, Pair, Peer, Sink, Source, Texts};
+use yp_io::{Clock, Dial, Disk, NoMemory, Pair, Peer, Sink, Source, Texts};
 use yp_publish::laws::{beginning_is_start, log_rises, starts_are_shown};
 use yp_publish::{Loaded, Publisher, StartRefused, load_all};
 use yp_session::{CALLS_MAX, End, Session, Witness};
@@ -25,10 +25,10 @@ use yp_slot::SlotFault;
 
 /// What a connection is served from.
 #[derive(Drop)]
-pub struct Stock<D, T, C> {
+pub struct Stock<D, A, T, C> {
     /// The disks of the maps, in the order of the catalogue.
     pub disks: Vec<D>,
-    pub desk: Desk<T, C>,
+    pub desk: Desk<A, T, C>,
 }
 
 /// Why a connection wasn't served. Nothing was read from the wire or written then.
@@ -51,18 +51,19 @@ struct Ready {
 /// Serves one connection from stored maps, to a caller at `peer`: loads the files of all disks, shows what they stand
 /// for, and answers at most [`CALLS_MAX`] records of the wire. The disks, in their order, and the desk come back with
 /// every outcome. The witness sees the wire behind each record that was answered.
-pub fn serve_wire<S: Source, K: Sink, D: Disk, T: Texts, C: Clock, W: Witness<S, K>>(
+pub fn serve_wire<S: Source, K: Sink, D: Disk, A: Dial, T: Texts, C: Clock, W: Witness<S, K>>(
     alloc: Global,
     rt: &impl RandomSource,
     catalog: Catalog,
     peer: Peer,
     wire: &mut Pair<S, K>,
-    stock: Stock<D, T, C>,
+    stock: Stock<D, A, T, C>,
     witness: &mut W,
-) -> (Result<End, Unserved>, Stock<D, T, C>)
+) -> (Result<End, Unserved>, Stock<D, A, T, C>)
     requires { length stock.disks.items ≡ length catalog.maps }
     ensures served { IfOk result.0 (λ end. Grows (W.wires witness.old) (W.wires witness.new) (Serves
-        (service_of (keeping_of D.history D.faults plain_log) (telling_of T.text T.faults C.moment) catalog peer) end
+        (service_of (keeping_of D.history D.faults plain_log)
+        (telling_of T.Texts C.Clock A.past A.letters A.faults) catalog peer) end
         (connection_of (wire_of S.Source K.Sink wire.old) stock)
         (connection_of (wire_of S.Source K.Sink wire.new) result.1))) }
 
@@ -81,7 +82,7 @@ pub fn serve_wire<S: Source, K: Sink, D: Disk, T: Texts, C: Clock, W: Witness<S,
     ensures never_falls { (number : ℕ) → AtDisk number stock.disks.items result.1.disks.items
         (λ before after. D.faults before ≤ D.faults after) }
     ensures count { length result.1.disks.items ≡ length stock.disks.items }
-    ensures desk { IsUsed (telling_of T.text T.faults C.moment) stock.desk result.1.desk }
+    ensures desk { IsUsed (telling_of T.Texts C.Clock A.past A.letters A.faults) stock.desk result.1.desk }
 
     // The counts of the wire, a fault of it, and its output.
     ensures counts { NeverFalls (wire_of S.Source K.Sink wire.old) (wire_of S.Source K.Sink wire.new) }
@@ -154,9 +155,9 @@ fn prepare<D: Disk>(alloc: Global, catalog: &Catalog, loaded: &Loaded<D>) -> Res
 }
 
 /// The disks and the desk of a host.
-fn stock_of<D: Disk, T: Texts, C: Clock, R: RandomSource + Drop>(
-    host: LocalHost<D, PlainBoard, T, C, R>,
-) -> Stock<D, T, C>
+fn stock_of<D: Disk, A: Dial, T: Texts, C: Clock, R: RandomSource + Drop>(
+    host: LocalHost<D, PlainBoard, A, T, C, R>,
+) -> Stock<D, A, T, C>
     ensures disks { result.disks.items ≡ map (λ kept. kept.disk) host.published.maps }
     ensures desk { result.desk ≡ host.desk }
     ensures shows { Shows (plain_log host.published.board) (versions host.published.maps) }

@@ -1,8 +1,13 @@
-//! What a host needs from outside to make maps.
+//! What a host needs from outside to make maps and to fetch them.
 
-/// The texts that maps are made of, and the clock that their orders follow.
+use yp_xfr::Hosts;
+
+/// The texts that maps are made of, the clock that their orders follow, and what opens connections to the hosts that
+/// maps are fetched from, with their addresses.
 #[derive(Drop)]
-pub struct Desk<T, C> {
+pub struct Desk<A, T, C> {
+    pub dial: A,
     pub texts: T,
     pub clock: C,
+    pub hosts: Hosts,
 }

@@ -9,6 +9,7 @@
 #![tactic(auto)]
 
 mod anew;
+mod carrying;
 mod connection;
 mod desk;
 mod local;

@@ -10,21 +10,23 @@ ghost use Rattle.yp_publish.specs.declared.install.Origin.TheVariants.{Built};
 ghost use Rattle.yp_publish.specs.Standing.{Level, OfMap};
 ghost use Rattle.yp_answer.specs.Make.{job_of};
 ghost use Rattle.yp_publish.specs.Keeping.{keeping_of};
-ghost use Rattle.yp_server.specs.Locals.{seen_of, told_by, telling_of, IsUsed};
+ghost use Rattle.yp_server.specs.Locals.{seen_of, told_by, telling_of, IsUsed, LeavesDial};
 ghost use Rattle.yp_session.specs.Causes.{IsAnew};
 ghost use Rattle.yp_server.specs.Anew.{IsUnbuilt};
 ghost use Rattle.yp_server.specs.Made.{site_at, Tries, Makes, Made};
+ghost use Rattle.yp_server.specs.Carried.{Carried};
 
 use crate::anew::build_anew;
+use crate::carrying::carry_out;
 use crate::desk::Desk;
 use crate::steps::{install, reopen};
 use std::alloc::Global;
 use std::marker::Model;
 use std::random::RandomSource;
-use yp_answer::Job;
+use yp_answer::{Errand, Job};
 use yp_board::{Catalog, Show, View};
 use yp_build::Kind;
-use yp_io::{Clock, Disk, Texts};
+use yp_io::{Clock, Dial, Disk, Peer, Texts};
 use yp_msgs::XfrStat;
 use yp_publish::Publisher;
 use yp_session::Host;
@@ -32,49 +34,59 @@ use yp_version::Version;
 
 /// A host over stored maps, for one thread. What it knows is all that was shown.
 ///
-/// It is seen as its maps and their board, its desk, how often it was asked, and how often it answered FILE.
+/// It is seen as its maps and their board, its desk, how often it was asked, how often it answered FILE, and how many
+/// transfers it carried out.
 #[derive(Drop)]
-pub struct LocalHost<D: Disk, B: Show, T: Texts, C: Clock, R: RandomSource + Drop> {
+pub struct LocalHost<D: Disk, B: Show, A: Dial, T: Texts, C: Clock, R: RandomSource + Drop> {
     publisher: Publisher<D, B>,
-    desk: Desk<T, C>,
+    desk: Desk<A, T, C>,
     catalog: Catalog,
     asked: u64,
     files: u64,
+    transfers: u64,
     alloc: Global,
     rt: R,
 }
 
-impl<D: Disk, B: Show, T: Texts, C: Clock, R: RandomSource + Drop> Model
-    for LocalHost<D, B, T, C, R> {
+impl<D: Disk, B: Show, A: Dial, T: Texts, C: Clock, R: RandomSource + Drop> Model
+    for LocalHost<D, B, A, T, C, R> {
     ghost use Rattle.std.specs.Prelude.{◌≡◌, length};
     ghost use Rattle.yp_server.specs.Locals.{Local};
     ghost use Rattle.yp_server.specs.declared.desk.Desk.{Desk};
 
-    ghost Value = { Local D B (Desk T C) };
+    ghost Value = { Local D B (Desk A T C) };
 
     ghost view = { λ h. record {
       published = h.publisher;
       desk = h.desk;
       asked = h.asked;
       files = h.files;
+      transfers = h.transfers;
     } };
 
     ghost invariant = { λ h. (h.catalog ≡ h.publisher.catalogue)
         × (length h.publisher.maps ≡ length h.catalog.maps) };
 }
 
-impl<D: Disk, B: Show, T: Texts, C: Clock, R: RandomSource + Drop> LocalHost<D, B, T, C, R> {
+impl<D: Disk, B: Show, A: Dial, T: Texts, C: Clock, R: RandomSource + Drop> LocalHost<
+    D,
+    B,
+    A,
+    T,
+    C,
+    R,
+> {
     /// A host over the maps of a publisher, with a copy of the publisher's catalogue. Its memory is taken by `alloc`,
     /// and the tables of its builds are made with the randomness of `rt`.
     pub fn new(
         alloc: Global,
         rt: R,
         publisher: Publisher<D, B>,
-        desk: Desk<T, C>,
+        desk: Desk<A, T, C>,
         catalog: Catalog,
-    ) -> LocalHost<D, B, T, C, R>
+    ) -> LocalHost<D, B, A, T, C, R>
         requires { catalog ≡ publisher.catalogue }
-        ensures { result ≡ record { published = publisher; desk = desk; asked = 0; files = 0 } }
+        ensures { result ≡ record { published = publisher; desk = desk; asked = 0; files = 0; transfers = 0 } }
     {
         prove!(publisher.catalog().len() == catalog.len());
         LocalHost {
@@ -83,13 +95,14 @@ impl<D: Disk, B: Show, T: Texts, C: Clock, R: RandomSource + Drop> LocalHost<D, 
             catalog,
             asked: 0,
             files: 0,
+            transfers: 0,
             alloc,
             rt,
         }
     }
 
     /// The publisher and the desk.
-    pub fn into_parts(self) -> (Publisher<D, B>, Desk<T, C>)
+    pub fn into_parts(self) -> (Publisher<D, B>, Desk<A, T, C>)
         ensures publisher { result.0 ≡ self.published }
         ensures desk { result.1 ≡ self.desk }
     {
@@ -99,6 +112,7 @@ impl<D: Disk, B: Show, T: Texts, C: Clock, R: RandomSource + Drop> LocalHost<D, 
             catalog: _,
             asked: _,
             files: _,
+            transfers: _,
             alloc: _,
             rt: _,
         } = self;
@@ -108,13 +122,14 @@ impl<D: Disk, B: Show, T: Texts, C: Clock, R: RandomSource + Drop> LocalHost<D, 
     /// Makes a map anew, or answers why it can't be made, the first reason that applies.
     fn make_anew(&mut self, map: u32, kind: Kind) -> Result<(), XfrStat>
         requires { map < length self.old.published.catalogue.maps }
-        ensures made { OnOk result (Makes (keeping_of D.history D.faults B.log) (telling_of T.text T.faults C.moment)
+        ensures made { OnOk result (Makes (keeping_of D.history D.faults B.log) (telling_of T.Texts C.Clock A.past A.letters A.faults)
             (job_of map kind) XfrStat.Succ self.old self.new) }
         ensures unmade { IfErr result (λ stat. Makes (keeping_of D.history D.faults B.log)
-            (telling_of T.text T.faults C.moment) (job_of map kind) stat self.old self.new) }
+            (telling_of T.Texts C.Clock A.past A.letters A.faults) (job_of map kind) stat self.old self.new) }
         ensures grown { IsFront (B.log self.old.published.board) (B.log self.new.published.board) }
         ensures catalogue { self.new.published.catalogue ≡ self.old.published.catalogue }
         ensures files { self.new.files ≡ self.old.files }
+        ensures transfers { self.new.transfers ≡ self.old.transfers }
     {
         reopen(self.alloc, &self.rt, &mut self.publisher, map)?;
         self.make_level(map, kind)
@@ -124,15 +139,17 @@ impl<D: Disk, B: Show, T: Texts, C: Clock, R: RandomSource + Drop> LocalHost<D, 
     fn make_level(&mut self, map: u32, kind: Kind) -> Result<(), XfrStat>
         requires map { map < length self.old.published.maps }
         requires level { OfMap map self.old.published.maps (λ kept. kept.standing ≡ Level) }
-        ensures made { OnOk result (Tries (keeping_of D.history D.faults B.log) (telling_of T.text T.faults C.moment)
+        ensures made { OnOk result (Tries (keeping_of D.history D.faults B.log) (telling_of T.Texts C.Clock A.past A.letters A.faults)
             (job_of map kind) XfrStat.Succ self.old self.new) }
         ensures unmade { IfErr result (λ stat. Tries (keeping_of D.history D.faults B.log)
-            (telling_of T.text T.faults C.moment) (job_of map kind) stat self.old self.new) }
-        ensures desk { IsUsed (telling_of T.text T.faults C.moment) self.old.desk self.new.desk }
+            (telling_of T.Texts C.Clock A.past A.letters A.faults) (job_of map kind) stat self.old self.new) }
+        ensures desk { IsUsed (telling_of T.Texts C.Clock A.past A.letters A.faults) self.old.desk self.new.desk }
+        ensures dial { LeavesDial (telling_of T.Texts C.Clock A.past A.letters A.faults) self.old.desk self.new.desk }
         ensures grown { IsFront (B.log self.old.published.board) (B.log self.new.published.board) }
         ensures catalogue { self.new.published.catalogue ≡ self.old.published.catalogue }
         ensures asked { self.new.asked ≡ self.old.asked }
         ensures files { self.new.files ≡ self.old.files }
+        ensures transfers { self.new.transfers ≡ self.old.transfers }
     {
         let version = build_for(
             self.alloc,
@@ -147,22 +164,23 @@ impl<D: Disk, B: Show, T: Texts, C: Clock, R: RandomSource + Drop> LocalHost<D, 
 }
 
 /// Builds a version of a map, for what is shown of it.
-fn build_for<D: Disk, B: Show, T: Texts, C: Clock>(
+fn build_for<D: Disk, B: Show, A: Dial, T: Texts, C: Clock>(
     alloc: Global,
     rt: &impl RandomSource,
     publisher: &Publisher<D, B>,
-    desk: &mut Desk<T, C>,
+    desk: &mut Desk<A, T, C>,
     map: u32,
     kind: Kind,
 ) -> Result<Version, XfrStat>
     requires { map < length publisher.now.maps }
-    ensures anew { IfOk result (IsAnew (told_by T.text C.moment desk.old)
+    ensures anew { IfOk result (IsAnew (told_by T.Texts C.Clock desk.old)
         (site_at (keeping_of D.history D.faults B.log) (job_of map kind) publisher.now)) }
     ensures follows { IfOk result (λ version. OfMap map publisher.now.maps (λ kept.
         not_following publisher.now.catalogue.own (offer version Built false) kept.version ≡ None)) }
-    ensures unbuilt { IfErr result (λ stat. IsUnbuilt (telling_of T.text T.faults C.moment)
+    ensures unbuilt { IfErr result (λ stat. IsUnbuilt (telling_of T.Texts C.Clock A.past A.letters A.faults)
         (site_at (keeping_of D.history D.faults B.log) (job_of map kind) publisher.now) stat desk.old desk.new) }
-    ensures desk { IsUsed (telling_of T.text T.faults C.moment) desk.old desk.new }
+    ensures desk { IsUsed (telling_of T.Texts C.Clock A.past A.letters A.faults) desk.old desk.new }
+    ensures dial { LeavesDial (telling_of T.Texts C.Clock A.past A.letters A.faults) desk.old desk.new }
 {
     let shown = held(publisher, map);
     let own = publisher.catalog().own();
@@ -181,8 +199,8 @@ fn held<D: Disk, B: Show>(publisher: &Publisher<D, B>, map: u32) -> Option<&Vers
     }
 }
 
-impl<D: Disk, B: Show, T: Texts, C: Clock, R: RandomSource + Drop> View
-    for LocalHost<D, B, T, C, R> {
+impl<D: Disk, B: Show, A: Dial, T: Texts, C: Clock, R: RandomSource + Drop> View
+    for LocalHost<D, B, A, T, C, R> {
     ghost seen = { λ host. seen_of B.log host };
 
     ghost stepped = { λ old new. new ≡ record old { asked = next_count old.asked } };
@@ -200,13 +218,14 @@ impl<D: Disk, B: Show, T: Texts, C: Clock, R: RandomSource + Drop> View
     }
 }
 
-impl<D: Disk, B: Show, T: Texts, C: Clock, R: RandomSource + Drop> Host
-    for LocalHost<D, B, T, C, R> {
-    ghost told = { λ host. told_by T.text C.moment host.desk };
+impl<D: Disk, B: Show, A: Dial, T: Texts, C: Clock, R: RandomSource + Drop> Host
+    for LocalHost<D, B, A, T, C, R> {
+    ghost told = { λ host. told_by T.Texts C.Clock host.desk };
 
-    ghost counts = { λ host. record { files = host.files; transfers = 0 } };
+    ghost counts = { λ host. record { files = host.files; transfers = host.transfers } };
 
-    ghost made = { Made (keeping_of D.history D.faults B.log) (telling_of T.text T.faults C.moment) };
+    ghost made = { Made (keeping_of D.history D.faults B.log)
+        (telling_of T.Texts C.Clock A.past A.letters A.faults) };
 
     fn make(&mut self, job: Job) -> XfrStat {
         match self.make_anew(job.map, job.kind) {
@@ -219,5 +238,20 @@ impl<D: Disk, B: Show, T: Texts, C: Clock, R: RandomSource + Drop> Host
         }
     }
 
-    ghost step_counts_nothing = { λ old new h. ap (λ host. record { files = host.files; transfers = 0 }) h };
+    ghost carried = { Carried (keeping_of D.history D.faults B.log)
+        (telling_of T.Texts C.Clock A.past A.letters A.faults) };
+
+    fn transfer(&mut self, errand: &Errand<'_>, peer: Peer) {
+        carry_out(
+            self.alloc,
+            &self.rt,
+            &mut self.publisher,
+            &mut self.desk,
+            errand,
+            peer,
+        );
+        self.transfers = self.transfers.saturating_add(1);
+    }
+
+    ghost step_counts_nothing = { λ old new h. ap (λ host. record { files = host.files; transfers = host.transfers }) h };
 }

@@ -12,13 +12,14 @@ use Rattle.yp_answer.specs.declared.procedure.Path.TheVariants.{Stream}
 use Rattle.yp_answer.specs.Maps.{Maps, maps_of}
 use Rattle.yp_answer.specs.Make.{own_host}
 use Rattle.yp_answer.specs.Numbers.{record_max}
-use Rattle.yp_answer.specs.Reply.{Response, Silence, Bytes, Open, reply, reply_at_once, asks}
+use Rattle.yp_answer.specs.Transfer.{Taken}
+use Rattle.yp_answer.specs.Reply.{Response, Silence, Bytes, Takes, Open, reply, reply_at_once, asks}
 use Rattle.yp_answer.specs.Laws.{OpenIsFromOwnHost}
 use Rattle.yp_answer.specs.Answers.{StepsWhere}
 use Rattle.yp_session.specs.declared.session.End.{End}
 use Rattle.yp_session.specs.declared.session.End.TheVariants as ends
 use Rattle.yp_session.specs.declared.session.TheConstants.{CALLS_MAX}
-use Rattle.yp_session.specs.Hosts.{Conduct, Turn, Carries, Link}
+use Rattle.yp_session.specs.Hosts.{Conduct, Turn, CarriesWhere, Carries, Link}
 use Rattle.yp_session.specs.Wires.{Wire}
 use Rattle.yp_session.specs.Runs.{Dialogue, Chain, Runs, sent_reply}
 use Rattle.yp_words.specs.Words.{nobody}
@@ -172,9 +173,10 @@ module _ {H : Type 0} (conduct : Conduct H) (peer : Peer) (old new : Dialogue H)
 
 -- ---- the replies
 
--- a host whose read steps leave its maps as they are
-abbrev pub KeepsMaps : {H : Type 0} → Conduct H → Type 0
-KeepsMaps {H} conduct = (old new : H) → conduct.stepped old new → maps_of (conduct.seen new) ≡ maps_of (conduct.seen old)
+-- a host whose read steps and transfers leave its maps as they are
+pub record KeepsMaps {H : Type 0} (conduct : Conduct H) : Type 0 where
+  pub stepped : (old new : H) → conduct.stepped old new → maps_of (conduct.seen new) ≡ maps_of (conduct.seen old)
+  pub carried : (taken : Taken) (peer : Peer) (old new : H) → conduct.carried taken peer old new → maps_of (conduct.seen new) ≡ maps_of (conduct.seen old)
 
 -- nobody leaves a MAKE open
 abbrev pub NoneIsOpen : Type 0
@@ -189,15 +191,22 @@ none_is_open law maps message xid job e =
 -- a step, or none, leaves the maps
 step_keeps : {H : Type 0} (asked : Bool) (conduct : Conduct H) (old new : H) → KeepsMaps conduct → StepsWhere asked conduct.stepped conduct.seen old new
     → maps_of (conduct.seen new) ≡ maps_of (conduct.seen old)
-step_keeps true conduct old new keeps h = keeps old new h.0
+step_keeps true conduct old new keeps h = keeps.stepped old new h.0
 step_keeps false conduct old new keeps h = ap (λ host. maps_of (conduct.seen host)) h
 
--- a reply that isn't left open goes out at once, and the host stays
-carried_is : {H : Type 0} (conduct : Conduct H) (response : Response) (turn : Turn) (old new : H) → ((xid : ℕ) (job : Job) → response ≡ Open xid job → ⊥)
-    → Carries conduct response turn old new → (turn.answer ≡ reply_at_once response) × (new ≡ old)
-carried_is conduct Silence turn old new never h = (h.0, h.2)
-carried_is conduct (Bytes bytes) turn old new never h = (h.0, h.2)
-carried_is conduct (Open xid job) turn old new never h = absurd (never xid job refl)
+-- so does a transfer that was taken, whether it is carried out or not
+where_keeps : {H : Type 0} (flushed : Bool) (conduct : Conduct H) (taken : Taken) (peer : Peer) (old new : H) → KeepsMaps conduct → CarriesWhere flushed conduct taken peer old new
+    → maps_of (conduct.seen new) ≡ maps_of (conduct.seen old)
+where_keeps true conduct taken peer old new keeps h = keeps.carried taken peer old new h.carried
+where_keeps false conduct taken peer old new keeps h = ap (λ host. maps_of (conduct.seen host)) h
+
+-- a reply that isn't left open goes out at once, and the maps stay
+carried_is : {H : Type 0} (conduct : Conduct H) (peer : Peer) (response : Response) (turn : Turn) (old new : H) → KeepsMaps conduct → ((xid : ℕ) (job : Job) → response ≡ Open xid job → ⊥)
+    → Carries conduct peer response turn old new → (turn.answer ≡ reply_at_once response) × (maps_of (conduct.seen new) ≡ maps_of (conduct.seen old))
+carried_is conduct peer Silence turn old new keeps never h = (h.0, ap (λ host. maps_of (conduct.seen host)) h.3)
+carried_is conduct peer (Bytes bytes) turn old new keeps never h = (h.0, ap (λ host. maps_of (conduct.seen host)) h.3)
+carried_is conduct peer (Takes bytes taken) turn old new keeps never h = (h.0, where_keeps turn.flushed conduct taken peer old new keeps h.3)
+carried_is conduct peer (Open xid job) turn old new keeps never h = absurd (never xid job refl)
 
 module _ {H : Type 0} (conduct : Conduct H) (maps : Maps) (none : NoneIsOpen) (keeps : KeepsMaps conduct) where
   -- so a record gets its reply on the same maps
@@ -206,8 +215,8 @@ module _ {H : Type 0} (conduct : Conduct H) (maps : Maps) (none : NoneIsOpen) (k
   linked turn old new is link =
       let known = maps_of (conduct.seen link.mid) in
       let stepped : known ≡ maps = step_keeps (asks Stream turn.message) conduct old link.mid keeps link.step ∙ is in
-      let carried = carried_is conduct (reply Stream known nobody turn.message) turn link.mid new (none known turn.message) link.carried in
-      (ap sent_reply (carried.0 ∙ ap (λ m. reply_to m turn.message) stepped), ap (λ host. maps_of (conduct.seen host)) carried.1 ∙ stepped)
+      let carried = carried_is conduct nobody (reply Stream known nobody turn.message) turn link.mid new keeps (none known turn.message) link.carried in
+      (ap sent_reply (carried.0 ∙ ap (λ m. reply_to m turn.message) stepped), carried.1 ∙ stepped)
 
   -- and so does each
   chain_sent : (answered : List (Turn × Dialogue H)) (old new : Dialogue H) → maps_of (conduct.seen old.host) ≡ maps → Chain conduct nobody answered old new

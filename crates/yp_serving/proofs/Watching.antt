@@ -9,13 +9,13 @@ use Rattle.yp_session.specs.Wires.{Wire}
 use Rattle.yp_session.specs.Runs.{Runs}
 use Rattle.yp_session.specs.Runs.{dialogue_at}
 use Rattle.yp_words.specs.Words.{nobody}
-use Rattle.yp_serving.specs.Served.{IsAnswered, IsWatched, fixed_conduct, status_of}
+use Rattle.yp_serving.specs.Served.{IsAnswered, IsWatched, Fixed, fixed, fixed_conduct, status_of}
 
-module _ (board finish : Seen) (progress : Progress) (old new : Wire) (wires : List Wire) where
-  answered : (end : End) → Runs fixed_conduct nobody CALLS_MAX end (dialogue_at board old begun) (dialogue_at finish new progress) wires → IsAnswered board (status_of end) old new wires
+module _ (board : Seen) (finish : Fixed) (progress : Progress) (old new : Wire) (wires : List Wire) where
+  answered : (end : End) → Runs fixed_conduct nobody CALLS_MAX end (dialogue_at (fixed board) old begun) (dialogue_at finish new progress) wires → IsAnswered board (status_of end) old new wires
   answered end runs = record { end = end; told = refl; finish = finish; progress = progress; runs = runs }
 
-  pub watched : (end : End) → Runs fixed_conduct nobody CALLS_MAX end (dialogue_at board old begun) (dialogue_at finish new progress) wires → IsWatched board (status_of end) old new wires
+  pub watched : (end : End) → Runs fixed_conduct nobody CALLS_MAX end (dialogue_at (fixed board) old begun) (dialogue_at finish new progress) wires → IsWatched board (status_of end) old new wires
   watched ends.Clean runs = answered ends.Clean runs
   watched (ends.Torn at) runs = answered (ends.Torn at) runs
   watched (ends.TooLong at) runs = answered (ends.TooLong at) runs

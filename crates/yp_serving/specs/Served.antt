@@ -127,22 +127,32 @@ IsStatusOf stream messages rest _ = ⊥
 
 -- ---- what a witness sees
 
--- what a board does whose maps are never made: a read step counts, and nothing is told of texts or of a clock
-abbrev pub fixed_conduct : Conduct Seen
+-- a board whose maps are never made or fetched, and how many transfers it counted
+pub record Fixed : Type 0 where
+  pub board : Seen
+  pub transfers : ℕ
+
+abbrev pub fixed : Seen → Fixed
+fixed board = record { board = board; transfers = 0 }
+
+-- what it does: a read step counts, a transfer would be counted alone, and nothing is told of texts or of a clock
+abbrev pub fixed_conduct : Conduct Fixed
 fixed_conduct =
-    conduct_of (λ board. board) (λ board. record { text = λ file. None; moment = None })
-    (λ board. record { files = 0; transfers = 0 }) (λ old new. new ≡ record old { asked = next_count old.asked })
+    conduct_of (λ host. host.board) (λ host. record { text = λ file. None; moment = None })
+    (λ host. record { files = 0; transfers = host.transfers })
+    (λ old new. new ≡ record old { board = record old.board { asked = next_count old.board.asked } })
     (λ job stat old new. (stat ≡ Rsrc) × (new ≡ old))
+    (λ taken peer old new. new ≡ record old { transfers = next_count old.transfers })
 
 -- The records of a wire were answered in turn on this board, by one session to this status, and behind each that was
 -- answered, its reply flushed, the wire was one of these.
 pub record IsAnswered (board : Seen) (status : Status) (old new : Wire) (wires : List Wire) : Type 0 where
   pub end : End
   pub told : status ≡ status_of end
-  pub finish : Seen
+  pub finish : Fixed
   pub progress : Progress
   pub runs : Runs fixed_conduct nobody CALLS_MAX end
-      (dialogue_at board old begun) (dialogue_at finish new progress) wires
+      (dialogue_at (fixed board) old begun) (dialogue_at finish new progress) wires
 
 -- What is seen of a wire, for each status: nothing, where nothing of it was read, and else it behind each record that
 -- was answered.

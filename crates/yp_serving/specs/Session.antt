@@ -14,6 +14,7 @@ use Rattle.yp_publish.specs.Opens.{LeavesNoMore}
 use Rattle.yp_session.specs.declared.session.End.{End}
 use Rattle.yp_session.specs.declared.session.End.TheVariants as ends
 use Rattle.yp_session.specs.Wires.{Wire, Grows}
+use Rattle.yp_xfr.specs.HostTable.{HostList}
 use Rattle.yp_server.specs.declared.desk.Desk.{Desk}
 use Rattle.yp_server.specs.declared.connection.Unserved.{Unserved}
 use Rattle.yp_server.specs.declared.connection.Unserved.TheVariants as unserved
@@ -76,15 +77,18 @@ pub record IsSound {D : Type 0} (history : D → Option History) (disk : NamedDi
 
 -- what it serves by: what the parts of the office tell, and the maps, by their host
 abbrev pub service : {S K D C A T : Type 0} → Seeing S K D C A T → List ℕ → Peer → List Name
-    → Service D Seen (Desk T C)
+    → Service D Seen (Desk A T C)
 service seen own peer stores =
     service_of (keeping_of seen.disk.history seen.disk.faults plain_log)
-    (telling_of seen.texts.text seen.texts.faults seen.clock.moment) (record { own = own; maps = stores }) peer
+    (telling_of seen.texts seen.clock seen.dial.past seen.dial.letters seen.dial.faults)
+    (record { own = own; maps = stores }) peer
 
--- the connection that an office is at
-abbrev pub connection : {S K D C A T : Type 0} → Seeing S K D C A T → Office S K D C A T → Connection D (Desk T C)
-connection seen office =
-    connection_at (wire seen office) office.disks.items (record { texts = office.texts; clock = office.clock })
+-- the connection that an office is at, with a table of hosts
+abbrev pub connection : {S K D C A T : Type 0} → Seeing S K D C A T → HostList → Office S K D C A T
+    → Connection D (Desk A T C)
+connection seen hosts office =
+    connection_at (wire seen office) office.disks.items
+    (record { dial = office.dial; texts = office.texts; clock = office.clock; hosts = hosts })
 
 -- the statuses with which it may end
 abbrev pub session_may_end : Status → Bool
@@ -93,14 +97,15 @@ session_may_end (DiskFault map) = true
 session_may_end status = serve_may_end status
 
 -- What it does: it serves its input as one connection over the stored maps. What they stood for is shown first, each
--- record is answered on what is then shown, and a map that is asked for is built, stored and shown before its reply. At
--- each moment a crash leaves of each map what was shown of it, or the version that was being installed. Where a file
--- can't be loaded nothing is read or written. Over files that aren't damaged its status is that of the one cut of its
--- input. What a witness has seen grows by the wires behind the records that were answered.
+-- record is answered on what is then shown, a map that is asked for is built, stored and shown before its reply, and a
+-- transfer that is taken is fetched from one of these hosts, stored and shown behind its reply. At each moment a crash
+-- leaves of each map what was shown of it, or the version that was being installed. Where a file can't be loaded nothing
+-- is read or written. Over files that aren't damaged its status is that of the one cut of its input. What a witness has
+-- seen grows by the wires behind the records that were answered.
 pub record SessionDoes {S K D C A T : Type 0} (seen : Seeing S K D C A T) (own : List ℕ) (peer : Peer)
-    (stores : List Name) (status : Status) (old new : Office S K D C A T) (before after : List Wire) : Type 0 where
+    (stores : List Name) (hosts : HostList) (status : Status) (old new : Office S K D C A T) (before after : List Wire) : Type 0 where
   pub serves : Grows before after
-      (Sessions (service seen own peer stores) status (connection seen old) (connection seen new))
+      (Sessions (service seen own peer stores) status (connection seen hosts old) (connection seen hosts new))
   pub bound : (number : ℕ) → AtDisk number (disks_of old.disks.items) (disks_of new.disks.items)
       (LeavesOr seen.disk.history (λ image. length image ≤ file_max))
   pub complete : All (IsSound seen.disk.history) old.disks.items → ¬ DiskFails seen old new
@@ -108,7 +113,6 @@ pub record SessionDoes {S K D C A T : Type 0} (seen : Seeing S K D C A T) (own :
   pub causes : HasCauses seen status old new
   pub names : names_of new.disks.items ≡ names_of old.disks.items
   pub told : moment seen new ≡ moment seen old
-  pub dial : new.dial ≡ old.dial
 
 -- ---- statuses
 

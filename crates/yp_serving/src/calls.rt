@@ -125,7 +125,7 @@ pub fn ask(
     reply.clear();
     match answer(board, call, NOBODY, buf) {
         Answered::Silent => Ok(false),
-        Answered::Reply { len } => {
+        Answered::Reply { len } | Answered::Transfer { len, .. } => {
             reply.extend_from_slice(&buf[..len]).map_err(|_| NoMemory)?;
             Ok(true)
         }

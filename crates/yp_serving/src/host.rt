@@ -1,43 +1,51 @@
-//! The host of `once`: maps that are shown, and never made.
+//! The host of `once`: maps that are shown, and never made or fetched.
 
-ghost use Rattle.std.specs.Prelude.{◌≡◌, None, refl};
+ghost use Rattle.std.specs.Prelude.{◌≡◌, None};
+ghost use Rattle.std.proofs.Common.{ap};
 ghost use Rattle.yp_io.specs.Counts.{next_count};
 ghost use Rattle.yp_msgs.specs.declared.transfer.XfrStat.TheVariants.{Rsrc};
+ghost use Rattle.yp_serving.specs.Served.{fixed};
 
 use std::marker::Model;
-use yp_answer::Job;
+use yp_answer::{Errand, Job};
 use yp_board::{Catalog, PlainBoard, View};
+use yp_io::Peer;
 use yp_msgs::XfrStat;
 use yp_session::Host;
 use yp_version::Version;
 
-/// A board for callers who are let to no MAKE, so that `make` is never called. It is seen as that board.
+/// A board for callers who are let to no MAKE, of maps that its own host is the master of. So no map is made or fetched,
+/// and what it would have fetched is only counted. It is seen as that board and the count.
 #[derive(Drop)]
 pub struct FixedHost {
     board: PlainBoard,
+    transfers: u64,
 }
 
 impl Model for FixedHost {
-    ghost use Rattle.yp_board.specs.Views.{Seen};
+    ghost use Rattle.yp_serving.specs.Served.{Fixed};
 
-    ghost Value = { Seen };
+    ghost Value = { Fixed };
 
-    ghost view = { λ host. host.board };
+    ghost view = { λ host. record { board = host.board; transfers = host.transfers } };
 }
 
 impl FixedHost {
     /// A host that shows what this board shows.
     pub fn new(board: PlainBoard) -> FixedHost
-        ensures { result ≡ board }
+        ensures { result ≡ fixed board }
     {
-        FixedHost { board }
+        FixedHost {
+            board,
+            transfers: 0,
+        }
     }
 }
 
 impl View for FixedHost {
-    ghost seen = { λ host. host };
+    ghost seen = { λ host. host.board };
 
-    ghost stepped = { λ old new. new ≡ record old { asked = next_count old.asked } };
+    ghost stepped = { λ old new. new ≡ record old { board = record old.board { asked = next_count old.board.asked } } };
 
     fn catalog(&self) -> &Catalog {
         self.board.catalog()
@@ -55,7 +63,7 @@ impl View for FixedHost {
 impl Host for FixedHost {
     ghost told = { λ host. record { text = λ file. None; moment = None } };
 
-    ghost counts = { λ host. record { files = 0; transfers = 0 } };
+    ghost counts = { λ host. record { files = 0; transfers = host.transfers } };
 
     ghost made = { λ job stat old new. (stat ≡ Rsrc) × (new ≡ old) };
 
@@ -63,5 +71,11 @@ impl Host for FixedHost {
         XfrStat::Rsrc
     }
 
-    ghost step_counts_nothing = { λ old new h. refl };
+    ghost carried = { λ taken peer old new. new ≡ record old { transfers = next_count old.transfers } };
+
+    fn transfer(&mut self, _errand: &Errand<'_>, _peer: Peer) {
+        self.transfers = self.transfers.saturating_add(1);
+    }
+
+    ghost step_counts_nothing = { λ old new h. ap (λ host. record { files = 0; transfers = host.transfers }) h };
 }

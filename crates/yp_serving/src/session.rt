@@ -1,6 +1,6 @@
 //! The command `session`: one connection over stored maps.
 
-ghost use Rattle.std.specs.Prelude.{◌≡◌, ◌≢◌, ℕ, ◌≤◌, ◌<◌, None, IsTrue, All, map, length};
+ghost use Rattle.std.specs.Prelude.{◌≡◌, ◌≢◌, ℕ, ◌≤◌, ◌<◌, None, IsTrue, IfOk, All, map, length};
 ghost use Rattle.yp_io.specs.Counts.{HasRisen};
 ghost use Rattle.yp_slot.specs.Stands.{file_max};
 ghost use Rattle.yp_board.specs.Catalogues.{name_view, maps_max, catalog_fault};
@@ -8,7 +8,7 @@ ghost use Rattle.yp_publish.specs.Keeping.{keeping_of};
 ghost use Rattle.yp_session.specs.Wires.{wire_of, Grows};
 ghost use Rattle.yp_server.specs.Locals.{telling_of};
 ghost use Rattle.yp_server.specs.Connections.{plain_log, service_of, AtDisk, LeavesOr};
-ghost use Rattle.yp_words.specs.Words.{IsNamed};
+ghost use Rattle.yp_words.specs.Words.{IsNamed, host_view};
 ghost use Rattle.yp_office.specs.Disks.{names_of, disks_of, faults_of};
 ghost use Rattle.yp_serving.specs.Session.{Sessions, TellsEnd, TellsOf, HasMapNumber, connection_at};
 ghost use Rattle.yp_serving.specs.Session.{SessionDoes, session_may_end};
@@ -25,6 +25,8 @@ use yp_rpc::laws;
 use yp_server::{Desk, Stock, Unserved, serve_wire};
 use yp_session::{End, Witness};
 use yp_slot::SlotFault;
+use yp_words::HostWord;
+use yp_xfr::Hosts;
 
 /// The status of a map whose file wasn't loaded, by its number. Memory may run out for its name.
 fn status_of_map(alloc: Global, names: &[MapName], number: u32, fault: SlotFault) -> Status
@@ -58,7 +60,7 @@ fn status_of(alloc: Global, served: Result<End, Unserved>, names: &[MapName]) ->
 /// Serves a wire as one connection over the stored versions of maps, by the host `own`, to a caller at `peer`. The
 /// disks come back under their names, and so does the desk. The witness sees the wire behind each record that was
 /// answered.
-fn session_on<S: Source, K: Sink, D: Disk, T: Texts, C: Clock, W: Witness<S, K>>(
+fn session_on<S: Source, K: Sink, D: Disk, A: Dial, T: Texts, C: Clock, W: Witness<S, K>>(
     alloc: Global,
     rt: &impl RandomSource,
     own: Vec<u8>,
@@ -66,15 +68,16 @@ fn session_on<S: Source, K: Sink, D: Disk, T: Texts, C: Clock, W: Witness<S, K>>
     stores: Vec<MapName>,
     wire: &mut Pair<S, K>,
     disks: &mut Vec<NamedDisk<D>>,
-    desk: Desk<T, C>,
+    desk: Desk<A, T, C>,
     witness: &mut W,
-) -> (Status, Desk<T, C>)
+) -> (Status, Desk<A, T, C>)
     requires catalogue { catalog_fault own.items (map name_view stores.items) ≡ None }
     requires named { All IsNamed (map name_view stores.items) }
     requires count { length (map name_view stores.items) ≤ maps_max }
     requires disks { names_of disks.old.items ≡ map name_view stores.items }
     ensures sessions { Grows (W.wires witness.old) (W.wires witness.new) (Sessions
-        (service_of (keeping_of D.history D.faults plain_log) (telling_of T.text T.faults C.moment)
+        (service_of (keeping_of D.history D.faults plain_log)
+        (telling_of T.Texts C.Clock A.past A.letters A.faults)
         (record { own = own.items; maps = map name_view stores.items }) peer) result.0
         (connection_at (wire_of S.Source K.Sink wire.old) disks.old.items desk)
         (connection_at (wire_of S.Source K.Sink wire.new) disks.new.items result.1)) }
@@ -82,6 +85,7 @@ fn session_on<S: Source, K: Sink, D: Disk, T: Texts, C: Clock, W: Witness<S, K>>
         (LeavesOr D.history (λ image. length image ≤ file_max)) }
     ensures names { names_of disks.new.items ≡ names_of disks.old.items }
     ensures clock { C.moment result.1.clock ≡ C.moment desk.clock }
+    ensures hosts { result.1.hosts ≡ desk.hosts }
     ensures flushed { result.0 ≢ Status.WriteFault
         → IsTrue (K.flushed wire.old.sink) → IsTrue (K.flushed wire.new.sink) }
     ensures read_fault { result.0 ≡ Status.ReadFault → HasRisen (S.faults wire.old.source) (S.faults wire.new.source) }
@@ -115,14 +119,26 @@ fn session_on<S: Source, K: Sink, D: Disk, T: Texts, C: Clock, W: Witness<S, K>>
     (status, desk)
 }
 
+/// A table of the hosts that words name.
+fn table_of(alloc: Global, words: Vec<HostWord>) -> Result<Hosts, NoMemory>
+    ensures { IfOk result (λ hosts. hosts ≡ map host_view words.items) }
+{
+    let mut hosts = Hosts::new(alloc);
+    for word in words {
+        hosts.add(word.name, word.peer)?;
+    }
+    Ok(hosts)
+}
+
 /// Serves the input as one connection over the stored versions of these maps, by the host `own`, to a caller at `peer`.
 /// The witness sees the wire behind each record that was answered.
-pub fn serve_session<S: Source, K: Sink, D: Disk, C: Clock, A: Dial, T: Texts, W: Witness<S, K>>(
+fn session_over<S: Source, K: Sink, D: Disk, C: Clock, A: Dial, T: Texts, W: Witness<S, K>>(
     alloc: Global,
     rt: &impl RandomSource,
     own: Vec<u8>,
     peer: Peer,
     stores: Vec<MapName>,
+    hosts: Hosts,
     office: Office<S, K, D, C, A, T>,
     witness: &mut W,
 ) -> (Status, Office<S, K, D, C, A, T>)
@@ -131,7 +147,7 @@ pub fn serve_session<S: Source, K: Sink, D: Disk, C: Clock, A: Dial, T: Texts, W
     requires count { length (map name_view stores.items) ≤ maps_max }
     requires disks { names_of office.disks.items ≡ map name_view stores.items }
     ensures does { SessionDoes (seeing S.Source K.Sink D.Disk C.Clock A.Dial T.Texts)
-        own.items peer (map name_view stores.items) result.0 office result.1
+        own.items peer (map name_view stores.items) hosts result.0 office result.1
         (W.wires witness.old) (W.wires witness.new) }
     ensures may_end { IsTrue (session_may_end result.0) }
     ensures passed_on { IsPassedOn (seeing S.Source K.Sink D.Disk C.Clock A.Dial T.Texts) result.0 office result.1 }
@@ -147,16 +163,55 @@ pub fn serve_session<S: Source, K: Sink, D: Disk, C: Clock, A: Dial, T: Texts, W
         dial,
         texts,
     } = office;
-    let desk = Desk { texts, clock };
+    let desk = Desk {
+        dial,
+        texts,
+        clock,
+        hosts,
+    };
     let (status, desk) = session_on(
         alloc, rt, own, peer, stores, &mut wire, &mut disks, desk, witness,
     );
+    let Desk {
+        dial,
+        texts,
+        clock,
+        hosts: _,
+    } = desk;
     let office = Office {
         wire,
         disks,
-        clock: desk.clock,
+        clock,
         dial,
-        texts: desk.texts,
+        texts,
     };
     (status, office)
+}
+
+/// The same with the hosts that words name, from which maps are fetched.
+pub fn serve_session<S: Source, K: Sink, D: Disk, C: Clock, A: Dial, T: Texts, W: Witness<S, K>>(
+    alloc: Global,
+    rt: &impl RandomSource,
+    own: Vec<u8>,
+    peer: Peer,
+    stores: Vec<MapName>,
+    hosts: Vec<HostWord>,
+    office: Office<S, K, D, C, A, T>,
+    witness: &mut W,
+) -> (Status, Office<S, K, D, C, A, T>)
+    requires catalogue { catalog_fault own.items (map name_view stores.items) ≡ None }
+    requires named { All IsNamed (map name_view stores.items) }
+    requires count { length (map name_view stores.items) ≤ maps_max }
+    requires disks { names_of office.disks.items ≡ map name_view stores.items }
+    ensures does { SessionDoes (seeing S.Source K.Sink D.Disk C.Clock A.Dial T.Texts)
+        own.items peer (map name_view stores.items) (map host_view hosts.items) result.0 office result.1
+        (W.wires witness.old) (W.wires witness.new) }
+    ensures may_end { IsTrue (session_may_end result.0) }
+    ensures passed_on { IsPassedOn (seeing S.Source K.Sink D.Disk C.Clock A.Dial T.Texts) result.0 office result.1 }
+    ensures tellable { IsTellable result.0 }
+{
+    match table_of(alloc, hosts) {
+        Ok(hosts) => session_over(alloc, rt, own, peer, stores, hosts, office, witness),
+        Err(NoMemory) => (Status::NoMemory, office),
+    }
 }

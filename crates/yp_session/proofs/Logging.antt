@@ -8,11 +8,12 @@ use Rattle.yp_board.specs.Views.{Seen, IsFront}
 use Rattle.yp_answer.specs.declared.procedure.Path.{Path}
 use Rattle.yp_answer.specs.declared.procedure.Path.TheVariants.{Stream}
 use Rattle.yp_answer.specs.Maps.{maps_of}
-use Rattle.yp_answer.specs.Reply.{Response, Silence, Bytes, Open, reply, asks}
+use Rattle.yp_answer.specs.Transfer.{Taken}
+use Rattle.yp_answer.specs.Reply.{Response, Silence, Bytes, Takes, Open, reply, asks}
 use Rattle.yp_answer.specs.Answers.{StepsWhere}
 use Rattle.yp_session.specs.declared.session.End.{End}
 use Rattle.yp_session.specs.declared.session.End.TheVariants.{Clean, Torn, TooLong, ReadFault, WriteFault, Enough}
-use Rattle.yp_session.specs.Hosts.{Conduct, Turn, Carries, Link}
+use Rattle.yp_session.specs.Hosts.{Conduct, Turn, CarriesWhere, Carries, Link}
 use Rattle.yp_session.specs.LogRuns.{Gets, IsAnsweredOn, LogRun}
 use Rattle.yp_session.specs.Runs.{Dialogue, Chain, Ends, unsent}
 
@@ -36,16 +37,22 @@ module _ {H : Type 0} (conduct : Conduct H) (path : Path) (peer : Peer) where
   stepped true old mid h = record { grown = h.1.grown; catalogue = h.1.catalogue }
   stepped false old mid h = same old mid h
 
-  carried : (response : Response) (turn : Turn) (mid new : H) → Carries conduct response turn mid new → Later (conduct.seen mid) (conduct.seen new)
-  carried Silence turn mid new h = same mid new h.2
-  carried (Bytes bytes) turn mid new h = same mid new h.2
-  carried (Open xid job) turn mid new h = record { grown = h.3.grown; catalogue = h.3.catalogue }
+  transferred : (flushed : Bool) (taken : Taken) (mid new : H) → CarriesWhere flushed conduct taken peer mid new → Later (conduct.seen mid) (conduct.seen new)
+  transferred true taken mid new h = record { grown = h.grown; catalogue = h.catalogue }
+  transferred false taken mid new h = same mid new h
 
-  gets : (response : Response) (turn : Turn) (mid new : H) → Carries conduct response turn mid new
+  carried : (response : Response) (turn : Turn) (mid new : H) → Carries conduct peer response turn mid new → Later (conduct.seen mid) (conduct.seen new)
+  carried Silence turn mid new h = same mid new h.3
+  carried (Bytes bytes) turn mid new h = same mid new h.3
+  carried (Takes bytes taken) turn mid new h = transferred turn.flushed taken mid new h.3
+  carried (Open xid job) turn mid new h = record { grown = h.4.grown; catalogue = h.4.catalogue }
+
+  gets : (response : Response) (turn : Turn) (mid new : H) → Carries conduct peer response turn mid new
       → Gets (conduct.seen mid).catalogue.own response turn.answer (conduct.seen mid).known (conduct.seen new).known
   gets Silence turn mid new h = h.0
   gets (Bytes bytes) turn mid new h = h.0
-  gets (Open xid job) turn mid new h = (h.0, h.1, conduct.told mid, h.3.cause)
+  gets (Takes bytes taken) turn mid new h = h.0
+  gets (Open xid job) turn mid new h = (h.0, h.1, conduct.told mid, h.4.cause)
 
   linked : (catalogue : Catalogue) (turn : Turn) (old new : H) → Link conduct path peer turn old new → (conduct.seen old).catalogue ≡ catalogue
       → IsAnsweredOn catalogue path peer turn (conduct.seen old).known (conduct.seen new).known × ((conduct.seen new).catalogue ≡ catalogue)

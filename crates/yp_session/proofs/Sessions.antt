@@ -1,5 +1,5 @@
 -- A session so far, and how it goes on and ends.
-use Rattle.std.proofs.Common.{◌≡◌, ℕ, ◌+◌, ◌<◌, ◌≤◌, Bool, true, List, [], ◌∷◌, ◌++◌, length, map, Option, Some, None, refl, sym, ap, subst, ◌∙◌, append_assoc, arith}
+use Rattle.std.proofs.Common.{◌≡◌, ℕ, ◌+◌, ◌<◌, ◌≤◌, Bool, true, false, List, [], ◌∷◌, ◌++◌, length, map, Option, Some, None, refl, sym, ap, subst, ◌∙◌, append_assoc, arith}
 use Rattle.std.specs.Prelude.{IsTrue}
 use Rattle.std.specs.Option.{option_map_or}
 use Rattle.std.proofs.lemmas.List.{append-nil, length_push, length-map, length-append, map-append}
@@ -8,31 +8,34 @@ use Rattle.yp_io.specs.Counts.{HasRisen, last_count}
 use Rattle.yp_io.specs.declared.stream.Peer.{Peer}
 use Rattle.yp_answer.specs.declared.procedure.Path.{Path}
 use Rattle.yp_answer.specs.Maps.{maps_of}
-use Rattle.yp_answer.specs.Reply.{Response, Silence, Bytes, Open, reply}
+use Rattle.yp_answer.specs.Transfer.{Taken}
+use Rattle.yp_answer.specs.Reply.{Response, Silence, Bytes, Takes, Open, reply}
 use Rattle.yp_session.specs.declared.session.End.{End}
 use Rattle.yp_session.specs.declared.session.End.TheVariants.{Clean, Torn, TooLong, ReadFault, WriteFault, Enough}
 use Rattle.yp_session.specs.declared.session.Step.TheVariants.{Answered, Ended}
 use Rattle.yp_session.specs.Progress.{Progress, begun}
 use Rattle.yp_session.specs.Wires.{SinkTells, Wire, NeverFalls}
-use Rattle.yp_session.specs.Hosts.{Counts, Conduct, Turn, Carries, Link, counts_after, counts_over}
+use Rattle.yp_session.specs.Hosts.{Counts, Conduct, Turn, CarriesWhere, Carries, Link, counts_after, counts_where, counts_behind, counts_over}
 use Rattle.yp_session.proofs.Logging.{chain_logs, ends_logs}
 use Rattle.yp_session.specs.Runs.{Dialogue, IsFlushed, Answers, IsIdle, Does, Chain, Ends, unsent, Runs}
 
 module _ {H : Type 0} (conduct : Conduct H) (peer : Peer) where
   -- ---- what is counted
 
-  abbrev counted : Counts → Turn → Counts
-  counted counts turn = option_map_or (counts_after counts) turn.made counts
+  where_counts : (flushed : Bool) (taken : Taken) (old new : H) → CarriesWhere flushed conduct taken peer old new → conduct.counts new ≡ counts_where flushed (conduct.counts old)
+  where_counts true taken old new h = h.counted
+  where_counts false taken old new h = ap conduct.counts h
 
-  carried_counts : (response : Response) (turn : Turn) (old new : H) → Carries conduct response turn old new → conduct.counts new ≡ counted (conduct.counts old) turn
-  carried_counts Silence turn old new h = rw h.1 (ap conduct.counts h.2)
-  carried_counts (Bytes bytes) turn old new h = rw h.1 (ap conduct.counts h.2)
-  carried_counts (Open xid job) turn old new h = rw h.2 h.3.counted
+  carried_counts : (response : Response) (turn : Turn) (old new : H) → Carries conduct peer response turn old new → conduct.counts new ≡ counts_behind (conduct.counts old) turn
+  carried_counts Silence turn old new h = rw (h.1, h.2) (ap conduct.counts h.3)
+  carried_counts (Bytes bytes) turn old new h = rw (h.1, h.2) (ap conduct.counts h.3)
+  carried_counts (Takes bytes taken) turn old new h = rw (h.1, h.2) (where_counts turn.flushed taken old new h.3)
+  carried_counts (Open xid job) turn old new h = rw (h.2, h.3) h.4.counted
 
-  link_counts : (path : Path) (turn : Turn) (old new : H) → Link conduct path peer turn old new → conduct.counts new ≡ counted (conduct.counts old) turn
+  link_counts : (path : Path) (turn : Turn) (old new : H) → Link conduct path peer turn old new → conduct.counts new ≡ counts_behind (conduct.counts old) turn
   link_counts path turn old new link =
       carried_counts (reply path (maps_of (conduct.seen link.mid)) peer turn.message) turn link.mid new link.carried
-      ∙ ap (λ (counts : Counts). counted counts turn) link.uncounted
+      ∙ ap (λ (counts : Counts). counts_behind counts turn) link.uncounted
 
   chain_counts : (answered : List (Turn × Dialogue H)) (old new : Dialogue H) → Chain conduct peer answered old new
       → conduct.counts new.host ≡ counts_over (conduct.counts old.host) (map (λ one. one.0) answered)
@@ -126,7 +129,7 @@ module _ {H : Type 0} (conduct : Conduct H) (peer : Peer) where
         counted =
             ends_counts most (length answered) end last new ends
             ∙ ap (λ (counts : Counts). counts_over counts rest) (chain_counts answered old last so_far.chain)
-            ∙ sym (fold-append counted (conduct.counts old.host) (map (λ (one : Turn × Dialogue H). one.0) answered) rest);
+            ∙ sym (fold-append counts_behind (conduct.counts old.host) (map (λ (one : Turn × Dialogue H). one.0) answered) rest);
         on_logs = chain_logs conduct peer (conduct.seen old.host).catalogue answered rest old last (conduct.seen new.host).known so_far.chain refl
             (λ same. ends_logs conduct peer (conduct.seen old.host).catalogue most (length answered) end last new ends same);
       }

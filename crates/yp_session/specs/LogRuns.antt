@@ -6,7 +6,7 @@ use Rattle.yp_board.specs.Catalogues.{Catalogue}
 use Rattle.yp_board.specs.Logs.{Log}
 use Rattle.yp_board.specs.Views.{IsFront}
 use Rattle.yp_answer.specs.declared.procedure.Path.{Path}
-use Rattle.yp_answer.specs.Reply.{Response, Silence, Bytes, Open, reply, make_reply}
+use Rattle.yp_answer.specs.Reply.{Response, Silence, Bytes, Takes, Open, reply, make_reply}
 use Rattle.yp_session.specs.Causes.{Told, IsCaused}
 use Rattle.yp_session.specs.Hosts.{Turn}
 
@@ -14,6 +14,7 @@ use Rattle.yp_session.specs.Hosts.{Turn}
 abbrev pub Gets : List ℕ → Response → Option (List ℕ) → Log → Log → Type 0
 Gets own Silence answer log next = answer ≡ None
 Gets own (Bytes bytes) answer log next = answer ≡ Some bytes
+Gets own (Takes bytes taken) answer log next = answer ≡ Some bytes
 Gets own (Open xid job) answer log next =
     (stat : XfrStat) × (answer ≡ Some (make_reply xid stat)) × (told : Told) × IsCaused told own job stat log next
 

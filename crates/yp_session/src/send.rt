@@ -14,21 +14,6 @@ use yp_board::View;
 use yp_io::{Failed, Sink};
 use yp_rpc::RecordWriter;
 
-/// Sends a message as one record.
-pub fn send<K: Sink>(writer: &mut RecordWriter, sink: &mut K, message: &[u8]) -> Result<(), Failed>
-    requires idle { writer.old ≡ [] }
-    requires some { 0 < length message.now }
-    ensures sent { OnOk result (Appends (K.output sink.old) (K.output sink.new) (sent message.now)) }
-    ensures flushed { OnOk result (IsTrue (K.flushed sink.new)) }
-    ensures prefix { OnErr result ((n : ℕ)
-        × Appends (K.output sink.old) (K.output sink.new) (take n (sent message.now))) }
-    ensures idle { writer.new ≡ [] }
-    ensures cause { CountsFaults (K.faults sink.old) (K.faults sink.new) result }
-{
-    writer.put(sink, message)?;
-    writer.end(sink)
-}
-
 /// Sends the parts of a stream that are left as one record.
 pub fn send_stream<K: Sink, V: View>(
     writer: &mut RecordWriter,

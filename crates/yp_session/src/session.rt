@@ -11,7 +11,7 @@ ghost use Rattle.yp_session.specs.Hosts.{Turn, conduct_of, Fulfils};
 ghost use Rattle.yp_session.specs.Runs.{dialogue_at, Replies, Does, Runs};
 
 use crate::host::Host;
-use crate::send::{send, send_stream};
+use crate::send::send_stream;
 use crate::witness::Witness;
 use std::alloc::Global;
 use std::marker::Model;
@@ -114,7 +114,7 @@ impl Session {
     ) -> End
         requires { most ≤ CALLS_MAX }
         ensures runs { Grows (W.wires witness.old) (W.wires witness.new)
-            (Runs (conduct_of H.seen H.told H.counts H.stepped H.made) peer most result
+            (Runs (conduct_of H.seen H.told H.counts H.stepped H.made H.carried) peer most result
             (dialogue_at host.old (wire_of S.Source K.Sink wire.old) begun)
             (dialogue_at host.new (wire_of S.Source K.Sink wire.new) self.new)) }
         ensures flushed { result ≢ End.WriteFault
@@ -140,7 +140,7 @@ impl Session {
         host: &mut H,
         peer: Peer,
     ) -> Step
-        ensures { Does (conduct_of H.seen H.told H.counts H.stepped H.made) peer result
+        ensures { Does (conduct_of H.seen H.told H.counts H.stepped H.made H.carried) peer result
             (dialogue_at host.old (wire_of S.Source K.Sink wire.old) self.old)
             (dialogue_at host.new (wire_of S.Source K.Sink wire.new) self.new) }
     {
@@ -177,21 +177,26 @@ fn reply_to<K: Sink, H: Host>(
     requires idle { writer.old ≡ [] }
     requires room { record_max ≤ length buf.old }
     ensures sent { OnOk result ((turn : Turn) × (turn.message ≡ message.now)
-        × Replies (conduct_of H.seen H.told H.counts H.stepped H.made) peer true turn host.old host.new
+        × Replies (conduct_of H.seen H.told H.counts H.stepped H.made H.carried) peer true turn host.old host.new
         (sink_of K.Sink sink.old) (sink_of K.Sink sink.new)) }
     ensures unsent { OnErr result ((turn : Turn) × (turn.message ≡ message.now)
-        × Replies (conduct_of H.seen H.told H.counts H.stepped H.made) peer false turn host.old host.new
+        × Replies (conduct_of H.seen H.told H.counts H.stepped H.made H.carried) peer false turn host.old host.new
         (sink_of K.Sink sink.old) (sink_of K.Sink sink.new)) }
     ensures idle { writer.new ≡ [] }
     ensures cause { CountsFaults (K.faults sink.old) (K.faults sink.new) result }
 {
     match answer(host, message, peer, buf) {
         Answered::Silent => Ok(()),
-        Answered::Reply { len } => send(writer, sink, &buf[..len]),
+        Answered::Reply { len } => writer.send(sink, &buf[..len]),
+        Answered::Transfer { len, errand } => {
+            writer.send(sink, &buf[..len])?;
+            host.transfer(&errand, peer);
+            Ok(())
+        }
         Answered::Stream(stream) => send_stream(writer, sink, host, stream, buf),
         Answered::Make { xid, job } => {
             let len = make(host, job, xid, buf);
-            send(writer, sink, &buf[..len])
+            writer.send(sink, &buf[..len])
         }
     }
 }
@@ -201,7 +206,7 @@ fn make<H: Host>(host: &mut H, job: Job, xid: u32, buf: &mut [u8]) -> usize
     requires room { record_max ≤ length buf.old }
     requires inside { job.map < length (H.seen host.old).catalogue.maps }
     ensures made { (stat : XfrStat) × (take result buf.new ≡ make_reply xid stat)
-        × Fulfils (conduct_of H.seen H.told H.counts H.stepped H.made) job stat host.old host.new }
+        × Fulfils (conduct_of H.seen H.told H.counts H.stepped H.made H.carried) job stat host.old host.new }
     ensures some { 0 < result }
     ensures within { result ≤ length buf.new }
 {

@@ -45,7 +45,7 @@ returns-in-Err g c =
 pub returns-in-Ok-prepare : goal.returns-in-Ok-prepare
 returns-in-Ok-prepare g c =
     let wire = wire_of g.S.Source g.K.Sink in
-    let service = service_of (keeping_of g.D.Disk.history g.D.Disk.faults plain_log) (telling_of g.T.Texts.text g.T.Texts.faults g.C.Clock.moment) c.args.catalog c.args.peer in
+    let service = service_of (keeping_of g.D.Disk.history g.D.Disk.faults plain_log) (telling_of g.T.Texts g.C.Clock g.A.Dial.past g.A.Dial.letters g.A.Dial.faults) c.args.catalog c.args.peer in
     let old = connection_of (wire c.args.wire.now) c.args.stock in
     let new = connection_of (wire c.run-end.new.wire) c.stock_of.result in
     let start = c.new-host.result in

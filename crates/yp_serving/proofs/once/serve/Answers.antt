@@ -5,7 +5,7 @@ use Rattle.yp_session.specs.Wires.{wire_of}
 use Rattle.yp_session.specs.Runs.{dialogue_at}
 use Rattle.yp_office.specs.declared.status.Status.{Status}
 use Rattle.yp_words.specs.Words.{nobody}
-use Rattle.yp_serving.specs.Served.{Traffic, ServesInput, IsStatusOf, fixed_conduct, status_of}
+use Rattle.yp_serving.specs.Served.{Traffic, ServesInput, IsStatusOf, Fixed, fixed_conduct, status_of}
 use Rattle.yp_serving.proofs.Told.{serves_told, none_is_open, if_told}
 use Rattle.yp_serving.proofs.Ended.{status_of_end}
 use Rattle.yp_serving.proofs.Watching.{watched}
@@ -20,8 +20,8 @@ returns-clause-served g c =
     subst (λ status. ServesInput maps status stream traffic) (sym c.status_of_end.ensures.status)
     (serves_told maps stream fixed_conduct (dialogue_at c.new-host.result (wire c.args.wire.now) begun) (dialogue_at c.run.new.host (wire c.run.new.wire) c.run.new.self) _ c.run.result (record {
       none = none_is_open c.open_is_from_own_host.ensures;
-      keeps = λ old new h. ap maps_of h;
-      is = ap maps_of c.new-host.ensures;
+      keeps = record { stepped = λ old new h. ap (λ (host : Fixed). maps_of host.board) h; carried = λ taken peer old new h. ap (λ (host : Fixed). maps_of host.board) h };
+      is = ap (λ (host : Fixed). maps_of host.board) c.new-host.ensures;
       input = e;
       start = refl;
       runs = c.run.ensures.runs.done;
@@ -34,7 +34,7 @@ returns-clause-watched g c =
     record {
       more = runs.more;
       behind = runs.behind;
-      done = rw (c.status_of_end.ensures.status, ← c.new-host.ensures) (watched c.new-host.result c.run.new.host c.run.new.self (wire c.args.wire.now) (wire c.run.new.wire) runs.more c.run.result runs.done);
+      done = rw c.status_of_end.ensures.status (watched c.args.board c.run.new.host c.run.new.self (wire c.args.wire.now) (wire c.run.new.wire) runs.more c.run.result runs.done);
     }
 
 pub returns-clause-complete : goal.returns-clause-complete

@@ -13,7 +13,7 @@ returns-clause-sessions g c =
     let did = c.serve_wire-served in
     let apart = c.in-Ok-take_apart.apart in
     let given : Catalogue = record { own = c.args.own.items; maps = map name_view c.args.stores.items } in
-    session_served (keeping_of g.D.Disk.history g.D.Disk.faults plain_log) (telling_of g.T.Texts.text g.T.Texts.faults g.C.Clock.moment) c.in-Ok.catalog given c.args.peer did.result.0 (map name_view c.deref.result.now) c.status_of-status.result
+    session_served (keeping_of g.D.Disk.history g.D.Disk.faults plain_log) (telling_of g.T.Texts g.C.Clock g.A.Dial.past g.A.Dial.letters g.A.Dial.faults) c.in-Ok.catalog given c.args.peer did.result.0 (map name_view c.deref.result.now) c.status_of-status.result
     (record { wire = wire_of g.S.Source g.K.Sink c.args.wire.now; disks = apart.disks.items; desk = c.args.desk })
     (record { wire = wire_of g.S.Source g.K.Sink did.new.wire; disks = did.result.1.disks.items; desk = did.result.1.desk })
     (g.W.Witness.wires c.args.witness.now) (g.W.Witness.wires did.new.witness) c.args.disks.now.items c.put_together.new.named.items

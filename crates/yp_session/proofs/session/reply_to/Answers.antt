@@ -1,14 +1,15 @@
 use Rattle.std.proofs.Common.{true, false, refl, take}
 use Rattle.yp_answer.specs.declared.procedure.Path.TheVariants.{Stream}
+use Rattle.yp_answer.specs.Transfer.{taken_view}
 use Rattle.yp_answer.specs.Streams.{parts_left, joined}
 use Rattle.yp_session.specs.Hosts.{conduct_of}
-use Rattle.yp_session.proofs.Sending.{Appends-none, on_ok_two, on_err_two}
-use Rattle.yp_session.proofs.Links.{link_silent, link_bytes, link_open}
+use Rattle.yp_session.proofs.Sending.{Appends-none, on_err, on_ok_two, on_err_two}
+use Rattle.yp_session.proofs.Links.{link_silent, link_bytes, link_takes, link_open}
 use Rattle.yp_session.proofs.session.reply_to.Goals as goal
 
 pub returns-in-Silent-clause-sent : goal.returns-in-Silent-clause-sent
 returns-in-Silent-clause-sent g c =
-    let conduct = conduct_of g.H.View.seen g.H.Host.told g.H.Host.counts g.H.View.stepped g.H.Host.made in (
+    let conduct = conduct_of g.H.View.seen g.H.Host.told g.H.Host.counts g.H.View.stepped g.H.Host.made g.H.Host.carried in (
       _,
       refl,
       record {
@@ -21,7 +22,7 @@ returns-in-Silent-clause-sent g c =
 
 pub returns-in-Reply-clause-sent : goal.returns-in-Reply-clause-sent
 returns-in-Reply-clause-sent g c =
-    let conduct = conduct_of g.H.View.seen g.H.Host.told g.H.Host.counts g.H.View.stepped g.H.Host.made in
+    let conduct = conduct_of g.H.View.seen g.H.Host.told g.H.Host.counts g.H.View.stepped g.H.Host.made g.H.Host.carried in
     let bytes = take c.in-Reply.len c.answer.new.buf in
     on_ok_two c.send.result (λ done more. (
       _,
@@ -36,7 +37,7 @@ returns-in-Reply-clause-sent g c =
 
 pub returns-in-Reply-clause-unsent : goal.returns-in-Reply-clause-unsent
 returns-in-Reply-clause-unsent g c =
-    let conduct = conduct_of g.H.View.seen g.H.Host.told g.H.Host.counts g.H.View.stepped g.H.Host.made in
+    let conduct = conduct_of g.H.View.seen g.H.Host.told g.H.Host.counts g.H.View.stepped g.H.Host.made g.H.Host.carried in
     let bytes = take c.in-Reply.len c.answer.new.buf in
     on_err_two c.send.result (λ done more. (
       _,
@@ -51,7 +52,7 @@ returns-in-Reply-clause-unsent g c =
 
 pub returns-in-Stream-clause-sent : goal.returns-in-Stream-clause-sent
 returns-in-Stream-clause-sent g c =
-    let conduct = conduct_of g.H.View.seen g.H.Host.told g.H.Host.counts g.H.View.stepped g.H.Host.made in
+    let conduct = conduct_of g.H.View.seen g.H.Host.told g.H.Host.counts g.H.View.stepped g.H.Host.made g.H.Host.carried in
     let bytes = joined (parts_left (g.H.View.seen c.answer.new.view).known c.in-Stream.stream) in
     on_ok_two c.send_stream.result (λ done more. (
       _,
@@ -66,7 +67,7 @@ returns-in-Stream-clause-sent g c =
 
 pub returns-in-Stream-clause-unsent : goal.returns-in-Stream-clause-unsent
 returns-in-Stream-clause-unsent g c =
-    let conduct = conduct_of g.H.View.seen g.H.Host.told g.H.Host.counts g.H.View.stepped g.H.Host.made in
+    let conduct = conduct_of g.H.View.seen g.H.Host.told g.H.Host.counts g.H.View.stepped g.H.Host.made g.H.Host.carried in
     let bytes = joined (parts_left (g.H.View.seen c.answer.new.view).known c.in-Stream.stream) in
     on_err_two c.send_stream.result (λ done more. (
       _,
@@ -81,7 +82,7 @@ returns-in-Stream-clause-unsent g c =
 
 pub returns-in-Make-clause-sent : goal.returns-in-Make-clause-sent
 returns-in-Make-clause-sent g c =
-    let conduct = conduct_of g.H.View.seen g.H.Host.told g.H.Host.counts g.H.View.stepped g.H.Host.made in
+    let conduct = conduct_of g.H.View.seen g.H.Host.told g.H.Host.counts g.H.View.stepped g.H.Host.made g.H.Host.carried in
     let made = c.make-len.ensures.made in
     on_ok_two c.send-in-Make.result (λ done more. (
       _,
@@ -96,7 +97,7 @@ returns-in-Make-clause-sent g c =
 
 pub returns-in-Make-clause-unsent : goal.returns-in-Make-clause-unsent
 returns-in-Make-clause-unsent g c =
-    let conduct = conduct_of g.H.View.seen g.H.Host.told g.H.Host.counts g.H.View.stepped g.H.Host.made in
+    let conduct = conduct_of g.H.View.seen g.H.Host.told g.H.Host.counts g.H.View.stepped g.H.Host.made g.H.Host.carried in
     let made = c.make-len.ensures.made in
     on_err_two c.send-in-Make.result (λ done more. (
       _,
@@ -108,3 +109,32 @@ returns-in-Make-clause-unsent g c =
         sends = (rw made.1 at done, more);
       },
     )) c.send-in-Make.ensures.prefix c.send-in-Make.ensures.cause.risen
+
+pub returns-in_ok-send-in-Transfer-clause-sent : goal.returns-in_ok-send-in-Transfer-clause-sent
+returns-in_ok-send-in-Transfer-clause-sent g c =
+    let conduct = conduct_of g.H.View.seen g.H.Host.told g.H.Host.counts g.H.View.stepped g.H.Host.made g.H.Host.carried in
+    let bytes = take c.in-Transfer.len c.answer.new.buf in (
+      _,
+      refl,
+      record {
+        link = link_takes conduct Stream c.args.peer c.args.message.now true g.met.H.Host.step_counts_nothing bytes (taken_view c.in-Transfer.errand) c.args.host.now
+            c.answer.new.view c.transfer.new.self c.in-Transfer.ensures.step c.in-Transfer.ensures.reply.takes c.transfer.ensures;
+        flush = refl;
+        sends = (c.in_ok-send-in-Transfer.ensures.sent, c.in_ok-send-in-Transfer.ensures.flushed);
+      },
+    )
+
+pub returns-in_err-send-in-Transfer-clause-unsent : goal.returns-in_err-send-in-Transfer-clause-unsent
+returns-in_err-send-in-Transfer-clause-unsent g c =
+    let conduct = conduct_of g.H.View.seen g.H.Host.told g.H.Host.counts g.H.View.stepped g.H.Host.made g.H.Host.carried in
+    let bytes = take c.in-Transfer.len c.answer.new.buf in
+    on_err _ c.from_residual.result (
+      _,
+      refl,
+      record {
+        link = link_takes conduct Stream c.args.peer c.args.message.now false g.met.H.Host.step_counts_nothing bytes (taken_view c.in-Transfer.errand) c.args.host.now
+            c.answer.new.view c.answer.new.view c.in-Transfer.ensures.step c.in-Transfer.ensures.reply.takes refl;
+        flush = refl;
+        sends = (c.in_err-send-in-Transfer.ensures.prefix, c.in_err-send-in-Transfer.ensures.cause.risen);
+      },
+    )

@@ -9,7 +9,7 @@ use Rattle.yp_session.proofs.session.Session.run.Goals as goal
 
 pub loop-init : goal.loop-init
 loop-init g c =
-    let conduct = conduct_of g.H.View.seen g.H.Host.told g.H.Host.counts g.H.View.stepped g.H.Host.made in
+    let conduct = conduct_of g.H.View.seen g.H.Host.told g.H.Host.counts g.H.View.stepped g.H.Host.made g.H.Host.carried in
     let wire = wire_of g.S.Source g.K.Sink in
     record {
       so_far = rw c.begin.ensures (SoFar-none conduct c.args.peer (dialogue_at c.args.host.now (wire c.args.wire.now) begun) (g.W.Witness.wires c.args.witness.now));
@@ -19,7 +19,7 @@ loop-init g c =
 
 pub returns-in-Ended : goal.returns-in-Ended
 returns-in-Ended g c =
-    let conduct = conduct_of g.H.View.seen g.H.Host.told g.H.Host.counts g.H.View.stepped g.H.Host.made in
+    let conduct = conduct_of g.H.View.seen g.H.Host.told g.H.Host.counts g.H.View.stepped g.H.Host.made g.H.Host.carried in
     let wire = wire_of g.S.Source g.K.Sink in
     let so_far = c.loop.invariant in
     let old = dialogue_at c.args.host.now (wire c.args.wire.now) begun in
@@ -43,7 +43,7 @@ returns-in-Ended g c =
 
 pub loop-preserved : goal.loop-preserved
 loop-preserved g c =
-    let conduct = conduct_of g.H.View.seen g.H.Host.told g.H.Host.counts g.H.View.stepped g.H.Host.made in
+    let conduct = conduct_of g.H.View.seen g.H.Host.told g.H.Host.counts g.H.View.stepped g.H.Host.made g.H.Host.carried in
     let wire = wire_of g.S.Source g.K.Sink in
     let so_far = c.loop.invariant in
     let old = dialogue_at c.args.host.now (wire c.args.wire.now) begun in
@@ -59,7 +59,7 @@ loop-preserved g c =
 
 pub returns : goal.returns
 returns g c =
-    let conduct = conduct_of g.H.View.seen g.H.Host.told g.H.Host.counts g.H.View.stepped g.H.Host.made in
+    let conduct = conduct_of g.H.View.seen g.H.Host.told g.H.Host.counts g.H.View.stepped g.H.Host.made g.H.Host.carried in
     let wire = wire_of g.S.Source g.K.Sink in
     let so_far = c.loop.invariant in
     let old = dialogue_at c.args.host.now (wire c.args.wire.now) begun in

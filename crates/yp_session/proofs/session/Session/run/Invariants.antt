@@ -8,7 +8,7 @@ use Rattle.yp_session.proofs.session.Session.run.Given as goal
 
 abbrev pub invariant-loop : goal.invariant-loop
 invariant-loop g l =
-    let conduct = conduct_of g.H.View.seen g.H.Host.told g.H.Host.counts g.H.View.stepped g.H.Host.made in
+    let conduct = conduct_of g.H.View.seen g.H.Host.told g.H.Host.counts g.H.View.stepped g.H.Host.made g.H.Host.carried in
     let wire = wire_of g.S.Source g.K.Sink in
     record {
       so_far : SoFar conduct l.peer l.counter (dialogue_at l.initial.host (wire l.initial.wire) begun) (dialogue_at l.host (wire l.wire) l.self)
