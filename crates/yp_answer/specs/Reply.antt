@@ -39,8 +39,8 @@ use Rattle.yp_answer.specs.declared.make.Job.{Job}
 use Rattle.yp_answer.specs.Make.{make_check}
 use Rattle.yp_answer.specs.Transfer.{XfrRequest, Taken, asked_transid, taken_for, xfr_check}
 
--- What a record gets: no reply, this reply message, the same and a transfer is taken, or, to the call with this xid, the
--- status of a map that is made first.
+-- What a record gets: no reply, this reply message, the same and a transfer is taken, or, to the call with this xid,
+-- the status of a map that is made first.
 pub data Response : Type 0 where
   Silence : Response
   Bytes : (bytes : List ℕ) → Response

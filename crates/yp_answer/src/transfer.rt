@@ -16,8 +16,8 @@ use yp_msgs::{Message, ReadMessage, ReqXfr, RespXfr, XfrStat};
 use yp_rpc::ReplyHead;
 use yp_xdr::Cursor;
 
-/// A transfer that was taken: the number of its map from 0, the name of the host that has the map, and how to call back:
-/// the transaction, the program and its port.
+/// A transfer that was taken: the number of its map from 0, the name of the host that has the map, and how to call
+/// back: the transaction, the program and its port.
 #[derive(Clone, Copy, Debug)]
 pub struct Errand<'a> {
     pub map: u32,

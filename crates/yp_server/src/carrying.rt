@@ -18,7 +18,8 @@ use yp_msgs::XfrStat;
 use yp_publish::{Installed, Publisher};
 use yp_xfr::{XfrFault, call_back, transfer};
 
-/// Transfers the map of an errand, not forced, and tells the caller at `peer` what came of it, where it wants to be told.
+/// Transfers the map of an errand, not forced, and tells the caller at `peer` what came of it, where it wants to be
+/// told.
 pub(crate) fn carry_out<D: Disk, B: Show, A: Dial, T: Texts, C: Clock>(
     alloc: Global,
     rt: &impl RandomSource,

@@ -122,8 +122,8 @@ impl<D: Disk, B: Show, A: Dial, T: Texts, C: Clock, R: RandomSource + Drop> Loca
     /// Makes a map anew, or answers why it can't be made, the first reason that applies.
     fn make_anew(&mut self, map: u32, kind: Kind) -> Result<(), XfrStat>
         requires { map < length self.old.published.catalogue.maps }
-        ensures made { OnOk result (Makes (keeping_of D.history D.faults B.log) (telling_of T.Texts C.Clock A.past A.letters A.faults)
-            (job_of map kind) XfrStat.Succ self.old self.new) }
+        ensures made { OnOk result (Makes (keeping_of D.history D.faults B.log)
+            (telling_of T.Texts C.Clock A.past A.letters A.faults) (job_of map kind) XfrStat.Succ self.old self.new) }
         ensures unmade { IfErr result (λ stat. Makes (keeping_of D.history D.faults B.log)
             (telling_of T.Texts C.Clock A.past A.letters A.faults) (job_of map kind) stat self.old self.new) }
         ensures grown { IsFront (B.log self.old.published.board) (B.log self.new.published.board) }
@@ -139,8 +139,8 @@ impl<D: Disk, B: Show, A: Dial, T: Texts, C: Clock, R: RandomSource + Drop> Loca
     fn make_level(&mut self, map: u32, kind: Kind) -> Result<(), XfrStat>
         requires map { map < length self.old.published.maps }
         requires level { OfMap map self.old.published.maps (λ kept. kept.standing ≡ Level) }
-        ensures made { OnOk result (Tries (keeping_of D.history D.faults B.log) (telling_of T.Texts C.Clock A.past A.letters A.faults)
-            (job_of map kind) XfrStat.Succ self.old self.new) }
+        ensures made { OnOk result (Tries (keeping_of D.history D.faults B.log)
+            (telling_of T.Texts C.Clock A.past A.letters A.faults) (job_of map kind) XfrStat.Succ self.old self.new) }
         ensures unmade { IfErr result (λ stat. Tries (keeping_of D.history D.faults B.log)
             (telling_of T.Texts C.Clock A.past A.letters A.faults) (job_of map kind) stat self.old self.new) }
         ensures desk { IsUsed (telling_of T.Texts C.Clock A.past A.letters A.faults) self.old.desk self.new.desk }
@@ -253,5 +253,6 @@ impl<D: Disk, B: Show, A: Dial, T: Texts, C: Clock, R: RandomSource + Drop> Host
         self.transfers = self.transfers.saturating_add(1);
     }
 
-    ghost step_counts_nothing = { λ old new h. ap (λ host. record { files = host.files; transfers = host.transfers }) h };
+    ghost step_counts_nothing = { λ old new h.
+        ap (λ host. record { files = host.files; transfers = host.transfers }) h };
 }

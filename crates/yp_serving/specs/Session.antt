@@ -99,11 +99,12 @@ session_may_end status = serve_may_end status
 -- What it does: it serves its input as one connection over the stored maps. What they stood for is shown first, each
 -- record is answered on what is then shown, a map that is asked for is built, stored and shown before its reply, and a
 -- transfer that is taken is fetched from one of these hosts, stored and shown behind its reply. At each moment a crash
--- leaves of each map what was shown of it, or the version that was being installed. Where a file can't be loaded nothing
--- is read or written. Over files that aren't damaged its status is that of the one cut of its input. What a witness has
--- seen grows by the wires behind the records that were answered.
+-- leaves of each map what was shown of it, or the version that was being installed. Where a file can't be loaded
+-- nothing is read or written. Over files that aren't damaged its status is that of the one cut of its input. What a
+-- witness has seen grows by the wires behind the records that were answered.
 pub record SessionDoes {S K D C A T : Type 0} (seen : Seeing S K D C A T) (own : List ℕ) (peer : Peer)
-    (stores : List Name) (hosts : HostList) (status : Status) (old new : Office S K D C A T) (before after : List Wire) : Type 0 where
+    (stores : List Name) (hosts : HostList) (status : Status) (old new : Office S K D C A T)
+    (before after : List Wire) : Type 0 where
   pub serves : Grows before after
       (Sessions (service seen own peer stores) status (connection seen hosts old) (connection seen hosts new))
   pub bound : (number : ℕ) → AtDisk number (disks_of old.disks.items) (disks_of new.disks.items)

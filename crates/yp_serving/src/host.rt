@@ -14,8 +14,8 @@ use yp_msgs::XfrStat;
 use yp_session::Host;
 use yp_version::Version;
 
-/// A board for callers who are let to no MAKE, of maps that its own host is the master of. So no map is made or fetched,
-/// and what it would have fetched is only counted. It is seen as that board and the count.
+/// A board for callers who are let to no MAKE, of maps that its own host is the master of. So no map is made or
+/// fetched, and what it would have fetched is only counted. It is seen as that board and the count.
 #[derive(Drop)]
 pub struct FixedHost {
     board: PlainBoard,

@@ -33,8 +33,8 @@ pub trait Host: View {
     /// What the carrying out of a transfer does to the whole value: the transfer, its caller, before and after.
     ghost carried: { Taken → Peer → Self → Self → Type 0 };
 
-    /// Carries out a transfer that was taken, once its reply is out: fetches the map, and tells the caller at `peer` what
-    /// came of it, where it wants to be told.
+    /// Carries out a transfer that was taken, once its reply is out: fetches the map, and tells the caller at `peer`
+    /// what came of it, where it wants to be told.
     fn transfer(&mut self, errand: &Errand<'_>, peer: Peer)
         requires map { errand.now.map < length (Self.seen self.old).catalogue.maps }
         requires source { length errand.now.source.now ≤ name_max }

@@ -34,9 +34,9 @@ pub record IsFirst (client : ClientState) : Type 0 where
   pub place : client.place ≡ 0
   pub spent : client.spent ≡ false
 
--- One wire to this peer came, the calls were made on it, and it went back: its faults are counted as those of the dial,
--- so the dial has failed where the wire has. No call was made where memory ran out for a client. What came of it is what
--- the bytes of the wire say, where it tells them.
+-- One wire to this peer came, the calls were made on it, and it went back: its faults are counted as those of the
+-- dial, so the dial has failed where the wire has. No call was made where memory ran out for a client. What came of it
+-- is what the bytes of the wire say, where it tells them.
 pub record FetchesOnWire (peer : Peer) (wanted : Wanted) (outcome : Outcome) (old new : Dialing) : Type 0 where
   pub first : ClientState
   pub last : ClientState
