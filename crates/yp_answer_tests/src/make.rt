@@ -41,7 +41,13 @@ const KIND_99: &str = "00000063";
 const REFUSED: &str = "fffffff2";
 
 // The answer to a call from this address, on a path.
-fn asked(path: Path, board: &mut PlainBoard, addr: [u8; 4], call: &[u8], buf: &mut [u8]) -> Answered
+fn asked<'a>(
+    path: Path,
+    board: &mut PlainBoard,
+    addr: [u8; 4],
+    call: &'a [u8],
+    buf: &mut [u8],
+) -> Answered<'a>
     requires { record_max ≤ length buf.old }
 {
     let peer = Peer { addr, port: 40_000 };

@@ -1,9 +1,13 @@
 //! What each procedure of YP answers.
 
-use crate::given::assert_same;
+ghost use Rattle.std.specs.Prelude.{◌≤◌, length};
+ghost use Rattle.yp_answer.specs.Numbers.{record_max};
+
+use crate::given::{assert_same, bytes};
 use crate::sample::*;
 use std::alloc::Global;
 use std::process::Abort;
+use yp_answer::{Answered, RECORD_MAX, answer};
 use yp_board::PlainBoard;
 
 const NULL: &str = "00000000";
@@ -11,8 +15,6 @@ const NULL: &str = "00000000";
 const DOMAIN: &str = "00000001";
 
 const DOMAIN_NONACK: &str = "00000002";
-
-const XFR: &str = "00000006";
 
 const CLEAR: &str = "00000007";
 
@@ -23,6 +25,18 @@ const TWELVE: &str = "0000000c";
 const SERVED: &str = "00000001";
 
 const UNSERVED: &str = "00000000";
+
+// What XFR asks for: an order, a host, and how to call back: transaction 9 of the program 0x40000000 at port 7002.
+const ORDER_0: &str = "00000000";
+
+const PEER_X: &str = "00000001 78000000";
+
+const CALL_BACK: &str = "00000009 40000000 00001b5a";
+
+// What it answers: the transaction, and a status.
+const TRANSACTION: &str = "00000009";
+
+const REFUSED: &str = "fffffff2";
 
 // A procedure, its arguments, and the reply from its status on. Where that is empty, there is none.
 #[derive(Clone, Copy)]
@@ -232,11 +246,48 @@ const ON_BOTH_PATHS: &[Case] = &[
         arguments: &[EMPTY],
         words: &[SUCCESS, YP_BADARGS, END],
     },
+    // The board's own name is the master of each version.
     Case {
-        row: "XFR",
+        row: "XFR of a map of the server's own",
         procedure: XFR,
-        arguments: &[LAB, HOSTS],
-        words: &[PROC_UNAVAIL],
+        arguments: &[LAB, HOSTS, ORDER_0, PEER_X, CALL_BACK],
+        words: &[SUCCESS, TRANSACTION, REFUSED],
+    },
+    Case {
+        row: "XFR of a map without a version",
+        procedure: XFR,
+        arguments: &[LAB, BARE_MAP, ORDER_0, PEER_X, CALL_BACK],
+        words: &[SUCCESS, TRANSACTION, "00000001"],
+    },
+    Case {
+        row: "XFR of an unknown map",
+        procedure: XFR,
+        arguments: &[LAB, NO_MAP, ORDER_0, PEER_X, CALL_BACK],
+        words: &[SUCCESS, TRANSACTION, YP_NOMAP],
+    },
+    Case {
+        row: "XFR in a domain that isn't served",
+        procedure: XFR,
+        arguments: &[ZZZ, NO_MAP, ORDER_0, PEER_X, CALL_BACK],
+        words: &[SUCCESS, TRANSACTION, YP_NODOM],
+    },
+    Case {
+        row: "XFR from no host",
+        procedure: XFR,
+        arguments: &[ZZZ, HOSTS, ORDER_0, EMPTY, CALL_BACK],
+        words: &[SUCCESS, TRANSACTION, YP_BADARGS],
+    },
+    Case {
+        row: "XFR of a map of no name",
+        procedure: XFR,
+        arguments: &[LAB, EMPTY, ORDER_0, PEER_X, CALL_BACK],
+        words: &[SUCCESS, TRANSACTION, YP_BADARGS],
+    },
+    Case {
+        row: "XFR without a port",
+        procedure: XFR,
+        arguments: &[LAB, HOSTS, ORDER_0, PEER_X, "00000009 40000000"],
+        words: &[GARBAGE_ARGS],
     },
     Case {
         row: "the procedure 12",
@@ -327,4 +378,37 @@ fn answers_all(rt: HostRuntime) {
     for case in ALL_OF {
         assert_case(&rt, alloc, &mut board, case, &[PROC_UNAVAIL]);
     }
+}
+
+// The transfer that a call takes: its map, the host that has it, and how to call back.
+type Taken = (u32, Vec<u8>, u32, u32, u32);
+
+fn taken_by(
+    rt: &impl Abort,
+    alloc: Global,
+    board: &mut PlainBoard,
+    call: &[u8],
+    buf: &mut [u8],
+) -> Taken
+    requires { record_max ≤ length buf.old }
+{
+    match answer(board, call, caller(OPEN_PORT), buf) {
+        Answered::Transfer { errand, .. } => {
+            let source = Vec::from_slice(alloc, errand.source).expect(rt, "bytes");
+            (errand.map, source, errand.transid, errand.prog, errand.port)
+        }
+        _ => panic!(rt; "no transfer"),
+    }
+}
+
+#[test]
+fn takes_transfers(rt: HostRuntime) {
+    let alloc = rt.alloc();
+    let mut board = two_domains(&rt, alloc);
+    let arguments = [LAB, BARE_MAP, ORDER_0, PEER_X, CALL_BACK];
+    let call = call(&rt, alloc, XFR, &arguments);
+    let mut buf = filled(&rt, alloc, 9, RECORD_MAX);
+    let came = taken_by(&rt, alloc, &mut board, &call, &mut buf);
+    let wanted = (2, bytes(&rt, alloc, &["78"]), 9, 0x4000_0000, 7_002);
+    assert_same(&rt, &came, &wanted, "XFR of a map without a version");
 }

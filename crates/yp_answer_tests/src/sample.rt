@@ -24,6 +24,8 @@ pub const FIRST: &str = "00000004";
 
 pub const NEXT: &str = "00000005";
 
+pub const XFR: &str = "00000006";
+
 pub const ALL: &str = "00000008";
 
 pub const MASTER: &str = "00000009";
@@ -245,7 +247,7 @@ fn pieces_by(
 {
     match answer(board, record, caller(port), buf) {
         Answered::Silent => Vec::new(alloc),
-        Answered::Reply { len } => {
+        Answered::Reply { len } | Answered::Transfer { len, .. } => {
             vec![in alloc; front(rt, alloc, buf, len)].expect(rt, "a piece")
         }
         Answered::Make { .. } => panic!(rt; "a MAKE that is left open"),
@@ -299,7 +301,7 @@ fn datagram_reply_by(
 {
     match answer_datagram(board, call, caller(port), buf) {
         Answered::Silent => Vec::new(alloc),
-        Answered::Reply { len } => front(rt, alloc, buf, len),
+        Answered::Reply { len } | Answered::Transfer { len, .. } => front(rt, alloc, buf, len),
         Answered::Stream(_) => panic!(rt; "a stream for a datagram"),
         Answered::Make { .. } => panic!(rt; "a MAKE that is left open"),
     }

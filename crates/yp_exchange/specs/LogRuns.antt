@@ -9,7 +9,7 @@ use Rattle.yp_answer.specs.Maps.{Maps}
 use Rattle.yp_answer.specs.Reply.{Bytes, reply}
 use Rattle.yp_session.specs.Hosts.{Turn}
 use Rattle.yp_session.specs.LogRuns.{LogRun}
-use Rattle.yp_query.specs.Questions.{ByteQuestion}
+use Rattle.yp_question.specs.Questions.{ByteQuestion}
 use Rattle.yp_exchange.specs.Served.{AreServed}
 use Rattle.yp_exchange.specs.Runs.{maps_on, calls_made}
 

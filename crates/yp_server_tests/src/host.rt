@@ -5,13 +5,13 @@ use crate::sample::*;
 use std::alloc::Global;
 use std::process::Abort;
 use yp_board::{Catalog, PlainBoard};
-use yp_io::{MemDisk, MemTexts, Peer, SetClock};
+use yp_io::{MemDial, MemDisk, MemTexts, Peer, SetClock};
 use yp_publish::{Publisher, laws, load_all};
 use yp_server::*;
 use yp_session::{End, Session, Trail};
 use yp_slot::Slot;
 
-type MemHost = LocalHost<MemDisk, PlainBoard, MemTexts, SetClock, HostRuntime>;
+type MemHost = LocalHost<MemDisk, PlainBoard, MemDial, MemTexts, SetClock, HostRuntime>;
 
 // A host over the one map of a catalogue, with its file on a disk.
 fn host_of(

@@ -9,3 +9,5 @@ mod given;
 mod host;
 #[cfg(test)]
 mod sample;
+#[cfg(test)]
+mod transfer;

@@ -6,8 +6,9 @@ ghost use Rattle.std.specs.Prelude.{◌≡◌, length};
 use std::alloc::Global;
 use std::process::Abort;
 use yp_board::{Catalog, MapName};
-use yp_io::{MemSink, MemSource, MemTexts, MemWire, Pair, Peer, SetClock, TextFile};
+use yp_io::{MemDial, MemSink, MemSource, MemTexts, MemWire, Pair, Peer, SetClock, TextFile};
 use yp_server::Desk;
+use yp_xfr::Hosts;
 
 // MATCH of `alpha` in hosts.byname of `lab`, behind its transaction, and the replies to it.
 pub const MATCH: &str = "00000000 00000002 000186a4 00000002 00000003 00000000 00000000 00000000
@@ -51,8 +52,8 @@ pub const OWN_HOST: Peer = Peer {
 // The number of a call that is never reached.
 pub const NEVER: u64 = u64::MAX;
 
-// What a host makes maps of.
-pub type MemDesk = Desk<MemTexts, SetClock>;
+// What a host makes maps of, and fetches them by.
+pub type MemDesk = Desk<MemDial, MemTexts, SetClock>;
 
 // A catalogue of hosts.byname of each of these domains.
 pub fn catalog_of(rt: &impl Abort, alloc: Global, own: &[u8], domains: &[&[u8]]) -> Catalog {
@@ -77,6 +78,8 @@ pub fn desk_of(
     let failing = vec![in alloc; failing].expect(rt, "a number");
     let texts = vec![in alloc; (TextFile::Hosts, text)].expect(rt, "a text");
     Desk {
+        dial: MemDial::new(alloc, Vec::new(alloc), Vec::new(alloc)),
+        hosts: Hosts::new(alloc),
         texts: MemTexts::new(texts, failing),
         clock: SetClock { moment },
     }

@@ -11,9 +11,10 @@ ghost use Rattle.yp_session.specs.Causes.{IsCaused, basis_at};
 
 use std::alloc::Global;
 use std::sync::Arc;
-use yp_answer::Job;
+use yp_answer::{Errand, Job};
 use yp_board::{Catalog, PlainBoard, Show, View};
 use yp_build::{AfterFault, BuildFault, Kind, build_after, other_master};
+use yp_io::Peer;
 use yp_msgs::XfrStat;
 use yp_session::Host;
 use yp_version::Version;
@@ -32,6 +33,9 @@ pub struct TestHost {
     pub makes: u64,
     pub files: u64,
     pub shown: bool,
+    // How many transfers were carried out, and the sum of their transactions.
+    pub transfers: u64,
+    pub transactions: u64,
 }
 
 // Builds a version of a map of a text, behind the one that is shown of it.
@@ -106,7 +110,7 @@ impl View for TestHost {
 impl Host for TestHost {
     ghost told = { λ host. record { text = λ file. None; moment = None } };
 
-    ghost counts = { λ host. record { files = host.files; transfers = 0 } };
+    ghost counts = { λ host. record { files = host.files; transfers = host.transfers } };
 
     ghost made = { λ job stat old new. Unit {0} };
 
@@ -127,5 +131,13 @@ impl Host for TestHost {
         }
     }
 
-    ghost step_counts_nothing = { λ old new h. ap (λ host. record { files = host.files; transfers = 0 }) h };
+    ghost carried = { λ taken peer old new. Unit {0} };
+
+    fn transfer(&mut self, errand: &Errand<'_>, _peer: Peer) {
+        self.transfers = self.transfers.saturating_add(1);
+        self.transactions = self.transactions.saturating_add(u64::from(errand.transid));
+    }
+
+    ghost step_counts_nothing = { λ old new h.
+        ap (λ host. record { files = host.files; transfers = host.transfers }) h };
 }

@@ -11,3 +11,5 @@ mod make;
 mod sample;
 #[cfg(test)]
 mod session;
+#[cfg(test)]
+mod transfer;

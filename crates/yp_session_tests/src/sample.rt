@@ -81,6 +81,8 @@ pub fn host_of(
         makes: 0,
         files: 0,
         shown: false,
+        transfers: 0,
+        transactions: 0,
     }
 }
 

@@ -21,7 +21,7 @@ unfoldable pub CommandDoes : {S K D C A T : Type 0} → Seeing S K D C A T → M
     → (old new : Office S K D C A T) → (before after : List Wire) → Type 0
 CommandDoes seen (Once store rows) status old new before after = OnceDoes seen store rows status old new before after
 CommandDoes seen (Session own peer stores hosts) status old new before after =
-    SessionDoes seen own peer stores status old new before after
+    SessionDoes seen own peer stores hosts status old new before after
 CommandDoes seen (Check store) status old new before after = CheckDoes seen store status old new × (after ≡ before)
 CommandDoes seen (Build name store flag) status old new before after =
     BuildDoes seen name store flag status old new × (after ≡ before)

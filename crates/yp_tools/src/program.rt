@@ -73,8 +73,8 @@ fn obey<S: Source, K: Sink, D: Disk, C: Clock, A: Dial, T: Texts, W: Witness<S, 
             name,
             addr,
             stores,
-            hosts: _hosts,
-        } => return serve_session(alloc, rt, name, addr, stores, office, witness),
+            hosts,
+        } => return serve_session(alloc, rt, name, addr, stores, hosts, office, witness),
     };
     (status, office)
 }

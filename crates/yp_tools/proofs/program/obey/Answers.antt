@@ -14,7 +14,7 @@ unfolding CommandDoes
 returns-in-Session-clause-does g c =
     let wires = g.W.Witness.wires in
     same_does (seeing g.S.Source g.K.Sink g.D.Disk g.C.Clock g.A.Dial g.T.Texts) c.args.office (wires c.args.witness.now) (meaning c.args.command)
-    (Session c.in-Session.name.items c.in-Session.addr (map name_view c.in-Session.stores.items) (map host_view c.in-Session._hosts.items))
+    (Session c.in-Session.name.items c.in-Session.addr (map name_view c.in-Session.stores.items) (map host_view c.in-Session.hosts.items))
     c.serve_session.result.0 c.serve_session.result.0 c.serve_session.result.1 c.serve_session.result.1 (wires c.serve_session.new.witness) (wires c.serve_session.new.witness)
     (ap meaning c.in-Session.is) refl refl refl c.serve_session.ensures.does
 
@@ -22,7 +22,7 @@ pub returns-in-Session-clause-may_end : goal.returns-in-Session-clause-may_end
 unfolding may_end
 returns-in-Session-clause-may_end g c =
     same_end (meaning c.args.command)
-    (Session c.in-Session.name.items c.in-Session.addr (map name_view c.in-Session.stores.items) (map host_view c.in-Session._hosts.items))
+    (Session c.in-Session.name.items c.in-Session.addr (map name_view c.in-Session.stores.items) (map host_view c.in-Session.hosts.items))
     c.serve_session.result.0 c.serve_session.result.0 (ap meaning c.in-Session.is) refl c.serve_session.ensures.may_end
 
 pub returns-clause-does : goal.returns-clause-does
