@@ -1,0 +1,5 @@
+mod Cuts
+mod Ends
+mod NameBytes
+mod NamesMet
+mod Spelled

@@ -1,0 +1,5 @@
+pub mod Parts
+pub mod Reach
+pub mod Member
+pub mod Who
+pub mod Seen
