@@ -5,3 +5,4 @@ pub mod Answered
 pub mod CallLaws
 pub mod Runs
 pub mod QueryLaws
+pub mod SentLaws

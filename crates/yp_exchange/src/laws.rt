@@ -6,6 +6,7 @@ ghost use Rattle.yp_exchange.specs.Laws.{MasterTells, OrderTells, MaplistTells};
 ghost use Rattle.yp_exchange.specs.CallLaws.{NumberIsTold, TruthIsTold, BytesAreTold, RowIsTold, NamesAreTold};
 ghost use Rattle.yp_exchange.specs.CallLaws.{RowsAreTold};
 ghost use Rattle.yp_exchange.specs.QueryLaws.{CallsAreTold, QueryPrintsTold, RunIsPrinted, ToldIsAnswered};
+ghost use Rattle.yp_exchange.specs.SentLaws.{SentIsWhole};
 
 use yp_rpc::laws::{call_is_heard_again, first_is_one, rest_is_not_whole};
 use yp_version::laws::{rising_is_distinct, rising_stays};
@@ -141,3 +142,8 @@ pub fn told_is_answered()
     order_tells();
     maplist_tells();
 }
+
+/// What is sent of a reply within a limit is that reply in fragments.
+pub fn sent_is_whole()
+    ensures { SentIsWhole }
+{}
