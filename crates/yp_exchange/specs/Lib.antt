@@ -7,3 +7,4 @@ pub mod Runs
 pub mod QueryLaws
 pub mod LogRuns
 pub mod RunLaws
+pub mod SentLaws

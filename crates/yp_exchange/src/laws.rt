@@ -8,6 +8,7 @@ ghost use Rattle.yp_exchange.specs.CallLaws.{RowsAreTold};
 ghost use Rattle.yp_exchange.specs.QueryLaws.{CallsAreTold, QueryPrintsTold, RunIsPrinted, ToldIsAnswered};
 ghost use Rattle.yp_exchange.specs.RunLaws.{DomainHasReply, MatchHasReply, FirstHasReply, NextHasReply, AllHasReply};
 ghost use Rattle.yp_exchange.specs.RunLaws.{MasterHasReply, OrderHasReply, MaplistHasReply, RunIsInTurn, LogRunIsPrinted};
+ghost use Rattle.yp_exchange.specs.SentLaws.{SentIsWhole};
 
 use yp_rpc::laws::{call_is_heard_again, first_is_one, rest_is_not_whole};
 use yp_version::laws::{rising_is_distinct, rising_stays};
@@ -182,3 +183,8 @@ pub fn told_is_answered()
     order_tells();
     maplist_tells();
 }
+
+/// What is sent of a reply within a limit is that reply in fragments.
+pub fn sent_is_whole()
+    ensures { SentIsWhole }
+{}

@@ -4,3 +4,4 @@ pub mod Hearing
 pub mod Going
 pub mod Giving
 pub mod Keeping
+pub mod Turning

@@ -2,8 +2,9 @@
 //! nothing.
 
 ghost use Rattle.yp_source.specs.Laws.{FetchedIsShown, ShownIsFetched};
+ghost use Rattle.yp_source.specs.Turns.{TurnsGiveFetch};
 
-use yp_exchange::laws::{all_tells, master_tells, order_tells, room_for_version};
+use yp_exchange::laws::{all_tells, master_tells, order_tells, room_for_version, sent_is_whole};
 use yp_rpc::laws::{first_is_one, rest_is_not_whole};
 use yp_version::laws::rising_stays;
 
@@ -32,4 +33,16 @@ pub fn shown_is_fetched()
     all_tells();
     room_for_version();
     rising_stays();
+}
+
+/// Where a server answered the calls of a fetch in turn, what it sent gives the fetch its replies, on four fronts of
+/// its log.
+pub fn turns_give_fetch()
+    ensures { TurnsGiveFetch }
+{
+    sent_is_whole();
+    order_tells();
+    master_tells();
+    all_tells();
+    room_for_version();
 }

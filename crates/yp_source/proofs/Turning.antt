@@ -1,0 +1,112 @@
+-- A server that answers the calls of a fetch in turn.
+use Rattle.std.proofs.Common.{◌≡◌, ℕ, ◌≤◌, List, [], ◌∷◌, ◌++◌, length, Result, Ok, Err, refl, sym, ◌∙◌, subst, arith}
+use Rattle.std.proofs.Common.{append_assoc}
+use Rattle.std.specs.Prelude.{IfOk, ⊤}
+use Rattle.yp_io.specs.declared.stream.Peer.{Peer}
+use Rattle.yp_rpc.specs.Records.{sent}
+use Rattle.yp_msgs.specs.declared.stat.YpStat.{YpStat}
+use Rattle.yp_version.specs.Versions.{MapVersion}
+use Rattle.yp_board.specs.Views.{IsFront}
+use Rattle.yp_answer.specs.declared.procedure.Path.TheVariants.{Stream}
+use Rattle.yp_answer.specs.Maps.{Maps, row_check}
+use Rattle.yp_answer.specs.Reply.{Bytes, reply}
+use Rattle.yp_client.specs.Limits.{reply_max, all_max}
+use Rattle.yp_client.specs.Asked.{order_call, master_call, all_call}
+use Rattle.yp_exchange.specs.Served.{ReplyTells}
+use Rattle.yp_exchange.specs.Laws.{OrderTells, MasterTells, AllTells, RoomForVersion}
+use Rattle.yp_exchange.specs.SentLaws.{SentIsWhole}
+use Rattle.yp_exchange.specs.Answered.{GivesReply}
+use Rattle.yp_exchange.specs.Runs.{maps_on, sent_all}
+use Rattle.yp_xfr.specs.Fetching.{begun}
+use Rattle.yp_source.specs.Replies.{next_xid, GivesSecond, GivesAll, GivesMaster}
+use Rattle.yp_source.specs.Laws.{Fronts, moments_on}
+use Rattle.yp_source.specs.Turns.{TurnsGiveFetch}
+use Rattle.yp_source.proofs.Showing.{served_before, front_then}
+use Rattle.yp_source.proofs.Giving.{next_is_word}
+
+-- what the replies to the calls say, and how they are sent
+pub record Sent : Type 0 where
+  pub whole : SentIsWhole
+  pub order : OrderTells
+  pub master : MasterTells
+  pub all : AllTells
+  pub room : RoomForVersion
+
+any_room : (held : Result MapVersion YpStat) → IfOk held (λ version. 0 ≤ length version.master)
+any_room (Ok version) = omega arith
+any_room (Err stat) = tt
+
+module _ (laws : Sent) where
+  -- a reply that was sent is given, whole
+  sent_gives : {V : Type 0} (maps : Maps) (peer : Peer) (limit : ℕ) (call : List ℕ) (said : List ℕ → V) (expected : V)
+      (bytes : List ℕ) (replies : List (List ℕ)) (rest : List ℕ) (P : List ℕ → Type 0)
+      → ReplyTells maps peer limit call said expected → reply Stream maps peer call ≡ Bytes bytes
+      → P (sent_all replies ++ rest) → GivesReply maps peer limit call (sent_all (bytes ∷ replies) ++ rest) P
+  sent_gives maps peer limit call said expected bytes replies rest P tells replied then =
+      let same : tells.bytes ≡ bytes = (let e : Bytes tells.bytes ≡ Bytes bytes = sym tells.replied ∙ replied in cc) in
+      record {
+        reply = bytes;
+        bytes = sent bytes;
+        rest = sent_all replies ++ rest;
+        fragments = laws.whole limit bytes (subst (λ (b : List ℕ). length b ≤ limit) same tells.within);
+        whole = append_assoc (sent bytes) (sent_all replies) rest;
+        good = (replied, then);
+      }
+
+  pub turns_give : TurnsGiveFetch
+  turns_give catalogue peer domain map xid [] rest before after served rises word dlen mlen turns = absurd turns
+  turns_give catalogue peer domain map xid (a ∷ []) rest before after served rises word dlen mlen turns =
+      absurd turns.3
+  turns_give catalogue peer domain map xid (a ∷ b ∷ []) rest before after served rises word dlen mlen turns =
+      absurd turns.3.3
+  turns_give catalogue peer domain map xid (a ∷ b ∷ c ∷ []) rest before after served rises word dlen mlen turns =
+      absurd turns.3.3.3
+  turns_give catalogue peer domain map xid (a ∷ b ∷ c ∷ d ∷ e ∷ more) rest before after served rises word dlen mlen
+      turns =
+      absurd turns.3.3.3.3
+  turns_give catalogue peer domain map xid (a ∷ b ∷ c ∷ d ∷ []) rest before after served rises word dlen mlen turns =
+      let second = turns.3 in
+      let third = second.3 in
+      let fourth = third.3 in
+      let fronts : Fronts = record {
+        first = turns.0;
+        second = second.0;
+        third = third.0;
+        fourth = fourth.0;
+        log = after;
+        begins = second.1;
+        grows = third.1;
+        goes_on = fourth.1;
+        ends = fourth.3;
+        rises = rises;
+      } in
+      let third_ends : IsFront third.0 after = front_then third.0 fourth.0 after fourth.1 fourth.3 in
+      let second_ends : IsFront second.0 after = front_then second.0 third.0 after third.1 third_ends in
+      let first_ends : IsFront turns.0 after = front_then turns.0 second.0 after second.1 second_ends in
+      let m1 = maps_on catalogue turns.0 in
+      let m2 = maps_on catalogue second.0 in
+      let m3 = maps_on catalogue third.0 in
+      let m4 = maps_on catalogue fourth.0 in
+      let x2 = next_xid xid in
+      let x3 = next_xid x2 in
+      let x4 = next_xid x3 in
+      let room = laws.room m3 peer.port domain map 0 [] (served_before catalogue third.0 after third_ends served)
+      (any_room (row_check m3 peer.port domain map)) in
+      let gives4 : GivesSecond peer domain map (moments_on catalogue fronts) x4 (sent_all (d ∷ []) ++ rest) =
+      sent_gives m4 peer reply_max (order_call domain map x4) _ _ d [] rest (λ behind. ⊤)
+      (laws.order m4 peer x4 domain (served_before catalogue fourth.0 after fourth.3 served) (next_is_word x3) dlen map
+      mlen) fourth.2 tt in
+      let gives3 : GivesAll peer domain map (moments_on catalogue fronts) x3 (sent_all (c ∷ d ∷ []) ++ rest) =
+      sent_gives m3 peer all_max (all_call domain map x3) _ _ c (d ∷ []) rest _
+      (laws.all m3 peer x3 domain (served_before catalogue third.0 after third_ends served) (next_is_word x2) dlen map
+      mlen (begun 0 []) room) third.2 (λ ok. gives4) in
+      let gives2 : GivesMaster peer domain map (moments_on catalogue fronts) x2 (sent_all (b ∷ c ∷ d ∷ []) ++ rest) =
+      sent_gives m2 peer reply_max (master_call domain map x2) _ _ b (c ∷ d ∷ []) rest _
+      (laws.master m2 peer x2 domain (served_before catalogue second.0 after second_ends served) (next_is_word xid) dlen
+      map mlen) second.2 (λ ok. gives3) in (
+        fronts,
+        refl,
+        sent_gives m1 peer reply_max (order_call domain map xid) _ _ a (b ∷ c ∷ d ∷ []) rest _
+            (laws.order m1 peer xid domain (served_before catalogue turns.0 after first_ends served) word dlen map mlen) turns.2
+            (λ ok. gives2),
+      )
