@@ -1,6 +1,6 @@
 //! Streams written out by hand, from RFC 5531 section 11.
 
-ghost use Rattle.std.specs.Prelude.{◌<◌, length};
+ghost use Rattle.std.specs.Prelude.{◌≡◌, ◌<◌, [], length};
 
 use crate::given::{assert_same, bytes};
 use std::alloc::Global;
@@ -456,6 +456,54 @@ fn failing_sink(rt: HostRuntime) {
         let came = (answer, torn.len(), next, whole.as_slice());
         let wanted = (Err(Failed), *taken, Ok(()), short.as_slice());
         assert_same(&rt, &came, &wanted, *row);
+    }
+}
+
+// Sends a record at once, and answers with what was taken, where these calls of the sink fail.
+fn sent_by<R: Abort>(
+    rt: &R,
+    alloc: Global,
+    writer: &mut RecordWriter,
+    message: &[u8],
+    failing: Vec<u64>,
+) -> (Result<(), Failed>, Vec<u8>)
+    requires idle { writer.old ≡ [] }
+    requires some { 0 < length message.now }
+    ensures { writer.new ≡ [] }
+{
+    let mut sink = MemSink::new(alloc, 9000, failing);
+    let answer = writer.send(&mut sink, message);
+    let taken = sink.taken().to_vec(alloc);
+    (answer, taken.expect(rt, "a copy"))
+}
+
+#[test]
+fn records_sent_at_once(rt: HostRuntime) {
+    let alloc = rt.alloc();
+    for (row, len, full, last) in &FRAGMENTS {
+        let mut writer = RecordWriter::new(alloc).expect(&rt, "a writer");
+        let record = counted(&rt, alloc, *len);
+        assert_some(&rt, record.len());
+        let stream = cut(&rt, alloc, &record, 8192, "00002000", *full, *last);
+        let (answer, taken) = sent_by(&rt, alloc, &mut writer, &record, Vec::new(alloc));
+        assert_same(&rt, &(answer, taken == stream), &(Ok(()), true), *row);
+    }
+}
+
+#[test]
+fn failing_calls_of_a_record_sent_at_once(rt: HostRuntime) {
+    let alloc = rt.alloc();
+    let record = bytes(&rt, alloc, &["80000002 6162"]);
+
+    // The write fails, and then the flush behind it.
+    for (row, failing, taken) in [("no write", 0u64, 0), ("no flush", 1, 6)] {
+        let mut writer = RecordWriter::new(alloc).expect(&rt, "a writer");
+        let failing_calls = vec![in alloc; failing].expect(&rt, "a number");
+        let (answer, torn) = sent_by(&rt, alloc, &mut writer, b"ab", failing_calls);
+        let (next, whole) = sent_by(&rt, alloc, &mut writer, b"ab", Vec::new(alloc));
+        let came = (answer, torn.len(), next, whole.as_slice());
+        let wanted = (Err(Failed), taken, Ok(()), record.as_slice());
+        assert_same(&rt, &came, &wanted, row);
     }
 }
 
