@@ -1,4 +1,4 @@
-//! Tests of `yp_io`.
+//! Tests of `yp_io`, `yp_xdr` and `yp_msgs`.
 #![tactic(auto)]
 
 #[cfg(test)]
@@ -8,6 +8,10 @@ mod disk;
 #[cfg(test)]
 mod given;
 #[cfg(test)]
+mod messages;
+#[cfg(test)]
 mod streams;
 #[cfg(test)]
 mod texts;
+#[cfg(test)]
+mod values;
