@@ -1,6 +1,7 @@
 //! Calls that the program makes itself, and their whole replies.
 
-ghost use Rattle.std.specs.Prelude.{◌≡◌, ◌+◌, ◌≤◌, ◌++◌, [], length, take, None, Some, if◌then◌else◌, IfOk, OnOk};
+ghost use Rattle.std.specs.Prelude.{◌≡◌, ◌+◌, ◌≤◌, ◌++◌, [], length, take, true, None, Some, if◌then◌else◌, IfOk};
+ghost use Rattle.std.specs.Prelude.{OnOk};
 ghost use Rattle.yp_xdr.specs.Spelling.{spelling};
 ghost use Rattle.yp_rpc.specs.Called.{call_of};
 ghost use Rattle.yp_msgs.specs.Numbers.{program, version};
@@ -110,6 +111,17 @@ fn collect(
     Ok(())
 }
 
+/// Puts a whole reply where there is nothing yet. There is one then.
+fn put_whole(reply: &mut Vec<u8>, bytes: &[u8]) -> Result<bool, NoMemory>
+    requires { reply.old.items ≡ [] }
+    ensures { IfOk result (λ some. (some ≡ true) × (reply.new.items ≡ bytes.now)) }
+{
+    match reply.extend_from_slice(bytes) {
+        Ok(()) => Ok(true),
+        Err(_) => Err(NoMemory),
+    }
+}
+
 /// Asks the board, and puts the whole reply into `reply`, where there is one.
 pub fn ask(
     board: &mut PlainBoard,
@@ -125,14 +137,12 @@ pub fn ask(
     reply.clear();
     match answer(board, call, NOBODY, buf) {
         Answered::Silent => Ok(false),
-        Answered::Reply { len } | Answered::Transfer { len, .. } => {
-            reply.extend_from_slice(&buf[..len]).map_err(|_| NoMemory)?;
-            Ok(true)
-        }
-        Answered::Stream(stream) => {
-            collect(board, stream, buf, reply)?;
-            Ok(true)
-        }
+        Answered::Reply { len } => put_whole(reply, &buf[..len]),
+        Answered::Transfer { len, .. } => put_whole(reply, &buf[..len]),
+        Answered::Stream(stream) => match collect(board, stream, buf, reply) {
+            Ok(()) => Ok(true),
+            Err(NoMemory) => Err(NoMemory),
+        },
         Answered::Make { .. } => Ok(false),
     }
 }

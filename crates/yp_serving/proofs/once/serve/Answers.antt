@@ -2,10 +2,11 @@ use Rattle.std.proofs.Common.{refl, sym, ap, ◌∙◌, subst, inl}
 use Rattle.yp_answer.specs.Maps.{Maps, maps_of}
 use Rattle.yp_session.specs.Progress.{begun}
 use Rattle.yp_session.specs.Wires.{wire_of}
-use Rattle.yp_session.specs.Runs.{dialogue_at}
+use Rattle.yp_session.specs.declared.session.TheConstants.{CALLS_MAX}
+use Rattle.yp_session.specs.Runs.{dialogue_at, Runs}
 use Rattle.yp_office.specs.declared.status.Status.{Status}
 use Rattle.yp_words.specs.Words.{nobody}
-use Rattle.yp_serving.specs.Served.{Traffic, ServesInput, IsStatusOf, Fixed, fixed_conduct, status_of}
+use Rattle.yp_serving.specs.Served.{Traffic, ServesInput, IsStatusOf, Fixed, fixed, fixed_conduct, status_of}
 use Rattle.yp_serving.proofs.Told.{serves_told, none_is_open, if_told}
 use Rattle.yp_serving.proofs.Ended.{status_of_end}
 use Rattle.yp_serving.proofs.Watching.{watched}
@@ -31,10 +32,13 @@ pub returns-clause-watched : goal.returns-clause-watched
 returns-clause-watched g c =
     let wire = wire_of g.S.Source g.K.Sink in
     let runs = c.run.ensures.runs in
+    let last = dialogue_at c.run.new.host (wire c.run.new.wire) c.run.new.self in
+    let all : Runs fixed_conduct nobody CALLS_MAX c.run.result (dialogue_at (fixed c.args.board) (wire c.args.wire.now) begun) last runs.more =
+    subst (λ (host : Fixed). Runs fixed_conduct nobody CALLS_MAX c.run.result (dialogue_at host (wire c.args.wire.now) begun) last runs.more) c.new-host.ensures runs.done in
     record {
       more = runs.more;
       behind = runs.behind;
-      done = rw c.status_of_end.ensures.status (watched c.args.board c.run.new.host c.run.new.self (wire c.args.wire.now) (wire c.run.new.wire) runs.more c.run.result runs.done);
+      done = rw c.status_of_end.ensures.status (watched c.args.board c.run.new.host c.run.new.self (wire c.args.wire.now) (wire c.run.new.wire) runs.more c.run.result all);
     }
 
 pub returns-clause-complete : goal.returns-clause-complete
