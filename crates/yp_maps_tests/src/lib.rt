@@ -1,4 +1,4 @@
-//! Tests of `yp_board`.
+//! Tests of `yp_version`, `yp_slot` and `yp_board`.
 #![tactic(auto)]
 
 #[cfg(test)]
@@ -9,3 +9,7 @@ mod given;
 mod plain;
 #[cfg(test)]
 mod sample;
+#[cfg(test)]
+mod slot;
+#[cfg(test)]
+mod version;
