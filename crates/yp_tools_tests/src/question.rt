@@ -1,5 +1,5 @@
-//! Client commands over a wire in memory: its reply written out by hand, from RFC 5531 and yp.x, or what `once` sends for
-//! calls that are written out so.
+//! Client commands over a wire in memory: its reply written out by hand, from RFC 5531 and yp.x, or what `once` sends
+//! for calls that are written out so.
 
 use crate::given::bytes;
 use crate::stage::{FAIR, Scene, play, strings, try_words};
