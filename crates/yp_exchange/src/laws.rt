@@ -7,7 +7,8 @@ ghost use Rattle.yp_exchange.specs.CallLaws.{NumberIsTold, TruthIsTold, BytesAre
 ghost use Rattle.yp_exchange.specs.CallLaws.{RowsAreTold};
 ghost use Rattle.yp_exchange.specs.QueryLaws.{CallsAreTold, QueryPrintsTold, RunIsPrinted, ToldIsAnswered};
 ghost use Rattle.yp_exchange.specs.RunLaws.{DomainHasReply, MatchHasReply, FirstHasReply, NextHasReply, AllHasReply};
-ghost use Rattle.yp_exchange.specs.RunLaws.{MasterHasReply, OrderHasReply, MaplistHasReply, RunIsInTurn, LogRunIsPrinted};
+ghost use Rattle.yp_exchange.specs.RunLaws.{MasterHasReply, OrderHasReply, MaplistHasReply};
+ghost use Rattle.yp_exchange.specs.RunLaws.{RunIsInTurn, LogRunIsPrinted};
 ghost use Rattle.yp_exchange.specs.SentLaws.{SentIsWhole};
 
 use yp_rpc::laws::{call_is_heard_again, first_is_one, rest_is_not_whole};
