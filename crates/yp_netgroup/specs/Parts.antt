@@ -1,5 +1,5 @@
--- The members of a group as its text spells them (manual of netgroup(5)): names of groups, and triples of a host, a user
--- and a domain. A text is any bytes.
+-- The members of a group as its text spells them (manual of netgroup(5)): names of groups, and triples of a host, a
+-- user and a domain. A text is any bytes.
 use Rattle.std.specs.Prelude.{ℕ, suc, zero, ◌-◌, Bool, not, ◌||◌, ◌==◌, if◌then◌else◌, List, [], ◌∷◌, length, take, drop}
 use Rattle.std.specs.Prelude.{Option, Some, None, option_map, slice_index}
 use Rattle.std.specs.List.{filter_map, list_any, prefix_len, suffix_len, before_first, after_first, slice_split}

@@ -19,7 +19,8 @@ has_sought (Some asked) members = has_fitting asked members
 
 -- Names that are met are reached, the group first. Of the first so many all names are met, and none has a triple that
 -- is sought.
-pub record IsMet (rows : List Row) (group : List ℕ) (sought : Option Asked) (met : List (List ℕ)) (read : ℕ) : Type 0 where
+pub record IsMet (rows : List Row) (group : List ℕ) (sought : Option Asked) (met : List (List ℕ)) (read : ℕ)
+    : Type 0 where
   pub some : 0 < length met
   pub first : slice_index_or met 0 [] ≡ group
   pub reached : (name : List ℕ) → Contains met name → Reaches rows group name

@@ -1,7 +1,7 @@
 //! Netgroups: the members that a text spells, the groups that are reached, and who is a member.
 //!
-//! Membership, cycles included, stands on the contract of [`innetgr`], the list of the groups that are reached on that of
-//! [`spread`], and the members of a text on that of [`members`].
+//! Membership, cycles included, stands on the contract of [`innetgr`], the list of the groups that are reached on that
+//! of [`spread`], and the members of a text on that of [`members`].
 #![tactic(auto)]
 
 mod search;

@@ -125,8 +125,8 @@ fn copied(alloc: Global, seen: &Seen<'_>) -> Result<Vec<Vec<u8>>, NoMemory>
     Ok(copies)
 }
 
-/// Whether a group that is reached from `group` lists a triple that fits (innetgr(3)). Of the groups no more are read than
-/// it takes to find one. A random state that the runtime refuses is want of memory, too.
+/// Whether a group that is reached from `group` lists a triple that fits (innetgr(3)). Of the groups no more are read
+/// than it takes to find one. A random state that the runtime refuses is want of memory, too.
 pub fn innetgr(
     alloc: Global,
     rt: &impl RandomSource,
@@ -134,7 +134,8 @@ pub fn innetgr(
     group: &[u8],
     who: &Who<'_>,
 ) -> Result<bool, NoMemory>
-    ensures { IfOk result (λ is_member. IsTrue is_member ↔ IsMember version.now.rows group.now (asked_of who.entry.now)) }
+    ensures { IfOk result (λ is_member.
+        IsTrue is_member ↔ IsMember version.now.rows group.now (asked_of who.entry.now)) }
 {
     let reached = reach(alloc, rt, version, group, Some(who))?;
     Ok(reached.is_none())

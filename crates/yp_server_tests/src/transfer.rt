@@ -10,7 +10,7 @@ use yp_server::*;
 use yp_session::{End, Trail};
 use yp_xfr::Hosts;
 
-// XFR of hosts.byname in `lab` from `m1`, behind its transaction and up to the transaction that is told: 9 of the program
+// XFR of hosts.byname in `lab` from `m1`, behind its number and up to how to call back: transaction 9 of the program
 // 0x40000000 at port 7002. Then the reply.
 const XFR: &str = "00000000 00000002 000186a4 00000002 00000006 00000000 00000000 00000000
     00000000 00000003 6c616200 0000000c 686f7374 732e6279 6e616d65 00000000 00000002 6d310000";
