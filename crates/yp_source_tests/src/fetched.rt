@@ -11,7 +11,7 @@ use yp_client::Client;
 use yp_io::{MemSink, MemSource, Pair};
 use yp_xfr::XfrFault;
 
-// What `session` replies to ORDER, MASTER, ALL and ORDER, where it shows order 100 of the master `m1` and the row
+// What a server replies to ORDER, MASTER, ALL and ORDER, where it shows order 100 of the master `m1` and the row
 // `alpha`.
 const REPLIES: [&str; 4] = [
     "80000020 00000001 00000001 00000000 00000000 00000000 00000000 00000001 00000064",
