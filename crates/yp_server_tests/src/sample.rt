@@ -2,6 +2,7 @@
 //! hosts and connections are made of.
 
 ghost use Rattle.std.specs.Prelude.{◌≡◌, length};
+ghost use Rattle.yp_io.specs.MemDial.{IsNew};
 
 use std::alloc::Global;
 use std::process::Abort;
@@ -86,7 +87,9 @@ pub fn desk_of(
 }
 
 // A wire with this input.
-pub fn wire_of(alloc: Global, input: Vec<u8>) -> MemWire {
+pub fn wire_of(alloc: Global, input: Vec<u8>) -> MemWire
+    ensures { IsNew result }
+{
     Pair {
         source: MemSource::new(input, 1000, Vec::new(alloc)),
         sink: MemSink::new(alloc, 1000, Vec::new(alloc)),

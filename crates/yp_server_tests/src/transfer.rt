@@ -114,7 +114,8 @@ const ROWS: &[Row] = &[
 
 // A desk whose dial has one wire with this input, and whose table has one host.
 fn desk_by(rt: &impl Abort, alloc: Global, host: &[u8], replies: Vec<u8>) -> MemDesk {
-    let wires = vec![in alloc; wire_of(alloc, replies)].expect(rt, "a wire");
+    let mut wires = Vec::new(alloc);
+    wires.push(wire_of(alloc, replies)).expect(rt, "a wire");
     let mut hosts = Hosts::new(alloc);
     let name = Vec::from_slice(alloc, host).expect(rt, "a name");
     hosts.add(name, SOURCE).expect(rt, "a host");
