@@ -117,93 +117,125 @@ fn age_and_force(rt: HostRuntime) {
     }
 }
 
+// Replies of a hostile source: refusals of the first call, those of the second, of ALL, and of the last.
+const NOMAP: &str =
+    "80000020 00000001 00000001 00000000 00000000 00000000 00000000 ffffffff 00000000";
+
+const NODOM: &str =
+    "80000020 00000001 00000001 00000000 00000000 00000000 00000000 fffffffe 00000000";
+
+const OTHER_NUMBER: &str =
+    "80000020 00000009 00000001 00000000 00000000 00000000 00000000 00000001 00000064";
+
+const NO_MASTER: &str =
+    "80000020 00000002 00000001 00000000 00000000 00000000 00000000 00000001 00000000";
+
+const DENIED: &str = "80000014 00000002 00000001 00000001 00000001 00000002";
+
+const GUARDED: &str = "8000002c 00000003 00000001 00000000 00000000 00000000 00000000
+    00000001 fffffffa 00000000 00000000 00000000";
+
+const LONG_VALUE: &str = "80000028 00000003 00000001 00000000 00000000 00000000 00000000
+    00000001 00000001 00010001 00000000";
+
+const BAD_PADDING: &str = "80000044 00000003 00000001 00000000 00000000 00000000 00000000
+    00000001 00000001 0000000e 31302e30 2e302e31 20616c70 68610001 00000005 616c7068 61000000
+    00000000";
+
+const LONG_REPLY: &str = "82000001";
+
+const INSIDE: &str = "80000044 00000003 00000001 00000000 00000000 00000000 00000000
+    00000001 00000001 0000000e 31302e30";
+
+const LAST_YPERR: &str =
+    "80000020 00000004 00000001 00000000 00000000 00000000 00000000 fffffffa 00000000";
+
+const YPERR: XfrFault = XfrFault::Yperr {
+    stat: Some(YpStat::Yperr),
+};
+
+const SKEW: XfrFault = XfrFault::Skew {
+    first: 100,
+    second: 101,
+};
+
 /// What a source sends, the fault, and how many calls were made.
-type Hostile<'a> = (&'static str, &'a [&'static str], XfrFault, usize);
+type Hostile = (&'static str, &'static [&'static str], XfrFault, usize);
+
+const HOSTILE: [Hostile; 13] = [
+    ("no such map", &[NOMAP], XfrFault::Nomap, 1),
+    ("no such domain", &[NODOM], XfrFault::Nodom, 1),
+    (
+        "another number",
+        &[OTHER_NUMBER],
+        XfrFault::Xfrerr { at: 0 },
+        1,
+    ),
+    ("no input", &[], XfrFault::Rpc, 1),
+    ("no master", &[ORDER_REPLY, NO_MASTER], XfrFault::Dbm, 2),
+    (
+        "denied",
+        &[ORDER_REPLY, DENIED],
+        XfrFault::Yperr { stat: None },
+        2,
+    ),
+    (
+        "a secure map",
+        &[ORDER_REPLY, MASTER_REPLY, GUARDED],
+        YPERR,
+        3,
+    ),
+    (
+        "a long value",
+        &[ORDER_REPLY, MASTER_REPLY, LONG_VALUE],
+        XfrFault::Xfrerr { at: 32 },
+        3,
+    ),
+    (
+        "bad padding",
+        &[ORDER_REPLY, MASTER_REPLY, BAD_PADDING],
+        XfrFault::Xfrerr { at: 51 },
+        3,
+    ),
+    (
+        "a long reply",
+        &[ORDER_REPLY, MASTER_REPLY, LONG_REPLY],
+        XfrFault::Xfrerr { at: 76 },
+        3,
+    ),
+    (
+        "an end inside ALL",
+        &[ORDER_REPLY, MASTER_REPLY, INSIDE],
+        XfrFault::Rpc,
+        3,
+    ),
+    (
+        "a status at last",
+        &[ORDER_REPLY, MASTER_REPLY, ALL_REPLY, LAST_YPERR],
+        YPERR,
+        4,
+    ),
+    (
+        "skewed",
+        &[ORDER_REPLY, MASTER_REPLY, ALL_REPLY, SKEWED_REPLY],
+        SKEW,
+        4,
+    ),
+];
+
+fn check_hostile<R: RandomSource + Abort>(rt: &R, alloc: Global, hostile: &Hostile) {
+    let (name, replies, fault, calls) = hostile;
+    assert!(rt; *calls <= CALLS.len());
+    let wanted = (Err(*fault), 1, bytes(rt, alloc, &CALLS[..*calls]));
+    let input = bytes(rt, alloc, *replies);
+    let came = fetch_by(rt, alloc, input, FAIR, None, false);
+    assert_same(rt, &came, &wanted, *name);
+}
 
 #[test]
 fn hostile_sources(rt: HostRuntime) {
-    let alloc = rt.alloc();
-    let nomap = "80000020 00000001 00000001 00000000 00000000 00000000 00000000 ffffffff 00000000";
-    let nodom = "80000020 00000001 00000001 00000000 00000000 00000000 00000000 fffffffe 00000000";
-    let other = "80000020 00000009 00000001 00000000 00000000 00000000 00000000 00000001 00000064";
-    let nobody = "80000020 00000002 00000001 00000000 00000000 00000000 00000000 00000001 00000000";
-    let denied = "80000014 00000002 00000001 00000001 00000001 00000002";
-    let guarded = "8000002c 00000003 00000001 00000000 00000000 00000000 00000000 \
-        00000001 fffffffa 00000000 00000000 00000000";
-    let long_value = "80000028 00000003 00000001 00000000 00000000 00000000 00000000 \
-        00000001 00000001 00010001 00000000";
-    let bad_padding = "80000044 00000003 00000001 00000000 00000000 00000000 00000000 \
-        00000001 00000001 0000000e 31302e30 2e302e31 20616c70 68610001 00000005 616c7068 61000000 00000000";
-    let inside = "80000044 00000003 00000001 00000000 00000000 00000000 00000000 \
-        00000001 00000001 0000000e 31302e30";
-    let yperr = "80000020 00000004 00000001 00000000 00000000 00000000 00000000 fffffffa 00000000";
-    let skew = XfrFault::Skew {
-        first: 100,
-        second: 101,
-    };
-    let said = XfrFault::Yperr {
-        stat: Some(YpStat::Yperr),
-    };
-    let cases: [Hostile<'_>; 13] = [
-        ("no such map", &[nomap], XfrFault::Nomap, 1),
-        ("no such domain", &[nodom], XfrFault::Nodom, 1),
-        ("another number", &[other], XfrFault::Xfrerr { at: 0 }, 1),
-        ("no input", &[], XfrFault::Rpc, 1),
-        ("no master", &[ORDER_REPLY, nobody], XfrFault::Dbm, 2),
-        (
-            "denied",
-            &[ORDER_REPLY, denied],
-            XfrFault::Yperr { stat: None },
-            2,
-        ),
-        (
-            "a secure map",
-            &[ORDER_REPLY, MASTER_REPLY, guarded],
-            said,
-            3,
-        ),
-        (
-            "a long value",
-            &[ORDER_REPLY, MASTER_REPLY, long_value],
-            XfrFault::Xfrerr { at: 32 },
-            3,
-        ),
-        (
-            "bad padding",
-            &[ORDER_REPLY, MASTER_REPLY, bad_padding],
-            XfrFault::Xfrerr { at: 51 },
-            3,
-        ),
-        (
-            "a long reply",
-            &[ORDER_REPLY, MASTER_REPLY, "82000001"],
-            XfrFault::Xfrerr { at: 76 },
-            3,
-        ),
-        (
-            "an end inside ALL",
-            &[ORDER_REPLY, MASTER_REPLY, inside],
-            XfrFault::Rpc,
-            3,
-        ),
-        (
-            "a status at last",
-            &[ORDER_REPLY, MASTER_REPLY, ALL_REPLY, yperr],
-            said,
-            4,
-        ),
-        (
-            "skewed",
-            &[ORDER_REPLY, MASTER_REPLY, ALL_REPLY, SKEWED_REPLY],
-            skew,
-            4,
-        ),
-    ];
-    for (name, replies, fault, calls) in &cases {
-        let wanted = (Err(*fault), 1, bytes(&rt, alloc, &CALLS[..*calls]));
-        let input = bytes(&rt, alloc, *replies);
-        let came = fetch_by(&rt, alloc, input, FAIR, None, false);
-        assert_same(&rt, &came, &wanted, *name);
+    for hostile in &HOSTILE {
+        check_hostile(&rt, rt.alloc(), hostile);
     }
 }
 

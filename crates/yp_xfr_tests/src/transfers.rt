@@ -14,17 +14,24 @@ use yp_io::{MemDial, MemDisk};
 use yp_publish::{Installed, Publisher, open_publisher};
 use yp_xfr::{Hosts, XfrFault, transfer};
 
-// A file of 116 bytes: order 100, master `m1`, and the row `alpha`, `10.0.0.1 alpha`, at generation 1.
-const HOSTS_FILE: &str = "01000000 00000000 00000000 00000001 00000000 00000040 00000000 00000034
-    00000000 00000000 00000000 00000000 00000000 00000000 00000000 00000000
-    00000001 00000064 00000002 6d310000 00000001 00000005 616c7068 61000000
+// The cells of a file of one version, at generation 1, and the second one of a file of two: the body behind the first.
+const CELLS: &str = "01000000 00000000 00000000 00000001 00000000 00000040 00000000 00000034
+    00000000 00000000 00000000 00000000 00000000 00000000 00000000 00000000";
+
+const TWO_CELLS: &str = "01000000 00000000 00000000 00000001 00000000 00000040 00000000 00000034
+    01000000 00000000 00000000 00000002 00000000 00000074 00000000 00000034";
+
+// A body of 52 bytes: order 100, master `m1`, and the row `alpha`, `10.0.0.1 alpha`.
+const BODY: &str = "00000001 00000064 00000002 6d310000 00000001 00000005 616c7068 61000000
     0000000e 31302e30 2e302e31 20616c70 68610000";
 
 // The same, secure.
-const SECURE_FILE: &str = "01000000 00000000 00000000 00000001 00000000 00000040 00000000 00000034
-    00000000 00000000 00000000 00000000 00000000 00000000 00000000 00000000
-    00000002 00000064 00000002 6d310000 00000001 00000005 616c7068 61000000
+const SECURE_BODY: &str = "00000002 00000064 00000002 6d310000 00000001 00000005 616c7068 61000000
     0000000e 31302e30 2e302e31 20616c70 68610000";
+
+const HOSTS_FILE: &[&str] = &[CELLS, BODY];
+
+const SECURE_FILE: &[&str] = &[CELLS, SECURE_BODY];
 
 type Maps = Publisher<MemDisk, PlainBoard>;
 
@@ -51,11 +58,11 @@ fn published<R: RandomSource + Abort>(
     rt: &R,
     alloc: Global,
     own: &[u8],
-    file: &str,
+    file: &[&str],
     failing: &[u64],
 ) -> Maps {
     let failing = failing.to_vec(alloc).expect(rt, "memory for numbers");
-    let disk = MemDisk::new(alloc, bytes(rt, alloc, &[file]), None, failing);
+    let disk = MemDisk::new(alloc, bytes(rt, alloc, file), None, failing);
     let disks = vec![in alloc; disk].expect(rt, "memory for a disk");
     let catalog = catalog(rt, alloc, own);
     assert_equal(rt, disks.len(), catalog.len() as usize);
@@ -94,7 +101,7 @@ fn file_of<R: Abort>(rt: &R, alloc: Global, maps: Maps) -> Vec<u8> {
 #[derive(Clone, Copy)]
 struct Case {
     own: &'static [u8],
-    file: &'static str,
+    file: &'static [&'static str],
     last: &'static str,
     force: bool,
     mark: Option<bool>,
@@ -103,7 +110,7 @@ struct Case {
 
 const FIRST: Case = Case {
     own: b"s1",
-    file: "",
+    file: &[],
     last: SECOND_REPLY,
     force: false,
     mark: None,
@@ -125,100 +132,117 @@ fn play<R: RandomSource + Abort>(rt: &R, alloc: Global, case: &Case) -> Came {
     (came, secure, file_of(rt, alloc, maps))
 }
 
+const SKEW: XfrFault = XfrFault::Skew {
+    first: 100,
+    second: 101,
+};
+
+const AGE: XfrFault = XfrFault::Age {
+    shown: 100,
+    offered: 100,
+};
+
+const FORCED: Case = Case {
+    file: HOSTS_FILE,
+    force: true,
+    ..FIRST
+};
+
+const OVER_SECURE: Case = Case {
+    file: SECURE_FILE,
+    force: true,
+    ..FIRST
+};
+
+/// A transfer; its result; whether what is shown then is secure, and none where nothing is; and its file.
+type Transferred = (
+    &'static str,
+    Case,
+    Result<(u32, u64), XfrFault>,
+    Option<bool>,
+    &'static [&'static str],
+);
+
+const TRANSFERS: [Transferred; 8] = [
+    (
+        "an empty file",
+        FIRST,
+        Ok((100, 1)),
+        Some(false),
+        HOSTS_FILE,
+    ),
+    (
+        "marked",
+        Case {
+            mark: Some(true),
+            ..FIRST
+        },
+        Ok((100, 1)),
+        Some(true),
+        SECURE_FILE,
+    ),
+    (
+        "skewed",
+        Case {
+            last: SKEWED_REPLY,
+            ..FIRST
+        },
+        Err(SKEW),
+        None,
+        &[],
+    ),
+    (
+        "the same order",
+        Case {
+            file: HOSTS_FILE,
+            ..FIRST
+        },
+        Err(AGE),
+        Some(false),
+        HOSTS_FILE,
+    ),
+    (
+        "forced",
+        FORCED,
+        Ok((100, 2)),
+        Some(false),
+        &[TWO_CELLS, BODY, BODY],
+    ),
+    (
+        "a secure one is shown",
+        OVER_SECURE,
+        Ok((100, 2)),
+        Some(true),
+        &[TWO_CELLS, SECURE_BODY, SECURE_BODY],
+    ),
+    (
+        "plain",
+        Case {
+            mark: Some(false),
+            ..OVER_SECURE
+        },
+        Ok((100, 2)),
+        Some(false),
+        &[TWO_CELLS, SECURE_BODY, BODY],
+    ),
+    (
+        "an own map",
+        Case {
+            own: b"m1",
+            ..FORCED
+        },
+        Err(XfrFault::Refused),
+        Some(false),
+        HOSTS_FILE,
+    ),
+];
+
 #[test]
 fn transfers(rt: HostRuntime) {
     let alloc = rt.alloc();
-    let skew = XfrFault::Skew {
-        first: 100,
-        second: 101,
-    };
-    let age = XfrFault::Age {
-        shown: 100,
-        offered: 100,
-    };
-    let forced = Case {
-        file: HOSTS_FILE,
-        force: true,
-        ..FIRST
-    };
-    let secure = Case {
-        file: SECURE_FILE,
-        force: true,
-        ..FIRST
-    };
-    let cases = [
-        (
-            "an empty file",
-            FIRST,
-            Ok((100, 1)),
-            Some(false),
-            Some(HOSTS_FILE),
-        ),
-        (
-            "marked",
-            Case {
-                mark: Some(true),
-                ..FIRST
-            },
-            Ok((100, 1)),
-            Some(true),
-            Some(SECURE_FILE),
-        ),
-        (
-            "skewed",
-            Case {
-                last: SKEWED_REPLY,
-                ..FIRST
-            },
-            Err(skew),
-            None,
-            Some(""),
-        ),
-        (
-            "the same order",
-            Case {
-                file: HOSTS_FILE,
-                ..FIRST
-            },
-            Err(age),
-            Some(false),
-            Some(HOSTS_FILE),
-        ),
-        ("forced", forced, Ok((100, 2)), Some(false), None),
-        (
-            "a secure one is shown",
-            secure,
-            Ok((100, 2)),
-            Some(true),
-            None,
-        ),
-        (
-            "plain",
-            Case {
-                mark: Some(false),
-                ..secure
-            },
-            Ok((100, 2)),
-            Some(false),
-            None,
-        ),
-        (
-            "an own map",
-            Case {
-                own: b"m1",
-                ..forced
-            },
-            Err(XfrFault::Refused),
-            Some(false),
-            Some(HOSTS_FILE),
-        ),
-    ];
-    for (name, case, result, secure, file) in &cases {
+    for (name, case, result, secure, file) in &TRANSFERS {
+        let left = bytes(&rt, alloc, *file);
         let came = play(&rt, alloc, case);
-        let left = match file {
-            Some(text) => bytes(&rt, alloc, &[*text]),
-            None => came.2.to_vec(alloc).expect(&rt, "a file"),
-        };
         assert_same(&rt, &came, &(*result, *secure, left), *name);
     }
 }
@@ -251,6 +275,6 @@ fn play_failing<R: RandomSource + Abort>(
     );
     let mut dial = dial(rt, alloc, input, FAIR);
     let hosts = table(rt, alloc);
-    let mut maps = published(rt, alloc, b"s1", "", failing);
+    let mut maps = published(rt, alloc, b"s1", &[], failing);
     transfer_over(rt, alloc, &mut maps, &mut dial, &hosts, false, None)
 }
