@@ -60,7 +60,7 @@ fn status_of(alloc: Global, served: Result<End, Unserved>, names: &[MapName]) ->
 /// Serves a wire as one connection over the stored versions of maps, by the host `own`, to a caller at `peer`. The
 /// disks come back under their names, and so does the desk. The witness sees the wire behind each record that was
 /// answered.
-fn session_on<S: Source, K: Sink, D: Disk, A: Dial, I: Inbox, T: Texts, C: Clock, W: Witness<S, K>>(
+fn session_on<S: Source, K: Sink, D: Disk, A: Dial, T: Texts, C: Clock, W: Witness<S, K>>(
     alloc: Global,
     rt: &impl RandomSource,
     own: Vec<u8>,
