@@ -60,7 +60,7 @@ pub record Checked {S K D C A I T : Type 0} (seen : Seeing S K D C A I T) (store
 pub checked_only : {S K D C A I T : Type 0} (seen : Seeing S K D C A I T) (store : Name) (status : Status) (old new : Office S K D C A I T) (before after : NamedDisk D)
     → old.disks.items ≡ before ∷ [] → new.disks.items ≡ after ∷ [] → new ≡ record old { wire = record old.wire { sink = new.wire.sink }; disks = new.disks }
     → Checked seen store status before after old.wire.sink new.wire.sink → CheckDoes seen store status old new
-checked_only {S} {K} {D} {C} {A} {T} seen store status old new before after first last stays did =
+checked_only {S} {K} {D} {C} {A} {I} {T} seen store status old new before after first last stays did =
     let told : history_of seen.disk.history old.disks.items ≡ seen.disk.history before.disk = ap (λ (l : List (NamedDisk D)). history_of seen.disk.history l) first in
     let tells : IfSome (history_of seen.disk.history old.disks.items) (λ h. Checks store h.state.reads status (output seen old) (output seen new)) = rw told did.tells in
     let risen : (map : MapName) → status ≡ DiskFault map → DiskFails seen old new = λ map e. rw (first, last) (omega (arith, did.disk_fault map e)) in

@@ -225,7 +225,7 @@ left_alone told P f = record { goes_on = stays told; each = λ image left. f ima
 pub unread_does : {S K D C A I T : Type 0} (seen : Seeing S K D C A I T) (job : Job) (why : Unread) (source : S) (old : Office S K D C A I T)
     → IsStopped text_max (input seen old) (seen.source.input source) 0 why → (why ≡ unread.Failed → HasRisen (seen.source.faults old.wire.source) (seen.source.faults source))
     → JobDoes seen job (unread_status why) old (record old { wire = record old.wire { source = source } })
-unread_does {S} {K} {D} {C} {A} {T} seen job why source old stopped cause =
+unread_does {S} {K} {D} {C} {A} {I} {T} seen job why source old stopped cause =
     let new : Office S K D C A I T = record old { wire = record old.wire { source = source } } in
     let h = history seen old in
     let output = output seen old in

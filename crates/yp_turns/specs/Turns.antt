@@ -1,10 +1,10 @@
 -- What an inbox and an errand do with each other, a turn at a time.
-use Rattle.std.specs.Prelude.{◌≡◌, ℕ, ◌+◌, ◌<◌, ◌≤◌, List, [], ◌∷◌, ◌++◌, length, take, min, if◌then◌else◌, ◌==◌, ⊤, ◌⊎◌}
-use Rattle.std.specs.Prelude.{Bool, true, false, suc}
+use Rattle.std.specs.Prelude.{◌≡◌, ℕ, ◌<◌, ◌≤◌, List, [], ◌∷◌, ◌++◌, length, take, ⊤, ◌⊎◌}
+use Rattle.std.specs.Prelude.{Bool, true, false, zero, suc}
 use Rattle.std.specs.Prelude.{Option, None, Some, Result, Ok, Err}
 use Rattle.yp_io.specs.declared.stream.Failed.{Failed}
 use Rattle.yp_io.specs.declared.stream.Peer.{Peer}
-use Rattle.yp_io.specs.Counts.{last_count}
+use Rattle.yp_io.specs.Counts.{next_count}
 use Rattle.yp_io.specs.Inboxes.{Post, Arrived, Silent, Sent, turns_of, quiets_of}
 use Rattle.yp_turns.specs.declared.errand.Wish.{Wish}
 use Rattle.yp_turns.specs.declared.errand.Wish.TheVariants as wish
@@ -35,7 +35,8 @@ WishIsWithin wish.Done buf = ⊤
 
 -- a reply at the front of a buffer, or none where its length is 0
 abbrev pub reply_of : ℕ → List ℕ → Option (List ℕ)
-reply_of len buf = if len == 0 then None else Some (take len buf)
+reply_of zero buf = None
+reply_of (suc n) buf = Some (take (suc n) buf)
 
 -- what an errand does at each moment, each as a relation between itself before and after: it goes on to what it wants
 -- next; it hears a datagram of a peer, with its reply, where there is one; a turn brings it nothing
@@ -51,32 +52,32 @@ ways_of goes hears rests = record { goes = goes; hears = hears; rests = rests }
 -- An errand meets a turn. A datagram over the limit is dropped. Any other is heard, and a reply goes to its sender.
 pub data Meets {E : Type 0} (ways : Ways E) : Post → List Post → E → E → Type 0 where
   drops : (from : Peer) (bytes : List ℕ) (errand : E) → mail_max < length bytes
-    → Meets ways (Arrived from bytes) [] errand errand
+      → Meets ways (Arrived from bytes) [] errand errand
   listens : (from : Peer) (bytes : List ℕ) (old new : E) → length bytes ≤ mail_max
-    → ways.hears from bytes None old new → Meets ways (Arrived from bytes) [] old new
+      → ways.hears from bytes None old new → Meets ways (Arrived from bytes) [] old new
   replies : (from : Peer) (bytes reply : List ℕ) (old new : E) → length bytes ≤ mail_max
-    → ways.hears from bytes (Some reply) old new → Meets ways (Arrived from bytes) (Sent from reply ∷ []) old new
-  rests : (old new : E) → ways.rests old new → Meets ways Silent [] old new
+      → ways.hears from bytes (Some reply) old new → Meets ways (Arrived from bytes) (Sent from reply ∷ []) old new
+  is_quiet : (old new : E) → ways.rests old new → Meets ways Silent [] old new
 
 -- What happens at an inbox while an errand has so many turns at most, up to its end, and the errand before and after.
 -- Before each turn the errand wants letters sent, one by one, or nothing more; then the turn is taken, and its reply
 -- goes out. Where the inbox fails, nothing more happens.
 pub data Runs {E : Type 0} (ways : Ways E) : ℕ → List Post → Result Ended Failed → E → E → Type 0 where
-  spent : (errand : E) → Runs ways 0 [] (Ok Spent) errand errand
-  done : (most : ℕ) (old new : E) → ways.goes old Nothing new → Runs ways (suc most) [] (Ok Done) old new
+  is_spent : (errand : E) → Runs ways 0 [] (Ok Spent) errand errand
+  is_done : (most : ℕ) (old new : E) → ways.goes old Nothing new → Runs ways (suc most) [] (Ok Done) old new
   sends : (most : ℕ) (to : Peer) (bytes : List ℕ) (posts : List Post) (end : Result Ended Failed) (old next new : E)
-    → ways.goes old (Letter to bytes) next → Runs ways (suc most) posts end next new
-    → Runs ways (suc most) (Sent to bytes ∷ posts) end old new
-  unsent : (most : ℕ) (to : Peer) (bytes : List ℕ) (why : Failed) (old new : E) → ways.goes old (Letter to bytes) new
-    → Runs ways (suc most) [] (Err why) old new
-  turns : (most : ℕ) (turn : Post) (replies posts : List Post) (end : Result Ended Failed) (old waiting next new : E)
-    → ways.goes old Turn waiting → Meets ways turn replies waiting next → Runs ways most posts end next new
-    → Runs ways (suc most) (turn ∷ replies ++ posts) end old new
-  turnless : (most : ℕ) (why : Failed) (old new : E) → ways.goes old Turn new
-    → Runs ways (suc most) [] (Err why) old new
-  unreplied : (most : ℕ) (turn : Post) (reply : Post) (why : Failed) (old waiting new : E)
-    → ways.goes old Turn waiting → Meets ways turn (reply ∷ []) waiting new
-    → Runs ways (suc most) (turn ∷ []) (Err why) old new
+      → ways.goes old (Letter to bytes) next → Runs ways (suc most) posts end next new
+      → Runs ways (suc most) (Sent to bytes ∷ posts) end old new
+  loses_letter : (most : ℕ) (to : Peer) (bytes : List ℕ) (why : Failed) (old new : E)
+      → ways.goes old (Letter to bytes) new → Runs ways (suc most) [] (Err why) old new
+  takes : (most : ℕ) (turn : Post) (answers posts : List Post) (end : Result Ended Failed) (old waiting next new : E)
+      → ways.goes old Turn waiting → Meets ways turn answers waiting next → Runs ways most posts end next new
+      → Runs ways (suc most) (turn ∷ answers ++ posts) end old new
+  loses_turn : (most : ℕ) (why : Failed) (old new : E) → ways.goes old Turn new
+      → Runs ways (suc most) [] (Err why) old new
+  loses_reply : (most : ℕ) (turn reply : Post) (why : Failed) (old waiting new : E)
+      → ways.goes old Turn waiting → Meets ways turn (reply ∷ []) waiting new
+      → Runs ways (suc most) (turn ∷ []) (Err why) old new
 
 -- what an inbox tells: what happened, and its counts of turns and of quiet turns
 pub record Box : Type 0 where
@@ -93,11 +94,16 @@ GainsAll posts None new = ⊤
 GainsAll posts (Some old) None = ⊥
 GainsAll posts (Some old) (Some new) = new ≡ old ++ posts
 
+-- a count after so many more
+abbrev pub counted : ℕ → ℕ → ℕ
+counted zero before = before
+counted (suc more) before = counted more (next_count before)
+
 -- This happened at an inbox.
 pub record Sees (posts : List Post) (old new : Box) : Type 0 where
   pub past : GainsAll posts old.past new.past
-  pub turns : new.turns ≡ min (old.turns + length (turns_of posts)) last_count
-  pub quiets : new.quiets ≡ min (old.quiets + quiets_of posts) last_count
+  pub turns : new.turns ≡ counted (length (turns_of posts)) old.turns
+  pub quiets : new.quiets ≡ counted (quiets_of posts) old.quiets
 
 -- An errand had so many turns of an inbox at most, with this end.
 pub record TakesTurns {E : Type 0} (ways : Ways E) (most : ℕ) (end : Result Ended Failed) (old new : E)
@@ -125,7 +131,8 @@ pub record Waits {E : Type 0} (ways : Ways E) (old new : E) (before after : Box)
   pub sees : Sees posts before after
 
 -- Letters went out, and then there is this end.
-pub record Stops {E : Type 0} (ways : Ways E) (end : Result Ended Failed) (old new : E) (before after : Box) : Type 0 where
+pub record Stops {E : Type 0} (ways : Ways E) (end : Result Ended Failed) (old new : E) (before after : Box)
+    : Type 0 where
   pub posts : List Post
   pub runs : (most : ℕ) → Runs ways (suc most) posts end old new
   pub sees : Sees posts before after

@@ -82,15 +82,18 @@ fn hear_mail<I: Inbox, E: Errand>(
 fn take_turn<I: Inbox, E: Errand>(
     inbox: &mut I,
     errand: &mut E,
-    room: &mut Room,
+    mail: &mut [u8],
+    buf: &mut [u8],
 ) -> Result<(), Failed>
+    requires mail { MAIL_MAX < length mail.old }
+    requires buf { MAIL_MAX ≤ length buf.old }
     ensures turn { HasTurn (ways_of E.goes E.hears E.rests) result errand.old errand.new
         (box_of I.past I.turns I.quiets inbox.old) (box_of I.past I.turns I.quiets inbox.new) }
     ensures cause { CountsFaults (I.faults inbox.old) (I.faults inbox.new) result }
 {
-    match inbox.next(&mut room.mail)? {
+    match inbox.next(mail)? {
         Mail::Came { len, from } if len <= MAIL_MAX => {
-            hear_mail(inbox, errand, from, &room.mail[..len], &mut room.letter)
+            hear_mail(inbox, errand, from, &mail[..len], buf)
         }
         Mail::Came { .. } => Ok(()),
         Mail::Quiet => {
@@ -116,7 +119,7 @@ pub fn take_turns<I: Inbox, E: Errand>(
         if !send_letters(inbox, errand, &mut room.letter)? {
             return Ok(Ended::Done);
         }
-        take_turn(inbox, errand, room)?;
+        take_turn(inbox, errand, &mut room.mail, &mut room.letter)?;
     }
     Ok(Ended::Spent)
 }
