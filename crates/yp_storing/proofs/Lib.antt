@@ -3,3 +3,4 @@ pub mod OnDisk
 pub mod Telling
 pub mod Checking
 pub mod Ending
+pub mod Transferring
