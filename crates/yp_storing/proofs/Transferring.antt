@@ -30,15 +30,17 @@ use Rattle.yp_publish.specs.Standing.{MapStanding, Level, Behind, Kept, Publishe
 use Rattle.yp_xfr.specs.declared.fault.XfrFault.{XfrFault}
 use Rattle.yp_xfr.specs.declared.fault.XfrFault.TheVariants as fault
 use Rattle.yp_xfr.specs.Fetching.{Wanted, wanted_of, Outcome}
+use Rattle.yp_xfr.specs.HostTable.{HostList}
 use Rattle.yp_xfr.specs.Dialing.{Dialing, FetchesFrom}
 use Rattle.yp_xfr.specs.Installing.{marking, of_install, fetched_offer, IsTaken, IsNotTaken, Offers, InstallsFetched}
 use Rattle.yp_xfr.specs.Installing.{OpensAndOffers}
 use Rattle.yp_xfr.specs.Transfers.{request_of, wanted_at, InstallsOutcome}
 use Rattle.yp_xfr.specs.Transfers as transfers
 use Rattle.yp_office.specs.Disks.{only_history, total_faults}
+use Rattle.yp_storing.specs.declared.xfr.XfrStop.TheVariants as stop
 use Rattle.yp_storing.specs.Build.{LeavesFew}
 use Rattle.yp_storing.specs.Xfr.{Order, Held, IsHeld, wanted, marked, against, IsFetchedIn, IsBeforeOrFetched, IsUnwanted}
-use Rattle.yp_storing.specs.Xfr.{IsNotStored, Comes, TransfersOn, IsNotLoaded}
+use Rattle.yp_storing.specs.Xfr.{IsNotStored, Comes, TransfersOn, IsNotLoaded, Moves, stop_of_open}
 use Rattle.yp_storing.proofs.OnDisk.{then, nothing_left, all_told, by_front}
 
 -- ---- one map
@@ -92,12 +94,12 @@ never_behind own offered (Some last) generation e = by_tests _ _ _ _ _ _ e
 
 not_stored : (cause : Option Refusal) (Failed : Type 0) (why : InstallFault) → (cause ≡ Some IsBehind → ⊥)
     → IsCause why cause → (why ≡ install.DiskFault → Failed) → IsNotStored cause Failed (of_install why)
-not_stored cause Failed install.Behind no is failed = absurd (no is)
-not_stored cause Failed (install.Refused master) no is failed = (master.items, is)
-not_stored cause Failed (install.Age was offered) no is failed = is
-not_stored cause Failed install.GenerationsSpent no is failed = inl is
-not_stored cause Failed install.DiskFault no is failed = inr (is, failed refl)
-not_stored cause Failed install.NoMemory no is failed = tt
+not_stored cause Failed install.Behind never is failed = absurd (never is)
+not_stored cause Failed (install.Refused master) never is failed = (master.items, is)
+not_stored cause Failed (install.Age was offered) never is failed = is
+not_stored cause Failed install.GenerationsSpent never is failed = inl is
+not_stored cause Failed install.DiskFault never is failed = inr (is, failed refl)
+not_stored cause Failed install.NoMemory never is failed = tt
 
 not_stored_more : (cause : Option Refusal) (F G : Type 0) (why : XfrFault) → (F → G) → IsNotStored cause F why
     → IsNotStored cause G why
@@ -185,7 +187,7 @@ module _ {D : Type 0} (history : D → Option History) (faults : D → ℕ) (ord
         (stands image ≡ stands_for before.version) ⊎ (stands image ≡ Stored (marked order (held_of before) version)))
     meanwhile version h =
         leaves_more (history before.disk) (history after.disk) _ _ (λ image left. ⊎_elim
-        (λ as. inl (subst (λ (s : MapStanding). StandsAs s before.version image) one.opened.level as))
+        (λ stand. inl (subst (λ (s : MapStanding). StandsAs s before.version image) one.opened.level stand))
         (λ is. inr is) left) h
 
     few_left : Upholds keeping 0 old new → LeavesOnly (history before.disk) (history after.disk)
@@ -299,7 +301,7 @@ module _ {D : Type 0} (history : D → Option History) (faults : D → ℕ) (ord
         Offers keeping 0 (offer (record version { secure = marking order.flag v }) Fetched order.force) result old new)
         one.shows here)
 
-    pub put : (outcome : Outcome) (result : Result Installed XfrFault)
+    put : (outcome : Outcome) (result : Result Installed XfrFault)
         → InstallsOutcome keeping (request_of 0 order.host.0 order.force order.flag) outcome result old new
         → Puts outcome result before after
     put (Ok version) result h = opens_put version result h
@@ -428,6 +430,20 @@ module _ {D : Type 0} (history : D → Option History) (faults : D → ℕ) (ord
   did_only disks news old new served result from to one named begins given did =
       by_maps disks old.maps news old new served result from to one named begins refl begins.opened given did
 
+  -- the same of equal hosts and sources
+  pub did_named : (disks news : List D) (old new : Published D Seen) (served : Catalogue)
+      (result : Result Installed XfrFault) (from to : Dialing) (hosts : HostList) (source : List ℕ) → length disks ≡ 1
+      → served ≡ record { own = order.name; maps = order.store ∷ [] } → BeginsLevel history faults served disks old
+      → news ≡ map (λ (kept : Kept D). kept.disk) new.maps → hosts ≡ order.host ∷ [] → source ≡ order.host.0
+      → transfers.Transfers keeping hosts (request_of 0 source order.force order.flag) result from to old new
+      → Did result from to disks news
+  did_named disks news old new served result from to hosts source one named begins given table name did =
+      did_only disks news old new served result from to one named begins given
+      (subst (λ (h : HostList). transfers.Transfers keeping h (request_of 0 order.host.0 order.force order.flag) result from
+      to old new) table
+      (subst (λ (s : List ℕ). transfers.Transfers keeping hosts (request_of 0 s order.force order.flag) result from to old
+      new) name did))
+
   -- ---- where no publisher was opened
 
   -- what was done to the disk then
@@ -473,3 +489,22 @@ module _ {D : Type 0} (history : D → Option History) (faults : D → ℕ) (ord
   left_only fault (disk ∷ []) [] one all is = absurd all
   left_only fault (disk ∷ []) (after ∷ other ∷ more) one all is = absurd all.1
   left_only fault (disk ∷ []) (after ∷ []) one all is = left_one fault disk after all.0 is
+
+  -- what stops a transfer then
+  pub unopened_moves : (fault : OpenFault) (from : Dialing) (disks news : List D) → Left (why_of fault) disks news
+      → Moves order (Err (stop_of_open fault)) from from (only_history history disks) (only_history history news)
+      (total_faults faults disks) (total_faults faults news)
+  unopened_moves (opening.Refused number why) from disks news left = left.moves
+  unopened_moves opening.NoMemory from disks news left = left.moves
+
+  -- where memory ran out before
+  pub forgone_moves : (from : Dialing) (old : Option History) (count : ℕ)
+      → Moves order (Err (stop.Unloaded slot.NoMemory)) from from old old count count
+  forgone_moves from old count = record {
+    cause = all_told old _ (λ h. tt);
+    disk_fault = λ e. absurd cc;
+    unwritten = nothing_left old _ (λ image left. left);
+  }
+
+  pub forgone_few : (old : Option History) → LeavesFew old old
+  forgone_few old = nothing_left old _ (λ image left. inl left)

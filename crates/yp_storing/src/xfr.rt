@@ -109,8 +109,7 @@ fn transfer_over<D: Disk, A: Dial>(
     disks: Vec<D>,
     dial: &mut A,
 ) -> (Result<Installed, XfrStop>, Vec<D>)
-    requires own { catalog.own ≡ job.now.name.items }
-    requires map { catalog.maps ≡ name_view job.now.store ∷ [] }
+    requires catalogue { catalog ≡ record { own = job.now.name.items; maps = name_view job.now.store ∷ [] } }
     requires hosts { hosts.now ≡ host_view job.now.host ∷ [] }
     requires only { length disks.items ≡ 1 }
     ensures moves { Moves (order_view job.now) result.0

@@ -24,6 +24,7 @@ const RPC: &str = "yp: transfer -4\n";
 const NEW: Stands = Some((100, 1, false));
 
 /// The calls of the dial, of the wire and of the output that fail; the code and the note; and what the file stands for.
+#[derive(Clone, Copy)]
 struct Fault {
     row: &'static str,
     dials: &'static [u64],
