@@ -4,3 +4,4 @@ pub mod Telling
 pub mod Checking
 pub mod Ending
 pub mod Transferring
+pub mod Transferred
