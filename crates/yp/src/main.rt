@@ -14,11 +14,11 @@ use yp_io::{NoMemory, Sink};
 use yp_session::Trail;
 use yp_system::{
     BlockReader, DirectWriter, FileDisk, Locking, Patient, StandardStream, SystemClock, TcpDial,
-    TextFolder, read_words,
+    TextFolder, UdpInbox, read_words,
 };
 use yp_tools::{
-    Command, NamedDisk, Outside, ParseFault, Status, named_disks, parse, run_command, stores_of,
-    tell,
+    Command, NamedDisk, Outside, ParseFault, Status, named_disks, parse, port_of, run_command,
+    stores_of, tell,
 };
 
 /// When the files of a command are locked. A session answers from what it loaded, and may never write.
@@ -70,6 +70,8 @@ fn main(rt: HostRuntime) -> ExitCode {
     let Ok(disks) = disks(alloc, rt, &command) else {
         return end(&mut notes, &Status::NoMemory);
     };
+    // A command without a port never opens it.
+    let port = port_of(&command).unwrap_or(0);
     let outside = Outside {
         input,
         output: DirectWriter::new(Patient::new(StandardStream::Output(rt.stdout()), rt)),
@@ -77,6 +79,7 @@ fn main(rt: HostRuntime) -> ExitCode {
         disks,
         clock: SystemClock::new(&rt),
         dial: TcpDial::new(alloc, rt),
+        inbox: UdpInbox::new(rt, port),
         texts: TextFolder::new(rt),
     };
     let (status, _outside) = run_command(alloc, &rt, command, outside, &mut Trail::new());

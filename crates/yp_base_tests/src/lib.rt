@@ -1,4 +1,4 @@
-//! Tests of `yp_io`, `yp_xdr` and `yp_msgs`.
+//! Tests of `yp_io`, `yp_mem`, `yp_xdr` and `yp_msgs`.
 #![tactic(auto)]
 
 #[cfg(test)]
@@ -7,6 +7,8 @@ mod dial;
 mod disk;
 #[cfg(test)]
 mod given;
+#[cfg(test)]
+mod inbox;
 #[cfg(test)]
 mod messages;
 #[cfg(test)]

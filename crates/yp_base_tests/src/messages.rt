@@ -114,6 +114,110 @@ fn transfers_written(rt: HostRuntime) {
 }
 
 #[test]
+fn bindings_written(rt: HostRuntime) {
+    let alloc = rt.alloc();
+    let told = PushResp {
+        transid: 500,
+        status: PushStat::from(XfrStat::Skew),
+    };
+    assert_written(&rt, alloc, &told, &["000001f4 fffffff6"], "PushResp");
+    let addr = b"\x0a\x00\x00\x02".as_slice();
+    let port = b"\x03\x42".as_slice();
+    let answer = BindResp::Bound { addr, port };
+    let words = "00000001 0a000002 03420000";
+    assert_written(&rt, alloc, &answer, &[words], "BindResp::Bound");
+    let answer = BindResp::Unbound {
+        error: BindErr::Noserv.number().cast_unsigned(),
+    };
+    let words = "00000002 00000002";
+    assert_written(&rt, alloc, &answer, &[words], "BindResp::Unbound");
+    let asked = SetDom {
+        domain: b"lab",
+        addr,
+        port,
+        vers: 2,
+    };
+    let words = "0a000002 03420000 00000002";
+    assert_written(&rt, alloc, &asked, &[LAB, words], "SetDom");
+}
+
+// The binding, or the error, of an answer of the binder.
+type Bound<'a> = Result<(Option<(&'a [u8], &'a [u8])>, u32), XdrFault>;
+
+// What an answer of the binder is read as.
+fn read_bound(bytes: &[u8]) -> Bound<'_> {
+    match BindResp::read(&mut Cursor::new(bytes))? {
+        BindResp::Bound { addr, port } => Ok((Some((addr, port)), 0)),
+        BindResp::Unbound { error } => Ok((None, error)),
+    }
+}
+
+// Answers of the binder: their words, and what is read of them.
+const BOUND: [(&str, Bound<'static>); 7] = [
+    (
+        "00000001 0a000002 03420000",
+        Ok((Some((b"\x0a\x00\x00\x02", b"\x03\x42")), 0)),
+    ),
+    ("00000002 00000002", Ok((None, 2))),
+    ("00000002 00000009", Ok((None, 9))),
+    ("00000003 00000002", Err(XdrFault::BadEnum { at: 0 })),
+    ("00000001 0a000002 0342", Err(XdrFault::Short { at: 8 })),
+    ("00000001 0a000002 03420001", Err(XdrFault::Pad { at: 11 })),
+    ("00000002 0000", Err(XdrFault::Short { at: 4 })),
+];
+
+#[test]
+fn bindings_read(rt: HostRuntime) {
+    for (words, wanted) in &BOUND {
+        let bytes = bytes(&rt, rt.alloc(), &[words]);
+        assert_same(&rt, &read_bound(&bytes), wanted, words);
+    }
+}
+
+// What the caller of a transfer is told: the words, and what is read of them.
+const TOLD: [(&str, Result<PushResp, XdrFault>); 3] = [
+    (
+        "000001f4 00000001",
+        Ok(PushResp {
+            transid: 500,
+            status: PushStat::Succ,
+        }),
+    ),
+    (
+        "000001f5 fffffff2",
+        Ok(PushResp {
+            transid: 501,
+            status: PushStat::Refused,
+        }),
+    ),
+    ("000001f4 00000007", Err(XdrFault::BadEnum { at: 4 })),
+];
+
+#[test]
+fn pushes_read(rt: HostRuntime) {
+    for (words, wanted) in &TOLD {
+        let bytes = bytes(&rt, rt.alloc(), &[words]);
+        let read = PushResp::read(&mut Cursor::new(&bytes));
+        assert_same(&rt, &read, wanted, words);
+    }
+}
+
+#[test]
+fn domain_to_set(rt: HostRuntime) {
+    let words = "00000003 6c616200 0a000002 03420000 00000002";
+    let bytes = bytes(&rt, rt.alloc(), &[words]);
+    let asked = SetDom::read(&mut Cursor::new(&bytes));
+    let came = asked.map(|asked| (asked.domain, asked.addr, asked.port, asked.vers));
+    let wanted = (
+        b"lab".as_slice(),
+        b"\x0a\x00\x00\x02".as_slice(),
+        b"\x03\x42".as_slice(),
+        2,
+    );
+    assert_same(&rt, &came, &Ok(wanted), "a server for a domain");
+}
+
+#[test]
 fn value_before_key(rt: HostRuntime) {
     let items =
         "00000001 00000001 0000000e 31302e30 2e302e31 20616c70 68610000 00000005 616c7068 61000000 00000000";

@@ -2,6 +2,7 @@ pub mod Counts
 pub mod Dials
 pub mod Disk
 pub mod DiskLaws
+pub mod Inboxes
 pub mod Mem
 pub mod MemDial
 pub mod MemDisk

@@ -1,14 +1,16 @@
 //! What the program reaches outside itself, as traits, with forms in memory for tests.
 //!
 //! A source gives bytes and a sink takes them; a disk keeps bytes through a crash; texts and a clock are read; a dial
-//! opens wires and sends datagrams. Each says what it holds, has taken or shows where that can be known, and all but
-//! the clock count their faults, so that a failure always has a cause. These promises stand on the clauses of
-//! [`Source`], [`Sink`], [`Disk`], [`Texts`], [`Clock`] and [`Dial`], and on [`write_all`] and [`read_all`].
+//! opens wires and sends datagrams; an inbox receives datagrams at a port, and sends them from there. Each says what it
+//! holds, has taken or shows where that can be known, and all but the clock count their faults, so that a failure
+//! always has a cause. These promises stand on the clauses of
+//! [`Source`], [`Sink`], [`Disk`], [`Texts`], [`Clock`], [`Dial`] and [`Inbox`], and on [`write_all`] and [`read_all`].
 #![tactic(auto)]
 
 mod clock;
 mod dial;
 mod disk;
+mod inbox;
 mod mem;
 mod mem_dial;
 mod mem_disk;
@@ -21,10 +23,12 @@ mod whole;
 pub use clock::{Clock, SetClock};
 pub use dial::{Dial, Letter};
 pub use disk::Disk;
+pub use inbox::{Inbox, Mail};
 pub use mem::{MemSink, MemSource, MemWire};
 pub use mem_dial::{MemDial, MemDialed};
 pub use mem_disk::MemDisk;
 pub use mem_texts::MemTexts;
+pub use plan::Plan;
 pub use stream::{
     Failed, NoMemory, Pair, Peer, Sink, Source, count_fault, write_all, write_through,
 };

@@ -3,3 +3,5 @@ pub mod Statuses
 pub mod Messages
 pub mod MapLists
 pub mod Transfers
+pub mod Pushes
+pub mod Bindings

@@ -1,5 +1,6 @@
--- The numbers of YP version 2, as the protocol file yp.x has them, those of the make program, which is this project's
--- own, and the limits of what their messages hold.
+-- The numbers of YP version 2, of the program that is told how a pushed transfer went, and of the binder, as the
+-- protocol file yp.x has them, those of the make program, which is this project's own, and the limits of what their
+-- messages hold.
 use Rattle.std.specs.Prelude.{ℕ}
 
 -- the program YPPROG, and its version
@@ -58,6 +59,40 @@ make_null_procedure = 0
 
 abbrev pub make_procedure : ℕ
 make_procedure = 1
+
+-- the program that is told how a transfer went (YPPUSH_XFRRESPPROG, whose number is in each request): its version and
+-- its procedures
+abbrev pub push_version : ℕ
+push_version = 1
+
+abbrev pub push_null_procedure : ℕ
+push_null_procedure = 0
+
+abbrev pub xfrresp_procedure : ℕ
+xfrresp_procedure = 1
+
+-- the program YPBINDPROG, its version and its procedures
+abbrev pub bind_program : ℕ
+bind_program = 100007
+
+abbrev pub bind_version : ℕ
+bind_version = 2
+
+abbrev pub bind_null_procedure : ℕ
+bind_null_procedure = 0
+
+abbrev pub bind_domain_procedure : ℕ
+bind_domain_procedure = 1
+
+abbrev pub setdom_procedure : ℕ
+setdom_procedure = 2
+
+-- the bytes of an address and of a port
+abbrev pub addr_len : ℕ
+addr_len = 4
+
+abbrev pub port_len : ℕ
+port_len = 2
 
 -- the most bytes of a name, a key and a value
 abbrev pub name_max : ℕ

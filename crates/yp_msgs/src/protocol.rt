@@ -1,4 +1,5 @@
-//! The numbers of YP version 2 (yp.x) and of the make program, and the limits of what their messages hold.
+//! The numbers of YP version 2, of the push response program and of the binder (yp.x), and of the make program, and the
+//! limits of what their messages hold.
 
 ghost use Rattle.std.specs.Prelude.{◌≡◌};
 ghost use Rattle.yp_msgs.specs.Numbers.{program, version, name_max, key_max, value_max};
@@ -6,6 +7,9 @@ ghost use Rattle.yp_msgs.specs.Numbers.{null_procedure, domain_procedure, domain
 ghost use Rattle.yp_msgs.specs.Numbers.{first_procedure, next_procedure, xfr_procedure, clear_procedure};
 ghost use Rattle.yp_msgs.specs.Numbers.{all_procedure, master_procedure, order_procedure, maplist_procedure};
 ghost use Rattle.yp_msgs.specs.Numbers.{make_program, make_version, make_null_procedure, make_procedure};
+ghost use Rattle.yp_msgs.specs.Numbers.{push_version, push_null_procedure, xfrresp_procedure};
+ghost use Rattle.yp_msgs.specs.Numbers.{bind_program, bind_version, bind_null_procedure, bind_domain_procedure};
+ghost use Rattle.yp_msgs.specs.Numbers.{setdom_procedure, addr_len, port_len};
 
 /// The program number of YP.
 pub const YPPROG: u32 = 100_004;
@@ -61,6 +65,36 @@ pub const MAKE_NULL: u32 = 0;
 /// Its procedure that has a map made anew.
 pub const MAKE: u32 = 1;
 
+/// The version of the program that is told how a pushed transfer went. Each request has the program's number.
+pub const PUSHVERS: u32 = 1;
+
+/// Its procedure that does nothing.
+pub const PUSH_NULL: u32 = 0;
+
+/// Its procedure that takes how a transfer went.
+pub const XFRRESP: u32 = 1;
+
+/// The program number of the binder.
+pub const BINDPROG: u32 = 100_007;
+
+/// Its version.
+pub const BINDVERS: u32 = 2;
+
+/// Its procedure that does nothing.
+pub const BIND_NULL: u32 = 0;
+
+/// Its procedure that tells which server a domain is bound to.
+pub const BIND_DOMAIN: u32 = 1;
+
+/// Its procedure that binds a domain.
+pub const SETDOM: u32 = 2;
+
+/// The bytes of an IPv4 address.
+pub const ADDR_LEN: usize = 4;
+
+/// The bytes of a port.
+pub const PORT_LEN: usize = 2;
+
 /// The most bytes of a domain's, a map's, a master's or a host's name.
 pub const NAME_MAX: u32 = 64;
 
@@ -94,6 +128,24 @@ pub fn make_program_is_defined()
     ensures version { MAKEVERS ≡ make_version }
     ensures null { MAKE_NULL ≡ make_null_procedure }
     ensures make { MAKE ≡ make_procedure }
+{}
+
+/// The numbers of the push response program are those that the definitions have. It does nothing.
+pub fn push_program_is_defined()
+    ensures version { PUSHVERS ≡ push_version }
+    ensures null { PUSH_NULL ≡ push_null_procedure }
+    ensures xfrresp { XFRRESP ≡ xfrresp_procedure }
+{}
+
+/// The numbers of the binder are those that the definitions have. It does nothing.
+pub fn bind_program_is_defined()
+    ensures program { BINDPROG ≡ bind_program }
+    ensures version { BINDVERS ≡ bind_version }
+    ensures null { BIND_NULL ≡ bind_null_procedure }
+    ensures domain { BIND_DOMAIN ≡ bind_domain_procedure }
+    ensures setdom { SETDOM ≡ setdom_procedure }
+    ensures addr { ADDR_LEN ≡ addr_len }
+    ensures port { PORT_LEN ≡ port_len }
 {}
 
 /// The limits are those that the definitions have. It does nothing.

@@ -5,7 +5,7 @@ use yp_io::Pair;
 
 /// What a command reaches outside itself.
 #[derive(Drop)]
-pub struct Office<S, K, D, C, A, T> {
+pub struct Office<S, K, D, C, A, I, T> {
     /// What it reads and writes.
     pub wire: Pair<S, K>,
     /// The disks of the maps that its words name, in their order.
@@ -14,6 +14,8 @@ pub struct Office<S, K, D, C, A, T> {
     pub clock: C,
     /// What opens connections to servers.
     pub dial: A,
+    /// What receives datagrams at the port that its words name.
+    pub inbox: I,
     /// The texts that maps are made of.
     pub texts: T,
 }

@@ -23,7 +23,7 @@ rows_same row rule row' rule' e =
     let same : ◌≡◌ {A = ℕ × ℕ} (row, rule) (row', rule') = cc in
     ap (λ (fault : ℕ × ℕ). Rows fault.0 fault.1) same
 
-module _ {S K D C A T : Type 0} (seen : Seeing S K D C A T) (store : Name) (rows : List Row) (office : Office S K D C A T) (seen_before : List Wire) where
+module _ {S K D C A I T : Type 0} (seen : Seeing S K D C A I T) (store : Name) (rows : List Row) (office : Office S K D C A I T) (seen_before : List Wire) where
   no_stream : (told : Option (List ℕ)) → input seen office ≡ told → IfSome told (λ stream. ServesInput (once_maps store rows) NoMemory stream (traffic_of seen office office))
   no_stream None e = tt
   no_stream (Some stream) e = (e, keeps _)

@@ -63,8 +63,8 @@ once_may_end status = serve_may_end status
 -- What `once` does: it answers the calls of its input on one map of these rows. The first row past a limit is told, and
 -- then nothing is read or written. Where nothing fails its status is that of the one cut of the input. What a witness
 -- has seen grows by the wires behind the records that were answered.
-pub record OnceDoes {S K D C A T : Type 0} (seen : Seeing S K D C A T) (store : Name) (rows : List Row)
-    (status : Status) (old new : Office S K D C A T) (before after : List Wire) : Type 0 where
+pub record OnceDoes {S K D C A I T : Type 0} (seen : Seeing S K D C A I T) (store : Name) (rows : List Row)
+    (status : Status) (old new : Office S K D C A I T) (before after : List Wire) : Type 0 where
   pub serves : rows_fault rows ≡ None
       → IfSome (input seen old) (λ stream. ServesInput (once_maps store rows) status stream (traffic_of seen old new))
   pub watched : Grows before after (IsWatched (once_board store rows) status (wire seen old) (wire seen new))

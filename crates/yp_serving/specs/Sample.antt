@@ -102,8 +102,8 @@ sample_may_end (Rows row rule) = true
 sample_may_end _ = false
 
 -- What `sample` does: it tells the numbers of its rows, or that there are too many, and then writes nothing.
-pub record SampleDoes {S K D C A T : Type 0} (seen : Seeing S K D C A T) (start count : ℕ) (status : Status)
-    (old new : Office S K D C A T) : Type 0 where
+pub record SampleDoes {S K D C A I T : Type 0} (seen : Seeing S K D C A I T) (start count : ℕ) (status : Status)
+    (old new : Office S K D C A I T) : Type 0 where
   pub tells : TellsSample start count status (output seen old) (output seen new)
   pub many : rows_max < count → (status ≡ Rows first_over rows_rule) × (new ≡ old)
   pub causes : HasCauses seen status old new

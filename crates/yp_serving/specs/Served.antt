@@ -164,16 +164,17 @@ IsWatched board status old new wires = IsAnswered board status old new wires
 -- ---- in an office
 
 -- what the wire of an office tells
-abbrev pub wire : {S K D C A T : Type 0} → Seeing S K D C A T → Office S K D C A T → Wire
+abbrev pub wire : {S K D C A I T : Type 0} → Seeing S K D C A I T → Office S K D C A I T → Wire
 wire seen office = wire_of seen.source seen.sink office.wire
 
 -- what a session changed of an office
-abbrev pub traffic_of : {S K D C A T : Type 0} → Seeing S K D C A T → (old new : Office S K D C A T) → Traffic
+abbrev pub traffic_of : {S K D C A I T : Type 0} → Seeing S K D C A I T → (old new : Office S K D C A I T) → Traffic
 traffic_of seen old new = record { left = input seen new; before = output seen old; after = output seen new }
 
 -- Where the input is told and neither it nor the output fails, the status is that of the one cut of the input, but for
 -- want of memory.
-abbrev pub Completes : {S K D C A T : Type 0} → Seeing S K D C A T → Status → (old new : Office S K D C A T) → Type 0
+abbrev pub Completes : {S K D C A I T : Type 0} → Seeing S K D C A I T → Status → (old new : Office S K D C A I T)
+    → Type 0
 Completes seen status old new =
     (stream : List ℕ) (messages : List (List ℕ)) (rest : List ℕ) → input seen old ≡ Some stream
     → Cut record_max stream messages rest → ¬ ReadFails seen old new → ¬ WriteFails seen old new

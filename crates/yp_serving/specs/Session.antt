@@ -76,7 +76,7 @@ pub record IsSound {D : Type 0} (history : D → Option History) (disk : NamedDi
 -- ---- what `session` does
 
 -- what it serves by: what the parts of the office tell, and the maps, by their host
-abbrev pub service : {S K D C A T : Type 0} → Seeing S K D C A T → List ℕ → Peer → List Name
+abbrev pub service : {S K D C A I T : Type 0} → Seeing S K D C A I T → List ℕ → Peer → List Name
     → Service D Seen (Desk A T C)
 service seen own peer stores =
     service_of (keeping_of seen.disk.history seen.disk.faults plain_log)
@@ -84,7 +84,7 @@ service seen own peer stores =
     (record { own = own; maps = stores }) peer
 
 -- the connection that an office is at, with a table of hosts
-abbrev pub connection : {S K D C A T : Type 0} → Seeing S K D C A T → HostList → Office S K D C A T
+abbrev pub connection : {S K D C A I T : Type 0} → Seeing S K D C A I T → HostList → Office S K D C A I T
     → Connection D (Desk A T C)
 connection seen hosts office =
     connection_at (wire seen office) office.disks.items
@@ -102,8 +102,8 @@ session_may_end status = serve_may_end status
 -- leaves of each map what was shown of it, or the version that was being installed. Where a file can't be loaded
 -- nothing is read or written. Over files that aren't damaged its status is that of the one cut of its input. What a
 -- witness has seen grows by the wires behind the records that were answered.
-pub record SessionDoes {S K D C A T : Type 0} (seen : Seeing S K D C A T) (own : List ℕ) (peer : Peer)
-    (stores : List Name) (hosts : HostList) (status : Status) (old new : Office S K D C A T)
+pub record SessionDoes {S K D C A I T : Type 0} (seen : Seeing S K D C A I T) (own : List ℕ) (peer : Peer)
+    (stores : List Name) (hosts : HostList) (status : Status) (old new : Office S K D C A I T)
     (before after : List Wire) : Type 0 where
   pub serves : Grows before after
       (Sessions (service seen own peer stores) status (connection seen hosts old) (connection seen hosts new))
@@ -114,6 +114,7 @@ pub record SessionDoes {S K D C A T : Type 0} (seen : Seeing S K D C A T) (own :
   pub causes : HasCauses seen status old new
   pub names : names_of new.disks.items ≡ names_of old.disks.items
   pub told : moment seen new ≡ moment seen old
+  pub inbox : new.inbox ≡ old.inbox
 
 -- ---- statuses
 

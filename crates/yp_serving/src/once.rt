@@ -24,7 +24,7 @@ use std::alloc::Global;
 use std::random::RandomSource;
 use std::sync::Arc;
 use yp_board::{Catalog, MapName, PlainBoard};
-use yp_io::{Clock, Dial, Disk, NoMemory, Pair, Peer, Sink, Source, Texts};
+use yp_io::{Clock, Dial, Disk, Inbox, NoMemory, Pair, Peer, Sink, Source, Texts};
 use yp_office::{Office, Status, status_of_row};
 use yp_rpc::laws;
 use yp_session::{CALLS_MAX, Session, Witness};
@@ -173,19 +173,20 @@ fn serve<S: Source, K: Sink, W: Witness<S, K>>(
 }
 
 /// Answers the calls of the wire on one map of these rows. The witness sees the wire behind each that was answered.
-pub fn serve_once<S: Source, K: Sink, D: Disk, C: Clock, A: Dial, T: Texts, W: Witness<S, K>>(
+pub fn serve_once<S: Source, K: Sink, D: Disk, C: Clock, A: Dial, I: Inbox, T: Texts, W: Witness<S, K>>(
     alloc: Global,
     rt: &impl RandomSource,
     store: MapName,
     rows: &[KeyValue],
-    office: &mut Office<S, K, D, C, A, T>,
+    office: &mut Office<S, K, D, C, A, I, T>,
     witness: &mut W,
 ) -> Status
-    ensures does { OnceDoes (seeing S.Source K.Sink D.Disk C.Clock A.Dial T.Texts)
+    ensures does { OnceDoes (seeing S.Source K.Sink D.Disk C.Clock A.Dial I.Inbox T.Texts)
         (name_view store) (map row_view rows.now) result office.old office.new
         (W.wires witness.old) (W.wires witness.new) }
     ensures may_end { IsTrue (once_may_end result) }
-    ensures passed_on { IsPassedOn (seeing S.Source K.Sink D.Disk C.Clock A.Dial T.Texts) result office.old office.new }
+    ensures passed_on { IsPassedOn (seeing S.Source K.Sink D.Disk C.Clock A.Dial I.Inbox T.Texts)
+        result office.old office.new }
     ensures tellable { IsTellable result }
 {
     let version = match version_of(alloc, rt, rows) {

@@ -22,7 +22,7 @@ use std::sync::Arc;
 use yp_answer::RECORD_MAX;
 use yp_board::{MapName, PlainBoard};
 use yp_build::BuildFault;
-use yp_io::{Clock, Dial, Disk, Failed, NoMemory, Sink, Source, Texts, write_through, zeros};
+use yp_io::{Clock, Dial, Disk, Failed, Inbox, NoMemory, Sink, Source, Texts, write_through, zeros};
 use yp_office::{Office, ROWS_RULE, Status};
 use yp_version::Version;
 
@@ -167,17 +167,18 @@ fn sampled(alloc: Global, rt: &impl RandomSource, start: u32, count: u32) -> Res
 }
 
 /// Tells the numbers of so many sample rows.
-pub fn tell_sample<S: Source, K: Sink, D: Disk, C: Clock, A: Dial, T: Texts>(
+pub fn tell_sample<S: Source, K: Sink, D: Disk, C: Clock, A: Dial, I: Inbox, T: Texts>(
     alloc: Global,
     rt: &impl RandomSource,
     start: u32,
     count: u32,
-    office: &mut Office<S, K, D, C, A, T>,
+    office: &mut Office<S, K, D, C, A, I, T>,
 ) -> Status
-    ensures does { SampleDoes (seeing S.Source K.Sink D.Disk C.Clock A.Dial T.Texts)
+    ensures does { SampleDoes (seeing S.Source K.Sink D.Disk C.Clock A.Dial I.Inbox T.Texts)
         start count result office.old office.new }
     ensures may_end { IsTrue (sample_may_end result) }
-    ensures passed_on { IsPassedOn (seeing S.Source K.Sink D.Disk C.Clock A.Dial T.Texts) result office.old office.new }
+    ensures passed_on { IsPassedOn (seeing S.Source K.Sink D.Disk C.Clock A.Dial I.Inbox T.Texts)
+        result office.old office.new }
     ensures tellable { IsTellable result }
 {
     match sampled(alloc, rt, start, count) {

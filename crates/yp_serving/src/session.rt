@@ -19,7 +19,7 @@ use crate::end::status_of_end;
 use std::alloc::{AllocError, Global};
 use std::random::RandomSource;
 use yp_board::{Catalog, CatalogFault, MapName};
-use yp_io::{Clock, Dial, Disk, NoMemory, Pair, Peer, Sink, Source, Texts};
+use yp_io::{Clock, Dial, Disk, Inbox, NoMemory, Pair, Peer, Sink, Source, Texts};
 use yp_office::{Apart, NamedDisk, Office, Status, put_together, status_of_file, take_apart};
 use yp_rpc::laws;
 use yp_server::{Desk, Stock, Unserved, serve_wire};
@@ -132,25 +132,26 @@ fn table_of(alloc: Global, words: Vec<HostWord>) -> Result<Hosts, NoMemory>
 
 /// Serves the input as one connection over the stored versions of these maps, by the host `own`, to a caller at `peer`.
 /// The witness sees the wire behind each record that was answered.
-fn session_over<S: Source, K: Sink, D: Disk, C: Clock, A: Dial, T: Texts, W: Witness<S, K>>(
+fn session_over<S: Source, K: Sink, D: Disk, C: Clock, A: Dial, I: Inbox, T: Texts, W: Witness<S, K>>(
     alloc: Global,
     rt: &impl RandomSource,
     own: Vec<u8>,
     peer: Peer,
     stores: Vec<MapName>,
     hosts: Hosts,
-    office: Office<S, K, D, C, A, T>,
+    office: Office<S, K, D, C, A, I, T>,
     witness: &mut W,
-) -> (Status, Office<S, K, D, C, A, T>)
+) -> (Status, Office<S, K, D, C, A, I, T>)
     requires catalogue { catalog_fault own.items (map name_view stores.items) ≡ None }
     requires named { All IsNamed (map name_view stores.items) }
     requires count { length (map name_view stores.items) ≤ maps_max }
     requires disks { names_of office.disks.items ≡ map name_view stores.items }
-    ensures does { SessionDoes (seeing S.Source K.Sink D.Disk C.Clock A.Dial T.Texts)
+    ensures does { SessionDoes (seeing S.Source K.Sink D.Disk C.Clock A.Dial I.Inbox T.Texts)
         own.items peer (map name_view stores.items) hosts result.0 office result.1
         (W.wires witness.old) (W.wires witness.new) }
     ensures may_end { IsTrue (session_may_end result.0) }
-    ensures passed_on { IsPassedOn (seeing S.Source K.Sink D.Disk C.Clock A.Dial T.Texts) result.0 office result.1 }
+    ensures passed_on { IsPassedOn (seeing S.Source K.Sink D.Disk C.Clock A.Dial I.Inbox T.Texts)
+        result.0 office result.1 }
     ensures tellable { IsTellable result.0 }
 {
     laws::cut_is_one();
@@ -161,6 +162,7 @@ fn session_over<S: Source, K: Sink, D: Disk, C: Clock, A: Dial, T: Texts, W: Wit
         mut disks,
         clock,
         dial,
+        inbox,
         texts,
     } = office;
     let desk = Desk {
@@ -183,31 +185,33 @@ fn session_over<S: Source, K: Sink, D: Disk, C: Clock, A: Dial, T: Texts, W: Wit
         disks,
         clock,
         dial,
+        inbox,
         texts,
     };
     (status, office)
 }
 
 /// The same with the hosts that words name, from which maps are fetched.
-pub fn serve_session<S: Source, K: Sink, D: Disk, C: Clock, A: Dial, T: Texts, W: Witness<S, K>>(
+pub fn serve_session<S: Source, K: Sink, D: Disk, C: Clock, A: Dial, I: Inbox, T: Texts, W: Witness<S, K>>(
     alloc: Global,
     rt: &impl RandomSource,
     own: Vec<u8>,
     peer: Peer,
     stores: Vec<MapName>,
     hosts: Vec<HostWord>,
-    office: Office<S, K, D, C, A, T>,
+    office: Office<S, K, D, C, A, I, T>,
     witness: &mut W,
-) -> (Status, Office<S, K, D, C, A, T>)
+) -> (Status, Office<S, K, D, C, A, I, T>)
     requires catalogue { catalog_fault own.items (map name_view stores.items) ≡ None }
     requires named { All IsNamed (map name_view stores.items) }
     requires count { length (map name_view stores.items) ≤ maps_max }
     requires disks { names_of office.disks.items ≡ map name_view stores.items }
-    ensures does { SessionDoes (seeing S.Source K.Sink D.Disk C.Clock A.Dial T.Texts)
+    ensures does { SessionDoes (seeing S.Source K.Sink D.Disk C.Clock A.Dial I.Inbox T.Texts)
         own.items peer (map name_view stores.items) (map host_view hosts.items) result.0 office result.1
         (W.wires witness.old) (W.wires witness.new) }
     ensures may_end { IsTrue (session_may_end result.0) }
-    ensures passed_on { IsPassedOn (seeing S.Source K.Sink D.Disk C.Clock A.Dial T.Texts) result.0 office result.1 }
+    ensures passed_on { IsPassedOn (seeing S.Source K.Sink D.Disk C.Clock A.Dial I.Inbox T.Texts)
+        result.0 office result.1 }
     ensures tellable { IsTellable result.0 }
 {
     match table_of(alloc, hosts) {

@@ -58,7 +58,7 @@ told_more None P Q f h = tt
 told_more (Some x) P Q f h = f x h
 
 -- what was done to the only disk, and to the sink
-pub record Checked {S K D C A T : Type 0} (seen : Seeing S K D C A T) (store : Name) (status : Status) (before after : NamedDisk D) (old new : K) : Type 0 where
+pub record Checked {S K D C A I T : Type 0} (seen : Seeing S K D C A I T) (store : Name) (status : Status) (before after : NamedDisk D) (old new : K) : Type 0 where
   pub tells : IfSome (seen.disk.history before.disk) (λ h. Checks store h.state.reads status (seen.sink.output old) (seen.sink.output new))
   pub unwritten : IsOnlyRead (seen.disk.history before.disk) (seen.disk.history after.disk)
   pub write_fault : status ≡ WriteFault → HasRisen (seen.sink.faults old) (seen.sink.faults new)
@@ -67,7 +67,7 @@ pub record Checked {S K D C A T : Type 0} (seen : Seeing S K D C A T) (store : N
   pub read_fault : status ≡ ReadFault → ⊥
 
 -- so it was done to the office
-pub checked_only : {S K D C A T : Type 0} (seen : Seeing S K D C A T) (store : Name) (status : Status) (old new : Office S K D C A T) (before after : NamedDisk D)
+pub checked_only : {S K D C A I T : Type 0} (seen : Seeing S K D C A I T) (store : Name) (status : Status) (old new : Office S K D C A I T) (before after : NamedDisk D)
     → old.disks.items ≡ before ∷ [] → new.disks.items ≡ after ∷ [] → new ≡ record old { wire = record old.wire { sink = new.wire.sink }; disks = new.disks }
     → Checked seen store status before after old.wire.sink new.wire.sink → CheckDoes seen store status old new
 checked_only {S} {K} {D} {C} {A} {T} seen store status old new before after first last stays did =

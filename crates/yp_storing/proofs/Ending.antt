@@ -135,7 +135,7 @@ stored_when store (Ok made) status before after told P end h = some_more told P 
 stored_when store (Err why) status before after told P end h = all_told told (λ h. IsTrue (tells_stored status) → P h) (λ x told_it. absurd (not_stored store why status end.0 told_it))
 
 -- what was read, built and told
-pub record Ended {S K D C A T : Type 0} (seen : Seeing S K D C A T) (job : Job) (store : MapName) (text : List ℕ) (now : ℕ) (result : Result Built Stop) (status : Status) (old new : Office S K D C A T) : Type 0 where
+pub record Ended {S K D C A I T : Type 0} (seen : Seeing S K D C A I T) (job : Job) (store : MapName) (text : List ℕ) (now : ℕ) (result : Result Built Stop) (status : Status) (old new : Office S K D C A I T) : Type 0 where
   pub named : name_view store ≡ job.store
   pub read : IfSome (input seen old) (λ bytes. bytes ≡ text)
   pub clock : IfSome (moment seen old) (λ told. now ≡ told)
@@ -146,7 +146,7 @@ pub record Ended {S K D C A T : Type 0} (seen : Seeing S K D C A T) (job : Job) 
   pub told : moment seen new ≡ moment seen old
   pub stays : new ≡ record old { wire = new.wire; disks = new.disks; clock = new.clock }
 
-pub build_does : {S K D C A T : Type 0} (seen : Seeing S K D C A T) (job : Job) (store : MapName) (text : List ℕ) (now : ℕ) (result : Result Built Stop) (status : Status) (old new : Office S K D C A T)
+pub build_does : {S K D C A I T : Type 0} (seen : Seeing S K D C A I T) (job : Job) (store : MapName) (text : List ℕ) (now : ℕ) (result : Result Built Stop) (status : Status) (old new : Office S K D C A I T)
     → Ended seen job store text now result status old new → JobDoes seen job status old new
 build_does seen job store text now result status old new did =
     let h = history seen old in
@@ -222,11 +222,11 @@ unread_cause unread.TooLong e = absurd (let wrong : TooLong text_max ≡ ReadFau
 left_alone : (told : Option History) (P : List ℕ → Type 0) → ((image : List ℕ) → MayLeave told image → P image) → LeavesOnly told told P
 left_alone told P f = record { goes_on = stays told; each = λ image left. f image (only_now told image left) }
 
-pub unread_does : {S K D C A T : Type 0} (seen : Seeing S K D C A T) (job : Job) (why : Unread) (source : S) (old : Office S K D C A T)
+pub unread_does : {S K D C A I T : Type 0} (seen : Seeing S K D C A I T) (job : Job) (why : Unread) (source : S) (old : Office S K D C A I T)
     → IsStopped text_max (input seen old) (seen.source.input source) 0 why → (why ≡ unread.Failed → HasRisen (seen.source.faults old.wire.source) (seen.source.faults source))
     → JobDoes seen job (unread_status why) old (record old { wire = record old.wire { source = source } })
 unread_does {S} {K} {D} {C} {A} {T} seen job why source old stopped cause =
-    let new : Office S K D C A T = record old { wire = record old.wire { source = source } } in
+    let new : Office S K D C A I T = record old { wire = record old.wire { source = source } } in
     let h = history seen old in
     let output = output seen old in
     let tells : AtSite seen old (λ site. Builds job site (unread_status why) output output) = at_unread job why (input seen old) (seen.source.input source) h (moment seen old) output stopped in

@@ -62,7 +62,7 @@ stopped_no_write store (stop.Fault why) status before after ends e = fault_no_wr
 stopped_no_write store (stop.Unloaded why) status before after ends e =
     not_loaded_no_write store why status ends.0 e
 
-module _ {S K D C A T : Type 0} (seen : Seeing S K D C A T) (order : Order) (old new : Office S K D C A T) where
+module _ {S K D C A I T : Type 0} (seen : Seeing S K D C A I T) (order : Order) (old new : Office S K D C A I T) where
   -- what was moved and told
   pub record Told (result : Result Installed XfrStop) (status : Status) : Type 0 where
     pub moves : Moves order result (dialing seen old) (dialing seen new) (history seen old) (history seen new)

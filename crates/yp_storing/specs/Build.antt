@@ -312,7 +312,7 @@ pub record BuildsOn (job : Job) (text : List ℕ) (now : ℕ) (result : Result B
 -- ---- the command
 
 -- P holds of what an office held, where it is told
-abbrev pub AtSite : {S K D C A T : Type 0} → Seeing S K D C A T → Office S K D C A T → (Site → Type 0) → Type 0
+abbrev pub AtSite : {S K D C A I T : Type 0} → Seeing S K D C A I T → Office S K D C A I T → (Site → Type 0) → Type 0
 AtSite seen office P =
     IfSome (input seen office) (λ text. IfSome (history seen office) (λ h. IfSome (moment seen office)
     (λ now. P (site_of text now h))))
@@ -335,8 +335,8 @@ build_may_end _ = false
 -- What is done for a job: the version that is planned of what the office held is stored, or the first reason why there
 -- is none is told. At each moment a crash leaves what it might have left before, or a file that stands for what stood
 -- or for that version. Where nothing fails a version that is planned is stored and told.
-pub record JobDoes {S K D C A T : Type 0} (seen : Seeing S K D C A T) (job : Job) (status : Status)
-    (old new : Office S K D C A T) : Type 0 where
+pub record JobDoes {S K D C A I T : Type 0} (seen : Seeing S K D C A I T) (job : Job) (status : Status)
+    (old new : Office S K D C A I T) : Type 0 where
   pub tells : AtSite seen old (λ site. Builds job site status (output seen old) (output seen new))
   pub stored : AtSite seen old (λ site. IsTrue (tells_stored status) → IsStored job site (history seen new))
   pub any_moment : AtSite seen old (λ site.
@@ -353,9 +353,9 @@ pub record JobDoes {S K D C A T : Type 0} (seen : Seeing S K D C A T) (job : Job
   pub stays : new ≡ record old { wire = new.wire; disks = new.disks; clock = new.clock }
 
 -- What `build` does, by the kind of its map.
-pub record BuildDoes {S K D C A T : Type 0} (seen : Seeing S K D C A T) (name : List ℕ) (store : Name)
+pub record BuildDoes {S K D C A I T : Type 0} (seen : Seeing S K D C A I T) (name : List ℕ) (store : Name)
     (flag : Option Bool)
-    (status : Status) (old new : Office S K D C A T) : Type 0 where
+    (status : Status) (old new : Office S K D C A I T) : Type 0 where
   pub kind : Kind
   pub of_kind : kind_of store ≡ Some kind
   pub does : JobDoes seen (job_of name store kind flag) status old new

@@ -65,8 +65,8 @@ check_may_end _ = false
 
 -- What `check` does: it tells what the file of its map stands for, and writes nothing to its disk. Where nothing fails
 -- a version that stands is told.
-pub record CheckDoes {S K D C A T : Type 0} (seen : Seeing S K D C A T) (store : Name) (status : Status)
-    (old new : Office S K D C A T) : Type 0 where
+pub record CheckDoes {S K D C A I T : Type 0} (seen : Seeing S K D C A I T) (store : Name) (status : Status)
+    (old new : Office S K D C A I T) : Type 0 where
   pub tells : IfSome (history seen old)
       (λ h. Checks store h.state.reads status (output seen old) (output seen new))
   pub unwritten : IsOnlyRead (history seen old) (history seen new)

@@ -184,24 +184,24 @@ IsEnd store (Err (stop.Unloaded why)) status before after = Fails store why stat
 -- ---- the command
 
 -- what the dial of an office tells
-abbrev pub dialing : {S K D C A T : Type 0} → Seeing S K D C A T → Office S K D C A T → Dialing
+abbrev pub dialing : {S K D C A I T : Type 0} → Seeing S K D C A I T → Office S K D C A I T → Dialing
 dialing seen office = dialing_of seen.dial.past seen.dial.faults office.dial
 
 -- how often its disks have failed
-abbrev pub disk_faults : {S K D C A T : Type 0} → Seeing S K D C A T → Office S K D C A T → ℕ
+abbrev pub disk_faults : {S K D C A I T : Type 0} → Seeing S K D C A I T → Office S K D C A I T → ℕ
 disk_faults seen office = faults_of seen.disk.faults office.disks.items
 
 -- The file was loaded, and the map was transferred, or wasn't.
-pub record Transfers {S K D C A T : Type 0} (seen : Seeing S K D C A T) (order : Order) (status : Status)
-    (old new : Office S K D C A T) : Type 0 where
+pub record Transfers {S K D C A I T : Type 0} (seen : Seeing S K D C A I T) (order : Order) (status : Status)
+    (old new : Office S K D C A I T) : Type 0 where
   pub result : Result Installed XfrFault
   pub did : TransfersOn order result (dialing seen old) (dialing seen new) (history seen old) (history seen new)
       (disk_faults seen old) (disk_faults seen new)
   pub tells : Tells order.store result status (output seen old) (output seen new)
 
 -- The file wasn't loaded, or memory ran out before. Nothing was dialed or written.
-pub record Declines {S K D C A T : Type 0} (seen : Seeing S K D C A T) (order : Order) (status : Status)
-    (old new : Office S K D C A T) : Type 0 where
+pub record Declines {S K D C A I T : Type 0} (seen : Seeing S K D C A I T) (order : Order) (status : Status)
+    (old new : Office S K D C A I T) : Type 0 where
   pub why : SlotFault
   pub did : IsNotLoaded why (history seen old) (history seen new) (disk_faults seen old) (disk_faults seen new)
   pub tells : Fails order.store why status
@@ -221,8 +221,8 @@ xfr_may_end status = false
 -- before the disk is written, stores what came, and tells it; or the first reason why there is none is told. A line
 -- that can't be written leaves the map stored. At each moment a crash leaves what it might have left before, or a file
 -- that stands for what stood or for what was fetched.
-pub record XfrDoes {S K D C A T : Type 0} (seen : Seeing S K D C A T) (order : Order) (status : Status)
-    (old new : Office S K D C A T) : Type 0 where
+pub record XfrDoes {S K D C A I T : Type 0} (seen : Seeing S K D C A I T) (order : Order) (status : Status)
+    (old new : Office S K D C A I T) : Type 0 where
   pub does : Transfers seen order status old new ⊎ Declines seen order status old new
   pub few : LeavesFew (history seen old) (history seen new)
   pub write_fault : status ≡ WriteFault → WriteFails seen old new

@@ -24,10 +24,7 @@ use std::alloc::Global;
 use std::random::RandomSource;
 use yp_board::{Catalog, MapName, PlainBoard};
 use yp_build::{AfterFault, BuildFault, Kind, build_after};
-use yp_io::{
-    Clock, Dial, Disk, Failed, NoMemory, Sink, Source, TEXT_MAX, Texts, Unread, read_all,
-    write_through,
-};
+use yp_io::{Clock, Dial, Disk, Failed, Inbox, NoMemory, Sink, Source, TEXT_MAX, Texts, Unread, read_all, write_through};
 use yp_office::{
     Apart, BYTES_RULE, KEY_RULE, Line, NamedDisk, Office, ROWS_RULE, Status, VALUE_RULE, add,
     add_map, add_number, put_together, take_apart,
@@ -371,23 +368,24 @@ fn tell_end<K: Sink>(sink: &mut K, store: MapName, built: Result<Built, Stop>) -
 
 /// Builds a map of the text on the input, stores it on the only disk, and tells what was stored. `name` is the own
 /// name.
-pub fn build_map<S: Source, K: Sink, D: Disk, C: Clock, A: Dial, T: Texts>(
+pub fn build_map<S: Source, K: Sink, D: Disk, C: Clock, A: Dial, I: Inbox, T: Texts>(
     alloc: Global,
     rt: &impl RandomSource,
     name: Vec<u8>,
     store: MapName,
     flag: Option<bool>,
-    office: &mut Office<S, K, D, C, A, T>,
+    office: &mut Office<S, K, D, C, A, I, T>,
 ) -> Status
     requires named { IsNamed (name_view store) }
     requires name { length name.items ≤ name_max }
     requires catalogue { catalog_fault name.items (name_view store ∷ []) ≡ None }
     requires kind { IsSome (kind_of (name_view store)) }
     requires only { names_of office.old.disks.items ≡ name_view store ∷ [] }
-    ensures does { BuildDoes (seeing S.Source K.Sink D.Disk C.Clock A.Dial T.Texts)
+    ensures does { BuildDoes (seeing S.Source K.Sink D.Disk C.Clock A.Dial I.Inbox T.Texts)
         name.items (name_view store) flag result office.old office.new }
     ensures may_end { IsTrue (build_may_end result) }
-    ensures passed_on { IsPassedOn (seeing S.Source K.Sink D.Disk C.Clock A.Dial T.Texts) result office.old office.new }
+    ensures passed_on { IsPassedOn (seeing S.Source K.Sink D.Disk C.Clock A.Dial I.Inbox T.Texts)
+        result office.old office.new }
     ensures tellable { IsTellable result }
 {
     let Some(kind) = Kind::of_name(&store.map) else {

@@ -12,7 +12,7 @@ ghost use Rattle.yp_words.specs.Words.{IsNamed};
 use std::alloc::Global;
 use std::random::RandomSource;
 use yp_board::MapName;
-use yp_io::{Clock, Dial, Disk, Failed, Sink, Source, Texts, write_through};
+use yp_io::{Clock, Dial, Disk, Failed, Inbox, Sink, Source, Texts, write_through};
 use yp_office::{Line, NamedDisk, Office, Status, add, add_map, add_number, status_of_file};
 use yp_slot::Slot;
 use yp_version::Version;
@@ -71,18 +71,19 @@ fn check_disk<D: Disk, K: Sink>(
 }
 
 /// Tells what the file of the only map stands for. It writes nothing to the disk.
-pub fn check_map<S: Source, K: Sink, D: Disk, C: Clock, A: Dial, T: Texts>(
+pub fn check_map<S: Source, K: Sink, D: Disk, C: Clock, A: Dial, I: Inbox, T: Texts>(
     alloc: Global,
     rt: &impl RandomSource,
     store: MapName,
-    office: &mut Office<S, K, D, C, A, T>,
+    office: &mut Office<S, K, D, C, A, I, T>,
 ) -> Status
     requires named { IsNamed (name_view store) }
     requires only { names_of office.old.disks.items ≡ name_view store ∷ [] }
-    ensures does { CheckDoes (seeing S.Source K.Sink D.Disk C.Clock A.Dial T.Texts)
+    ensures does { CheckDoes (seeing S.Source K.Sink D.Disk C.Clock A.Dial I.Inbox T.Texts)
         (name_view store) result office.old office.new }
     ensures may_end { IsTrue (check_may_end result) }
-    ensures passed_on { IsPassedOn (seeing S.Source K.Sink D.Disk C.Clock A.Dial T.Texts) result office.old office.new }
+    ensures passed_on { IsPassedOn (seeing S.Source K.Sink D.Disk C.Clock A.Dial I.Inbox T.Texts)
+        result office.old office.new }
     ensures tellable { IsTellable result }
 {
     let Some(NamedDisk { name, disk }) = office.disks.pop() else {

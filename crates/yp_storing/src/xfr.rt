@@ -16,7 +16,7 @@ use crate::catalog::catalog_of;
 use std::alloc::Global;
 use std::random::RandomSource;
 use yp_board::{Catalog, MapName};
-use yp_io::{Clock, Dial, Disk, Failed, NoMemory, Sink, Source, Texts, write_through};
+use yp_io::{Clock, Dial, Disk, Failed, Inbox, NoMemory, Sink, Source, Texts, write_through};
 use yp_office::{
     Apart, Line, NamedDisk, Office, Status, add, add_map, add_number, put_together, status_of_file,
     take_apart,
@@ -226,7 +226,7 @@ fn tell_end<K: Sink>(sink: &mut K, store: MapName, done: Result<Installed, XfrSt
 
 /// Fetches the only map from a host, stores it on the only disk, and tells what was stored. `name` is the own name. The
 /// version goes in where its order is over the one that stands, or, where it is forced, in any case.
-pub fn transfer_map<S: Source, K: Sink, D: Disk, C: Clock, A: Dial, T: Texts>(
+pub fn transfer_map<S: Source, K: Sink, D: Disk, C: Clock, A: Dial, I: Inbox, T: Texts>(
     alloc: Global,
     rt: &impl RandomSource,
     name: Vec<u8>,
@@ -234,15 +234,16 @@ pub fn transfer_map<S: Source, K: Sink, D: Disk, C: Clock, A: Dial, T: Texts>(
     store: MapName,
     host: HostWord,
     flag: Option<bool>,
-    office: &mut Office<S, K, D, C, A, T>,
+    office: &mut Office<S, K, D, C, A, I, T>,
 ) -> Status
     requires named { IsNamed (name_view store) }
     requires catalogue { catalog_fault name.items (name_view store ∷ []) ≡ None }
     requires only { names_of office.old.disks.items ≡ name_view store ∷ [] }
-    ensures does { XfrDoes (seeing S.Source K.Sink D.Disk C.Clock A.Dial T.Texts)
+    ensures does { XfrDoes (seeing S.Source K.Sink D.Disk C.Clock A.Dial I.Inbox T.Texts)
         (order_of name.items force (name_view store) (host_view host) flag) result office.old office.new }
     ensures may_end { IsTrue (xfr_may_end result) }
-    ensures passed_on { IsPassedOn (seeing S.Source K.Sink D.Disk C.Clock A.Dial T.Texts) result office.old office.new }
+    ensures passed_on { IsPassedOn (seeing S.Source K.Sink D.Disk C.Clock A.Dial I.Inbox T.Texts)
+        result office.old office.new }
     ensures tellable { IsTellable result }
 {
     let job = XfrJob {

@@ -10,11 +10,12 @@ use std::process::Abort;
 use std::random::RandomSource;
 use yp_board::MapName;
 use yp_io::{MemDial, MemDisk, MemSink, MemSource, MemTexts, MemWire, Pair, SetClock};
+use yp_mem::MemInbox;
 use yp_slot::Slot;
 use yp_tools::{NamedDisk, Outside, Status, disk_names, named_disks, run};
 
 /// The outside in memory.
-pub type Memory = Outside<MemSource, MemSink, MemDisk, SetClock, MemDial, MemTexts>;
+pub type Memory = Outside<MemSource, MemSink, MemDisk, SetClock, MemDial, MemInbox, MemTexts>;
 
 /// What a run finds outside. Calls that fail are told by their numbers, from 0.
 #[derive(Clone, Copy)]
@@ -115,6 +116,7 @@ fn memory_of<R: Abort>(rt: &R, alloc: Global, words: &[String], scene: &Scene<'_
             wires_of(rt, alloc, scene),
             copied(rt, alloc, scene.dials),
         ),
+        inbox: MemInbox::new(alloc, Vec::new(alloc), Vec::new(alloc)),
         texts: MemTexts::new(Vec::new(alloc), Vec::new(alloc)),
     }
 }

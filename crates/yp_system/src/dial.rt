@@ -58,7 +58,8 @@ impl<R: Net<Stream = TcpStream> + Drop> TcpDial<R> {
     }
 }
 
-fn address_of(peer: Peer) -> SocketAddrV4
+/// The address of a peer.
+pub(crate) fn address_of(peer: Peer) -> SocketAddrV4
     ensures ip { ipv4_octets (v4_ip result) ≡ peer.addr }
     ensures port { v4_port result ≡ peer.port }
 {

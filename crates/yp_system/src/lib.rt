@@ -1,4 +1,5 @@
-//! The real outside of the program: standard streams, files, the clock, connections over TCP, and texts in a folder.
+//! The real outside of the program: standard streams, files, the clock, connections over TCP, datagrams at
+//! a port, and texts in a folder.
 //!
 //! Each is proved to keep the trait of `yp_io` that it stands for. Which bytes the system gives them no contract says,
 //! so they are done with care: a failed sync is never trusted again, a file has one writer, and each wire that is
@@ -8,6 +9,7 @@
 mod clock;
 mod dial;
 mod disk;
+mod inbox;
 mod locked;
 mod patient;
 mod streams;
@@ -17,6 +19,7 @@ mod words;
 pub use clock::SystemClock;
 pub use dial::{TcpDial, TcpWire};
 pub use disk::FileDisk;
+pub use inbox::{TURN_SECONDS, UdpInbox};
 pub use locked::{LockedFile, Locking, MapFile};
 pub use patient::Patient;
 pub use streams::{BlockReader, DirectWriter, StandardStream};

@@ -9,26 +9,26 @@ use Rattle.yp_office.specs.Seeing.{Seeing, moment}
 use Rattle.yp_tools.specs.Commands.{CommandDoes}
 
 -- both
-pub record KeepsOffice {S K D C A T : Type 0} (seen : Seeing S K D C A T) (old new : Office S K D C A T) : Type 0 where
+pub record KeepsOffice {S K D C A I T : Type 0} (seen : Seeing S K D C A I T) (old new : Office S K D C A I T) : Type 0 where
   pub names : names_of new.disks.items ≡ names_of old.disks.items
   pub told : moment seen new ≡ moment seen old
 
-module _ {S K D C A T : Type 0} (seen : Seeing S K D C A T) (status : Status) (old new : Office S K D C A T) (before after : List Wire) where
-  by_stays : (all : Office S K D C A T) → new ≡ all → names_of all.disks.items ≡ names_of old.disks.items → moment seen all ≡ moment seen old → KeepsOffice seen old new
+module _ {S K D C A I T : Type 0} (seen : Seeing S K D C A I T) (status : Status) (old new : Office S K D C A I T) (before after : List Wire) where
+  by_stays : (all : Office S K D C A I T) → new ≡ all → names_of all.disks.items ≡ names_of old.disks.items → moment seen all ≡ moment seen old → KeepsOffice seen old new
   by_stays all same names told = record {
-    names = ap (λ (o : Office S K D C A T). names_of o.disks.items) same ∙ names;
-    told = ap (λ (o : Office S K D C A T). seen.clock.moment o.clock) same ∙ told;
+    names = ap (λ (o : Office S K D C A I T). names_of o.disks.items) same ∙ names;
+    told = ap (λ (o : Office S K D C A I T). seen.clock.moment o.clock) same ∙ told;
   }
 
   pub command_keeps : (meaning : Meaning) → CommandDoes seen meaning status old new before after → KeepsOffice seen old new
   unfolding CommandDoes
   command_keeps (Once store rows) h = by_stays (record old { wire = new.wire }) h.stays refl refl
   command_keeps (Session own peer stores hosts) h = record { names = h.names; told = h.told }
-  command_keeps (Check store) h = record { names = h.0.names; told = ap (λ (o : Office S K D C A T). seen.clock.moment o.clock) h.0.stays }
+  command_keeps (Check store) h = record { names = h.0.names; told = ap (λ (o : Office S K D C A I T). seen.clock.moment o.clock) h.0.stays }
   command_keeps (Build name store flag) h = record { names = h.0.does.names; told = h.0.does.told }
   command_keeps (Xfr name force store host flag) h = record {
     names = h.0.does.names;
-    told = ap (λ (o : Office S K D C A T). seen.clock.moment o.clock) h.0.does.stays;
+    told = ap (λ (o : Office S K D C A I T). seen.clock.moment o.clock) h.0.does.stays;
   }
   command_keeps (Sample start count) h = by_stays (record old { wire = record old.wire { sink = new.wire.sink } }) h.0.stays refl refl
   command_keeps (Ask peer question) h = by_stays (record old { wire = record old.wire { sink = new.wire.sink }; dial = new.dial }) h.0.stays refl refl

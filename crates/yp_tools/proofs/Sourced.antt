@@ -90,8 +90,8 @@ line_done text Done before after tells fine = inl refl
 line_done text WriteFault before after tells fine = absurd (fine refl)
 line_done text _ before after tells fine = absurd tells
 
-module _ {S K D C A T : Type 0} (seen : Seeing S K D C A T) (order : Order) (status : Status)
-    (old new : Office S K D C A T) where
+module _ {S K D C A I T : Type 0} (seen : Seeing S K D C A I T) (order : Order) (status : Status)
+    (old new : Office S K D C A I T) where
   module _ (catalogue : Catalogue) (after : Log) where
     -- what was fetched is the source's
     stored_of : (held : Held) (outcome : Outcome) (result : Result Installed XfrFault) (Failed : Type 0)

@@ -31,7 +31,7 @@ pub unparsed_may : (command : Result Meaning ℕ) (why : ParseFault) → IsUsage
 unparsed_may command (fault.Usage word) h = usage_may command word h
 unparsed_may command fault.NoMemory h = memory_may command h
 
-module _ {S K D C A T : Type 0} (seen : Seeing S K D C A T) (office : Office S K D C A T) (wires : List Wire) where
+module _ {S K D C A I T : Type 0} (seen : Seeing S K D C A I T) (office : Office S K D C A I T) (wires : List Wire) where
   usage_does : (command : Result Meaning ℕ) (word : ℕ) → command ≡ Err word → Does seen command (Usage word) office office wires wires
   usage_does (Ok meaning) word e = absurd cc
   usage_does (Err other) word e = let same : other ≡ word = cc in rw same (refl, refl, refl)

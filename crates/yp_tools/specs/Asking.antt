@@ -39,7 +39,7 @@ status_of (Err (fault.Client (client.Rows row why))) = row_status row why
 status_of (Err (fault.Client client.NoMemory)) = NoMemory
 
 -- what the dial and the output of an office tell
-abbrev pub scene : {S K D C A T : Type 0} → Seeing S K D C A T → Office S K D C A T → Scene
+abbrev pub scene : {S K D C A I T : Type 0} → Seeing S K D C A I T → Office S K D C A I T → Scene
 scene seen office =
     scene_of seen.dial.past seen.dial.faults seen.sink.output seen.sink.faults office.dial office.wire.sink
 
@@ -75,8 +75,8 @@ ask_may_end _ = false
 -- question, the text, or the refusal, is what the maps of that server tell at its first call, and for `poll` at its
 -- second: all rows of one version, the value of the key in it, its master, its order, or the names of maps. Where the
 -- wire gives whole replies that answer its calls, and nothing fails, it is answered.
-pub record AskDoes {S K D C A T : Type 0} (seen : Seeing S K D C A T) (peer : Peer) (question : ByteQuestion)
-    (status : Status) (old new : Office S K D C A T) : Type 0 where
+pub record AskDoes {S K D C A I T : Type 0} (seen : Seeing S K D C A I T) (peer : Peer) (question : ByteQuestion)
+    (status : Status) (old new : Office S K D C A I T) : Type 0 where
   pub asks : AsksAs peer question status (scene seen old) (scene seen new)
   pub prints : (catalogue : Catalogue) (caller : Peer) (turns : List Turn) (rest : List ℕ) (before after : Log)
       → AnswersCalls catalogue caller question turns before after

@@ -19,8 +19,8 @@ use Rattle.yp_tools.specs.Transferring.{TransferDoes}
 use Rattle.yp_tools.specs.declared.program.Outside.{Outside}
 
 -- what a command does to the office and to a witness's wires, with this status
-unfoldable pub CommandDoes : {S K D C A T : Type 0} → Seeing S K D C A T → Meaning → Status
-    → (old new : Office S K D C A T) → (before after : List Wire) → Type 0
+unfoldable pub CommandDoes : {S K D C A I T : Type 0} → Seeing S K D C A I T → Meaning → Status
+    → (old new : Office S K D C A I T) → (before after : List Wire) → Type 0
 CommandDoes seen (Once store rows) status old new before after = OnceDoes seen store rows status old new before after
 CommandDoes seen (Session own peer stores hosts) status old new before after =
     SessionDoes seen own peer stores hosts status old new before after
@@ -35,7 +35,7 @@ CommandDoes seen (Ask peer question) status old new before after =
     AskDoes seen peer question status old new × (after ≡ before)
 
 -- memory ran out for what is copied of the words, and nothing has changed
-pub record IsForgone {S K D C A T : Type 0} (meaning : Meaning) (status : Status) (old new : Office S K D C A T)
+pub record IsForgone {S K D C A I T : Type 0} (meaning : Meaning) (status : Status) (old new : Office S K D C A I T)
     (before after : List Wire) : Type 0 where
   pub takes_memory : TakesMemory meaning
   pub told : status ≡ NoMemory
@@ -43,8 +43,8 @@ pub record IsForgone {S K D C A T : Type 0} (meaning : Meaning) (status : Status
   pub unseen : after ≡ before
 
 -- what is done for the command that the words are; words that are none are told, and nothing is done
-abbrev pub Does : {S K D C A T : Type 0} → Seeing S K D C A T → Result Meaning ℕ → Status
-    → (old new : Office S K D C A T) → (before after : List Wire) → Type 0
+abbrev pub Does : {S K D C A I T : Type 0} → Seeing S K D C A I T → Result Meaning ℕ → Status
+    → (old new : Office S K D C A I T) → (before after : List Wire) → Type 0
 Does seen (Ok meaning) status old new before after =
     CommandDoes seen meaning status old new before after ⊎ IsForgone meaning status old new before after
 Does seen (Err word) status old new before after = (status ≡ Usage word) × (new ≡ old) × (after ≡ before)
@@ -69,11 +69,12 @@ parse_status (fault.Usage word) = Usage word
 parse_status fault.NoMemory = NoMemory
 
 -- what a command reaches of the outside
-abbrev pub office_of : {S K D C A T : Type 0} → Outside S K D C A T → Office S K D C A T
+abbrev pub office_of : {S K D C A I T : Type 0} → Outside S K D C A I T → Office S K D C A I T
 office_of outside = record {
   wire = record { source = outside.input; sink = outside.output };
   disks = outside.disks;
   clock = outside.clock;
   dial = outside.dial;
+  inbox = outside.inbox;
   texts = outside.texts;
 }

@@ -41,8 +41,8 @@ pub record IsToldHeld (old : Option History) (held : Held) : Type 0 where
 -- fetch, on a log that rises, and the version is told as stored, it is the one that the server showed at all four of
 -- its replies. Where the wire gives replies that say a version against which nothing stands, and nothing fails, it is
 -- stored and told.
-pub record TransferDoes {S K D C A T : Type 0} (seen : Seeing S K D C A T) (order : Order) (status : Status)
-    (old new : Office S K D C A T) : Type 0 where
+pub record TransferDoes {S K D C A I T : Type 0} (seen : Seeing S K D C A I T) (order : Order) (status : Status)
+    (old new : Office S K D C A I T) : Type 0 where
   pub does : XfrDoes seen order status old new
   pub of_source : (catalogue : Catalogue) (caller : Peer) (turns : List Turn) (rest : List ℕ) (before after : Log)
       → AnswersFetch catalogue caller order.store.0 order.store.1 turns before after

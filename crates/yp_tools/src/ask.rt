@@ -11,7 +11,7 @@ use std::alloc::Global;
 use std::random::RandomSource;
 use yp_client::ClientFault;
 use yp_exchange::laws;
-use yp_io::{Clock, Dial, Disk, Peer, Sink, Source, Texts};
+use yp_io::{Clock, Dial, Disk, Inbox, Peer, Sink, Source, Texts};
 use yp_office::{Office, Status, status_of_row};
 use yp_query::{QueryFault, query};
 use yp_question::Question;
@@ -51,18 +51,19 @@ fn status_of(fault: QueryFault) -> Status
 }
 
 /// Asks the server at `to` a question, and prints its answer.
-pub fn ask<S: Source, K: Sink, D: Disk, C: Clock, A: Dial, T: Texts>(
+pub fn ask<S: Source, K: Sink, D: Disk, C: Clock, A: Dial, I: Inbox, T: Texts>(
     alloc: Global,
     rt: &impl RandomSource,
     to: Peer,
     question: &Question<Vec<u8>>,
-    office: &mut Office<S, K, D, C, A, T>,
+    office: &mut Office<S, K, D, C, A, I, T>,
 ) -> Status
     requires { QuestionIsWithin (bytes_of question.now) }
-    ensures does { AskDoes (seeing S.Source K.Sink D.Disk C.Clock A.Dial T.Texts)
+    ensures does { AskDoes (seeing S.Source K.Sink D.Disk C.Clock A.Dial I.Inbox T.Texts)
         to (bytes_of question.now) result office.old office.new }
     ensures may_end { IsTrue (ask_may_end result) }
-    ensures passed_on { IsPassedOn (seeing S.Source K.Sink D.Disk C.Clock A.Dial T.Texts) result office.old office.new }
+    ensures passed_on { IsPassedOn (seeing S.Source K.Sink D.Disk C.Clock A.Dial I.Inbox T.Texts)
+        result office.old office.new }
     ensures tellable { IsTellable result }
 {
     laws::log_run_is_printed();

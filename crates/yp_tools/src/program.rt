@@ -14,7 +14,7 @@ use crate::ask::ask;
 use crate::transferring::transfer;
 use std::alloc::Global;
 use std::random::RandomSource;
-use yp_io::{Clock, Dial, Disk, Pair, Sink, Source, Texts, write_all};
+use yp_io::{Clock, Dial, Disk, Inbox, Pair, Sink, Source, Texts, write_all};
 use yp_office::{NamedDisk, Office, Status};
 use yp_serving::{serve_once, serve_session, tell_sample};
 use yp_session::{Trail, Witness};
@@ -23,7 +23,7 @@ use yp_words::{Command, ParseFault, parse};
 
 /// What the program reaches outside itself.
 #[derive(Drop)]
-pub struct Outside<S, K, D, C, A, T> {
+pub struct Outside<S, K, D, C, A, I, T> {
     /// What it reads.
     pub input: S,
     /// What it writes.
@@ -36,24 +36,27 @@ pub struct Outside<S, K, D, C, A, T> {
     pub clock: C,
     /// What opens connections to servers.
     pub dial: A,
+    /// What receives datagrams at the port that its words name.
+    pub inbox: I,
     /// The texts that maps are made of.
     pub texts: T,
 }
 
 /// Does what a command asks for.
-fn obey<S: Source, K: Sink, D: Disk, C: Clock, A: Dial, T: Texts, W: Witness<S, K>>(
+fn obey<S: Source, K: Sink, D: Disk, C: Clock, A: Dial, I: Inbox, T: Texts, W: Witness<S, K>>(
     alloc: Global,
     rt: &impl RandomSource,
     command: Command,
-    office: Office<S, K, D, C, A, T>,
+    office: Office<S, K, D, C, A, I, T>,
     witness: &mut W,
-) -> (Status, Office<S, K, D, C, A, T>)
+) -> (Status, Office<S, K, D, C, A, I, T>)
     requires names { HasNames (meaning command) }
     requires disks { names_of office.disks.items ≡ stores_of (meaning command) }
-    ensures does { CommandDoes (seeing S.Source K.Sink D.Disk C.Clock A.Dial T.Texts)
+    ensures does { CommandDoes (seeing S.Source K.Sink D.Disk C.Clock A.Dial I.Inbox T.Texts)
         (meaning command) result.0 office result.1 (W.wires witness.old) (W.wires witness.new) }
     ensures may_end { IsTrue (may_end (meaning command) result.0) }
-    ensures passed_on { IsPassedOn (seeing S.Source K.Sink D.Disk C.Clock A.Dial T.Texts) result.0 office result.1 }
+    ensures passed_on { IsPassedOn (seeing S.Source K.Sink D.Disk C.Clock A.Dial I.Inbox T.Texts)
+        result.0 office result.1 }
     ensures tellable { IsTellable result.0 }
 {
     let mut office = office;
@@ -98,21 +101,21 @@ pub fn tell<K: Sink>(notes: &mut K, status: &Status)
 
 /// Does all that a command asks for, on the outside that it hands back, and writes a note of how it ended. The witness
 /// sees the wire behind each record that was answered.
-pub fn run_command<S: Source, K: Sink, D: Disk, C: Clock, A: Dial, T: Texts, W: Witness<S, K>>(
+pub fn run_command<S: Source, K: Sink, D: Disk, C: Clock, A: Dial, I: Inbox, T: Texts, W: Witness<S, K>>(
     alloc: Global,
     rt: &impl RandomSource,
     command: Command,
-    outside: Outside<S, K, D, C, A, T>,
+    outside: Outside<S, K, D, C, A, I, T>,
     witness: &mut W,
-) -> (Status, Outside<S, K, D, C, A, T>)
+) -> (Status, Outside<S, K, D, C, A, I, T>)
     requires names { HasNames (meaning command) }
     requires disks { names_of outside.disks.items ≡ stores_of (meaning command) }
-    ensures does { CommandDoes (seeing S.Source K.Sink D.Disk C.Clock A.Dial T.Texts) (meaning command) result.0
+    ensures does { CommandDoes (seeing S.Source K.Sink D.Disk C.Clock A.Dial I.Inbox T.Texts) (meaning command) result.0
         (office_of outside) (office_of result.1) (W.wires witness.old) (W.wires witness.new) }
     ensures may_end { IsTrue (may_end (meaning command) result.0) }
     ensures disks { names_of result.1.disks.items ≡ names_of outside.disks.items }
     ensures clock { C.moment result.1.clock ≡ C.moment outside.clock }
-    ensures passed_on { IsPassedOn (seeing S.Source K.Sink D.Disk C.Clock A.Dial T.Texts) result.0
+    ensures passed_on { IsPassedOn (seeing S.Source K.Sink D.Disk C.Clock A.Dial I.Inbox T.Texts) result.0
         (office_of outside) (office_of result.1) }
     ensures note { ¬ HasRisen (K.faults outside.notes) (K.faults result.1.notes)
         → Appends (K.output outside.notes) (K.output result.1.notes) (note result.0) }
@@ -124,6 +127,7 @@ pub fn run_command<S: Source, K: Sink, D: Disk, C: Clock, A: Dial, T: Texts, W: 
         disks,
         clock,
         dial,
+        inbox,
         texts,
     } = outside;
     let wire = Pair {
@@ -135,6 +139,7 @@ pub fn run_command<S: Source, K: Sink, D: Disk, C: Clock, A: Dial, T: Texts, W: 
         disks,
         clock,
         dial,
+        inbox,
         texts,
     };
     let (status, office) = obey(alloc, rt, command, office, witness);
@@ -146,26 +151,27 @@ pub fn run_command<S: Source, K: Sink, D: Disk, C: Clock, A: Dial, T: Texts, W: 
         disks: office.disks,
         clock: office.clock,
         dial: office.dial,
+        inbox: office.inbox,
         texts: office.texts,
     };
     (status, outside)
 }
 
 /// Does all that the words ask for, as [`run`] does. The witness sees the wire behind each record that was answered.
-pub fn run_watched<S: Source, K: Sink, D: Disk, C: Clock, A: Dial, T: Texts, W: Witness<S, K>>(
+pub fn run_watched<S: Source, K: Sink, D: Disk, C: Clock, A: Dial, I: Inbox, T: Texts, W: Witness<S, K>>(
     alloc: Global,
     rt: &impl RandomSource,
     words: &[String],
-    outside: Outside<S, K, D, C, A, T>,
+    outside: Outside<S, K, D, C, A, I, T>,
     witness: &mut W,
-) -> (Status, Outside<S, K, D, C, A, T>)
+) -> (Status, Outside<S, K, D, C, A, I, T>)
     requires { names_of outside.disks.items ≡ disk_names (texts words.now) }
-    ensures does { Does (seeing S.Source K.Sink D.Disk C.Clock A.Dial T.Texts) (command_of (texts words.now)) result.0
-        (office_of outside) (office_of result.1) (W.wires witness.old) (W.wires witness.new) }
+    ensures does { Does (seeing S.Source K.Sink D.Disk C.Clock A.Dial I.Inbox T.Texts)
+        (command_of (texts words.now)) result.0 (office_of outside) (office_of result.1) (W.wires witness.old) (W.wires witness.new) }
     ensures may_end { MayEnd (command_of (texts words.now)) result.0 }
     ensures disks { names_of result.1.disks.items ≡ names_of outside.disks.items }
     ensures clock { C.moment result.1.clock ≡ C.moment outside.clock }
-    ensures passed_on { IsPassedOn (seeing S.Source K.Sink D.Disk C.Clock A.Dial T.Texts) result.0
+    ensures passed_on { IsPassedOn (seeing S.Source K.Sink D.Disk C.Clock A.Dial I.Inbox T.Texts) result.0
         (office_of outside) (office_of result.1) }
     ensures note { ¬ HasRisen (K.faults outside.notes) (K.faults result.1.notes)
         → Appends (K.output outside.notes) (K.output result.1.notes) (note result.0) }
@@ -194,17 +200,17 @@ fn status_of(fault: ParseFault) -> Status
 
 /// Does all that the program does: what the words ask for, on the outside that it hands back, and a note of how it
 /// ended. The records of the input are those of its one cut (RFC 5531 section 11), at most 262,144 bytes each.
-pub fn run<S: Source, K: Sink, D: Disk, C: Clock, A: Dial, T: Texts>(
+pub fn run<S: Source, K: Sink, D: Disk, C: Clock, A: Dial, I: Inbox, T: Texts>(
     alloc: Global,
     rt: &impl RandomSource,
     words: &[String],
-    outside: Outside<S, K, D, C, A, T>,
-) -> (Status, Outside<S, K, D, C, A, T>)
+    outside: Outside<S, K, D, C, A, I, T>,
+) -> (Status, Outside<S, K, D, C, A, I, T>)
     requires { names_of outside.disks.items ≡ disk_names (texts words.now) }
 
     // What is done for the words, by the one relation of their command, over the wires that a witness of the run saw
     // behind its answered records.
-    ensures does { (wires : List Wire) × Does (seeing S.Source K.Sink D.Disk C.Clock A.Dial T.Texts)
+    ensures does { (wires : List Wire) × Does (seeing S.Source K.Sink D.Disk C.Clock A.Dial I.Inbox T.Texts)
         (command_of (texts words.now)) result.0 (office_of outside) (office_of result.1) [] wires }
 
     // How it may end.
@@ -215,7 +221,7 @@ pub fn run<S: Source, K: Sink, D: Disk, C: Clock, A: Dial, T: Texts>(
     ensures clock { C.moment result.1.clock ≡ C.moment outside.clock }
 
     // What was taken was passed on, but for a write fault.
-    ensures passed_on { IsPassedOn (seeing S.Source K.Sink D.Disk C.Clock A.Dial T.Texts) result.0
+    ensures passed_on { IsPassedOn (seeing S.Source K.Sink D.Disk C.Clock A.Dial I.Inbox T.Texts) result.0
         (office_of outside) (office_of result.1) }
 
     // The status is told.

@@ -275,6 +275,16 @@ stores_in (Err word) = []
 abbrev pub disk_names : List (List ℕ) → List Name
 disk_names words = stores_in (command_of words)
 
+-- the port at which a command receives datagrams, where it does
+abbrev pub port_of : Meaning → Option ℕ
+port_of (Once store rows) = None
+port_of (Session own peer stores hosts) = None
+port_of (Check store) = None
+port_of (Build name store flag) = None
+port_of (Xfr name force store host flag) = None
+port_of (Sample start count) = None
+port_of (Ask peer question) = None
+
 -- ---- what the code has
 
 abbrev pub row_view : KeyValue → Row

@@ -11,4 +11,4 @@ mod serving;
 mod words;
 
 pub use command::{Command, HostWord, KeyValue};
-pub use words::{ParseFault, disk_names, parse, stores_of};
+pub use words::{ParseFault, disk_names, parse, port_of, stores_of};

@@ -4,7 +4,7 @@ ghost use Rattle.std.specs.Prelude.{◌≡◌, [], ◌∷◌, drop, map, Ok, IfO
 ghost use Rattle.yp_board.specs.Catalogues.{name_view};
 ghost use Rattle.yp_question.specs.Questions.{bytes_of, question_map};
 ghost use Rattle.yp_words.specs.Words.{name_of, row_of, value_of, peer_of, host_of, served, known, word_at};
-ghost use Rattle.yp_words.specs.Words.{command_of, disk_names, stores_of, row_view, host_view, meaning, texts};
+ghost use Rattle.yp_words.specs.Words.{command_of, disk_names, stores_of, port_of, row_view, host_view, meaning, texts};
 ghost use Rattle.yp_words.specs.Words.{asks_of, once, session, check, sample, Build, Xfr, TakesMemory};
 ghost use Rattle.yp_words.specs.Words.{IsSentenceOfWords};
 ghost use Rattle.yp_words.specs.Forms.{is_force};
@@ -299,6 +299,21 @@ pub fn stores_of(alloc: Global, command: &Command) -> Result<Vec<MapName>, NoMem
     match names {
         Ok(names) => Ok(names),
         Err(AllocError) => Err(NoMemory),
+    }
+}
+
+/// The port at which a command receives datagrams, where it does.
+pub fn port_of(command: &Command) -> Option<u16>
+    ensures { result ≡ port_of (meaning command.now) }
+{
+    match command {
+        Command::Once { .. } => None,
+        Command::Session { .. } => None,
+        Command::Check { .. } => None,
+        Command::Build { .. } => None,
+        Command::Xfr { .. } => None,
+        Command::Sample { .. } => None,
+        Command::Ask { .. } => None,
     }
 }
 

@@ -4,7 +4,7 @@ use Rattle.std.proofs.Common.{sym, ap, subst, ◌∙◌, append_assoc, arith}
 use Rattle.std.proofs.lemmas.Bool.{ltb-false, le-ltb}
 use Rattle.std.proofs.lemmas.List.{append-nil, length-append}
 use Rattle.yp_xdr.specs.declared.fault.XdrFault.TheVariants.{TooLong}
-use Rattle.yp_xdr.specs.Kind.{Kind, U32, I32, Boolean, Enum, Fixed, Opaque, Sequence, Optional, ListOf, Value}
+use Rattle.yp_xdr.specs.Kind.{Kind, U32, I32, Boolean, Enum, Fixed, Opaque, Sequence, Union, Optional, ListOf, Value}
 use Rattle.yp_xdr.specs.Spelling.{word, fixed, opaque, spelling, Fits}
 use Rattle.yp_xdr.specs.Reading.{Unread, ◌>>=◌, word_at, content_at, opaque_at, reading, BeginsWith, IsBytes}
 use Rattle.yp_xdr.specs.Laws.{OneSpelling, NoSpellingBeginsAnother, WrittenIsReadAgain, ReadIsSpelled}
@@ -13,6 +13,7 @@ use Rattle.yp_xdr.proofs.Words.{bind_ok, guard_ok, ok_is, IsBytes-behind, word_t
 use Rattle.yp_xdr.proofs.Items.{signed_again, signed_takes, bool_again, bool_takes, one_of_again, one_of_takes}
 use Rattle.yp_xdr.proofs.Items.{fixed_again, fixed_takes}
 use Rattle.yp_xdr.proofs.Lists.{optional_again, optional_takes, list_again, list_takes, list_in_turn}
+use Rattle.yp_xdr.proofs.Unions.{union_again, union_takes}
 
 -- two spellings of a value are the one that the definition gives
 pub one_spelling : OneSpelling
@@ -51,6 +52,8 @@ again (Sequence first second) value at rest fits =
     let end : at + length a + length b ≡ at + length (a ++ b) = omega (arith, length-append a b) in
     rw (split, again first value.0 at (b ++ rest) fits.0, again second value.1 (at + length a) rest fits.1)
     (ap (λ (k : ℕ). Ok (value, record { at = k; bytes = rest })) end)
+again (Union one first other second) value at rest fits =
+    union_again one other first second (again first) (again second) value at rest fits
 again (Optional kind) value at rest fits = optional_again kind (again kind) value at rest fits
 again (ListOf kind) values at rest fits = list_again kind (again kind) values at rest fits
 
@@ -142,6 +145,8 @@ read_is_spelled (Sequence first second) old new value are_bytes e =
     let P : Value (Sequence first second) × Unread → Type 0 = λ y. BeginsWith (Sequence first second) y.0 old y.1 in
     subst P (ok_is _ (value, new) _ _ refl refl b.2)
     (begins_sequence first second a.0.0 b.0.0 old a.0.1 b.0.1 one other)
+read_is_spelled (Union one first other second) old new value are_bytes e =
+    union_takes one other first second (read_is_spelled first) (read_is_spelled second) old new value are_bytes e
 read_is_spelled (Optional kind) old new value are_bytes e =
     optional_takes kind (read_is_spelled kind) old new value are_bytes e
 read_is_spelled (ListOf kind) old new values are_bytes e =

@@ -37,7 +37,7 @@ optional_again kind again (Some value) at rest fits =
     (ap (λ (k : ℕ). Ok (Some value, record { at = k; bytes = rest })) end)
 
 -- what a boolean decides
-cond_ok : {A : Type 0} (b : Bool) (one other : Result A XdrFault) (y : A) (P : Type 0) → cond b one other ≡ Ok y
+pub cond_ok : {A : Type 0} (b : Bool) (one other : Result A XdrFault) (y : A) (P : Type 0) → cond b one other ≡ Ok y
     → (b ≡ true → one ≡ Ok y → P) → (b ≡ false → other ≡ Ok y → P) → P
 cond_ok true one other y P e on_true on_false = on_true refl e
 cond_ok false one other y P e on_true on_false = on_false refl e

@@ -1,5 +1,5 @@
 -- The kinds of XDR values, by RFC 4506 section 4, and what a value of each kind is.
-use Rattle.std.specs.Prelude.{ℕ, ℤ, Bool, List, Option}
+use Rattle.std.specs.Prelude.{ℕ, ℤ, Bool, List, Option, ◌⊎◌}
 
 pub data Kind : Type 0 where
   -- section 4.2, an unsigned integer of 32 bits
@@ -16,6 +16,8 @@ pub data Kind : Type 0 where
   Opaque : (max : ℕ) → Kind
   -- section 4.14, one value after the other
   Sequence : (first second : Kind) → Kind
+  -- section 4.15, a value of one kind behind the number one, or of another kind behind another number
+  Union : (one : ℤ) (first : Kind) (other : ℤ) (second : Kind) → Kind
   -- section 4.19, a value or none
   Optional : (kind : Kind) → Kind
   -- section 4.19, any number of values, as a linked list
@@ -29,5 +31,6 @@ Value (Enum allowed) = ℤ
 Value (Fixed n) = List ℕ
 Value (Opaque max) = List ℕ
 Value (Sequence first second) = Value first × Value second
+Value (Union one first other second) = Value first ⊎ Value second
 Value (Optional kind) = Option (Value kind)
 Value (ListOf kind) = List (Value kind)

@@ -1,11 +1,13 @@
 -- What a reader answers: the value that the next bytes spell, or the fault of the first item that is refused.
 use Rattle.std.specs.Prelude.{◌≡◌, ℕ, ℤ, zero, suc, ◌+◌, ◌<◌, Bool, true, false, List, [], ◌∷◌, ◌++◌, length, take}
 use Rattle.std.specs.Prelude.{drop, Option, Some, None, Result, Ok, Err, not, nat_lt, ◌==◌, if◌then◌else◌, position}
-use Rattle.std.specs.Prelude.{slice_index}
+use Rattle.std.specs.Prelude.{slice_index, ◌⊎◌}
+use Rattle.std.specs.Ordering.{int_eq}
+use Rattle.std.proofs.Common.{inl, inr}
 use Rattle.std.specs.Int.{w32, from_be_bytes, cast_signed}
 use Rattle.yp_xdr.specs.declared.fault.XdrFault.{XdrFault}
 use Rattle.yp_xdr.specs.declared.fault.XdrFault.TheVariants.{Short, TooLong, Pad, BadBool, BadEnum}
-use Rattle.yp_xdr.specs.Kind.{Kind, U32, I32, Boolean, Enum, Fixed, Opaque, Sequence, Optional, ListOf, Value}
+use Rattle.yp_xdr.specs.Kind.{Kind, U32, I32, Boolean, Enum, Fixed, Opaque, Sequence, Union, Optional, ListOf, Value}
 use Rattle.yp_xdr.specs.Spelling.{is_one_of, padding_len, Spells}
 
 -- what is left to read: the place of its first byte, and its bytes
@@ -69,6 +71,27 @@ opaque_at max left = do
   len ← word_at left
   if nat_lt max len.0 then Err (TooLong left.at len.0) else content_at left.at len.0 len.1
 
+-- a value of the first kind of two
+abbrev pub first_at : {V W : Type 0} → (Unread → Result (V × Unread) XdrFault) → Unread
+    → Result ((V ⊎ W) × Unread) XdrFault
+first_at read left = do
+  value ← read left
+  Ok (inl value.0, value.1)
+
+-- a value of the second kind of two
+abbrev pub second_at : {V W : Type 0} → (Unread → Result (W × Unread) XdrFault) → Unread
+    → Result ((V ⊎ W) × Unread) XdrFault
+second_at read left = do
+  value ← read left
+  Ok (inr value.0, value.1)
+
+-- a value behind one of two numbers, of the kind that the number says
+abbrev pub union_at : {V W : Type 0} → (one other : ℤ) → (Unread → Result (V × Unread) XdrFault)
+    → (Unread → Result (W × Unread) XdrFault) → Unread → Result ((V ⊎ W) × Unread) XdrFault
+union_at one other read_first read_second left = do
+  number ← one_of_at (one ∷ other ∷ []) left
+  if int_eq one number.0 then first_at read_first number.1 else second_at read_second number.1
+
 -- a value that is there
 abbrev pub some_at : {V : Type 0} → (Unread → Result (V × Unread) XdrFault) → Unread
     → Result (Option V × Unread) XdrFault
@@ -117,6 +140,7 @@ reading (Sequence first second) left = do
   one ← reading first left
   other ← reading second one.1
   Ok ((one.0, other.0), other.1)
+reading (Union one first other second) left = union_at one other (reading first) (reading second) left
 reading (Optional kind) left = optional_at (reading kind) left
 reading (ListOf kind) left = list_at (reading kind) (length left.bytes) left
 

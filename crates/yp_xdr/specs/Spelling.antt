@@ -1,10 +1,11 @@
 -- How each value is spelled in bytes, by RFC 4506 sections 3 and 4.
 use Rattle.std.specs.Prelude.{◌≡◌, ℕ, ◌-◌, ◌%◌, ◌^◌, ◌<◌, ◌≤◌, ℤ, Bool, true, false, IsTrue, List, ◌++◌, length}
-use Rattle.std.specs.Prelude.{replicate, flat_map, All, Option, Some, None, IfSome, FitsSigned}
+use Rattle.std.specs.Prelude.{replicate, flat_map, All, Option, Some, None, IfSome, FitsSigned, [], ◌∷◌, ◌⊎◌}
+use Rattle.std.proofs.Common.{inl, inr}
 use Rattle.std.specs.List.{list_any}
 use Rattle.std.specs.Ordering.{int_eq}
 use Rattle.std.specs.Int.{w32, to_be_bytes, cast_unsigned}
-use Rattle.yp_xdr.specs.Kind.{Kind, U32, I32, Boolean, Enum, Fixed, Opaque, Sequence, Optional, ListOf, Value}
+use Rattle.yp_xdr.specs.Kind.{Kind, U32, I32, Boolean, Enum, Fixed, Opaque, Sequence, Union, Optional, ListOf, Value}
 
 -- four bytes, the highest first
 abbrev pub word : ℕ → List ℕ
@@ -48,6 +49,21 @@ optional spell (Some value) = present spell value
 abbrev pub list_of : {V : Type 0} → (V → List ℕ) → List V → List ℕ
 list_of spell values = flat_map (present spell) values ++ word (truth false)
 
+-- a value of the first kind behind one number, or of the second behind the other
+abbrev pub union : {V W : Type 0} → (one other : ℤ) → (V → List ℕ) → (W → List ℕ) → V ⊎ W → List ℕ
+union one other spell_first spell_second (inl value) = word (cast_unsigned w32 one) ++ spell_first value
+union one other spell_first spell_second (inr value) = word (cast_unsigned w32 other) ++ spell_second value
+
+-- a number is one of the two
+abbrev pub IsNumbered : (one other number : ℤ) → Type 0
+IsNumbered one other number = FitsSigned w32 number × IsTrue (is_one_of (one ∷ other ∷ []) number)
+
+-- the value of the first kind fits, or the one of the second, whose number isn't that of the first
+abbrev pub FitsUnion : {V W : Type 0} → (one other : ℤ) → (V → Type 0) → (W → Type 0) → V ⊎ W → Type 0
+FitsUnion one other FitsFirst FitsSecond (inl value) = IsNumbered one other one × FitsFirst value
+FitsUnion one other FitsFirst FitsSecond (inr value) =
+    IsNumbered one other other × (int_eq one other ≡ false) × FitsSecond value
+
 -- the values that a kind has
 abbrev pub Fits : (kind : Kind) → Value kind → Type 0
 Fits U32 n = n < 2 ^ 32
@@ -57,6 +73,7 @@ Fits (Enum allowed) z = FitsSigned w32 z × IsTrue (is_one_of allowed z)
 Fits (Fixed n) content = length content ≡ n
 Fits (Opaque max) content = (length content ≤ max) × (length content < 2 ^ 32)
 Fits (Sequence first second) value = Fits first value.0 × Fits second value.1
+Fits (Union one first other second) value = FitsUnion one other (Fits first) (Fits second) value
 Fits (Optional kind) value = IfSome value (Fits kind)
 Fits (ListOf kind) values = All (Fits kind) values
 
@@ -69,6 +86,7 @@ spelling (Enum allowed) z = word (cast_unsigned w32 z)
 spelling (Fixed n) content = fixed content
 spelling (Opaque max) content = opaque content
 spelling (Sequence first second) value = spelling first value.0 ++ spelling second value.1
+spelling (Union one first other second) value = union one other (spelling first) (spelling second) value
 spelling (Optional kind) value = optional (spelling kind) value
 spelling (ListOf kind) values = list_of (spelling kind) values
 

@@ -2,14 +2,8 @@
 use Rattle.std.specs.Prelude.{ℕ, List}
 use Rattle.yp_rpc.specs.Called.{call_of}
 use Rattle.yp_msgs.specs.declared.transfer.XfrStat.{XfrStat}
+use Rattle.yp_msgs.specs.Numbers.{push_version, xfrresp_procedure}
 use Rattle.yp_msgs.specs.Transfers.{resp_xfr, xfr_number}
-
--- the version and the procedure of the program
-abbrev pub push_version : ℕ
-push_version = 1
-
-abbrev pub xfrresp_procedure : ℕ
-xfrresp_procedure = 1
 
 -- a call with the number of the transaction, which has it and its status as arguments
 abbrev pub call_back_bytes : ℕ → ℕ → XfrStat → List ℕ

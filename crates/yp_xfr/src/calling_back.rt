@@ -6,14 +6,10 @@ ghost use Rattle.yp_io.specs.Dials.{Gains};
 ghost use Rattle.yp_xfr.specs.CallBack.{call_back_bytes};
 
 use yp_io::{Dial, Failed, Peer};
+use yp_msgs::protocol::{PUSHVERS, XFRRESP};
 use yp_msgs::{Message, RespXfr, XfrStat};
 use yp_rpc::write_call;
 use yp_xdr::{NoRoom, laws};
-
-/// The version of a program that is told how a transfer went, and its one procedure (yppush of `yp.x`).
-const PUSH_VERSION: u32 = 1;
-
-const XFRRESP: u32 = 1;
 
 /// The bytes of a call back.
 const CALL_BACK_LEN: usize = 48;
@@ -43,7 +39,7 @@ fn set_call_back(letter: &mut [u8], prog: u32, transid: u32, stat: XfrStat)
     ensures { letter.new ≡ call_back_bytes prog transid stat }
 {
     laws::written_is_joined();
-    let at = match write_call(letter, transid, prog, PUSH_VERSION, XFRRESP) {
+    let at = match write_call(letter, transid, prog, PUSHVERS, XFRRESP) {
         Ok(at) => at,
         Err(NoRoom) => unreachable!(),
     };

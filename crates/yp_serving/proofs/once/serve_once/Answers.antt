@@ -13,17 +13,17 @@ use Rattle.yp_serving.proofs.once.serve_once.Goals as goal
 
 pub returns-in-Err-clause-does : goal.returns-in-Err-clause-does
 returns-in-Err-clause-does g c =
-    nothing_served (seeing g.S.Source g.K.Sink g.D.Disk g.C.Clock g.A.Dial g.T.Texts) (name_view c.args.store) (map row_view c.args.rows.now) c.args.office.now
+    nothing_served (seeing g.S.Source g.K.Sink g.D.Disk g.C.Clock g.A.Dial g.I.Inbox g.T.Texts) (name_view c.args.store) (map row_view c.args.rows.now) c.args.office.now
     (g.W.Witness.wires c.args.witness.now) c.in-Err.status c.in-Err.ensures.cause
 
 pub returns-in-Err-board_of-clause-does : goal.returns-in-Err-board_of-clause-does
 returns-in-Err-board_of-clause-does g c =
-    nothing_served (seeing g.S.Source g.K.Sink g.D.Disk g.C.Clock g.A.Dial g.T.Texts) (name_view c.args.store) (map row_view c.args.rows.now) c.args.office.now
+    nothing_served (seeing g.S.Source g.K.Sink g.D.Disk g.C.Clock g.A.Dial g.I.Inbox g.T.Texts) (name_view c.args.store) (map row_view c.args.rows.now) c.args.office.now
     (g.W.Witness.wires c.args.witness.now) _ (inl refl)
 
 pub returns-in-Ok-board_of-clause-does : goal.returns-in-Ok-board_of-clause-does
 returns-in-Ok-board_of-clause-does g c =
-    let seen : Seeing g.row.S.Denot g.row.K.Denot g.row.D.Denot g.row.C.Denot g.row.A.Denot g.row.T.Denot = seeing g.S.Source g.K.Sink g.D.Disk g.C.Clock g.A.Dial g.T.Texts in
+    let seen : Seeing g.row.S.Denot g.row.K.Denot g.row.D.Denot g.row.C.Denot g.row.A.Denot g.row.I.Denot g.row.T.Denot = seeing g.S.Source g.K.Sink g.D.Disk g.C.Clock g.A.Dial g.I.Inbox g.T.Texts in
     let old = c.args.office.now in
     let new = record old { wire = c.serve.new.wire } in
     let did = c.serve.ensures in

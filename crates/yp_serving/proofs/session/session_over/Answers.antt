@@ -12,12 +12,12 @@ use Rattle.yp_serving.proofs.session.session_over.Goals as goal
 
 pub returns-clause-does : goal.returns-clause-does
 returns-clause-does g c =
-    let seen : Seeing g.row.S.Denot g.row.K.Denot g.row.D.Denot g.row.C.Denot g.row.A.Denot g.row.T.Denot = seeing g.S.Source g.K.Sink g.D.Disk g.C.Clock g.A.Dial g.T.Texts in
+    let seen : Seeing g.row.S.Denot g.row.K.Denot g.row.D.Denot g.row.C.Denot g.row.A.Denot g.row.I.Denot g.row.T.Denot = seeing g.S.Source g.K.Sink g.D.Disk g.C.Clock g.A.Dial g.I.Inbox g.T.Texts in
     let did = c.session_on-status in
     let old = c.args.office in
     let hosts = c.args.hosts in
     let desk = did.result.1 in
-    let new : Office g.row.S.Denot g.row.K.Denot g.row.D.Denot g.row.C.Denot g.row.A.Denot g.row.T.Denot = record { wire = did.new.wire; disks = did.new.disks; clock = desk.clock; dial = desk.dial; texts = desk.texts } in
+    let new : Office g.row.S.Denot g.row.K.Denot g.row.D.Denot g.row.C.Denot g.row.A.Denot g.row.I.Denot g.row.T.Denot = record { wire = did.new.wire; disks = did.new.disks; clock = desk.clock; dial = desk.dial; inbox = old.inbox; texts = desk.texts } in
     let after : HostList → Connection g.row.D.Denot (Desk g.row.A.Denot g.row.T.Denot g.row.C.Denot) = λ h. connection seen h new in
     let sessions = subst (λ (h : HostList). Grows (g.W.Witness.wires c.args.witness.now) (g.W.Witness.wires did.new.witness) (Sessions (service seen c.args.own.items c.args.peer (map name_view c.args.stores.items)) did.result.0 (connection seen hosts old) (after h))) did.ensures.hosts did.ensures.sessions in
     record {
@@ -32,4 +32,5 @@ returns-clause-does g c =
       causes = record { read_fault = did.ensures.read_fault; write_fault = did.ensures.write_fault; disk_fault = did.ensures.disk_fault };
       names = did.ensures.names;
       told = did.ensures.clock;
+      inbox = refl;
     }

@@ -17,7 +17,7 @@ build_on-built-requires-clause-only g c = one_name c.args.office.now.disks.items
 
 pub returns-in-Err-clause-does : goal.returns-in-Err-clause-does
 returns-in-Err-clause-does g c =
-    let seen : Seeing g.row.S.Denot g.row.K.Denot g.row.D.Denot g.row.C.Denot g.row.A.Denot g.row.T.Denot = seeing g.S.Source g.K.Sink g.D.Disk g.C.Clock g.A.Dial g.T.Texts in
+    let seen : Seeing g.row.S.Denot g.row.K.Denot g.row.D.Denot g.row.C.Denot g.row.A.Denot g.row.I.Denot g.row.T.Denot = seeing g.S.Source g.K.Sink g.D.Disk g.C.Clock g.A.Dial g.I.Inbox g.T.Texts in
     let old = c.args.office.now in
     let new = record old { wire = record old.wire { source = c.read_all.new.source } } in
     let kind = c.in-Some.kind in
@@ -33,7 +33,7 @@ returns-in-Err-clause-does g c =
 
 pub returns-clause-does : goal.returns-clause-does
 returns-clause-does g c =
-    let seen : Seeing g.row.S.Denot g.row.K.Denot g.row.D.Denot g.row.C.Denot g.row.A.Denot g.row.T.Denot = seeing g.S.Source g.K.Sink g.D.Disk g.C.Clock g.A.Dial g.T.Texts in
+    let seen : Seeing g.row.S.Denot g.row.K.Denot g.row.D.Denot g.row.C.Denot g.row.A.Denot g.row.I.Denot g.row.T.Denot = seeing g.S.Source g.K.Sink g.D.Disk g.C.Clock g.A.Dial g.I.Inbox g.T.Texts in
     let old = c.args.office.now in
     let new = record old { wire = record { source = c.read_all.new.source; sink = c.tell_end.new.sink }; disks = c.build_on-built.new.disks; clock = c.now-now.new.self } in
     let kind = c.in-Some.kind in

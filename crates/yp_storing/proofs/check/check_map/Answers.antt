@@ -13,7 +13,7 @@ returns-clause-does g c =
     let rest : c.pop.new.self.items ≡ [] = popped c.args.office.now.disks.items c.pop.new.self.items before c.in-Some.ensures.items only in
     let one : c.args.office.now.disks.items ≡ before ∷ [] = c.in-Some.ensures.items ∙ ap (λ (l : List (NamedDisk g.row.D.Denot)). l ++ before ∷ []) rest in
     let other : c.push_reserved.new.self.items ≡ after ∷ [] = c.push_reserved.ensures.items ∙ ap (λ (l : List (NamedDisk g.row.D.Denot)). l ++ after ∷ []) rest in
-    checked_only (seeing g.S.Source g.K.Sink g.D.Disk g.C.Clock g.A.Dial g.T.Texts) (name_view c.args.store) c.check_disk-status.result.0
+    checked_only (seeing g.S.Source g.K.Sink g.D.Disk g.C.Clock g.A.Dial g.I.Inbox g.T.Texts) (name_view c.args.store) c.check_disk-status.result.0
     c.args.office.now (record c.args.office.now { wire = record c.args.office.now.wire { sink = c.check_disk-status.new.sink }; disks = c.push_reserved.new.self }) before after one other refl
     (record {
       tells = search rules;

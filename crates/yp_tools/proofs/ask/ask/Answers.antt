@@ -6,7 +6,7 @@ use Rattle.yp_tools.proofs.ask.ask.Goals as goal
 
 pub returns-in-Ok-clause-does : goal.returns-in-Ok-clause-does
 returns-in-Ok-clause-does g c =
-    let seen = seeing g.S.Source g.K.Sink g.D.Disk g.C.Clock g.A.Dial g.T.Texts in
+    let seen = seeing g.S.Source g.K.Sink g.D.Disk g.C.Clock g.A.Dial g.I.Inbox g.T.Texts in
     let old = c.args.office.now in
     let new = record old { wire = record old.wire { sink = c.query.new.sink }; dial = c.query.new.dial } in
     record {
@@ -22,7 +22,7 @@ returns-in-Ok-clause-does g c =
 
 pub returns-in-Err-clause-does : goal.returns-in-Err-clause-does
 returns-in-Err-clause-does g c =
-    let seen = seeing g.S.Source g.K.Sink g.D.Disk g.C.Clock g.A.Dial g.T.Texts in
+    let seen = seeing g.S.Source g.K.Sink g.D.Disk g.C.Clock g.A.Dial g.I.Inbox g.T.Texts in
     let old = c.args.office.now in
     let new = record old { wire = record old.wire { sink = c.query.new.sink }; dial = c.query.new.dial } in
     record {

@@ -13,7 +13,7 @@ pub returns-in-Session-clause-does : goal.returns-in-Session-clause-does
 unfolding CommandDoes
 returns-in-Session-clause-does g c =
     let wires = g.W.Witness.wires in
-    same_does (seeing g.S.Source g.K.Sink g.D.Disk g.C.Clock g.A.Dial g.T.Texts) c.args.office (wires c.args.witness.now) (meaning c.args.command)
+    same_does (seeing g.S.Source g.K.Sink g.D.Disk g.C.Clock g.A.Dial g.I.Inbox g.T.Texts) c.args.office (wires c.args.witness.now) (meaning c.args.command)
     (Session c.in-Session.name.items c.in-Session.addr (map name_view c.in-Session.stores.items) (map host_view c.in-Session.hosts.items))
     c.serve_session.result.0 c.serve_session.result.0 c.serve_session.result.1 c.serve_session.result.1 (wires c.serve_session.new.witness) (wires c.serve_session.new.witness)
     (ap meaning c.in-Session.is) refl refl refl c.serve_session.ensures.does
@@ -29,7 +29,7 @@ pub returns-clause-does : goal.returns-clause-does
 unfolding CommandDoes
 returns-clause-does g c =
     let wires = g.W.Witness.wires in
-    let by = same_does (seeing g.S.Source g.K.Sink g.D.Disk g.C.Clock g.A.Dial g.T.Texts) c.args.office (wires c.args.witness.now) (meaning c.args.command) in
+    let by = same_does (seeing g.S.Source g.K.Sink g.D.Disk g.C.Clock g.A.Dial g.I.Inbox g.T.Texts) c.args.office (wires c.args.witness.now) (meaning c.args.command) in
     elim c.match-command.branch [
       | in-Once w ↦
           by (Once (name_view w.in-Once.store) (map row_view w.deref.result.now)) c.match-command.status w.serve_once-status.result c.match-command.office w.serve_once-status.new.office (wires c.match-command.witness) (wires w.serve_once-status.new.witness)
@@ -85,7 +85,7 @@ returns-clause-may_end g c =
 
 pub returns-clause-passed_on : goal.returns-clause-passed_on
 returns-clause-passed_on g c =
-    let by = same_passed (seeing g.S.Source g.K.Sink g.D.Disk g.C.Clock g.A.Dial g.T.Texts) c.args.office in
+    let by = same_passed (seeing g.S.Source g.K.Sink g.D.Disk g.C.Clock g.A.Dial g.I.Inbox g.T.Texts) c.args.office in
     elim c.match-command.branch [
       | in-Once w ↦ by c.match-command.status w.serve_once-status.result c.match-command.office w.serve_once-status.new.office w.status-is w.office-is w.serve_once-status.ensures.passed_on
       | in-Sample w ↦ by c.match-command.status w.tell_sample-status.result c.match-command.office w.tell_sample-status.new.office w.status-is w.office-is w.tell_sample-status.ensures.passed_on

@@ -7,7 +7,7 @@ use Rattle.yp_tools.proofs.transferring.transfer.Goals as goal
 
 pub returns-clause-does : goal.returns-clause-does
 returns-clause-does g c =
-    let seen = seeing g.S.Source g.K.Sink g.D.Disk g.C.Clock g.A.Dial g.T.Texts in
+    let seen = seeing g.S.Source g.K.Sink g.D.Disk g.C.Clock g.A.Dial g.I.Inbox g.T.Texts in
     let order = order_of c.args.name.items c.args.force (name_view c.args.store) (host_view c.args.host) c.args.flag in
     let old = c.args.office.now in
     let new = c.transfer_map.new.office in
