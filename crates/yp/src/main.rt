@@ -25,6 +25,7 @@ use yp_tools::{
 fn locking_of(command: &Command) -> Locking {
     match command {
         Command::Build { .. } => Locking::AtOnce,
+        Command::Xfr { .. } => Locking::AtOnce,
         _ => Locking::AtFirstWrite,
     }
 }

@@ -2,15 +2,19 @@
 use Rattle.std.specs.Prelude.{ℕ, ◌≤◌, List, [], ◌++◌, length, codes, decimal, ⊤}
 use Rattle.std.specs.Fmt.{signed_decimal}
 use Rattle.yp_msgs.specs.Statuses.{stat_number}
+use Rattle.yp_msgs.specs.Transfers.{xfr_number}
 use Rattle.yp_version.specs.Limits.{master_max}
 use Rattle.yp_board.specs.Catalogues.{name_view}
 use Rattle.yp_office.specs.Lines.{map_text}
 use Rattle.yp_words.specs.Words.{IsNamed}
+use Rattle.yp_xfr.specs.declared.fault.XfrFault.{XfrFault}
+use Rattle.yp_xfr.specs.declared.fault.XfrFault.TheVariants.{Age, Skew}
+use Rattle.yp_xfr.specs.Faults.{stat_of}
 use Rattle.yp_office.specs.declared.status.Status.{Status}
 use Rattle.yp_office.specs.declared.status.Status.TheVariants.{Done, No, Usage, ReadFault, WriteFault, Torn, TooLong}
 use Rattle.yp_office.specs.declared.status.Status.TheVariants.{NoMemory, Damaged, NoVersion, DiskFault, Yp, Denied}
 use Rattle.yp_office.specs.declared.status.Status.TheVariants.{BadReply, BadXid, DialFault, Rows, OrderSpent, Refused}
-use Rattle.yp_office.specs.declared.status.Status.TheVariants.{GenerationsSpent, Enough}
+use Rattle.yp_office.specs.declared.status.Status.TheVariants.{GenerationsSpent, Enough, Xfr}
 
 -- the code with which the program ends
 abbrev pub code_of : Status → ℕ
@@ -30,6 +34,7 @@ code_of Denied = 12
 code_of (BadReply at) = 13
 code_of (BadXid want got) = 14
 code_of DialFault = 15
+code_of (Xfr fault) = 16
 code_of (Rows row rule) = 17
 code_of OrderSpent = 18
 code_of (Refused master) = 19
@@ -39,6 +44,12 @@ code_of Enough = 23
 -- a line of the program
 abbrev pub note_line : List ℕ → List ℕ
 note_line text = codes "yp: " ++ text ++ codes "\n"
+
+-- the two orders that were compared
+abbrev pub orders_text : XfrFault → List ℕ
+orders_text (Age shown offered) = codes " " ++ decimal shown ++ codes " " ++ decimal offered
+orders_text (Skew first second) = codes " " ++ decimal first ++ codes " " ++ decimal second
+orders_text fault = []
 
 -- the note of a status, and none where all was done, or the answer is no
 abbrev pub note : Status → List ℕ
@@ -60,6 +71,8 @@ note Denied = note_line (codes "refused by rpc")
 note (BadReply at) = note_line (codes "bad reply at " ++ decimal at)
 note (BadXid want got) = note_line (codes "wrong xid " ++ decimal got ++ codes " wanted " ++ decimal want)
 note DialFault = note_line (codes "cannot dial")
+note (Xfr fault) =
+    note_line (codes "transfer " ++ signed_decimal (xfr_number (stat_of fault)) ++ orders_text fault)
 note (Rows row rule) = note_line (codes "row " ++ decimal row ++ codes " rule " ++ decimal rule)
 note OrderSpent = note_line (codes "order spent")
 note (Refused master) = note_line (codes "mastered by " ++ master.items)

@@ -1,17 +1,20 @@
 //! How a run ended, and the note that tells it.
 
-ghost use Rattle.std.specs.Prelude.{◌≡◌, ◌≤◌, ◌++◌, length, decimal, codes};
+ghost use Rattle.std.specs.Prelude.{◌≡◌, ◌+◌, ◌≤◌, ◌++◌, length, decimal, codes};
 ghost use Rattle.std.specs.Fmt.{signed_decimal};
 ghost use Rattle.arrayvec.specs.ArrayVec.{array_vec_len};
 ghost use Rattle.yp_msgs.specs.Statuses.{stat_number};
+ghost use Rattle.yp_msgs.specs.Transfers.{xfr_number};
 ghost use Rattle.yp_board.specs.Catalogues.{name_view};
 ghost use Rattle.yp_office.specs.Lines.{map_text};
-ghost use Rattle.yp_office.specs.Status.{code_of, note, note_line, IsTellable};
+ghost use Rattle.yp_office.specs.Status.{code_of, note, note_line, orders_text, IsTellable};
 ghost use Rattle.yp_words.specs.Words.{IsNamed};
+ghost use Rattle.yp_xfr.specs.Faults.{stat_of};
 
-use crate::lines::{Line, add, add_map, add_number};
+use crate::lines::{LINE_MAX, Line, add, add_map, add_number};
 use yp_board::MapName;
 use yp_msgs::YpStat;
+use yp_xfr::XfrFault;
 
 /// How a run ended.
 #[derive(Debug, PartialEq, Eq, Drop)]
@@ -48,6 +51,8 @@ pub enum Status {
     BadXid { want: u32, got: u32 },
     /// No connection came.
     DialFault,
+    /// The map wasn't transferred, for this fault, which isn't want of memory.
+    Xfr { fault: XfrFault },
     /// This row is the first past a limit, by this rule: 1 its key is too long, 2 its value is too long, 3 there are
     /// too many rows, 4 they have too many bytes. The row is the number of its word, counted from 0, of its line, from
     /// 1, or of a row that a server sent, from 1.
@@ -84,6 +89,7 @@ impl Status {
             Status::BadReply { .. } => 13,
             Status::BadXid { .. } => 14,
             Status::DialFault => 15,
+            Status::Xfr { .. } => 16,
             Status::Rows { .. } => 17,
             Status::OrderSpent => 18,
             Status::Refused { .. } => 19,
@@ -114,6 +120,7 @@ impl Status {
             Status::BadReply { at } => numbered(b"bad reply at ", *at),
             Status::BadXid { want, got } => mistaken(*want, *got),
             Status::DialFault => line(b"cannot dial", b""),
+            Status::Xfr { fault } => untransferred(*fault),
             Status::Rows { row, rule } => ruled(*row, *rule),
             Status::OrderSpent => line(b"order spent", b""),
             Status::Refused { master } => line(b"mastered by ", master),
@@ -180,6 +187,39 @@ fn named(text: &[u8], map: &MapName) -> Line
     add_map(&mut note, map);
     add(&mut note, b"\n");
     note
+}
+
+/// The line of a map that wasn't transferred.
+fn untransferred(fault: XfrFault) -> Line
+    ensures { result.items
+        ≡ note_line (codes "transfer " ++ signed_decimal (xfr_number (stat_of fault)) ++ orders_text fault) }
+{
+    let mut note = Line::new();
+    add(&mut note, b"yp: transfer ");
+    add(
+        &mut note,
+        itoa::Buffer::new().format(fault.stat().number()).as_bytes(),
+    );
+    add_orders(&mut note, fault);
+    add(&mut note, b"\n");
+    note
+}
+
+/// Adds the two orders that were compared.
+fn add_orders(line: &mut Line, fault: XfrFault)
+    requires { array_vec_len line.old + 42 ≤ LINE_MAX }
+    ensures text { line.new.items ≡ line.old.items ++ orders_text fault }
+    ensures len { array_vec_len line.new ≤ array_vec_len line.old + 42 }
+{
+    let (first, second) = match fault {
+        XfrFault::Age { shown, offered } => (shown, offered),
+        XfrFault::Skew { first, second } => (first, second),
+        _ => return,
+    };
+    add(line, b" ");
+    add_number(line, u64::from(first));
+    add(line, b" ");
+    add_number(line, u64::from(second));
 }
 
 /// The line of a row, and of the rule that it breaks.

@@ -5,3 +5,4 @@ pub mod Going
 pub mod Giving
 pub mod Keeping
 pub mod Turning
+pub mod Sourcing

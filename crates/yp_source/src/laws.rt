@@ -3,8 +3,12 @@
 
 ghost use Rattle.yp_source.specs.Laws.{FetchedIsShown, ShownIsFetched};
 ghost use Rattle.yp_source.specs.Turns.{TurnsGiveFetch};
+ghost use Rattle.yp_source.specs.Runs.{WireIsFetched, RunIsFetched};
 
-use yp_exchange::laws::{all_tells, master_tells, order_tells, room_for_version, sent_is_whole};
+use yp_exchange::laws::{
+    all_tells, calls_have_replies, master_tells, order_tells, room_for_version, run_is_in_turn,
+    sent_is_whole,
+};
 use yp_rpc::laws::{first_is_one, rest_is_not_whole};
 use yp_version::laws::rising_stays;
 
@@ -45,4 +49,21 @@ pub fn turns_give_fetch()
     master_tells();
     all_tells();
     room_for_version();
+}
+
+/// What is fetched over the wire that came is what its bytes say, unless the dial failed or memory ran out.
+pub fn wire_is_fetched()
+    ensures { WireIsFetched }
+{}
+
+/// So what is fetched over a wire that gives what a server sent in a run over the calls of the fetch has the order, the
+/// master and the rows that the server showed at all four of its replies.
+pub fn run_is_fetched()
+    ensures { RunIsFetched }
+{
+    calls_have_replies();
+    run_is_in_turn();
+    turns_give_fetch();
+    fetched_is_shown();
+    wire_is_fetched();
 }

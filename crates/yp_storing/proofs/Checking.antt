@@ -1,5 +1,5 @@
 -- A file that was checked, where nothing failed.
-use Rattle.std.proofs.Common.{◌≡◌, ◌⊎◌, inl, inr, ℕ, ◌+◌, List, [], ◌∷◌, ◌++◌, length, Option, None, Some, refl, sym, ap, ◌∙◌, subst, arith}
+use Rattle.std.proofs.Common.{◌≡◌, ◌⊎◌, inl, inr, ℕ, ◌+◌, List, [], ◌∷◌, ◌++◌, length, map, Option, None, Some, refl, sym, ap, ◌∙◌, subst, arith}
 use Rattle.std.specs.Prelude.{IfSome, IsTrue}
 use Rattle.std.proofs.lemmas.List.{length-append}
 use Rattle.yp_io.specs.Counts.{HasRisen}
@@ -37,6 +37,16 @@ pub one_name : {D : Type 0} (disks : List (NamedDisk D)) (name : Name) → names
 one_name [] name h = absurd cc
 one_name (disk ∷ []) name h = refl
 one_name (disk ∷ another ∷ more) name h = absurd (omega (arith, ap length h))
+
+-- as many names as disks
+pub named_one : {D : Type 0} (names : List MapName) (disks : List (NamedDisk D)) → map name_view names ≡ names_of disks
+    → length disks ≡ 1 → length names ≡ 1
+named_one [] [] e one = absurd (omega (arith, one))
+named_one [] (disk ∷ disks) e one = absurd cc
+named_one (name ∷ names) [] e one = absurd cc
+named_one (name ∷ []) (disk ∷ disks) e one = refl
+named_one (name ∷ other ∷ names) (disk ∷ []) e one = absurd (omega (arith, ap length e))
+named_one (name ∷ other ∷ names) (disk ∷ another ∷ disks) e one = absurd (omega (arith, one))
 
 -- the one that was popped is the only one
 pub popped : {D : Type 0} (old rest : List (NamedDisk D)) (one : NamedDisk D) → old ≡ rest ++ one ∷ [] → length old ≡ 1 → rest ≡ []

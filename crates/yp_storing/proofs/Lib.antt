@@ -3,3 +3,5 @@ pub mod OnDisk
 pub mod Telling
 pub mod Checking
 pub mod Ending
+pub mod Transferring
+pub mod Transferred

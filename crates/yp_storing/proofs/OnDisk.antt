@@ -70,7 +70,7 @@ told_plan (Some h) job text now kept P few stood numbers f = subst (P h) (planne
 -- ---- disks
 
 -- one call after another
-then : (old middle new : Option History) (P Q R : List ℕ → Type 0) → ((image : List ℕ) → P image → R image) → ((image : List ℕ) → Q image → R image)
+pub then : (old middle new : Option History) (P Q R : List ℕ → Type 0) → ((image : List ℕ) → P image → R image) → ((image : List ℕ) → Q image → R image)
     → LeavesOnly old middle P → LeavesOnly middle new Q → LeavesOnly old new R
 then old middle new P Q R f g first second = record {
   goes_on = goes_on old middle new first.goes_on second.goes_on;
@@ -78,7 +78,7 @@ then old middle new P Q R f g first second = record {
 }
 
 -- where nothing is done
-nothing_left : (history : Option History) (P : List ℕ → Type 0) → ((image : List ℕ) → MayLeave history image → P image) → LeavesOnly history history P
+pub nothing_left : (history : Option History) (P : List ℕ → Type 0) → ((image : List ℕ) → MayLeave history image → P image) → LeavesOnly history history P
 nothing_left history P f = record { goes_on = stays history; each = λ image left. f image (only_now history image left) }
 
 -- what a build on the only map of a publisher did to it
@@ -147,7 +147,7 @@ module _ {D : Type 0} (history : D → Option History) (faults : D → ℕ) (job
   over_only (disk ∷ []) news (before ∷ other ∷ more) (after ∷ []) one opened same did = absurd opened.1
   over_only (disk ∷ []) news (before ∷ []) (after ∷ []) one opened same did = rw same (on_one disk before after opened.0 did)
 
-all_told : {A : Type 0} (o : Option A) (P : A → Type 0) → ((x : A) → P x) → IfSome o P
+pub all_told : {A : Type 0} (o : Option A) (P : A → Type 0) → ((x : A) → P x) → IfSome o P
 all_told None P f = tt
 all_told (Some x) P f = f x
 
@@ -172,6 +172,18 @@ same_disks history faults job text now result old olds new news first second h =
 
 -- ---- where no publisher was opened
 
+-- the only disk is the one that was refused
+pub by_front : {D : Type 0} (history : D → Option History) (faults : D → ℕ) (front : List D) (opened : List (Kept D)) (b a : D) (rest : List D) (before after : D) (P : D → D → Type 0)
+    → before ∷ [] ≡ front ++ b ∷ rest
+    → after ∷ [] ≡ map (λ (kept : Kept D). kept.disk) opened ++ a ∷ rest → AllZip (IsOpened history faults) front opened → P b a → P before after
+by_front {D} history faults [] [] b a rest before after P first last each h =
+    let one : b ≡ before = cc in
+    let two : a ≡ after = cc in
+    subst (λ (d : D). P d after) one (subst (λ (d : D). P b d) two h)
+by_front history faults [] (kept ∷ opened) b a rest before after P first last each h = absurd each
+by_front history faults (disk ∷ front) opened b a rest before after P first last each h =
+    absurd (omega (arith, ap length first, length-append front (b ∷ rest)))
+
 stops_at : (job : Job) (text : List ℕ) (now : ℕ) (short : length text ≤ text_max) (h : History) (at rule : ℕ) → stands h.state.reads ≡ stood.Damaged at rule → planned job (site_of text now h) ≡ Err (IsDamaged at rule)
 stops_at job text now few h at rule damaged =
     short text job (over job text now (generation_of (winning h.state.reads)) (stands h.state.reads)) (nat_lt text_max (length text)) (grind (arith, nat_tests))
@@ -193,17 +205,6 @@ module _ {D : Type 0} (history : D → Option History) (faults : D → ℕ) (job
     cause = λ is. omega (arith, cause is);
   }
 
-  -- the only disk is the one that was refused
-  by_front : (front : List D) (opened : List (Kept D)) (b a : D) (rest : List D) (before after : D) (P : D → D → Type 0) → before ∷ [] ≡ front ++ b ∷ rest
-      → after ∷ [] ≡ map (λ (kept : Kept D). kept.disk) opened ++ a ∷ rest → AllZip (IsOpened history faults) front opened → P b a → P before after
-  by_front [] [] b a rest before after P first last each h =
-      let one : b ≡ before = cc in
-      let two : a ≡ after = cc in
-      subst (λ (d : D). P d after) one (subst (λ (d : D). P b d) two h)
-  by_front [] (kept ∷ opened) b a rest before after P first last each h = absurd each
-  by_front (disk ∷ front) opened b a rest before after P first last each h =
-      absurd (omega (arith, ap length first, length-append front (b ∷ rest)))
-
   damaged_told : (told : Option History) (fault : SlotFault) → IfSome told (λ h. Loads (stands h.state.reads) (Err fault)) → IfSome told (λ h. Stops (planned job (site_of text now h)) (stop_of_open (opening.Refused 0 fault)))
   damaged_told None fault h = tt
   damaged_told (Some told) (slot.Damaged at rule) h = stops_at job text now few told at rule h
@@ -223,7 +224,7 @@ module _ {D : Type 0} (history : D → Option History) (faults : D → ℕ) (job
   refused_one : (number : ℕ) (fault : SlotFault) (before after : D) → IsUnwritten history faults before after → IsStopped history faults (before ∷ []) (after ∷ []) number fault
       → BuildsOn job text now (Err (stop_of_open (opening.Refused number fault))) (history before) (history after) (faults before + 0) (faults after + 0)
   refused_one number fault before after kept stopped =
-      let refused = by_front stopped.front stopped.opened stopped.before stopped.after stopped.rest before after (λ b a. IsRefused history faults b a fault) stopped.old_is stopped.new_is stopped.each stopped.refused in
+      let refused = by_front history faults stopped.front stopped.opened stopped.before stopped.after stopped.rest before after (λ b a. IsRefused history faults b a fault) stopped.old_is stopped.new_is stopped.each stopped.refused in
       subst (λ (why : Stop). BuildsOn job text now (Err why) (history before) (history after) (faults before + 0) (faults after + 0)) (same_stop number fault)
       (unwritten_only (stop_of_open (opening.Refused 0 fault)) before after kept (damaged_told (history before) fault refused.cause) (λ e. refused.disk_fault (disk_cause fault e)))
 

@@ -1,2 +1,3 @@
-pub mod Check
 pub mod Build
+pub mod Check
+pub mod Xfr

@@ -7,7 +7,7 @@ ghost use Rattle.yp_io.specs.Disk.{LeavesOnly, MayLeave};
 ghost use Rattle.yp_io.specs.Texts.{text_max};
 ghost use Rattle.yp_version.specs.Limits.{master_max};
 ghost use Rattle.yp_slot.specs.Stands.{stands, Stored};
-ghost use Rattle.yp_board.specs.Catalogues.{name_max, name_view};
+ghost use Rattle.yp_board.specs.Catalogues.{name_max, catalog_fault, name_view};
 ghost use Rattle.yp_publish.specs.Standing.{Level, OfMap, At};
 ghost use Rattle.yp_publish.specs.Installs.{no_further, IsInstalled};
 ghost use Rattle.yp_words.specs.Words.{IsNamed, kind_of};
@@ -19,6 +19,7 @@ ghost use Rattle.yp_storing.specs.Build.{Stops, IsBuilt, IsPlanned, IsShownOrPla
 ghost use Rattle.yp_storing.specs.Build.{unread_status, fault_status, stop_of_open, stop_of_build, stop_of_after};
 ghost use Rattle.yp_storing.specs.Build.{IsStatusOfStop, TellsLine, IsEnd, IsShortStop, BuildDoes, build_may_end};
 
+use crate::catalog::catalog_of;
 use std::alloc::Global;
 use std::random::RandomSource;
 use yp_board::{Catalog, MapName, PlainBoard};
@@ -224,26 +225,6 @@ fn renew<D: Disk>(
     })
 }
 
-/// The one map.
-fn catalog_of(alloc: Global, job: &BuildJob) -> Result<Catalog, NoMemory>
-    ensures own { IfOk result (λ catalog. catalog.own ≡ job.now.name.items) }
-    ensures maps { IfOk result (λ catalog. length catalog.maps ≡ 1) }
-{
-    let Ok(own) = Vec::from_slice(alloc, &job.name) else {
-        return Err(NoMemory);
-    };
-    let Ok(store) = job.store.copy(alloc) else {
-        return Err(NoMemory);
-    };
-    let Ok(maps) = vec![in alloc; store] else {
-        return Err(NoMemory);
-    };
-    match Catalog::new(alloc, own, maps) {
-        Ok(catalog) => Ok(catalog),
-        Err(_) => Err(NoMemory),
-    }
-}
-
 /// Builds a version of a text behind the one that the only disk has, and stores it there.
 fn build_over<D: Disk>(
     alloc: Global,
@@ -286,6 +267,7 @@ fn build_on<D: Disk>(
 ) -> Result<Built, Stop>
     requires text { length text.now ≤ text_max }
     requires name { length job.now.name.items ≤ master_max }
+    requires catalogue { catalog_fault job.now.name.items (name_view job.now.store ∷ []) ≡ None }
     requires only { length disks.old.items ≡ 1 }
     ensures builds { BuildsOn (job_view job.now) text.now now result
         (history_of D.history disks.old.items) (history_of D.history disks.new.items)
@@ -293,7 +275,7 @@ fn build_on<D: Disk>(
     ensures short { IfErr result IsShortStop }
     ensures names { names_of disks.new.items ≡ names_of disks.old.items }
 {
-    let catalog = catalog_of(alloc, job)?;
+    let catalog = catalog_of(alloc, &job.name, &job.store)?;
     let Apart {
         names,
         disks: apart,
@@ -396,6 +378,7 @@ pub fn build_map<S: Source, K: Sink, D: Disk, C: Clock, A: Dial, I: Inbox, T: Te
 ) -> Status
     requires named { IsNamed (name_view store) }
     requires name { length name.items ≤ name_max }
+    requires catalogue { catalog_fault name.items (name_view store ∷ []) ≡ None }
     requires kind { IsSome (kind_of (name_view store)) }
     requires only { names_of office.old.disks.items ≡ name_view store ∷ [] }
     ensures does { BuildDoes (seeing S.Source K.Sink D.Disk C.Clock A.Dial I.Inbox T.Texts)

@@ -1,7 +1,7 @@
 -- What the program does, by its command: one line each.
 use Rattle.std.specs.Prelude.{◌≡◌, ◌⊎◌, ℕ, Bool, IsTrue, List, Result, Ok, Err}
 use Rattle.yp_session.specs.Wires.{Wire}
-use Rattle.yp_words.specs.Words.{Meaning, Once, Session, Check, Build, Sample, Ask, TakesMemory}
+use Rattle.yp_words.specs.Words.{Meaning, Once, Session, Check, Build, Xfr, Sample, Ask, TakesMemory}
 use Rattle.yp_words.specs.declared.words.ParseFault.{ParseFault}
 use Rattle.yp_words.specs.declared.words.ParseFault.TheVariants as fault
 use Rattle.yp_office.specs.declared.office.Office.{Office}
@@ -13,7 +13,9 @@ use Rattle.yp_serving.specs.Sample.{SampleDoes, sample_may_end}
 use Rattle.yp_serving.specs.Session.{SessionDoes, session_may_end}
 use Rattle.yp_storing.specs.Build.{BuildDoes, build_may_end}
 use Rattle.yp_storing.specs.Check.{CheckDoes, check_may_end}
+use Rattle.yp_storing.specs.Xfr.{order_of, xfr_may_end}
 use Rattle.yp_tools.specs.Asking.{AskDoes, ask_may_end}
+use Rattle.yp_tools.specs.Transferring.{TransferDoes}
 use Rattle.yp_tools.specs.declared.program.Outside.{Outside}
 
 -- what a command does to the office and to a witness's wires, with this status
@@ -25,6 +27,8 @@ CommandDoes seen (Session own peer stores hosts) status old new before after =
 CommandDoes seen (Check store) status old new before after = CheckDoes seen store status old new × (after ≡ before)
 CommandDoes seen (Build name store flag) status old new before after =
     BuildDoes seen name store flag status old new × (after ≡ before)
+CommandDoes seen (Xfr name force store host flag) status old new before after =
+    TransferDoes seen (order_of name force store host flag) status old new × (after ≡ before)
 CommandDoes seen (Sample start count) status old new before after =
     SampleDoes seen start count status old new × (after ≡ before)
 CommandDoes seen (Ask peer question) status old new before after =
@@ -51,6 +55,7 @@ may_end (Once store rows) status = once_may_end status
 may_end (Session own peer stores hosts) status = session_may_end status
 may_end (Check store) status = check_may_end status
 may_end (Build name store flag) status = build_may_end status
+may_end (Xfr name force store host flag) status = xfr_may_end status
 may_end (Sample start count) status = sample_may_end status
 may_end (Ask peer question) status = ask_may_end status
 

@@ -6,6 +6,7 @@
 
 mod ask;
 mod program;
+mod transferring;
 
 pub use program::{Outside, run, run_command, run_watched, tell};
 pub use yp_office::{NamedDisk, Status, named_disks};

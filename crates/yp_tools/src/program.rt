@@ -11,6 +11,7 @@ ghost use Rattle.yp_office.specs.Status.{note, IsTellable};
 ghost use Rattle.yp_tools.specs.Commands.{CommandDoes, Does, MayEnd, may_end, office_of, parse_status};
 
 use crate::ask::ask;
+use crate::transferring::transfer;
 use std::alloc::Global;
 use std::random::RandomSource;
 use yp_io::{Clock, Dial, Disk, Inbox, Pair, Sink, Source, Texts, write_all};
@@ -71,6 +72,13 @@ fn obey<S: Source, K: Sink, D: Disk, C: Clock, A: Dial, I: Inbox, T: Texts, W: W
             flag,
             &mut office,
         ),
+        Command::Xfr {
+            name,
+            force,
+            store,
+            host,
+            flag,
+        } => transfer(alloc, rt, name, force, store, host, flag, &mut office),
         Command::Ask { addr, question } => ask(alloc, rt, addr, &question, &mut office),
         Command::Session {
             name,

@@ -11,6 +11,7 @@ use yp_board::MapName;
 use yp_io::MemSink;
 use yp_msgs::YpStat;
 use yp_tools::{Status, tell};
+use yp_xfr::XfrFault;
 
 /// Compares the code of a status, and the note that tells it.
 fn try_note<R: Abort>(rt: &R, alloc: Global, status: &Status, code: u8, note: &[u8])
@@ -69,6 +70,48 @@ fn answers_in_notes(rt: HostRuntime) {
     let note = b"yp: wrong xid 0 wanted 4294967295\n";
     try_note(&rt, alloc, &status, 14, note);
     try_note(&rt, alloc, &Status::DialFault, 15, b"yp: cannot dial\n");
+}
+
+/// Each fault of a transfer but want of memory, with the numbers of the push response program of yp.x.
+const FAULTS: [(XfrFault, &[u8]); 13] = [
+    (XfrFault::Maddr, b"yp: transfer -5\n"),
+    (XfrFault::Rpc, b"yp: transfer -4\n"),
+    (XfrFault::Nodom, b"yp: transfer -2\n"),
+    (XfrFault::Nomap, b"yp: transfer -1\n"),
+    (
+        XfrFault::Yperr {
+            stat: Some(YpStat::Yperr),
+        },
+        b"yp: transfer -6\n",
+    ),
+    (XfrFault::Yperr { stat: None }, b"yp: transfer -6\n"),
+    (XfrFault::Xfrerr { at: u64::MAX }, b"yp: transfer -13\n"),
+    (
+        XfrFault::Age {
+            shown: u32::MAX,
+            offered: 0,
+        },
+        b"yp: transfer 2 4294967295 0\n",
+    ),
+    (
+        XfrFault::Skew {
+            first: 100,
+            second: 101,
+        },
+        b"yp: transfer -10 100 101\n",
+    ),
+    (XfrFault::Dbm, b"yp: transfer -8\n"),
+    (XfrFault::Badargs, b"yp: transfer -7\n"),
+    (XfrFault::File, b"yp: transfer -9\n"),
+    (XfrFault::Refused, b"yp: transfer -14\n"),
+];
+
+#[test]
+fn transfers_in_notes(rt: HostRuntime) {
+    for (fault, note) in &FAULTS {
+        let status = Status::Xfr { fault: *fault };
+        try_note(&rt, rt.alloc(), &status, 16, *note);
+    }
 }
 
 /// The map `hosts.byname` of the domain `lab`.

@@ -13,7 +13,8 @@ use Rattle.yp_board.specs.Catalogues.{Name, name_max, maps_max, is_same, is_map_
 use Rattle.yp_board.specs.Catalogues.{again_from, with_numbers, bad_name, twice, catalog_fault}
 use Rattle.yp_words.specs.Forms.{Form, has_form, before, after, is_name, is_store, is_kind_store, is_text, is_key}
 use Rattle.yp_words.specs.Forms.{is_host}
-use Rattle.yp_words.specs.Words.{Meaning, Further, Sentence, once, session, check, build, build_flagged, sample}
+use Rattle.yp_words.specs.Words.{Meaning, Further, Sentence, once, session, check, build, build_flagged, xfr}
+use Rattle.yp_words.specs.Words.{xfr_flagged, sample, IsOneMap}
 use Rattle.yp_words.specs.Words.{match_key, maps, asking, sentences, further_fitting}
 use Rattle.yp_words.specs.Words.{serving_fitting, joins, is_new_store, served, fitting, is_whole, asked, name_of}
 use Rattle.yp_words.specs.Words.{kind_of, IsNamed, HasNames}
@@ -98,11 +99,6 @@ store_mapped word h =
     let domain = name_some (before 47 word) parts.0 in
     let map = name_some (after 47 word) parts.1 in
     rw (domain, map) refl
-
-kind_named : (word : List ℕ) → is_kind_store word ≡ true → IsNamed (name_of word) × IsSome (kind_of (name_of word))
-kind_named word h =
-    let parts = both (is_store word) (is_some (kind_of (name_of word))) h in
-    (store_named word parts.0, parts.1)
 
 text_short : (word : List ℕ) → is_text word ≡ true → length word ≤ name_max
 text_short word h = grind (arith, nat_tests)
@@ -236,6 +232,20 @@ good_catalogue own stores short good =
     let few : nat_lt maps_max (length stores) ≡ false = grind (arith, nat_tests) in
     rw (short, bad, once, few) refl
 
+-- ---- one map
+
+one_map : (name store : List ℕ) → is_name name ≡ true → is_store store ≡ true → IsOneMap name (name_of store)
+one_map name store named is =
+    let stored = store_named store is in
+    let good = good_more [] (name_of store) no_maps stored (store_mapped store is) refl in
+    (good_catalogue name (name_of store ∷ []) (name_some name named) good, name_short name named, stored)
+
+kind_named : (name store : List ℕ) → is_name name ≡ true → is_kind_store store ≡ true
+    → IsOneMap name (name_of store) × IsSome (kind_of (name_of store))
+kind_named name store named h =
+    let parts = both (is_store store) (is_some (kind_of (name_of store))) h in
+    (one_map name store named parts.0, parts.1)
+
 -- ---- sentences
 
 once_named : (words : List (List ℕ)) → Fit once words → HasNames (once.asks words)
@@ -269,18 +279,30 @@ unfolding HaveForms
 build_named [] h = absurd h.forms
 build_named (first ∷ []) h = absurd h.forms.1
 build_named (first ∷ name ∷ []) h = absurd h.forms.1.1
-build_named (first ∷ name ∷ store ∷ more) h =
-    let named = kind_named store h.forms.1.1.0 in
-    (name_short name h.forms.1.0, named.0, named.1)
+build_named (first ∷ name ∷ store ∷ more) h = kind_named name store h.forms.1.0 h.forms.1.1.0
 
 flagged_named : (words : List (List ℕ)) → Fit build_flagged words → HasNames (build_flagged.asks words)
 unfolding HaveForms
 flagged_named [] h = absurd h.forms
 flagged_named (first ∷ []) h = absurd h.forms.1
 flagged_named (first ∷ name ∷ []) h = absurd h.forms.1.1
-flagged_named (first ∷ name ∷ store ∷ more) h =
-    let named = kind_named store h.forms.1.1.0 in
-    (name_short name h.forms.1.0, named.0, named.1)
+flagged_named (first ∷ name ∷ store ∷ more) h = kind_named name store h.forms.1.0 h.forms.1.1.0
+
+xfr_named : (words : List (List ℕ)) → Fit xfr words → HasNames (xfr.asks words)
+unfolding HaveForms
+xfr_named [] h = absurd h.forms
+xfr_named (first ∷ []) h = absurd h.forms.1
+xfr_named (first ∷ name ∷ []) h = absurd h.forms.1.1
+xfr_named (first ∷ name ∷ mode ∷ []) h = absurd h.forms.1.1.1
+xfr_named (first ∷ name ∷ mode ∷ store ∷ more) h = one_map name store h.forms.1.0 h.forms.1.1.1.0
+
+xfr_flagged_named : (words : List (List ℕ)) → Fit xfr_flagged words → HasNames (xfr_flagged.asks words)
+unfolding HaveForms
+xfr_flagged_named [] h = absurd h.forms
+xfr_flagged_named (first ∷ []) h = absurd h.forms.1
+xfr_flagged_named (first ∷ name ∷ []) h = absurd h.forms.1.1
+xfr_flagged_named (first ∷ name ∷ mode ∷ []) h = absurd h.forms.1.1.1
+xfr_flagged_named (first ∷ name ∷ mode ∷ store ∷ more) h = one_map name store h.forms.1.0 h.forms.1.1.1.0
 
 sample_named : (words : List (List ℕ)) → Fit sample words → HasNames (sample.asks words)
 sample_named words h = tt
@@ -353,16 +375,22 @@ asked_named words meaning e = rows_named sentences (
         (
           flagged_named,
           (
-            sample_named,
+            xfr_named,
             (
-              λ given fit. asked_short _ Cat given fit (λ domain map short. short),
+              xfr_flagged_named,
               (
-                λ given fit. asked_short _ Catk given fit (λ domain map short. short),
+                sample_named,
                 (
-                  λ given fit. asked_short _ Which given fit (λ domain map short. short),
+                  λ given fit. asked_short _ Cat given fit (λ domain map short. short),
                   (
-                    λ given fit. asked_short _ Poll given fit (λ domain map short. short),
-                    (match_named, (maps_named, tt)),
+                    λ given fit. asked_short _ Catk given fit (λ domain map short. short),
+                    (
+                      λ given fit. asked_short _ Which given fit (λ domain map short. short),
+                      (
+                        λ given fit. asked_short _ Poll given fit (λ domain map short. short),
+                        (match_named, (maps_named, tt)),
+                      ),
+                    ),
                   ),
                 ),
               ),

@@ -92,6 +92,13 @@ is_secure word = bytes_eq word (codes "secure")
 abbrev pub is_plain : List ℕ → Bool
 is_plain word = bytes_eq word (codes "plain")
 
+-- the mode of a transfer whatever the order is, and that of one with a newer order alone
+abbrev pub is_force : List ℕ → Bool
+is_force word = bytes_eq word (codes "force")
+
+abbrev pub is_newer : List ℕ → Bool
+is_newer word = bytes_eq word (codes "newer")
+
 pub data Form : Type 0 where
   -- this very word
   Exactly : (text : List ℕ) → Form
@@ -104,6 +111,8 @@ pub data Form : Type 0 where
   Text : Form
   Key : Form
   Flag : Form
+  Mode : Form
+  Host : Form
 
 abbrev pub has_form : Form → List ℕ → Bool
 has_form (Exactly text) word = bytes_eq word text
@@ -116,6 +125,8 @@ has_form Address word = is_some (address_of word)
 has_form Text word = is_text word
 has_form Key word = is_key word
 has_form Flag word = is_secure word || is_plain word
+has_form Mode word = is_force word || is_newer word
+has_form Host word = is_host word
 
 -- the form that a `Form` of the code is
 abbrev pub form_view : CodeForm → Form
@@ -129,3 +140,5 @@ form_view code.Address = Address
 form_view code.Text = Text
 form_view code.Key = Key
 form_view code.Flag = Flag
+form_view code.Mode = Mode
+form_view code.Host = Host

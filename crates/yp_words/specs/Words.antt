@@ -25,7 +25,7 @@ use Rattle.yp_words.specs.declared.sentence.Task.TheVariants as task
 use Rattle.yp_words.specs.declared.words.ParseFault.{ParseFault}
 use Rattle.yp_words.specs.declared.words.ParseFault.TheVariants.{Usage, NoMemory}
 use Rattle.yp_words.specs.Forms.{Form, has_form, form_view, before, after, number_of, is_store, is_host, address_of}
-use Rattle.yp_words.specs.Forms.{is_secure}
+use Rattle.yp_words.specs.Forms.{is_secure, is_force}
 use Rattle.yp_words.specs.Forms as form
 
 -- ---- what words mean
@@ -42,6 +42,8 @@ pub data Meaning : Type 0 where
   Check : (store : Name) → Meaning
   -- the flag is true for a secure version, and none where the words don't say
   Build : (name : List ℕ) (store : Name) (flag : Option Bool) → Meaning
+  -- the own name, whether the order doesn't count, the map, the host that has it, and the flag
+  Xfr : (name : List ℕ) (force : Bool) (store : Name) (host : Host) (flag : Option Bool) → Meaning
   Sample : (start count : ℕ) → Meaning
   -- a server, and what it is asked
   Ask : (peer : Peer) (question : ByteQuestion) → Meaning
@@ -133,6 +135,22 @@ build_flagged = record {
   asks = λ words. Build (word_at 1 words) (name_of (word_at 2 words)) (Some (is_secure (word_at 3 words)));
 }
 
+abbrev pub xfr : Sentence
+xfr = record {
+  forms = form.Exactly (codes "xfr") ∷ form.Name ∷ form.Mode ∷ form.Store ∷ form.Host ∷ [];
+  further = NoMore;
+  asks = λ words. Xfr (word_at 1 words) (is_force (word_at 2 words)) (name_of (word_at 3 words))
+      (host_of (word_at 4 words)) None;
+}
+
+abbrev pub xfr_flagged : Sentence
+xfr_flagged = record {
+  forms = form.Exactly (codes "xfr") ∷ form.Name ∷ form.Mode ∷ form.Store ∷ form.Host ∷ form.Flag ∷ [];
+  further = NoMore;
+  asks = λ words. Xfr (word_at 1 words) (is_force (word_at 2 words)) (name_of (word_at 3 words))
+      (host_of (word_at 4 words)) (Some (is_secure (word_at 5 words)));
+}
+
 abbrev pub sample : Sentence
 sample = record {
   forms = form.Exactly (codes "sample") ∷ form.Number ∷ form.Number ∷ [];
@@ -176,7 +194,8 @@ maps = record {
 
 unfoldable pub sentences : List Sentence
 sentences =
-    once ∷ session ∷ check ∷ build ∷ build_flagged ∷ sample ∷ cat ∷ catk ∷ which ∷ poll ∷ match_key ∷ maps ∷ []
+    once ∷ session ∷ check ∷ build ∷ build_flagged ∷ xfr ∷ xfr_flagged ∷ sample
+    ∷ cat ∷ catk ∷ which ∷ poll ∷ match_key ∷ maps ∷ []
 
 -- how many words at the front are of a form
 abbrev pub each_fitting : Form → List (List ℕ) → ℕ
@@ -244,6 +263,7 @@ stores_of (Once store rows) = []
 stores_of (Session own peer stores hosts) = stores
 stores_of (Check store) = store ∷ []
 stores_of (Build name store flag) = store ∷ []
+stores_of (Xfr name force store host flag) = store ∷ []
 stores_of (Sample start count) = []
 stores_of (Ask peer question) = []
 
@@ -261,6 +281,7 @@ port_of (Once store rows) = None
 port_of (Session own peer stores hosts) = None
 port_of (Check store) = None
 port_of (Build name store flag) = None
+port_of (Xfr name force store host flag) = None
 port_of (Sample start count) = None
 port_of (Ask peer question) = None
 
@@ -278,6 +299,8 @@ meaning (command.Session name addr stores hosts) =
     Session name.items addr (map name_view stores.items) (map host_view hosts.items)
 meaning (command.Check store) = Check (name_view store)
 meaning (command.Build name store flag) = Build name.items (name_view store) flag
+meaning (command.Xfr name force store host flag) =
+    Xfr name.items force (name_view store) (host_view host) flag
 meaning (command.Sample start count) = Sample start count
 meaning (command.Ask addr question) = Ask addr (bytes_of question)
 
@@ -292,6 +315,8 @@ asks_of task.Session = session.asks
 asks_of task.Check = check.asks
 asks_of task.Build = build.asks
 asks_of task.BuildFlagged = build_flagged.asks
+asks_of task.Xfr = xfr.asks
+asks_of task.XfrFlagged = xfr_flagged.asks
 asks_of task.Sample = sample.asks
 asks_of (task.Ask question) =
     λ words. Ask (peer_of (word_at 1 words)) (question_map (λ at. word_at at words) question)
@@ -316,13 +341,18 @@ sentence_view row = record {
 abbrev pub IsNamed : Name → Type 0
 IsNamed store = (length store.0 ≤ name_max) × (length store.1 ≤ name_max)
 
+-- an own name and one map make a catalogue, whose names are within their limits
+abbrev pub IsOneMap : List ℕ → Name → Type 0
+IsOneMap name store = (catalog_fault name (store ∷ []) ≡ None) × (length name ≤ name_max) × IsNamed store
+
 -- each name of a command is within its limit, and a map that is built has a kind
 abbrev pub HasNames : Meaning → Type 0
 HasNames (Once store rows) = IsNamed store
 HasNames (Session own peer stores hosts) =
     (catalog_fault own stores ≡ None) × All IsNamed stores × (length own ≤ name_max) × (length stores ≤ maps_max)
 HasNames (Check store) = IsNamed store
-HasNames (Build name store flag) = (length name ≤ name_max) × IsNamed store × IsSome (kind_of store)
+HasNames (Build name store flag) = IsOneMap name store × IsSome (kind_of store)
+HasNames (Xfr name force store host flag) = IsOneMap name store
 HasNames (Sample start count) = ⊤
 HasNames (Ask peer question) = QuestionIsWithin question
 
@@ -334,6 +364,7 @@ TakesMemory (Once store rows) = Unit {0}
 TakesMemory (Session own peer stores hosts) = Unit {0}
 TakesMemory (Check store) = Unit {0}
 TakesMemory (Build name store flag) = Unit {0}
+TakesMemory (Xfr name force store host flag) = Unit {0}
 TakesMemory (Sample start count) = ⊥
 TakesMemory (Ask peer question) = Unit {0}
 

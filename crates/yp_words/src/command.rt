@@ -45,6 +45,15 @@ pub enum Command {
         store: MapName,
         flag: Option<bool>,
     },
+    /// Fetches this map from `host`, and installs it where its order is over the one that is shown, or in any case. `name`
+    /// is the host that fetches, and `flag` is as in `Build`.
+    Xfr {
+        name: Vec<u8>,
+        force: bool,
+        store: MapName,
+        host: HostWord,
+        flag: Option<bool>,
+    },
     /// Asks for each row of a map of `count` sample rows, made of the numbers after `start`, and for all of them.
     Sample {
         start: u32,

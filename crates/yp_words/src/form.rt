@@ -16,6 +16,11 @@ pub const SECURE: &str = "secure";
 
 const PLAIN: &str = "plain";
 
+/// The mode of a transfer whatever the order of the version is, and that of one with a newer order alone.
+pub const FORCE: &str = "force";
+
+const NEWER: &str = "newer";
+
 /// A form of word.
 #[derive(Clone, Copy)]
 pub enum Form {
@@ -39,6 +44,10 @@ pub enum Form {
     Key,
     /// `secure` or `plain`.
     Flag,
+    /// `newer` or `force`.
+    Mode,
+    /// A host: its name and its address, with an at sign between.
+    Host,
 }
 
 impl Form {
@@ -57,6 +66,8 @@ impl Form {
             Form::Text => is_text(word),
             Form::Key => is_key(word),
             Form::Flag => word == SECURE || word == PLAIN,
+            Form::Mode => word == FORCE || word == NEWER,
+            Form::Host => is_host(word),
         }
     }
 }

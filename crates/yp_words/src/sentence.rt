@@ -19,6 +19,8 @@ pub enum Task {
     Check,
     Build,
     BuildFlagged,
+    Xfr,
+    XfrFlagged,
     Sample,
     /// A question to the server that the word behind the first names. The numbers are those of the words that it is
     /// made of, counted from 0.
@@ -47,7 +49,7 @@ struct Sentence {
 }
 
 /// All sentences.
-const SENTENCES: [Sentence; 12] = [
+const SENTENCES: [Sentence; 14] = [
     Sentence {
         task: Task::Once,
         forms: &[Form::Exactly("once"), Form::Store],
@@ -74,6 +76,29 @@ const SENTENCES: [Sentence; 12] = [
             Form::Exactly("build"),
             Form::Name,
             Form::KindStore,
+            Form::Flag,
+        ],
+        further: Further::NoMore,
+    },
+    Sentence {
+        task: Task::Xfr,
+        forms: &[
+            Form::Exactly("xfr"),
+            Form::Name,
+            Form::Mode,
+            Form::Store,
+            Form::Host,
+        ],
+        further: Further::NoMore,
+    },
+    Sentence {
+        task: Task::XfrFlagged,
+        forms: &[
+            Form::Exactly("xfr"),
+            Form::Name,
+            Form::Mode,
+            Form::Store,
+            Form::Host,
             Form::Flag,
         ],
         further: Further::NoMore,

@@ -5,11 +5,13 @@ ghost use Rattle.yp_board.specs.Catalogues.{name_view};
 ghost use Rattle.yp_question.specs.Questions.{bytes_of, question_map};
 ghost use Rattle.yp_words.specs.Words.{name_of, row_of, value_of, peer_of, host_of, served, known, word_at};
 ghost use Rattle.yp_words.specs.Words.{command_of, disk_names, stores_of, port_of, row_view, host_view, meaning, texts};
-ghost use Rattle.yp_words.specs.Words.{asks_of, once, session, check, sample, Build, TakesMemory, IsSentenceOfWords};
+ghost use Rattle.yp_words.specs.Words.{asks_of, once, session, check, sample, Build, Xfr, TakesMemory};
+ghost use Rattle.yp_words.specs.Words.{IsSentenceOfWords};
+ghost use Rattle.yp_words.specs.Forms.{is_force};
 ghost use Rattle.yp_words.specs.Words.{IsUsage, HasNames};
 
 use crate::command::{Command, HostWord, KeyValue};
-use crate::form::{SECURE, address_of, cut_at, is_host, is_store, number_of};
+use crate::form::{FORCE, SECURE, address_of, cut_at, is_host, is_store, number_of};
 use crate::sentence::{Task, task_of, wrong_word};
 use std::alloc::{AllocError, Global};
 use yp_board::{MapName, copy_names};
@@ -169,6 +171,20 @@ fn build_of(alloc: Global, words: &[String], flag: Option<bool>) -> Result<Comma
     })
 }
 
+fn xfr_of(alloc: Global, words: &[String], flag: Option<bool>) -> Result<Command, AllocError>
+    ensures { IfOk result (λ command. meaning command
+        ≡ Xfr (word_at 1 (texts words.now)) (is_force (word_at 2 (texts words.now)))
+        (name_of (word_at 3 (texts words.now))) (host_of (word_at 4 (texts words.now))) flag) }
+{
+    Ok(Command::Xfr {
+        name: Vec::from_slice(alloc, word_at(words, 1).as_bytes())?,
+        force: word_at(words, 2) == FORCE,
+        store: store_of(alloc, word_at(words, 3))?,
+        host: host_of(alloc, word_at(words, 4))?,
+        flag,
+    })
+}
+
 fn sample_of(words: &[String]) -> Command
     ensures { meaning result ≡ sample.asks (texts words.now) }
 {
@@ -242,6 +258,8 @@ fn command_for(alloc: Global, task: Task, words: &[String]) -> Result<Command, A
         Task::Check => check_of(alloc, words),
         Task::Build => build_of(alloc, words, None),
         Task::BuildFlagged => build_of(alloc, words, Some(word_at(words, 3) == SECURE)),
+        Task::Xfr => xfr_of(alloc, words, None),
+        Task::XfrFlagged => xfr_of(alloc, words, Some(word_at(words, 5) == SECURE)),
         Task::Sample => Ok(sample_of(words)),
         Task::Ask(question) => ask_of(alloc, question, words),
     }
@@ -272,6 +290,7 @@ pub fn stores_of(alloc: Global, command: &Command) -> Result<Vec<MapName>, NoMem
     let names = match command {
         Command::Check { store } => only_name(alloc, store),
         Command::Build { store, .. } => only_name(alloc, store),
+        Command::Xfr { store, .. } => only_name(alloc, store),
         Command::Session { stores, .. } => copy_names(alloc, stores),
         Command::Once { .. } => return Ok(Vec::new(alloc)),
         Command::Sample { .. } => return Ok(Vec::new(alloc)),
@@ -292,6 +311,7 @@ pub fn port_of(command: &Command) -> Option<u16>
         Command::Session { .. } => None,
         Command::Check { .. } => None,
         Command::Build { .. } => None,
+        Command::Xfr { .. } => None,
         Command::Sample { .. } => None,
         Command::Ask { .. } => None,
     }

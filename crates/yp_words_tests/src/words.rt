@@ -113,6 +113,43 @@ const WRONG_ADDRESSES: [(&[&str], usize); 24] = [
     (&["session", "m@1", "127.0.0.1:40000", "lab/a"], 1),
 ];
 
+/// The same of transfers.
+const WRONG_TRANSFERS: [(&[&str], usize); 9] = [
+    (&["xfr"], 1),
+    (&["xfr", ".s1"], 1),
+    (&["xfr", "s1"], 2),
+    (&["xfr", "s1", "older"], 2),
+    (&["xfr", "s1", "newer", "lab"], 3),
+    (&["xfr", "s1", "newer", "lab/hosts.byname"], 4),
+    (
+        &["xfr", "s1", "newer", "lab/hosts.byname", "m1@127.0.0.1"],
+        4,
+    ),
+    (
+        &[
+            "xfr",
+            "s1",
+            "force",
+            "lab/hosts.byname",
+            "m1@127.0.0.1:700",
+            "open",
+        ],
+        5,
+    ),
+    (
+        &[
+            "xfr",
+            "s1",
+            "force",
+            "lab/hosts.byname",
+            "m1@127.0.0.1:700",
+            "plain",
+            "x",
+        ],
+        6,
+    ),
+];
+
 fn check_wrong(rt: &impl Abort, alloc: Global, words: &[&str], word: usize) {
     let owned = strings(rt, alloc, words);
     let came = (words, is_session(alloc, &owned));
@@ -123,6 +160,13 @@ fn check_wrong(rt: &impl Abort, alloc: Global, words: &[&str], word: usize) {
 #[test]
 fn wrong_addresses(rt: HostRuntime) {
     for (words, word) in &WRONG_ADDRESSES {
+        check_wrong(&rt, rt.alloc(), *words, *word);
+    }
+}
+
+#[test]
+fn wrong_transfers(rt: HostRuntime) {
+    for (words, word) in &WRONG_TRANSFERS {
         check_wrong(&rt, rt.alloc(), *words, *word);
     }
 }
@@ -295,6 +339,64 @@ fn session_parsed(rt: HostRuntime) {
     assert_same(&rt, &two_and_two(&command), &Some(wanted), "session");
 }
 
+/// The own name, whether it is forced, the map, its host, and the mark of a transfer.
+type Transfer<'a> = (&'a [u8], bool, Names<'a>, (&'a [u8], Peer), Option<bool>);
+
+const TRANSFERS: [(&[&str], Transfer); 3] = [
+    (
+        &["xfr", "s1", "newer", "lab/nokind", "m1@127.0.0.1:700"],
+        (b"s1", false, (b"lab", b"nokind"), (b"m1", PEER), None),
+    ),
+    (
+        &[
+            "xfr",
+            "s1",
+            "force",
+            "lab/a",
+            "m2@10.0.0.255:65535",
+            "secure",
+        ],
+        (b"s1", true, (b"lab", b"a"), (b"m2", FAR), Some(true)),
+    ),
+    (
+        &[
+            "xfr",
+            "newer",
+            "newer",
+            "lab/a",
+            "force@127.0.0.1:700",
+            "plain",
+        ],
+        (b"newer", false, (b"lab", b"a"), (b"force", PEER), Some(false)),
+    ),
+];
+
+fn transferred(command: &Command) -> Option<Transfer<'_>> {
+    match command {
+        Command::Xfr {
+            name,
+            force,
+            store,
+            host,
+            flag,
+        } => Some((name, *force, names_of(store), host_of(host), *flag)),
+        _ => None,
+    }
+}
+
+fn check_transfer(rt: &impl Abort, alloc: Global, words: &[&str], wanted: Transfer) {
+    let command = parsed(rt, alloc, words);
+    let came = (words, transferred(&command));
+    assert_same(rt, &came, &(words, Some(wanted)), "xfr");
+}
+
+#[test]
+fn xfr_parsed(rt: HostRuntime) {
+    for (words, wanted) in &TRANSFERS {
+        check_transfer(&rt, rt.alloc(), *words, *wanted);
+    }
+}
+
 /// The words of a session of this many maps.
 fn session_of(rt: &impl Abort, alloc: Global, count: usize) -> Vec<String>
     requires { count ≤ 1000 }
@@ -395,7 +497,7 @@ fn questions_parsed(rt: HostRuntime) {
 }
 
 /// Words, and the map whose file their command reads or writes.
-const NAMED: [(&[&str], Option<(&[u8], &[u8])>); 11] = [
+const NAMED: [(&[&str], Option<(&[u8], &[u8])>); 12] = [
     (&[], None),
     (&["frob"], None),
     (&["check", "lab"], None),
@@ -408,6 +510,10 @@ const NAMED: [(&[&str], Option<(&[u8], &[u8])>); 11] = [
     (
         &["build", "m1", "lab/netgroup", "plain"],
         Some((b"lab", b"netgroup")),
+    ),
+    (
+        &["xfr", "s1", "newer", "lab/nokind", "m1@127.0.0.1:700"],
+        Some((b"lab", b"nokind")),
     ),
     (&["once", "lab/hosts.byname", "a=b"], None),
     (&["cat", "127.0.0.1:700", "lab", "hosts.byname"], None),

@@ -1,0 +1,128 @@
+-- What is fetched over a wire that gives what a server sent in a run over the calls of the fetch.
+use Rattle.std.proofs.Common.{◌≡◌, ◌⊎◌, inl, inr, ⊎_elim, ℕ, ◌≤◌, List, [], ◌∷◌, ◌++◌, length, Option, Some, None, Result, Ok, Err}
+use Rattle.std.proofs.Common.{sym, ap, ◌∙◌, subst, arith, length-append, All}
+use Rattle.std.proofs.lemmas.List.Elements.{All-nil, All-cons}
+use Rattle.yp_io.specs.declared.stream.Peer.{Peer}
+use Rattle.yp_io.specs.Dials.{Wires, WireState, Dialed, Comes, GoesBack}
+use Rattle.yp_version.specs.Versions.{MapVersion}
+use Rattle.yp_client.specs.Asked.{order_call, master_call, all_call}
+use Rattle.yp_query.specs.Complete.{HasCome}
+use Rattle.yp_board.specs.Logs.{Log}
+use Rattle.yp_exchange.specs.Served.{AreServed}
+use Rattle.yp_exchange.specs.Runs.{maps_on, RepliesInTurn, sent_all}
+use Rattle.yp_exchange.specs.LogRuns.{records_of, replies_of, IsRepliedTo}
+use Rattle.yp_exchange.specs.RunLaws.{AllHasReply, MasterHasReply, OrderHasReply, RunIsInTurn}
+use Rattle.yp_io.specs.Counts.{HasRisen}
+use Rattle.yp_xfr.specs.declared.fault.XfrFault.{XfrFault}
+use Rattle.yp_xfr.specs.declared.fault.XfrFault.TheVariants.{Rpc, NoMemory}
+use Rattle.yp_xfr.specs.Fetching.{Wanted, Outcome}
+use Rattle.yp_xfr.specs.Fetched.{place_of, Fetched}
+use Rattle.yp_xfr.specs.Dialing.{Dialing, FetchesOnWire, ByAddress, sought}
+use Rattle.yp_source.specs.Replies.{next_xid, GivesFetch}
+use Rattle.yp_source.specs.Laws.{FetchedIsShown, moments_on}
+use Rattle.yp_source.specs.Turns.{fetch_calls, TurnsGiveFetch}
+use Rattle.yp_source.specs.Runs.{WireIsFetched, AnswersFetch, IsOfSource, RunIsFetched}
+
+-- ---- the wire that came
+
+last_same : {A : Type 0} (xs : List A) (x y : A) → xs ++ x ∷ [] ≡ xs ++ y ∷ [] → x ≡ y
+last_same [] x y e = cc
+last_same (z ∷ xs) x y e = let rest : xs ++ x ∷ [] ≡ xs ++ y ∷ [] = cc in last_same xs x y rest
+
+-- the wire that came is the one to that peer, which gives the stream
+dialed_is : (dialed : Dialed) (last : WireState) (mid : Option Wires) (before after : Wires) (peer : Peer)
+    (stream : List ℕ) → Comes dialed (Some before) mid → GoesBack last mid (Some after)
+    → after.came ≡ before.came ++ (peer, Some stream) ∷ [] → dialed ≡ (peer, Some stream)
+dialed_is dialed last None before after peer stream comes back came = absurd comes
+dialed_is dialed last (Some others) before after peer stream comes back came =
+    let mine : others.came ≡ before.came ++ dialed ∷ [] = ap (λ (w : Wires). w.came) comes in
+    let kept : after.came ≡ others.came = ap (λ (w : Wires). w.came) back in
+    last_same before.came dialed (peer, Some stream) (sym mine ∙ sym kept ∙ came)
+
+-- so its bytes say what is fetched
+on_wire : (peer server : Peer) (wanted : Wanted) (outcome : Outcome) (stream : List ℕ) (old new : Dialing)
+    → HasCome server stream old.past new.past → FetchesOnWire peer wanted outcome old new
+    → Fetched wanted (place_of 1 0 stream) outcome ⊎ ((outcome ≡ Err Rpc) × HasRisen old.faults new.faults)
+    ⊎ (outcome ≡ Err NoMemory)
+on_wire peer server wanted outcome stream old new came did =
+    let comes = subst (λ (w : Option Wires). Comes (peer, did.first.wire.input) w did.middle) came.was did.comes in
+    let back = subst (λ (w : Option Wires). GoesBack did.last.wire did.middle w) came.is did.goes_back in
+    let same = dialed_is (peer, did.first.wire.input) did.last.wire did.middle came.before came.after server stream
+    comes back came.came in
+    let said = did.fetched stream (ap (λ (d : Dialed). d.1) same) in
+    let placed = subst (λ (n : ℕ). Fetched wanted (place_of n did.first.place stream) outcome) did.begins.xid in
+    let from_first = subst (λ (n : ℕ). Fetched wanted (place_of 1 n stream) outcome) did.begins.place in
+    ⊎_elim (λ fetched. inl (from_first (placed fetched)))
+    (λ failed. ⊎_elim (λ wire. inr (inl (wire.0, did.cause wire))) (λ memory. inr (inr memory)) failed) said
+
+-- where no wire came, none did
+none_came : (peer : Peer) (stream : List ℕ) (old new : Option Wires) → HasCome peer stream old new → new ≡ old → ⊥
+none_came peer stream old new came same =
+    let e : Some came.after ≡ Some came.before = sym came.is ∙ same ∙ came.was in
+    let both : came.after ≡ came.before = cc in
+    omega (arith, ap (λ (w : Wires). length w.came) both, ap length came.came,
+    length-append came.before.came ((peer, Some stream) ∷ []))
+
+by_address : (address : Result Peer XfrFault) (server : Peer) (wanted : Wanted) (outcome : Outcome)
+    (stream : List ℕ) (old new : Dialing) → HasCome server stream old.past new.past
+    → ByAddress wanted address outcome old new
+    → Fetched wanted (place_of 1 0 stream) outcome ⊎ ((outcome ≡ Err Rpc) × HasRisen old.faults new.faults)
+    ⊎ (outcome ≡ Err NoMemory)
+by_address (Err why) server wanted outcome stream old new came did =
+    absurd (none_came server stream old.past new.past came (ap (λ (d : Dialing). d.past) did.1))
+by_address (Ok peer) server wanted outcome stream old new came (inl none) =
+    absurd (none_came server stream old.past new.past came none.none)
+by_address (Ok peer) server wanted outcome stream old new came (inr did) =
+    on_wire peer server wanted outcome stream old new came did
+
+pub wire_is_fetched : WireIsFetched
+wire_is_fetched server stream hosts name wanted outcome old new came fetches =
+    by_address (sought wanted name hosts) server wanted outcome stream old new came fetches
+
+-- a version that came is what they say
+version_said : (wanted : Wanted) (stream : List ℕ) (version : MapVersion) (Risen : Type 0)
+    → Fetched wanted (place_of 1 0 stream) (Ok version) ⊎ ((Ok version ≡ Err Rpc) × Risen)
+    ⊎ (Ok version ≡ Err NoMemory) → Fetched wanted (place_of 1 0 stream) (Ok version)
+version_said wanted stream version Risen (inl fetched) = fetched
+version_said wanted stream version Risen (inr (inl failed)) = absurd (let no = failed.0 in cc)
+version_said wanted stream version Risen (inr (inr memory)) = absurd cc
+
+-- ---- the calls of a fetch
+
+-- the calls of a fetch have replies
+pub record Replied : Type 0 where
+  pub order : OrderHasReply
+  pub master : MasterHasReply
+  pub all : AllHasReply
+
+module _ (laws : Replied) (peer : Peer) where
+  pub fetch_replied : (domain map : List ℕ) → length domain ≤ 64 → length map ≤ 64
+      → All (IsRepliedTo peer) (fetch_calls domain map 1)
+  fetch_replied domain map d m =
+      let order : (xid : ℕ) → xid ≤ 4 → IsRepliedTo peer (order_call domain map xid) =
+      λ xid few maps served. laws.order maps peer xid domain served (omega (arith, few)) d map m in
+      let master : IsRepliedTo peer (master_call domain map 2) =
+      λ maps served. laws.master maps peer 2 domain served (omega arith) d map m in
+      let all : IsRepliedTo peer (all_call domain map 3) =
+      λ maps served. laws.all maps peer 3 domain served (omega arith) d map m in
+      All-cons (IsRepliedTo peer) (order_call domain map 1) _ (order 1 (omega arith))
+      (All-cons (IsRepliedTo peer) (master_call domain map 2) _ master
+      (All-cons (IsRepliedTo peer) (all_call domain map 3) _ all
+      (All-cons (IsRepliedTo peer) (order_call domain map 4) _ (order 4 (omega arith)) (All-nil (IsRepliedTo peer)))))
+
+pub run_is_fetched : Replied → RunIsInTurn → TurnsGiveFetch → FetchedIsShown → WireIsFetched → RunIsFetched
+run_is_fetched replied in_turn turns_give shown by_wire catalogue server caller hosts name wanted turns rest before after
+    version old new d m answers came fetches =
+    let stream = sent_all (replies_of turns) ++ rest in
+    let each = subst (λ (records : List (List ℕ)). All (IsRepliedTo caller) records) (sym answers.calls)
+    (fetch_replied replied caller wanted.domain wanted.map d m) in
+    let run = subst (λ (records : List (List ℕ)). RepliesInTurn catalogue caller records (replies_of turns) before after)
+    answers.calls (in_turn catalogue caller turns before after answers.served answers.run each) in
+    let gives = turns_give catalogue caller wanted.domain wanted.map 1 (replies_of turns) rest before after
+    answers.served answers.rises (omega arith) d m run in
+    let fronts = gives.0 in
+    let served = subst (λ (log : Log). AreServed (maps_on catalogue log)) (sym gives.1) answers.served in
+    let fetched = version_said wanted stream version _
+    (by_wire server stream hosts name wanted (Ok version) old new came fetches) in
+    let is = shown catalogue fronts caller wanted 1 0 stream version served (omega arith) d m gives.2 fetched in
+    record { fronts = fronts; of_log = gives.1; source = is.0; shown = is.1; same = is.2 }

@@ -1,0 +1,8 @@
+use Rattle.yp_source.proofs.Sourcing.{run_is_fetched}
+use Rattle.yp_source.proofs.laws.run_is_fetched.Goals as goal
+
+pub returns : goal.returns
+returns c =
+    let replied = c.calls_have_replies.ensures in
+    run_is_fetched (record { order = replied.order; master = replied.master; all = replied.all })
+    c.run_is_in_turn.ensures c.turns_give_fetch.ensures c.fetched_is_shown.ensures c.wire_is_fetched.ensures

@@ -1,0 +1,121 @@
+-- What a transfer does to an office, by what was moved and told.
+use Rattle.std.proofs.Common.{◌≡◌, ◌⊎◌, inl, inr, ℕ, Bool, true, false, List, Option, Result, Ok, Err, refl, sym, ap, ◌∙◌, subst}
+use Rattle.std.specs.Prelude.{OnErr}
+use Rattle.yp_slot.specs.declared.fault.SlotFault.{SlotFault}
+use Rattle.yp_slot.specs.declared.fault.SlotFault.TheVariants as slot
+use Rattle.yp_board.specs.Catalogues.{Name}
+use Rattle.yp_board.specs.declared.catalog.MapName.{MapName}
+use Rattle.yp_publish.specs.declared.install.Installed.{Installed}
+use Rattle.yp_xfr.specs.declared.fault.XfrFault.{XfrFault}
+use Rattle.yp_xfr.specs.declared.fault.XfrFault.TheVariants as fault
+use Rattle.yp_office.specs.declared.office.Office.{Office}
+use Rattle.yp_office.specs.declared.status.Status.{Status}
+use Rattle.yp_office.specs.declared.status.Status.TheVariants.{Done, WriteFault, NoMemory, Damaged, DiskFault, Xfr}
+use Rattle.yp_office.specs.Files.{Fails}
+use Rattle.yp_office.specs.Disks.{names_of}
+use Rattle.yp_office.specs.Seeing.{Seeing, output, history, WriteFails, DiskFails}
+use Rattle.yp_storing.specs.declared.xfr.XfrStop.{XfrStop}
+use Rattle.yp_storing.specs.declared.xfr.XfrStop.TheVariants as stop
+use Rattle.yp_storing.specs.Build.{TellsLine, LeavesFew}
+use Rattle.yp_storing.specs.Xfr.{Order, Moves, is_undialed, xfr_line, Tells, IsEnd, dialing, disk_faults}
+use Rattle.yp_storing.specs.Xfr.{Transfers, Declines, XfrDoes}
+
+-- ---- no status of a transfer tells a fault of the disk, but where its file isn't loaded
+
+line_no_disk : (text : List ℕ) (status : Status) (before after : Option (List ℕ)) (map : MapName)
+    → TellsLine text status before after → status ≡ DiskFault map → ⊥
+line_no_disk text Done before after map told e = cc
+line_no_disk text WriteFault before after map told e = cc
+line_no_disk text _ before after map told e = told
+
+fault_no_disk : (store : Name) (why : XfrFault) (status : Status) (before after : Option (List ℕ)) (map : MapName)
+    → Tells store (Err why) status before after → status ≡ DiskFault map → ⊥
+fault_no_disk store fault.NoMemory status before after map told e =
+    let wrong : NoMemory ≡ DiskFault map = sym told.0 ∙ e in cc
+fault_no_disk store why status before after map told e =
+    let wrong : Xfr why ≡ DiskFault map = sym told.0 ∙ e in cc
+
+was_disk : (store : Name) (why : SlotFault) (status : Status) (map : MapName) → Fails store why status
+    → status ≡ DiskFault map → why ≡ slot.DiskFault
+was_disk store (slot.Damaged at rule) (Damaged other a r) map fails e = absurd cc
+was_disk store slot.DiskFault status map fails e = refl
+was_disk store slot.NoMemory NoMemory map fails e = absurd cc
+was_disk store _ _ map fails e = absurd fails
+
+-- and none tells a fault of the output
+
+not_loaded_no_write : (store : Name) (why : SlotFault) (status : Status) → Fails store why status → status ≡ WriteFault
+    → ⊥
+not_loaded_no_write store (slot.Damaged at rule) (Damaged other a r) fails e = cc
+not_loaded_no_write store slot.DiskFault (DiskFault map) fails e = cc
+not_loaded_no_write store slot.NoMemory NoMemory fails e = cc
+not_loaded_no_write store _ _ fails e = fails
+
+fault_no_write : (store : Name) (why : XfrFault) (status : Status) (before after : Option (List ℕ))
+    → Tells store (Err why) status before after → status ≡ WriteFault → ⊥
+fault_no_write store fault.NoMemory status before after told e = let wrong : NoMemory ≡ WriteFault = sym told.0 ∙ e in cc
+fault_no_write store why status before after told e = let wrong : Xfr why ≡ WriteFault = sym told.0 ∙ e in cc
+
+pub stopped_no_write : (store : Name) (why : XfrStop) (status : Status) (before after : Option (List ℕ))
+    → IsEnd store (Err why) status before after → status ≡ WriteFault → ⊥
+stopped_no_write store (stop.Fault why) status before after ends e = fault_no_write store why status before after ends e
+stopped_no_write store (stop.Unloaded why) status before after ends e =
+    not_loaded_no_write store why status ends.0 e
+
+module _ {S K D C A I T : Type 0} (seen : Seeing S K D C A I T) (order : Order) (old new : Office S K D C A I T) where
+  -- what was moved and told
+  pub record Told (result : Result Installed XfrStop) (status : Status) : Type 0 where
+    pub moves : Moves order result (dialing seen old) (dialing seen new) (history seen old) (history seen new)
+        (disk_faults seen old) (disk_faults seen new)
+    pub few : LeavesFew (history seen old) (history seen new)
+    pub undialed : is_undialed result ≡ true → new.dial ≡ old.dial
+    pub silent : OnErr result (new.wire.sink ≡ old.wire.sink)
+    pub letters : seen.dial.letters new.dial ≡ seen.dial.letters old.dial
+    pub ends : IsEnd order.store result status (output seen old) (output seen new)
+    pub write_fault : status ≡ WriteFault → WriteFails seen old new
+    pub names : names_of new.disks.items ≡ names_of old.disks.items
+    pub stays : new ≡ record old {
+      wire = record old.wire { sink = new.wire.sink };
+      disks = new.disks;
+      dial = new.dial;
+    }
+
+  only_disks : new.dial ≡ old.dial → new.wire.sink ≡ old.wire.sink
+      → new ≡ record old { wire = record old.wire { sink = new.wire.sink }; disks = new.disks; dial = new.dial }
+      → new ≡ record old { disks = new.disks }
+  only_disks dial sink stays =
+      stays
+      ∙ ap (λ (d : A). record old { wire = record old.wire { sink = new.wire.sink }; disks = new.disks; dial = d }) dial
+      ∙ ap (λ (k : K). record old { wire = record old.wire { sink = k }; disks = new.disks }) sink
+
+  does : (result : Result Installed XfrStop) (status : Status) → Told result status
+      → Transfers seen order status old new ⊎ Declines seen order status old new
+  does (Ok installed) status told = inl (record { result = Ok installed; did = told.moves; tells = told.ends })
+  does (Err (stop.Fault why)) status told = inl (record { result = Err why; did = told.moves; tells = told.ends })
+  does (Err (stop.Unloaded why)) status told = inr (record {
+    why = why;
+    did = told.moves;
+    tells = told.ends.0;
+    stays = only_disks (told.undialed refl) told.silent told.stays;
+  })
+
+  disk_fault : (result : Result Installed XfrStop) (status : Status) (map : MapName) → Told result status
+      → status ≡ DiskFault map → DiskFails seen old new
+  disk_fault (Ok installed) status map told e =
+      absurd (line_no_disk (xfr_line order.store installed.order installed.generation) status _ _ map told.ends e)
+  disk_fault (Err (stop.Fault why)) status map told e =
+      absurd (fault_no_disk order.store why status _ _ map told.ends e)
+  disk_fault (Err (stop.Unloaded why)) status map told e =
+      told.moves.disk_fault (was_disk order.store why status map told.ends.0 e)
+
+  pub xfr_does : (result : Result Installed XfrStop) (status : Status) → Told result status
+      → XfrDoes seen order status old new
+  xfr_does result status told = record {
+    does = does result status told;
+    few = told.few;
+    write_fault = told.write_fault;
+    disk_fault = λ map e. disk_fault result status map told e;
+    names = told.names;
+    letters = told.letters;
+    stays = told.stays;
+  }

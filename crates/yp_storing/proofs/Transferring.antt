@@ -1,0 +1,510 @@
+-- What a transfer of the only map of a publisher does to its dial and to its disk.
+use Rattle.std.proofs.Common.{◌≡◌, ◌⊎◌, inl, inr, ⊎_elim, ℕ, ◌+◌, ◌≤◌, Bool, true, false, cond, List, [], ◌∷◌, length, map}
+use Rattle.std.proofs.Common.{Option, Some, None, Result, Ok, Err, refl, sym, ap, ◌∙◌, subst, arith}
+use Rattle.std.specs.Prelude.{IfSome, OnOk, IsSome, option_map, slice_get}
+use Rattle.std.specs.Option.{option_or}
+use Rattle.std.specs.List.{AllZip}
+use Rattle.yp_io.specs.Counts.{HasRisen}
+use Rattle.yp_io.specs.Disk.{History, LeavesOnly, MayLeave}
+use Rattle.yp_io.specs.DiskLaws.{counts_now}
+use Rattle.yp_version.specs.Versions.{MapVersion}
+use Rattle.yp_slot.specs.declared.fault.SlotFault.{SlotFault}
+use Rattle.yp_slot.specs.declared.fault.SlotFault.TheVariants as slot
+use Rattle.yp_slot.specs.Loads.{Loads}
+use Rattle.yp_slot.specs.Stands.{file_max, Stored, stands}
+use Rattle.yp_board.specs.Catalogues.{Catalogue, Name}
+use Rattle.yp_board.specs.Logs.{Log, shown, starts}
+use Rattle.yp_board.specs.Views.{Seen}
+use Rattle.yp_publish.specs.declared.install.InstallFault.{InstallFault}
+use Rattle.yp_publish.specs.declared.install.InstallFault.TheVariants as install
+use Rattle.yp_publish.specs.declared.install.Installed.{Installed}
+use Rattle.yp_publish.specs.declared.install.Origin.TheVariants.{Fetched}
+use Rattle.yp_publish.specs.declared.open.OpenFault.{OpenFault}
+use Rattle.yp_publish.specs.declared.open.OpenFault.TheVariants as opening
+use Rattle.yp_publish.specs.Begins.{BeginsLevel, IsUnwritten, IsUnopened, plain_log}
+use Rattle.yp_publish.specs.Installs.{Offer, Refusal, HasMaster, IsNotNewer, IsSpent, IsBehind, offer, not_following}
+use Rattle.yp_publish.specs.Installs.{no_further, is_behind, install_refusal, IsCause, Leaves}
+use Rattle.yp_publish.specs.Keeping.{Keeping, keeping_of, Upholds}
+use Rattle.yp_publish.specs.Opens.{IsOpened, IsRefused}
+use Rattle.yp_publish.specs.Standing.{MapStanding, Level, Behind, Kept, Published, OfMap, At, StandsAs, stands_for, versions}
+use Rattle.yp_xfr.specs.declared.fault.XfrFault.{XfrFault}
+use Rattle.yp_xfr.specs.declared.fault.XfrFault.TheVariants as fault
+use Rattle.yp_xfr.specs.Fetching.{Wanted, wanted_of, Outcome}
+use Rattle.yp_xfr.specs.HostTable.{HostList}
+use Rattle.yp_xfr.specs.Dialing.{Dialing, FetchesFrom}
+use Rattle.yp_xfr.specs.Installing.{marking, of_install, fetched_offer, IsTaken, IsNotTaken, Offers, InstallsFetched}
+use Rattle.yp_xfr.specs.Installing.{OpensAndOffers}
+use Rattle.yp_xfr.specs.Transfers.{request_of, wanted_at, InstallsOutcome}
+use Rattle.yp_xfr.specs.Transfers as transfers
+use Rattle.yp_office.specs.Disks.{only_history, total_faults}
+use Rattle.yp_storing.specs.declared.xfr.XfrStop.TheVariants as stop
+use Rattle.yp_storing.specs.Build.{LeavesFew}
+use Rattle.yp_storing.specs.Xfr.{Order, Held, IsHeld, wanted, marked, against, IsFetchedIn, IsBeforeOrFetched, IsUnwanted}
+use Rattle.yp_storing.specs.Xfr.{IsNotStored, Comes, TransfersOn, IsNotLoaded, Moves, stop_of_open}
+use Rattle.yp_storing.proofs.OnDisk.{then, nothing_left, all_told, by_front}
+
+-- ---- one map
+
+of_one : {D : Type 0} (maps : List (Kept D)) (kept : Kept D) (P : Kept D → Type 0) → maps ≡ kept ∷ [] → OfMap 0 maps P
+    → P kept
+of_one {D} maps kept P one h = subst (λ (l : List (Kept D)). OfMap 0 l P) one h
+
+at_one : {D : Type 0} (olds news : List (Kept D)) (before after : Kept D) (P : Kept D → Kept D → Type 0)
+    → olds ≡ before ∷ [] → news ≡ after ∷ [] → At 0 olds news P → P before after
+at_one {D} olds news before after P old new h =
+    of_one news after (P before) new (of_one olds before (λ kept. OfMap 0 news (P kept)) old h)
+
+-- its version is what is shown first
+shown_first : (version : Option MapVersion) → shown 0 (starts 0 (version ∷ [])) ≡ version
+shown_first None = refl
+shown_first (Some version) = refl
+
+leaves_more : (old new : Option History) (P Q : List ℕ → Type 0) → ((image : List ℕ) → P image → Q image)
+    → LeavesOnly old new P → LeavesOnly old new Q
+leaves_more old new P Q f h = record { goes_on = h.goes_on; each = λ image left. f image (h.each image left) }
+
+-- ---- refusals
+
+some_none : {A : Type 0} (o : Option A) → IsSome o → o ≡ None → ⊥
+some_none None h e = cc
+some_none (Some x) h e = cc
+
+at_level : (standing : MapStanding) (other : Option Refusal) → standing ≡ Level
+    → cond (is_behind standing) (Some IsBehind) other ≡ other
+at_level Level other e = refl
+at_level (Behind failed) other e = absurd cc
+
+by_tests : (foreign old spent : Bool) (master : List ℕ) (was is : ℕ)
+    → option_or (cond foreign (Some (HasMaster master)) (cond old (Some (IsNotNewer was is)) None))
+    (cond spent (Some IsSpent) None) ≡ Some IsBehind → ⊥
+by_tests true old spent master was is e = cc
+by_tests false true spent master was is e = cc
+by_tests false false true master was is e = cc
+by_tests false false false master was is e = cc
+
+by_spent : (spent : Bool) → option_or None (cond spent (Some IsSpent) None) ≡ Some IsBehind → ⊥
+by_spent true e = cc
+by_spent false e = cc
+
+-- what stands against a version isn't that its map is behind
+never_behind : (own : List ℕ) (offered : Offer) (version : Option MapVersion) (generation : ℕ)
+    → option_or (not_following own offered version) (no_further generation) ≡ Some IsBehind → ⊥
+never_behind own offered None generation e = by_spent _ e
+never_behind own offered (Some last) generation e = by_tests _ _ _ _ _ _ e
+
+not_stored : (cause : Option Refusal) (Failed : Type 0) (why : InstallFault) → (cause ≡ Some IsBehind → ⊥)
+    → IsCause why cause → (why ≡ install.DiskFault → Failed) → IsNotStored cause Failed (of_install why)
+not_stored cause Failed install.Behind never is failed = absurd (never is)
+not_stored cause Failed (install.Refused master) never is failed = (master.items, is)
+not_stored cause Failed (install.Age was offered) never is failed = is
+not_stored cause Failed install.GenerationsSpent never is failed = inl is
+not_stored cause Failed install.DiskFault never is failed = inr (is, failed refl)
+not_stored cause Failed install.NoMemory never is failed = tt
+
+not_stored_more : (cause : Option Refusal) (F G : Type 0) (why : XfrFault) → (F → G) → IsNotStored cause F why
+    → IsNotStored cause G why
+not_stored_more cause F G fault.Refused f h = h
+not_stored_more cause F G (fault.Age was offered) f h = h
+not_stored_more cause F G fault.File f h = ⊎_elim (λ spent. inl spent) (λ failed. inr (failed.0, f failed.1)) h
+not_stored_more cause F G fault.NoMemory f h = tt
+not_stored_more cause F G _ f h = absurd h
+
+comes_more : (order : Order) (held : Held) (F G : Type 0) (outcome : Outcome) (result : Result Installed XfrFault)
+    → (F → G) → Comes order held F outcome result → Comes order held G outcome result
+comes_more order held F G (Err why) result f h = h
+comes_more order held F G (Ok version) (Ok installed) f h = h
+comes_more order held F G (Ok version) (Err why) f h = not_stored_more (against order held version) F G why f h
+
+module _ {D : Type 0} (history : D → Option History) (faults : D → ℕ) (order : Order) where
+  abbrev keeping : Keeping D Seen
+  keeping = keeping_of history faults plain_log
+
+  abbrev held_of : Kept D → Held
+  held_of kept = record { version = kept.version; generation = kept.generation }
+
+  abbrev offer_of : Kept D → MapVersion → Offer
+  offer_of kept version = offer (marked order (held_of kept) version) Fetched order.force
+
+  -- a publisher of one map before and after, whose file was opened at first
+  record One (disk : D) (before after : Kept D) (old new : Published D Seen) : Type 0 where
+    olds : old.maps ≡ before ∷ []
+    news : new.maps ≡ after ∷ []
+    own : old.catalogue.own ≡ order.name
+    maps : old.catalogue.maps ≡ order.store ∷ []
+    shows : shown 0 old.board.known ≡ before.version
+    opened : IsOpened history faults disk before
+
+  -- what came of a fetch was stored, or wasn't
+  record Puts (outcome : Outcome) (result : Result Installed XfrFault) (before after : Kept D) : Type 0 where
+    comes : Comes order (held_of before) (HasRisen (faults before.disk) (faults after.disk)) outcome result
+    stored : OnOk result ((image : List ℕ) → MayLeave (history after.disk) image
+        → IsFetchedIn order (held_of before) outcome image)
+    moments : LeavesOnly (history before.disk) (history after.disk)
+        (λ image. (stands image ≡ stands_for before.version) ⊎ IsFetchedIn order (held_of before) outcome image)
+    unwritten : IsUnwanted order (held_of before) outcome → after ≡ before
+    few : LeavesOnly (history before.disk) (history after.disk)
+        (λ image. MayLeave (history before.disk) image ⊎ (length image ≤ file_max))
+    never_falls : faults before.disk ≤ faults after.disk
+
+  module _ (disk : D) (before after : Kept D) (old new : Published D Seen) (one : One disk before after old new) where
+    stood : (image : List ℕ) → MayLeave (history before.disk) image → stands image ≡ stands_for before.version
+    stood image left =
+        subst (λ (s : MapStanding). StandsAs s before.version image) one.opened.level (one.opened.standing image left)
+
+    same_kept : new ≡ old → after ≡ before
+    same_kept same =
+        let e : after ∷ [] ≡ before ∷ [] = sym one.news ∙ ap (λ (p : Published D Seen). p.maps) same ∙ one.olds in
+        cc
+
+    -- nothing came
+    nothing_put : (why : XfrFault) → new ≡ old → Puts (Err why) (Err why) before after
+    nothing_put why same =
+        let is = same_kept same in
+        let stays = λ (P : List ℕ → Type 0) (f : (image : List ℕ) → MayLeave (history before.disk) image → P image).
+        subst (λ (kept : Kept D). LeavesOnly (history before.disk) (history kept.disk) P) (sym is)
+        (nothing_left (history before.disk) P f) in
+        record {
+          comes = refl;
+          stored = tt;
+          moments = stays (λ image. (stands image ≡ stands_for before.version) ⊎ ⊥) (λ image left. inl (stood image left));
+          unwritten = λ none. is;
+          few = stays (λ image. MayLeave (history before.disk) image ⊎ (length image ≤ file_max)) (λ image left. inl left);
+          never_falls = subst (λ (kept : Kept D). faults before.disk ≤ faults kept.disk) (sym is) (omega arith);
+        }
+
+    -- what is against a version
+    refusal_is : (version : MapVersion)
+        → install_refusal old.catalogue.own (offer_of before version) before ≡ against order (held_of before) version
+    refusal_is version =
+        at_level before.standing _ one.opened.level
+        ∙ ap (λ (own : List ℕ). option_or (not_following own (offer_of before version) before.version)
+        (no_further before.generation)) one.own
+
+    meanwhile : (version : MapVersion)
+        → LeavesOnly (history before.disk) (history after.disk) (λ image.
+        StandsAs before.standing before.version image ⊎ (stands image ≡ Stored (marked order (held_of before) version)))
+        → LeavesOnly (history before.disk) (history after.disk) (λ image.
+        (stands image ≡ stands_for before.version) ⊎ (stands image ≡ Stored (marked order (held_of before) version)))
+    meanwhile version h =
+        leaves_more (history before.disk) (history after.disk) _ _ (λ image left. ⊎_elim
+        (λ stand. inl (subst (λ (s : MapStanding). StandsAs s before.version image) one.opened.level stand))
+        (λ is. inr is) left) h
+
+    few_left : Upholds keeping 0 old new → LeavesOnly (history before.disk) (history after.disk)
+        (λ image. MayLeave (history before.disk) image ⊎ (length image ≤ file_max))
+    few_left upheld =
+        leaves_more (history before.disk) (history after.disk) (λ image. length image ≤ file_max) _
+        (λ image short. inr short)
+        (at_one old.maps new.maps before after (λ b a. LeavesOnly (history b.disk) (history a.disk)
+        (λ image. length image ≤ file_max)) one.olds one.news upheld.bound)
+
+    kept_count : Upholds keeping 0 old new → faults before.disk ≤ faults after.disk
+    kept_count upheld =
+        at_one old.maps new.maps before after (λ b a. faults b.disk ≤ faults a.disk) one.olds one.news upheld.never_falls
+
+    taken : (version : MapVersion) (installed : Installed)
+        → IsTaken keeping 0 (offer_of before version) installed old new → Puts (Ok version) (Ok installed) before after
+    taken version installed h =
+        let offered = offer_of before version in
+        let unopposed = of_one old.maps before
+        (λ kept. install_refusal old.catalogue.own offered kept ≡ None) one.olds h.installs.unopposed in
+        let is = at_one old.maps new.maps before after (λ b a. a ≡ record {
+          disk = a.disk;
+          generation = b.generation + 1;
+          version = Some offered.version;
+          standing = Level;
+        }) one.olds one.news h.installs.installed in
+        let standing = of_one new.maps after (λ kept. (image : List ℕ) → MayLeave (history kept.disk) image
+        → StandsAs kept.standing kept.version image) one.news h.installs.upheld.standing in
+        record {
+          comes = (
+            sym (refusal_is version) ∙ unopposed,
+            of_one old.maps before (λ kept. installed ≡ record {
+              order = version.order;
+              generation = kept.generation + 1;
+            }) one.olds h.answer,
+          );
+          stored = λ image left. subst (λ (kept : Kept D). StandsAs kept.standing kept.version image) is
+              (standing image left);
+          moments = meanwhile version (at_one old.maps new.maps before after
+              (λ b a. LeavesOnly (history b.disk) (history a.disk) (λ image.
+              StandsAs b.standing b.version image ⊎ (stands image ≡ Stored offered.version)))
+              one.olds one.news h.installs.meanwhile);
+          unwritten = λ unwanted. absurd (some_none (against order (held_of before) version) unwanted
+              (sym (refusal_is version) ∙ unopposed));
+          few = few_left h.installs.upheld;
+          never_falls = kept_count h.installs.upheld;
+        }
+
+    -- what a fault leaves where something stands against the version
+    left_same : (version : MapVersion) (why : InstallFault) → IsSome (against order (held_of before) version)
+        → IsCause why (against order (held_of before) version) → Leaves keeping 0 (offer_of before version) why old new
+        → new ≡ old
+    left_same version install.Behind unwanted cause left = left
+    left_same version (install.Refused master) unwanted cause left = left
+    left_same version (install.Age was offered) unwanted cause left = left
+    left_same version install.GenerationsSpent unwanted cause left = left
+    left_same version install.DiskFault unwanted cause left = absurd (some_none _ unwanted cause)
+    left_same version install.NoMemory unwanted cause left =
+        ⊎_elim (λ same. same) (λ fails. absurd (some_none (against order (held_of before) version) unwanted
+        (sym (refusal_is version) ∙ of_one old.maps before
+        (λ kept. install_refusal old.catalogue.own (offer_of before version) kept ≡ None) one.olds fails.unopposed))) left
+
+    disk_risen : (version : MapVersion) (why : InstallFault) → Leaves keeping 0 (offer_of before version) why old new
+        → why ≡ install.DiskFault → HasRisen (faults before.disk) (faults after.disk)
+    disk_risen version install.DiskFault left is =
+        at_one old.maps new.maps before after (λ b a. HasRisen (faults b.disk) (faults a.disk)) one.olds one.news
+        left.cause
+    disk_risen version _ left is = absurd cc
+
+    not_taken : (version : MapVersion) (why : XfrFault)
+        → IsNotTaken keeping 0 (offer_of before version) why old new → Puts (Ok version) (Err why) before after
+    not_taken version why h =
+        let offered = offer_of before version in
+        let held = held_of before in
+        let cause : IsCause h.why (against order held version) =
+        subst (λ (o : Option Refusal). IsCause h.why o) (refusal_is version)
+        (of_one old.maps before (λ kept. IsCause h.why (install_refusal old.catalogue.own offered kept)) one.olds
+        h.refuses.cause) in
+        record {
+          comes = subst (λ (f : XfrFault). IsNotStored (against order held version)
+              (HasRisen (faults before.disk) (faults after.disk)) f) (sym h.fault_is)
+              (not_stored (against order held version) _ h.why
+              (never_behind order.name offered before.version before.generation) cause
+              (disk_risen version h.why h.refuses.left));
+          stored = tt;
+          moments = meanwhile version (at_one old.maps new.maps before after
+              (λ b a. LeavesOnly (history b.disk) (history a.disk) (λ image.
+              StandsAs b.standing b.version image ⊎ (stands image ≡ Stored offered.version)))
+              one.olds one.news h.refuses.meanwhile);
+          unwritten = λ unwanted. same_kept (left_same version h.why unwanted cause h.refuses.left);
+          few = few_left h.refuses.upheld;
+          never_falls = kept_count h.refuses.upheld;
+        }
+
+    offered_put : (version : MapVersion) (result : Result Installed XfrFault)
+        → Offers keeping 0 (offer_of before version) result old new → Puts (Ok version) result before after
+    offered_put version (Ok installed) h = taken version installed h
+    offered_put version (Err why) h = not_taken version why h
+
+    -- the map is level, so it isn't opened again
+    opens_put : (version : MapVersion) (result : Result Installed XfrFault)
+        → InstallsFetched keeping 0 version order.force order.flag result old new → Puts (Ok version) result before after
+    opens_put version result (inl h) =
+        absurd (of_one old.maps before (λ kept. kept.standing ≡ Level → ⊥) one.olds h.stays.behind one.opened.level)
+    opens_put version result (inr h) =
+        let same = of_one old.maps before (λ kept. kept.standing ≡ Level → h.middle ≡ old) one.olds h.opens.unchanged
+        one.opened.level in
+        let here = subst (λ (p : Published D Seen).
+        Offers keeping 0 (fetched_offer keeping 0 version order.force order.flag p) result p new) same h.offers in
+        offered_put version result (subst (λ (v : Option MapVersion).
+        Offers keeping 0 (offer (record version { secure = marking order.flag v }) Fetched order.force) result old new)
+        one.shows here)
+
+    put : (outcome : Outcome) (result : Result Installed XfrFault)
+        → InstallsOutcome keeping (request_of 0 order.host.0 order.force order.flag) outcome result old new
+        → Puts outcome result before after
+    put (Ok version) result h = opens_put version result h
+    put (Err why) result h =
+        subst (λ (r : Result Installed XfrFault). Puts (Err why) r before after) (sym h.0) (nothing_put why h.1)
+
+    fetched : (outcome : Outcome) (from to : Dialing)
+        → FetchesFrom (order.host ∷ []) order.host.0
+        (wanted_at keeping (request_of 0 order.host.0 order.force order.flag) order.store old) outcome from to
+        → FetchesFrom (order.host ∷ []) order.host.0 (wanted order (held_of before)) outcome from to
+    fetched outcome from to h =
+        subst (λ (v : Option MapVersion). FetchesFrom (order.host ∷ []) order.host.0
+        (wanted_of order.store.0 order.store.1 (option_map (λ version. version.order) v) order.force) outcome from to)
+        one.shows h
+
+    -- what the disk shows of it
+    on_one : (outcome : Outcome) (result : Result Installed XfrFault) (from to : Dialing)
+        → FetchesFrom (order.host ∷ []) order.host.0 (wanted order (held_of before)) outcome from to
+        → Puts outcome result before after
+        → TransfersOn order result from to (history disk) (history after.disk) (faults disk + 0) (faults after.disk + 0)
+    on_one outcome result from to fetches puts = record {
+      held = held_of before;
+      is_held = record { version = one.opened.stood.version; generation = one.opened.stood.generation };
+      outcome = outcome;
+      fetches = fetches;
+      comes = comes_more order (held_of before) (HasRisen (faults before.disk) (faults after.disk)) _ outcome result
+          (λ risen. omega (arith, one.opened.never_falls, risen)) puts.comes;
+      stored = puts.stored;
+      any_moment = then (history disk) (history before.disk) (history after.disk) (MayLeave (history disk))
+          (λ image. (stands image ≡ stands_for before.version) ⊎ IsFetchedIn order (held_of before) outcome image)
+          (IsBeforeOrFetched order (held_of before) outcome (history disk)) (λ image left. inl left)
+          (λ image left. inr left) one.opened.moments puts.moments;
+      unwritten = λ unwanted. subst (λ (kept : Kept D). LeavesOnly (history disk) (history kept.disk)
+          (MayLeave (history disk))) (sym (puts.unwritten unwanted)) one.opened.moments;
+    }
+
+    few_on_one : (outcome : Outcome) (result : Result Installed XfrFault) → Puts outcome result before after
+        → LeavesFew (history disk) (history after.disk)
+    few_on_one outcome result puts =
+        then (history disk) (history before.disk) (history after.disk) (MayLeave (history disk))
+        (λ image. MayLeave (history before.disk) image ⊎ (length image ≤ file_max))
+        (λ image. MayLeave (history disk) image ⊎ (length image ≤ file_max)) (λ image left. inl left)
+        (λ image left. ⊎_elim (λ now. inl (one.opened.moments.each image
+        (counts_now (history disk) (history before.disk) image one.opened.moments.goes_on now)))
+        (λ short. inr short) left) one.opened.moments puts.few
+
+  -- ---- the only disk
+
+  -- what was done to it
+  pub record Did (result : Result Installed XfrFault) (from to : Dialing) (disks news : List D) : Type 0 where
+    pub moves : TransfersOn order result from to (only_history history disks) (only_history history news)
+        (total_faults faults disks) (total_faults faults news)
+    pub few : LeavesFew (only_history history disks) (only_history history news)
+    pub count : length news ≡ 1
+
+  did_one : (disk : D) (before : Kept D) (afters : List (Kept D)) (news : List D) (old new : Published D Seen)
+      (served : Catalogue) (result : Result Installed XfrFault) (from to : Dialing)
+      → served ≡ record { own = order.name; maps = order.store ∷ [] } → BeginsLevel history faults served (disk ∷ []) old
+      → old.maps ≡ before ∷ [] → IsOpened history faults disk before → new.maps ≡ afters → length afters ≡ 1
+      → news ≡ map (λ (kept : Kept D). kept.disk) afters
+      → transfers.Transfers keeping (order.host ∷ []) (request_of 0 order.host.0 order.force order.flag) result from to
+      old new → Did result from to (disk ∷ []) news
+  did_one disk before [] news old new served result from to named begins olds opened news_are count disks did =
+      absurd (omega (arith, count))
+  did_one disk before (after ∷ another ∷ more) news old new served result from to named begins olds opened news_are count
+      disks did = absurd (omega (arith, count))
+  did_one disk before (after ∷ []) news old new served result from to named begins olds opened news_are count disks did =
+      let catalogue = begins.catalogue ∙ named in
+      let maps = ap (λ (c : Catalogue). c.maps) catalogue in
+      let log : old.board.known ≡ starts 0 (before.version ∷ []) =
+      ap (λ (b : Seen). b.known) begins.board
+      ∙ ap (λ (l : List (Kept D)). starts 0 (versions l)) olds in
+      let one : One disk before after old new = record {
+        olds = olds;
+        news = news_are;
+        own = ap (λ (c : Catalogue). c.own) catalogue;
+        maps = maps;
+        shows = ap (λ (l : Log). shown 0 l) log ∙ shown_first before.version;
+        opened = opened;
+      } in
+      let puts = put disk before after old new one did.outcome result did.installs in
+      let named_fetch = subst (λ (names : List Name). IfSome (slice_get names 0) (λ name.
+      FetchesFrom (order.host ∷ []) order.host.0
+      (wanted_at keeping (request_of 0 order.host.0 order.force order.flag) name old) did.outcome from to)) maps
+      did.fetches in
+      let fetches = fetched disk before after old new one did.outcome from to named_fetch in
+      let moves = on_one disk before after old new one did.outcome result from to fetches puts in
+      let few = few_on_one disk before after old new one did.outcome result puts in
+      subst (λ (l : List D). Did result from to (disk ∷ []) l) (sym disks)
+      (record { moves = moves; few = few; count = refl })
+
+  -- as many maps after as before
+  count_kept : (old new : Published D Seen) (outcome : Outcome) (result : Result Installed XfrFault)
+      → InstallsOutcome keeping (request_of 0 order.host.0 order.force order.flag) outcome result old new
+      → length new.maps ≡ length old.maps
+  count_kept old new (Err why) result h = ap (λ (p : Published D Seen). length p.maps) h.1
+  count_kept old new (Ok version) result (inl h) = h.stays.upheld.elsewhere.count
+  count_kept old new (Ok version) (Ok installed) (inr h) =
+      h.offers.installs.upheld.elsewhere.count ∙ h.opens.upheld.elsewhere.count
+  count_kept old new (Ok version) (Err why) (inr h) =
+      h.offers.refuses.upheld.elsewhere.count ∙ h.opens.upheld.elsewhere.count
+
+  by_maps : (disks : List D) (befores : List (Kept D)) (news : List D) (old new : Published D Seen) (served : Catalogue)
+      (result : Result Installed XfrFault) (from to : Dialing) → length disks ≡ 1
+      → served ≡ record { own = order.name; maps = order.store ∷ [] } → BeginsLevel history faults served disks old
+      → old.maps ≡ befores → AllZip (IsOpened history faults) disks befores
+      → news ≡ map (λ (kept : Kept D). kept.disk) new.maps
+      → transfers.Transfers keeping (order.host ∷ []) (request_of 0 order.host.0 order.force order.flag) result from to
+      old new → Did result from to disks news
+  by_maps [] befores news old new served result from to one named begins olds opened disks did = absurd (omega (arith, one))
+  by_maps (disk ∷ another ∷ more) befores news old new served result from to one named begins olds opened disks did =
+      absurd (omega (arith, one))
+  by_maps (disk ∷ []) [] news old new served result from to one named begins olds opened disks did = absurd opened
+  by_maps (disk ∷ []) (before ∷ other ∷ more) news old new served result from to one named begins olds opened disks did =
+      absurd opened.1
+  by_maps (disk ∷ []) (before ∷ []) news old new served result from to one named begins olds opened disks did =
+      did_one disk before new.maps news old new served result from to named begins olds opened.0 refl
+      (count_kept old new did.outcome result did.installs ∙ ap (λ (l : List (Kept D)). length l) olds) disks did
+
+  pub did_only : (disks news : List D) (old new : Published D Seen) (served : Catalogue)
+      (result : Result Installed XfrFault) (from to : Dialing) → length disks ≡ 1
+      → served ≡ record { own = order.name; maps = order.store ∷ [] } → BeginsLevel history faults served disks old
+      → news ≡ map (λ (kept : Kept D). kept.disk) new.maps
+      → transfers.Transfers keeping (order.host ∷ []) (request_of 0 order.host.0 order.force order.flag) result from to
+      old new → Did result from to disks news
+  did_only disks news old new served result from to one named begins given did =
+      by_maps disks old.maps news old new served result from to one named begins refl begins.opened given did
+
+  -- the same of equal hosts and sources
+  pub did_named : (disks news : List D) (old new : Published D Seen) (served : Catalogue)
+      (result : Result Installed XfrFault) (from to : Dialing) (hosts : HostList) (source : List ℕ) → length disks ≡ 1
+      → served ≡ record { own = order.name; maps = order.store ∷ [] } → BeginsLevel history faults served disks old
+      → news ≡ map (λ (kept : Kept D). kept.disk) new.maps → hosts ≡ order.host ∷ [] → source ≡ order.host.0
+      → transfers.Transfers keeping hosts (request_of 0 source order.force order.flag) result from to old new
+      → Did result from to disks news
+  did_named disks news old new served result from to hosts source one named begins given table name did =
+      did_only disks news old new served result from to one named begins given
+      (subst (λ (h : HostList). transfers.Transfers keeping h (request_of 0 order.host.0 order.force order.flag) result from
+      to old new) table
+      (subst (λ (s : List ℕ). transfers.Transfers keeping hosts (request_of 0 s order.force order.flag) result from to old
+      new) name did))
+
+  -- ---- where no publisher was opened
+
+  -- what was done to the disk then
+  pub record Left (why : SlotFault) (disks news : List D) : Type 0 where
+    pub moves : IsNotLoaded why (only_history history disks) (only_history history news) (total_faults faults disks)
+        (total_faults faults news)
+    pub few : LeavesFew (only_history history disks) (only_history history news)
+    pub count : length news ≡ 1
+
+  left_by : (why : SlotFault) (before after : D) → IsUnwritten history faults before after
+      → IfSome (history before) (λ h. Loads (stands h.state.reads) (Err why))
+      → (why ≡ slot.DiskFault → HasRisen (faults before) (faults after)) → Left why (before ∷ []) (after ∷ [])
+  left_by why before after kept cause risen = record {
+    moves = record {
+      cause = cause;
+      disk_fault = λ e. omega (arith, risen e);
+      unwritten = kept.moments;
+    };
+    few = leaves_more (history before) (history after) (MayLeave (history before)) _ (λ image left. inl left) kept.moments;
+    count = refl;
+  }
+
+  -- why nothing was loaded
+  abbrev why_of : OpenFault → SlotFault
+  why_of (opening.Refused number why) = why
+  why_of opening.NoMemory = slot.NoMemory
+
+  left_one : (fault : OpenFault) (before after : D) → IsUnwritten history faults before after
+      → IsUnopened history faults fault (before ∷ []) (after ∷ []) → Left (why_of fault) (before ∷ []) (after ∷ [])
+  left_one (opening.Refused number why) before after kept is =
+      let stopped = is.1 in
+      let refused = by_front history faults stopped.front stopped.opened stopped.before stopped.after stopped.rest before
+      after (λ b a. IsRefused history faults b a why) stopped.old_is stopped.new_is stopped.each stopped.refused in
+      left_by why before after kept refused.cause refused.disk_fault
+  left_one opening.NoMemory before after kept is =
+      left_by slot.NoMemory before after kept (all_told (history before) _ (λ h. tt)) (λ e. absurd cc)
+
+  pub left_only : (fault : OpenFault) (disks news : List D) → length disks ≡ 1
+      → AllZip (IsUnwritten history faults) disks news → IsUnopened history faults fault disks news
+      → Left (why_of fault) disks news
+  left_only fault [] news one all is = absurd (omega (arith, one))
+  left_only fault (disk ∷ another ∷ more) news one all is = absurd (omega (arith, one))
+  left_only fault (disk ∷ []) [] one all is = absurd all
+  left_only fault (disk ∷ []) (after ∷ other ∷ more) one all is = absurd all.1
+  left_only fault (disk ∷ []) (after ∷ []) one all is = left_one fault disk after all.0 is
+
+  -- what stops a transfer then
+  pub unopened_moves : (fault : OpenFault) (from : Dialing) (disks news : List D) → Left (why_of fault) disks news
+      → Moves order (Err (stop_of_open fault)) from from (only_history history disks) (only_history history news)
+      (total_faults faults disks) (total_faults faults news)
+  unopened_moves (opening.Refused number why) from disks news left = left.moves
+  unopened_moves opening.NoMemory from disks news left = left.moves
+
+  -- where memory ran out before
+  pub forgone_moves : (from : Dialing) (old : Option History) (count : ℕ)
+      → Moves order (Err (stop.Unloaded slot.NoMemory)) from from old old count count
+  forgone_moves from old count = record {
+    cause = all_told old _ (λ h. tt);
+    disk_fault = λ e. absurd cc;
+    unwritten = nothing_left old _ (λ image left. left);
+  }
+
+  pub forgone_few : (old : Option History) → LeavesFew old old
+  forgone_few old = nothing_left old _ (λ image left. inl left)

@@ -1,0 +1,197 @@
+-- A transfer whose source is a server of this product, and one that has all it needs.
+use Rattle.std.proofs.Common.{◌≡◌, ◌⊎◌, inl, inr, ⊎_elim, ℕ, ◌+◌, ◌≤◌, List, [], ◌∷◌, ◌++◌, length, Option, Some, None, Result, Ok, Err}
+use Rattle.std.proofs.Common.{refl, sym, ap, ◌∙◌, subst, arith}
+use Rattle.std.specs.Prelude.{IfSome, OnOk, IsTrue}
+use Rattle.yp_io.specs.declared.stream.Peer.{Peer}
+use Rattle.yp_io.specs.Counts.{HasRisen}
+use Rattle.yp_io.specs.Disk.{History, MayLeave}
+use Rattle.yp_version.specs.Versions.{MapVersion}
+use Rattle.yp_slot.specs.declared.fault.SlotFault.{SlotFault}
+use Rattle.yp_slot.specs.declared.fault.SlotFault.TheVariants as slot
+use Rattle.yp_slot.specs.Loads.{Loads}
+use Rattle.yp_slot.specs.Stands.{stands}
+use Rattle.yp_slot.specs.Stands as stood
+use Rattle.yp_board.specs.Catalogues.{Catalogue, Name}
+use Rattle.yp_board.specs.Logs.{Log}
+use Rattle.yp_publish.specs.declared.install.Installed.{Installed}
+use Rattle.yp_publish.specs.Installs.{Refusal}
+use Rattle.yp_publish.specs.Standing.{stands_for}
+use Rattle.yp_session.specs.Hosts.{Turn}
+use Rattle.yp_query.specs.Complete.{HasCome}
+use Rattle.yp_exchange.specs.Runs.{sent_all}
+use Rattle.yp_exchange.specs.LogRuns.{replies_of}
+use Rattle.yp_xfr.specs.declared.fault.XfrFault.{XfrFault}
+use Rattle.yp_xfr.specs.declared.fault.XfrFault.TheVariants as fault
+use Rattle.yp_xfr.specs.Fetching.{Outcome}
+use Rattle.yp_xfr.specs.Fetched.{place_of, Fetched}
+use Rattle.yp_xfr.specs.Dialing.{FetchesFrom}
+use Rattle.yp_xfr.specs.Laws.{FetchedIsOne}
+use Rattle.yp_source.specs.Runs.{AnswersFetch, IsOfSource, RunIsFetched, WireIsFetched}
+use Rattle.yp_office.specs.declared.office.Office.{Office}
+use Rattle.yp_office.specs.declared.status.Status.{Status}
+use Rattle.yp_office.specs.declared.status.Status.TheVariants.{Done, WriteFault, NoMemory, Damaged, DiskFault, Xfr}
+use Rattle.yp_office.specs.Files.{Fails}
+use Rattle.yp_office.specs.Seeing.{Seeing, output, history, WriteFails, DiskFails, DialFails}
+use Rattle.yp_storing.specs.Build.{TellsLine, tells_stored}
+use Rattle.yp_storing.specs.Xfr.{Order, Held, IsHeld, wanted, against, IsFetchedIn, IsNotStored, Comes, Tells, xfr_line}
+use Rattle.yp_storing.specs.Xfr.{Transfers, Declines, XfrDoes, dialing}
+use Rattle.yp_tools.specs.Transferring.{IsStoredOf, IsToldHeld}
+
+-- ---- statuses
+
+not_told : (store : Name) (why : XfrFault) (status : Status) (before after : Option (List ℕ))
+    → Tells store (Err why) status before after → IsTrue (tells_stored status) → ⊥
+not_told store fault.NoMemory status before after tells told =
+    let wrong : IsTrue (tells_stored NoMemory) = subst (λ (s : Status). IsTrue (tells_stored s)) tells.0 told in cc
+not_told store why status before after tells told =
+    let wrong : IsTrue (tells_stored (Xfr why)) = subst (λ (s : Status). IsTrue (tells_stored s)) tells.0 told in cc
+
+not_loaded : (store : Name) (why : SlotFault) (status : Status) → Fails store why status → IsTrue (tells_stored status)
+    → ⊥
+not_loaded store (slot.Damaged at rule) (Damaged map a r) fails told = cc
+not_loaded store slot.DiskFault (DiskFault map) fails told = cc
+not_loaded store slot.NoMemory NoMemory fails told = cc
+not_loaded store _ _ fails told = fails
+
+-- ---- what the file had
+
+stands_same : (a b : Option MapVersion) → stands_for a ≡ stands_for b → a ≡ b
+stands_same None None e = refl
+stands_same None (Some v) e = absurd cc
+stands_same (Some v) None e = absurd cc
+stands_same (Some v) (Some w) e = cc
+
+never_damaged : (a : Option MapVersion) (at rule : ℕ) → stands_for a ≡ stood.Damaged at rule → ⊥
+never_damaged None at rule e = cc
+never_damaged (Some v) at rule e = cc
+
+held_same : (old : Option History) (held other : Held) → IsHeld old held → IsToldHeld old other → held ≡ other
+held_same old held other is told =
+    let here = subst (λ (h : Option History). IsHeld h held) told.tells is in
+    let version : held.version ≡ other.version =
+    stands_same held.version other.version (sym here.version ∙ told.version) in
+    let generation : held.generation ≡ other.generation = here.generation ∙ sym told.generation in
+    cc
+
+-- ---- one that nothing stands against
+
+unopposed : (cause : Option Refusal) (Failed : Type 0) (why : XfrFault) → cause ≡ None
+    → IsNotStored cause Failed why → (Failed → ⊥) → why ≡ fault.NoMemory
+unopposed cause Failed fault.Refused none is fine = absurd (let no = is.1 in cc)
+unopposed cause Failed (fault.Age was offered) none is fine = absurd cc
+unopposed cause Failed fault.File none is fine =
+    absurd (⊎_elim (λ spent. let no : cause ≡ _ = spent in let e = none in cc) (λ failed. fine failed.1) is)
+unopposed cause Failed fault.NoMemory none is fine = refl
+unopposed cause Failed _ none is fine = absurd is
+
+line_done : (text : List ℕ) (status : Status) (before after : Option (List ℕ)) → TellsLine text status before after
+    → (status ≡ WriteFault → ⊥) → (status ≡ Done) ⊎ (status ≡ NoMemory)
+line_done text Done before after tells fine = inl refl
+line_done text WriteFault before after tells fine = absurd (fine refl)
+line_done text _ before after tells fine = absurd tells
+
+module _ {S K D C A I T : Type 0} (seen : Seeing S K D C A I T) (order : Order) (status : Status)
+    (old new : Office S K D C A I T) where
+  module _ (catalogue : Catalogue) (after : Log) where
+    -- what was fetched is the source's
+    stored_of : (held : Held) (outcome : Outcome) (result : Result Installed XfrFault) (Failed : Type 0)
+        → ((version : MapVersion) → outcome ≡ Ok version → IsOfSource catalogue (wanted order held) after version)
+        → IsHeld (history seen old) held → Comes order held Failed outcome result
+        → OnOk result ((image : List ℕ) → MayLeave (history seen new) image → IsFetchedIn order held outcome image)
+        → Tells order.store result status (output seen old) (output seen new) → IsTrue (tells_stored status)
+        → IsStoredOf catalogue order after (history seen old) (history seen new)
+    stored_of held (Ok version) (Ok installed) Failed of_source is comes stored tells told = record {
+      held = held;
+      is_held = is;
+      version = version;
+      of_source = of_source version refl;
+      stored = stored;
+    }
+    stored_of held (Err why) (Ok installed) Failed of_source is comes stored tells told = absurd cc
+    stored_of held outcome (Err why) Failed of_source is comes stored tells told =
+        absurd (not_told order.store why status _ _ tells told)
+
+    pub of_run : (caller : Peer) (turns : List Turn) (rest : List ℕ) (before : Log) → RunIsFetched
+        → length order.store.0 ≤ 64 → length order.store.1 ≤ 64 → XfrDoes seen order status old new
+        → AnswersFetch catalogue caller order.store.0 order.store.1 turns before after
+        → HasCome order.host.1 (sent_all (replies_of turns) ++ rest) (seen.dial.past old.dial) (seen.dial.past new.dial)
+        → IsTrue (tells_stored status) → IsStoredOf catalogue order after (history seen old) (history seen new)
+    of_run caller turns rest before law domain map does answers came told =
+        ⊎_elim (λ did. stored_of did.did.held did.did.outcome did.result _ (λ version is.
+        law catalogue order.host.1 caller (order.host ∷ []) order.host.0 (wanted order did.did.held) turns rest before
+        after version (dialing seen old) (dialing seen new) domain map answers came
+        (subst (λ (o : Outcome). FetchesFrom (order.host ∷ []) order.host.0 (wanted order did.did.held) o
+        (dialing seen old) (dialing seen new)) is did.did.fetches))
+        did.did.is_held did.did.comes did.did.stored did.tells told)
+        (λ did. absurd (not_loaded order.store did.why status did.tells told)) does.does
+
+  module _ (held : Held) (version : MapVersion) (told : IsToldHeld (history seen old) held)
+      (unopposed_is : against order held version ≡ None) (dials : DialFails seen old new → ⊥)
+      (disks : DiskFails seen old new → ⊥) (writes : status ≡ WriteFault → ⊥) where
+    -- one that came is stored and told
+    came_whole : (other : Held) (result : Result Installed XfrFault) → other ≡ held
+        → Comes order other (DiskFails seen old new) (Ok version) result
+        → Tells order.store result status (output seen old) (output seen new) → (status ≡ Done) ⊎ (status ≡ NoMemory)
+    came_whole other (Ok installed) same comes tells =
+        line_done (xfr_line order.store installed.order installed.generation) status _ _ tells writes
+    came_whole other (Err why) same comes tells =
+        let here = subst (λ (h : Held). IsNotStored (against order h version) (DiskFails seen old new) why) same comes in
+        let is : why ≡ fault.NoMemory =
+        unopposed (against order held version) (DiskFails seen old new) why unopposed_is here disks in
+        let memory = subst (λ (w : XfrFault). Tells order.store (Err w) status (output seen old) (output seen new)) is
+        tells in
+        inr memory.0
+
+    none_came_whole : (why : XfrFault) (other : Held) (result : Result Installed XfrFault) → why ≡ fault.NoMemory
+        → Comes order other (DiskFails seen old new) (Err why) result
+        → Tells order.store result status (output seen old) (output seen new) → (status ≡ Done) ⊎ (status ≡ NoMemory)
+    none_came_whole why other result is comes tells =
+        let memory : result ≡ Err fault.NoMemory = comes ∙ ap (λ (w : XfrFault). Err w) is in
+        let here = subst (λ (r : Result Installed XfrFault). Tells order.store r status (output seen old)
+        (output seen new)) memory tells in
+        inr here.0
+
+    by_outcome : (outcome said : Outcome) (other : Held) (result : Result Installed XfrFault) → other ≡ held
+        → outcome ≡ said → (said ≡ Ok version) ⊎ (said ≡ Err fault.NoMemory)
+        → Comes order other (DiskFails seen old new) outcome result
+        → Tells order.store result status (output seen old) (output seen new) → (status ≡ Done) ⊎ (status ≡ NoMemory)
+    by_outcome outcome said other result same is (inl came) comes tells =
+        came_whole other result same (subst (λ (o : Outcome). Comes order other (DiskFails seen old new) o result)
+        (is ∙ came) comes) tells
+    by_outcome outcome said other result same is (inr memory) comes tells =
+        none_came_whole fault.NoMemory other result refl
+        (subst (λ (o : Outcome). Comes order other (DiskFails seen old new) o result) (is ∙ memory) comes) tells
+
+    transferred : (stream : List ℕ) → WireIsFetched → FetchedIsOne
+        → HasCome order.host.1 stream (seen.dial.past old.dial) (seen.dial.past new.dial)
+        → Fetched (wanted order held) (place_of 1 0 stream) (Ok version) → Transfers seen order status old new
+        → (status ≡ Done) ⊎ (status ≡ NoMemory)
+    transferred stream wire one came fetched did =
+        let same = held_same (history seen old) did.did.held held did.did.is_held told in
+        let asked = subst (λ (h : Held). FetchesFrom (order.host ∷ []) order.host.0 (wanted order h) did.did.outcome
+        (dialing seen old) (dialing seen new)) same did.did.fetches in
+        let said = wire order.host.1 stream (order.host ∷ []) order.host.0 (wanted order held) did.did.outcome
+        (dialing seen old) (dialing seen new) came asked in
+        let is : (did.did.outcome ≡ Ok version) ⊎ (did.did.outcome ≡ Err fault.NoMemory) =
+        ⊎_elim (λ here. inl (one (wanted order held) (place_of 1 0 stream) did.did.outcome (Ok version) here fetched))
+        (λ failed. ⊎_elim (λ risen. absurd (dials risen.1)) (λ memory. inr memory) failed) said in
+        by_outcome did.did.outcome did.did.outcome did.did.held did.result same refl is did.did.comes did.tells
+
+    unloaded : (why : SlotFault) (shown : Status) → shown ≡ status → Fails order.store why shown
+        → IfSome (history seen old) (λ h. Loads (stands h.state.reads) (Err why))
+        → (why ≡ slot.DiskFault → DiskFails seen old new) → (status ≡ Done) ⊎ (status ≡ NoMemory)
+    unloaded (slot.Damaged at rule) shown is fails cause risen =
+        let here = subst (λ (h : Option History). IfSome h (λ h. Loads (stands h.state.reads)
+        (Err (slot.Damaged at rule)))) told.tells cause in
+        absurd (never_damaged held.version at rule (sym told.version ∙ here))
+    unloaded slot.DiskFault shown is fails cause risen = absurd (disks (risen refl))
+    unloaded slot.NoMemory NoMemory is fails cause risen = inr (sym is)
+    unloaded slot.NoMemory _ is fails cause risen = absurd fails
+
+    pub whole : (stream : List ℕ) → WireIsFetched → FetchedIsOne
+        → HasCome order.host.1 stream (seen.dial.past old.dial) (seen.dial.past new.dial)
+        → Fetched (wanted order held) (place_of 1 0 stream) (Ok version) → XfrDoes seen order status old new
+        → (status ≡ Done) ⊎ (status ≡ NoMemory)
+    whole stream wire one came fetched does =
+        ⊎_elim (λ did. transferred stream wire one came fetched did)
+        (λ did. unloaded did.why status refl did.tells did.did.cause did.did.disk_fault) does.does

@@ -1,0 +1,25 @@
+use Rattle.yp_board.specs.Catalogues.{name_view}
+use Rattle.yp_words.specs.Words.{host_view}
+use Rattle.yp_office.specs.Seeing.{seeing}
+use Rattle.yp_storing.specs.Xfr.{order_of}
+use Rattle.yp_tools.proofs.Sourced.{of_run, whole}
+use Rattle.yp_tools.proofs.transferring.transfer.Goals as goal
+
+pub returns-clause-does : goal.returns-clause-does
+returns-clause-does g c =
+    let seen = seeing g.S.Source g.K.Sink g.D.Disk g.C.Clock g.A.Dial g.I.Inbox g.T.Texts in
+    let order = order_of c.args.name.items c.args.force (name_view c.args.store) (host_view c.args.host) c.args.flag in
+    let old = c.args.office.now in
+    let new = c.transfer_map.new.office in
+    let status = c.transfer_map.result in
+    let does = c.transfer_map.ensures.does in
+    record {
+      does = does;
+      of_source = λ catalogue caller turns rest before after answers came told.
+          of_run seen order status old new catalogue after caller turns rest before c.run_is_fetched.ensures
+          c.requires.named.0 c.requires.named.1 does answers came told;
+      complete = λ held stream version told came fetched unopposed dials disks writes.
+          whole seen order status old new held version told unopposed dials disks
+          (λ fault. writes (does.write_fault fault)) stream c.wire_is_fetched.ensures c.fetched_is_one.ensures came
+          fetched does;
+    }
