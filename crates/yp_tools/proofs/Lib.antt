@@ -1,3 +1,4 @@
 pub mod Kept
 pub mod Dispatch
 pub mod Unparsed
+pub mod Sending

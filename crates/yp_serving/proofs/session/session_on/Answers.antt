@@ -4,7 +4,7 @@ use Rattle.yp_board.specs.declared.catalog.MapName.{MapName}
 use Rattle.yp_session.specs.Wires.{wire_of}
 use Rattle.yp_publish.specs.Keeping.{keeping_of}
 use Rattle.yp_server.specs.Locals.{telling_of}
-use Rattle.yp_server.specs.Connections.{plain_log}
+use Rattle.yp_publish.specs.Begins.{plain_log}
 use Rattle.yp_serving.proofs.Sessioned.{session_served, wires_same, write_told, fault_risen, cause_named}
 use Rattle.yp_serving.proofs.session.session_on.Goals as goal
 
