@@ -76,6 +76,8 @@ pub fn serve_wire<S: Source, K: Sink, D: Disk, A: Dial, T: Texts, C: Clock, W: W
         → IsTrue (K.flushed wire.old.sink) → IsTrue (K.flushed wire.new.sink) }
 {
     let Stock { disks, desk } = stock;
+    // The names of a catalogue are within their limits.
+    let _count = catalog.len();
     let Ok(mut session) = Session::new(alloc) else {
         return (Err(OpenFault::NoMemory), Stock { disks, desk });
     };

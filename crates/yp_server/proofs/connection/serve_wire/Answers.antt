@@ -1,7 +1,8 @@
-use Rattle.std.proofs.Common.{Ok, ap, rules, arith}
+use Rattle.std.proofs.Common.{Ok, ap, sym, rules, arith}
 use Rattle.yp_publish.specs.Keeping.{keeping_of}
 use Rattle.yp_publish.specs.Begins.{plain_log}
 use Rattle.yp_board.specs.Views.{Seen}
+use Rattle.yp_board.specs.Logs.{Log}
 use Rattle.yp_session.specs.Wires.{wire_of}
 use Rattle.yp_session.specs.declared.session.End.{End}
 use Rattle.yp_server.specs.Locals.{telling_of}
@@ -9,3 +10,86 @@ use Rattle.yp_server.specs.Connections.{service_of, connection_of, IsLast}
 use Rattle.yp_server.proofs.Hosting.{used_never}
 use Rattle.yp_server.proofs.Serving.{uncalled, bound_at, falls_at, count_of, first_from, went_on, served, served_bound, served_falls, served_count, served_desk}
 use Rattle.yp_server.proofs.connection.serve_wire.Goals as goal
+
+-- no disk was called
+pub returns-in_else : goal.returns-in_else
+returns-in_else g c =
+    let disks = c.args.stock.disks.items in
+    let history = g.D.Disk.history in
+    let faults = g.D.Disk.faults in
+    let all = uncalled history faults disks in
+    record {
+      served = search rules;
+      unserved = all;
+      untouched = search rules;
+      unasked = search rules;
+      unseen = search rules;
+      unwritten = all;
+      bound = bound_at history faults disks disks all;
+      never_falls = falls_at history faults disks disks all;
+      count = count_of history faults disks disks all;
+      desk = used_never _ c.args.stock.desk;
+      counts = record { reads = omega arith; writes = omega arith };
+      read_fault = search rules;
+      write_fault = search rules;
+      flushed = search rules;
+    }
+
+pub returns-in-Err : goal.returns-in-Err
+returns-in-Err g c =
+    let old = c.args.stock.disks.items in
+    let new = c.in-Err.field-0.disks.items in
+    let history = g.D.Disk.history in
+    let faults = g.D.Disk.faults in
+    let all = c.in-Err.ensures.unwritten in
+    record {
+      served = search rules;
+      unserved = c.in-Err.ensures.refused;
+      untouched = search rules;
+      unasked = search rules;
+      unseen = search rules;
+      unwritten = all;
+      bound = bound_at history faults old new all;
+      never_falls = falls_at history faults old new all;
+      count = count_of history faults old new all;
+      desk = used_never _ c.args.stock.desk;
+      counts = record { reads = omega arith; writes = omega arith };
+      read_fault = search rules;
+      write_fault = search rules;
+      flushed = search rules;
+    }
+
+pub returns-in-Ok : goal.returns-in-Ok
+returns-in-Ok g c =
+    let wire = wire_of g.S.Source g.K.Sink in
+    let service = service_of (keeping_of g.D.Disk.history g.D.Disk.faults plain_log) (telling_of g.T.Texts g.C.Clock g.A.Dial.past g.A.Dial.letters g.A.Dial.faults) c.args.catalog c.args.peer in
+    let old = connection_of (wire c.args.wire.now) c.args.stock in
+    let new = connection_of (wire c.run-end.new.wire) c.stock_of.result in
+    let start = c.new-host.result in
+    let finish = c.run-end.new.host in
+    let begun = c.in-Ok.ensures.begun in
+    let first = first_from service old new start finish c.in-Ok.publisher c.new-host.ensures begun.catalogue begun.opened (ap (λ (board : Seen). board.known) begun.board) in
+    let runs = c.run-end.ensures.runs in
+    let went = went_on service old new start finish c.starts_are_shown.ensures c.run-end.result c.run-end.new.self runs.more first runs.done in
+    let last : IsLast service finish new = record { disks = c.stock_of.ensures.disks; desk = c.stock_of.ensures.desk; shows = c.stock_of.ensures.shows; standing = c.stock_of.ensures.standing } in
+    record {
+      served = record {
+        more = runs.more;
+        behind = runs.behind;
+        done = served service old new start finish c.log_rises.ensures c.beginning_is_start.ensures c.run-end.result c.run-end.new.self runs.more first runs.done went last
+            c.len-_count.ensures.catalogue c.stock_of.ensures.versions;
+      };
+      unserved = search rules;
+      untouched = search rules;
+      unasked = search rules;
+      unseen = search rules;
+      unwritten = search rules;
+      bound = served_bound service old new start finish first went last;
+      never_falls = served_falls service old new start finish first went last;
+      count = served_count service old new start finish first went last;
+      desk = served_desk service old new start finish first went last;
+      counts = c.run-end.ensures.counts;
+      read_fault = λ is. c.run-end.ensures.read_fault cc;
+      write_fault = λ is. c.run-end.ensures.write_fault cc;
+      flushed = λ kept. c.run-end.ensures.flushed (λ same. kept (ap (λ (end : End). Ok end) same));
+    }
