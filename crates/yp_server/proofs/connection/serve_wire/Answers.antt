@@ -12,63 +12,31 @@ use Rattle.yp_server.proofs.Serving.{uncalled, bound_at, falls_at, count_of, fir
 use Rattle.yp_server.proofs.connection.serve_wire.Goals as goal
 
 -- no disk was called
-pub returns-in_else : goal.returns-in_else
-returns-in_else g c =
-    let disks = c.args.stock.disks.items in
-    let history = g.D.Disk.history in
-    let faults = g.D.Disk.faults in
-    let all = uncalled history faults disks in
-    record {
-      served = search rules;
-      unserved = all;
-      untouched = search rules;
-      unasked = search rules;
-      unseen = search rules;
-      unwritten = all;
-      bound = bound_at history faults disks disks all;
-      never_falls = falls_at history faults disks disks all;
-      count = count_of history faults disks disks all;
-      desk = used_never _ c.args.stock.desk;
-      counts = record { reads = omega arith; writes = omega arith };
-      read_fault = search rules;
-      write_fault = search rules;
-      flushed = search rules;
-    }
+pub returns-in_default-clause-unserved : goal.returns-in_default-clause-unserved
+returns-in_default-clause-unserved g c = uncalled g.D.Disk.history g.D.Disk.faults c.args.stock.disks.items
 
-pub returns-in-Err : goal.returns-in-Err
-returns-in-Err g c =
-    let old = c.args.stock.disks.items in
-    let new = c.in-Err.field-0.disks.items in
-    let history = g.D.Disk.history in
-    let faults = g.D.Disk.faults in
-    let all = c.in-Err.ensures.unwritten in
-    record {
-      served = search rules;
-      unserved = c.in-Err.ensures.refused;
-      untouched = search rules;
-      unasked = search rules;
-      unseen = search rules;
-      unwritten = all;
-      bound = bound_at history faults old new all;
-      never_falls = falls_at history faults old new all;
-      count = count_of history faults old new all;
-      desk = used_never _ c.args.stock.desk;
-      counts = record { reads = omega arith; writes = omega arith };
-      read_fault = search rules;
-      write_fault = search rules;
-      flushed = search rules;
-    }
+pub returns-in_default-clause-unwritten : goal.returns-in_default-clause-unwritten
+returns-in_default-clause-unwritten g c = uncalled g.D.Disk.history g.D.Disk.faults c.args.stock.disks.items
 
-pub returns-in-Ok : goal.returns-in-Ok
-returns-in-Ok g c =
+pub returns-clause-bound : goal.returns-clause-bound
+returns-clause-bound g c = bound_at g.D.Disk.history g.D.Disk.faults c.args.stock.disks.items _ c.in-Err.ensures.unwritten
+
+pub returns-clause-never_falls : goal.returns-clause-never_falls
+returns-clause-never_falls g c = falls_at g.D.Disk.history g.D.Disk.faults c.args.stock.disks.items _ c.in-Err.ensures.unwritten
+
+pub returns-clause-count : goal.returns-clause-count
+returns-clause-count g c = count_of g.D.Disk.history g.D.Disk.faults c.args.stock.disks.items _ c.in-Err.ensures.unwritten
+
+pub returns-in-Ok-open_publisher : goal.returns-in-Ok-open_publisher
+returns-in-Ok-open_publisher g c =
     let wire = wire_of g.S.Source g.K.Sink in
     let service = service_of (keeping_of g.D.Disk.history g.D.Disk.faults plain_log) (telling_of g.T.Texts g.C.Clock g.A.Dial.past g.A.Dial.letters g.A.Dial.faults) c.args.catalog c.args.peer in
     let old = connection_of (wire c.args.wire.now) c.args.stock in
     let new = connection_of (wire c.run-end.new.wire) c.stock_of.result in
     let start = c.new-host.result in
     let finish = c.run-end.new.host in
-    let begun = c.in-Ok.ensures.begun in
-    let first = first_from service old new start finish c.in-Ok.publisher c.new-host.ensures begun.catalogue begun.opened (ap (λ (board : Seen). board.known) begun.board) in
+    let begun = c.in-Ok-open_publisher.ensures.begun in
+    let first = first_from service old new start finish c.in-Ok-open_publisher.publisher c.new-host.ensures begun.catalogue begun.opened (ap (λ (board : Seen). board.known) begun.board) in
     let runs = c.run-end.ensures.runs in
     let went = went_on service old new start finish c.starts_are_shown.ensures c.run-end.result c.run-end.new.self runs.more first runs.done in
     let last : IsLast service finish new = record { disks = c.stock_of.ensures.disks; desk = c.stock_of.ensures.desk; shows = c.stock_of.ensures.shows; standing = c.stock_of.ensures.standing } in
@@ -77,7 +45,7 @@ returns-in-Ok g c =
         more = runs.more;
         behind = runs.behind;
         done = served service old new start finish c.log_rises.ensures c.beginning_is_start.ensures c.run-end.result c.run-end.new.self runs.more first runs.done went last
-            c.len-_count.ensures.catalogue c.stock_of.ensures.versions;
+            c.len-count.ensures.catalogue c.stock_of.ensures.versions;
       };
       unserved = search rules;
       untouched = search rules;
