@@ -2,7 +2,7 @@
 use Rattle.std.proofs.Common.{◌≡◌, ℕ, zero, suc, ◌<◌, List, [], ◌∷◌, ◌++◌, length, map, Option, Some, None, Result, Ok, Err, refl, sym, ap, ◌∙◌, subst, arith, inl, inr, get_or}
 use Rattle.std.specs.Prelude.{IfOk, IfErr, OnErr, IfSome, slice_get, slice_index_or, All}
 use Rattle.std.specs.List.{AllZip}
-use Rattle.std.proofs.lemmas.List.{append-nil}
+use Rattle.std.proofs.lemmas.List.{append-nil, length-append, length-map}
 use Rattle.yp_io.specs.Counts.{HasRisen}
 use Rattle.yp_io.specs.Disk.{History}
 use Rattle.yp_io.specs.DiskLaws.{stays, only_now}
@@ -28,8 +28,8 @@ use Rattle.yp_office.specs.declared.status.Status.TheVariants.{Done, ReadFault, 
 use Rattle.yp_words.specs.Words.{IsNamed}
 use Rattle.yp_office.specs.Files.{Fails}
 use Rattle.yp_serving.specs.Served.{status_of}
-use Rattle.yp_office.specs.Disks.{disks_of, total_faults, faults_of}
-use Rattle.yp_serving.specs.Session.{Declines, Sessions, TellsEnd}
+use Rattle.yp_office.specs.Disks.{names_of, disks_of, total_faults, faults_of}
+use Rattle.yp_serving.specs.Session.{Declines, Sessions, TellsEnd, HasMapNumber}
 
 -- ---- its status
 
@@ -229,3 +229,18 @@ cause_named {D} history faults served old new before after is are cause =
 pub wires_same : {X W : Type 0} (wire : X → W) (served : Result End OpenFault) (old new : X) → OnErr served (new ≡ old) → OnErr served (wire new ≡ wire old)
 wires_same wire (Ok end) old new same = tt
 wires_same wire (Err why) old new same = ap wire same
+
+-- ---- the number of a map that wasn't opened
+
+pub same_count : {D : Type 0} (named : List (NamedDisk D)) (names : List MapName) (disks : List D) → disks ≡ disks_of named → map name_view names ≡ names_of named → length disks ≡ length names
+same_count {D} named names disks of_disks of_names =
+    ap length of_disks ∙ length-map named (λ (d : NamedDisk D). d.disk) ∙ sym (length-map named (λ (d : NamedDisk D). name_view d.name))
+    ∙ sym (ap length of_names) ∙ length-map names name_view
+
+pub number_within : {D : Type 0} (history : D → Option History) (faults : D → ℕ) (served : Result End OpenFault) (old new : List D) (count : ℕ) → length old ≡ count
+    → IfErr served (λ why. IsUnopened history faults why old new) → HasMapNumber served count
+number_within history faults (Ok end) old new count e cause = tt
+number_within history faults (Err opening.NoMemory) old new count e cause = tt
+number_within history faults (Err (opening.Refused number why)) old new count e cause =
+    let stopped = cause.1 in
+    omega (arith, stopped.number_is, ap length stopped.old_is, length-append stopped.front (stopped.before ∷ stopped.rest), e)
