@@ -1,5 +1,6 @@
 pub mod Numbers
 pub mod Maps
+pub mod Served
 pub mod Held
 pub mod Results
 pub mod Procedures

@@ -1,8 +1,10 @@
 //! A board for one thread.
 
-ghost use Rattle.std.specs.Prelude.{◌≡◌, [], ◌∷◌, ◌++◌, map, length, option_map, IfOk, IsOk};
+ghost use Rattle.std.specs.Prelude.{◌≡◌, [], ◌∷◌, ◌++◌, map, length, option_map, All, IfOk, IsOk};
 ghost use Rattle.std.specs.Arc.{arc_value};
 ghost use Rattle.yp_io.specs.Counts.{next_count};
+ghost use Rattle.yp_version.specs.Versions.{IsVersion};
+ghost use Rattle.yp_board.specs.Catalogues.{IsCatalogue};
 ghost use Rattle.yp_board.specs.Logs.{starts};
 
 use crate::catalog::Catalog;
@@ -58,6 +60,15 @@ impl PlainBoard {
             log,
             asked: Count::new(),
         })
+    }
+
+    /// Does nothing. Its catalogue is one, and each version that was shown is within its limits.
+    pub fn rest(&self)
+        ensures catalogue { IsCatalogue self.now.catalogue }
+        ensures versions { All (λ entry. IsVersion entry.1) self.now.known }
+    {
+        let _count = self.catalog.len();
+        self.log.rest();
     }
 }
 

@@ -1,7 +1,8 @@
 //! What was shown on a board, and how often it was asked, for contracts alone.
 
-ghost use Rattle.std.specs.Prelude.{◌≡◌, [], ◌∷◌, ◌++◌};
+ghost use Rattle.std.specs.Prelude.{◌≡◌, [], ◌∷◌, ◌++◌, All};
 ghost use Rattle.yp_io.specs.Counts.{next_count};
+ghost use Rattle.yp_version.specs.Versions.{IsVersion};
 
 use std::marker::Model;
 use std::snapshot::Snapshot;
@@ -18,7 +19,7 @@ enum Past {
     },
 }
 
-/// A log that takes no memory: it is there for contracts alone. It is seen as a log.
+/// A log that takes no memory: it is there for contracts alone. It is seen as a log, of versions within their limits.
 #[derive(Drop)]
 pub(crate) struct Trail {
     past: Past,
@@ -31,6 +32,11 @@ impl Model for Trail {
     ghost Value = { Log };
 
     ghost view = { λ t. log_of t.past };
+
+    ghost use Rattle.std.specs.Prelude.{All};
+    ghost use Rattle.yp_version.specs.Versions.{IsVersion};
+
+    ghost invariant = { λ t. All (λ entry. IsVersion entry.1) (log_of t.past) };
 }
 
 impl Trail {
@@ -47,12 +53,20 @@ impl Trail {
     {
         let before = Snapshot::of(&self.past);
         let map = Snapshot::of(&map);
+        let _order = version.order();
         let version = Snapshot::of(version);
         self.past = Past::Grown {
             before,
             map,
             version,
         };
+    }
+
+    /// Does nothing. Each version is within its limits.
+    pub(crate) fn rest(&self)
+        ensures { All (λ entry. IsVersion entry.1) self.now }
+    {
+        let _past = &self.past;
     }
 }
 

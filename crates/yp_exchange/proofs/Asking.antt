@@ -29,8 +29,9 @@ use Rattle.yp_question.specs.Questions.{ByteQuestion, QuestionIsWithin}
 use Rattle.yp_query.specs.Complete.{HasCome}
 use Rattle.yp_query.specs.Scenes.{IsFirst, Exchanges}
 use Rattle.yp_answer.specs.Maps.{Maps, map_check, row_check}
+use Rattle.yp_answer.specs.Served.{AreServed}
 use Rattle.yp_exchange.specs.Told.{told, of_version, value_in, all_in, master_in, order_in, all_told, names_in}
-use Rattle.yp_exchange.specs.Served.{AreServed, HasRoom}
+use Rattle.yp_exchange.specs.Served.{HasRoom}
 use Rattle.yp_exchange.specs.Answered.{GivesReply, GivesStanding, GivesReplies, standing_told, text_told, ComesTo}
 use Rattle.yp_exchange.specs.Laws.{MatchTells, AllTells, RoomForVersion, MasterTells, OrderTells, MaplistTells}
 use Rattle.yp_exchange.specs.QueryLaws.{CallsAreTold, QueryPrintsTold}

@@ -20,8 +20,8 @@ use Rattle.yp_query.specs.Asked.{meant_by, no_rows}
 use Rattle.yp_question.specs.Questions.{ByteQuestion, QuestionIsWithin}
 use Rattle.yp_query.specs.Complete.{BeginsWithReply, IsFound, HasAnswer}
 use Rattle.yp_answer.specs.Maps.{Maps, map_check, row_check}
+use Rattle.yp_answer.specs.Served.{AreServed}
 use Rattle.yp_exchange.specs.Told.{told, of_version, value_in, all_in, master_in, order_in, all_told, names_in}
-use Rattle.yp_exchange.specs.Served.{AreServed}
 use Rattle.yp_exchange.specs.Answered.{GivesReply, GivesStanding, GivesReplies, standing_told, text_told, HasText}
 use Rattle.yp_exchange.specs.QueryLaws.{ToldIsAnswered}
 use Rattle.yp_exchange.proofs.Queries.{tells_of}

@@ -22,8 +22,8 @@ use Rattle.yp_client.specs.Results.{◌>>=◌, item, behind_true, served_of, map
 use Rattle.yp_answer.specs.Maps.{Maps}
 use Rattle.yp_answer.specs.Results.{is_listed, maps_in, maps_listed}
 use Rattle.yp_answer.specs.Reply.{success}
+use Rattle.yp_answer.specs.Served.{AreServed}
 use Rattle.yp_exchange.specs.Told.{told, names_in}
-use Rattle.yp_exchange.specs.Served.{AreServed}
 use Rattle.yp_exchange.proofs.Heads.{results_again}
 use Rattle.yp_exchange.proofs.Values.{last_again, stat_fits, said_with, behind_again, then_said}
 use Rattle.yp_exchange.proofs.Lengths.{opaque_short}

@@ -14,9 +14,10 @@ use Rattle.yp_question.specs.declared.question.Question.TheVariants.{Cat, Catk, 
 use Rattle.yp_question.specs.Questions.{ByteQuestion, QuestionIsWithin}
 use Rattle.yp_answer.specs.declared.procedure.Path.TheVariants.{Stream}
 use Rattle.yp_answer.specs.Reply.{Response, Bytes, reply}
+use Rattle.yp_answer.specs.Served.{maps_on}
 use Rattle.yp_session.specs.Hosts.{Turn}
 use Rattle.yp_session.specs.LogRuns.{Gets, LogRun}
-use Rattle.yp_exchange.specs.Runs.{maps_on, RepliesInTurn, behind_order, poll_calls, calls_made}
+use Rattle.yp_exchange.specs.Runs.{RepliesInTurn, behind_order, poll_calls, calls_made}
 use Rattle.yp_exchange.specs.QueryLaws.{RunIsPrinted}
 use Rattle.yp_exchange.specs.LogRuns.{records_of, replies_of, IsRepliedTo}
 use Rattle.yp_exchange.specs.RunLaws.{MatchHasReply, AllHasReply, MasterHasReply, OrderHasReply, MaplistHasReply, RunIsInTurn, LogRunIsPrinted}

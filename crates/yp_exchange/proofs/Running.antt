@@ -21,10 +21,11 @@ use Rattle.yp_question.specs.Questions.{ByteQuestion, QuestionIsWithin}
 use Rattle.yp_answer.specs.declared.procedure.Path.TheVariants.{Stream}
 use Rattle.yp_answer.specs.Maps.{Maps, map_check, row_check}
 use Rattle.yp_answer.specs.Reply.{Bytes, reply}
+use Rattle.yp_answer.specs.Served.{AreServed, maps_on}
 use Rattle.yp_exchange.specs.Told.{told, of_version, value_in, order_in, master_in, all_told, names_in}
-use Rattle.yp_exchange.specs.Served.{AreServed, ReplyTells}
+use Rattle.yp_exchange.specs.Served.{ReplyTells}
 use Rattle.yp_exchange.specs.Answered.{GivesReply, GivesReplies}
-use Rattle.yp_exchange.specs.Runs.{maps_on, RepliesInTurn, sent_all, behind_order, calls_made}
+use Rattle.yp_exchange.specs.Runs.{RepliesInTurn, sent_all, behind_order, calls_made}
 use Rattle.yp_exchange.specs.QueryLaws.{QueryPrintsTold, RunIsPrinted}
 use Rattle.yp_exchange.proofs.Sent.{sent_is_whole}
 use Rattle.yp_exchange.proofs.Queries.{tells_of}

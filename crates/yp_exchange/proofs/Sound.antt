@@ -9,7 +9,7 @@ use Rattle.yp_version.specs.Versions.{MapVersion, IsVersion}
 use Rattle.yp_board.specs.Logs.{Log, shown}
 use Rattle.yp_board.specs.Catalogues.{find, serves}
 use Rattle.yp_answer.specs.Maps.{Maps, version_of, map_check, guarded, row_check}
-use Rattle.yp_exchange.specs.Served.{AreServed}
+use Rattle.yp_answer.specs.Served.{AreServed}
 
 -- a status that refuses a question about a map
 abbrev pub IsRefusal : YpStat → Type 0

@@ -6,6 +6,7 @@ use Rattle.yp_msgs.specs.Numbers.{name_max, key_max}
 use Rattle.yp_version.specs.Drafts.{Draft}
 use Rattle.yp_board.specs.Catalogues.{serves}
 use Rattle.yp_answer.specs.Maps.{Maps, row_check}
+use Rattle.yp_answer.specs.Served.{AreServed}
 use Rattle.yp_client.specs.Limits.{reply_max, all_max}
 use Rattle.yp_client.specs.Results.{served_of, value_of, row_of, master_of, order_of, maps_of}
 use Rattle.yp_client.specs.All.{all_said}
@@ -13,7 +14,7 @@ use Rattle.yp_client.specs.Asked.{domain_call, match_call, first_call, next_call
 use Rattle.yp_client.specs.Asked.{maplist_call}
 use Rattle.yp_exchange.specs.Told.{told, rows_tell, map_tells, value_in, first_in, next_in}
 use Rattle.yp_exchange.specs.Told.{master_in, order_in, all_told, names_in}
-use Rattle.yp_exchange.specs.Served.{AreServed, ReplyTells, HasRoom}
+use Rattle.yp_exchange.specs.Served.{ReplyTells, HasRoom}
 
 -- a call about a domain, about a map, and about a key, whose parts are within their limits
 abbrev pub ForDomain : (Maps → Peer → ℕ → List ℕ → Type 0) → Type 0

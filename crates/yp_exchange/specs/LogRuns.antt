@@ -7,11 +7,11 @@ use Rattle.yp_board.specs.Logs.{Log}
 use Rattle.yp_answer.specs.declared.procedure.Path.TheVariants.{Stream}
 use Rattle.yp_answer.specs.Maps.{Maps}
 use Rattle.yp_answer.specs.Reply.{Bytes, reply}
+use Rattle.yp_answer.specs.Served.{AreServed, maps_on}
 use Rattle.yp_session.specs.Hosts.{Turn}
 use Rattle.yp_session.specs.LogRuns.{LogRun}
 use Rattle.yp_question.specs.Questions.{ByteQuestion}
-use Rattle.yp_exchange.specs.Served.{AreServed}
-use Rattle.yp_exchange.specs.Runs.{maps_on, calls_made}
+use Rattle.yp_exchange.specs.Runs.{calls_made}
 
 -- the records that were answered, and the replies of those that got one
 abbrev pub records_of : List Turn → List (List ℕ)

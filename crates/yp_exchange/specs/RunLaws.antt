@@ -4,6 +4,7 @@ use Rattle.yp_io.specs.declared.stream.Peer.{Peer}
 use Rattle.yp_board.specs.Catalogues.{Catalogue}
 use Rattle.yp_board.specs.Logs.{Log}
 use Rattle.yp_answer.specs.declared.procedure.Path.TheVariants.{Stream}
+use Rattle.yp_answer.specs.Served.{AreServed, maps_on}
 use Rattle.yp_session.specs.Hosts.{Turn}
 use Rattle.yp_session.specs.LogRuns.{LogRun}
 use Rattle.yp_client.specs.Asked.{domain_call, match_call, first_call, next_call, all_call, master_call, order_call}
@@ -12,9 +13,8 @@ use Rattle.yp_query.specs.declared.fault.QueryFault.{QueryFault}
 use Rattle.yp_question.specs.Questions.{ByteQuestion, QuestionIsWithin}
 use Rattle.yp_query.specs.Complete.{HasCome}
 use Rattle.yp_query.specs.Scenes.{Scene, Asks}
-use Rattle.yp_exchange.specs.Served.{AreServed}
 use Rattle.yp_exchange.specs.Laws.{ForDomain, ForMap, ForKey}
-use Rattle.yp_exchange.specs.Runs.{maps_on, RepliesInTurn, sent_all, PrintsOnLogs}
+use Rattle.yp_exchange.specs.Runs.{RepliesInTurn, sent_all, PrintsOnLogs}
 use Rattle.yp_exchange.specs.LogRuns.{records_of, replies_of, HasReply, IsRepliedTo, AnswersCalls}
 
 -- each call of a client that asks for what the maps have gets one reply, at once

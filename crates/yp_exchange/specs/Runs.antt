@@ -6,7 +6,7 @@ use Rattle.yp_board.specs.Catalogues.{Catalogue}
 use Rattle.yp_board.specs.Logs.{Log}
 use Rattle.yp_board.specs.Views.{IsFront}
 use Rattle.yp_answer.specs.declared.procedure.Path.TheVariants.{Stream}
-use Rattle.yp_answer.specs.Maps.{Maps}
+use Rattle.yp_answer.specs.Served.{maps_on}
 use Rattle.yp_answer.specs.Reply.{Bytes, reply}
 use Rattle.yp_client.specs.declared.fault.ClientFault.{ClientFault}
 use Rattle.yp_client.specs.Results.{order_of}
@@ -15,10 +15,6 @@ use Rattle.yp_query.specs.declared.fault.QueryFault.{QueryFault}
 use Rattle.yp_question.specs.declared.question.Question.TheVariants.{Cat, Catk, Match, Which, Poll, Maps as MapsOf}
 use Rattle.yp_question.specs.Questions.{ByteQuestion}
 use Rattle.yp_exchange.specs.Answered.{text_told, PrintsTold}
-
--- the maps of a catalogue, of which a log is known
-abbrev pub maps_on : Catalogue → Log → Maps
-maps_on catalogue log = record { catalogue = catalogue; log = log }
 
 -- Calls were answered one after the other, each on a log that begins with the one before. Versions may be shown between
 -- any two.

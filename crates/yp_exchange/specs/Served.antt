@@ -1,20 +1,14 @@
 -- What a call of a client comes to at a server.
-use Rattle.std.specs.Prelude.{◌≡◌, ℕ, ◌+◌, ◌≤◌, All, List, [], length, Result, IfOk}
+use Rattle.std.specs.Prelude.{◌≡◌, ℕ, ◌+◌, ◌≤◌, List, [], length, Result, IfOk}
 use Rattle.yp_io.specs.declared.stream.Peer.{Peer}
 use Rattle.yp_msgs.specs.declared.stat.YpStat.{YpStat}
 use Rattle.yp_version.specs.Limits.{body_max}
 use Rattle.yp_version.specs.Rows.{rows_len}
-use Rattle.yp_version.specs.Versions.{MapVersion, IsVersion}
+use Rattle.yp_version.specs.Versions.{MapVersion}
 use Rattle.yp_version.specs.Drafts.{Draft, draft_len}
-use Rattle.yp_board.specs.Catalogues.{IsCatalogue}
 use Rattle.yp_answer.specs.declared.procedure.Path.TheVariants.{Stream}
 use Rattle.yp_answer.specs.Maps.{Maps}
 use Rattle.yp_answer.specs.Reply.{Bytes, reply}
-
--- what holds of the maps of every server: a catalogue, and versions within their limits
-pub record AreServed (maps : Maps) : Type 0 where
-  pub catalogue : IsCatalogue maps.catalogue
-  pub versions : All (λ entry. IsVersion entry.1) maps.log
 
 -- A server that knows these maps has one reply to a call over a stream, within the limit, and it says what is expected.
 pub record ReplyTells {V : Type 0} (maps : Maps) (peer : Peer) (limit : ℕ) (call : List ℕ)

@@ -6,8 +6,8 @@ use Rattle.std.proofs.lemmas.List.Elements.{All-nil, All-cons}
 use Rattle.yp_version.specs.Versions.{IsVersion}
 use Rattle.yp_version.specs.Rows.{Row}
 use Rattle.yp_board.specs.Catalogues.{Name, IsName}
-use Rattle.yp_exchange.specs.Served.{AreServed}
 use Rattle.yp_exchange_tests.specs.Hosts.{lab, hosts, alpha, address, hosts_version, hosts_maps}
+use Rattle.yp_answer.specs.Served.{AreServed}
 
 hosts_is_version : IsVersion hosts_version
 unfolding IsStrictlySortedBy

@@ -11,6 +11,7 @@ ghost use Rattle.yp_board.specs.Logs.{Log};
 ghost use Rattle.yp_question.specs.Questions.{bytes_of, QuestionIsWithin};
 ghost use Rattle.yp_query.specs.Complete.{HasCome, IsAnswered};
 ghost use Rattle.yp_answer.specs.Maps.{Maps, row_check};
+ghost use Rattle.yp_answer.specs.Served.{AreServed, maps_on};
 ghost use Rattle.yp_client.specs.Limits.{reply_max, all_max};
 ghost use Rattle.yp_client.specs.States.{state_of};
 ghost use Rattle.yp_client.specs.Lent.{ClientRests};
@@ -18,10 +19,10 @@ ghost use Rattle.yp_client.specs.Asked.{domain_call, match_call, first_call, nex
 ghost use Rattle.yp_client.specs.Asked.{master_call, order_call, maplist_call};
 ghost use Rattle.yp_exchange.specs.Told.{told, rows_tell, map_tells, value_in, first_in, next_in};
 ghost use Rattle.yp_exchange.specs.Told.{master_in, order_in, all_told, names_in};
-ghost use Rattle.yp_exchange.specs.Served.{AreServed, HasRoom};
+ghost use Rattle.yp_exchange.specs.Served.{HasRoom};
 ghost use Rattle.yp_exchange.specs.CallLaws.{AnswersAsTold, AnswersInMemory, AllAnswersAsTold, GivesNextReply};
 ghost use Rattle.yp_exchange.specs.Answered.{GivesReplies, text_told, HasText, PrintsTold};
-ghost use Rattle.yp_exchange.specs.Runs.{maps_on, RepliesInTurn, sent_all, calls_made, PrintsOnLogs};
+ghost use Rattle.yp_exchange.specs.Runs.{RepliesInTurn, sent_all, calls_made, PrintsOnLogs};
 
 use std::alloc::Global;
 use std::random::RandomSource;

@@ -31,7 +31,7 @@ use Rattle.yp_question.specs.Questions.{ByteQuestion}
 use Rattle.yp_query.specs.Faults.{query_fault, match_fault}
 use Rattle.yp_query.specs.Asked.{Outcome, meant_by, IsInMemory, no_rows, TakesRows, MakesMaster}
 use Rattle.yp_query.specs.Asked.{MakesCalls}
-use Rattle.yp_query.specs.Scenes.{Scene, IsFirst, Exchanges, Asks, HasCause}
+use Rattle.yp_query.specs.Scenes.{Scene, IsFirst, Exchanges, Asks, HasQueryCause}
 use Rattle.yp_query.specs.Complete.{BeginsWithReply, IsFound, HasAnswer, HasCome, IsAnswered}
 
 -- what the laws of records say
@@ -393,7 +393,7 @@ module _ (laws : Laws) (peer : Peer) (question : ByteQuestion) (stream : List �
       subst IsGood is (exchanged_good laws peer question stream outcome old.dial.past new.dial.past good came did)
 
   pub query_completes : (result : Result (Unit {0}) QueryFault) → Asks peer question result old new
-      → IfErr result (λ fault. HasCause fault old new) → IsAnswered result
+      → IfErr result (λ fault. HasQueryCause fault old new) → IsAnswered result
   unfolding IsGood
   query_completes (Ok done) asks cause = tt
   query_completes (Err NoKey) asks cause = tt

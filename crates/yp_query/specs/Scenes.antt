@@ -79,6 +79,6 @@ Asks peer question result old new =
     × Prints outcome result old.output new.output
 
 -- the count of what failed rose
-abbrev pub HasCause : QueryFault → Scene → Scene → Type 0
-HasCause Output old new = HasRisen old.faults new.faults
-HasCause fault old new = DialHasCause fault old.dial.faults new.dial.faults
+abbrev pub HasQueryCause : QueryFault → Scene → Scene → Type 0
+HasQueryCause Output old new = HasRisen old.faults new.faults
+HasQueryCause fault old new = DialHasCause fault old.dial.faults new.dial.faults

@@ -8,7 +8,7 @@ ghost use Rattle.yp_question.specs.Questions.{bytes_of, QuestionIsWithin};
 ghost use Rattle.yp_query.specs.Asked.{Converses};
 ghost use Rattle.yp_query.specs.Answers.{outcome_of};
 ghost use Rattle.yp_query.specs.Complete.{HasAnswer, HasCome, IsAnswered};
-ghost use Rattle.yp_query.specs.Scenes.{scene_of, Dials, DialHasCause, Asks, HasCause};
+ghost use Rattle.yp_query.specs.Scenes.{scene_of, Dials, DialHasCause, Asks, HasQueryCause};
 
 use crate::answer::{Answer, ask};
 use crate::fault::QueryFault;
@@ -37,7 +37,7 @@ pub fn query<A: Dial, K: Sink>(
     ensures asks { Asks to (bytes_of question.now) result
         (scene_of A.past A.faults K.output K.faults dial.old sink.old)
         (scene_of A.past A.faults K.output K.faults dial.new sink.new) }
-    ensures cause { IfErr result (λ fault. HasCause fault
+    ensures cause { IfErr result (λ fault. HasQueryCause fault
         (scene_of A.past A.faults K.output K.faults dial.old sink.old)
         (scene_of A.past A.faults K.output K.faults dial.new sink.new)) }
     ensures tellable { IfErr result IsTellable }
@@ -70,7 +70,7 @@ fn ask_and_print<A: Dial, K: Sink>(
     ensures asks { Asks to (bytes_of question.now) result
         (scene_of A.past A.faults K.output K.faults dial.old sink.old)
         (scene_of A.past A.faults K.output K.faults dial.new sink.new) }
-    ensures cause { IfErr result (λ fault. HasCause fault
+    ensures cause { IfErr result (λ fault. HasQueryCause fault
         (scene_of A.past A.faults K.output K.faults dial.old sink.old)
         (scene_of A.past A.faults K.output K.faults dial.new sink.new)) }
     ensures tellable { IfErr result IsTellable }

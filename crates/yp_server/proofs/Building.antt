@@ -10,7 +10,7 @@ use Rattle.yp_publish.specs.Installs.{offer, not_following}
 use Rattle.yp_publish.specs.Standing.{Kept, OfMap}
 use Rattle.yp_session.specs.Causes.{IsTold}
 use Rattle.yp_server.specs.Locals.{Telling}
-use Rattle.yp_server.specs.Anew.{is_of_another, stat_of, IsUnbuilt, HasBadRow}
+use Rattle.yp_server.specs.Anew.{is_of_another, stat_of, IsUnbuilt, HasBadRowAt}
 
 -- ---- why a version isn't built
 
@@ -18,7 +18,7 @@ pub unbuilt : {E : Type 0} (telling : Telling E) (site : Basis) (material : Mate
     → is_of_another site ≡ false → IsTold (telling.told old) site material → (why ≡ fault.NoMemory) ⊎ (built_after site material ≡ Err (HasFault why))
     → (why ≡ fault.OrderSpent → last_order site.last ≡ Some order_max) → IsUnbuilt telling site (stat_of why) old new
 unbuilt telling site material why old new own told cause spent = by_fault why cause spent where
-  row : (f : BuildFault) → (f ≡ fault.NoMemory → ⊥) → (f ≡ fault.OrderSpent → ⊥) → (f ≡ fault.NoMemory) ⊎ (built_after site material ≡ Err (HasFault f)) → HasBadRow (telling.told old) site
+  row : (f : BuildFault) → (f ≡ fault.NoMemory → ⊥) → (f ≡ fault.OrderSpent → ⊥) → (f ≡ fault.NoMemory) ⊎ (built_after site material ≡ Err (HasFault f)) → HasBadRowAt (telling.told old) site
   row f memory spent cause = elim cause [
     | inl e ↦ absurd (memory e)
     | inr e ↦ record { material = material; of_told = told; fault = f; of_row = spent; cause = e }

@@ -23,8 +23,8 @@ use Rattle.yp_session.specs.Causes.{IsAnew, IsCaused, basis_at}
 use Rattle.yp_session.specs.Causes as causes
 use Rattle.yp_session.specs.Hosts.{Fulfils, counts_after}
 use Rattle.yp_server.specs.Locals.{Local, Telling}
-use Rattle.yp_server.specs.Anew.{IsUnbuilt, HasBadRow}
-use Rattle.yp_server.specs.Steps.{open_stat, IsInstallStat, built_offer}
+use Rattle.yp_server.specs.Anew.{IsUnbuilt, HasBadRowAt}
+use Rattle.yp_server.specs.Made.{open_stat, IsInstallStat, built_offer}
 use Rattle.yp_server.specs.Made.{site_at, Makes, OpensAndTries}
 use Rattle.yp_server.specs.Connections.{local_conduct}
 use Rattle.yp_server.proofs.Growing.{opened_front}
@@ -78,7 +78,7 @@ module _ {D B E : Type 0} (keeping : Keeping D B) (telling : Telling E) (job : J
         };
       }
 
-  bad_row : (own : List ℕ) (log : Log) (bad : HasBadRow (telling.told old.desk) (basis_at own job log)) (told : Option (List ℕ))
+  bad_row : (own : List ℕ) (log : Log) (bad : HasBadRowAt (telling.told old.desk) (basis_at own job log)) (told : Option (List ℕ))
       → IfSome told (λ known. bad.material.text ≡ known) → IfSome told (causes.HasBadRow own job)
   bad_row own log bad None h = tt
   bad_row own log bad (Some text) h = record {

@@ -33,9 +33,9 @@ use Rattle.yp_xfr.specs.Installing.{OpensAndOffers, marking, fetched_offer}
 use Rattle.yp_xfr.specs.Transfers.{InstallsOutcome, wanted_at}
 use Rattle.yp_server.specs.Carried.{Carried, request_for}
 use Rattle.yp_session.specs.Causes.{Told, IsAnew}
-use Rattle.yp_server.specs.Anew.{site_of}
+use Rattle.yp_build.specs.After.{basis_of}
 use Rattle.yp_server.specs.Made.{Made, OpensAndTries}
-use Rattle.yp_server.specs.Connections.{Service, IsCalledFor, IsMade, IsTaken, IsFetched, IsGiven, local_conduct}
+use Rattle.yp_server.specs.Connections.{Service, IsCalledFor, IsMade, WasTaken, WasFetched, IsGiven, local_conduct}
 use Rattle.yp_server.proofs.Passing.{Respects, Sound, Passes, passes_none, passes_then, stays_on, opens_on, offered_on, fetched_on}
 
 -- ---- desks
@@ -72,7 +72,7 @@ module _ {D B E : Type 0} (service : Service D B E) (turns : List Turn) (first :
       job = made.job;
       of_map = made.of_map;
       called = made.called;
-      anew = subst (λ (s : Option MapVersion). IsAnew first (site_of made.job.kind service.catalogue.own s) version) e made.anew;
+      anew = subst (λ (s : Option MapVersion). IsAnew first (basis_of made.job.kind service.catalogue.own None s) version) e made.anew;
     })
     | inr fetched ↦ inr (record {
       taken = fetched.taken;
@@ -130,15 +130,15 @@ module _ {D B E : Type 0} (service : Service D B E) (turns : List Turn) (first :
 
   is_made : (job : Job) (old : Local D B E) (middle : Published D B) (version : MapVersion)
       → IsCalledFor service turns job → SoundHost old → middle.catalogue ≡ old.published.catalogue
-      → IsAnew (service.telling.told old.desk) (site_of job.kind middle.catalogue.own (shown job.map (service.keeping.log middle.board))) version
+      → IsAnew (service.telling.told old.desk) (basis_of job.kind middle.catalogue.own None (shown job.map (service.keeping.log middle.board))) version
       → IsGiven service turns first table job.map (service.keeping.log middle.board) version
   is_made job old middle version called sound same anew = inl (record {
     job = job;
     of_map = refl;
     called = called;
     anew =
-        anew_before first (service.telling.told old.desk) (site_of job.kind service.catalogue.own (shown job.map (service.keeping.log middle.board))) version sound.told
-        (subst (λ (k : Catalogue). IsAnew (service.telling.told old.desk) (site_of job.kind k.own (shown job.map (service.keeping.log middle.board))) version) (same ∙ sound.catalogue) anew);
+        anew_before first (service.telling.told old.desk) (basis_of job.kind service.catalogue.own None (shown job.map (service.keeping.log middle.board))) version sound.told
+        (subst (λ (k : Catalogue). IsAnew (service.telling.told old.desk) (basis_of job.kind k.own None (shown job.map (service.keeping.log middle.board))) version) (same ∙ sound.catalogue) anew);
   })
 
   opened_on : (stat : XfrStat) (job : Job) (old new : Local D B E) → IsCalledFor service turns job → SoundHost old
@@ -167,7 +167,7 @@ module _ {D B E : Type 0} (service : Service D B E) (turns : List Turn) (first :
   -- ---- a transfer
 
   is_fetched : (taken : Taken) (old : Local D B E) (middle : Published D B) (version : MapVersion) (before after : Dialing)
-      → IsTaken service turns taken → SoundHost old
+      → WasTaken service turns taken → SoundHost old
       → IfSome (slice_get old.published.catalogue.maps taken.map) (λ name. FetchesFrom (service.telling.hosts old.desk) taken.source (wanted_at service.keeping (request_for taken) name old.published) (Ok version) before after)
       → IsGiven service turns first table taken.map (service.keeping.log middle.board) (fetched_offer service.keeping taken.map version false None middle).version
   is_fetched taken old middle version before after by_turn sound fetches = inr (record {
@@ -186,7 +186,7 @@ module _ {D B E : Type 0} (service : Service D B E) (turns : List Turn) (first :
   })
 
   offers_fetched : (taken : Taken) (result : Result Installed XfrFault) (old new : Local D B E) (version : MapVersion) (before after : Dialing)
-      → IsTaken service turns taken → SoundHost old → taken.map < length old.published.maps
+      → WasTaken service turns taken → SoundHost old → taken.map < length old.published.maps
       → IfSome (slice_get old.published.catalogue.maps taken.map) (λ name. FetchesFrom (service.telling.hosts old.desk) taken.source (wanted_at service.keeping (request_for taken) name old.published) (Ok version) before after)
       → OpensAndOffers service.keeping taken.map version false None result old.published new.published
       → Sound service.keeping (IsGiven service turns first table) respects new.published × Passes service.keeping (IsGiven service turns first table) respects old.published new.published
@@ -200,7 +200,7 @@ module _ {D B E : Type 0} (service : Service D B E) (turns : List Turn) (first :
       (installed.0, passes_then service.keeping Is respects old.published step.middle new.published opened.1 installed.1)
 
   installs_fetched : (taken : Taken) (outcome : Outcome) (result : Result Installed XfrFault) (old new : Local D B E) (before after : Dialing)
-      → IsTaken service turns taken → SoundHost old → taken.map < length old.published.maps
+      → WasTaken service turns taken → SoundHost old → taken.map < length old.published.maps
       → IfSome (slice_get old.published.catalogue.maps taken.map) (λ name. FetchesFrom (service.telling.hosts old.desk) taken.source (wanted_at service.keeping (request_for taken) name old.published) outcome before after)
       → InstallsOutcome service.keeping (request_for taken) outcome result old.published new.published
       → Sound service.keeping (IsGiven service turns first table) respects new.published × Passes service.keeping (IsGiven service turns first table) respects old.published new.published
@@ -213,7 +213,7 @@ module _ {D B E : Type 0} (service : Service D B E) (turns : List Turn) (first :
     | inr step ↦ offers_fetched taken result old new version before after by_turn sound kept fetches step
   ]
 
-  carried_out : (taken : Taken) (peer : Peer) (old new : Local D B E) → IsTaken service turns taken → SoundHost old
+  carried_out : (taken : Taken) (peer : Peer) (old new : Local D B E) → WasTaken service turns taken → SoundHost old
       → Carried service.keeping service.telling taken peer old new → GoesOnTo old new
   carried_out taken peer old new by_turn sound step =
       let carries = step.carries in
@@ -221,7 +221,7 @@ module _ {D B E : Type 0} (service : Service D B E) (turns : List Turn) (first :
       (installs_fetched taken carries.transfers.outcome carries.result old new _ _ by_turn sound step.inside carries.transfers.fetches carries.transfers.installs)
 
   -- it is carried out where its reply was flushed
-  carried_where : (flushed : Bool) (taken : Taken) (old new : Local D B E) → (IsTrue flushed → IsTaken service turns taken) → SoundHost old
+  carried_where : (flushed : Bool) (taken : Taken) (old new : Local D B E) → (IsTrue flushed → WasTaken service turns taken) → SoundHost old
       → CarriesWhere flushed (local_conduct service.keeping service.telling) taken service.peer old new → GoesOnTo old new
   carried_where true taken old new by_turn sound step = carried_out taken service.peer old new (by_turn refl) sound step.carried
   carried_where false taken old new by_turn sound step = goes_nowhere old new step sound
@@ -245,12 +245,12 @@ module _ {D B E : Type 0} (service : Service D B E) (turns : List Turn) (first :
   carried_on Silence turn old new among sound is carried = goes_nowhere old new carried.3 sound
   carried_on (Bytes bytes) turn old new among sound is carried = goes_nowhere old new carried.3 sound
   carried_on (Takes bytes taken) turn old new among sound is carried =
-      let by_turn : IsTrue turn.flushed → IsTaken service turns taken = λ flushed.
-      record { turn = turn; among = among; flushed = flushed; maps = maps_of (seen_of service.keeping.log old); of_catalogue = sound.catalogue; bytes = bytes; takes = is } in
+      let by_turn : IsTrue turn.flushed → WasTaken service turns taken = λ flushed.
+      (turn, flushed, bytes, record { among = among; maps = maps_of (seen_of service.keeping.log old); of_catalogue = sound.catalogue; gets = is }) in
       carried_where turn.flushed taken old new by_turn sound carried.3
   carried_on (Open xid job) turn old new among sound is carried =
       let called : IsCalledFor service turns job =
-      record { turn = turn; among = among; maps = maps_of (seen_of service.keeping.log old); of_catalogue = sound.catalogue; xid = xid; left_open = is } in
+      (turn, xid, record { among = among; maps = maps_of (seen_of service.keeping.log old); of_catalogue = sound.catalogue; gets = is }) in
       made_on carried.0 job old new called sound carried.4.made
 
   linked_on : (turn : Turn) (old new : Local D B E) → Contains turns turn → SoundHost old

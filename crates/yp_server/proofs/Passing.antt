@@ -19,7 +19,7 @@ use Rattle.yp_publish.specs.Installs.{Offer, LeavesEither}
 use Rattle.yp_publish.specs.declared.install.Installed.{Installed}
 use Rattle.yp_xfr.specs.declared.fault.XfrFault.{XfrFault}
 use Rattle.yp_xfr.specs.Installing as fetching
-use Rattle.yp_server.specs.Steps.{Offers}
+use Rattle.yp_server.specs.Made.{OffersBuilt}
 use Rattle.yp_server.specs.Connections.{Making, AreMade, GrowsBy, IsOfBetween, IsBehindMade, LeavesOr}
 use Rattle.yp_server.proofs.Leading.{Leads, leads_one, leads_none, leads_then, stand_same}
 use Rattle.yp_server.proofs.Growing.{front_same, front_more, at_one}
@@ -388,7 +388,7 @@ module _ {D B : Type 0} (keeping : Keeping D B) (Is : Making) (same : Respects I
 
   -- a version that was built and is offered
   pub offered_on : (number : ℕ) (version : MapVersion) (stat : XfrStat) (old new : Published D B) → number < length old.maps → Sound old
-      → OfMap number old.maps (λ kept. kept.standing ≡ Level) → Is number (keeping.log old.board) version → Offers keeping number version stat old new → Sound new × Passes old new
+      → OfMap number old.maps (λ kept. kept.standing ≡ Level) → Is number (keeping.log old.board) version → OffersBuilt keeping number version stat old new → Sound new × Passes old new
   offered_on number version stat old new within sound level made step = elim step [
     | inl ok ↦ offers_on number version old new within sound level made ok.1.upheld ok.1.meanwhile (ok.1.rising refl)
     | inr failed ↦ offers_on number version old new within sound level made failed.refuses.upheld failed.refuses.meanwhile (failed.refuses.rising refl)

@@ -1,20 +1,14 @@
 -- Why no version is built anew for a map.
-use Rattle.std.specs.Prelude.{◌≡◌, ◌≢◌, ℕ, Bool, true, false, List, Option, Some, None, Err, is_some}
+use Rattle.std.specs.Prelude.{◌≡◌, ◌≢◌, Bool, true, false, Some, Err, is_some}
 use Rattle.yp_io.specs.Counts.{HasRisen}
 use Rattle.yp_msgs.specs.declared.transfer.XfrStat.{XfrStat}
 use Rattle.yp_msgs.specs.declared.transfer.XfrStat.TheVariants.{Age, Rsrc, Dbm, File, Refused}
-use Rattle.yp_version.specs.Versions.{MapVersion}
-use Rattle.yp_build.specs.declared.kind.Kind.{Kind}
 use Rattle.yp_build.specs.declared.fault.BuildFault.{BuildFault}
 use Rattle.yp_build.specs.declared.fault.BuildFault.TheVariants.{OrderSpent, NoMemory}
 use Rattle.yp_build.specs.Builds.{order_max}
-use Rattle.yp_build.specs.After.{Basis, basis_of, Material, HasFault, other_master, last_order, built_after}
+use Rattle.yp_build.specs.After.{Basis, Material, HasFault, other_master, last_order, built_after}
 use Rattle.yp_session.specs.Causes.{Told, IsTold}
 use Rattle.yp_server.specs.Locals.{Telling}
-
--- what a version is made for: the kind of its map, the own name, and the version that is shown of the map, or none
-abbrev pub site_of : Kind → List ℕ → Option MapVersion → Basis
-site_of kind own shown = basis_of kind own None shown
 
 -- whether the version that is shown has another master than the own name
 abbrev pub is_of_another : Basis → Bool
@@ -27,7 +21,7 @@ stat_of NoMemory = Rsrc
 stat_of _ = Dbm
 
 -- a row of the text passes a limit, while the order isn't spent
-pub record HasBadRow (told : Told) (site : Basis) : Type 0 where
+pub record HasBadRowAt (told : Told) (site : Basis) : Type 0 where
   pub material : Material
   pub of_told : IsTold told site material
   pub fault : BuildFault
@@ -41,6 +35,6 @@ IsUnbuilt telling site Refused old new = is_of_another site ≡ true
 IsUnbuilt telling site File old new =
     (is_of_another site ≡ false) × HasRisen (telling.faults old) (telling.faults new)
 IsUnbuilt telling site Age old new = (is_of_another site ≡ false) × (last_order site.last ≡ Some order_max)
-IsUnbuilt telling site Dbm old new = (is_of_another site ≡ false) × HasBadRow (telling.told old) site
+IsUnbuilt telling site Dbm old new = (is_of_another site ≡ false) × HasBadRowAt (telling.told old) site
 IsUnbuilt telling site Rsrc old new = is_of_another site ≡ false
 IsUnbuilt telling site _ old new = ⊥

@@ -8,18 +8,16 @@ use Rattle.yp_io.specs.Disk.{History, LeavesOnly, MayLeave}
 use Rattle.yp_io.specs.declared.stream.Peer.{Peer}
 use Rattle.yp_version.specs.Versions.{MapVersion}
 use Rattle.yp_slot.specs.Stands.{Stored, stands}
-use Rattle.yp_slot.specs.declared.fault.SlotFault.{SlotFault}
-use Rattle.yp_slot.specs.declared.fault.SlotFault.TheVariants as cause
 use Rattle.yp_board.specs.Catalogues.{Catalogue}
 use Rattle.yp_board.specs.Logs.{Log, shown, starts}
-use Rattle.yp_board.specs.Views.{Seen}
 use Rattle.yp_answer.specs.declared.procedure.Path.TheVariants.{Stream}
 use Rattle.yp_answer.specs.Maps.{Maps}
+use Rattle.yp_answer.specs.Served.{AreServed, maps_on}
 use Rattle.yp_answer.specs.Transfer.{Taken}
-use Rattle.yp_answer.specs.Reply.{Takes, Open, reply}
+use Rattle.yp_answer.specs.Reply.{Response, Takes, Open, reply}
 use Rattle.yp_answer.specs.declared.make.Job.{Job}
 use Rattle.yp_publish.specs.Standing.{MapStanding, Level, Behind, IsStanding, OfMap, Shows, stands_for, versions}
-use Rattle.yp_publish.specs.Opens.{IsOpened, IsStopped}
+use Rattle.yp_publish.specs.Opens.{IsOpened}
 use Rattle.yp_publish.specs.Rising.{IsRisingLog}
 use Rattle.yp_xfr.specs.HostTable.{HostList}
 use Rattle.yp_xfr.specs.Fetching.{wanted_of}
@@ -32,19 +30,13 @@ use Rattle.yp_session.specs.Wires.{Wire}
 use Rattle.yp_session.specs.declared.session.End.{End}
 use Rattle.yp_session.specs.declared.session.TheConstants.{CALLS_MAX}
 use Rattle.yp_server.specs.declared.connection.Stock.{Stock}
-use Rattle.yp_server.specs.declared.connection.Unserved.{Unserved}
-use Rattle.yp_server.specs.declared.connection.Unserved.TheVariants.{Refused, NoMemory}
 use Rattle.yp_publish.specs.Keeping.{Keeping}
 use Rattle.yp_server.specs.declared.desk.Desk.{Desk}
 use Rattle.yp_server.specs.Locals.{Local, Telling, seen_of}
 use Rattle.yp_session.specs.Causes.{Told, Between, IsAnew}
-use Rattle.yp_server.specs.Anew.{site_of}
+use Rattle.yp_build.specs.After.{basis_of}
 use Rattle.yp_server.specs.Made.{Made}
 use Rattle.yp_server.specs.Carried.{Carried}
-
--- what was shown on a plain board
-abbrev pub plain_log : Seen → Log
-plain_log board = board.known
 
 -- what a connection is served by, and to whom: what its disks and its board tell, what its texts and its clock tell,
 -- the maps, and the caller
@@ -87,10 +79,8 @@ pub record IsFirst {D B E : Type 0} (service : Service D B E) (old : Connection 
   pub catalogue : start.published.catalogue ≡ service.catalogue
   pub opened : AllZip (IsOpened service.keeping.history service.keeping.faults) old.disks start.published.maps
   pub log : log_of service start ≡ starts 0 (versions start.published.maps)
-  pub desk : start.desk ≡ old.desk
-  pub asked : start.asked ≡ 0
-  pub files : start.files ≡ 0
-  pub transfers : start.transfers ≡ 0
+  pub begun : start
+      ≡ record { published = start.published; desk = old.desk; asked = 0; files = 0; transfers = 0 }
 
 -- The host that it ends with, of which the disks and the desk are handed back: what is shown of each map agrees with
 -- what a crash may leave of its disk now.
@@ -103,14 +93,17 @@ pub record IsLast {D B E : Type 0} (service : Service D B E) (finish : Local D B
 
 -- ---- versions that were made or fetched
 
--- One of these records was a call that may have this map made, and its reply was left open.
-pub record IsCalledFor {D B E : Type 0} (service : Service D B E) (turns : List Turn) (job : Job) : Type 0 where
-  pub turn : Turn
+-- One of these records got this response, on maps of the catalogue.
+pub record GotResponse {D B E : Type 0} (service : Service D B E) (turns : List Turn) (turn : Turn)
+    (response : Response) : Type 0 where
   pub among : Contains turns turn
   pub maps : Maps
   pub of_catalogue : maps.catalogue ≡ service.catalogue
-  pub xid : ℕ
-  pub left_open : reply Stream maps service.peer turn.message ≡ Open xid job
+  pub gets : reply Stream maps service.peer turn.message ≡ response
+
+-- One of these records was a call that may have this map made, and its reply was left open.
+abbrev pub IsCalledFor : {D B E : Type 0} → Service D B E → List Turn → Job → Type 0
+IsCalledFor service turns job = (turn : Turn) × (xid : ℕ) × GotResponse service turns turn (Open xid job)
 
 -- A version was made of a map behind a log: one of these records called for this map, and the version was built, of
 -- what the desk tells, for what the log shows of the map.
@@ -119,25 +112,20 @@ pub record IsMade {D B E : Type 0} (service : Service D B E) (turns : List Turn)
   pub job : Job
   pub of_map : job.map ≡ number
   pub called : IsCalledFor service turns job
-  pub anew : IsAnew told (site_of job.kind service.catalogue.own (shown number log)) version
+  pub anew : IsAnew told (basis_of job.kind service.catalogue.own None (shown number log)) version
 
 -- One of these records took this transfer, and its reply was flushed.
-pub record IsTaken {D B E : Type 0} (service : Service D B E) (turns : List Turn) (taken : Taken) : Type 0 where
-  pub turn : Turn
-  pub among : Contains turns turn
-  pub flushed : IsTrue turn.flushed
-  pub maps : Maps
-  pub of_catalogue : maps.catalogue ≡ service.catalogue
-  pub bytes : List ℕ
-  pub takes : reply Stream maps service.peer turn.message ≡ Takes bytes taken
+abbrev pub WasTaken : {D B E : Type 0} → Service D B E → List Turn → Taken → Type 0
+WasTaken service turns taken =
+    (turn : Turn) × IsTrue turn.flushed × (bytes : List ℕ) × GotResponse service turns turn (Takes bytes taken)
 
 -- A version was fetched of a map behind a log: one of these records took a transfer of this map, its source has one of
 -- these addresses, and a wire to it gave the version, over an order that was shown. It is marked as what the log shows.
-pub record IsFetched {D B E : Type 0} (service : Service D B E) (turns : List Turn) (hosts : HostList)
+pub record WasFetched {D B E : Type 0} (service : Service D B E) (turns : List Turn) (hosts : HostList)
     (number : ℕ) (log : Log) (version : MapVersion) : Type 0 where
   pub taken : Taken
   pub of_map : taken.map ≡ number
-  pub by_turn : IsTaken service turns taken
+  pub by_turn : WasTaken service turns taken
   pub order : Option ℕ
   pub fetched : MapVersion
   pub before : Dialing
@@ -152,7 +140,7 @@ Making = ℕ → Log → MapVersion → Type 0
 
 abbrev pub IsGiven : {D B E : Type 0} → Service D B E → List Turn → Told → HostList → Making
 IsGiven service turns told hosts number log version =
-    IsMade service turns told number log version ⊎ IsFetched service turns hosts number log version
+    IsMade service turns told number log version ⊎ WasFetched service turns hosts number log version
 
 abbrev pub given_for : {D B E : Type 0} → Service D B E → List Turn → E → Making
 given_for service turns desk = IsGiven service turns (service.telling.told desk) (service.telling.hosts desk)
@@ -202,7 +190,8 @@ AreTold history disks = All (λ disk. IsSome (history disk)) disks
 
 -- A connection was served, and ended so. From its first host to its last the records of its wire were answered in turn,
 -- and behind each the wire was one of these. At each moment a crash leaves of each map what was shown of it or what was
--- being installed. Only versions that were made or fetched were shown, and the orders of each map rise.
+-- being installed. Only versions that were made or fetched were shown, and the orders of each map rise. The catalogue
+-- and all versions are within their limits.
 pub record Serves {D B E : Type 0} (service : Service D B E) (end : End) (old new : Connection D E)
     (wires : List Wire) : Type 0 where
   pub start : Local D B E
@@ -219,15 +208,4 @@ pub record Serves {D B E : Type 0} (service : Service D B E) (end : End) (old ne
   pub grown : AreTold service.keeping.history old.disks
       → GrowsBy (given_for service runs.turns old.desk) (log_of service start) (log_of service finish)
   pub rises : AreTold service.keeping.history old.disks → IsRisingLog (log_of service finish)
-
--- what a connection isn't served for, where the disk of a map isn't loaded
-abbrev pub refusal : ℕ → SlotFault → Unserved
-refusal number cause.NoMemory = NoMemory
-refusal number cause.DiskFault = Refused number cause.DiskFault
-refusal number (cause.Damaged at rule) = Refused number (cause.Damaged at rule)
-
--- Why a connection wasn't served: a map's disk was refused, the first one; or memory ran out.
-abbrev pub IsUnserved : {D : Type 0} → (D → Option History) → (D → ℕ) → Unserved → List D → List D → Type 0
-IsUnserved history faults (Refused number fault) old new =
-    (fault ≢ cause.NoMemory) × IsStopped history faults old new number fault
-IsUnserved history faults NoMemory old new = ⊤
+  pub served : AreServed (maps_on service.catalogue (log_of service finish))

@@ -1,16 +1,60 @@
--- The making of a map by a host of one thread.
-use Rattle.std.specs.Prelude.{◌≡◌, ◌⊎◌, ◌<◌, length}
+-- The making of a map by a host of one thread: a map that is behind is opened again, a version is built, and what was
+-- built is offered.
+use Rattle.std.specs.Prelude.{◌≡◌, ◌⊎◌, ◌<◌, ℕ, false, length}
 use Rattle.yp_msgs.specs.declared.transfer.XfrStat.{XfrStat}
+use Rattle.yp_msgs.specs.declared.transfer.XfrStat.TheVariants.{Succ, Rsrc, File}
 use Rattle.yp_version.specs.Versions.{MapVersion}
+use Rattle.yp_slot.specs.declared.fault.SlotFault.{SlotFault}
+use Rattle.yp_slot.specs.declared.fault.SlotFault.TheVariants as slot
+use Rattle.yp_build.specs.After.{Basis}
 use Rattle.yp_answer.specs.declared.make.Job.{Job}
+use Rattle.yp_publish.specs.declared.install.InstallFault.{InstallFault}
+use Rattle.yp_publish.specs.declared.install.InstallFault.TheVariants as install
+use Rattle.yp_publish.specs.declared.install.Origin.TheVariants.{Built}
 use Rattle.yp_publish.specs.Standing.{Published}
 use Rattle.yp_publish.specs.Keeping.{Keeping}
-use Rattle.yp_publish.specs.Opens.{Opens}
-use Rattle.yp_server.specs.Locals.{Local, Telling, IsUsed, LeavesDial}
-use Rattle.yp_build.specs.After.{Basis}
+use Rattle.yp_publish.specs.Installs.{Offer, offer, Installs, Refuses}
+use Rattle.yp_publish.specs.Opens.{Opens, StaysBehind}
 use Rattle.yp_session.specs.Causes.{IsAnew, basis_at}
+use Rattle.yp_server.specs.Locals.{Local, Telling, IsUsed, LeavesDial}
 use Rattle.yp_server.specs.Anew.{IsUnbuilt}
-use Rattle.yp_server.specs.Steps.{IsNotReopened, Offers}
+
+-- the status of a file that isn't opened: FILE, or RSRC for want of memory
+abbrev pub open_stat : SlotFault → XfrStat
+open_stat slot.NoMemory = Rsrc
+open_stat slot.DiskFault = File
+open_stat (slot.Damaged at rule) = File
+
+-- The map was behind and isn't opened, with this status.
+pub record StaysShut {D B : Type 0} (keeping : Keeping D B) (number : ℕ) (stat : XfrStat)
+    (old new : Published D B) : Type 0 where
+  pub fault : SlotFault
+  pub stat_is : stat ≡ open_stat fault
+  pub stays : StaysBehind keeping number fault old new
+
+-- a version that was built here, as it is offered
+abbrev pub built_offer : MapVersion → Offer
+built_offer version = offer version Built false
+
+-- the status of a fault: FILE, or RSRC for want of memory; a version that was built for a level map has no other
+abbrev pub IsInstallStat : InstallFault → XfrStat → Type 0
+IsInstallStat install.GenerationsSpent stat = stat ≡ File
+IsInstallStat install.DiskFault stat = stat ≡ File
+IsInstallStat install.NoMemory stat = stat ≡ Rsrc
+IsInstallStat _ stat = ⊥
+
+-- A version that was built isn't installed, with this status.
+pub record IsUninstalled {D B : Type 0} (keeping : Keeping D B) (number : ℕ) (version : MapVersion) (stat : XfrStat)
+    (old new : Published D B) : Type 0 where
+  pub fault : InstallFault
+  pub stat_is : IsInstallStat fault stat
+  pub refuses : Refuses keeping number (built_offer version) fault old new
+
+-- A version that was built is offered: it is installed, or it isn't.
+abbrev pub OffersBuilt : {D B : Type 0} → Keeping D B → ℕ → MapVersion → XfrStat → Published D B → Published D B → Type 0
+OffersBuilt keeping number version stat old new =
+    ((stat ≡ Succ) × Installs keeping number (built_offer version) old new)
+    ⊎ IsUninstalled keeping number version stat old new
 
 -- what a version of the map is built for
 abbrev pub site_at : {D B : Type 0} → Keeping D B → Job → Published D B → Basis
@@ -22,7 +66,7 @@ abbrev pub Tries : {D B E : Type 0} → Keeping D B → Telling E → Job → Xf
 Tries keeping telling job stat old new =
     (IsUnbuilt telling (site_at keeping job old.published) stat old.desk new.desk × (new.published ≡ old.published))
     ⊎ ((version : MapVersion) × IsAnew (telling.told old.desk) (site_at keeping job old.published) version
-    × Offers keeping job.map version stat old.published new.published)
+    × OffersBuilt keeping job.map version stat old.published new.published)
 
 -- The map is level, where it was behind by opening its file again, and then it is tried to make it.
 pub record OpensAndTries {D B E : Type 0} (keeping : Keeping D B) (telling : Telling E) (job : Job) (stat : XfrStat)
@@ -38,7 +82,7 @@ pub record Makes {D B E : Type 0} (keeping : Keeping D B) (telling : Telling E) 
   pub dial : LeavesDial telling old.desk new.desk
   pub asked : new.asked ≡ old.asked
   pub transfers : new.transfers ≡ old.transfers
-  pub ends : IsNotReopened keeping job.map stat old.published new.published
+  pub ends : StaysShut keeping job.map stat old.published new.published
       ⊎ OpensAndTries keeping telling job stat old new
 
 -- One of the maps was made, with this status.

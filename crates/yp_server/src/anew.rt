@@ -10,7 +10,8 @@ ghost use Rattle.yp_publish.specs.declared.install.Origin.TheVariants.{Built};
 ghost use Rattle.yp_publish.specs.Installs.{offer, not_following};
 ghost use Rattle.yp_server.specs.Locals.{told_by, telling_of, IsUsed, LeavesDial};
 ghost use Rattle.yp_session.specs.Causes.{IsAnew};
-ghost use Rattle.yp_server.specs.Anew.{site_of, stat_of, IsUnbuilt};
+ghost use Rattle.yp_build.specs.After.{basis_of};
+ghost use Rattle.yp_server.specs.Anew.{stat_of, IsUnbuilt};
 
 use crate::desk::Desk;
 use std::alloc::Global;
@@ -35,11 +36,11 @@ pub(crate) fn build_anew<A: Dial, T: Texts, C: Clock>(
 ) -> Result<Version, XfrStat>
     requires { length own.now ≤ master_max }
     ensures anew { IfOk result (IsAnew (told_by T.Texts C.Clock desk.old)
-        (site_of kind own.now (option_map (λ version. version.now) shown.entry))) }
+        (basis_of kind own.now None (option_map (λ version. version.now) shown.entry))) }
     ensures follows { IfOk result (λ version.
         not_following own.now (offer version Built false) (option_map (λ version. version.now) shown.entry) ≡ None) }
     ensures unbuilt { IfErr result (λ stat. IsUnbuilt (telling_of T.Texts C.Clock A.past A.letters A.faults)
-        (site_of kind own.now (option_map (λ version. version.now) shown.entry)) stat desk.old desk.new) }
+        (basis_of kind own.now None (option_map (λ version. version.now) shown.entry)) stat desk.old desk.new) }
     ensures desk { IsUsed (telling_of T.Texts C.Clock A.past A.letters A.faults) desk.old desk.new }
     ensures dial { LeavesDial (telling_of T.Texts C.Clock A.past A.letters A.faults) desk.old desk.new }
 {

@@ -15,6 +15,6 @@ mod desk;
 mod local;
 mod steps;
 
-pub use connection::{Stock, Unserved, serve_wire};
+pub use connection::{Stock, serve_wire};
 pub use desk::Desk;
 pub use local::LocalHost;

@@ -40,7 +40,6 @@ use yp_version::Version;
 pub struct LocalHost<D: Disk, B: Show, A: Dial, T: Texts, C: Clock, R: RandomSource + Drop> {
     publisher: Publisher<D, B>,
     desk: Desk<A, T, C>,
-    catalog: Catalog,
     asked: u64,
     files: u64,
     transfers: u64,
@@ -64,8 +63,7 @@ impl<D: Disk, B: Show, A: Dial, T: Texts, C: Clock, R: RandomSource + Drop> Mode
       transfers = h.transfers;
     } };
 
-    ghost invariant = { λ h. (h.catalog ≡ h.publisher.catalogue)
-        × (length h.publisher.maps ≡ length h.catalog.maps) };
+    ghost invariant = { λ h. length h.publisher.maps ≡ length h.publisher.catalogue.maps };
 }
 
 impl<D: Disk, B: Show, A: Dial, T: Texts, C: Clock, R: RandomSource + Drop> LocalHost<
@@ -76,23 +74,20 @@ impl<D: Disk, B: Show, A: Dial, T: Texts, C: Clock, R: RandomSource + Drop> Loca
     C,
     R,
 > {
-    /// A host over the maps of a publisher, with a copy of the publisher's catalogue. Its memory is taken by `alloc`,
-    /// and the tables of its builds are made with the randomness of `rt`.
+    /// A host over the maps of a publisher. Its memory is taken by `alloc`, and the tables of its builds are made with
+    /// the randomness of `rt`.
     pub fn new(
         alloc: Global,
         rt: R,
         publisher: Publisher<D, B>,
         desk: Desk<A, T, C>,
-        catalog: Catalog,
     ) -> LocalHost<D, B, A, T, C, R>
-        requires { catalog ≡ publisher.catalogue }
         ensures { result ≡ record { published = publisher; desk = desk; asked = 0; files = 0; transfers = 0 } }
     {
-        prove!(publisher.catalog().len() == catalog.len());
+        let _catalog = publisher.catalog();
         LocalHost {
             publisher,
             desk,
-            catalog,
             asked: 0,
             files: 0,
             transfers: 0,
@@ -109,7 +104,6 @@ impl<D: Disk, B: Show, A: Dial, T: Texts, C: Clock, R: RandomSource + Drop> Loca
         let LocalHost {
             publisher,
             desk,
-            catalog: _,
             asked: _,
             files: _,
             transfers: _,
@@ -206,7 +200,7 @@ impl<D: Disk, B: Show, A: Dial, T: Texts, C: Clock, R: RandomSource + Drop> View
     ghost stepped = { λ old new. new ≡ record old { asked = next_count old.asked } };
 
     fn catalog(&self) -> &Catalog {
-        &self.catalog
+        self.publisher.catalog()
     }
 
     fn refresh(&mut self) {

@@ -6,7 +6,7 @@ ghost use Rattle.yp_publish.specs.Standing.{Level, OfMap};
 ghost use Rattle.yp_publish.specs.Installs.{offer, not_following};
 ghost use Rattle.yp_publish.specs.Keeping.{keeping_of};
 ghost use Rattle.yp_publish.specs.Opens.{Opens};
-ghost use Rattle.yp_server.specs.Steps.{open_stat, IsInstallStat, IsNotReopened, built_offer, Offers};
+ghost use Rattle.yp_server.specs.Made.{open_stat, IsInstallStat, StaysShut, built_offer, OffersBuilt};
 
 use std::alloc::Global;
 use std::random::RandomSource;
@@ -28,7 +28,7 @@ pub(crate) fn reopen<D: Disk, B: Show>(
     ensures opened { OnOk result
         (Opens (keeping_of D.history D.faults B.log) map publisher.old publisher.new) }
     ensures refused { IfErr result (λ stat.
-        IsNotReopened (keeping_of D.history D.faults B.log) map stat publisher.old publisher.new) }
+        StaysShut (keeping_of D.history D.faults B.log) map stat publisher.old publisher.new) }
     ensures grown { IsFront (B.log publisher.old.board) (B.log publisher.new.board) }
 {
     match publisher.reopen(alloc, rt, map) {
@@ -51,9 +51,9 @@ pub(crate) fn install<D: Disk, B: Show>(
     requires follows { OfMap map publisher.old.maps
         (λ kept. not_following publisher.old.catalogue.own (offer version Origin.Built false) kept.version ≡ None) }
     ensures installed { OnOk result
-        (Offers (keeping_of D.history D.faults B.log) map version XfrStat.Succ publisher.old publisher.new) }
+        (OffersBuilt (keeping_of D.history D.faults B.log) map version XfrStat.Succ publisher.old publisher.new) }
     ensures failed { IfErr result (λ stat.
-        Offers (keeping_of D.history D.faults B.log) map version stat publisher.old publisher.new) }
+        OffersBuilt (keeping_of D.history D.faults B.log) map version stat publisher.old publisher.new) }
     ensures grown { IsFront (B.log publisher.old.board) (B.log publisher.new.board) }
 {
     match publisher.install(alloc, map, version, Origin::Built, false) {

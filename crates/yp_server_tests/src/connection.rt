@@ -6,6 +6,7 @@ use std::alloc::Global;
 use std::process::Abort;
 use std::random::RandomSource;
 use yp_io::{MemDisk, MemWire, Source};
+use yp_publish::OpenFault;
 use yp_server::*;
 use yp_session::{End, Trail};
 use yp_slot::{Slot, SlotFault};
@@ -28,13 +29,13 @@ fn sound_disk(alloc: Global, file: Vec<u8>) -> MemDisk {
 }
 
 // What came of a connection: its end, what it wrote and what it left of its input, and the files on its disks.
-type Came = (Result<End, Unserved>, Vec<u8>, Vec<u8>, Vec<Vec<u8>>);
+type Came = (Result<End, OpenFault>, Vec<u8>, Vec<u8>, Vec<Vec<u8>>);
 
 // What is seen of a wire and of disks behind a connection.
 fn seen(
     rt: &impl Abort,
     alloc: Global,
-    end: Result<End, Unserved>,
+    end: Result<End, OpenFault>,
     wire: &mut MemWire,
     disks: &[MemDisk],
 ) -> Came {
@@ -223,7 +224,7 @@ fn damaged_disk_is_refused(rt: HostRuntime) {
     let input = bytes(&rt, alloc, ONE_MATCH);
     let came = served_from_two(&rt, alloc, &[b"lab", b"dev"], first, second, input);
     let fault = SlotFault::Damaged { at: 79, rule: 5 };
-    let end = Err(Unserved::Refused { map: 1, fault });
+    let end = Err(OpenFault::Refused { map: 1, fault });
     let left = bytes(&rt, alloc, ONE_MATCH);
     let unchanged = [bytes(&rt, alloc, HOSTS_FILE), bytes(&rt, alloc, DAMAGED)];
     let files = Vec::from_array(alloc, unchanged).expect(&rt, "files");
@@ -426,7 +427,7 @@ fn disk_stops_at_each_call(rt: HostRuntime) {
 fn disk_that_is_not_opened(rt: HostRuntime) {
     let alloc = rt.alloc();
     let fault = SlotFault::DiskFault;
-    let end = Err(Unserved::Refused { map: 0, fault });
+    let end = Err(OpenFault::Refused { map: 0, fault });
     let left = bytes(&rt, alloc, TWICE);
     let files = vec![in alloc; Vec::new(alloc)].expect(&rt, "files");
     let wanted = (end, Vec::new(alloc), left, files);

@@ -6,7 +6,7 @@ use std::alloc::Global;
 use std::process::Abort;
 use yp_board::{Catalog, PlainBoard};
 use yp_io::{MemDial, MemDisk, MemTexts, Peer, SetClock};
-use yp_publish::{Publisher, laws, load_all};
+use yp_publish::open_publisher;
 use yp_server::*;
 use yp_session::{End, Session, Trail};
 use yp_slot::Slot;
@@ -23,15 +23,9 @@ fn host_of(
     desk: MemDesk,
 ) -> MemHost {
     let disks = vec![in alloc; disk].expect(rt, "a disk");
-    let loaded = load_all(alloc, &runtime, disks).expect(rt, "a loaded disk");
-    let start = loaded.shown(alloc).expect(rt, "versions");
-    assert_fits(rt, start.len(), &catalog);
-    let of_board = catalog.copy(alloc).expect(rt, "a catalogue");
-    let of_host = catalog.copy(alloc).expect(rt, "a catalogue");
-    laws::starts_are_shown();
-    let board = PlainBoard::new(alloc, of_board, start).expect(rt, "a board");
-    let publisher = Publisher::new(loaded, catalog, board);
-    LocalHost::new(alloc, runtime, publisher, desk, of_host)
+    assert_fits(rt, disks.len(), &catalog);
+    let publisher = open_publisher(alloc, &runtime, catalog, disks).expect(rt, "loaded disks");
+    LocalHost::new(alloc, runtime, publisher, desk)
 }
 
 // How a session ended, and what it wrote.

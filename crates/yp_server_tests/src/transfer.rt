@@ -6,6 +6,7 @@ use std::alloc::Global;
 use std::process::Abort;
 use std::random::RandomSource;
 use yp_io::{MemDial, MemDisk, MemTexts, Peer, SetClock};
+use yp_publish::OpenFault;
 use yp_server::*;
 use yp_session::{End, Trail};
 use yp_xfr::Hosts;
@@ -139,7 +140,7 @@ fn posted_by(rt: &impl Abort, alloc: Global, dial: &MemDial) -> Vec<(Peer, Vec<u
 
 // What came of a connection: its end, what it wrote, what was posted, and the file.
 type Came = (
-    Result<End, Unserved>,
+    Result<End, OpenFault>,
     Vec<u8>,
     Vec<(Peer, Vec<u8>)>,
     Vec<u8>,

@@ -5,7 +5,7 @@ use Rattle.std.specs.Io.KnownBytes.{Keeps}
 use Rattle.std.proofs.lemmas.List.{append-nil}
 use Rattle.yp_version.specs.Rows.{Row}
 use Rattle.yp_board.specs.Catalogues.{Name}
-use Rattle.yp_session.specs.Wires.{Wire, Grows}
+use Rattle.yp_session.specs.Wires.{Wire, SeesMore}
 use Rattle.yp_office.specs.declared.office.Office.{Office}
 use Rattle.yp_office.specs.declared.status.Status.{Status}
 use Rattle.yp_office.specs.declared.status.Status.TheVariants.{ReadFault, WriteFault, DiskFault, NoMemory, Rows}
@@ -33,7 +33,7 @@ module _ {S K D C A I T : Type 0} (seen : Seeing S K D C A I T) (store : Name) (
   causes status (inr (row, rule, e)) = record { read_fault = λ f. absurd (let no : Rows row rule ≡ ReadFault = cc in cc); write_fault = λ f. absurd (let no : Rows row rule ≡ WriteFault = cc in cc); disk_fault = λ map f. absurd (let no : Rows row rule ≡ DiskFault map = cc in cc) }
 
   nothing_watched : (status : Status) → (status ≡ NoMemory) ⊎ ((row : ℕ) × (rule : ℕ) × (status ≡ Rows row rule))
-      → Grows seen_before seen_before (IsWatched (once_board store rows) status (wire seen office) (wire seen office))
+      → SeesMore seen_before seen_before (IsWatched (once_board store rows) status (wire seen office) (wire seen office))
   nothing_watched status (inl e) = record { more = []; behind = sym (append-nil seen_before); done = rw e (refl, refl) }
   nothing_watched status (inr (row, rule, e)) = record { more = []; behind = sym (append-nil seen_before); done = rw e (refl, refl) }
 

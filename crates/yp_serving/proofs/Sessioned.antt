@@ -2,7 +2,7 @@
 use Rattle.std.proofs.Common.{◌≡◌, ℕ, zero, suc, ◌<◌, List, [], ◌∷◌, ◌++◌, length, map, Option, Some, None, Result, Ok, Err, refl, sym, ap, ◌∙◌, subst, arith, inl, inr, get_or}
 use Rattle.std.specs.Prelude.{IfOk, IfErr, OnErr, IfSome, slice_get, slice_index_or, All}
 use Rattle.std.specs.List.{AllZip}
-use Rattle.std.proofs.lemmas.List.{append-nil}
+use Rattle.std.proofs.lemmas.List.{append-nil, length-append, length-map}
 use Rattle.yp_io.specs.Counts.{HasRisen}
 use Rattle.yp_io.specs.Disk.{History}
 use Rattle.yp_io.specs.DiskLaws.{stays, only_now}
@@ -12,23 +12,24 @@ use Rattle.yp_io.specs.declared.stream.Peer.{Peer}
 use Rattle.yp_board.specs.Catalogues.{Name, Catalogue, name_view}
 use Rattle.yp_board.specs.declared.catalog.MapName.{MapName}
 use Rattle.yp_publish.specs.Standing.{Kept}
-use Rattle.yp_publish.specs.Opens.{LeavesNoMore, IsOpened, IsStopped}
-use Rattle.yp_session.specs.Wires.{Wire, Grows}
+use Rattle.yp_publish.specs.Opens.{IsOpened, IsStopped}
+use Rattle.yp_session.specs.Wires.{Wire, SeesMore}
 use Rattle.yp_session.specs.declared.session.End.{End}
 use Rattle.yp_session.specs.declared.session.End.TheVariants as ends
-use Rattle.yp_server.specs.declared.connection.Unserved.{Unserved}
-use Rattle.yp_server.specs.declared.connection.Unserved.TheVariants as unserved
+use Rattle.yp_publish.specs.declared.open.OpenFault.{OpenFault}
+use Rattle.yp_publish.specs.declared.open.OpenFault.TheVariants as opening
+use Rattle.yp_publish.specs.Begins.{IsUnopened, IsUnwritten}
 use Rattle.yp_publish.specs.Keeping.{Keeping}
 use Rattle.yp_server.specs.Locals.{Telling}
-use Rattle.yp_server.specs.Connections.{Service, service_of, Connection, Serves, IsUnserved, AtDisk, LeavesOr}
+use Rattle.yp_server.specs.Connections.{Service, service_of, Connection, Serves, AtDisk, LeavesOr}
 use Rattle.yp_office.specs.declared.disks.NamedDisk.{NamedDisk}
 use Rattle.yp_office.specs.declared.status.Status.{Status}
 use Rattle.yp_office.specs.declared.status.Status.TheVariants.{Done, ReadFault, WriteFault, Torn, TooLong, NoMemory, Damaged, DiskFault, Enough}
 use Rattle.yp_words.specs.Words.{IsNamed}
 use Rattle.yp_office.specs.Files.{Fails}
 use Rattle.yp_serving.specs.Served.{status_of}
-use Rattle.yp_office.specs.Disks.{disks_of, total_faults, faults_of}
-use Rattle.yp_serving.specs.Session.{Declines, Sessions, TellsEnd}
+use Rattle.yp_office.specs.Disks.{names_of, disks_of, total_faults, faults_of}
+use Rattle.yp_serving.specs.Session.{Declines, Sessions, TellsEnd, HasMapNumber}
 
 -- ---- its status
 
@@ -43,13 +44,13 @@ end_told service ends.WriteFault status old new wires serves is = subst (λ s. S
 end_told service ends.Enough status old new wires serves is = subst (λ s. Sessions service s old new wires) (sym is) serves
 
 -- want of memory is told of anything that wasn't served
-memory_told : {D B E : Type 0} (service : Service D B E) (why : Unserved) (status : Status) (old new : Connection D E) → Declines service why old new [] → status ≡ NoMemory
+memory_told : {D B E : Type 0} (service : Service D B E) (why : OpenFault) (status : Status) (old new : Connection D E) → Declines service why old new [] → status ≡ NoMemory
     → Sessions service status old new []
 memory_told service why status old new declines is =
-    subst (λ s. Sessions service s old new []) (sym is) (record { unseen = refl; wire = declines.wire; desk = declines.desk; cause = tt; unwritten = declines.unwritten })
+    subst (λ s. Sessions service s old new []) (sym is) (record { unseen = refl; wire = declines.wire; desk = declines.desk; cause = declines.unwritten; unwritten = declines.unwritten })
 
 -- a fault of a file is told with its map
-fault_told : {D B E : Type 0} (service : Service D B E) (number : ℕ) (why : SlotFault) (store : Name) (status : Status) (old new : Connection D E) → Declines service (unserved.Refused number why) old new []
+fault_told : {D B E : Type 0} (service : Service D B E) (number : ℕ) (why : SlotFault) (store : Name) (status : Status) (old new : Connection D E) → Declines service (opening.Refused number why) old new []
     → slice_get service.catalogue.maps number ≡ Some store → Fails store why status → Sessions service status old new []
 fault_told service number (fault.Damaged at rule) store (Damaged map at' rule') old new declines found fails = record {
   number = number;
@@ -61,21 +62,21 @@ fault_told service number fault.DiskFault store (DiskFault map) old new declines
   named = found ∙ ap (λ (n : Name). Some n) (sym fails);
   declines = declines;
 }
-fault_told service number fault.NoMemory store NoMemory old new declines found fails = memory_told service (unserved.Refused number fault.NoMemory) NoMemory old new declines refl
+fault_told service number fault.NoMemory store NoMemory old new declines found fails = memory_told service (opening.Refused number fault.NoMemory) NoMemory old new declines refl
 fault_told service number why store status old new declines found fails = absurd fails
 
 -- what wasn't served is told
-unserved_told : {D B E : Type 0} (service : Service D B E) (why : Unserved) (names : List Name) (status : Status) (old new : Connection D E) → service.catalogue.maps ≡ names
+unserved_told : {D B E : Type 0} (service : Service D B E) (why : OpenFault) (names : List Name) (status : Status) (old new : Connection D E) → service.catalogue.maps ≡ names
     → Declines service why old new [] → TellsEnd (Err why) names status → Sessions service status old new []
-unserved_told service unserved.NoMemory names status old new same declines is = memory_told service unserved.NoMemory status old new declines is
-unserved_told service (unserved.Refused number why) names status old new same declines (inl is) = memory_told service (unserved.Refused number why) status old new declines is
-unserved_told service (unserved.Refused number why) names status old new same declines (inr (store, found, fails)) =
+unserved_told service opening.NoMemory names status old new same declines is = memory_told service opening.NoMemory status old new declines is
+unserved_told service (opening.Refused number why) names status old new same declines (inl is) = memory_told service (opening.Refused number why) status old new declines is
+unserved_told service (opening.Refused number why) names status old new same declines (inr (store, found, fails)) =
     fault_told service number why store status old new declines (ap (λ (l : List Name). slice_get l number) same ∙ found) fails
 
 -- what was served or not is told, with what a witness saw
-session_told : {D B E : Type 0} (service : Service D B E) (served : Result End Unserved) (names : List Name) (status : Status) (old new : Connection D E) (before after : List Wire) → service.catalogue.maps ≡ names
-    → IfOk served (λ end. Grows before after (Serves service end old new)) → IfErr served (λ why. Declines service why old new []) → OnErr served (after ≡ before) → TellsEnd served names status
-    → Grows before after (Sessions service status old new)
+session_told : {D B E : Type 0} (service : Service D B E) (served : Result End OpenFault) (names : List Name) (status : Status) (old new : Connection D E) (before after : List Wire) → service.catalogue.maps ≡ names
+    → IfOk served (λ end. SeesMore before after (Serves service end old new)) → IfErr served (λ why. Declines service why old new []) → OnErr served (after ≡ before) → TellsEnd served names status
+    → SeesMore before after (Sessions service status old new)
 session_told service (Ok end) names status old new before after same serves declines unseen is =
     record { more = serves.more; behind = serves.behind; done = end_told service end status old new serves.more serves.done is }
 session_told service (Err why) names status old new before after same serves declines unseen is =
@@ -83,12 +84,10 @@ session_told service (Err why) names status old new before after same serves dec
 
 -- ---- where nothing was done
 
-leaves_none : {D : Type 0} (history : D → Option History) (disk : Option D) → IfSome disk (λ before. IfSome disk (LeavesNoMore history before))
-leaves_none history None = tt
-leaves_none history (Some disk) = record { goes_on = stays (history disk); each = λ image left. only_now (history disk) image left }
-
-pub nothing_left : {D : Type 0} (history : D → Option History) (disks : List D) (number : ℕ) → AtDisk number disks disks (LeavesNoMore history)
-nothing_left history disks number = leaves_none history (slice_get disks number)
+nothing_written : {D : Type 0} (history : D → Option History) (faults : D → ℕ) (disks : List D) → AllZip (IsUnwritten history faults) disks disks
+nothing_written history faults [] = tt
+nothing_written history faults (disk ∷ disks) =
+    (record { moments = record { goes_on = stays (history disk); each = λ image left. only_now (history disk) image left }; never_falls = omega arith }, nothing_written history faults disks)
 
 leaves_or : {D : Type 0} (history : D → Option History) (P : List ℕ → Type 0) (disk : Option D) → IfSome disk (λ before. IfSome disk (LeavesOr history P before))
 leaves_or history P None = tt
@@ -97,11 +96,17 @@ leaves_or history P (Some disk) = record { goes_on = stays (history disk); each 
 pub nothing_more : {D : Type 0} (history : D → Option History) (P : List ℕ → Type 0) (disks : List D) (number : ℕ) → AtDisk number disks disks (LeavesOr history P)
 nothing_more history P disks number = leaves_or history P (slice_get disks number)
 
-pub nothing_served : {D B E : Type 0} (service : Service D B E) (connection : Connection D E) (wires : List Wire) → Grows wires wires (Sessions service NoMemory connection connection)
+pub nothing_served : {D B E : Type 0} (service : Service D B E) (connection : Connection D E) (wires : List Wire) → SeesMore wires wires (Sessions service NoMemory connection connection)
 nothing_served service connection wires = record {
   more = [];
   behind = sym (append-nil wires);
-  done = record { unseen = refl; wire = refl; desk = refl; cause = tt; unwritten = nothing_left service.keeping.history connection.disks };
+  done = record {
+    unseen = refl;
+    wire = refl;
+    desk = refl;
+    cause = nothing_written service.keeping.history service.keeping.faults connection.disks;
+    unwritten = nothing_written service.keeping.history service.keeping.faults connection.disks;
+  };
 }
 
 -- ---- faults of disks
@@ -134,33 +139,33 @@ end_no_fault ends.ReadFault map e = cc
 end_no_fault ends.WriteFault map e = cc
 end_no_fault ends.Enough map e = cc
 
-pub fault_risen : {D : Type 0} (history : D → Option History) (faults : D → ℕ) (served : Result End Unserved) (names : List Name) (status : Status) (map : MapName) (old new : List (NamedDisk D))
-    → TellsEnd served names status → status ≡ DiskFault map → IfErr served (λ why. IsUnserved history faults why (disks_of old) (disks_of new)) → HasRisen (faults_of faults old) (faults_of faults new)
+pub fault_risen : {D : Type 0} (history : D → Option History) (faults : D → ℕ) (served : Result End OpenFault) (names : List Name) (status : Status) (map : MapName) (old new : List (NamedDisk D))
+    → TellsEnd served names status → status ≡ DiskFault map → IfErr served (λ why. IsUnopened history faults why (disks_of old) (disks_of new)) → HasRisen (faults_of faults old) (faults_of faults new)
 fault_risen history faults (Ok end) names status map old new tells e cause = absurd (end_no_fault end map (sym tells ∙ e))
-fault_risen history faults (Err unserved.NoMemory) names status map old new tells e cause = absurd (let none : NoMemory ≡ DiskFault map = sym tells ∙ e in cc)
-fault_risen history faults (Err (unserved.Refused number why)) names status map old new (inl tells) e cause = absurd (let none : NoMemory ≡ DiskFault map = sym tells ∙ e in cc)
-fault_risen history faults (Err (unserved.Refused number (fault.Damaged at rule))) names status map old new (inr (store, found, fails)) e cause =
+fault_risen history faults (Err opening.NoMemory) names status map old new tells e cause = absurd (let none : NoMemory ≡ DiskFault map = sym tells ∙ e in cc)
+fault_risen history faults (Err (opening.Refused number why)) names status map old new (inl tells) e cause = absurd (let none : NoMemory ≡ DiskFault map = sym tells ∙ e in cc)
+fault_risen history faults (Err (opening.Refused number (fault.Damaged at rule))) names status map old new (inr (store, found, fails)) e cause =
     absurd (subst (λ s. Fails store (fault.Damaged at rule) s) e fails)
-fault_risen history faults (Err (unserved.Refused number fault.DiskFault)) names status map old new (inr (store, found, fails)) e cause = stopped_risen history faults old new number cause.1
-fault_risen history faults (Err (unserved.Refused number fault.NoMemory)) names status map old new (inr (store, found, fails)) e cause =
+fault_risen history faults (Err (opening.Refused number fault.DiskFault)) names status map old new (inr (store, found, fails)) e cause = stopped_risen history faults old new number cause.1
+fault_risen history faults (Err (opening.Refused number fault.NoMemory)) names status map old new (inr (store, found, fails)) e cause =
     absurd (subst (λ s. Fails store fault.NoMemory s) e fails)
 
 -- a write fault is told as one
-pub write_told : (served : Result End Unserved) (names : List Name) (status : Status) → served ≡ Ok ends.WriteFault → TellsEnd served names status → status ≡ WriteFault
-write_told served names status e tells = subst (λ (s : Result End Unserved). TellsEnd s names status) e tells
+pub write_told : (served : Result End OpenFault) (names : List Name) (status : Status) → served ≡ Ok ends.WriteFault → TellsEnd served names status → status ≡ WriteFault
+write_told served names status e tells = subst (λ (s : Result End OpenFault). TellsEnd s names status) e tells
 
-pub read_told : (served : Result End Unserved) (names : List Name) (status : Status) → TellsEnd served names status → status ≡ ReadFault → served ≡ Ok ends.ReadFault
+pub read_told : (served : Result End OpenFault) (names : List Name) (status : Status) → TellsEnd served names status → status ≡ ReadFault → served ≡ Ok ends.ReadFault
 read_told (Ok ends.Clean) names status tells e = absurd (let none : Done ≡ ReadFault = sym tells ∙ e in cc)
 read_told (Ok (ends.Torn at)) names status tells e = absurd (let none : Torn at ≡ ReadFault = sym tells ∙ e in cc)
 read_told (Ok (ends.TooLong at)) names status tells e = absurd (let none : TooLong at ≡ ReadFault = sym tells ∙ e in cc)
 read_told (Ok ends.ReadFault) names status tells e = refl
 read_told (Ok ends.WriteFault) names status tells e = absurd (let none : WriteFault ≡ ReadFault = sym tells ∙ e in cc)
 read_told (Ok ends.Enough) names status tells e = absurd (let none : Enough ≡ ReadFault = sym tells ∙ e in cc)
-read_told (Err unserved.NoMemory) names status tells e = absurd (let none : NoMemory ≡ ReadFault = sym tells ∙ e in cc)
-read_told (Err (unserved.Refused number why)) names status (inl tells) e = absurd (let none : NoMemory ≡ ReadFault = sym tells ∙ e in cc)
-read_told (Err (unserved.Refused number (fault.Damaged at rule))) names status (inr (store, found, fails)) e = absurd (subst (λ s. Fails store (fault.Damaged at rule) s) e fails)
-read_told (Err (unserved.Refused number fault.DiskFault)) names status (inr (store, found, fails)) e = absurd (subst (λ s. Fails store fault.DiskFault s) e fails)
-read_told (Err (unserved.Refused number fault.NoMemory)) names status (inr (store, found, fails)) e = absurd (subst (λ s. Fails store fault.NoMemory s) e fails)
+read_told (Err opening.NoMemory) names status tells e = absurd (let none : NoMemory ≡ ReadFault = sym tells ∙ e in cc)
+read_told (Err (opening.Refused number why)) names status (inl tells) e = absurd (let none : NoMemory ≡ ReadFault = sym tells ∙ e in cc)
+read_told (Err (opening.Refused number (fault.Damaged at rule))) names status (inr (store, found, fails)) e = absurd (subst (λ s. Fails store (fault.Damaged at rule) s) e fails)
+read_told (Err (opening.Refused number fault.DiskFault)) names status (inr (store, found, fails)) e = absurd (subst (λ s. Fails store fault.DiskFault s) e fails)
+read_told (Err (opening.Refused number fault.NoMemory)) names status (inr (store, found, fails)) e = absurd (subst (λ s. Fails store fault.NoMemory s) e fails)
 
 -- ---- names by number
 
@@ -181,9 +186,9 @@ found_named names number name all is = let at = at_found names number name is in
 -- ---- the whole
 
 -- why a connection wasn't served, with what it left
-err_declines : {D B E : Type 0} (service : Service D B E) (served : Result End Unserved) (old new : Connection D E)
-    → IfErr served (λ why. IsUnserved service.keeping.history service.keeping.faults why old.disks new.disks) → OnErr served (new.wire ≡ old.wire) → OnErr served (new.desk ≡ old.desk)
-    → OnErr served ((number : ℕ) → AtDisk number old.disks new.disks (LeavesNoMore service.keeping.history)) → IfErr served (λ why. Declines service why old new [])
+err_declines : {D B E : Type 0} (service : Service D B E) (served : Result End OpenFault) (old new : Connection D E)
+    → IfErr served (λ why. IsUnopened service.keeping.history service.keeping.faults why old.disks new.disks) → OnErr served (new.wire ≡ old.wire) → OnErr served (new.desk ≡ old.desk)
+    → OnErr served (AllZip (IsUnwritten service.keeping.history service.keeping.faults) old.disks new.disks) → IfErr served (λ why. Declines service why old new [])
 err_declines service (Ok end) old new cause wire desk unwritten = tt
 err_declines service (Err why) old new cause wire desk unwritten = record { unseen = refl; wire = wire; desk = desk; cause = cause; unwritten = unwritten }
 
@@ -194,18 +199,18 @@ pub record IsNamedSo {D : Type 0} (catalogue given : Catalogue) (names : List Na
   pub old_are : old ≡ disks_of before
   pub new_are : new ≡ disks_of after
 
-pub session_served : {D B E : Type 0} (keeping : Keeping D B) (telling : Telling E) (catalogue given : Catalogue) (peer : Peer) (served : Result End Unserved) (names : List Name) (status : Status)
+pub session_served : {D B E : Type 0} (keeping : Keeping D B) (telling : Telling E) (catalogue given : Catalogue) (peer : Peer) (served : Result End OpenFault) (names : List Name) (status : Status)
     (old new : Connection D E) (first last : List Wire) (before after : List (NamedDisk D)) → IsNamedSo catalogue given names old.disks new.disks before after
-    → IfOk served (λ end. Grows first last (Serves (service_of keeping telling catalogue peer) end old new))
-    → IfErr served (λ why. IsUnserved keeping.history keeping.faults why old.disks new.disks) → OnErr served (new.wire ≡ old.wire) → OnErr served (new.desk ≡ old.desk)
-    → OnErr served (last ≡ first) → OnErr served ((number : ℕ) → AtDisk number old.disks new.disks (LeavesNoMore keeping.history)) → TellsEnd served names status
-    → Grows first last (Sessions (service_of keeping telling given peer) status (record old { disks = disks_of before }) (record new { disks = disks_of after }))
+    → IfOk served (λ end. SeesMore first last (Serves (service_of keeping telling catalogue peer) end old new))
+    → IfErr served (λ why. IsUnopened keeping.history keeping.faults why old.disks new.disks) → OnErr served (new.wire ≡ old.wire) → OnErr served (new.desk ≡ old.desk)
+    → OnErr served (last ≡ first) → OnErr served (AllZip (IsUnwritten keeping.history keeping.faults) old.disks new.disks) → TellsEnd served names status
+    → SeesMore first last (Sessions (service_of keeping telling given peer) status (record old { disks = disks_of before }) (record new { disks = disks_of after }))
 session_served {D} {B} {E} keeping telling catalogue given peer served names status old new first last before after is serves cause wire desk unseen unwritten tells =
     let service = service_of keeping telling catalogue peer in
     let same : service.catalogue.maps ≡ names = ap (λ (c : Catalogue). c.maps) is.catalogue_is ∙ is.names_are in
     let did = session_told service served names status old new first last same serves (err_declines service served old new cause wire desk unwritten) unseen tells in
     let Told : Catalogue → List D → List D → Type 0 =
-    λ c l l'. Grows first last (Sessions (service_of keeping telling c peer) status (record old { disks = l }) (record new { disks = l' })) in
+    λ c l l'. SeesMore first last (Sessions (service_of keeping telling c peer) status (record old { disks = l }) (record new { disks = l' })) in
     subst (Told given (disks_of before)) is.new_are (subst (λ (l : List D). Told given l new.disks) is.old_are (subst (λ (c : Catalogue). Told c old.disks new.disks) is.catalogue_is did))
 
 -- P of each disk, under their names
@@ -214,13 +219,28 @@ pub each_named : {D : Type 0} (P : D → D → Type 0) (old new : List D) (befor
 each_named {D} P old new before after is are each =
     subst (λ (l : List D). (number : ℕ) → AtDisk number (disks_of before) l P) are (subst (λ (l : List D). (number : ℕ) → AtDisk number l new P) is each)
 
-pub cause_named : {D : Type 0} (history : D → Option History) (faults : D → ℕ) (served : Result End Unserved) (old new : List D) (before after : List (NamedDisk D)) → old ≡ disks_of before → new ≡ disks_of after
-    → IfErr served (λ why. IsUnserved history faults why old new) → IfErr served (λ why. IsUnserved history faults why (disks_of before) (disks_of after))
+pub cause_named : {D : Type 0} (history : D → Option History) (faults : D → ℕ) (served : Result End OpenFault) (old new : List D) (before after : List (NamedDisk D)) → old ≡ disks_of before → new ≡ disks_of after
+    → IfErr served (λ why. IsUnopened history faults why old new) → IfErr served (λ why. IsUnopened history faults why (disks_of before) (disks_of after))
 cause_named {D} history faults served old new before after is are cause =
-    subst (λ (l : List D). IfErr served (λ why. IsUnserved history faults why (disks_of before) l)) are
-    (subst (λ (l : List D). IfErr served (λ why. IsUnserved history faults why l new)) is cause)
+    subst (λ (l : List D). IfErr served (λ why. IsUnopened history faults why (disks_of before) l)) are
+    (subst (λ (l : List D). IfErr served (λ why. IsUnopened history faults why l new)) is cause)
 
 -- what the same wire tells is the same
-pub wires_same : {X W : Type 0} (wire : X → W) (served : Result End Unserved) (old new : X) → OnErr served (new ≡ old) → OnErr served (wire new ≡ wire old)
+pub wires_same : {X W : Type 0} (wire : X → W) (served : Result End OpenFault) (old new : X) → OnErr served (new ≡ old) → OnErr served (wire new ≡ wire old)
 wires_same wire (Ok end) old new same = tt
 wires_same wire (Err why) old new same = ap wire same
+
+-- ---- the number of a map that wasn't opened
+
+pub same_count : {D : Type 0} (named : List (NamedDisk D)) (names : List MapName) (disks : List D) → disks ≡ disks_of named → map name_view names ≡ names_of named → length disks ≡ length names
+same_count {D} named names disks of_disks of_names =
+    ap length of_disks ∙ length-map named (λ (d : NamedDisk D). d.disk) ∙ sym (length-map named (λ (d : NamedDisk D). name_view d.name))
+    ∙ sym (ap length of_names) ∙ length-map names name_view
+
+pub number_within : {D : Type 0} (history : D → Option History) (faults : D → ℕ) (served : Result End OpenFault) (old new : List D) (count : ℕ) → length old ≡ count
+    → IfErr served (λ why. IsUnopened history faults why old new) → HasMapNumber served count
+number_within history faults (Ok end) old new count e cause = tt
+number_within history faults (Err opening.NoMemory) old new count e cause = tt
+number_within history faults (Err (opening.Refused number why)) old new count e cause =
+    let stopped = cause.1 in
+    omega (arith, stopped.number_is, ap length stopped.old_is, length-append stopped.front (stopped.before ∷ stopped.rest), e)

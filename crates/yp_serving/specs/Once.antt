@@ -9,7 +9,7 @@ use Rattle.yp_build.specs.Builds.{empty_draft}
 use Rattle.yp_board.specs.Catalogues.{Name}
 use Rattle.yp_board.specs.Views.{Seen}
 use Rattle.yp_answer.specs.Maps.{Maps}
-use Rattle.yp_session.specs.Wires.{Wire, Grows}
+use Rattle.yp_session.specs.Wires.{Wire, SeesMore}
 use Rattle.yp_office.specs.declared.status.Status.{Status}
 use Rattle.yp_office.specs.declared.status.Status.TheVariants.{NoMemory, Rows}
 use Rattle.yp_office.specs.Rows.{rule_of}
@@ -67,7 +67,7 @@ pub record OnceDoes {S K D C A I T : Type 0} (seen : Seeing S K D C A I T) (stor
     (status : Status) (old new : Office S K D C A I T) (before after : List Wire) : Type 0 where
   pub serves : rows_fault rows ≡ None
       → IfSome (input seen old) (λ stream. ServesInput (once_maps store rows) status stream (traffic_of seen old new))
-  pub watched : Grows before after (IsWatched (once_board store rows) status (wire seen old) (wire seen new))
+  pub watched : SeesMore before after (IsWatched (once_board store rows) status (wire seen old) (wire seen new))
   pub refused : (row rule : ℕ) → rows_fault rows ≡ Some (row, rule)
       → ((status ≡ Rows row rule) ⊎ (status ≡ NoMemory)) × (new ≡ old)
   pub complete : rows_fault rows ≡ None → Completes seen status old new

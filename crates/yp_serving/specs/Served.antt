@@ -7,6 +7,7 @@ use Rattle.yp_rpc.specs.Records.{Fragments, Cut, IsTorn, IsBegun, IsTooLong, IsL
 use Rattle.yp_msgs.specs.declared.transfer.XfrStat.TheVariants.{Rsrc}
 use Rattle.yp_board.specs.Views.{Seen}
 use Rattle.yp_answer.specs.Maps.{Maps}
+use Rattle.yp_answer.specs.Served.{AreServed, maps_on}
 use Rattle.yp_answer.specs.Numbers.{record_max}
 use Rattle.yp_session.specs.declared.session.End.{End}
 use Rattle.yp_session.specs.declared.session.End.TheVariants as ends
@@ -145,7 +146,7 @@ fixed_conduct =
     (λ taken peer old new. new ≡ record old { transfers = next_count old.transfers })
 
 -- The records of a wire were answered in turn on this board, by one session to this status, and behind each that was
--- answered, its reply flushed, the wire was one of these.
+-- answered, its reply flushed, the wire was one of these. The catalogue and all versions are within their limits.
 pub record IsAnswered (board : Seen) (status : Status) (old new : Wire) (wires : List Wire) : Type 0 where
   pub end : End
   pub told : status ≡ status_of end
@@ -153,6 +154,7 @@ pub record IsAnswered (board : Seen) (status : Status) (old new : Wire) (wires :
   pub progress : Progress
   pub runs : Runs fixed_conduct nobody CALLS_MAX end
       (dialogue_at (fixed board) old begun) (dialogue_at finish new progress) wires
+  pub served : AreServed (maps_on board.catalogue finish.board.known)
 
 -- What is seen of a wire, for each status: nothing, where nothing of it was read, and else it behind each record that
 -- was answered.

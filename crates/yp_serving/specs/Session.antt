@@ -1,6 +1,7 @@
 -- What `session` does: it serves its input as one connection over stored maps.
 use Rattle.std.specs.Prelude.{◌≡◌, ◌≢◌, ◌⊎◌, ◌<◌, ◌≤◌, ℕ, Bool, true, List, [], All, length, slice_get}
 use Rattle.std.specs.Prelude.{Option, Some, Result, Ok, Err, ⊤}
+use Rattle.std.specs.List.{AllZip}
 use Rattle.yp_io.specs.Disk.{History}
 use Rattle.yp_slot.specs.declared.fault.SlotFault.{SlotFault}
 use Rattle.yp_slot.specs.declared.fault.SlotFault.TheVariants as fault
@@ -10,18 +11,17 @@ use Rattle.yp_io.specs.declared.stream.Peer.{Peer}
 use Rattle.yp_board.specs.Catalogues.{Name, name_view}
 use Rattle.yp_board.specs.Views.{Seen}
 use Rattle.yp_board.specs.declared.catalog.MapName.{MapName}
-use Rattle.yp_publish.specs.Opens.{LeavesNoMore}
+use Rattle.yp_publish.specs.Begins.{plain_log, IsUnopened, IsUnwritten}
+use Rattle.yp_publish.specs.declared.open.OpenFault.{OpenFault}
+use Rattle.yp_publish.specs.declared.open.OpenFault.TheVariants as opening
 use Rattle.yp_session.specs.declared.session.End.{End}
 use Rattle.yp_session.specs.declared.session.End.TheVariants as ends
-use Rattle.yp_session.specs.Wires.{Wire, Grows}
+use Rattle.yp_session.specs.Wires.{Wire, SeesMore}
 use Rattle.yp_xfr.specs.HostTable.{HostList}
 use Rattle.yp_server.specs.declared.desk.Desk.{Desk}
-use Rattle.yp_server.specs.declared.connection.Unserved.{Unserved}
-use Rattle.yp_server.specs.declared.connection.Unserved.TheVariants as unserved
 use Rattle.yp_publish.specs.Keeping.{keeping_of}
 use Rattle.yp_server.specs.Locals.{telling_of}
-use Rattle.yp_server.specs.Connections.{Service, Connection, Serves, IsUnserved, AtDisk, LeavesOr}
-use Rattle.yp_server.specs.Connections.{service_of, plain_log}
+use Rattle.yp_server.specs.Connections.{Service, Connection, Serves, AtDisk, LeavesOr, service_of}
 use Rattle.yp_office.specs.Files.{Fails}
 use Rattle.yp_office.specs.declared.office.Office.{Office}
 use Rattle.yp_office.specs.Seeing.{Seeing, moment, HasCauses, DiskFails}
@@ -38,20 +38,20 @@ connection_at wire disks desk = record { wire = wire; disks = disks_of disks; de
 
 -- A connection wasn't served, for this reason: nothing was read of its wire or written to it, and nothing to its disks,
 -- and none of these wires is behind a record.
-pub record Declines {D B E : Type 0} (service : Service D B E) (why : Unserved) (old new : Connection D E)
+pub record Declines {D B E : Type 0} (service : Service D B E) (why : OpenFault) (old new : Connection D E)
     (wires : List Wire) : Type 0 where
   pub unseen : wires ≡ []
   pub wire : new.wire ≡ old.wire
   pub desk : new.desk ≡ old.desk
-  pub cause : IsUnserved service.keeping.history service.keeping.faults why old.disks new.disks
-  pub unwritten : (number : ℕ) → AtDisk number old.disks new.disks (LeavesNoMore service.keeping.history)
+  pub cause : IsUnopened service.keeping.history service.keeping.faults why old.disks new.disks
+  pub unwritten : AllZip (IsUnwritten service.keeping.history service.keeping.faults) old.disks new.disks
 
 -- The same for a map of this name, whose file wasn't loaded, the first one.
 pub record DeclinesFor {D B E : Type 0} (service : Service D B E) (map : MapName) (why : SlotFault)
     (old new : Connection D E) (wires : List Wire) : Type 0 where
   pub number : ℕ
   pub named : slice_get service.catalogue.maps number ≡ Some (name_view map)
-  pub declines : Declines service (unserved.Refused number why) old new wires
+  pub declines : Declines service (opening.Refused number why) old new wires
 
 -- What a session does, for each status: it serves its connection to that end, with these wires behind the records that
 -- it answered, or tells the map whose file it couldn't load.
@@ -64,7 +64,7 @@ Sessions service WriteFault old new wires = Serves service ends.WriteFault old n
 Sessions service Enough old new wires = Serves service ends.Enough old new wires
 Sessions service (Damaged map at rule) old new wires = DeclinesFor service map (fault.Damaged at rule) old new wires
 Sessions service (DiskFault map) old new wires = DeclinesFor service map fault.DiskFault old new wires
-Sessions service NoMemory old new wires = Declines service unserved.NoMemory old new wires
+Sessions service NoMemory old new wires = Declines service opening.NoMemory old new wires
 Sessions service _ old new wires = ⊥
 
 -- the file of a map is told, and isn't damaged
@@ -105,7 +105,7 @@ session_may_end status = serve_may_end status
 pub record SessionDoes {S K D C A I T : Type 0} (seen : Seeing S K D C A I T) (own : List ℕ) (peer : Peer)
     (stores : List Name) (hosts : HostList) (status : Status) (old new : Office S K D C A I T)
     (before after : List Wire) : Type 0 where
-  pub serves : Grows before after
+  pub serves : SeesMore before after
       (Sessions (service seen own peer stores) status (connection seen hosts old) (connection seen hosts new))
   pub bound : (number : ℕ) → AtDisk number (disks_of old.disks.items) (disks_of new.disks.items)
       (LeavesOr seen.disk.history (λ image. length image ≤ file_max))
@@ -124,12 +124,12 @@ TellsOf names number why status =
     (status ≡ NoMemory) ⊎ ((store : Name) × (slice_get names number ≡ Some store) × Fails store why status)
 
 -- How a connection ended, or why it wasn't served, is told by this status, where maps have these names.
-abbrev pub TellsEnd : Result End Unserved → List Name → Status → Type 0
+abbrev pub TellsEnd : Result End OpenFault → List Name → Status → Type 0
 TellsEnd (Ok end) names status = status ≡ status_of end
-TellsEnd (Err unserved.NoMemory) names status = status ≡ NoMemory
-TellsEnd (Err (unserved.Refused number why)) names status = TellsOf names number why status
+TellsEnd (Err opening.NoMemory) names status = status ≡ NoMemory
+TellsEnd (Err (opening.Refused number why)) names status = TellsOf names number why status
 
 -- the number of a map whose file wasn't loaded is that of one of so many
-abbrev pub HasMapNumber : Result End Unserved → ℕ → Type 0
-HasMapNumber (Err (unserved.Refused number why)) count = number < count
+abbrev pub HasMapNumber : Result End OpenFault → ℕ → Type 0
+HasMapNumber (Err (opening.Refused number why)) count = number < count
 HasMapNumber served count = ⊤

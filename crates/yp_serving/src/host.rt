@@ -1,9 +1,11 @@
 //! The host of `once`: maps that are shown, and never made or fetched.
 
-ghost use Rattle.std.specs.Prelude.{◌≡◌, None};
+ghost use Rattle.std.specs.Prelude.{◌≡◌, None, All};
 ghost use Rattle.std.proofs.Common.{ap};
 ghost use Rattle.yp_io.specs.Counts.{next_count};
 ghost use Rattle.yp_msgs.specs.declared.transfer.XfrStat.TheVariants.{Rsrc};
+ghost use Rattle.yp_version.specs.Versions.{IsVersion};
+ghost use Rattle.yp_board.specs.Catalogues.{IsCatalogue};
 ghost use Rattle.yp_serving.specs.Served.{fixed};
 
 use std::marker::Model;
@@ -33,12 +35,21 @@ impl Model for FixedHost {
 impl FixedHost {
     /// A host that shows what this board shows.
     pub fn new(board: PlainBoard) -> FixedHost
-        ensures { result ≡ fixed board }
+        ensures host { result ≡ fixed board }
+        ensures catalogue { IsCatalogue board.catalogue }
     {
+        board.rest();
         FixedHost {
             board,
             transfers: 0,
         }
+    }
+
+    /// Does nothing. Each version that was shown is within its limits.
+    pub fn rest(&self)
+        ensures { All (λ entry. IsVersion entry.1) self.now.board.known }
+    {
+        self.board.rest();
     }
 }
 

@@ -9,7 +9,7 @@ ghost use Rattle.yp_board.specs.Catalogues.{name_view};
 ghost use Rattle.yp_rpc.specs.Records.{Cut};
 ghost use Rattle.yp_answer.specs.Numbers.{record_max};
 ghost use Rattle.yp_answer.specs.Maps.{maps_of};
-ghost use Rattle.yp_session.specs.Wires.{wire_of, Grows};
+ghost use Rattle.yp_session.specs.Wires.{wire_of, SeesMore};
 ghost use Rattle.yp_words.specs.Words.{row_view};
 ghost use Rattle.yp_office.specs.Rows.{row_status};
 ghost use Rattle.yp_office.specs.Seeing.{seeing, IsPassedOn};
@@ -148,7 +148,7 @@ fn serve<S: Source, K: Sink, W: Witness<S, K>>(
 ) -> Status
     ensures served { IfSome (S.input wire.old.source) (λ stream. ServesInput (maps_of board) result stream
         (record { left = S.input wire.new.source; before = K.output wire.old.sink; after = K.output wire.new.sink })) }
-    ensures watched { Grows (W.wires witness.old) (W.wires witness.new)
+    ensures watched { SeesMore (W.wires witness.old) (W.wires witness.new)
         (IsWatched board result (wire_of S.Source K.Sink wire.old) (wire_of S.Source K.Sink wire.new)) }
     ensures complete { (stream : List ℕ) (messages : List (List ℕ)) (rest : List ℕ)
         → S.input wire.old.source ≡ Some stream → Cut record_max stream messages rest
@@ -167,7 +167,9 @@ fn serve<S: Source, K: Sink, W: Witness<S, K>>(
     match Session::new(alloc) {
         Err(NoMemory) => Status::NoMemory,
         Ok(mut session) => {
-            status_of_end(session.run(wire, &mut host, NOBODY, CALLS_MAX, witness))
+            let end = session.run(wire, &mut host, NOBODY, CALLS_MAX, witness);
+            host.rest();
+            status_of_end(end)
         }
     }
 }

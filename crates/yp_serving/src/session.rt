@@ -5,9 +5,10 @@ ghost use Rattle.yp_io.specs.Counts.{HasRisen};
 ghost use Rattle.yp_slot.specs.Stands.{file_max};
 ghost use Rattle.yp_board.specs.Catalogues.{name_view, maps_max, catalog_fault};
 ghost use Rattle.yp_publish.specs.Keeping.{keeping_of};
-ghost use Rattle.yp_session.specs.Wires.{wire_of, Grows};
+ghost use Rattle.yp_session.specs.Wires.{wire_of, SeesMore};
 ghost use Rattle.yp_server.specs.Locals.{telling_of};
-ghost use Rattle.yp_server.specs.Connections.{plain_log, service_of, AtDisk, LeavesOr};
+ghost use Rattle.yp_publish.specs.Begins.{plain_log};
+ghost use Rattle.yp_server.specs.Connections.{service_of, AtDisk, LeavesOr};
 ghost use Rattle.yp_words.specs.Words.{IsNamed, host_view};
 ghost use Rattle.yp_office.specs.Disks.{names_of, disks_of, faults_of};
 ghost use Rattle.yp_serving.specs.Session.{Sessions, TellsEnd, TellsOf, HasMapNumber, connection_at};
@@ -21,8 +22,9 @@ use std::random::RandomSource;
 use yp_board::{Catalog, CatalogFault, MapName};
 use yp_io::{Clock, Dial, Disk, Inbox, NoMemory, Pair, Peer, Sink, Source, Texts};
 use yp_office::{Apart, NamedDisk, Office, Status, put_together, status_of_file, take_apart};
+use yp_publish::OpenFault;
 use yp_rpc::laws;
-use yp_server::{Desk, Stock, Unserved, serve_wire};
+use yp_server::{Desk, Stock, serve_wire};
 use yp_session::{End, Witness};
 use yp_slot::SlotFault;
 use yp_words::HostWord;
@@ -43,7 +45,7 @@ fn status_of_map(alloc: Global, names: &[MapName], number: u32, fault: SlotFault
 }
 
 /// The status of a connection that ended, or of one that wasn't served.
-fn status_of(alloc: Global, served: Result<End, Unserved>, names: &[MapName]) -> Status
+fn status_of(alloc: Global, served: Result<End, OpenFault>, names: &[MapName]) -> Status
     requires number { HasMapNumber served (length names.now) }
     requires named { All IsNamed (map name_view names.now) }
     ensures tells { TellsEnd served (map name_view names.now) result }
@@ -52,8 +54,8 @@ fn status_of(alloc: Global, served: Result<End, Unserved>, names: &[MapName]) ->
 {
     match served {
         Ok(end) => status_of_end(end),
-        Err(Unserved::NoMemory) => Status::NoMemory,
-        Err(Unserved::Refused { map, fault }) => status_of_map(alloc, names, map, fault),
+        Err(OpenFault::NoMemory) => Status::NoMemory,
+        Err(OpenFault::Refused { map, fault }) => status_of_map(alloc, names, map, fault),
     }
 }
 
@@ -75,7 +77,7 @@ fn session_on<S: Source, K: Sink, D: Disk, A: Dial, T: Texts, C: Clock, W: Witne
     requires named { All IsNamed (map name_view stores.items) }
     requires count { length (map name_view stores.items) ≤ maps_max }
     requires disks { names_of disks.old.items ≡ map name_view stores.items }
-    ensures sessions { Grows (W.wires witness.old) (W.wires witness.new) (Sessions
+    ensures sessions { SeesMore (W.wires witness.old) (W.wires witness.new) (Sessions
         (service_of (keeping_of D.history D.faults plain_log)
         (telling_of T.Texts C.Clock A.past A.letters A.faults)
         (record { own = own.items; maps = map name_view stores.items }) peer) result.0

@@ -17,7 +17,7 @@ use Rattle.yp_session.specs.Progress.{Progress, begun}
 use Rattle.yp_session.specs.Wires.{SinkTells, Wire, NeverFalls}
 use Rattle.yp_session.specs.Hosts.{Counts, Conduct, Turn, CarriesWhere, Carries, Link, counts_after, counts_where, counts_behind, counts_over}
 use Rattle.yp_session.proofs.Logging.{chain_logs, ends_logs}
-use Rattle.yp_session.specs.Runs.{Dialogue, IsFlushed, Answers, IsIdle, Does, Chain, Ends, unsent, Runs}
+use Rattle.yp_session.specs.Runs.{Dialogue, IsFlushed, AnswersRecord, IsIdle, DoesStep, Chain, Ends, unsent, Runs}
 
 module _ {H : Type 0} (conduct : Conduct H) (peer : Peer) where
   -- ---- what is counted
@@ -72,9 +72,9 @@ module _ {H : Type 0} (conduct : Conduct H) (peer : Peer) where
 
   -- ---- one record more
 
-  Chain-more : (answered : List (Turn × Dialogue H)) (turn : Turn) (old mid new : Dialogue H) → Chain conduct peer answered old mid → Answers conduct peer true turn mid new
+  Chain-more : (answered : List (Turn × Dialogue H)) (turn : Turn) (old mid new : Dialogue H) → Chain conduct peer answered old mid → AnswersRecord conduct peer true turn mid new
       → Chain conduct peer (answered ++ (turn, new) ∷ []) old new
-  Chain-more [] turn old mid new before one = (let P : Dialogue H → Type 0 = λ d. Answers conduct peer true turn d new in subst P before one, refl)
+  Chain-more [] turn old mid new before one = (let P : Dialogue H → Type 0 = λ d. AnswersRecord conduct peer true turn d new in subst P before one, refl)
   Chain-more (first ∷ answered) turn old mid new before one = (before.0, Chain-more answered turn first.1 mid new before.1 one)
 
   -- so many records were read and answered, and a witness saw the wire behind each
@@ -87,7 +87,7 @@ module _ {H : Type 0} (conduct : Conduct H) (peer : Peer) where
   pub SoFar-none : (dialogue : Dialogue H) (wires : List Wire) → SoFar 0 dialogue dialogue wires wires
   SoFar-none dialogue wires = record { answered = []; chain = refl; long = refl; watched = sym (append-nil wires) }
 
-  pub SoFar-more : (count : ℕ) (old mid new : Dialogue H) (before then after : List Wire) → SoFar count old mid before then → Does conduct peer Answered mid new
+  pub SoFar-more : (count : ℕ) (old mid new : Dialogue H) (before then after : List Wire) → SoFar count old mid before then → DoesStep conduct peer Answered mid new
       → after ≡ then ++ new.wire ∷ [] → SoFar (count + 1) old new before after
   SoFar-more count old mid new before then after so_far step seen = record {
     answered = so_far.answered ++ (step.0, new) ∷ [];
@@ -100,7 +100,7 @@ module _ {H : Type 0} (conduct : Conduct H) (peer : Peer) where
 
   -- ---- the end
 
-  pub ends_by : (most count : ℕ) (end : End) (last new : Dialogue H) → count < most → Does conduct peer (Ended end) last new → Ends conduct peer most count end last new
+  pub ends_by : (most count : ℕ) (end : End) (last new : Dialogue H) → count < most → DoesStep conduct peer (Ended end) last new → Ends conduct peer most count end last new
   ends_by most count Clean last new few does = (few, does)
   ends_by most count (Torn at) last new few does = (few, does)
   ends_by most count (TooLong at) last new few does = (few, does)
@@ -145,16 +145,16 @@ flushed_on None old new same was = let P : Bool → Type 0 = λ b. IsTrue b in s
 flushed_on (Some message) old new is was = is
 
 module _ {H : Type 0} (conduct : Conduct H) (peer : Peer) (old new : Dialogue H) where
-  pub answered_flushed : Does conduct peer Answered old new → IsTrue old.wire.sink.flushed → IsTrue new.wire.sink.flushed
+  pub answered_flushed : DoesStep conduct peer Answered old new → IsTrue old.wire.sink.flushed → IsTrue new.wire.sink.flushed
   answered_flushed does was = flushed_on does.0.answer old.wire.sink.flushed new.wire.sink.flushed does.1.replied.sends.1 was
 
-  pub answered_falls : Does conduct peer Answered old new → NeverFalls old.wire new.wire
+  pub answered_falls : DoesStep conduct peer Answered old new → NeverFalls old.wire new.wire
   answered_falls does = does.1.never_falls
 
   idle_flushed : IsIdle old new → IsTrue old.wire.sink.flushed → IsTrue new.wire.sink.flushed
   idle_flushed idle was = let P : SinkTells → Type 0 = λ sink. IsTrue sink.flushed in subst P (sym idle.sink) was
 
-  pub ended_flushed : (end : End) → Does conduct peer (Ended end) old new → (end ≡ WriteFault → ⊥) → IsTrue old.wire.sink.flushed → IsTrue new.wire.sink.flushed
+  pub ended_flushed : (end : End) → DoesStep conduct peer (Ended end) old new → (end ≡ WriteFault → ⊥) → IsTrue old.wire.sink.flushed → IsTrue new.wire.sink.flushed
   ended_flushed Clean does other was = idle_flushed does.1 was
   ended_flushed (Torn at) does other was = idle_flushed does.1 was
   ended_flushed (TooLong at) does other was = idle_flushed does.1 was
@@ -162,7 +162,7 @@ module _ {H : Type 0} (conduct : Conduct H) (peer : Peer) (old new : Dialogue H)
   ended_flushed WriteFault does other was = absurd (other refl)
   ended_flushed Enough does other was = absurd does
 
-  pub ended_falls : (end : End) → Does conduct peer (Ended end) old new → NeverFalls old.wire new.wire
+  pub ended_falls : (end : End) → DoesStep conduct peer (Ended end) old new → NeverFalls old.wire new.wire
   ended_falls Clean does = does.1.never_falls
   ended_falls (Torn at) does = does.1.never_falls
   ended_falls (TooLong at) does = does.1.never_falls
@@ -171,12 +171,12 @@ module _ {H : Type 0} (conduct : Conduct H) (peer : Peer) (old new : Dialogue H)
   ended_falls Enough does = absurd does
 
 module _ {H : Type 0} (conduct : Conduct H) (peer : Peer) (first : Wire) (last new : Dialogue H) (so_far : NeverFalls first last.wire) where
-  pub read_fault : (end : End) → end ≡ ReadFault → Does conduct peer (Ended end) last new → HasRisen first.source.faults new.wire.source.faults
+  pub read_fault : (end : End) → end ≡ ReadFault → DoesStep conduct peer (Ended end) last new → HasRisen first.source.faults new.wire.source.faults
   read_fault end is does =
-      let here : Does conduct peer (Ended ReadFault) last new = let P : End → Type 0 = λ e. Does conduct peer (Ended e) last new in subst P is does in
+      let here : DoesStep conduct peer (Ended ReadFault) last new = let P : End → Type 0 = λ e. DoesStep conduct peer (Ended e) last new in subst P is does in
       omega (arith, so_far.reads, here.0.0)
 
-  pub write_fault : (end : End) → end ≡ WriteFault → Does conduct peer (Ended end) last new → HasRisen first.sink.faults new.wire.sink.faults
+  pub write_fault : (end : End) → end ≡ WriteFault → DoesStep conduct peer (Ended end) last new → HasRisen first.sink.faults new.wire.sink.faults
   write_fault end is does =
-      let here : Does conduct peer (Ended WriteFault) last new = let P : End → Type 0 = λ e. Does conduct peer (Ended e) last new in subst P is does in
+      let here : DoesStep conduct peer (Ended WriteFault) last new = let P : End → Type 0 = λ e. DoesStep conduct peer (Ended e) last new in subst P is does in
       omega (arith, so_far.writes, here.1.replied.sends.1)

@@ -38,10 +38,10 @@ IsFlushed None old new = new ≡ old
 IsFlushed (Some message) old new = IsTrue new
 
 -- The whole reply went out and was flushed; or a front of it went out, and the sink failed.
-abbrev pub Sends : Bool → Option (List ℕ) → SinkTells → SinkTells → Type 0
-Sends true answer old new =
+abbrev pub SendsReply : Bool → Option (List ℕ) → SinkTells → SinkTells → Type 0
+SendsReply true answer old new =
     Appends old.output new.output (sent_reply answer) × IsFlushed answer old.flushed new.flushed
-Sends false answer old new =
+SendsReply false answer old new =
     ((n : ℕ) × Appends old.output new.output (take n (sent_reply answer))) × HasRisen old.faults new.faults
 
 -- No record was read, and nothing but the source changed.
@@ -65,38 +65,38 @@ end_of faults.ReadFault = ReadFault
 
 module _ {H : Type 0} (conduct : Conduct H) (peer : Peer) where
   -- A record got its link, and its whole reply was flushed, or wasn't.
-  pub record Replies (flushed : Bool) (turn : Turn) (old new : H) (before after : SinkTells) : Type 0 where
+  pub record RepliesTo (flushed : Bool) (turn : Turn) (old new : H) (before after : SinkTells) : Type 0 where
     pub link : Link conduct Stream peer turn old new
     pub flush : turn.flushed ≡ flushed
-    pub sends : Sends flushed turn.answer before after
+    pub sends : SendsReply flushed turn.answer before after
 
   -- A record was read and got its reply.
-  pub record Answers (flushed : Bool) (turn : Turn) (old new : Dialogue H) : Type 0 where
+  pub record AnswersRecord (flushed : Bool) (turn : Turn) (old new : Dialogue H) : Type 0 where
     pub taken : TakesRecord record_max turn.message old.wire.source.input new.wire.source.input
         old.progress.place new.progress.place
     pub calls : new.progress.calls ≡ next_count old.progress.calls
-    pub replied : Replies flushed turn old.host new.host old.wire.sink new.wire.sink
+    pub replied : RepliesTo flushed turn old.host new.host old.wire.sink new.wire.sink
     pub never_falls : NeverFalls old.wire new.wire
 
   -- What a step does: it answers a record, or ends before one, or in a reply that the output didn't take whole.
-  abbrev pub Does : Step → Dialogue H → Dialogue H → Type 0
-  Does Answered old new = (turn : Turn) × Answers true turn old new
-  Does (Ended WriteFault) old new = (turn : Turn) × Answers false turn old new
-  Does (Ended Clean) old new = IsEmpty old.wire.source.input new.wire.source.input × IsIdle old new
-  Does (Ended (Torn at)) old new = Lacks (faults.Torn at) old new
-  Does (Ended (TooLong at)) old new = Lacks (faults.TooLong at) old new
-  Does (Ended ReadFault) old new = Lacks faults.ReadFault old new
-  Does (Ended Enough) old new = ⊥
+  abbrev pub DoesStep : Step → Dialogue H → Dialogue H → Type 0
+  DoesStep Answered old new = (turn : Turn) × AnswersRecord true turn old new
+  DoesStep (Ended WriteFault) old new = (turn : Turn) × AnswersRecord false turn old new
+  DoesStep (Ended Clean) old new = IsEmpty old.wire.source.input new.wire.source.input × IsIdle old new
+  DoesStep (Ended (Torn at)) old new = Lacks (faults.Torn at) old new
+  DoesStep (Ended (TooLong at)) old new = Lacks (faults.TooLong at) old new
+  DoesStep (Ended ReadFault) old new = Lacks faults.ReadFault old new
+  DoesStep (Ended Enough) old new = ⊥
 
   -- Records were answered one after the other: what came of each, and the dialogue behind it.
   abbrev pub Chain : List (Turn × Dialogue H) → Dialogue H → Dialogue H → Type 0
   Chain [] old new = new ≡ old
-  Chain (one ∷ later) old new = Answers true one.0 old one.1 × Chain later one.1 new
+  Chain (one ∷ later) old new = AnswersRecord true one.0 old one.1 × Chain later one.1 new
 
   -- what ends a run of at most so many records behind so many: a step, or nothing behind the most
   abbrev pub Ends : ℕ → ℕ → End → Dialogue H → Dialogue H → Type 0
   Ends most count Enough old new = (count ≡ most) × (new ≡ old)
-  Ends most count end old new = (count < most) × Does (Ended end) old new
+  Ends most count end old new = (count < most) × DoesStep (Ended end) old new
 
   -- what came of a record whose reply didn't go out whole
   abbrev pub unsent : (most count : ℕ) (end : End) (old new : Dialogue H) → Ends most count end old new → List Turn

@@ -34,7 +34,7 @@ pub record NeverFalls (old new : Wire) : Type 0 where
   pub writes : old.sink.faults ≤ new.sink.faults
 
 -- A list of wires got longer, by wires with P.
-pub record Grows (old new : List Wire) (P : List Wire → Type 0) : Type 0 where
+pub record SeesMore (old new : List Wire) (P : List Wire → Type 0) : Type 0 where
   pub more : List Wire
   pub behind : new ≡ old ++ more
   pub done : P more

@@ -5,10 +5,10 @@ ghost use Rattle.yp_io.specs.Counts.{CountsFaults, HasRisen};
 ghost use Rattle.yp_msgs.specs.declared.transfer.XfrStat.{XfrStat};
 ghost use Rattle.yp_answer.specs.Numbers.{record_max};
 ghost use Rattle.yp_answer.specs.Reply.{make_reply};
-ghost use Rattle.yp_session.specs.Wires.{NeverFalls, Grows, sink_of, wire_of};
+ghost use Rattle.yp_session.specs.Wires.{NeverFalls, SeesMore, sink_of, wire_of};
 ghost use Rattle.yp_session.specs.Progress.{begun};
 ghost use Rattle.yp_session.specs.Hosts.{Turn, conduct_of, Fulfils};
-ghost use Rattle.yp_session.specs.Runs.{dialogue_at, Replies, Does, Runs};
+ghost use Rattle.yp_session.specs.Runs.{dialogue_at, RepliesTo, DoesStep, Runs};
 
 use crate::host::Host;
 use crate::send::send_stream;
@@ -113,7 +113,7 @@ impl Session {
         witness: &mut W,
     ) -> End
         requires { most ≤ CALLS_MAX }
-        ensures runs { Grows (W.wires witness.old) (W.wires witness.new)
+        ensures runs { SeesMore (W.wires witness.old) (W.wires witness.new)
             (Runs (conduct_of H.seen H.told H.counts H.stepped H.made H.carried) peer most result
             (dialogue_at host.old (wire_of S.Source K.Sink wire.old) begun)
             (dialogue_at host.new (wire_of S.Source K.Sink wire.new) self.new)) }
@@ -140,7 +140,7 @@ impl Session {
         host: &mut H,
         peer: Peer,
     ) -> Step
-        ensures { Does (conduct_of H.seen H.told H.counts H.stepped H.made H.carried) peer result
+        ensures { DoesStep (conduct_of H.seen H.told H.counts H.stepped H.made H.carried) peer result
             (dialogue_at host.old (wire_of S.Source K.Sink wire.old) self.old)
             (dialogue_at host.new (wire_of S.Source K.Sink wire.new) self.new) }
     {
@@ -177,10 +177,10 @@ fn reply_to<K: Sink, H: Host>(
     requires idle { writer.old ≡ [] }
     requires room { record_max ≤ length buf.old }
     ensures sent { OnOk result ((turn : Turn) × (turn.message ≡ message.now)
-        × Replies (conduct_of H.seen H.told H.counts H.stepped H.made H.carried) peer true turn host.old host.new
+        × RepliesTo (conduct_of H.seen H.told H.counts H.stepped H.made H.carried) peer true turn host.old host.new
         (sink_of K.Sink sink.old) (sink_of K.Sink sink.new)) }
     ensures unsent { OnErr result ((turn : Turn) × (turn.message ≡ message.now)
-        × Replies (conduct_of H.seen H.told H.counts H.stepped H.made H.carried) peer false turn host.old host.new
+        × RepliesTo (conduct_of H.seen H.told H.counts H.stepped H.made H.carried) peer false turn host.old host.new
         (sink_of K.Sink sink.old) (sink_of K.Sink sink.new)) }
     ensures idle { writer.new ≡ [] }
     ensures cause { CountsFaults (K.faults sink.old) (K.faults sink.new) result }

@@ -11,13 +11,14 @@ use Rattle.yp_version.specs.Versions.{MapVersion, IsVersion, unmarked}
 use Rattle.yp_version.specs.Laws.{RisingStays}
 use Rattle.yp_board.specs.Catalogues.{is_name}
 use Rattle.yp_answer.specs.Maps.{Maps, map_check, row_check}
+use Rattle.yp_answer.specs.Served.{AreServed}
 use Rattle.yp_client.specs.declared.fault.ClientFault.{ClientFault}
 use Rattle.yp_client.specs.Limits.{reply_max, all_max}
 use Rattle.yp_client.specs.Asked.{order_call, master_call, all_call}
 use Rattle.yp_client.specs.Results.{order_of, master_of}
 use Rattle.yp_client.specs.All.{AllSaid, all_said}
 use Rattle.yp_exchange.specs.Told.{told, of_version, order_in, master_in, all_told}
-use Rattle.yp_exchange.specs.Served.{AreServed, ReplyTells}
+use Rattle.yp_exchange.specs.Served.{ReplyTells}
 use Rattle.yp_exchange.specs.Laws.{OrderTells, MasterTells, AllTells, RoomForVersion}
 use Rattle.yp_xfr.specs.declared.fault.XfrFault.TheVariants.{Skew, Dbm, Badargs}
 use Rattle.yp_xfr.specs.Fetching.{Wanted, Outcome, InMemory, Gives, AsksAgain, AsksRows, AsksMaster}

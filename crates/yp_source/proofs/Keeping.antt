@@ -18,15 +18,15 @@ use Rattle.yp_board.specs.Catalogues.{Catalogue}
 use Rattle.yp_board.specs.Logs.{Log, shown}
 use Rattle.yp_board.specs.Views.{IsFront}
 use Rattle.yp_answer.specs.Maps.{Maps, map_check, row_check}
+use Rattle.yp_answer.specs.Served.{AreServed, maps_on}
 use Rattle.yp_client.specs.declared.fault.ClientFault.{ClientFault}
 use Rattle.yp_client.specs.Limits.{reply_max, all_max}
 use Rattle.yp_client.specs.Asked.{order_call, master_call, all_call}
 use Rattle.yp_client.specs.Results.{order_of, master_of, results_of}
 use Rattle.yp_client.specs.All.{AllSaid, ItemRead, by_item, by_refusal, filled, filled_by, all_said, all_item_at}
 use Rattle.yp_exchange.specs.Told.{told, of_version, order_in, master_in, all_told}
-use Rattle.yp_exchange.specs.Served.{AreServed, HasRoom}
+use Rattle.yp_exchange.specs.Served.{HasRoom}
 use Rattle.yp_exchange.specs.Answered.{GivesReply}
-use Rattle.yp_exchange.specs.Runs.{maps_on}
 use Rattle.yp_xfr.specs.Fetching.{Wanted, Outcome, InMemory, Gives, AsksRows, AsksMaster}
 use Rattle.yp_xfr.specs.Fetching.{against_names, against_order, against_master, against_second, begun}
 use Rattle.yp_xfr.specs.Fetched.{Place, place_of, Reads, draft_of, rows_of, by_bytes, Fetched}

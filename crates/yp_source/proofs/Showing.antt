@@ -11,8 +11,7 @@ use Rattle.yp_board.specs.Logs.{Log, shown}
 use Rattle.yp_board.specs.Views.{IsFront}
 use Rattle.yp_board.specs.Catalogues.{Catalogue, find, serves}
 use Rattle.yp_answer.specs.Maps.{Maps, version_of, map_check, guarded, row_check}
-use Rattle.yp_exchange.specs.Served.{AreServed}
-use Rattle.yp_exchange.specs.Runs.{maps_on}
+use Rattle.yp_answer.specs.Served.{AreServed, maps_on}
 
 shown_from : (map : ℕ) (so_far : Option MapVersion) (log : Log) → IfSome so_far IsVersion
     → All (λ entry. IsVersion entry.1) log

@@ -10,13 +10,14 @@ use Rattle.yp_board.specs.Views.{IsFront}
 use Rattle.yp_answer.specs.declared.procedure.Path.TheVariants.{Stream}
 use Rattle.yp_answer.specs.Maps.{Maps, row_check}
 use Rattle.yp_answer.specs.Reply.{Bytes, reply}
+use Rattle.yp_answer.specs.Served.{maps_on}
 use Rattle.yp_client.specs.Limits.{reply_max, all_max}
 use Rattle.yp_client.specs.Asked.{order_call, master_call, all_call}
 use Rattle.yp_exchange.specs.Served.{ReplyTells}
 use Rattle.yp_exchange.specs.Laws.{OrderTells, MasterTells, AllTells, RoomForVersion}
 use Rattle.yp_exchange.specs.SentLaws.{SentIsWhole}
 use Rattle.yp_exchange.specs.Answered.{GivesReply}
-use Rattle.yp_exchange.specs.Runs.{maps_on, sent_all}
+use Rattle.yp_exchange.specs.Runs.{sent_all}
 use Rattle.yp_xfr.specs.Fetching.{begun}
 use Rattle.yp_source.specs.Replies.{next_xid, GivesSecond, GivesAll, GivesMaster}
 use Rattle.yp_source.specs.Laws.{Fronts, moments_on}

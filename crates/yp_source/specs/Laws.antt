@@ -8,11 +8,10 @@ use Rattle.yp_board.specs.Catalogues.{Catalogue}
 use Rattle.yp_board.specs.Logs.{Log}
 use Rattle.yp_board.specs.Views.{IsFront}
 use Rattle.yp_publish.specs.Rising.{IsRisingLog}
-use Rattle.yp_exchange.specs.Served.{AreServed}
-use Rattle.yp_exchange.specs.Runs.{maps_on}
 use Rattle.yp_xfr.specs.Fetching.{Wanted, Outcome, against_order}
 use Rattle.yp_xfr.specs.Fetched.{place_of, Fetched}
 use Rattle.yp_source.specs.Replies.{Moments, AtEach, GivesFetch, unsecured, IsShown}
+use Rattle.yp_answer.specs.Served.{AreServed, maps_on}
 
 -- four fronts of one log that rises, each of which begins the next
 pub record Fronts : Type 0 where

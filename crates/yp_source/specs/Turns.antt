@@ -7,10 +7,10 @@ use Rattle.yp_board.specs.Catalogues.{Catalogue}
 use Rattle.yp_board.specs.Logs.{Log}
 use Rattle.yp_publish.specs.Rising.{IsRisingLog}
 use Rattle.yp_client.specs.Asked.{order_call, master_call, all_call}
-use Rattle.yp_exchange.specs.Served.{AreServed}
-use Rattle.yp_exchange.specs.Runs.{maps_on, RepliesInTurn, sent_all}
+use Rattle.yp_exchange.specs.Runs.{RepliesInTurn, sent_all}
 use Rattle.yp_source.specs.Replies.{next_xid, GivesFetch}
 use Rattle.yp_source.specs.Laws.{Fronts, moments_on}
+use Rattle.yp_answer.specs.Served.{AreServed, maps_on}
 
 -- ORDER, MASTER, ALL and ORDER, numbered from xid on
 abbrev pub fetch_calls : List ℕ → List ℕ → ℕ → List (List ℕ)

@@ -26,7 +26,7 @@ use Rattle.yp_storing.specs.declared.build.Stop.TheVariants as stop
 use Rattle.yp_io.specs.declared.whole.Unread.{Unread}
 use Rattle.yp_io.specs.declared.whole.Unread.TheVariants as unread
 use Rattle.yp_io.specs.Streams.{IsStopped}
-use Rattle.yp_storing.specs.Build.{Job, Site, site_of, Refusal, IsLong, planned, over, Builds, BuildsOn, JobDoes, AtSite, IsEnd, TellsLine, IsStatusOfStop, fault_status, unread_status, tells_stored, may_have_written, is_early, IsStored, IsBeforeOrPlanned, LeavesFew, build_line}
+use Rattle.yp_storing.specs.Build.{Job, Site, site_of, Unplanned, IsLong, planned, over, Builds, BuildsOn, JobDoes, AtSite, IsEnd, TellsLine, IsStatusOfStop, fault_status, unread_status, tells_stored, may_have_written, is_early, IsStored, IsBeforeOrPlanned, LeavesFew, build_line}
 use Rattle.yp_storing.proofs.Telling.{at_site, at_more, end_told, built_whole}
 
 -- ---- a status by what stopped the build
@@ -177,7 +177,7 @@ build_does seen job store text now result status old new did =
 
 -- ---- where the text wasn't read
 
-long_plan : (job : Job) (site : Site) (rest : Result MapVersion Refusal) (long : Bool) → long ≡ true → cond long (Err IsLong) rest ≡ Err IsLong
+long_plan : (job : Job) (site : Site) (rest : Result MapVersion Unplanned) (long : Bool) → long ≡ true → cond long (Err IsLong) rest ≡ Err IsLong
 long_plan job site rest true e = refl
 long_plan job site rest false e = absurd cc
 

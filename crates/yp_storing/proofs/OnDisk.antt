@@ -24,7 +24,7 @@ use Rattle.yp_office.specs.Disks.{only_history, total_faults}
 use Rattle.yp_storing.specs.declared.build.Built.{Built}
 use Rattle.yp_storing.specs.declared.build.Stop.{Stop}
 use Rattle.yp_storing.specs.declared.build.Stop.TheVariants as stop
-use Rattle.yp_storing.specs.Build.{Job, site_of, Refusal, IsLong, IsDamaged, stop_of_open, over, offered, with_generation, planned, plan_of, is_early, Stops, IsBuilt, IsPlanned, IsShownOrPlanned, IsBeforeOrPlanned, IsStored, LeavesFew, BuildsOn}
+use Rattle.yp_storing.specs.Build.{Job, site_of, Unplanned, IsLong, IsDamaged, stop_of_open, over, offered, with_generation, planned, plan_of, is_early, Stops, IsBuilt, IsPlanned, IsShownOrPlanned, IsBeforeOrPlanned, IsStored, LeavesFew, BuildsOn}
 
 -- ---- options and results
 
@@ -46,7 +46,7 @@ over_is : (job : Job) (text : List ℕ) (now generation : ℕ) (version : Option
 over_is job text now generation None = refl
 over_is job text now generation (Some last) = refl
 
-short : (text : List ℕ) (job : Job) (plan : Result MapVersion Refusal) (long : Bool) → long ≡ false → cond long (Err IsLong) plan ≡ plan
+short : (text : List ℕ) (job : Job) (plan : Result MapVersion Unplanned) (long : Bool) → long ≡ false → cond long (Err IsLong) plan ≡ plan
 short text job plan true e = absurd cc
 short text job plan false e = refl
 
@@ -60,7 +60,7 @@ planned_is job text now kept h few stood numbers =
     ∙ ap (λ (n : ℕ). with_generation n (offered job text now kept.version)) (sym numbers))
 
 -- where the history is told, the plan is that of the file
-told_plan : {D : Type 0} (history : Option History) (job : Job) (text : List ℕ) (now : ℕ) (kept : Kept D) (P : History → Result MapVersion Refusal → Type 0) → length text ≤ text_max
+told_plan : {D : Type 0} (history : Option History) (job : Job) (text : List ℕ) (now : ℕ) (kept : Kept D) (P : History → Result MapVersion Unplanned → Type 0) → length text ≤ text_max
     → IfSome history (λ h. stands h.state.reads ≡ stands_for kept.version) → IfSome history (λ h. kept.generation ≡ generation_of (winning h.state.reads))
     → ((h : History) → stands h.state.reads ≡ stands_for kept.version → kept.generation ≡ generation_of (winning h.state.reads) → P h (plan_of job text now kept))
     → IfSome history (λ h. P h (planned job (site_of text now h)))
@@ -95,7 +95,7 @@ pub record Renews {D : Type 0} (history : D → Option History) (faults : D → 
 
 module _ {D : Type 0} (history : D → Option History) (faults : D → ℕ) (job : Job) (text : List ℕ) (now : ℕ) (short : length text ≤ text_max) (result : Result Built Stop) where
   module _ (disk : D) (before after : Kept D) (opened : IsOpened history faults disk before) (did : Renews history faults job text now result (before ∷ []) (after ∷ [])) where
-    by_plan : (P : History → Result MapVersion Refusal → Type 0) → ((h : History) → stands h.state.reads ≡ stands_for before.version → before.generation ≡ generation_of (winning h.state.reads) → P h (plan_of job text now before))
+    by_plan : (P : History → Result MapVersion Unplanned → Type 0) → ((h : History) → stands h.state.reads ≡ stands_for before.version → before.generation ≡ generation_of (winning h.state.reads) → P h (plan_of job text now before))
         → IfSome (history disk) (λ h. P h (planned job (site_of text now h)))
     by_plan P f = told_plan (history disk) job text now before P short opened.stood.version opened.stood.generation f
 

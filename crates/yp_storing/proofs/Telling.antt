@@ -17,7 +17,7 @@ use Rattle.yp_storing.specs.declared.build.Stop.TheVariants as stop
 use Rattle.yp_office.specs.declared.status.Status.{Status}
 use Rattle.yp_office.specs.declared.status.Status.TheVariants.{Done, Usage, ReadFault, WriteFault, Torn, TooLong, NoMemory, Damaged, NoVersion, DiskFault, Rows, OrderSpent, Refused, GenerationsSpent, Enough}
 use Rattle.yp_build.specs.After.{HasFault}
-use Rattle.yp_storing.specs.Build.{Job, Site, site_of, Refusal, Hinders, build_line, planned, Stops, IsBuilt, Builds, fault_status, IsStatusOfStop, TellsLine, IsEnd}
+use Rattle.yp_storing.specs.Build.{Job, Site, site_of, Unplanned, Hinders, build_line, planned, Stops, IsBuilt, Builds, fault_status, IsStatusOfStop, TellsLine, IsEnd}
 
 -- a text that was read to the end is the whole input
 pub whole_text : (input left : Option (List ℕ)) (text : List ℕ) → Consumes input left text → IsAtEnd left → IfSome input (λ bytes. bytes ≡ text)

@@ -72,29 +72,29 @@ site_of text now h = record { text = text; file = h.state.reads; now = now }
 
 -- why nothing is stored: the text is over its limit; the file breaks a rule; none is built behind the version that
 -- stands; the file has the last generation
-pub data Refusal : Type 0 where
-  IsLong : Refusal
-  IsDamaged : (at rule : ℕ) → Refusal
-  Hinders : Hindrance → Refusal
-  IsSpent : Refusal
+pub data Unplanned : Type 0 where
+  IsLong : Unplanned
+  IsDamaged : (at rule : ℕ) → Unplanned
+  Hinders : Hindrance → Unplanned
+  IsSpent : Unplanned
 
 -- the version that a text makes behind the one that stands
 abbrev pub offered : Job → List ℕ → ℕ → Option MapVersion → Result MapVersion Hindrance
 offered job text now standing = built_after (basis_of job.kind job.name job.flag standing) (material_of text now)
 
 -- a version needs a further generation of its file
-abbrev pub with_generation : ℕ → Result MapVersion Hindrance → Result MapVersion Refusal
+abbrev pub with_generation : ℕ → Result MapVersion Hindrance → Result MapVersion Unplanned
 with_generation generation (Ok version) = if generation == generation_max then Err IsSpent else Ok version
 with_generation generation (Err why) = Err (Hinders why)
 
 -- by what the file stands for
-abbrev pub over : Job → List ℕ → ℕ → ℕ → Stands → Result MapVersion Refusal
+abbrev pub over : Job → List ℕ → ℕ → ℕ → Stands → Result MapVersion Unplanned
 over job text now generation Nothing = with_generation generation (offered job text now None)
 over job text now generation (Stored last) = with_generation generation (offered job text now (Some last))
 over job text now generation (stood.Damaged at rule) = Err (IsDamaged at rule)
 
 -- the version that is to be stored, or the first reason why none is
-abbrev pub planned : Job → Site → Result MapVersion Refusal
+abbrev pub planned : Job → Site → Result MapVersion Unplanned
 planned job site =
     if nat_lt text_max (length site.text) then Err IsLong
     else over job site.text site.now (generation_of (winning site.file)) (stands site.file)
@@ -111,7 +111,7 @@ last_view last = option_map (λ version. version.now) last
 -- ---- what stops a build once the text was read
 
 -- the plan refuses so, or the disk failed or memory ran out
-abbrev pub Stops : Result MapVersion Refusal → Stop → Type 0
+abbrev pub Stops : Result MapVersion Unplanned → Stop → Type 0
 Stops plan (stop.Damaged at rule) = plan ≡ Err (IsDamaged at rule)
 Stops plan (stop.Master master) = plan ≡ Err (Hinders (HasOther master.items))
 Stops plan (stop.Fault fault) = plan ≡ Err (Hinders (HasFault fault))
@@ -145,7 +145,7 @@ is_early stop.Disk = false
 is_early stop.NoMemory = false
 
 -- this is what was stored, as it is planned, behind this generation
-pub record IsBuilt (plan : Result MapVersion Refusal) (generation : ℕ) (made : Built) : Type 0 where
+pub record IsBuilt (plan : Result MapVersion Unplanned) (generation : ℕ) (made : Built) : Type 0 where
   pub version : MapVersion
   pub planned : plan ≡ Ok version
   pub order : made.order ≡ version.order
@@ -153,7 +153,7 @@ pub record IsBuilt (plan : Result MapVersion Refusal) (generation : ℕ) (made :
   pub numbered : made.generation ≡ generation + 1
 
 -- these bytes stand for the version that is planned
-abbrev pub IsPlanned : Result MapVersion Refusal → List ℕ → Type 0
+abbrev pub IsPlanned : Result MapVersion Unplanned → List ℕ → Type 0
 IsPlanned plan image = (version : MapVersion) × (plan ≡ Ok version) × (stands image ≡ Stored version)
 
 -- ---- what is told
@@ -168,13 +168,14 @@ abbrev pub line_of : Job → Site → MapVersion → List ℕ
 line_of job site version =
     build_line job.store version.order (length version.rows) (generation_of (winning site.file) + 1)
 
--- the row and the rule that the fault of a build tells
-abbrev pub row_of : BuildFault → Option (ℕ × ℕ)
-row_of (fault.KeyLong line) = Some (line, key_rule)
-row_of (fault.ValueLong line) = Some (line, value_rule)
-row_of (fault.TooManyRows line) = Some (line, rows_rule)
-row_of (fault.TooBig line) = Some (line, bytes_rule)
-row_of _ = None
+-- the status of a text that makes no version
+abbrev pub fault_status : BuildFault → Status
+fault_status fault.OrderSpent = OrderSpent
+fault_status fault.NoMemory = NoMemory
+fault_status (fault.KeyLong line) = Rows line key_rule
+fault_status (fault.ValueLong line) = Rows line value_rule
+fault_status (fault.TooManyRows line) = Rows line rows_rule
+fault_status (fault.TooBig line) = Rows line bytes_rule
 
 -- What comes of a build, for each status, and what the output took. Each refusal comes exactly where it is planned.
 abbrev pub Builds : Job → Site → Status → Option (List ℕ) → Option (List ℕ) → Type 0
@@ -191,7 +192,7 @@ Builds job site (Refused master) before after =
 Builds job site OrderSpent before after =
     (planned job site ≡ Err (Hinders (HasFault fault.OrderSpent))) × (after ≡ before)
 Builds job site (Rows row rule) before after =
-    (why : BuildFault) × (planned job site ≡ Err (Hinders (HasFault why))) × (row_of why ≡ Some (row, rule))
+    (why : BuildFault) × (planned job site ≡ Err (Hinders (HasFault why))) × (fault_status why ≡ Rows row rule)
     × (after ≡ before)
 Builds job site (GenerationsSpent map) before after =
     (planned job site ≡ Err IsSpent) × (name_view map ≡ job.store) × (after ≡ before)
@@ -207,15 +208,6 @@ abbrev pub unread_status : Unread → Status
 unread_status unread.Failed = ReadFault
 unread_status unread.TooLong = TooLong text_max
 unread_status unread.NoMemory = NoMemory
-
--- the status of a text that makes no version
-abbrev pub fault_status : BuildFault → Status
-fault_status fault.OrderSpent = OrderSpent
-fault_status fault.NoMemory = NoMemory
-fault_status (fault.KeyLong line) = Rows line key_rule
-fault_status (fault.ValueLong line) = Rows line value_rule
-fault_status (fault.TooManyRows line) = Rows line rows_rule
-fault_status (fault.TooBig line) = Rows line bytes_rule
 
 -- the status of a build of this map that was stopped
 abbrev pub IsStatusOfStop : MapName → Stop → Status → Type 0
@@ -275,7 +267,7 @@ LeavesFew old new = LeavesOnly old new (λ image. MayLeave old image ⊎ (length
 -- ---- the only map of a publisher
 
 -- what is planned behind the version that is shown
-abbrev pub plan_of : {D : Type 0} → Job → List ℕ → ℕ → Kept D → Result MapVersion Refusal
+abbrev pub plan_of : {D : Type 0} → Job → List ℕ → ℕ → Kept D → Result MapVersion Unplanned
 plan_of job text now kept = with_generation kept.generation (offered job text now kept.version)
 
 -- nothing but the generation may stand against a version that was built
@@ -291,7 +283,7 @@ StopsInstall cause stop.NoMemory = cause ≡ None
 StopsInstall cause _ = ⊥
 
 -- these bytes stand for the version that is shown, or for the one that is planned
-abbrev pub IsShownOrPlanned : {D : Type 0} → Result MapVersion Refusal → Kept D → List ℕ → Type 0
+abbrev pub IsShownOrPlanned : {D : Type 0} → Result MapVersion Unplanned → Kept D → List ℕ → Type 0
 IsShownOrPlanned plan kept image = (stands image ≡ stands_for kept.version) ⊎ IsPlanned plan image
 
 -- ---- the disk of the map

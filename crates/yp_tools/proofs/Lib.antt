@@ -2,3 +2,4 @@ pub mod Kept
 pub mod Dispatch
 pub mod Unparsed
 pub mod Sourced
+pub mod Sending

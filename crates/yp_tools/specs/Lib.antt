@@ -1,3 +1,4 @@
 pub mod Asking
 pub mod Transferring
+pub mod Joined
 pub mod Commands

@@ -1,10 +1,12 @@
 //! The commands of Pinthou, and the one call that does all that the program does.
 //!
 //! What the words of the command line mean is said by `yp_words`, whose calls are offered here too. What is read,
-//! written and stored for each command, and the cause of each status, stands on [`run`].
+//! written and stored for each command, and the cause of each status, stands on [`run`]. That a client prints the state
+//! of the session that it asks stands on [`laws::session_is_printed`].
 #![tactic(auto)]
 
 mod ask;
+pub mod laws;
 mod program;
 mod transferring;
 

@@ -1,4 +1,4 @@
-use Rattle.yp_server.proofs.Taking.{shows_of, standing_of}
+use Rattle.yp_server.proofs.Taking.{shows_of, standing_of, versions_of}
 use Rattle.yp_server.proofs.connection.stock_of.Goals as goal
 
 pub returns-clause-shows : goal.returns-clause-shows
@@ -9,3 +9,8 @@ returns-clause-shows g c =
 pub returns-clause-standing : goal.returns-clause-standing
 returns-clause-standing g c =
     standing_of _ c.into_parts-publisher.result.0 _ c.into_parts-publisher.ensures.publisher c.into_parts-disks.ensures.standing
+
+pub returns-clause-versions : goal.returns-clause-versions
+returns-clause-versions g c =
+    versions_of c.into_parts-disks.result.1 c.into_parts-publisher.result.0 _ c.into_parts-publisher.ensures.publisher c.into_parts-disks.ensures.board
+    c.rest.ensures.versions

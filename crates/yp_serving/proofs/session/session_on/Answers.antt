@@ -1,11 +1,13 @@
-use Rattle.std.proofs.Common.{List, map, ap, sym, ◌∙◌}
+use Rattle.std.proofs.Common.{List, map, length, ap, sym, ◌∙◌}
 use Rattle.yp_board.specs.Catalogues.{Catalogue, name_view}
 use Rattle.yp_board.specs.declared.catalog.MapName.{MapName}
 use Rattle.yp_session.specs.Wires.{wire_of}
 use Rattle.yp_publish.specs.Keeping.{keeping_of}
 use Rattle.yp_server.specs.Locals.{telling_of}
-use Rattle.yp_server.specs.Connections.{plain_log}
-use Rattle.yp_serving.proofs.Sessioned.{session_served, wires_same, write_told, fault_risen, cause_named}
+use Rattle.yp_publish.specs.Begins.{plain_log}
+use Rattle.yp_serving.proofs.Sessioned.{session_served, wires_same, write_told, fault_risen, cause_named, nothing_served, same_count, number_within}
+use Rattle.yp_server.specs.Connections.{service_of}
+use Rattle.yp_serving.specs.Session.{connection_at}
 use Rattle.yp_serving.proofs.session.session_on.Goals as goal
 
 pub returns-clause-sessions : goal.returns-clause-sessions
@@ -39,3 +41,23 @@ returns-clause-disk_fault g c = λ store e.
     c.status_of-status.ensures.tells e
     (cause_named g.D.Disk.history g.D.Disk.faults did.result.0 apart.disks.items did.result.1.disks.items c.args.disks.now.items c.put_together.new.named.items
     c.in-Ok-take_apart.ensures.disks (sym c.put_together.ensures.disks) did.ensures.unserved)
+
+-- nothing was done
+pub returns-in-Err-NoMemory-clause-sessions : goal.returns-in-Err-NoMemory-clause-sessions
+returns-in-Err-NoMemory-clause-sessions g c =
+    nothing_served (service_of (keeping_of g.D.Disk.history g.D.Disk.faults plain_log) (telling_of g.T.Texts g.C.Clock g.A.Dial.past g.A.Dial.letters g.A.Dial.faults) (record { own = c.args.own.items; maps = map name_view c.args.stores.items }) c.args.peer)
+    (connection_at (wire_of g.S.Source g.K.Sink c.args.wire.now) c.args.disks.now.items c.args.desk) (g.W.Witness.wires c.args.witness.now)
+
+pub returns-in-Err-take_apart-clause-sessions : goal.returns-in-Err-take_apart-clause-sessions
+returns-in-Err-take_apart-clause-sessions g c =
+    rw c.in-Err-take_apart.ensures.err
+    (nothing_served (service_of (keeping_of g.D.Disk.history g.D.Disk.faults plain_log) (telling_of g.T.Texts g.C.Clock g.A.Dial.past g.A.Dial.letters g.A.Dial.faults) (record { own = c.args.own.items; maps = map name_view c.args.stores.items }) c.args.peer)
+    (connection_at (wire_of g.S.Source g.K.Sink c.args.wire.now) c.args.disks.now.items c.args.desk) (g.W.Witness.wires c.args.witness.now))
+
+-- the map whose file wasn't loaded is one of them
+pub status_of-status-requires-clause-number : goal.status_of-status-requires-clause-number
+status_of-status-requires-clause-number g c =
+    let apart = c.in-Ok-take_apart.apart in
+    number_within g.D.Disk.history g.D.Disk.faults c.serve_wire-served.result.0 apart.disks.items _ (length c.deref.result.now)
+    (same_count c.args.disks.now.items apart.names.items apart.disks.items c.in-Ok-take_apart.ensures.disks c.in-Ok-take_apart.ensures.names ∙ ap length (sym c.deref.ensures.value))
+    c.serve_wire-served.ensures.unserved

@@ -1,5 +1,5 @@
 use Rattle.std.proofs.Common.{map, refl, subst}
-use Rattle.yp_session.specs.Wires.{Grows}
+use Rattle.yp_session.specs.Wires.{SeesMore}
 use Rattle.yp_xfr.specs.HostTable.{HostList}
 use Rattle.yp_server.specs.declared.desk.Desk.{Desk}
 use Rattle.yp_server.specs.Connections.{Connection}
@@ -19,7 +19,7 @@ returns-clause-does g c =
     let desk = did.result.1 in
     let new : Office g.row.S.Denot g.row.K.Denot g.row.D.Denot g.row.C.Denot g.row.A.Denot g.row.I.Denot g.row.T.Denot = record { wire = did.new.wire; disks = did.new.disks; clock = desk.clock; dial = desk.dial; inbox = old.inbox; texts = desk.texts } in
     let after : HostList → Connection g.row.D.Denot (Desk g.row.A.Denot g.row.T.Denot g.row.C.Denot) = λ h. connection seen h new in
-    let sessions = subst (λ (h : HostList). Grows (g.W.Witness.wires c.args.witness.now) (g.W.Witness.wires did.new.witness) (Sessions (service seen c.args.own.items c.args.peer (map name_view c.args.stores.items)) did.result.0 (connection seen hosts old) (after h))) did.ensures.hosts did.ensures.sessions in
+    let sessions = subst (λ (h : HostList). SeesMore (g.W.Witness.wires c.args.witness.now) (g.W.Witness.wires did.new.witness) (Sessions (service seen c.args.own.items c.args.peer (map name_view c.args.stores.items)) did.result.0 (connection seen hosts old) (after h))) did.ensures.hosts did.ensures.sessions in
     record {
       serves = sessions;
       bound = did.ensures.bound;
