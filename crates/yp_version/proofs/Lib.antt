@@ -7,3 +7,6 @@ pub mod Moved
 pub mod Sorted
 pub mod Finished
 pub mod Search
+pub mod Lengths
+pub mod Packing
+pub mod Chains

@@ -1,14 +1,18 @@
 //! Building a version row by row.
 
-ghost use Rattle.std.specs.Prelude.{◌≡◌, ◌<◌, ◌≤◌, ◌⊎◌, ◌↔◌, [], ◌∷◌, ◌++◌, length, map, IsPermutation, false, None};
+ghost use Rattle.std.specs.Prelude.{◌≡◌, ◌+◌, ◌<◌, ◌≤◌, ◌⊎◌, ◌↔◌, [], ◌∷◌, ◌++◌, length, map, IsPermutation, false, None};
 ghost use Rattle.std.specs.Prelude.{Some, is_none, is_some, IsTrue, IfOk, IfErr, OnOk, OnErr};
-ghost use Rattle.yp_version.specs.Limits.{key_max, value_max, master_max};
-ghost use Rattle.yp_version.specs.Rows.{value_of, listed};
+ghost use Rattle.yp_version.specs.Limits.{key_max, value_max, master_max, body_max};
+ghost use Rattle.yp_version.specs.Rows.{value_of, listed, rows_len};
+ghost use Rattle.yp_version.specs.Slabs.{IsWithin};
 ghost use Rattle.yp_version.specs.Pair.{row_view};
 ghost use Rattle.yp_version.specs.Indexed.{rows_of};
 ghost use Rattle.yp_version.specs.Drafts.{IsDraft, refused, refused_new, with_new, with_row};
 
+use crate::head::head_of;
 use crate::limits::{BODY_MAX, HEAD_LEN, KEY_MAX, ROWS_MAX, VALUE_MAX, padded, row_len};
+use crate::slab::Slab;
+use crate::table::Table;
 use crate::version::Version;
 use indexmap::IndexMap;
 use std::alloc::Global;
@@ -51,6 +55,7 @@ pub struct VersionBuilder {
     order: u32,
     master: Vec<u8>,
     rows: IndexMap<Vec<u8>, Vec<u8>, RandomState>,
+    hasher: RandomState,
     body_len: usize,
 }
 
@@ -89,6 +94,7 @@ impl VersionBuilder {
             order,
             master,
             rows: IndexMap::with_hasher(alloc, hasher),
+            hasher,
             body_len,
         })
     }
@@ -193,10 +199,14 @@ impl VersionBuilder {
             order,
             master,
             rows,
+            hasher,
             body_len,
         } = self;
         let rows = sorted_rows(alloc, rows)?;
-        Ok(Version::new(order, master, rows, body_len))
+        let head = head_of(alloc, order, &master, rows.len(), body_len)?;
+        let slab = packed(alloc, head, &rows)?;
+        let table = Table::of(alloc, hasher, &slab)?;
+        Ok(Version::new(order, master, slab, table))
     }
 }
 
@@ -228,4 +238,17 @@ fn sorted_rows(
     let mut rows: Vec<(Vec<u8>, Vec<u8>)> = rows.into_iter().collect(alloc).map_err(|_| NoMemory)?;
     rows.sort_unstable_by(|a, b| a.0.cmp(&b.0));
     Ok(rows)
+}
+
+// A slab of these rows behind a head.
+fn packed(alloc: Global, head: Vec<u8>, rows: &[(Vec<u8>, Vec<u8>)]) -> Result<Slab, NoMemory>
+    requires within { IsWithin (map row_view rows.now) }
+    requires room { length head.items + rows_len (map row_view rows.now) ≤ body_max }
+    ensures { IfOk result (λ slab. slab ≡ record { head = head.items; rows = map row_view rows.now }) }
+{
+    let mut slab = Slab::new(alloc, head, rows.len())?;
+    for (key, value) in rows {
+        slab.push(key, value)?;
+    }
+    Ok(slab)
 }
