@@ -5,7 +5,7 @@ ghost use Rattle.std.specs.Prelude.{option_map};
 ghost use Rattle.std.specs.Arc.{arc_value};
 ghost use Rattle.yp_io.specs.Counts.{HasRisen};
 ghost use Rattle.yp_version.specs.Versions.{MapVersion};
-ghost use Rattle.yp_slot.specs.Bodies.{IsBody};
+ghost use Rattle.yp_version.specs.Bodies.{IsBody};
 ghost use Rattle.yp_slot.specs.Commits.{generation_max};
 ghost use Rattle.yp_board.specs.Logs.{shown};
 ghost use Rattle.yp_publish.specs.Standing.{Level, IsStanding, IsNumbered, OfMap, At, versions, Shows, standing_name};

@@ -2,7 +2,7 @@
 
 ghost use Rattle.std.specs.Prelude.{◌≡◌, IfOk};
 ghost use Rattle.std.specs.Arc.{arc_value};
-ghost use Rattle.yp_slot.specs.Bodies.{IsBody};
+ghost use Rattle.yp_version.specs.Bodies.{IsBody};
 
 use std::alloc::Global;
 use std::sync::Arc;

@@ -6,7 +6,7 @@ ghost use Rattle.std.specs.Arc.{arc_value};
 ghost use Rattle.yp_io.specs.Counts.{HasRisen};
 ghost use Rattle.yp_io.specs.Disk.{LeavesOnly, MayLeave, IsDurable, after_sync};
 ghost use Rattle.yp_version.specs.Versions.{MapVersion};
-ghost use Rattle.yp_slot.specs.Bodies.{IsBody};
+ghost use Rattle.yp_version.specs.Bodies.{IsBody};
 ghost use Rattle.yp_slot.specs.Commits.{generation_max};
 ghost use Rattle.yp_slot.specs.Slots.{HasGeneration, is_ready};
 ghost use Rattle.yp_slot.specs.Stands.{stands};

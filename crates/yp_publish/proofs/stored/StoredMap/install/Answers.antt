@@ -1,6 +1,6 @@
 use Rattle.std.proofs.Common.{◌≡◌, List, ℕ, sym, subst, option_map}
 use Rattle.std.specs.Arc.{arc_value}
-use Rattle.yp_slot.specs.Bodies.{IsBody}
+use Rattle.yp_version.specs.Bodies.{IsBody}
 use Rattle.yp_publish.specs.Shared.{standing_of}
 use Rattle.yp_publish.specs.Standing.{Level, Behind}
 use Rattle.yp_publish.proofs.Moments.{level_either, install_moments, at_end}
