@@ -109,14 +109,49 @@ key_in_bucket state size rows key j here = by (slice_get rows j) here
 -- no rows have empty chains
 pub no_chains : (state : RandomState) (heads before : List Link) (rows : List Row) → 0 < length heads → length before ≡ 0
     → ((bucket : ℕ) (any : Link) → bucket < length heads → linked (get_or heads bucket any) ≡ None)
-    → HasChains state heads before rows 0
+    → HasChains state heads before rows (length before)
 no_chains state heads before rows some none empty = record {
   buckets = some;
-  count = none;
+  count = refl;
   within = omega arith;
-  last = empty;
-  former = λ i any low. absurd (omega (arith, low));
+  last = λ bucket any low. empty bucket any low ∙ ap (last_below (is_in state (length heads) rows bucket)) (sym none);
+  former = λ i any low. absurd (omega (arith, low, none));
 }
+
+-- the last that passes is the same by tests that agree below the bound
+last_same : (test other : ℕ → Bool) (n : ℕ) → ((j : ℕ) → j < n → test j ≡ other j) → last_below test n ≡ last_below other n
+last_same test other zero agree = refl
+last_same test other (suc n) agree =
+    (λ i. cond (agree n (omega arith) i) (Some n) (last_below test n))
+    ∙ ap (λ rest. cond (other n) (Some n) rest) (last_same test other n (λ j low. agree j (omega (arith, low))))
+
+-- a row among the first is the same whatever follows
+get_front : (rows more : List Row) (j : ℕ) → j < length rows → slice_get (rows ++ more) j ≡ slice_get rows j
+get_front [] more j low = absurd (omega (arith, low))
+get_front (row ∷ rows) more zero low = refl
+get_front (row ∷ rows) more (suc j) low = get_front rows more j (omega (arith, low))
+
+-- and so are the chains of the first rows
+pub chains_more : (state : RandomState) (heads before : List Link) (rows more : List Row) (n : ℕ)
+    → HasChains state heads before rows n → HasChains state heads before (rows ++ more) n
+chains_more state heads before rows more n chains = record {
+  buckets = chains.buckets;
+  count = chains.count;
+  within = let w = chains.within in omega (arith, w, length-append rows more);
+  last = λ bucket any low. chains.last bucket any low ∙ same bucket n (let w = chains.within in w);
+  former = λ i any low.
+      let w = chains.within in
+      let there : i < length rows = omega (arith, low, w) in
+      chains.former i any low ∙ same (bucket_at state (length heads) rows i) i (omega (arith, there))
+      ∙ ap (λ b. last_below (is_in state (length heads) (rows ++ more) b) i) (sym (at_same i there));
+}
+  where
+    at_same : (j : ℕ) → j < length rows → bucket_at state (length heads) (rows ++ more) j ≡ bucket_at state (length heads) rows j
+    at_same j low = ap (λ (row : Option Row). option_map_or (λ (row : Row). bucket_of state (length heads) row.0) row (length heads)) (get_front rows more j low)
+
+    same : (bucket m : ℕ) → m ≤ length rows → last_below (is_in state (length heads) rows bucket) m ≡ last_below (is_in state (length heads) (rows ++ more) bucket) m
+    same bucket m low = last_same (is_in state (length heads) rows bucket) (is_in state (length heads) (rows ++ more) bucket) m
+        (λ j under. ap (λ at. nat_eq at bucket) (sym (at_same j (omega (arith, under, low)))))
 
 -- one more row is put before the chain of its bucket
 pub chained : (state : RandomState) (heads before : List Link) (rows : List Row) (n bucket : ℕ) (head former : Link)

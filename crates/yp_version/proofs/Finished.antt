@@ -63,4 +63,5 @@ marked_kept inside secure slab kept is =
       head = ap (λ l. spelling U32 (format secure) ++ drop 4 l) kept.head
           ∙ other_format (format v.secure) (format secure) v.order v.master (length v.rows);
       table = kept.table;
+      all = kept.all;
     })

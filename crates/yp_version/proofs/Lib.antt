@@ -1,7 +1,6 @@
 pub mod Keys
 pub mod Listed
 pub mod Unique
-pub mod Stored
 pub mod Drafted
 pub mod Moved
 pub mod Sorted
@@ -10,3 +9,4 @@ pub mod Search
 pub mod Lengths
 pub mod Packing
 pub mod Chains
+pub mod Rising

@@ -1,11 +1,12 @@
 -- Rows that are spelled behind one another are read again at their places.
-use Rattle.std.proofs.Common.{◌≡◌, ℕ, ◌+◌, ◌^◌, ◌<◌, ◌≤◌, List, [], ◌∷◌, ◌++◌, length, take, drop, map, replicate, Vec, Global, refl, sym, ap, ◌∙◌, subst, append_assoc, arith, All}
+use Rattle.std.proofs.Common.{◌≡◌, ℕ, ◌+◌, ◌^◌, ◌<◌, ◌≤◌, List, [], ◌∷◌, ◌++◌, length, take, drop, map, replicate, Vec, Global, Result, Ok, Err, IfOk, refl, sym, ap, ◌∙◌, subst, append_assoc, arith, All, IsPermutation}
 use Rattle.std.specs.List.{flat_map, AllByRecursion}
 use Rattle.std.proofs.Math.ListN.{drop_of_length-le}
 use Rattle.std.proofs.Math.Seq.{drop-append_seam, take-append_seam}
 use Rattle.std.proofs.lemmas.List.Sums.{sum_by-cons}
 use Rattle.std.proofs.lemmas.List.{length-append, length-drop, length-replicate, append-nil, drop-append-le, flat_map_more}
-use Rattle.std.proofs.lemmas.List.Elements.{recursion_from_All, All-push, All-nil}
+use Rattle.std.proofs.lemmas.List.Elements.{recursion_from_All, All-push}
+use Rattle.std.proofs.lemmas.List.Sorted.{All-permutation}
 use Rattle.yp_xdr.specs.Kind.{U32, Opaque}
 use Rattle.yp_xdr.specs.Spelling.{spelling}
 use Rattle.yp_xdr.specs.Reading.{reading}
@@ -61,6 +62,24 @@ both (row ∷ rows) keys values = ((keys.0, values.0), both rows keys.1 values.1
 fits_all : (rows : List Row) → IsWithin rows → AllByRecursion FitsRow rows
 fits_all rows within = both rows (recursion_from_All (λ (row : Row). length row.0 ≤ key_max) rows within.keys)
     (recursion_from_All (λ (row : Row). length row.1 ≤ value_max) rows within.values)
+
+-- what holds of a slab holds of the one that was made
+pub if_gathered : {E : Type 0} (P : Packed → Type 0) (result : Result Packed E) (slab : Packed) → IfOk result (λ made. made ≡ slab) → P slab → IfOk result P
+if_gathered P (Ok made) slab is holds = subst P (sym is) holds
+if_gathered P (Err e) slab is holds = tt
+
+-- rows in another order keep the limits
+pub within_moved : (rows moved : List Row) → IsPermutation rows moved → IsWithin rows → IsWithin moved
+within_moved rows moved is within = record {
+  keys = All-permutation (λ row. length row.0 ≤ key_max) rows moved is within.keys;
+  values = All-permutation (λ row. length row.1 ≤ value_max) rows moved is within.values;
+}
+
+pub bytes_len : (inside : Inside) → IsPacked inside
+    → length inside.bytes.items ≡ length (packed_of inside).head + rows_len (packed_of inside).rows
+bytes_len inside kept =
+    ap length kept.bytes ∙ length-append (packed_of inside).head (flat_map row_bytes (packed_of inside).rows)
+    ∙ ap (λ n. length (packed_of inside).head + n) (length_rows (packed_of inside).rows)
 
 module _ (again : WrittenIsReadAgain) where
   opaque_read : (max : ℕ) (front content rest : List ℕ) → length content ≤ max → max < 2 ^ 32
@@ -136,12 +155,6 @@ module _ (again : WrittenIsReadAgain) where
     values = All-push (λ (row : Row). length row.1 ≤ value_max) rows row within.values fits.1;
   }
 
-  pub bytes_len : (inside : Inside) → IsPacked inside
-      → length inside.bytes.items ≡ length (packed_of inside).head + rows_len (packed_of inside).rows
-  bytes_len inside kept =
-      ap length kept.bytes ∙ length-append (packed_of inside).head (flat_map row_bytes (packed_of inside).rows)
-      ∙ ap (λ n. length (packed_of inside).head + n) (length_rows (packed_of inside).rows)
-
   pub more_bytes : (inside : Inside) (row : Row) → IsPacked inside
       → inside.bytes.items ++ row_bytes row
       ≡ (packed_of inside).head ++ flat_map row_bytes ((packed_of inside).rows ++ row ∷ [])
@@ -210,4 +223,33 @@ module _ (again : WrittenIsReadAgain) where
       let b = ap length kept.bytes in
       let c = length-append (packed_of old).head (flat_map row_bytes (packed_of old).rows) in
       let d = worded_len (packed_of old).head word long in
+      omega arith)
+
+  -- another head
+  headed : (inside : Inside) (head : List ℕ) → IsPacked inside → length head ≡ length (packed_of inside).head
+      → written inside.bytes.items 0 head ≡ head ++ flat_map row_bytes (packed_of inside).rows
+  headed inside head kept len =
+      ap (λ n. head ++ drop n inside.bytes.items) (let e : 0 + length head ≡ length (packed_of inside).head = omega arith in e)
+      ∙ ap (λ l. head ++ drop (length (packed_of inside).head) l) kept.bytes
+      ∙ ap (λ l. head ++ l) (drop-append_seam (packed_of inside).head (flat_map row_bytes (packed_of inside).rows))
+
+  pub headed_view : (old : Inside) (bytes : Vec ℕ Global) (head : List ℕ) → IsPacked old → length head ≡ length (packed_of old).head
+      → bytes.items ≡ written old.bytes.items 0 head
+      → packed_of (record old { bytes = bytes }) ≡ record (packed_of old) { head = head }
+  headed_view old bytes head kept len bytes_are =
+      packed_view (record old { bytes = bytes }) head (packed_of old).rows kept.within
+      (bytes_are ∙ headed old head kept len) (kept.head ∙ sym len)
+      (kept.places ∙ ap (λ n. places_from n (packed_of old).rows) (kept.head ∙ sym len))
+
+  pub headed_kept : (old : Inside) (bytes : Vec ℕ Global) (head : List ℕ) → IsPacked old → length head ≡ length (packed_of old).head
+      → bytes.items ≡ written old.bytes.items 0 head → IsPacked (record old { bytes = bytes })
+  headed_kept old bytes head kept len bytes_are =
+      packed_kept (record old { bytes = bytes }) head (packed_of old).rows kept.within
+      (bytes_are ∙ headed old head kept len) (kept.head ∙ sym len)
+      (kept.places ∙ ap (λ n. places_from n (packed_of old).rows) (kept.head ∙ sym len))
+      (let s = kept.small in
+      let e = ap length (bytes_are ∙ headed old head kept len) in
+      let a = length-append head (flat_map row_bytes (packed_of old).rows) in
+      let b = ap length kept.bytes in
+      let d = length-append (packed_of old).head (flat_map row_bytes (packed_of old).rows) in
       omega arith)

@@ -1,6 +1,6 @@
 -- Where a key stands among rows.
-use Rattle.std.proofs.Common.{◌≡◌, ℕ, zero, suc, ◌+◌, ◌<◌, ◌≤◌, Bool, true, false, cond, List, [], ◌∷◌, map, take, length, get_or, slice_get, Option, Some, None, MatchOption, option_map, is_some, Vec, Global, bytes_eq, refl, sym, ap, ◌∙◌, subst, true≢false, arith, All, add-one}
-use Rattle.std.proofs.lemmas.Bool.{cond-true, cond-false}
+use Rattle.std.proofs.Common.{◌≡◌, ℕ, zero, suc, ◌+◌, ◌<◌, ◌≤◌, Bool, true, false, cond, List, [], ◌∷◌, map, take, length, get_or, slice_get, Option, Some, None, MatchOption, option_map, is_some, bytes_eq, nat_le, refl, sym, ap, ◌∙◌, subst, inl, inr, true≢false, arith, All, add-one}
+use Rattle.std.proofs.lemmas.Bool.{cases_Bool, cond-true, cond-false, leb-true, leb-false}
 use Rattle.std.proofs.lemmas.List.{get_or-map, length-map}
 use Rattle.std.proofs.lemmas.List.Sums.{sum_by-cons}
 use Rattle.std.proofs.lemmas.Map.Keys.{IsDistinct-head, IsDistinct-tail}
@@ -8,7 +8,6 @@ use Rattle.std.proofs.lemmas.Option.{slice_get-map, slice_get_within, same_Some,
 use Rattle.std.specs.List.{AllByRecursion}
 use Rattle.std.specs.Map.{keys_of}
 use Rattle.std.specs.Option.{option_map_or}
-use Rattle.yp_version.specs.Pair.{row_view}
 use Rattle.yp_version.specs.Places.{StandsAt, IsAbsent}
 use Rattle.yp_version.specs.Rows.{Row, IsRising, HasDistinctKeys, value_of, following, first_of, row_len, rows_len}
 use Rattle.yp_version.specs.Tables.{last_below, has_key}
@@ -71,7 +70,7 @@ has_it rows i key here = slice_get-map (λ (row : Row). row.0) rows i ∙ by (sl
     by (Some row) e = ap Some (same_key row.0 key e)
 
 -- where no row has the key, it has no value
-none_has : (key : List ℕ) (rows : List Row) → ((j : ℕ) → j < length rows → has_key key rows j ≡ false) → value_of key rows ≡ None
+pub none_has : (key : List ℕ) (rows : List Row) → ((j : ℕ) → j < length rows → has_key key rows j ≡ false) → value_of key rows ≡ None
 none_has key [] none = refl
 none_has key (row ∷ rows) none =
     cond-false (bytes_eq row.0 key) (Some row.1) (value_of key rows) (none zero (omega arith))
@@ -90,23 +89,50 @@ found_at rows key (Some i) rising is =
 pub holds_at : (P : Row → Type 0) (rows : List Row) (i : ℕ) (row : Row) → All P rows → slice_get rows i ≡ Some row → P row
 holds_at P rows i row all e = subst P (get_or_from_slice_get rows i row row e) (all i row (slice_get_within rows i row e))
 
--- what holds of all rows holds of the pair at a place
-pub holds_of_pair : (P : Row → Type 0) (pairs : List (Vec ℕ Global × Vec ℕ Global)) (i : ℕ) (pair : Vec ℕ Global × Vec ℕ Global)
-    → All P (map row_view pairs) → i < length pairs → pair ≡ get_or pairs i pair → P (row_view pair)
-holds_of_pair P pairs i pair all within is =
-    let l = length-map pairs row_view in
-    subst P (get_or-map row_view pairs i pair (row_view pair) within ∙ ap row_view (sym is)) (all i (row_view pair) (omega (arith, l, within)))
+-- what holds of all rows holds of the one that is made of the item at a place
+pub holds_of_item : {X : Type 0} (row_of : X → Row) (P : Row → Type 0) (items : List X) (i : ℕ) (x : X)
+    → All P (map row_of items) → i < length items → x ≡ get_or items i x → P (row_of x)
+holds_of_item row_of P items i x all within is =
+    let l = length-map items row_of in
+    subst P (get_or-map row_of items i x (row_of x) within ∙ ap row_of (sym is)) (all i (row_of x) (omega (arith, l, within)))
 
 -- there is room for each of the rows in turn
-pub room_left : (pairs : List (Vec ℕ Global × Vec ℕ Global)) (i : ℕ) (pair : Vec ℕ Global × Vec ℕ Global) → i < length pairs → pair ≡ get_or pairs i pair
-    → rows_len (map row_view (take i pairs)) + row_len (row_view pair) ≤ rows_len (map row_view pairs)
-room_left [] i pair low is = absurd (omega (arith, low))
-room_left (first ∷ pairs) zero pair low is =
-    let e = ap (λ p. row_len (row_view p)) is in
-    let c = sum_by-cons row_len (row_view first) (map row_view pairs) in
+pub room_left : {X : Type 0} (row_of : X → Row) (items : List X) (i : ℕ) (x : X) → i < length items → x ≡ get_or items i x
+    → rows_len (map row_of (take i items)) + row_len (row_of x) ≤ rows_len (map row_of items)
+room_left row_of [] i x low is = absurd (omega (arith, low))
+room_left row_of (first ∷ items) zero x low is =
+    let e = ap (λ p. row_len (row_of p)) is in
+    let c = sum_by-cons row_len (row_of first) (map row_of items) in
     omega arith
-room_left (first ∷ pairs) (suc i) pair low is =
-    let h = room_left pairs i pair (omega (arith, low)) is in
-    let a = sum_by-cons row_len (row_view first) (map row_view pairs) in
-    let b = sum_by-cons row_len (row_view first) (map row_view (take i pairs)) in
+room_left row_of (first ∷ items) (suc i) x low is =
+    let h = room_left row_of items i x (omega (arith, low)) is in
+    let a = sum_by-cons row_len (row_of first) (map row_of items) in
+    let b = sum_by-cons row_len (row_of first) (map row_of (take i items)) in
     omega arith
+
+-- where a row has the key, it has a value
+pub some_has : (key : List ℕ) (rows : List Row) (j : ℕ) → has_key key rows j ≡ true → is_some (value_of key rows) ≡ true
+some_has key [] j here = absurd (true≢false (sym here))
+some_has key (row ∷ rows) zero here = ap is_some (cond-true (bytes_eq row.0 key) (Some row.1) (value_of key rows) here)
+some_has key (row ∷ rows) (suc j) here = elim (cases_Bool (bytes_eq row.0 key)) [
+  | inl this ↦ ap is_some (cond-true (bytes_eq row.0 key) (Some row.1) (value_of key rows) this)
+  | inr other ↦ ap is_some (cond-false (bytes_eq row.0 key) (Some row.1) (value_of key rows) other) ∙ some_has key rows j here
+]
+
+-- a look-up of the first rows, and of the others one by one, finds whether a key has a value
+pub holds_by : (key : List ℕ) (rows : List Row) (first : ℕ) (found : Bool)
+    → ((j : ℕ) → j < first → has_key key rows j ≡ false)
+    → (found ≡ true → (j : ℕ) × (has_key key rows j ≡ true))
+    → (found ≡ false → (j : ℕ) → first ≤ j → j < length rows → has_key key rows j ≡ false)
+    → found ≡ is_some (value_of key rows)
+holds_by key rows first true before there apart = let h = there refl in sym (some_has key rows h.0 h.1)
+holds_by key rows first false before there apart = sym (ap is_some (none_has key rows (λ j low. elim (cases_Bool (nat_le first j)) [
+  | inl late ↦ apart refl j (leb-true first j late) low
+  | inr early ↦ before j (leb-false first j early)
+])))
+
+-- a number that was found shows that the key has a value
+pub found_some : (key : List ℕ) (rows : List Row) (n : ℕ) (found : Option ℕ) → found ≡ last_below (has_key key rows) n → is_some found ≡ true
+    → is_some (value_of key rows) ≡ true
+found_some key rows n None is some = absurd (true≢false (sym some))
+found_some key rows n (Some i) is some = some_has key rows i (last_passes (has_key key rows) n i (sym is)).1

@@ -3,8 +3,6 @@ pub mod Rows
 pub mod Versions
 pub mod Bodies
 pub mod Drafts
-pub mod Pair
-pub mod Indexed
 pub mod Slabs
 pub mod Slab
 pub mod Tables

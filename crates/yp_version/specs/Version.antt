@@ -1,7 +1,7 @@
 -- What the code keeps of a version.
 use Rattle.std.specs.Prelude.{◌≡◌}
 use Rattle.yp_version.specs.Bodies.{head_bytes}
-use Rattle.yp_version.specs.Table.{IsTable}
+use Rattle.yp_version.specs.Table.{IsTable, HasAll}
 use Rattle.yp_version.specs.Versions.{MapVersion, IsVersion}
 use Rattle.yp_version.specs.declared.version.Version.TheInside.{Inside}
 
@@ -19,3 +19,4 @@ pub record IsKept (inside : Inside) : Type 0 where
   pub version : IsVersion (version_of inside)
   pub head : inside.slab.head ≡ head_bytes (version_of inside)
   pub table : IsTable inside.table inside.slab.rows
+  pub all : HasAll inside.table inside.slab.rows

@@ -1,18 +1,20 @@
 //! Bytes that stand before rows, and behind them the rows, each spelled as in the body of a version.
 
 ghost use Rattle.std.specs.Prelude.{◌≡◌, ◌+◌, ◌<◌, ◌≤◌, ◌^◌, [], ◌∷◌, ◌++◌, length, replicate, drop, map, slice_get, Some};
-ghost use Rattle.std.specs.Prelude.{option_map, IfOk, OnOk, OnErr};
+ghost use Rattle.std.specs.Prelude.{ℕ, true, false, option_map, IfOk, OnOk, OnErr, IsTrue, IsPermutation};
 ghost use Rattle.std.specs.List.{flat_map};
 ghost use Rattle.yp_xdr.specs.Kind.{U32};
 ghost use Rattle.yp_xdr.specs.Spelling.{spelling};
 ghost use Rattle.yp_xdr.specs.Writing.{written};
 ghost use Rattle.yp_version.specs.Limits.{key_max, value_max, body_max};
-ghost use Rattle.yp_version.specs.Rows.{row_len, rows_len};
+ghost use Rattle.yp_version.specs.Rows.{HasDistinctKeys, IsRising, is_over, key_cmp, row_len, rows_len};
+ghost use Rattle.yp_version.specs.Tables.{has_key};
 ghost use Rattle.yp_version.specs.Bodies.{row_bytes};
 ghost use Rattle.yp_version.specs.Slabs.{IsWithin, opaque_from, key_from, row_from};
 
 use crate::limits::{KEY_MAX, VALUE_MAX, WORD, padded, row_len};
 use std::alloc::Global;
+use std::cmp::Ordering;
 use std::marker::Model;
 use yp_io::NoMemory;
 use yp_xdr::{Cursor, set_opaque, set_u32};
@@ -93,6 +95,30 @@ impl Slab {
         Some(row_from(&self.bytes, *place))
     }
 
+    /// Whether a key is over that of the last row, if there is one.
+    pub(crate) fn is_over(&self, key: &[u8]) -> bool
+        ensures { result ≡ is_over key.now self.now.rows }
+    {
+        let Some(last) = self.len().checked_sub(1) else {
+            return true;
+        };
+        self.key(last).cmp(key).is_lt()
+    }
+
+    /// Whether a row from this number on has the key.
+    pub(crate) fn holds_from(&self, first: usize, key: &[u8]) -> bool
+        ensures yes { IsTrue result → (j : ℕ) × (has_key key.now self.now.rows j ≡ true) }
+        ensures no { (result ≡ false) → (j : ℕ) → first ≤ j → j < length self.now.rows
+            → has_key key.now self.now.rows j ≡ false }
+    {
+        for row in first..self.len() {
+            if self.key(row) == key {
+                return true;
+            }
+        }
+        false
+    }
+
     /// All its bytes.
     pub(crate) fn bytes(&self) -> &[u8]
         ensures { result.now ≡ self.now.head ++ flat_map row_bytes self.now.rows }
@@ -108,6 +134,77 @@ impl Slab {
         yp_xdr::laws::written_is_read_again();
         set_u32(&mut self.bytes, 0, word);
     }
+
+    /// The same behind another head, and in rising order of the keys. `rises` tells that they stand so already.
+    pub(crate) fn finished(self, alloc: Global, head: Vec<u8>, rises: bool) -> Result<Slab, NoMemory>
+        requires rises { IsTrue rises → IsRising self.rows }
+        requires distinct { HasDistinctKeys self.rows }
+        requires head { length head.items ≡ length self.head }
+        ensures head { IfOk result (λ slab. slab.head ≡ head.items) }
+        ensures moved { IfOk result (λ slab. IsPermutation self.rows slab.rows) }
+        ensures rising { IfOk result (λ slab. IsRising slab.rows) }
+    {
+        if rises {
+            let mut slab = self;
+            slab.set_head(&head);
+            Ok(slab)
+        } else {
+            self.sorted(alloc, head)
+        }
+    }
+
+    // The same behind another head.
+    fn set_head(&mut self, head: &[u8])
+        requires { length head.now ≡ length self.old.head }
+        ensures { self.new ≡ record self.old { head = head.now } }
+    {
+        yp_xdr::laws::written_is_read_again();
+        overwrite(&mut self.bytes, head);
+    }
+
+    // The rows in rising order of their keys, behind another head.
+    fn sorted(self, alloc: Global, head: Vec<u8>) -> Result<Slab, NoMemory>
+        requires distinct { HasDistinctKeys self.rows }
+        requires head { length head.items ≡ length self.head }
+        ensures head { IfOk result (λ slab. slab.head ≡ head.items) }
+        ensures moved { IfOk result (λ slab. IsPermutation self.rows slab.rows) }
+        ensures rising { IfOk result (λ slab. IsRising slab.rows) }
+    {
+        let Slab {
+            bytes,
+            head_len: _,
+            mut places,
+        } = self;
+        let all = bytes.as_slice();
+        places.sort_unstable_by(
+            |a: &u32, b: &u32| -> Ordering
+                ensures { result ≡ key_cmp (key_from all.entry.now a.now) (key_from all.entry.now b.now) }
+            { key_from(all, *a).cmp(key_from(all, *b)) },
+        );
+        gathered(alloc, head, all, &places)
+    }
+}
+
+// The rows at these places, behind a head.
+fn gathered(alloc: Global, head: Vec<u8>, bytes: &[u8], places: &[u32]) -> Result<Slab, NoMemory>
+    requires within { IsWithin (map (row_from bytes.now) places.now) }
+    requires room { length head.items + rows_len (map (row_from bytes.now) places.now) ≤ body_max }
+    ensures { IfOk result (λ slab. slab ≡ record { head = head.items; rows = map (row_from bytes.now) places.now }) }
+{
+    let mut slab = Slab::new(alloc, head, places.len())?;
+    for place in places {
+        let (key, value) = row_from(bytes, *place);
+        slab.push(key, value)?;
+    }
+    Ok(slab)
+}
+
+// Writes a front over the bytes.
+fn overwrite(bytes: &mut [u8], front: &[u8])
+    requires { length front.now ≤ length bytes.old }
+    ensures { bytes.new ≡ written bytes.old 0 front.now }
+{
+    bytes[..front.len()].copy_from_slice(front);
 }
 
 // Spells a row behind bytes. After a refusal they are as before.

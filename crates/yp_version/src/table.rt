@@ -1,8 +1,9 @@
 //! The numbers of rows by a hash of their keys.
 
-ghost use Rattle.std.specs.Prelude.{◌≡◌, ◌+◌, ◌<◌, ◌≤◌, ◌^◌, length, Some, None, IfOk};
+ghost use Rattle.std.specs.Prelude.{◌≡◌, ◌+◌, ◌<◌, ◌≤◌, ◌^◌, ℕ, List, length, Some, None, IfOk, OnOk};
 ghost use Rattle.yp_version.specs.Limits.{rows_max};
-ghost use Rattle.yp_version.specs.Table.{IsTable};
+ghost use Rattle.yp_version.specs.Rows.{Row};
+ghost use Rattle.yp_version.specs.Table.{IsTable, HasAll};
 ghost use Rattle.yp_version.specs.Tables.{linked, bucket_of, last_below, has_key};
 
 use crate::slab::Slab;
@@ -47,7 +48,8 @@ impl Link {
     }
 }
 
-/// Chains of row numbers, one for each bucket. Keys may come from others, so they are hashed with random keys.
+/// Chains of the numbers of the first rows of a slab, one for each bucket. Keys may come from others, so they are
+/// hashed with random keys.
 #[derive(Debug, Drop)]
 pub(crate) struct Table {
     hasher: RandomState,
@@ -58,19 +60,12 @@ pub(crate) struct Table {
 }
 
 impl Table {
-    /// The table of the rows of a slab.
-    pub(crate) fn of(alloc: Global, hasher: RandomState, slab: &Slab) -> Result<Table, NoMemory>
-        requires { length slab.now.rows ≤ rows_max }
-        ensures { IfOk result (λ table. IsTable table slab.now.rows) }
+    /// A table of no rows, with at least this many buckets.
+    pub(crate) fn new(alloc: Global, hasher: RandomState, buckets: usize) -> Result<Table, NoMemory>
+        ensures { IfOk result (λ table. (rows : List Row) → IsTable table rows) }
     {
-        let count = slab.len();
-        let mut heads = vec![in alloc; Link::none(); count.max(1)].map_err(|_| NoMemory)?;
-        let mut before = Vec::with_capacity(alloc, count).map_err(|_| NoMemory)?;
-        for row in 0..count {
-            let bucket = bucket(&hasher, heads.len(), slab.key(row));
-            before.push(heads[bucket]).map_err(|_| NoMemory)?;
-            heads[bucket] = Link::to(row);
-        }
+        let heads = vec![in alloc; Link::none(); buckets.max(1)].map_err(|_| NoMemory)?;
+        let before = Vec::with_capacity(alloc, buckets).map_err(|_| NoMemory)?;
         Ok(Table {
             hasher,
             heads,
@@ -78,10 +73,51 @@ impl Table {
         })
     }
 
-    /// The number of the last row with this key, of the slab whose table it is.
+    /// The table of all rows of a slab.
+    pub(crate) fn of(alloc: Global, hasher: RandomState, slab: &Slab) -> Result<Table, NoMemory>
+        requires { length slab.now.rows ≤ rows_max }
+        ensures table { IfOk result (λ table. IsTable table slab.now.rows) }
+        ensures all { IfOk result (λ table. HasAll table slab.now.rows) }
+    {
+        let mut table = Table::new(alloc, hasher, slab.len())?;
+        table.fill(slab)?;
+        Ok(table)
+    }
+
+    /// The number of rows that it has.
+    pub(crate) fn len(&self) -> usize
+        ensures { result ≡ length self.now.before.items }
+    {
+        self.before.len()
+    }
+
+    /// The number of buckets.
+    pub(crate) fn buckets(&self) -> usize
+        ensures { result ≡ length self.now.heads.items }
+    {
+        self.heads.len()
+    }
+
+    /// Takes in those rows of a slab that it doesn't have. After a refusal it has some of them.
+    pub(crate) fn fill(&mut self, slab: &Slab) -> Result<(), NoMemory>
+        requires table { IsTable self.old slab.now.rows }
+        requires count { length slab.now.rows ≤ rows_max }
+        ensures table { IsTable self.new slab.now.rows }
+        ensures all { OnOk result (HasAll self.new slab.now.rows) }
+    {
+        for row in self.before.len()..slab.len() {
+            let bucket = bucket(&self.hasher, self.heads.len(), slab.key(row));
+            let last = self.heads[bucket];
+            self.before.push(last).map_err(|_| NoMemory)?;
+            self.heads[bucket] = Link::to(row);
+        }
+        Ok(())
+    }
+
+    /// The number of the last row with this key, among those of the slab that it has.
     pub(crate) fn find(&self, slab: &Slab, key: &[u8]) -> Option<usize>
         requires { IsTable self.now slab.now.rows }
-        ensures { result ≡ last_below (has_key key.now slab.now.rows) (length slab.now.rows) }
+        ensures { result ≡ last_below (has_key key.now slab.now.rows) (length self.now.before.items) }
     {
         let mut link = self.heads[bucket(&self.hasher, self.heads.len(), key)];
         while let Some(row) = link.row() {

@@ -5,7 +5,7 @@ ghost use Rattle.yp_version.specs.Limits.{key_max, value_max};
 ghost use Rattle.yp_version.specs.Rows.{value_of, first_of, following};
 ghost use Rattle.yp_version.specs.Versions.{IsVersion, body_len, unmarked};
 ghost use Rattle.yp_version.specs.Bodies.{IsBody, head_bytes};
-ghost use Rattle.yp_version.specs.Table.{IsTable};
+ghost use Rattle.yp_version.specs.Table.{IsTable, HasAll};
 ghost use Rattle.yp_version.specs.Places.{StandsAt, IsAbsent};
 ghost use Rattle.yp_version.specs.Next.{next_row, IsWithin};
 
@@ -58,6 +58,7 @@ impl Version {
         requires version { IsVersion (unmarked order master.items slab.rows) }
         requires head { slab.head ≡ head_bytes (unmarked order master.items slab.rows) }
         requires table { IsTable table slab.rows }
+        requires all { HasAll table slab.rows }
         ensures { result ≡ unmarked order master.items slab.rows }
     {
         Version {

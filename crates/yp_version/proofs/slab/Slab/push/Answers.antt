@@ -9,7 +9,7 @@ use Rattle.yp_version.proofs.slab.Slab.push.Goals as goal
 pub add_row-requires-clause-room : goal.add_row-requires-clause-room
 add_row-requires-clause-room c =
     let room = subst (λ (p : Packed). length p.head + rows_len p.rows + row_len (c.args.key.now, c.args.value.now) ≤ body_max) (sym c.self.view_is) c.requires.room in
-    let len = bytes_len c.written_is_read_again.ensures c.self.inside c.self.invariant in
+    let len = bytes_len c.self.inside c.self.invariant in
     omega arith
 
 pub invariant_of-self-else-is_err : goal.invariant_of-self-else-is_err

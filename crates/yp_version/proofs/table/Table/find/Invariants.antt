@@ -6,7 +6,7 @@ use Rattle.yp_version.proofs.table.Table.find.Given as goal
 
 abbrev pub invariant-loop-row : goal.invariant-loop-row
 invariant-loop-row l = Walks (is_in l.self.hasher (length l.self.heads.items) l.slab.rows (bucket_of l.self.hasher (length l.self.heads.items) l.key))
-    (has_key l.key l.slab.rows) (length l.slab.rows) (linked l.link)
+    (has_key l.key l.slab.rows) (length l.self.before.items) (linked l.link)
 
 abbrev pub decreases-loop-row : goal.decreases-loop-row
 decreases-loop-row l = l.link.number
