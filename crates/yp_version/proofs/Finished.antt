@@ -7,7 +7,7 @@ use Rattle.yp_version.specs.Rows.{Row, IsRising, listed, padded, row_len}
 use Rattle.yp_version.specs.Versions.{IsVersion, body_len, unmarked}
 use Rattle.yp_xdr.specs.Kind.{U32}
 use Rattle.yp_xdr.specs.Spelling.{spelling}
-use Rattle.yp_version.specs.Bodies.{format, front_bytes, head_bytes}
+use Rattle.yp_version.specs.Bodies.{format, front_bytes}
 use Rattle.yp_version.specs.Slabs.{Packed, IsWithin}
 use Rattle.yp_version.specs.Version.{version_of, IsKept}
 use Rattle.yp_version.specs.declared.version.Version.TheInside.{Inside}

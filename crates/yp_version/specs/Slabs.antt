@@ -1,12 +1,10 @@
 -- A slab: bytes that stand before rows, and behind them the rows, each spelled as in the body of a version.
-use Rattle.std.specs.Prelude.{◌≡◌, ℕ, ◌+◌, ◌≤◌, List, [], ◌∷◌, ◌++◌, length, take, drop, map, All, Result, Ok, Err}
-use Rattle.std.specs.List.{flat_map}
+use Rattle.std.specs.Prelude.{ℕ, ◌+◌, ◌≤◌, List, [], ◌∷◌, length, drop, All, Result, Ok, Err}
 use Rattle.yp_xdr.specs.declared.fault.XdrFault.{XdrFault}
 use Rattle.yp_xdr.specs.Kind.{Opaque}
 use Rattle.yp_xdr.specs.Reading.{Unread, reading}
-use Rattle.yp_version.specs.Limits.{key_max, value_max, body_max}
+use Rattle.yp_version.specs.Limits.{key_max, value_max}
 use Rattle.yp_version.specs.Rows.{Row, padded, row_len}
-use Rattle.yp_version.specs.Bodies.{row_bytes}
 
 -- what a slab holds
 pub record Packed : Type 0 where

@@ -261,7 +261,12 @@ impl VersionBuilder {
 }
 
 // This table of the rows, or an empty one with more buckets where it is none or has too few.
-fn roomy(alloc: Global, hasher: RandomState, table: Option<Table>, slab: &Slab) -> Result<Table, NoMemory>
+fn roomy(
+    alloc: Global,
+    hasher: RandomState,
+    table: Option<Table>,
+    slab: &Slab,
+) -> Result<Table, NoMemory>
     requires table { IfSome table (λ table. IsTable table slab.now.rows) }
     requires count { length slab.now.rows ≤ rows_max }
     ensures { IfOk result (λ table. IsTable table slab.now.rows) }

@@ -136,7 +136,12 @@ impl Slab {
     }
 
     /// The same behind another head, and in rising order of the keys. `rises` tells that they stand so already.
-    pub(crate) fn finished(self, alloc: Global, head: Vec<u8>, rises: bool) -> Result<Slab, NoMemory>
+    pub(crate) fn finished(
+        self,
+        alloc: Global,
+        head: Vec<u8>,
+        rises: bool,
+    ) -> Result<Slab, NoMemory>
         requires rises { IsTrue rises → IsRising self.rows }
         requires distinct { HasDistinctKeys self.rows }
         requires head { length head.items ≡ length self.head }
@@ -227,9 +232,7 @@ fn grow(bytes: &mut Vec<u8>, more: usize) -> Result<(), NoMemory>
     ensures ok { OnOk result (bytes.new.items ≡ bytes.old.items ++ replicate more 0) }
     ensures err { OnErr result (bytes.new.items ≡ bytes.old.items) }
 {
-    bytes
-        .resize(bytes.len() + more, 0)
-        .map_err(|_| NoMemory)?;
+    bytes.resize(bytes.len() + more, 0).map_err(|_| NoMemory)?;
     Ok(())
 }
 

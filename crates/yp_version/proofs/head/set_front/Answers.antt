@@ -1,4 +1,4 @@
-use Rattle.std.proofs.Common.{◌≡◌, ◌++◌, ℕ, List, length, ap, ◌∙◌, append_assoc, arith, refl, sym}
+use Rattle.std.proofs.Common.{◌≡◌, ◌++◌, length, ap, ◌∙◌, append_assoc, arith, sym}
 use Rattle.yp_xdr.specs.Kind.{U32}
 use Rattle.yp_xdr.specs.Spelling.{opaque, spelling}
 use Rattle.yp_version.specs.Limits.{master_max}

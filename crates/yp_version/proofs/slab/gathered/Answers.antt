@@ -1,6 +1,6 @@
-use Rattle.std.proofs.Common.{◌≡◌, ◌+◌, ◌≤◌, ◌<◌, ℕ, length, get_or, map, ap, ◌∙◌, sym, subst, arith}
+use Rattle.std.proofs.Common.{◌≡◌, ◌≤◌, length, get_or, ap, sym, subst, arith}
 use Rattle.std.proofs.lemmas.List.{get_or_default}
-use Rattle.yp_version.specs.Limits.{key_max, value_max, body_max}
+use Rattle.yp_version.specs.Limits.{key_max, value_max}
 use Rattle.yp_version.specs.Rows.{Row, row_len, rows_len}
 use Rattle.yp_version.specs.Slabs.{Packed, row_from}
 use Rattle.yp_version.proofs.Search.{holds_of_item, room_left}

@@ -1,4 +1,4 @@
-use Rattle.std.proofs.Common.{◌++◌, arith, length}
+use Rattle.std.proofs.Common.{arith}
 use Rattle.yp_xdr.specs.Spelling.{opaque}
 use Rattle.yp_version.specs.Bodies.{row_bytes}
 use Rattle.yp_version.specs.Limits.{key_max, value_max}

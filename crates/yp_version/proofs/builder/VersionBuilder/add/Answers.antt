@@ -1,4 +1,4 @@
-use Rattle.std.proofs.Common.{◌≡◌, ◌++◌, ◌∷◌, [], true, None, sym, subst}
+use Rattle.std.proofs.Common.{◌≡◌, ◌++◌, ◌∷◌, [], None, sym, subst}
 use Rattle.yp_version.specs.Drafts.{Draft, refused_new}
 use Rattle.yp_version.specs.Rows.{IsRising, value_of}
 use Rattle.yp_version.proofs.Drafted.{grown_kept}

@@ -1,4 +1,4 @@
-use Rattle.std.proofs.Common.{◌≡◌, ◌++◌, ◌∷◌, [], true, None, IsTrue, ap, ◌∙◌, sym, subst, rules}
+use Rattle.std.proofs.Common.{◌≡◌, ◌++◌, ◌∷◌, [], true, None, ◌∙◌, sym, subst}
 use Rattle.yp_version.specs.Drafts.{Draft}
 use Rattle.yp_version.specs.Rows.{IsRising, is_over, value_of}
 use Rattle.yp_version.proofs.Rising.{over_rises, over_is_new}

@@ -2,7 +2,6 @@ use Rattle.std.proofs.Common.{◌≡◌, ◌+◌, ◌++◌, ◌≤◌, ◌∷◌
 use Rattle.yp_version.specs.Limits.{body_max}
 use Rattle.yp_version.specs.Rows.{row_len, rows_len}
 use Rattle.yp_version.specs.Slabs.{Packed}
-use Rattle.yp_version.specs.Slab.{packed_of}
 use Rattle.yp_version.proofs.Packing.{bytes_len, pushed_kept, pushed_view}
 use Rattle.yp_version.proofs.slab.Slab.push.Goals as goal
 

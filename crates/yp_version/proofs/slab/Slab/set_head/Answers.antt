@@ -3,7 +3,6 @@ use Rattle.std.specs.Vec.{with_items}
 use Rattle.std.proofs.lemmas.List.{with_items_is}
 use Rattle.yp_xdr.specs.Writing.{written}
 use Rattle.yp_version.specs.Slabs.{Packed}
-use Rattle.yp_version.specs.Slab.{packed_of}
 use Rattle.yp_version.proofs.Packing.{headed_kept, headed_view}
 use Rattle.yp_version.proofs.slab.Slab.set_head.Goals as goal
 

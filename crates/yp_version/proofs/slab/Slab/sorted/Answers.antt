@@ -1,8 +1,7 @@
-use Rattle.std.proofs.Common.{◌≡◌, ◌+◌, ◌≤◌, ℕ, List, length, map, is_lt, ap, ◌∙◌, sym, subst, arith, rules, IsPermutation}
+use Rattle.std.proofs.Common.{◌≡◌, ℕ, List, length, map, is_lt, ap, ◌∙◌, sym, subst, arith, rules, IsPermutation}
 use Rattle.std.proofs.lemmas.Cmp.{nat_list_cmp_total}
-use Rattle.std.proofs.lemmas.List.Sorted.{IsPermutation-map, All-permutation, sum_by-IsPermutation, ranks_by}
+use Rattle.std.proofs.lemmas.List.Sorted.{IsPermutation-map, sum_by-IsPermutation, ranks_by}
 use Rattle.std.proofs.lemmas.Fn.{always_returns_same}
-use Rattle.yp_version.specs.Limits.{key_max, value_max, body_max}
 use Rattle.yp_version.specs.Rows.{Row, IsRising, HasDistinctKeys, key_cmp, row_len, rows_len}
 use Rattle.yp_version.specs.Slabs.{Packed, IsWithin, row_from, key_from}
 use Rattle.yp_version.specs.Slab.{packed_of}

@@ -1,4 +1,4 @@
-use Rattle.std.proofs.Common.{◌≡◌, ◌<◌, ℕ, Bool, true, false, Option, Some, None, length, bytes_eq, ap, ◌∙◌, sym, subst, arith, rules}
+use Rattle.std.proofs.Common.{◌≡◌, ◌<◌, true, false, Some, None, length, bytes_eq, ap, ◌∙◌, sym, subst, arith, rules}
 use Rattle.yp_version.specs.Tables.{bucket_of, bucket_at, linked, is_in, has_key, last_below}
 use Rattle.yp_version.proofs.Chains.{Walks, walk_within, walk_finds, walk_ends, walk_goes, walk_shrinks, key_in_bucket, key_tells, bucket_is}
 use Rattle.yp_version.proofs.table.Table.find.Goals as goal

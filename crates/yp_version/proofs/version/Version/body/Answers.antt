@@ -1,7 +1,7 @@
-use Rattle.std.proofs.Common.{◌≡◌, ◌++◌, ap, ◌∙◌, sym, subst, length}
+use Rattle.std.proofs.Common.{◌++◌, ap, ◌∙◌, length}
 use Rattle.std.specs.List.{flat_map}
-use Rattle.yp_version.specs.Bodies.{IsBody, body, row_bytes}
-use Rattle.yp_version.specs.Versions.{MapVersion, body_len}
+use Rattle.yp_version.specs.Bodies.{row_bytes}
+use Rattle.yp_version.specs.Versions.{body_len}
 use Rattle.yp_version.specs.Version.{version_of}
 use Rattle.yp_version.proofs.Lengths.{length_body}
 use Rattle.yp_version.proofs.version.Version.body.Goals as goal

@@ -1,8 +1,7 @@
-use Rattle.std.proofs.Common.{◌≡◌, ◌++◌, ◌≤◌, length, drop, ap, ◌∙◌, sym, subst, arith}
+use Rattle.std.proofs.Common.{◌++◌, length, drop, ap, ◌∙◌, arith}
 use Rattle.yp_xdr.specs.Kind.{U32}
 use Rattle.yp_xdr.specs.Spelling.{spelling}
 use Rattle.yp_version.specs.Bodies.{format}
-use Rattle.yp_version.specs.Slabs.{Packed}
 use Rattle.yp_version.specs.Version.{version_of}
 use Rattle.yp_version.proofs.Lengths.{length_front}
 use Rattle.yp_version.proofs.Finished.{marked_kept}
