@@ -8,7 +8,7 @@ use Rattle.yp_version.specs.Versions.{IsVersion, body_len, unmarked}
 use Rattle.yp_xdr.specs.Kind.{U32}
 use Rattle.yp_xdr.specs.Spelling.{spelling}
 use Rattle.yp_version.specs.Bodies.{format, front_bytes}
-use Rattle.yp_version.specs.Slabs.{Packed, IsWithin}
+use Rattle.yp_version.specs.Slabs.{Packed}
 use Rattle.yp_version.specs.Version.{version_of, IsKept}
 use Rattle.yp_version.specs.declared.version.Version.TheInside.{Inside}
 use Rattle.yp_version.proofs.Listed.{listed_rises}
@@ -28,13 +28,7 @@ finished draft sorted is moved same = record {
   body = subst (λ n. n ≤ body_max) (sym (finished_len draft sorted moved)) is.body;
 }
 
--- its rows keep the limits
-pub sorted_within : (draft : Draft) (sorted : List Row) → IsDraft draft → IsPermutation draft.rows sorted → IsWithin sorted
-sorted_within draft sorted is moved = record {
-  keys = All-permutation (λ row. length row.0 ≤ key_max) draft.rows sorted moved is.keys;
-  values = All-permutation (λ row. length row.1 ≤ value_max) draft.rows sorted moved is.values;
-}
-
+-- it has no more rows
 pub sorted_count : (draft : Draft) (sorted : List Row) → IsDraft draft → IsPermutation draft.rows sorted → length sorted ≤ rows_max
 sorted_count draft sorted is moved = subst (λ n. n ≤ rows_max) (sym (length_permutation draft.rows sorted moved)) is.count
 

@@ -15,7 +15,7 @@ use Rattle.yp_xdr.specs.Laws.{WrittenIsReadAgain}
 use Rattle.yp_version.specs.Limits.{key_max, value_max, body_max}
 use Rattle.yp_version.specs.Rows.{Row, padded, row_len, rows_len}
 use Rattle.yp_version.specs.Bodies.{row_bytes}
-use Rattle.yp_version.specs.Slabs.{Packed, IsWithin, read_or_none, opaque_from, key_from, value_from, row_from, places_from}
+use Rattle.yp_version.specs.Slabs.{Packed, KeepsLimits, read_or_none, opaque_from, key_from, value_from, row_from, places_from}
 use Rattle.yp_version.specs.Slab.{packed_of, IsPacked}
 use Rattle.yp_version.specs.declared.slab.Slab.TheInside.{Inside}
 use Rattle.yp_version.proofs.Lengths.{length_opaque, length_row, length_rows}
@@ -59,7 +59,7 @@ both : (rows : List Row) → AllByRecursion (λ row. length row.0 ≤ key_max) r
 both [] keys values = tt
 both (row ∷ rows) keys values = ((keys.0, values.0), both rows keys.1 values.1)
 
-fits_all : (rows : List Row) → IsWithin rows → AllByRecursion FitsRow rows
+fits_all : (rows : List Row) → KeepsLimits rows → AllByRecursion FitsRow rows
 fits_all rows within = both rows (recursion_from_All (λ (row : Row). length row.0 ≤ key_max) rows within.keys)
     (recursion_from_All (λ (row : Row). length row.1 ≤ value_max) rows within.values)
 
@@ -69,7 +69,7 @@ if_gathered P (Ok made) slab is holds = subst P (sym is) holds
 if_gathered P (Err e) slab is holds = tt
 
 -- rows in another order keep the limits
-pub within_moved : (rows moved : List Row) → IsPermutation rows moved → IsWithin rows → IsWithin moved
+pub within_moved : (rows moved : List Row) → IsPermutation rows moved → KeepsLimits rows → KeepsLimits moved
 within_moved rows moved is within = record {
   keys = All-permutation (λ row. length row.0 ≤ key_max) rows moved is within.keys;
   values = All-permutation (λ row. length row.1 ≤ value_max) rows moved is within.values;
@@ -124,7 +124,7 @@ module _ (again : WrittenIsReadAgain) where
       λ i. first i ∷ others i
 
   -- the fields hold these rows behind this head
-  pub packed_view : (inside : Inside) (head : List ℕ) (rows : List Row) → IsWithin rows
+  pub packed_view : (inside : Inside) (head : List ℕ) (rows : List Row) → KeepsLimits rows
       → inside.bytes.items ≡ head ++ flat_map row_bytes rows → inside.head_len ≡ length head
       → inside.places.items ≡ places_from (length head) rows
       → packed_of inside ≡ record { head = head; rows = rows }
@@ -135,13 +135,13 @@ module _ (again : WrittenIsReadAgain) where
       (λ i. map (row_from (bytes i)) (places i)) ∙ rows_read head rows (fits_all rows within) in
       λ i. record { head = front i; rows = all i }
 
-  pub packed_kept : (inside : Inside) (head : List ℕ) (rows : List Row) → IsWithin rows
+  pub packed_kept : (inside : Inside) (head : List ℕ) (rows : List Row) → KeepsLimits rows
       → inside.bytes.items ≡ head ++ flat_map row_bytes rows → inside.head_len ≡ length head
       → inside.places.items ≡ places_from (length head) rows → length inside.bytes.items ≤ body_max → IsPacked inside
   packed_kept inside head rows within bytes len places small =
       let view = packed_view inside head rows within bytes len places in
       record {
-        within = subst (λ (p : Packed). IsWithin p.rows) (sym view) within;
+        within = subst (λ (p : Packed). KeepsLimits p.rows) (sym view) within;
         bytes = bytes ∙ ap (λ (p : Packed). p.head ++ flat_map row_bytes p.rows) (sym view);
         head = len ∙ ap (λ (p : Packed). length p.head) (sym view);
         places = places ∙ (λ i. places_from (sym len i) (sym view i).rows);
@@ -149,7 +149,7 @@ module _ (again : WrittenIsReadAgain) where
       }
 
   -- one more row
-  within_push : (rows : List Row) (row : Row) → IsWithin rows → FitsRow row → IsWithin (rows ++ row ∷ [])
+  within_push : (rows : List Row) (row : Row) → KeepsLimits rows → FitsRow row → KeepsLimits (rows ++ row ∷ [])
   within_push rows row within fits = record {
     keys = All-push (λ (row : Row). length row.0 ≤ key_max) rows row within.keys fits.0;
     values = All-push (λ (row : Row). length row.1 ≤ value_max) rows row within.values fits.1;

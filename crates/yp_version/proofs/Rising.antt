@@ -7,7 +7,7 @@ use Rattle.std.specs.List.{AllByRecursion}
 use Rattle.std.specs.List.Sorted.{IsStrictlySortedBy}
 use Rattle.std.specs.Map.{keys_of}
 use Rattle.std.specs.Option.{option_map_or}
-use Rattle.yp_version.specs.Rows.{Row, key_cmp, IsRising, is_over, value_of}
+use Rattle.yp_version.specs.Rows.{Row, key_cmp, IsRising, is_over_last, value_of}
 use Rattle.yp_version.proofs.Drafted.{keys_of-push}
 
 -- each of these keys is below this one
@@ -36,7 +36,7 @@ over_each (row ∷ other ∷ rows) (suc k) key rising len over =
     let rest = over_each (other ∷ rows) k key rising.1 (omega (arith, len)) over in
     (nat_list_cmp_total.trans row.0 other.0 key rising.0.0 rest.0, rest)
 
-below_all : (rows : List Row) (key : List ℕ) → IsRising rows → is_over key rows ≡ true → Below key rows
+below_all : (rows : List Row) (key : List ℕ) → IsRising rows → is_over_last key rows ≡ true → Below key rows
 below_all [] key rising over = tt
 below_all (row ∷ rows) key rising over = over_each (row ∷ rows) (length rows) key rising refl
     (ap (λ k. option_map_or (λ (row : Row). is_lt (key_cmp row.0 key)) (slice_get (row ∷ rows) k) true) (let e : length rows ≡ length (row ∷ rows) - 1 = omega arith in e) ∙ over)
@@ -58,10 +58,10 @@ rising_push (first ∷ rows) row rising below =
     (keys_push first.0 rows row rising.0 below.0, rising_push rows row rising.1 below.1)
 
 -- a key over the last of rising rows has no value, and they rise with it
-pub over_is_new : (rows : List Row) (key : List ℕ) → IsRising rows → is_over key rows ≡ true → value_of key rows ≡ None
+pub over_is_new : (rows : List Row) (key : List ℕ) → IsRising rows → is_over_last key rows ≡ true → value_of key rows ≡ None
 over_is_new rows key rising over = below_no_value key rows (below_all rows key rising over)
 
-pub over_rises : (rows : List Row) (key : List ℕ) → IsRising rows → is_over key rows ≡ true → IsRising (rows ++ (key, []) ∷ [])
+pub over_rises : (rows : List Row) (key : List ℕ) → IsRising rows → is_over_last key rows ≡ true → IsRising (rows ++ (key, []) ∷ [])
 over_rises rows key rising over = rising_push rows (key, []) rising (below_all rows key rising over)
 
 -- whether rows rise hangs on their keys alone

@@ -27,8 +27,8 @@ abbrev pub HasDistinctKeys : List Row → Type 0
 HasDistinctKeys rows = IsDistinct bytes_eq (keys_of rows)
 
 -- whether a key is over that of the last row, if there is one
-abbrev pub is_over : List ℕ → List Row → Bool
-is_over key rows = option_map_or (λ row. is_lt (key_cmp row.0 key)) (slice_get rows (length rows - 1)) true
+abbrev pub is_over_last : List ℕ → List Row → Bool
+is_over_last key rows = option_map_or (λ row. is_lt (key_cmp row.0 key)) (slice_get rows (length rows - 1)) true
 
 -- the value of the first row with this key
 abbrev pub value_of : List ℕ → List Row → Option (List ℕ)

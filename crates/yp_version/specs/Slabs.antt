@@ -38,6 +38,6 @@ places_from at [] = []
 places_from at (row ∷ rows) = at ∷ places_from (at + row_len row) rows
 
 -- the rows keep the limits
-pub record IsWithin (rows : List Row) : Type 0 where
+pub record KeepsLimits (rows : List Row) : Type 0 where
   pub keys : All (λ row. length row.0 ≤ key_max) rows
   pub values : All (λ row. length row.1 ≤ value_max) rows

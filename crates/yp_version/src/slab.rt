@@ -1,16 +1,16 @@
 //! Bytes that stand before rows, and behind them the rows, each spelled as in the body of a version.
 
-ghost use Rattle.std.specs.Prelude.{◌≡◌, ◌+◌, ◌<◌, ◌≤◌, ◌^◌, [], ◌∷◌, ◌++◌, length, replicate, drop, map, slice_get, Some};
-ghost use Rattle.std.specs.Prelude.{ℕ, true, false, option_map, IfOk, OnOk, OnErr, IsTrue, IsPermutation};
+ghost use Rattle.std.specs.Prelude.{◌≡◌, ◌+◌, ◌<◌, ◌≤◌, ◌^◌, [], ◌∷◌, ◌++◌, length, replicate, drop, map, slice_get};
+ghost use Rattle.std.specs.Prelude.{ℕ, Some, true, false, option_map, IfOk, OnOk, OnErr, IsTrue, IsPermutation};
 ghost use Rattle.std.specs.List.{flat_map};
 ghost use Rattle.yp_xdr.specs.Kind.{U32};
 ghost use Rattle.yp_xdr.specs.Spelling.{spelling};
 ghost use Rattle.yp_xdr.specs.Writing.{written};
 ghost use Rattle.yp_version.specs.Limits.{key_max, value_max, body_max};
-ghost use Rattle.yp_version.specs.Rows.{HasDistinctKeys, IsRising, is_over, key_cmp, row_len, rows_len};
+ghost use Rattle.yp_version.specs.Rows.{HasDistinctKeys, IsRising, is_over_last, key_cmp, row_len, rows_len};
 ghost use Rattle.yp_version.specs.Tables.{has_key};
 ghost use Rattle.yp_version.specs.Bodies.{row_bytes};
-ghost use Rattle.yp_version.specs.Slabs.{IsWithin, opaque_from, key_from, row_from};
+ghost use Rattle.yp_version.specs.Slabs.{KeepsLimits, opaque_from, key_from, row_from};
 
 use crate::limits::{KEY_MAX, VALUE_MAX, WORD, padded, row_len};
 use std::alloc::Global;
@@ -97,7 +97,7 @@ impl Slab {
 
     /// Whether a key is over that of the last row, if there is one.
     pub(crate) fn is_over(&self, key: &[u8]) -> bool
-        ensures { result ≡ is_over key.now self.now.rows }
+        ensures { result ≡ is_over_last key.now self.now.rows }
     {
         let Some(last) = self.len().checked_sub(1) else {
             return true;
@@ -192,7 +192,7 @@ impl Slab {
 
 // The rows at these places, behind a head.
 fn gathered(alloc: Global, head: Vec<u8>, bytes: &[u8], places: &[u32]) -> Result<Slab, NoMemory>
-    requires within { IsWithin (map (row_from bytes.now) places.now) }
+    requires within { KeepsLimits (map (row_from bytes.now) places.now) }
     requires room { length head.items + rows_len (map (row_from bytes.now) places.now) ≤ body_max }
     ensures { IfOk result (λ slab. slab ≡ record { head = head.items; rows = map (row_from bytes.now) places.now }) }
 {

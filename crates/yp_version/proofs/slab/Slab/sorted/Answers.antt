@@ -3,7 +3,7 @@ use Rattle.std.proofs.lemmas.Cmp.{nat_list_cmp_total}
 use Rattle.std.proofs.lemmas.List.Sorted.{IsPermutation-map, sum_by-IsPermutation, ranks_by}
 use Rattle.std.proofs.lemmas.Fn.{always_returns_same}
 use Rattle.yp_version.specs.Rows.{Row, IsRising, HasDistinctKeys, key_cmp, row_len, rows_len}
-use Rattle.yp_version.specs.Slabs.{Packed, IsWithin, row_from, key_from}
+use Rattle.yp_version.specs.Slabs.{Packed, KeepsLimits, row_from, key_from}
 use Rattle.yp_version.specs.Slab.{packed_of}
 use Rattle.yp_version.proofs.Packing.{within_moved, bytes_len, if_gathered}
 use Rattle.yp_version.proofs.Sorted.{sorted_rises}
@@ -14,8 +14,8 @@ gathered-requires-clause-within c =
     let bytes = c.as_slice-all.ensures.value in
     let moved = IsPermutation-map (row_from c.self.inside.bytes.items) _ _ c.sort_unstable_by.ensures.permutation in
     let within = within_moved (packed_of c.self.inside).rows (map (row_from c.self.inside.bytes.items) c.sort_unstable_by.new.self.items) moved c.self.invariant.within in
-    subst (λ (l : List ℕ). IsWithin (map (row_from l) c.deref.result.now)) (sym bytes)
-    (subst (λ (l : List ℕ). IsWithin (map (row_from c.self.inside.bytes.items) l)) (sym c.deref.ensures.value) within)
+    subst (λ (l : List ℕ). KeepsLimits (map (row_from l) c.deref.result.now)) (sym bytes)
+    (subst (λ (l : List ℕ). KeepsLimits (map (row_from c.self.inside.bytes.items) l)) (sym c.deref.ensures.value) within)
 
 pub gathered-requires-clause-room : goal.gathered-requires-clause-room
 gathered-requires-clause-room c =
