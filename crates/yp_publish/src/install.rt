@@ -1,7 +1,7 @@
 //! What is offered to a publisher, and why it isn't installed.
 
 ghost use Rattle.std.specs.Prelude.{◌≡◌, ◌⊎◌, ◌≤◌, ℕ, OnOk, IfErr, Some, None};
-ghost use Rattle.yp_slot.specs.Bodies.{IsBody};
+ghost use Rattle.yp_version.specs.Bodies.{IsBody};
 
 use std::alloc::AllocError;
 use yp_io::{Failed, NoMemory};

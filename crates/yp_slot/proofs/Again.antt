@@ -16,7 +16,8 @@ use Rattle.yp_version.specs.Limits.{key_max, value_max, master_max, rows_max, bo
 use Rattle.yp_version.specs.Rows.{Row, IsRising, padded, row_len, rows_len}
 use Rattle.yp_version.specs.Versions.{MapVersion, IsVersion, body_len}
 use Rattle.yp_slot.specs.declared.wrong.Wrong.{Wrong}
-use Rattle.yp_slot.specs.Bodies.{format, row_bytes, head_bytes, body, IsBody, by_xdr, item, guard, secure_of, head_at}
+use Rattle.yp_version.specs.Bodies.{format, row_bytes, front_bytes, head_bytes, body, IsBody}
+use Rattle.yp_slot.specs.Bodies.{by_xdr, item, guard, secure_of, head_at}
 use Rattle.yp_slot.specs.Bodies.{is_over, row_at, rows_at, body_at}
 
 -- what has been read, wherever the reader then is
@@ -58,7 +59,7 @@ length-rows (row ∷ rows) =
     omega arith in e) ∙ sym (sum_by-cons row_len row rows)
 
 pub length-head : (v : MapVersion) → length (head_bytes v) ≡ 16 + padded (length v.master)
-unfolding head_bytes
+unfolding front_bytes
 length-head v =
     let a = spelling U32 (format v.secure) in
     let b = spelling U32 v.order in
@@ -112,7 +113,7 @@ module _ (again : WrittenIsReadAgain) where
         master = v.master;
         count = length v.rows;
       }) rest
-  unfolding head_at head_bytes
+  unfolding head_at front_bytes
   head_again v rest is =
       let a = spelling U32 (format v.secure) in
       let b = spelling U32 v.order in

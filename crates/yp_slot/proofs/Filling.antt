@@ -12,7 +12,8 @@ use Rattle.yp_slot.specs.declared.cells.Cell.{Cell}
 use Rattle.yp_slot.specs.declared.cells.Entry.{Entry}
 use Rattle.yp_slot.specs.declared.known.Known.{Known}
 use Rattle.yp_slot.specs.Cells.{bytes_at, cell_place, other, is_open, entry, filler, entry_bytes}
-use Rattle.yp_slot.specs.Bodies.{body, body_at}
+use Rattle.yp_version.specs.Bodies.{body}
+use Rattle.yp_slot.specs.Bodies.{body_at}
 use Rattle.yp_slot.specs.Stands.{file_max, has_room, by_body, Stored, stands, standing}
 use Rattle.yp_slot.specs.Commits.{generation_max, winning, target, generation_of, place_for, next_entry, filled, opened}
 use Rattle.yp_slot.specs.Slots.{IsSound, IsKnown, IsQuiet, Settles, IsFilled, Fills, LiesWithin, IsAsBefore}

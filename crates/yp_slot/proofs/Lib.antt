@@ -13,5 +13,4 @@ pub mod Rows
 pub mod Places
 pub mod Judging
 pub mod Loading
-pub mod Spelling
 pub mod Whole

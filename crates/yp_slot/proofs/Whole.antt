@@ -18,7 +18,8 @@ use Rattle.yp_version.specs.Limits.{key_max, value_max, master_max, rows_max, bo
 use Rattle.yp_version.specs.Rows.{Row, key_cmp, IsRising}
 use Rattle.yp_version.specs.Versions.{MapVersion, body_len}
 use Rattle.yp_slot.specs.declared.wrong.Wrong.{Wrong}
-use Rattle.yp_slot.specs.Bodies.{format, row_bytes, head_bytes, body, IsBody, ◌>>=◌, by_xdr, item, guard, Head, head_at}
+use Rattle.yp_version.specs.Bodies.{format, row_bytes, front_bytes, head_bytes, body, IsBody}
+use Rattle.yp_slot.specs.Bodies.{◌>>=◌, by_xdr, item, guard, Head, head_at}
 use Rattle.yp_slot.specs.Bodies.{is_over, row_at, rows_at, body_at}
 use Rattle.yp_slot.proofs.Again.{length-body}
 use Rattle.yp_slot.proofs.Rows.{lt_is}
@@ -201,7 +202,7 @@ module _ (spelled : ReadIsSpelled) where
 
   body_ok : (bytes : List ℕ) → IsBytes bytes → length bytes ≤ body_max
       → OkThat (body_at bytes) (λ version. IsBody bytes version)
-  unfolding body_at head_bytes
+  unfolding body_at front_bytes
   body_ok bytes are_bytes few =
       let start : Unread = record { at = 0; bytes = bytes } in
       then_ok (head_at start) _ _ (λ version. IsBody bytes version) (head_ok start are_bytes) (λ head h.

@@ -1,44 +1,15 @@
--- The body of a version: XDR values in a row (RFC 4506). What stands in it is this project's own.
-use Rattle.std.specs.Prelude.{◌≡◌, ℕ, ◌+◌, Bool, true, false, zero, suc, List, [], ◌∷◌, ◌++◌, length, Option, Some}
+-- The version that a body spells, or the first thing that is wrong in it.
+use Rattle.std.specs.Prelude.{◌≡◌, ℕ, ◌+◌, Bool, true, false, zero, suc, List, [], ◌∷◌, length, Option, Some}
 use Rattle.std.specs.Prelude.{None, Result, Ok, Err, if◌then◌else◌, ◌==◌, nat_lt}
-use Rattle.std.specs.List.{flat_map}
 use Rattle.std.specs.Ordering.{is_lt}
 use Rattle.yp_xdr.specs.declared.fault.XdrFault.{XdrFault}
 use Rattle.yp_xdr.specs.Faults.{fault_place}
 use Rattle.yp_xdr.specs.Kind.{Kind, U32, Opaque, Value}
-use Rattle.yp_xdr.specs.Spelling.{spelling}
 use Rattle.yp_xdr.specs.Reading.{Unread, reading}
 use Rattle.yp_version.specs.Limits.{key_max, value_max, master_max, rows_max}
 use Rattle.yp_version.specs.Rows.{Row, key_cmp}
-use Rattle.yp_version.specs.Versions.{MapVersion, IsVersion}
+use Rattle.yp_version.specs.Versions.{MapVersion}
 use Rattle.yp_slot.specs.declared.wrong.Wrong.{Wrong}
-
--- ---- the bytes of a version
-
--- the first word says whether the version is secure
-abbrev pub format : Bool → ℕ
-format secure = if secure then 2 else 1
-
--- a row: its key and then its value
-unfoldable pub row_bytes : Row → List ℕ
-row_bytes row = spelling (Opaque key_max) row.0 ++ spelling (Opaque value_max) row.1
-
--- format, order, master and count of rows
-unfoldable pub head_bytes : MapVersion → List ℕ
-head_bytes version =
-    spelling U32 (format version.secure) ++ spelling U32 version.order ++ spelling (Opaque master_max) version.master
-    ++ spelling U32 (length version.rows)
-
--- the whole body
-abbrev pub body : MapVersion → List ℕ
-body version = head_bytes version ++ flat_map row_bytes version.rows
-
--- these bytes are the body of this version
-pub record IsBody (bytes : List ℕ) (version : MapVersion) : Type 0 where
-  pub within : IsVersion version
-  pub spelled : bytes ≡ body version
-
--- ---- the first thing that is wrong in a body
 
 -- the value of a step, or where the body is wrong and by which rule
 infixl 10 ◌>>=◌

@@ -4,7 +4,8 @@ use Rattle.std.specs.List.{AllByRecursion}
 use Rattle.yp_xdr.specs.Reading.{IsBytes}
 use Rattle.yp_version.specs.Limits.{body_max}
 use Rattle.yp_version.specs.Versions.{MapVersion}
-use Rattle.yp_slot.specs.Bodies.{IsBody, body_at}
+use Rattle.yp_version.specs.Bodies.{IsBody}
+use Rattle.yp_slot.specs.Bodies.{body_at}
 use Rattle.yp_slot.specs.Stands.{file_max, Stored, stands}
 use Rattle.yp_slot.specs.Slots.{IsSound}
 

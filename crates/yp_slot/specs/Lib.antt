@@ -6,4 +6,3 @@ pub mod Slots
 pub mod Laws
 pub mod Heads
 pub mod Loads
-pub mod Spelled

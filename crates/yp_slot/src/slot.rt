@@ -43,7 +43,7 @@ impl<D: Disk> Model for Slot<D> {
 
 impl<D: Disk> Slot<D> {
     ghost use Rattle.yp_slot.specs.declared.known.Stage.TheVariants.{Unready, Loaded, Laid, Closed, Filled};
-    ghost use Rattle.yp_slot.specs.Bodies.{IsBody};
+    ghost use Rattle.yp_version.specs.Bodies.{IsBody};
     ghost use Rattle.yp_slot.specs.Cells.{cells_len, is_open};
     ghost use Rattle.yp_slot.specs.Commits.{generation_max, target, laid, closed, filled, opened, committed};
     ghost use Rattle.yp_slot.specs.Loads.{Loads};

@@ -1,22 +1,23 @@
 -- What a builder keeps, while rows are pushed.
-use Rattle.std.proofs.Common.{◌≡◌, ℕ, ◌+◌, ◌-◌, ◌%◌, ◌^◌, ◌<◌, ◌≤◌, Bool, true, false, cond, ◌||◌, List, [], ◌∷◌, ◌++◌, length, map, Some, None, is_some, bytes_eq, nat_lt, nat_le, refl, sym, ap, ◌∙◌, subst, true≢false, arith, length-append, mod-lt, lit<, add-zero, Vec, Global}
+use Rattle.std.proofs.Common.{◌≡◌, ℕ, ◌+◌, ◌-◌, ◌%◌, ◌^◌, ◌<◌, ◌≤◌, Bool, true, false, cond, ◌||◌, List, [], ◌∷◌, ◌++◌, length, Option, Some, None, IfSome, is_some, bytes_eq, nat_lt, nat_le, refl, sym, ap, ◌∙◌, subst, true≢false, arith, length-append, mod-lt, lit<}
 use Rattle.std.proofs.lemmas.Bool.{ltb-false, leb-false}
 use Rattle.std.proofs.lemmas.Cmp.{nat_list_eq_equiv}
 use Rattle.std.proofs.lemmas.List.Elements.{All-nil, All-push}
 use Rattle.std.proofs.lemmas.List.Sums.{sum_by-append}
 use Rattle.std.proofs.lemmas.Map.Keys.{IsDistinct-push}
-use Rattle.std.specs.declared.hash.RandomState.{RandomState}
 use Rattle.std.specs.List.{IsDistinct, list_any}
+use Rattle.std.specs.List.Sorted.{IsStrictlySortedBy}
 use Rattle.std.specs.Map.{keys_of}
-use Rattle.indexmap.specs.IndexMap.{IndexMap}
-use Rattle.yp_version.specs.Indexed.{rows_of}
 use Rattle.yp_version.specs.Limits.{key_max, value_max, master_max, rows_max, body_max}
-use Rattle.yp_version.specs.Rows.{Row, value_of, padded, row_len, rows_len}
+use Rattle.yp_version.specs.Rows.{Row, IsRising, value_of, padded, row_len, rows_len}
 use Rattle.yp_version.specs.Drafts.{Draft, IsDraft, draft_len, refused_new, with_new}
 use Rattle.yp_version.specs.declared.builder.VersionFault.TheVariants.{TooManyRows, TooBig}
 use Rattle.yp_version.specs.declared.builder.VersionBuilder.TheInside.{Inside}
 use Rattle.yp_version.specs.VersionBuilder.{IsKept, draft_of}
-use Rattle.yp_version.specs.Pair.{row_view}
+use Rattle.yp_version.specs.Slabs.{Packed}
+use Rattle.yp_version.specs.Table.{IsTable}
+use Rattle.yp_version.specs.declared.table.Table.{Table}
+use Rattle.yp_version.proofs.Chains.{chains_more}
 use Rattle.yp_version.proofs.Keys.{eq_flip}
 
 -- padding is at most three bytes
@@ -64,7 +65,7 @@ key_is_new key rows none = ap (λ test. list_any test (keys_of rows)) (sym (eq_f
       | false ↦ λ e. by rows e
     ] none
 
-keys_of-push : (rows : List Row) (row : Row) → keys_of (rows ++ row ∷ []) ≡ keys_of rows ++ row.0 ∷ []
+pub keys_of-push : (rows : List Row) (row : Row) → keys_of (rows ++ row ∷ []) ≡ keys_of rows ++ row.0 ∷ []
 keys_of-push [] row = refl
 keys_of-push (other ∷ rows) row = ap (λ keys. other.0 ∷ keys) (keys_of-push rows row)
 
@@ -91,24 +92,38 @@ grown_draft draft row is key value absent fits = let room = fits_by_refusal draf
   body = let l = draft_len-with_new draft row in rw l room.1;
 }
 
+no_rows_rise : IsRising []
+unfolding IsStrictlySortedBy
+no_rows_rise = tt
+
 -- a builder without rows
-pub new_kept : (inside : Inside) → inside.order < 2 ^ 32 → length inside.master.items ≤ master_max → inside.rows.entries ≡ []
-    → inside.body_len ≡ 16 + padded (length inside.master.items) → IsKept inside
-new_kept inside small short none len = record {
-  draft = subst (λ rows. IsDraft (record { order = inside.order; master = inside.master.items; rows = map row_view rows })) (sym none)
+pub new_kept : (inside : Inside) → inside.order < 2 ^ 32 → length inside.master.items ≤ master_max → inside.slab.rows ≡ []
+    → length inside.slab.head ≡ 16 + padded (length inside.master.items) → IfSome inside.table (λ table. IsTable table inside.slab.rows)
+    → IsKept inside
+new_kept inside small short none len table = record {
+  draft = subst (λ (rows : List Row). IsDraft (record { order = inside.order; master = inside.master.items; rows = rows })) (sym none)
       (empty_draft inside.order inside.master.items small short);
-  len = len ∙ (sym (add-zero (16 + padded (length inside.master.items))) ∙ ap (λ rows. 16 + padded (length inside.master.items) + rows_len (map row_view rows)) (sym none));
+  head = len;
+  rising = λ rises. subst IsRising (sym none) no_rows_rise;
+  table = table;
 }
 
 -- a builder with one more row
-pub grown_kept : (inside : Inside) (rows : IndexMap (Vec ℕ Global) (Vec ℕ Global) RandomState) (len : ℕ) (row : Row) → IsKept inside
+pub grown_kept : (inside : Inside) (slab : Packed) (rises : Bool) (row : Row) → IsKept inside
     → length row.0 ≤ key_max → length row.1 ≤ value_max
     → value_of row.0 (draft_of inside).rows ≡ None → refused_new (draft_of inside) row ≡ None
-    → rows_of rows ≡ rows_of inside.rows ++ row ∷ [] → len ≡ row_len row
-    → IsKept (record inside { rows = rows; body_len = inside.body_len + len })
-grown_kept inside rows len row kept key value absent fits pushed is_len =
-    let same : with_new (draft_of inside) row ≡ record (draft_of inside) { rows = rows_of rows } = λ i. record (draft_of inside) { rows = sym pushed i } in
-    record {
-      draft = subst IsDraft same (grown_draft (draft_of inside) row kept.draft key value absent fits);
-      len = (λ i. kept.len i + is_len i) ∙ sym (draft_len-with_new (draft_of inside) row) ∙ ap draft_len same;
-    }
+    → (rises ≡ true → IsRising (inside.slab.rows ++ row ∷ []))
+    → slab ≡ record inside.slab { rows = inside.slab.rows ++ row ∷ [] }
+    → IsKept (record inside { slab = slab; rising = rises })
+grown_kept inside slab rises row kept key value absent fits rising is =
+    subst (λ (s : Packed). IsKept (record inside { slab = s; rising = rises })) (sym is) (record {
+      draft = grown_draft (draft_of inside) row kept.draft key value absent fits;
+      head = kept.head;
+      rising = rising;
+      table = known inside.table kept.table;
+    })
+  where
+    known : (table : Option Table) → IfSome table (λ table. IsTable table inside.slab.rows)
+        → IfSome table (λ table. IsTable table (inside.slab.rows ++ row ∷ []))
+    known None is = tt
+    known (Some table) is = chains_more table.hasher table.heads.items table.before.items inside.slab.rows (row ∷ []) (length table.before.items) is

@@ -1,9 +1,12 @@
 pub mod Keys
 pub mod Listed
 pub mod Unique
-pub mod Stored
 pub mod Drafted
 pub mod Moved
 pub mod Sorted
 pub mod Finished
 pub mod Search
+pub mod Lengths
+pub mod Packing
+pub mod Chains
+pub mod Rising

@@ -1,22 +1,18 @@
--- A binary search among the pairs of a version finds where a key stands.
-use Rattle.std.proofs.Common.{◌≡◌, ℕ, zero, suc, ◌+◌, ◌<◌, Bool, true, false, cond, List, [], ◌∷◌, map, length, get_or, slice_get, Some, None, Result, Ok, Err, MatchOption, option_map, is_some, Vec, Global, bytes_eq, is_lt, Less, Greater, refl, sym, ap, ◌∙◌, subst, inl, inr, true≢false, arith, All, add-one}
-use Rattle.std.proofs.lemmas.Bool.{cond-true, cond-false}
-use Rattle.std.proofs.lemmas.Cmp.{nat_list_cmp_total}
+-- Where a key stands among rows.
+use Rattle.std.proofs.Common.{◌≡◌, ℕ, zero, suc, ◌+◌, ◌<◌, ◌≤◌, Bool, true, false, cond, List, [], ◌∷◌, map, take, length, get_or, slice_get, Option, Some, None, MatchOption, option_map, is_some, bytes_eq, nat_le, refl, sym, ap, ◌∙◌, subst, inl, inr, true≢false, arith, All, add-one}
+use Rattle.std.proofs.lemmas.Bool.{cases_Bool, cond-true, cond-false, leb-true, leb-false}
 use Rattle.std.proofs.lemmas.List.{get_or-map, length-map}
-use Rattle.std.proofs.lemmas.List.Sorted.{searchable_from_sorted}
-use Rattle.std.proofs.lemmas.Map.Keys.{Less-from_sorted, IsDistinct-head, IsDistinct-tail}
-use Rattle.std.proofs.lemmas.Map.Entries.{lookup_at_gap}
-use Rattle.std.proofs.lemmas.Option.{slice_get_cases, slice_get-map, slice_get_within, same_Some, none-some, get_or_from_slice_get}
-use Rattle.std.specs.List.{AllByRecursion, AllWithin}
-use Rattle.std.specs.List.Sorted.{IsSortedBy, IsBinarySearchResult, IsSearchInRange, IsNonDecreasingBy}
-use Rattle.std.specs.Map.{keys_of, lookup}
-use Rattle.std.specs.Ordering.{ordering_index}
-use Rattle.std.specs.Result.{result_ok}
-use Rattle.yp_version.specs.Pair.{row_view}
+use Rattle.std.proofs.lemmas.List.Sums.{sum_by-cons}
+use Rattle.std.proofs.lemmas.Map.Keys.{IsDistinct-head, IsDistinct-tail}
+use Rattle.std.proofs.lemmas.Option.{slice_get-map, slice_get_within, same_Some, none-some, get_or_from_slice_get}
+use Rattle.std.specs.List.{AllByRecursion}
+use Rattle.std.specs.Map.{keys_of}
+use Rattle.std.specs.Option.{option_map_or}
 use Rattle.yp_version.specs.Places.{StandsAt, IsAbsent}
-use Rattle.yp_version.specs.Rows.{Row, key_cmp, IsRising, HasDistinctKeys, value_of, following, first_of}
-use Rattle.yp_version.proofs.Keys.{cmp_back, cmp_flip, cmp_same, key_itself, eq_flip, eq_is_cmp}
-use Rattle.yp_version.proofs.Sorted.{key_at, keys-views}
+use Rattle.yp_version.specs.Rows.{Row, IsRising, HasDistinctKeys, value_of, following, first_of, row_len, rows_len}
+use Rattle.yp_version.specs.Tables.{last_below, has_key}
+use Rattle.yp_version.proofs.Chains.{last_passes, all_fail}
+use Rattle.yp_version.proofs.Keys.{same_key, key_itself}
 use Rattle.yp_version.proofs.Unique.{rising_is_distinct}
 
 first_is_get : (rows : List Row) → first_of rows ≡ slice_get rows 0
@@ -65,64 +61,78 @@ nothing_follows key (row ∷ rows) none = by (bytes_eq row.0 key) none (nothing_
     by true e later = absurd (true≢false (ap is_some e))
     by false e later = later e
 
--- the key of the pair at a place
-key-views : (pairs : List (Vec ℕ Global × Vec ℕ Global)) (i : ℕ) → slice_get (keys_of (map row_view pairs)) i ≡ option_map key_at (slice_get pairs i)
-key-views pairs i = ap (λ keys. slice_get keys i) (keys-views pairs) ∙ slice_get-map key_at pairs i
-
--- pairs in rising order may be searched
-searchable : (pairs : List (Vec ℕ Global × Vec ℕ Global)) (key : List ℕ) → IsRising (map row_view pairs) → IsNonDecreasingBy (λ pair. ordering_index (key_cmp (key_at pair) key)) pairs
-searchable pairs key rising = searchable_from_sorted nat_list_cmp_total key_at pairs key sorted
+-- a row that has the key
+has_it : (rows : List Row) (i : ℕ) (key : List ℕ) → has_key key rows i ≡ true → slice_get (keys_of rows) i ≡ Some key
+has_it rows i key here = slice_get-map (λ (row : Row). row.0) rows i ∙ by (slice_get rows i) here
   where
-    sorted : IsSortedBy (λ a b. is_lt (key_cmp (key_at a) (key_at b))) pairs
-    sorted k d low high =
-        let l = length-map pairs key_at in
-        let a = get_or-map key_at pairs k d [] (omega (arith, high)) in
-        let b = get_or-map key_at pairs (k + 1) d [] high in
-        let keys = subst (λ keys. key_cmp (get_or keys k []) (get_or keys (k + 1) []) ≡ Less) (keys-views pairs)
-        (Less-from_sorted key_cmp (keys_of (map row_view pairs)) k (k + 1) [] rising (omega arith) (subst (λ keys. k + 1 < length keys) (sym (keys-views pairs)) (omega (arith, l, high)))) in
-        ap is_lt (cmp_back (key_at (get_or pairs k d)) (key_at (get_or pairs (k + 1) d)) ((λ i. key_cmp (sym a i) (sym b i)) ∙ keys))
+    by : (row : Option Row) → option_map_or (λ (row : Row). bytes_eq row.0 key) row false ≡ true → option_map (λ (row : Row). row.0) row ≡ Some key
+    by None e = absurd (true≢false (sym e))
+    by (Some row) e = ap Some (same_key row.0 key e)
 
--- the pair that is the row at a place
-pair_at : (pairs : List (Vec ℕ Global × Vec ℕ Global)) (j : ℕ) (row : Row) → slice_get (map row_view pairs) j ≡ Some row
-    → (pair : Vec ℕ Global × Vec ℕ Global) × (j < length pairs) × (get_or pairs j pair ≡ pair) × (row_view pair ≡ row)
-pair_at pairs j row e = elim (slice_get_cases pairs j).1 [
-  | inl (pair, here, s, r) ↦ (pair, here, r, same_Some (row_view pair) row (sym (slice_get-map row_view pairs j ∙ ap (option_map row_view) s) ∙ e))
-  | inr (past, none) ↦ absurd (none-some row (sym (slice_get-map row_view pairs j ∙ ap (option_map row_view) none) ∙ e))
-]
+-- where no row has the key, it has no value
+pub none_has : (key : List ℕ) (rows : List Row) → ((j : ℕ) → j < length rows → has_key key rows j ≡ false) → value_of key rows ≡ None
+none_has key [] none = refl
+none_has key (row ∷ rows) none =
+    cond-false (bytes_eq row.0 key) (Some row.1) (value_of key rows) (none zero (omega arith))
+    ∙ none_has key rows (λ j low. none (suc j) (omega (arith, low)))
 
--- where a search ends
-pub searched : (pairs : List (Vec ℕ Global × Vec ℕ Global)) (key : List ℕ) (r : Result ℕ ℕ) → IsRising (map row_view pairs) → IsSearchInRange r (length pairs)
-    → IsBinarySearchResult (λ pair. key_cmp (key_at pair) key) pairs r
-    → MatchOption (result_ok r) (IsAbsent key (map row_view pairs)) (StandsAt key (map row_view pairs))
-searched pairs key (Ok i) rising bound found = stands_at (map row_view pairs) i key rising (key-views pairs i ∙ elim (slice_get_cases pairs i).1 [
-  | inl (pair, here, e, r) ↦ ap (option_map key_at) e ∙ ap Some (cmp_same (key_at pair) key (ap (λ p. key_cmp (key_at p) key) (sym r) ∙ found pair))
-  | inr (past, none) ↦ absurd (omega (arith, past, bound))
-])
-searched pairs key (Err i) rising bound split = record { value = none; next = nothing_follows key (map row_view pairs) none }
-  where
-    parts : AllWithin (λ pair. key_cmp (key_at pair) key ≡ Less) pairs 0 i × AllWithin (λ pair. key_cmp (key_at pair) key ≡ Greater) pairs i (length pairs)
-    parts = split (searchable pairs key rising)
-
-    below : (j : ℕ) (row : Row) → j < i → slice_get (map row_view pairs) j ≡ Some row → key_cmp key row.0 ≡ Greater
-    below j row low e = let (pair, here, r, same) = pair_at pairs j row e in
-        ap (λ row. key_cmp key row.0) (sym same) ∙ cmp_back (key_at pair) key (ap (λ p. key_cmp (key_at p) key) (sym r) ∙ parts.0 j pair (omega arith) low)
-
-    above : (row : Row) → slice_get (map row_view pairs) i ≡ Some row → key_cmp key row.0 ≡ Less
-    above row e = let (pair, here, r, same) = pair_at pairs i row e in
-        ap (λ row. key_cmp key row.0) (sym same) ∙ cmp_flip (key_at pair) key (ap (λ p. key_cmp (key_at p) key) (sym r) ∙ parts.1 i pair (omega arith) here)
-
-    none : value_of key (map row_view pairs) ≡ None
-    none =
-        ap (λ test. lookup test (map row_view pairs)) (eq_flip key ∙ ap (λ e. e key) eq_is_cmp)
-        ∙ lookup_at_gap nat_list_cmp_total key (map row_view pairs) i rising below above
+-- the last row with the key among rising rows is the one that has it
+pub found_at : (rows : List Row) (key : List ℕ) (found : Option ℕ) → IsRising rows → found ≡ last_below (has_key key rows) (length rows)
+    → MatchOption found (IsAbsent key rows) (StandsAt key rows)
+found_at rows key None rising is =
+    let none = none_has key rows (all_fail (has_key key rows) (length rows) (sym is)) in
+    record { value = none; next = nothing_follows key rows none }
+found_at rows key (Some i) rising is =
+    stands_at rows i key rising (has_it rows i key (last_passes (has_key key rows) (length rows) i (sym is)).1)
 
 -- what holds of all rows holds of the one at a place
 pub holds_at : (P : Row → Type 0) (rows : List Row) (i : ℕ) (row : Row) → All P rows → slice_get rows i ≡ Some row → P row
 holds_at P rows i row all e = subst P (get_or_from_slice_get rows i row row e) (all i row (slice_get_within rows i row e))
 
--- what holds of all rows holds of the pair at a place
-pub holds_of_pair : (P : Row → Type 0) (pairs : List (Vec ℕ Global × Vec ℕ Global)) (i : ℕ) (pair : Vec ℕ Global × Vec ℕ Global)
-    → All P (map row_view pairs) → i < length pairs → pair ≡ get_or pairs i pair → P (row_view pair)
-holds_of_pair P pairs i pair all within is =
-    let l = length-map pairs row_view in
-    subst P (get_or-map row_view pairs i pair (row_view pair) within ∙ ap row_view (sym is)) (all i (row_view pair) (omega (arith, l, within)))
+-- what holds of all rows holds of the one that is made of the item at a place
+pub holds_of_item : {X : Type 0} (row_of : X → Row) (P : Row → Type 0) (items : List X) (i : ℕ) (x : X)
+    → All P (map row_of items) → i < length items → x ≡ get_or items i x → P (row_of x)
+holds_of_item row_of P items i x all within is =
+    let l = length-map items row_of in
+    subst P (get_or-map row_of items i x (row_of x) within ∙ ap row_of (sym is)) (all i (row_of x) (omega (arith, l, within)))
+
+-- there is room for each of the rows in turn
+pub room_left : {X : Type 0} (row_of : X → Row) (items : List X) (i : ℕ) (x : X) → i < length items → x ≡ get_or items i x
+    → rows_len (map row_of (take i items)) + row_len (row_of x) ≤ rows_len (map row_of items)
+room_left row_of [] i x low is = absurd (omega (arith, low))
+room_left row_of (first ∷ items) zero x low is =
+    let e = ap (λ p. row_len (row_of p)) is in
+    let c = sum_by-cons row_len (row_of first) (map row_of items) in
+    omega arith
+room_left row_of (first ∷ items) (suc i) x low is =
+    let h = room_left row_of items i x (omega (arith, low)) is in
+    let a = sum_by-cons row_len (row_of first) (map row_of items) in
+    let b = sum_by-cons row_len (row_of first) (map row_of (take i items)) in
+    omega arith
+
+-- where a row has the key, it has a value
+pub some_has : (key : List ℕ) (rows : List Row) (j : ℕ) → has_key key rows j ≡ true → is_some (value_of key rows) ≡ true
+some_has key [] j here = absurd (true≢false (sym here))
+some_has key (row ∷ rows) zero here = ap is_some (cond-true (bytes_eq row.0 key) (Some row.1) (value_of key rows) here)
+some_has key (row ∷ rows) (suc j) here = elim (cases_Bool (bytes_eq row.0 key)) [
+  | inl this ↦ ap is_some (cond-true (bytes_eq row.0 key) (Some row.1) (value_of key rows) this)
+  | inr other ↦ ap is_some (cond-false (bytes_eq row.0 key) (Some row.1) (value_of key rows) other) ∙ some_has key rows j here
+]
+
+-- a look-up of the first rows, and of the others one by one, finds whether a key has a value
+pub holds_by : (key : List ℕ) (rows : List Row) (first : ℕ) (found : Bool)
+    → ((j : ℕ) → j < first → has_key key rows j ≡ false)
+    → (found ≡ true → (j : ℕ) × (has_key key rows j ≡ true))
+    → (found ≡ false → (j : ℕ) → first ≤ j → j < length rows → has_key key rows j ≡ false)
+    → found ≡ is_some (value_of key rows)
+holds_by key rows first true before there apart = let h = there refl in sym (some_has key rows h.0 h.1)
+holds_by key rows first false before there apart = sym (ap is_some (none_has key rows (λ j low. elim (cases_Bool (nat_le first j)) [
+  | inl late ↦ apart refl j (leb-true first j late) low
+  | inr early ↦ before j (leb-false first j early)
+])))
+
+-- a number that was found shows that the key has a value
+pub found_some : (key : List ℕ) (rows : List Row) (n : ℕ) (found : Option ℕ) → found ≡ last_below (has_key key rows) n → is_some found ≡ true
+    → is_some (value_of key rows) ≡ true
+found_some key rows n None is some = absurd (true≢false (sym some))
+found_some key rows n (Some i) is some = some_has key rows i (last_passes (has_key key rows) n i (sym is)).1

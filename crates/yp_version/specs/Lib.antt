@@ -1,9 +1,12 @@
 pub mod Limits
 pub mod Rows
 pub mod Versions
+pub mod Bodies
 pub mod Drafts
-pub mod Pair
-pub mod Indexed
+pub mod Slabs
+pub mod Slab
+pub mod Tables
+pub mod Table
 pub mod Version
 pub mod VersionBuilder
 pub mod Next

@@ -1,7 +1,8 @@
 -- What the code keeps of a version.
-use Rattle.std.specs.Prelude.{◌≡◌, map}
-use Rattle.yp_version.specs.Pair.{row_view}
-use Rattle.yp_version.specs.Versions.{MapVersion, IsVersion, body_len}
+use Rattle.std.specs.Prelude.{◌≡◌}
+use Rattle.yp_version.specs.Bodies.{head_bytes}
+use Rattle.yp_version.specs.Table.{IsTable, HasAll}
+use Rattle.yp_version.specs.Versions.{MapVersion, IsVersion}
 use Rattle.yp_version.specs.declared.version.Version.TheInside.{Inside}
 
 -- the version that the fields stand for
@@ -10,10 +11,12 @@ version_of inside = record {
   order = inside.order;
   master = inside.master.items;
   secure = inside.secure;
-  rows = map row_view inside.rows.items;
+  rows = inside.slab.rows;
 }
 
--- the fields keep a version and its length
+-- the slab is the body of a version, and the table is that of its rows
 pub record IsKept (inside : Inside) : Type 0 where
   pub version : IsVersion (version_of inside)
-  pub len : inside.body_len ≡ body_len (version_of inside)
+  pub head : inside.slab.head ≡ head_bytes (version_of inside)
+  pub table : IsTable inside.table inside.slab.rows
+  pub all : HasAll inside.table inside.slab.rows

@@ -1,16 +1,17 @@
 //! Building a version row by row.
 
-ghost use Rattle.std.specs.Prelude.{◌≡◌, ◌<◌, ◌≤◌, ◌⊎◌, ◌↔◌, [], ◌∷◌, ◌++◌, length, map, IsPermutation, false, None};
-ghost use Rattle.std.specs.Prelude.{Some, is_none, is_some, IsTrue, IfOk, IfErr, OnOk, OnErr};
-ghost use Rattle.yp_version.specs.Limits.{key_max, value_max, master_max};
-ghost use Rattle.yp_version.specs.Rows.{value_of, listed};
-ghost use Rattle.yp_version.specs.Pair.{row_view};
-ghost use Rattle.yp_version.specs.Indexed.{rows_of};
-ghost use Rattle.yp_version.specs.Drafts.{IsDraft, refused, refused_new, with_new, with_row};
+ghost use Rattle.std.specs.Prelude.{◌≡◌, ◌<◌, ◌≤◌, ◌⊎◌, ◌↔◌, [], ◌∷◌, ◌++◌, length, false, None};
+ghost use Rattle.std.specs.Prelude.{Some, is_none, is_some, IsTrue, IfOk, IfErr, IfSome, OnOk, OnErr};
+ghost use Rattle.yp_version.specs.Limits.{key_max, value_max, master_max, rows_max, body_max};
+ghost use Rattle.yp_version.specs.Rows.{IsRising, value_of, listed};
+ghost use Rattle.yp_version.specs.Drafts.{IsDraft, draft_len, refused, refused_new, with_new, with_row};
+ghost use Rattle.yp_version.specs.Table.{IsTable};
 
-use crate::limits::{BODY_MAX, HEAD_LEN, KEY_MAX, ROWS_MAX, VALUE_MAX, padded, row_len};
+use crate::head::head_of;
+use crate::limits::{BODY_MAX, KEY_MAX, ROWS_MAX, VALUE_MAX, row_len};
+use crate::slab::Slab;
+use crate::table::Table;
 use crate::version::Version;
-use indexmap::IndexMap;
 use std::alloc::Global;
 use std::hash::RandomState;
 use std::marker::Model;
@@ -44,19 +45,22 @@ pub enum VersionFault {
 
 /// A version while it is built: rows with distinct keys, in the order in which they were pushed.
 ///
-/// Keys may come from others, so they are hashed with random keys.
+/// They stand as in the stored body. While keys only rise, each is compared with the last one; from the first on that
+/// doesn't, they are looked up in a table. Keys may come from others, so they are hashed with random keys.
 #[derive(Drop)]
 pub struct VersionBuilder {
     alloc: Global,
     order: u32,
     master: Vec<u8>,
-    rows: IndexMap<Vec<u8>, Vec<u8>, RandomState>,
-    body_len: usize,
+    slab: Slab,
+    // Whether each key is over those before it.
+    rising: bool,
+    hasher: RandomState,
+    // The first rows by their keys, once a key didn't rise.
+    table: Option<Table>,
 }
 
 impl Model for VersionBuilder {
-    ghost use Rattle.yp_version.specs.Pair.{row_view};
-    ghost use Rattle.yp_version.specs.Indexed.{rows_of};
     ghost use Rattle.yp_version.specs.Drafts.{Draft};
 
     ghost Value = { Draft };
@@ -82,14 +86,17 @@ impl VersionBuilder {
         let Ok(hasher) = RandomState::new(rt) else {
             return Err(NoMemory);
         };
-        let body_len = HEAD_LEN + padded(master.len());
+        let head = head_of(alloc, order, master, 0, 0)?;
         let master = Vec::from_slice(alloc, master).map_err(|_| NoMemory)?;
+        let slab = Slab::new(alloc, head, 0)?;
         Ok(VersionBuilder {
             alloc,
             order,
             master,
-            rows: IndexMap::with_hasher(alloc, hasher),
-            body_len,
+            slab,
+            rising: true,
+            hasher,
+            table: None,
         })
     }
 
@@ -110,7 +117,7 @@ impl VersionBuilder {
         if value.len() > VALUE_MAX {
             return Err(VersionFault::ValueLong { len: value.len() });
         }
-        if self.holds(key) {
+        if !self.is_new(key) {
             return Ok(false);
         }
         self.room_for(key, value)?;
@@ -120,11 +127,57 @@ impl VersionBuilder {
         }
     }
 
+    // Whether no row has this key. Where it doesn't rise, the table takes in all rows before it is asked.
+    fn is_new(&mut self, key: &[u8]) -> bool
+        ensures answer { result ≡ is_none (value_of key.now self.old.rows) }
+        ensures same { self.new ≡ self.old }
+    {
+        if self.rises(key) {
+            return true;
+        }
+        // Want of memory costs only time here: what the table lacks is looked for row by row.
+        let _ = self.index();
+        !self.holds(key)
+    }
+
+    // Whether the rows rise, with a further one that has this key.
+    fn rises(&self, key: &[u8]) -> bool
+        ensures rising { IsTrue result → IsRising (self.now.rows ++ (key.now, []) ∷ []) }
+        ensures absent { IsTrue result → value_of key.now self.now.rows ≡ None }
+    {
+        self.rising && self.slab.is_over(key)
+    }
+
+    // Makes the table, or a larger one, and takes in the rows that it lacks.
+    fn index(&mut self) -> Result<(), NoMemory>
+        ensures { self.new ≡ self.old }
+    {
+        let table = self.table.take();
+        let mut table = roomy(self.alloc, self.hasher, table, &self.slab)?;
+        let filled = table.fill(&self.slab);
+        self.table = Some(table);
+        filled
+    }
+
     // Whether a row has this key.
     fn holds(&self, key: &[u8]) -> bool
         ensures { result ≡ is_some (value_of key.now self.now.rows) }
     {
-        self.rows.contains_key(key)
+        let Some(table) = &self.table else {
+            return self.slab.holds_from(0, key);
+        };
+        if table.find(&self.slab, key).is_some() {
+            return true;
+        }
+        self.slab.holds_from(table.len(), key)
+    }
+
+    // The bytes of the stored body of the rows so far.
+    fn body_len(&self) -> usize
+        ensures len { result ≡ draft_len self.now }
+        ensures bound { result ≤ body_max }
+    {
+        self.slab.bytes().len()
     }
 
     // Whether a row with a new key fits.
@@ -134,10 +187,10 @@ impl VersionBuilder {
         ensures ok { OnOk result (refused_new self.now (key.now, value.now) ≡ None) }
         ensures cause { IfErr result (λ fault. refused_new self.now (key.now, value.now) ≡ Some fault) }
     {
-        if self.rows.len() >= ROWS_MAX {
+        if self.slab.len() >= ROWS_MAX {
             return Err(VersionFault::TooManyRows);
         }
-        if self.body_len + row_len(key, value) > BODY_MAX {
+        if self.body_len() + row_len(key, value) > BODY_MAX {
             return Err(VersionFault::TooBig);
         }
         Ok(())
@@ -152,8 +205,9 @@ impl VersionBuilder {
         ensures ok { OnOk result (self.new ≡ with_new self.old (key.now, value.now)) }
         ensures err { OnErr result (self.new ≡ self.old) }
     {
-        add_row(self.alloc, &mut self.rows, key, value)?;
-        self.body_len += row_len(key, value);
+        let rises = self.rises(key);
+        self.slab.push(key, value)?;
+        self.rising = rises;
         Ok(())
     }
 
@@ -162,14 +216,14 @@ impl VersionBuilder {
         ensures len { result ≡ length self.now.rows }
         ensures draft { IsDraft self.now }
     {
-        self.rows.len()
+        self.slab.len()
     }
 
     /// Whether there are no rows so far.
     pub fn is_empty(&self) -> bool
         ensures { IsTrue result ↔ (self.now.rows ≡ []) }
     {
-        self.rows.is_empty()
+        self.slab.len() == 0
     }
 
     /// The order of the version.
@@ -179,7 +233,8 @@ impl VersionBuilder {
         self.order
     }
 
-    /// The version: the rows in rising order of their keys, not secure. It sorts them once, and copies no key or value.
+    /// The version: the rows in rising order of their keys, not secure. They are sorted
+    /// where they don't stand so already.
     pub fn finish(self) -> Result<Version, NoMemory>
         ensures { IfOk result (λ version. version ≡ record {
           order = self.order;
@@ -192,40 +247,32 @@ impl VersionBuilder {
             alloc,
             order,
             master,
-            rows,
-            body_len,
+            slab,
+            rising,
+            hasher,
+            table,
         } = self;
-        let rows = sorted_rows(alloc, rows)?;
-        Ok(Version::new(order, master, rows, body_len))
+        drop(table);
+        let head = head_of(alloc, order, &master, slab.len(), slab.bytes().len())?;
+        let slab = slab.finished(alloc, head, rising)?;
+        let table = Table::of(alloc, hasher, &slab)?;
+        Ok(Version::new(order, master, slab, table))
     }
 }
 
-// Puts a row behind the others. After a refusal the rows are as before.
-fn add_row(
+// This table of the rows, or an empty one with more buckets where it is none or has too few.
+fn roomy(
     alloc: Global,
-    rows: &mut IndexMap<Vec<u8>, Vec<u8>, RandomState>,
-    key: &[u8],
-    value: &[u8],
-) -> Result<(), NoMemory>
-    requires { value_of key.now (rows_of rows.old) ≡ None }
-    ensures ok { OnOk result (rows_of rows.new ≡ rows_of rows.old ++ (key.now, value.now) ∷ []) }
-    ensures err { OnErr result (rows_of rows.new ≡ rows_of rows.old) }
+    hasher: RandomState,
+    table: Option<Table>,
+    slab: &Slab,
+) -> Result<Table, NoMemory>
+    requires table { IfSome table (λ table. IsTable table slab.now.rows) }
+    requires count { length slab.now.rows ≤ rows_max }
+    ensures { IfOk result (λ table. IsTable table slab.now.rows) }
 {
-    let key = Vec::from_slice(alloc, key).map_err(|_| NoMemory)?;
-    let value = Vec::from_slice(alloc, value).map_err(|_| NoMemory)?;
-    rows.insert(key, value).map_err(|_| NoMemory)?;
-    Ok(())
-}
-
-// The rows in rising order of their keys. No key or value is copied.
-fn sorted_rows(
-    alloc: Global,
-    rows: IndexMap<Vec<u8>, Vec<u8>, RandomState>,
-) -> Result<Vec<(Vec<u8>, Vec<u8>)>, NoMemory>
-    ensures listed { IfOk result (λ sorted. map row_view sorted.items ≡ listed (rows_of rows)) }
-    ensures moved { IfOk result (λ sorted. IsPermutation (rows_of rows) (map row_view sorted.items)) }
-{
-    let mut rows: Vec<(Vec<u8>, Vec<u8>)> = rows.into_iter().collect(alloc).map_err(|_| NoMemory)?;
-    rows.sort_unstable_by(|a, b| a.0.cmp(&b.0));
-    Ok(rows)
+    match table {
+        Some(table) if slab.len() <= table.buckets() => Ok(table),
+        _ => Table::new(alloc, hasher, 2 * slab.len()),
+    }
 }

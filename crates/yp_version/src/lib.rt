@@ -6,8 +6,11 @@
 #![tactic(auto)]
 
 mod builder;
+mod head;
 pub mod laws;
 mod limits;
+mod slab;
+mod table;
 mod version;
 
 pub use builder::{VersionBuilder, VersionFault};

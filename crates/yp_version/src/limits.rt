@@ -26,7 +26,7 @@ pub(crate) const HEAD_LEN: usize = 16;
 const LENGTHS: usize = 8;
 
 // The bytes of a word, to which bytes are padded (RFC 4506 section 3).
-const WORD: usize = 4;
+pub(crate) const WORD: usize = 4;
 
 // Bytes up to a multiple of a word.
 pub(crate) fn padded(len: usize) -> usize

@@ -1,14 +1,17 @@
 //! A version of a map, which never changes.
 
-ghost use Rattle.std.specs.Prelude.{◌≡◌, ◌≤◌, ◌↔◌, [], map, length, slice_get, option_map, MatchOption, IsTrue, IfSome};
+ghost use Rattle.std.specs.Prelude.{◌≡◌, ◌≤◌, ◌↔◌, [], length, slice_get, option_map, MatchOption, IsTrue, IfSome};
 ghost use Rattle.yp_version.specs.Limits.{key_max, value_max};
-ghost use Rattle.yp_version.specs.Rows.{key_cmp, value_of, first_of, following};
+ghost use Rattle.yp_version.specs.Rows.{value_of, first_of, following};
 ghost use Rattle.yp_version.specs.Versions.{IsVersion, body_len, unmarked};
-ghost use Rattle.yp_version.specs.Pair.{row_view};
+ghost use Rattle.yp_version.specs.Bodies.{IsBody, head_bytes};
+ghost use Rattle.yp_version.specs.Table.{IsTable, HasAll};
 ghost use Rattle.yp_version.specs.Places.{StandsAt, IsAbsent};
 ghost use Rattle.yp_version.specs.Next.{next_row, IsWithin};
 
-use std::cmp::Ordering;
+use crate::head::format_of;
+use crate::slab::Slab;
+use crate::table::Table;
 use std::marker::Model;
 
 /// What stands behind the row with a key.
@@ -26,14 +29,15 @@ pub enum Next<'a> {
 
 /// A version of a map: an order, a master, whether it is secure, and rows in rising byte order of their keys.
 ///
-/// Rows are numbered from 0. No call on a version takes memory.
+/// Rows are numbered from 0. No call on a version takes memory. It keeps its stored body, in which the rows stand, and
+/// a table of their numbers by a hash of the key.
 #[derive(Debug, Drop)]
 pub struct Version {
     order: u32,
     master: Vec<u8>,
     secure: bool,
-    rows: Vec<(Vec<u8>, Vec<u8>)>,
-    body_len: usize,
+    slab: Slab,
+    table: Table,
 }
 
 impl Model for Version {
@@ -49,23 +53,20 @@ impl Model for Version {
 }
 
 impl Version {
-    // A version of rows that stand in their order, whose stored body has this length.
-    pub(crate) fn new(
-        order: u32,
-        master: Vec<u8>,
-        rows: Vec<(Vec<u8>, Vec<u8>)>,
-        len: usize,
-    ) -> Version
-        requires version { IsVersion (unmarked order master.items (map row_view rows.items)) }
-        requires len { len ≡ body_len (unmarked order master.items (map row_view rows.items)) }
-        ensures { result ≡ unmarked order master.items (map row_view rows.items) }
+    // A version that isn't secure, of rows that stand in their order behind its head.
+    pub(crate) fn new(order: u32, master: Vec<u8>, slab: Slab, table: Table) -> Version
+        requires version { IsVersion (unmarked order master.items slab.rows) }
+        requires head { slab.head ≡ head_bytes (unmarked order master.items slab.rows) }
+        requires table { IsTable table slab.rows }
+        requires all { HasAll table slab.rows }
+        ensures { result ≡ unmarked order master.items slab.rows }
     {
         Version {
             order,
             master,
             secure: false,
-            rows,
-            body_len: len,
+            slab,
+            table,
         }
     }
 
@@ -98,22 +99,30 @@ impl Version {
         ensures len { result ≡ length self.now.rows }
         ensures version { IsVersion self.now }
     {
-        self.rows.len()
+        self.slab.len()
     }
 
     /// Whether it has no rows.
     pub fn is_empty(&self) -> bool
         ensures { IsTrue result ↔ (self.now.rows ≡ []) }
     {
-        self.rows.is_empty()
+        self.slab.len() == 0
     }
 
-    /// The bytes of its stored body.
+    /// How many bytes its stored body has.
     pub fn body_len(&self) -> usize
         ensures len { result ≡ body_len self.now }
         ensures version { IsVersion self.now }
     {
-        self.body_len
+        self.body().len()
+    }
+
+    /// Its stored body.
+    pub fn body(&self) -> &[u8]
+        ensures body { IsBody result.now self.now }
+        ensures len { length result.now ≡ body_len self.now }
+    {
+        self.slab.bytes()
     }
 
     /// The same version, secure or not.
@@ -122,6 +131,7 @@ impl Version {
     {
         let mut version = self;
         version.secure = secure;
+        version.slab.set_first_word(format_of(secure));
         version
     }
 
@@ -130,13 +140,7 @@ impl Version {
         ensures found { MatchOption result (IsAbsent key.now self.now.rows) (StandsAt key.now self.now.rows) }
         ensures version { IsVersion self.now }
     {
-        self.rows
-            .binary_search_by(
-                |row: &(Vec<u8>, Vec<u8>)| -> Ordering
-                    ensures { result ≡ key_cmp row.now.0.items key.entry.now }
-                { row.0.as_slice().cmp(key) },
-            )
-            .ok()
+        self.table.find(&self.slab, key)
     }
 
     /// The value of the row with this key.
@@ -157,8 +161,7 @@ impl Version {
         ensures value_len { IfSome result (λ row. length row.1.now ≤ value_max) }
         ensures version { IsVersion self.now }
     {
-        let row = self.rows.get(i)?;
-        Some((row.0.as_slice(), row.1.as_slice()))
+        self.slab.row(i)
     }
 
     /// The first row.

@@ -1,0 +1,13 @@
+-- What a table says of rows.
+use Rattle.std.specs.Prelude.{◌≡◌, List, length}
+use Rattle.yp_version.specs.Rows.{Row}
+use Rattle.yp_version.specs.Tables.{HasChains}
+use Rattle.yp_version.specs.declared.table.Table.{Table}
+
+-- the table is that of the first of these rows, as many as it has
+abbrev pub IsTable : Table → List Row → Type 0
+IsTable table rows = HasChains table.hasher table.heads.items table.before.items rows (length table.before.items)
+
+-- it has them all
+abbrev pub HasAll : Table → List Row → Type 0
+HasAll table rows = length table.before.items ≡ length rows

@@ -1,0 +1,50 @@
+-- A table of row numbers by a hash of the key: chains of rows, one for each bucket. Which hash it is, is free.
+use Rattle.std.specs.Prelude.{◌≡◌, ℕ, zero, suc, ◌-◌, ◌%◌, ◌<◌, ◌≤◌, Bool, false, List, length, fold, slice_get}
+use Rattle.std.specs.Prelude.{slice_index_or}
+use Rattle.std.specs.Prelude.{Option, Some, None, if◌then◌else◌, ◌==◌, bytes_eq}
+use Rattle.std.specs.Hash as fed
+use Rattle.std.specs.Hash.DefaultHasher as sip
+use Rattle.std.specs.Option.{option_map_or}
+use Rattle.std.specs.RandomState.{initial_hasher}
+use Rattle.std.specs.declared.hash.RandomState.{RandomState}
+use Rattle.yp_version.specs.Rows.{Row}
+use Rattle.yp_version.specs.declared.table.Link.{Link}
+
+-- the hash of a key by random keys
+unfoldable pub hash_of : RandomState → List ℕ → ℕ
+hash_of state key = sip.finish (fold sip.write (initial_hasher state) (fed.slice fed.u8 key))
+
+-- the number of its bucket among this many
+abbrev pub bucket_of : RandomState → ℕ → List ℕ → ℕ
+bucket_of state size key = hash_of state key % size
+
+-- a stored link as the number of a row, or none
+abbrev pub linked : Link → Option ℕ
+linked link = if link.number == 0 then None else Some (link.number - 1)
+
+-- the last of the numbers below a bound that passes a test
+abbrev pub last_below : (ℕ → Bool) → ℕ → Option ℕ
+last_below test zero = None
+last_below test (suc n) = if test n then Some n else last_below test n
+
+-- whether the row with this number has the key
+abbrev pub has_key : List ℕ → List Row → ℕ → Bool
+has_key key rows i = option_map_or (λ row. bytes_eq row.0 key) (slice_get rows i) false
+
+-- the bucket of the row with this number
+abbrev pub bucket_at : RandomState → ℕ → List Row → ℕ → ℕ
+bucket_at state size rows i = option_map_or (λ row. bucket_of state size row.0) (slice_get rows i) size
+
+-- whether the row with this number is in the bucket
+abbrev pub is_in : RandomState → ℕ → List Row → ℕ → ℕ → Bool
+is_in state size rows bucket i = bucket_at state size rows i == bucket
+
+-- The chains of the first n rows: each bucket leads to its last row, and each row to the one before it in its bucket.
+pub record HasChains (state : RandomState) (heads before : List Link) (rows : List Row) (n : ℕ) : Type 0 where
+  pub buckets : 0 < length heads
+  pub count : length before ≡ n
+  pub within : n ≤ length rows
+  pub last : (bucket : ℕ) (any : Link) → bucket < length heads
+      → linked (slice_index_or heads bucket any) ≡ last_below (is_in state (length heads) rows bucket) n
+  pub former : (i : ℕ) (any : Link) → i < n → linked (slice_index_or before i any)
+      ≡ last_below (is_in state (length heads) rows (bucket_at state (length heads) rows i)) i

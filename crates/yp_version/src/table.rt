@@ -1,0 +1,141 @@
+//! The numbers of rows by a hash of their keys.
+
+ghost use Rattle.std.specs.Prelude.{◌≡◌, ◌+◌, ◌<◌, ◌≤◌, ◌^◌, ℕ, List, length, Some, None, IfOk, OnOk};
+ghost use Rattle.yp_version.specs.Limits.{rows_max};
+ghost use Rattle.yp_version.specs.Rows.{Row};
+ghost use Rattle.yp_version.specs.Table.{IsTable, HasAll};
+ghost use Rattle.yp_version.specs.Tables.{linked, bucket_of, last_below, has_key};
+
+use crate::slab::Slab;
+use std::alloc::Global;
+use std::hash::{BuildHasher, RandomState};
+use yp_io::NoMemory;
+
+/// The number of a row, or none. It takes four bytes.
+#[derive(Clone, Copy, Debug)]
+pub(crate) struct Link {
+    // One more than the row's, and 0 for none.
+    number: u32,
+}
+
+impl Link {
+    /// No row.
+    fn none() -> Link
+        ensures { linked result ≡ None }
+    {
+        Link { number: 0 }
+    }
+
+    /// The row with this number.
+    fn to(row: usize) -> Link
+        requires { row < rows_max }
+        ensures { linked result ≡ Some row }
+    {
+        Link {
+            number: row as u32 + 1,
+        }
+    }
+
+    /// The row's number.
+    fn row(self) -> Option<usize>
+        ensures { result ≡ linked self }
+    {
+        if self.number == 0 {
+            None
+        } else {
+            Some(self.number as usize - 1)
+        }
+    }
+}
+
+/// Chains of the numbers of the first rows of a slab, one for each bucket. Keys may come from others, so they are
+/// hashed with random keys.
+#[derive(Debug, Drop)]
+pub(crate) struct Table {
+    hasher: RandomState,
+    // The last row of each bucket.
+    heads: Vec<Link>,
+    // For each row the one before it in its bucket.
+    before: Vec<Link>,
+}
+
+impl Table {
+    /// A table of no rows, with at least this many buckets.
+    pub(crate) fn new(alloc: Global, hasher: RandomState, buckets: usize) -> Result<Table, NoMemory>
+        ensures { IfOk result (λ table. (rows : List Row) → IsTable table rows) }
+    {
+        let heads = vec![in alloc; Link::none(); buckets.max(1)].map_err(|_| NoMemory)?;
+        let before = Vec::with_capacity(alloc, buckets).map_err(|_| NoMemory)?;
+        Ok(Table {
+            hasher,
+            heads,
+            before,
+        })
+    }
+
+    /// The table of all rows of a slab.
+    pub(crate) fn of(alloc: Global, hasher: RandomState, slab: &Slab) -> Result<Table, NoMemory>
+        requires { length slab.now.rows ≤ rows_max }
+        ensures table { IfOk result (λ table. IsTable table slab.now.rows) }
+        ensures all { IfOk result (λ table. HasAll table slab.now.rows) }
+    {
+        let mut table = Table::new(alloc, hasher, slab.len())?;
+        table.fill(slab)?;
+        Ok(table)
+    }
+
+    /// The number of rows that it has.
+    pub(crate) fn len(&self) -> usize
+        ensures { result ≡ length self.now.before.items }
+    {
+        self.before.len()
+    }
+
+    /// The number of buckets.
+    pub(crate) fn buckets(&self) -> usize
+        ensures { result ≡ length self.now.heads.items }
+    {
+        self.heads.len()
+    }
+
+    /// Takes in those rows of a slab that it doesn't have. After a refusal it has some of them.
+    pub(crate) fn fill(&mut self, slab: &Slab) -> Result<(), NoMemory>
+        requires table { IsTable self.old slab.now.rows }
+        requires count { length slab.now.rows ≤ rows_max }
+        ensures table { IsTable self.new slab.now.rows }
+        ensures all { OnOk result (HasAll self.new slab.now.rows) }
+    {
+        for row in self.before.len()..slab.len() {
+            let bucket = bucket(&self.hasher, self.heads.len(), slab.key(row));
+            let last = self.heads[bucket];
+            self.before.push(last).map_err(|_| NoMemory)?;
+            self.heads[bucket] = Link::to(row);
+        }
+        Ok(())
+    }
+
+    /// The number of the last row with this key, among those of the slab that it has.
+    pub(crate) fn find(&self, slab: &Slab, key: &[u8]) -> Option<usize>
+        requires { IsTable self.now slab.now.rows }
+        ensures { result ≡ last_below (has_key key.now slab.now.rows) (length self.now.before.items) }
+    {
+        let mut link = self.heads[bucket(&self.hasher, self.heads.len(), key)];
+        while let Some(row) = link.row() {
+            if slab.key(row) == key {
+                return Some(row);
+            }
+            link = self.before[row];
+        }
+        None
+    }
+}
+
+// The bucket of a key, of this many.
+#[tactic(auto, unfolding(crate::specs::Tables::hash_of))]
+fn bucket(hasher: &RandomState, count: usize, key: &[u8]) -> usize
+    requires { 0 < count }
+    ensures value { result ≡ bucket_of hasher.now count key.now }
+    ensures within { result < count }
+{
+    (hasher.hash_one(key) % count as u64) as usize
+}
