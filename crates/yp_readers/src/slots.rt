@@ -32,6 +32,13 @@ impl Slots {
         Slots { versions }
     }
 
+    /// How many maps there are.
+    pub(crate) fn len(&self) -> usize
+        ensures { result ≡ length self.now }
+    {
+        self.versions.len()
+    }
+
     /// The version of a map, if there is one.
     pub(crate) fn get(&self, map: u32) -> Option<&Version>
         ensures { option_map (λ version. version.now) result ≡ slice_index_or self.now map None }

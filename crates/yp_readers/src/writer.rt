@@ -74,6 +74,13 @@ where
         })
     }
 
+    /// How many maps there are.
+    pub fn maps(&self) -> usize
+        ensures { result ≡ self.now.maps }
+    {
+        self.slots.len()
+    }
+
     /// A reader that knows all that is shown.
     pub(crate) fn reader(&self, catalog: &Arc<Catalog>) -> Result<Reader<J>, NoMemory>
         ensures { IfOk result (λ reader. reader ≡ record {
