@@ -1,11 +1,11 @@
 //! A reader of a board for threads.
 
-ghost use Rattle.std.specs.Prelude.{◌≡◌, ◌⊎◌, IfSome, OnOk, OnErr};
+ghost use Rattle.std.specs.Prelude.{◌≡◌, ◌⊎◌, IfSome, OnOk, OnErr, MatchBool};
 ghost use Rattle.std.specs.Arc.{arc_value};
 ghost use Rattle.yp_board.specs.Views.{IsFront, Refreshes};
 
 use crate::count::Count;
-use crate::history::Naming;
+use crate::history::{Front, Naming};
 use crate::table::{Note, Table};
 use left_right::ReadHandle;
 use std::marker::Model;
@@ -47,6 +47,21 @@ impl<J: Naming> Reader<J> {
             asked: Count::new(),
             handle,
         }
+    }
+
+    /// Whether the other one knows all that it knows, and more. Where not, it knows all that the other one knows: what
+    /// the readers of a board know are fronts of one log.
+    pub fn is_behind(&self, other: &Reader<J>) -> bool
+        ensures { MatchBool result (IsFront self.now.known other.now.known) (IsFront other.now.known self.now.known) }
+    {
+        self.table.front().is_behind(other.table.front())
+    }
+
+    /// The front that it knows.
+    pub(crate) fn front(&self) -> &Front<J>
+        ensures { result.now ≡ self.now.known }
+    {
+        self.table.front()
     }
 
     /// Learns what the writer told. Afterwards it knows the longer of two fronts, its own and the note's. It takes no

@@ -1,8 +1,8 @@
 //! The writer of a board for threads.
 
-ghost use Rattle.std.specs.Prelude.{◌≡◌, ◌<◌, ◌≤◌, ◌∷◌, [], ◌++◌, All, length, IfOk};
-ghost use Rattle.std.specs.Vec.{vec_len};
+ghost use Rattle.std.specs.Prelude.{◌≡◌, ◌<◌, [], ◌∷◌, ◌++◌, length, IfOk, MatchBool};
 ghost use Rattle.std.specs.Arc.{arc_value};
+ghost use Rattle.yp_board.specs.Views.{IsFront};
 ghost use Rattle.yp_readers.specs.Tables.{Holds};
 
 use crate::history::{History, Naming};
@@ -93,6 +93,14 @@ where
         let table = Table::new(self.history.front(), &self.slots).map_err(|_| NoMemory)?;
         let handle = self.handle.handle().map_err(|_| NoMemory)?;
         Ok(Reader::new(catalog, table, handle))
+    }
+
+    /// Whether a reader knows more than what was shown, which no reader of its board does, though no clause says so.
+    /// Where not, what it knows is a front of what was shown.
+    pub fn is_behind(&self, reader: &Reader<J>) -> bool
+        ensures { MatchBool result (IsFront self.now.log reader.now.known) (IsFront reader.now.known self.now.log) }
+    {
+        self.history.front().is_behind(reader.front())
     }
 
     /// What is shown, for a reader to meet. It takes no memory.

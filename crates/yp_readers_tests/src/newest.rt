@@ -55,3 +55,38 @@ where
     }
     holders
 }
+
+#[test]
+fn old_versions_are_let_go(rt: HostRuntime) {
+    let came = owners::<Brand, _>(&rt, rt.alloc(), Opened::new());
+    assert_same(&rt, &came, &[2, 2, 1], "the owners of a version that was shown");
+}
+
+// How many owners a version has that this test keeps: once it is shown, and a reader holds it; once another one is shown
+// in its place; and once the reader has made a read step.
+fn owners<J: Naming, R: Wait + RandomSource + Abort>(
+    rt: &R,
+    alloc: Global,
+    opened: Opened,
+) -> [usize; 3]
+where
+    Table<J>: Absorb<Table<J>, State = [Entry; 0]>,
+    requires { opened ≡ J.book }
+{
+    let (mut writer, mut readers) = board_of::<J, R>(rt, alloc, opened, 1);
+    let (first, second) = (version(rt, alloc, 2), version(rt, alloc, 3));
+    let kept = Arc::try_clone(&first).expect(rt, "an owner");
+    shows(&mut writer, 0, first);
+    refresh_all(&mut readers);
+    let held = Arc::strong_count(&kept);
+    shows(&mut writer, 0, second);
+    let lagging = Arc::strong_count(&kept);
+    refresh_all(&mut readers);
+    [held, lagging, Arc::strong_count(&kept)]
+}
+
+fn refresh_all<J: Naming>(readers: &mut [Reader<J>]) {
+    for reader in readers {
+        reader.refresh();
+    }
+}
