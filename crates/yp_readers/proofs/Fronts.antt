@@ -1,5 +1,5 @@
 -- Two beginnings of one log.
-use Rattle.std.proofs.Common.{◌≡◌, ℕ, ◌≤◌, ◌<◌, Bool, true, false, ltb, List, [], ◌∷◌, ◌++◌, length, refl, arith}
+use Rattle.std.proofs.Common.{◌≡◌, ℕ, ◌≤◌, ◌<◌, Bool, true, false, ltb, List, [], ◌∷◌, ◌++◌, length, refl, ap, sym, ◌∙◌, ◌+◌, arith, length-append}
 use Rattle.std.specs.Bool.{MatchBool}
 use Rattle.std.proofs.lemmas.Bool.Decides.{nat_tests}
 use mathlib.Core.List.{IsPrefix}
@@ -40,3 +40,14 @@ pub behind_or : {A : Type 0} (xs ys both : List A) (a b : ℕ) → a ≡ length 
     → IsPrefix ys both
     → MatchBool (ltb a b) ((more : List A) × (ys ≡ xs ++ more)) ((more : List A) × (xs ≡ ys ++ more))
 behind_or xs ys both a b n m p q = behind_on xs ys both a b n m p q (ltb a b) refl
+
+prefix_length : {A : Type 0} (xs ys : List A) → IsPrefix xs ys → length xs ≤ length ys
+prefix_length xs ys p = omega (arith, sym (ap length p.1) ∙ length-append xs p.0)
+
+-- what begins a list that is no longer than another beginning of it begins that one
+pub covered : {A : Type 0} (front log both seen : List A) (n : ℕ) → IsPrefix log both → IsPrefix front both
+    → IsPrefix both seen → length seen + 2 ≤ n → n ≡ length log + 2 → (more : List A) × (log ≡ front ++ more)
+covered front log both seen n p q r most key =
+    let longer : length both ≤ length seen = prefix_length both seen r in
+    let within : length front ≤ length both = prefix_length front both q in
+    front_of front log both q p (omega (arith, most, key, longer, within))

@@ -5,9 +5,7 @@ ghost use Rattle.yp_board.specs.Views.{Refreshes};
 
 use crate::history::Naming;
 use crate::reader::Reader;
-use crate::table::{Entry, Table};
 use crate::writer::Writer;
-use left_right::Absorb;
 use std::sync::{Arc, Mutex, Wait};
 use std::thread::{Threads, join};
 use yp_board::{Show, View};
@@ -24,7 +22,6 @@ pub fn show_beside<J, R, T: Threads + Wait + Sync>(
 where
     J: Naming + Send + Sync,
     R: Wait + Drop + Send,
-    Table<J>: Absorb<Table<J>, State = [Entry; 0]> + Send + Sync,
     ensures read { Refreshes reader result.1 }
 {
     join(
@@ -43,8 +40,6 @@ fn shown<J: Naming, R: Wait + Drop>(
     map: u32,
     version: Arc<Version>,
 ) -> bool
-where
-    Table<J>: Absorb<Table<J>, State = [Entry; 0]>,
 {
     let mut writer = writer.lock(rt);
     (map as usize) < writer.maps() && writer.show(map, version).is_ok()

@@ -1,10 +1,12 @@
-//! The log of a board, as the history of a book. It exists for contracts alone: what runs is its length, in one word.
+//! The log of a board, as the history of a book. It exists for contracts alone: what runs is one word, which counts.
 
-ghost use Rattle.std.specs.Prelude.{◌≡◌, [], ◌∷◌, ◌++◌, length, IfSome, MatchBool, if◌then◌else◌};
+ghost use Rattle.std.specs.Prelude.{◌≡◌, ◌+◌, ◌-◌, ◌^◌, ◌<◌, ◌≤◌, [], ◌∷◌, ◌++◌, length, IfSome, MatchBool, if◌then◌else◌};
+ghost use mathlib.Core.List.{IsPrefix};
+ghost use Rattle.logbook.specs.Pages.{may_write};
 ghost use Rattle.yp_board.specs.Views.{IsFront};
-ghost use Rattle.yp_readers.specs.Histories.{head_of};
+ghost use Rattle.yp_readers.specs.Histories.{head_of, IsNext};
 
-use logbook::{Gain, Offer, Plain, Play, Rule, Seen, Start, Word};
+use logbook::{Gain, Offer, Pen, Plain, Play, Rule, Seen, Start, Word};
 use std::marker::{Brand, Model, PhantomData};
 use std::snapshot::Snapshot;
 use yp_version::Version;
@@ -12,7 +14,13 @@ use yp_version::Version;
 /// A version that was shown of a map.
 pub type Shown = (u32, Version);
 
-/// The rule of the book: its word is the length of the log.
+/// How many words a book has that was just opened.
+const FIRST_WORDS: u64 = 2;
+
+/// The most pairs of a log.
+const MOST: u64 = 1 << 63;
+
+/// The rule of the book: its first word counts its words, of which one comes home with each pair.
 pub struct Counted;
 
 impl Rule<Shown, u64> for Counted {
@@ -49,7 +57,7 @@ struct Next {
     version: Snapshot<Version>,
 }
 
-/// The step that adds a pair.
+/// The step that adds a pair, with the first word that isn't at home.
 struct Add;
 
 impl Play<Shown, u64> for Add {
@@ -64,6 +72,37 @@ impl Plain<Next, Shown, u64> for Add {
     ghost ask = { λ next. (next.map, next.version.value) };
 
     ghost state = { λ next. None };
+}
+
+/// The step that adds a word.
+struct Open;
+
+impl Play<Shown, u64> for Open {
+    ghost use Rattle.yp_readers.specs.Histories.{Opens};
+
+    ghost then = { Opens };
+}
+
+/// The step that looks how long the log is.
+struct Look;
+
+impl Play<Shown, u64> for Look {
+    ghost use Rattle.yp_readers.specs.Histories.{Looks};
+
+    ghost then = { Looks };
+}
+
+/// What a step asks that adds no pair.
+#[derive(Drop)]
+struct NoPair;
+
+impl Plain<NoPair, Shown, u64> for Look {
+    ghost use Rattle.std.specs.Prelude.{None};
+    ghost use Rattle.yp_readers.specs.Histories.{no_pair};
+
+    ghost ask = { λ none. no_pair };
+
+    ghost state = { λ none. None };
 }
 
 /// Which board it is. Each call of a program that opens one picks it.
@@ -100,27 +139,26 @@ impl Model for Opened {
 impl Opened {
     /// A new log. It takes no memory.
     pub fn new() -> Opened {
-        let (seen, mut first, _second) = Seen::open(Start::alone(), 0, 0);
+        let (seen, mut first, _second) = Seen::open(Start::alone(), FIRST_WORDS, 0);
         Opened {
-            head: Word::tracked(0, &mut first),
+            head: Word::tracked(FIRST_WORDS, &mut first),
             seen,
         }
     }
 
     /// The log under a name.
-    pub(crate) fn named<J: Naming>(self) -> History<J>
+    pub(crate) fn named<J: Naming>(self) -> Option<History<J>>
         requires { self ≡ J.book }
-        ensures { result ≡ [] }
+        ensures { IfSome result (λ history. history ≡ []) }
     {
         let Opened { head, seen } = self;
-        History {
-            head,
-            front: Front {
-                count: 0,
-                seen,
-                of: PhantomData,
-            },
-        }
+        let pen = next_word(&head, &seen, FIRST_WORDS)?;
+        let front = Front {
+            count: 0,
+            seen,
+            of: PhantomData,
+        };
+        Some(History { head, pen, front })
     }
 }
 
@@ -172,23 +210,25 @@ impl<J: Naming> Front<J> {
     }
 }
 
-/// The log of a board, for the one who writes it. Contracts see it as a log.
+/// The log of a board, for the one who writes it. Contracts see it as a log. It has the pen of the word that the next
+/// pair comes with, so nobody else can make the log longer.
 #[derive(Drop)]
 pub(crate) struct History<J: Naming> {
     head: Word<Shown, u64, Counted>,
+    pen: Pen,
     front: Front<J>,
 }
 
 impl<J: Naming> Model for History<J> {
     ghost use Rattle.std.specs.Prelude.{◌≡◌};
     ghost use Rattle.yp_board.specs.Logs.{Log};
-    ghost use Rattle.yp_readers.specs.Histories.{head_of};
+    ghost use Rattle.yp_readers.specs.Histories.{head_of, IsNext};
 
     ghost Value = { Log };
 
     ghost view = { λ h. h.front };
 
-    ghost invariant = { λ h. h.head ≡ head_of J.book };
+    ghost invariant = { λ h. (h.head ≡ head_of J.book) × (h.pen.book ≡ J.book) × IsNext h.front h.pen.nib };
 }
 
 impl<J: Naming> History<J> {
@@ -199,18 +239,78 @@ impl<J: Naming> History<J> {
         &self.front
     }
 
-    /// Adds a version of a map. It adds nothing where the log is longer than what is known of it, or no longer counted.
+    /// Adds a version of a map. It adds nothing where the words of the book aren't counted as they should be.
     pub(crate) fn push(&mut self, map: u32, version: &Version) -> bool
         ensures { self.new ≡ (if result then self.old ++ (map, version.now) ∷ [] else self.old) }
     {
-        match self.front.with(&self.head, map, version) {
-            Some(front) => {
-                self.front = front;
-                true
-            }
-            None => false,
+        if self.front.count >= MOST {
+            return false;
         }
+        let words = self.front.count + FIRST_WORDS + 1;
+        let Some(pen) = next_word(&self.head, &self.front.seen, words) else {
+            return false;
+        };
+        self.front = self.front.with(&self.head, &mut self.pen, map, version);
+        self.pen = pen;
+        true
     }
+
+    /// What is known of the log is a front of it.
+    #[tactic(auto, using(crate::proofs::Fronts::covered))]
+    pub(crate) fn covers(&mut self, front: &Front<J>)
+        ensures front { IsFront front.now self.old }
+        ensures same { self.new ≡ self.old }
+    {
+        let mut seen = self.front.seen.again();
+        seen.learn(&front.seen);
+        look_with(&self.head, &mut self.pen, &mut seen);
+    }
+}
+
+/// Looks at the log with the pen of the word that the next pair comes with.
+fn look_with(
+    head: &Word<Shown, u64, Counted>,
+    pen: &mut Pen,
+    seen: &mut Seen<Shown, u64, Counted>,
+)
+    requires head { head.now ≡ head_of seen.old.book }
+    requires pen { (pen.old.book ≡ seen.old.book) × (pen.old.nib.right ≡ may_write) × (0 < pen.old.nib.key) }
+    ensures grown { IsPrefix seen.old.log seen.new.log }
+    ensures whole { length seen.new.log + 2 ≤ pen.old.nib.key }
+    ensures pen { (pen.new.book ≡ pen.old.book) × (pen.new.nib ≡ pen.old.nib) }
+{
+    let mut offer: Offer<Shown, u64, Counted, Nothing> = seen
+        .plain::<Nothing, NoPair, Look>(&NoPair);
+    head.compare_exchange::<Look, Nothing>(0, 0, seen, &mut offer, pen);
+}
+
+/// One word more of a book, where it has so many, and the right to bring it home.
+fn next_word(
+    head: &Word<Shown, u64, Counted>,
+    seen: &Seen<Shown, u64, Counted>,
+    words: u64,
+) -> Option<Pen>
+    requires head { head.now ≡ head_of seen.now.book }
+    requires room { words < 2 ^ 64 - 1 }
+    ensures book { IfSome result (λ pen. pen.book ≡ seen.now.book) }
+    ensures pen { IfSome result (λ pen. (pen.nib.right ≡ may_write) × (pen.nib.key ≡ words)) }
+{
+    let mut seen = seen.again();
+    let mut offer: Offer<Shown, u64, Counted, Nothing> = seen
+        .plain::<Nothing, NoPair, Look>(&NoPair);
+    let mut pen = seen.no_pen();
+    let found = head.compare_exchange::<Open, Nothing>(
+        words,
+        words + 1,
+        &mut seen,
+        &mut offer,
+        &mut pen,
+    );
+    if found != words {
+        return None;
+    }
+    let _word: Word<Shown, u64, Counted> = Word::tracked(0, &mut pen);
+    Some(pen)
 }
 
 impl<J: Naming> Front<J> {
@@ -218,34 +318,24 @@ impl<J: Naming> Front<J> {
     fn with(
         &self,
         head: &Word<Shown, u64, Counted>,
+        pen: &mut Pen,
         map: u32,
         version: &Version,
-    ) -> Option<Front<J>>
-        requires { head.now ≡ head_of J.book }
-        ensures { IfSome result (λ front. front ≡ self.now ++ (map, version.now) ∷ []) }
+    ) -> Front<J>
+        requires head { head.now ≡ head_of J.book }
+        requires pen { (pen.old.book ≡ J.book) × IsNext self.now pen.old.nib }
+        requires room { length self.now < 2 ^ 63 }
+        ensures { result ≡ self.now ++ (map, version.now) ∷ [] }
     {
-        if self.count == u64::MAX {
-            return None;
-        }
         let mut seen = self.seen.again();
         let version = Snapshot::of(version);
         let mut offer: Offer<Shown, u64, Counted, Nothing> = seen
             .plain::<Nothing, Next, Add>(&Next { map, version });
-        let mut pen = seen.no_pen();
-        let found = head.compare_exchange::<Add, Nothing>(
-            self.count,
-            self.count + 1,
-            &mut seen,
-            &mut offer,
-            &mut pen,
-        );
-        if found != self.count {
-            return None;
-        }
-        Some(Front {
+        head.compare_exchange::<Add, Nothing>(0, 0, &mut seen, &mut offer, pen);
+        Front {
             count: self.count + 1,
             seen,
             of: PhantomData,
-        })
+        }
     }
 }

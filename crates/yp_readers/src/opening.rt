@@ -8,9 +8,7 @@ ghost use Rattle.yp_board.specs.Logs.{starts};
 use crate::history::{History, Naming, Opened};
 use crate::reader::Reader;
 use crate::slots::Slots;
-use crate::table::{Entry, Table};
 use crate::writer::Writer;
-use left_right::Absorb;
 use std::alloc::Global;
 use std::sync::{Arc, Wait};
 use yp_board::Catalog;
@@ -28,8 +26,6 @@ pub fn board<J: Naming, R: Wait + Drop>(
     start: Vec<Option<Arc<Version>>>,
     readers: u32,
 ) -> Result<(Writer<J, R>, Vec<Reader<J>>), NoMemory>
-where
-    Table<J>: Absorb<Table<J>, State = [Entry; 0]>,
     requires named { opened ≡ J.book }
     requires starts { length start.items ≡ length catalog.maps }
     requires readers { (1 ≤ readers) × (readers ≤ 9) }
@@ -44,7 +40,7 @@ where
       asked = 0;
     }) board.1.items) }
 {
-    let mut history = opened.named::<J>();
+    let mut history = opened.named::<J>().ok_or(NoMemory)?;
     begin_all(&mut history, catalog.len(), &start)?;
     let writer = Writer::new(alloc, rt, history, Slots::new(start), readers)?;
     let catalog = Arc::new(alloc, catalog).map_err(|_| NoMemory)?;
@@ -59,8 +55,6 @@ fn readers_of<J: Naming, R: Wait + Drop>(
     catalog: &Arc<Catalog>,
     count: u32,
 ) -> Result<Vec<Reader<J>>, NoMemory>
-where
-    Table<J>: Absorb<Table<J>, State = [Entry; 0]>,
     ensures count { IfOk result (λ readers. vec_len readers ≡ count) }
     ensures known { IfOk result (λ readers. All (λ reader. reader ≡ record {
       catalogue = arc_value catalog.now;

@@ -1,6 +1,6 @@
 //! The writer of a board for threads.
 
-ghost use Rattle.std.specs.Prelude.{◌≡◌, ◌<◌, [], ◌∷◌, ◌++◌, length, IfOk, MatchBool};
+ghost use Rattle.std.specs.Prelude.{◌≡◌, ◌<◌, [], ◌∷◌, ◌++◌, length, IfOk};
 ghost use Rattle.std.specs.Arc.{arc_value};
 ghost use Rattle.yp_board.specs.Views.{IsFront};
 ghost use Rattle.yp_readers.specs.Tables.{Holds};
@@ -95,12 +95,12 @@ where
         Ok(Reader::new(catalog, table, handle))
     }
 
-    /// Whether a reader knows more than what was shown, which no reader of its board does, though no clause says so.
-    /// Where not, what it knows is a front of what was shown.
-    pub fn is_behind(&self, reader: &Reader<J>) -> bool
-        ensures { MatchBool result (IsFront self.now.log reader.now.known) (IsFront reader.now.known self.now.log) }
+    /// What a reader knows is a front of what was shown. It does nothing: its contract is the fact.
+    pub fn covers(&mut self, reader: &Reader<J>)
+        ensures front { IsFront reader.now.known self.old.log }
+        ensures same { self.new ≡ self.old }
     {
-        self.history.front().is_behind(reader.front())
+        self.history.covers(reader.front());
     }
 
     /// What is shown, for a reader to meet. It takes no memory.

@@ -2,14 +2,13 @@
 
 ghost use Rattle.std.specs.Prelude.{◌≡◌, length};
 
-use left_right::Absorb;
 use std::alloc::Global;
 use std::fmt::Debug;
 use std::process::Abort;
 use std::random::RandomSource;
 use std::sync::{Arc, Wait};
 use yp_board::{Catalog, MapName, Show, View};
-use yp_readers::{Entry, Naming, Opened, Reader, Table, Writer, board};
+use yp_readers::{Naming, Opened, Reader, Writer, board};
 use yp_version::{Version, VersionBuilder};
 
 /// Ends the test where what came isn't what is wanted.
@@ -51,8 +50,6 @@ pub fn board_of<'r, J: Naming, R: Wait + RandomSource + Abort>(
     opened: Opened,
     readers: u32,
 ) -> (Writer<J, &'r R>, Vec<Reader<J>>)
-where
-    Table<J>: Absorb<Table<J>, State = [Entry; 0]>,
     requires { opened ≡ J.book }
 {
     let start = vec![in alloc; Some(version(rt, alloc, 1)), None].expect(rt, "versions");
@@ -68,8 +65,6 @@ pub fn shows<J: Naming, R: Wait + Drop>(
     map: u32,
     version: Arc<Version>,
 ) -> bool
-where
-    Table<J>: Absorb<Table<J>, State = [Entry; 0]>,
 {
     (map as usize) < writer.maps() && writer.show(map, version).is_ok()
 }

@@ -3,14 +3,13 @@
 ghost use Rattle.std.specs.Prelude.{◌≡◌};
 
 use crate::given::*;
-use left_right::Absorb;
 use std::alloc::Global;
 use std::marker::Brand;
 use std::process::Abort;
 use std::random::RandomSource;
 use std::sync::{Arc, Wait};
 use yp_board::View;
-use yp_readers::{Entry, Naming, Opened, Reader, Table, Writer};
+use yp_readers::{Naming, Opened, Reader, Writer};
 use yp_version::Version;
 
 #[test]
@@ -21,8 +20,6 @@ fn refresh_newest(rt: HostRuntime) {
 
 // How often a reader held the version that was just shown: 100 are shown, and nine readers look.
 fn newest<J: Naming, R: Wait + RandomSource + Abort>(rt: &R, alloc: Global, opened: Opened) -> u32
-where
-    Table<J>: Absorb<Table<J>, State = [Entry; 0]>,
     requires { opened ≡ J.book }
 {
     let (mut writer, mut readers) = board_of::<J, R>(rt, alloc, opened, 9);
@@ -42,8 +39,6 @@ fn holders<J: Naming, R: Wait + Drop>(
     version: Arc<Version>,
     order: u32,
 ) -> u32
-where
-    Table<J>: Absorb<Table<J>, State = [Entry; 0]>,
 {
     if !shows(writer, map, version) {
         return 0;
@@ -69,8 +64,6 @@ fn owners<J: Naming, R: Wait + RandomSource + Abort>(
     alloc: Global,
     opened: Opened,
 ) -> [usize; 3]
-where
-    Table<J>: Absorb<Table<J>, State = [Entry; 0]>,
     requires { opened ≡ J.book }
 {
     let (mut writer, mut readers) = board_of::<J, R>(rt, alloc, opened, 1);

@@ -3,14 +3,13 @@
 ghost use Rattle.std.specs.Prelude.{◌≡◌};
 
 use crate::given::*;
-use left_right::Absorb;
 use std::alloc::Global;
 use std::marker::Brand;
 use std::process::Abort;
 use std::random::RandomSource;
 use std::sync::Wait;
 use yp_board::View;
-use yp_readers::{Entry, Naming, Note, Opened, Reader, Table, Writer};
+use yp_readers::{Naming, Note, Opened, Reader, Writer};
 
 #[test]
 fn notes_in_any_order(rt: HostRuntime) {
@@ -27,8 +26,6 @@ fn met<J: Naming, R: Wait + RandomSource + Abort>(
     alloc: Global,
     opened: Opened,
 ) -> [Option<u32>; 5]
-where
-    Table<J>: Absorb<Table<J>, State = [Entry; 0]>,
     requires { opened ≡ J.book }
 {
     let (mut writer, mut readers) = board_of::<J, R>(rt, alloc, opened, 2);
@@ -50,8 +47,6 @@ fn two_notes<J: Naming, R: Wait + Drop, H: RandomSource + Abort>(
     alloc: Global,
     writer: &mut Writer<J, R>,
 ) -> ((Note<J>, Note<J>), Note<J>)
-where
-    Table<J>: Absorb<Table<J>, State = [Entry; 0]>,
 {
     shows(writer, 0, version(rt, alloc, 2));
     let earlier = (writer.tell(), writer.tell());
@@ -82,8 +77,6 @@ fn lagged<J: Naming, R: Wait + RandomSource + Abort>(
     alloc: Global,
     opened: Opened,
 ) -> [(Option<u32>, Option<u32>); 2]
-where
-    Table<J>: Absorb<Table<J>, State = [Entry; 0]>,
     requires { opened ≡ J.book }
 {
     let (mut writer, mut readers) = board_of::<J, R>(rt, alloc, opened, 1);
@@ -98,6 +91,7 @@ where
     if !shows(&mut writer, 1, three) {
         shows(&mut writer, 1, once_more);
     }
+    writer.covers(&reader);
     let before = (held(&reader, 0), held(&reader, 1));
     reader.refresh();
     [before, (held(&reader, 0), held(&reader, 1))]

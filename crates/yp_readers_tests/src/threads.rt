@@ -3,7 +3,6 @@
 ghost use Rattle.std.specs.Prelude.{◌≡◌};
 
 use crate::given::*;
-use left_right::Absorb;
 use std::alloc::Global;
 use std::marker::Brand;
 use std::process::Abort;
@@ -11,7 +10,7 @@ use std::random::RandomSource;
 use std::sync::{Mutex, Wait};
 use std::thread::Threads;
 use yp_board::View;
-use yp_readers::{Entry, Naming, Opened, Reader, Table, Writer, show_beside};
+use yp_readers::{Naming, Opened, Reader, Writer, show_beside};
 
 #[test]
 fn read_beside_a_show(rt: HostRuntime) {
@@ -26,8 +25,6 @@ fn rounds<J: Naming + Send + Sync, R: Threads + Wait + RandomSource + Abort + Sy
     alloc: Global,
     opened: Opened,
 ) -> u32
-where
-    Table<J>: Absorb<Table<J>, State = [Entry; 0]> + Send + Sync,
     requires { opened ≡ J.book }
 {
     let (writer, mut readers) = board_of::<J, R>(rt, alloc, opened, 1);
