@@ -5,7 +5,6 @@ use Rattle.std.proofs.lemmas.List.{append-nil, set-get_or, length-set, get_or-se
 use Rattle.std.proofs.lemmas.List.{get_or_append_left, get_or-append_right}
 use Rattle.std.proofs.lemmas.Grind.{get_or-set_at}
 use Rattle.std.proofs.lemmas.Bool.Decides.{nat_tests}
-use mathlib.Core.List.{IsPrefix}
 use prog.Atomic.{either}
 use Rattle.logbook.specs.Pages.{Cell, cell, keeps, gives, adds, Nib, nib, no_nib, may_write, may_make, step, Moves, Goes}
 use Rattle.yp_board.specs.Logs.{Log}

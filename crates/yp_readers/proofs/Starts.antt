@@ -4,7 +4,7 @@ use Rattle.std.proofs.Common.{Some, None, refl, sym, ap, ◌∙◌, arith, zero,
 use Rattle.std.proofs.lemmas.List.{append-nil, drop_more, drop_all}
 use Rattle.std.proofs.lemmas.Bool.Decides.{nat_tests}
 use Rattle.yp_version.specs.Versions.{MapVersion}
-use Rattle.yp_board.specs.Logs.{Log, shown, starts}
+use Rattle.yp_board.specs.Logs.{Log, starts}
 use Rattle.yp_readers.specs.Tables.{Holds}
 
 -- what is shown of a map after entries

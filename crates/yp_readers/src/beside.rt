@@ -39,8 +39,7 @@ fn shown<J: Naming, R: Wait + Drop>(
     writer: &Mutex<Writer<J, R>>,
     map: u32,
     version: Arc<Version>,
-) -> bool
-{
+) -> bool {
     let mut writer = writer.lock(rt);
     (map as usize) < writer.maps() && writer.show(map, version).is_ok()
 }

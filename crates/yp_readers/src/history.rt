@@ -268,19 +268,16 @@ impl<J: Naming> History<J> {
 }
 
 /// Looks at the log with the pen of the word that the next pair comes with.
-fn look_with(
-    head: &Word<Shown, u64, Counted>,
-    pen: &mut Pen,
-    seen: &mut Seen<Shown, u64, Counted>,
-)
+fn look_with(head: &Word<Shown, u64, Counted>, pen: &mut Pen, seen: &mut Seen<Shown, u64, Counted>)
     requires head { head.now ≡ head_of seen.old.book }
     requires pen { (pen.old.book ≡ seen.old.book) × (pen.old.nib.right ≡ may_write) × (0 < pen.old.nib.key) }
     ensures grown { IsPrefix seen.old.log seen.new.log }
     ensures whole { length seen.new.log + 2 ≤ pen.old.nib.key }
     ensures pen { (pen.new.book ≡ pen.old.book) × (pen.new.nib ≡ pen.old.nib) }
 {
-    let mut offer: Offer<Shown, u64, Counted, Nothing> = seen
-        .plain::<Nothing, NoPair, Look>(&NoPair);
+    let mut offer: Offer<Shown, u64, Counted, Nothing> = seen.plain::<Nothing, NoPair, Look>(
+        &NoPair,
+    );
     head.compare_exchange::<Look, Nothing>(0, 0, seen, &mut offer, pen);
 }
 
@@ -296,8 +293,9 @@ fn next_word(
     ensures pen { IfSome result (λ pen. (pen.nib.right ≡ may_write) × (pen.nib.key ≡ words)) }
 {
     let mut seen = seen.again();
-    let mut offer: Offer<Shown, u64, Counted, Nothing> = seen
-        .plain::<Nothing, NoPair, Look>(&NoPair);
+    let mut offer: Offer<Shown, u64, Counted, Nothing> = seen.plain::<Nothing, NoPair, Look>(
+        &NoPair,
+    );
     let mut pen = seen.no_pen();
     let found = head.compare_exchange::<Open, Nothing>(
         words,
@@ -329,8 +327,9 @@ impl<J: Naming> Front<J> {
     {
         let mut seen = self.seen.again();
         let version = Snapshot::of(version);
-        let mut offer: Offer<Shown, u64, Counted, Nothing> = seen
-            .plain::<Nothing, Next, Add>(&Next { map, version });
+        let mut offer: Offer<Shown, u64, Counted, Nothing> = seen.plain::<Nothing, Next, Add>(
+            &Next { map, version },
+        );
         head.compare_exchange::<Add, Nothing>(0, 0, &mut seen, &mut offer, pen);
         Front {
             count: self.count + 1,

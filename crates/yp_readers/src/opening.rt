@@ -64,9 +64,7 @@ fn readers_of<J: Naming, R: Wait + Drop>(
 {
     let mut readers = Vec::new(alloc);
     for _ in 0..count {
-        readers
-            .push(writer.reader(catalog)?)
-            .map_err(|_| NoMemory)?;
+        readers.push(writer.reader(catalog)?).map_err(|_| NoMemory)?;
     }
     Ok(readers)
 }

@@ -14,9 +14,6 @@ use std::marker::Model;
 use std::sync::Arc;
 use yp_version::Version;
 
-/// A pair of the log.
-pub type Entry = Shown;
-
 /// A front of the log of a board, and the last versions in it, which are shared. Contracts see it as a log.
 #[derive(Drop)]
 pub struct Table<J: Naming> {
@@ -133,7 +130,7 @@ impl<J: Naming> Note<J> {
 
 impl<J: Naming> Absorb<Table<J>> for Table<J> {
     // Read by clauses alone, as a list of any length.
-    type State = [Entry; 0];
+    type State = [Shown; 0];
 
     ghost state = { λ table. table };
 
@@ -144,11 +141,7 @@ impl<J: Naming> Absorb<Table<J>> for Table<J> {
         Ok(())
     }
 
-    fn absorb_second(
-        &mut self,
-        operation: Table<J>,
-        _other: &Table<J>,
-    ) -> Result<(), Table<J>> {
+    fn absorb_second(&mut self, operation: Table<J>, _other: &Table<J>) -> Result<(), Table<J>> {
         *self = operation;
         Ok(())
     }

@@ -5,10 +5,10 @@ ghost use Rattle.std.specs.Arc.{arc_value};
 ghost use Rattle.yp_board.specs.Views.{IsFront};
 ghost use Rattle.yp_readers.specs.Tables.{Holds};
 
-use crate::history::{History, Naming};
+use crate::history::{History, Naming, Shown};
 use crate::reader::Reader;
 use crate::slots::Slots;
-use crate::table::{Entry, Note, Table};
+use crate::table::{Note, Table};
 use left_right::{Absorb, WriteHandle};
 use std::alloc::Global;
 use std::marker::Model;
@@ -21,7 +21,7 @@ use yp_version::Version;
 #[derive(Drop)]
 pub struct Writer<J: Naming, R: Wait + Drop>
 where
-    Table<J>: Absorb<Table<J>, State = [Entry; 0]>,
+    Table<J>: Absorb<Table<J>, State = [Shown; 0]>,
 {
     alloc: Global,
     history: History<J>,
@@ -31,7 +31,7 @@ where
 
 impl<J: Naming, R: Wait + Drop> Model for Writer<J, R>
 where
-    Table<J>: Absorb<Table<J>, State = [Entry; 0]>,
+    Table<J>: Absorb<Table<J>, State = [Shown; 0]>,
 {
     ghost use Rattle.std.specs.Prelude.{length};
     ghost use Rattle.std.specs.Arc.{arc_value};
@@ -47,7 +47,7 @@ where
 
 impl<J: Naming, R: Wait + Drop> Writer<J, R>
 where
-    Table<J>: Absorb<Table<J>, State = [Entry; 0]>,
+    Table<J>: Absorb<Table<J>, State = [Shown; 0]>,
 {
     /// A writer of this log, and of the last versions in it, with room for so many readers.
     pub(crate) fn new(
@@ -64,8 +64,9 @@ where
         let slots = Arc::new(alloc, slots).map_err(|_| NoMemory)?;
         let first = Table::new(history.front(), &slots).map_err(|_| NoMemory)?;
         let second = Table::new(history.front(), &slots).map_err(|_| NoMemory)?;
-        let handle = WriteHandle::new(alloc, rt, first, second, readers as usize)
-            .map_err(|_| NoMemory)?;
+        let handle = WriteHandle::new(alloc, rt, first, second, readers as usize).map_err(
+            |_| NoMemory,
+        )?;
         Ok(Writer {
             alloc,
             history,
@@ -126,7 +127,7 @@ where
 
 impl<J: Naming, R: Wait + Drop> Show for Writer<J, R>
 where
-    Table<J>: Absorb<Table<J>, State = [Entry; 0]>,
+    Table<J>: Absorb<Table<J>, State = [Shown; 0]>,
 {
     ghost maps = { λ writer. writer.maps };
 

@@ -64,8 +64,7 @@ pub fn shows<J: Naming, R: Wait + Drop>(
     writer: &mut Writer<J, R>,
     map: u32,
     version: Arc<Version>,
-) -> bool
-{
+) -> bool {
     (map as usize) < writer.maps() && writer.show(map, version).is_ok()
 }
 

@@ -15,7 +15,12 @@ use yp_version::Version;
 #[test]
 fn refresh_newest(rt: HostRuntime) {
     let came = newest::<Brand, _>(&rt, rt.alloc(), Opened::new());
-    assert_same(&rt, &came, &900, "nine readers hold each of 100 versions that were just shown");
+    assert_same(
+        &rt,
+        &came,
+        &900,
+        "nine readers hold each of 100 versions that were just shown",
+    );
 }
 
 // How often a reader held the version that was just shown: 100 are shown, and nine readers look.
@@ -38,8 +43,7 @@ fn holders<J: Naming, R: Wait + Drop>(
     map: u32,
     version: Arc<Version>,
     order: u32,
-) -> u32
-{
+) -> u32 {
     if !shows(writer, map, version) {
         return 0;
     }
@@ -54,7 +58,12 @@ fn holders<J: Naming, R: Wait + Drop>(
 #[test]
 fn old_versions_are_let_go(rt: HostRuntime) {
     let came = owners::<Brand, _>(&rt, rt.alloc(), Opened::new());
-    assert_same(&rt, &came, &[2, 2, 1], "the owners of a version that was shown");
+    assert_same(
+        &rt,
+        &came,
+        &[2, 2, 1],
+        "the owners of a version that was shown",
+    );
 }
 
 // How many owners a version has that this test keeps: once it is shown, and a reader holds it; once another one is shown

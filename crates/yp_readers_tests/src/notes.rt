@@ -46,8 +46,7 @@ fn two_notes<J: Naming, R: Wait + Drop, H: RandomSource + Abort>(
     rt: &H,
     alloc: Global,
     writer: &mut Writer<J, R>,
-) -> ((Note<J>, Note<J>), Note<J>)
-{
+) -> ((Note<J>, Note<J>), Note<J>) {
     shows(writer, 0, version(rt, alloc, 2));
     let earlier = (writer.tell(), writer.tell());
     shows(writer, 0, version(rt, alloc, 3));

@@ -12,5 +12,5 @@ returns g c =
     let this : IsPrefix one.seen.log both
     = subst (λ (log : Log). IsPrefix log both) (ap (λ s. s.log) c.again-both.ensures) c.learn.ensures.2 in
     rw (← c.self.view_is, ← c.other.view_is)
-        (behind_or one.seen.log other.seen.log both one.count other.count c.self.invariant.0 c.other.invariant.0 this
-        c.learn.ensures.3)
+    (behind_or one.seen.log other.seen.log both one.count other.count c.self.invariant.0 c.other.invariant.0 this
+    c.learn.ensures.3)
