@@ -1,0 +1,340 @@
+//! The log of a board, as the history of a book. It exists for contracts alone: what runs is one word, which counts.
+
+ghost use Rattle.std.specs.Prelude.{◌≡◌, ◌+◌, ◌-◌, ◌^◌, ◌<◌, ◌≤◌, [], ◌∷◌, ◌++◌, length, IfSome, MatchBool, if◌then◌else◌};
+ghost use mathlib.Core.List.{IsPrefix};
+ghost use Rattle.logbook.specs.Pages.{may_write};
+ghost use Rattle.yp_board.specs.Views.{IsFront};
+ghost use Rattle.yp_readers.specs.Histories.{head_of, IsNext};
+
+use logbook::{Gain, Offer, Pen, Plain, Play, Rule, Seen, Start, Word};
+use std::marker::{Brand, Model, PhantomData};
+use std::snapshot::Snapshot;
+use yp_version::Version;
+
+/// A version that was shown of a map.
+pub type Shown = (u32, Version);
+
+/// How many words a book has that was just opened.
+const FIRST_WORDS: u64 = 2;
+
+/// The most pairs of a log.
+const MOST: u64 = 1 << 63;
+
+/// The rule of the book: its first word counts its words, of which one comes home with each pair.
+pub struct Counted;
+
+impl Rule<Shown, u64> for Counted {
+    ghost use Rattle.std.specs.Prelude.{[]};
+    ghost use base.Fml.{ftrue};
+    ghost use Rattle.yp_readers.specs.Histories.{IsCounted};
+
+    ghost holds = { λ cells log. IsCounted cells log };
+
+    ghost first = { [] };
+
+    ghost hinted = { λ n log. Unit {0} };
+
+    ghost shows = { λ log. [] };
+
+    ghost keeps = { λ names log. ftrue };
+
+    ghost moves = { λ ask before after answer. Unit {0} };
+}
+
+/// Callers trade nothing.
+struct Nothing;
+
+impl Gain<Shown, u64> for Nothing {
+    ghost use base.Fml.{ftrue};
+
+    ghost after = { λ names about answer. ftrue };
+}
+
+/// A version of a map that is to be shown.
+#[derive(Drop)]
+struct Next {
+    map: u32,
+    version: Snapshot<Version>,
+}
+
+/// The step that adds a pair, with the first word that isn't at home.
+struct Add;
+
+impl Play<Shown, u64> for Add {
+    ghost use Rattle.yp_readers.specs.Histories.{Adds};
+
+    ghost then = { Adds };
+}
+
+impl Plain<Next, Shown, u64> for Add {
+    ghost use Rattle.std.specs.Prelude.{None};
+
+    ghost ask = { λ next. (next.map, next.version.value) };
+
+    ghost state = { λ next. None };
+}
+
+/// The step that adds a word.
+struct Open;
+
+impl Play<Shown, u64> for Open {
+    ghost use Rattle.yp_readers.specs.Histories.{Opens};
+
+    ghost then = { Opens };
+}
+
+/// The step that looks how long the log is.
+struct Look;
+
+impl Play<Shown, u64> for Look {
+    ghost use Rattle.yp_readers.specs.Histories.{Looks};
+
+    ghost then = { Looks };
+}
+
+/// What a step asks that adds no pair.
+#[derive(Drop)]
+struct NoPair;
+
+impl Plain<NoPair, Shown, u64> for Look {
+    ghost use Rattle.std.specs.Prelude.{None};
+    ghost use Rattle.yp_readers.specs.Histories.{no_pair};
+
+    ghost ask = { λ none. no_pair };
+
+    ghost state = { λ none. None };
+}
+
+/// Which board it is. Each call of a program that opens one picks it.
+pub trait Naming {
+    ghost use Rattle.logbook.specs.Pages.{Book};
+
+    ghost book: { Book };
+}
+
+impl Naming for Brand {
+    ghost book = { record { number = 0; log_name = 0; cells_name = 0 } };
+}
+
+/// A log with nothing in it, for a board that has no name yet. Contracts see which book it is.
+pub struct Opened {
+    head: Word<Shown, u64, Counted>,
+    seen: Seen<Shown, u64, Counted>,
+}
+
+impl Model for Opened {
+    ghost use Rattle.std.specs.Prelude.{◌≡◌, []};
+    ghost use Rattle.logbook.specs.Pages.{Book, book_coded};
+    ghost use Rattle.yp_readers.specs.Histories.{head_of};
+
+    ghost Value = { Book };
+
+    ghost coded = { book_coded };
+
+    ghost view = { λ o. o.seen.book };
+
+    ghost invariant = { λ o. (o.seen.log ≡ []) × (o.head ≡ head_of o.seen.book) };
+}
+
+impl Opened {
+    /// A new log. It takes no memory.
+    pub fn new() -> Opened {
+        let (seen, mut first, _second) = Seen::open(Start::alone(), FIRST_WORDS, 0);
+        Opened {
+            head: Word::tracked(FIRST_WORDS, &mut first),
+            seen,
+        }
+    }
+
+    /// The log under a name.
+    pub(crate) fn named<J: Naming>(self) -> Option<History<J>>
+        requires { self ≡ J.book }
+        ensures { IfSome result (λ history. history ≡ []) }
+    {
+        let Opened { head, seen } = self;
+        let pen = next_word(&head, &seen, FIRST_WORDS)?;
+        let front = Front {
+            count: 0,
+            seen,
+            of: PhantomData,
+        };
+        Some(History { head, pen, front })
+    }
+}
+
+/// A front of the log of a board, with its length. Contracts see it as a log.
+#[derive(Drop)]
+pub(crate) struct Front<J: Naming> {
+    count: u64,
+    seen: Seen<Shown, u64, Counted>,
+    of: PhantomData<J>,
+}
+
+impl<J: Naming> Model for Front<J> {
+    ghost use Rattle.std.specs.Prelude.{◌≡◌, length};
+    ghost use Rattle.yp_board.specs.Logs.{Log};
+
+    ghost Value = { Log };
+
+    ghost view = { λ f. f.seen.log };
+
+    ghost invariant = { λ f. (f.count ≡ length f.seen.log) × (f.seen.book ≡ J.book) };
+}
+
+impl<J: Naming> Front<J> {
+    /// How many pairs it has.
+    pub(crate) fn len(&self) -> u64
+        ensures { result ≡ length self.now }
+    {
+        self.count
+    }
+
+    /// The same front once more.
+    pub(crate) fn again(&self) -> Front<J>
+        ensures { result ≡ self.now }
+    {
+        Front {
+            count: self.count,
+            seen: self.seen.again(),
+            of: PhantomData,
+        }
+    }
+
+    /// Whether the other one begins with this one, and goes on.
+    pub(crate) fn is_behind(&self, other: &Front<J>) -> bool
+        ensures { MatchBool result (IsFront self.now other.now) (IsFront other.now self.now) }
+    {
+        let mut both = self.seen.again();
+        both.learn(&other.seen);
+        self.count < other.count
+    }
+}
+
+/// The log of a board, for the one who writes it. Contracts see it as a log. It has the pen of the word that the next
+/// pair comes with, so nobody else can make the log longer.
+#[derive(Drop)]
+pub(crate) struct History<J: Naming> {
+    head: Word<Shown, u64, Counted>,
+    pen: Pen,
+    front: Front<J>,
+}
+
+impl<J: Naming> Model for History<J> {
+    ghost use Rattle.std.specs.Prelude.{◌≡◌};
+    ghost use Rattle.yp_board.specs.Logs.{Log};
+    ghost use Rattle.yp_readers.specs.Histories.{head_of, IsNext};
+
+    ghost Value = { Log };
+
+    ghost view = { λ h. h.front };
+
+    ghost invariant = { λ h. (h.head ≡ head_of J.book) × (h.pen.book ≡ J.book) × IsNext h.front h.pen.nib };
+}
+
+impl<J: Naming> History<J> {
+    /// The whole log.
+    pub(crate) fn front(&self) -> &Front<J>
+        ensures { result.now ≡ self.now }
+    {
+        &self.front
+    }
+
+    /// Adds a version of a map. It adds nothing where the words of the book aren't counted as they should be.
+    pub(crate) fn push(&mut self, map: u32, version: &Version) -> bool
+        ensures { self.new ≡ (if result then self.old ++ (map, version.now) ∷ [] else self.old) }
+    {
+        if self.front.count >= MOST {
+            return false;
+        }
+        let words = self.front.count + FIRST_WORDS + 1;
+        let Some(pen) = next_word(&self.head, &self.front.seen, words) else {
+            return false;
+        };
+        self.front = self.front.with(&self.head, &mut self.pen, map, version);
+        self.pen = pen;
+        true
+    }
+
+    /// What is known of the log is a front of it.
+    #[tactic(auto, using(crate::proofs::Fronts::covered))]
+    pub(crate) fn covers(&mut self, front: &Front<J>)
+        ensures front { IsFront front.now self.old }
+        ensures same { self.new ≡ self.old }
+    {
+        let mut seen = self.front.seen.again();
+        seen.learn(&front.seen);
+        look_with(&self.head, &mut self.pen, &mut seen);
+    }
+}
+
+/// Looks at the log with the pen of the word that the next pair comes with.
+fn look_with(head: &Word<Shown, u64, Counted>, pen: &mut Pen, seen: &mut Seen<Shown, u64, Counted>)
+    requires head { head.now ≡ head_of seen.old.book }
+    requires pen { (pen.old.book ≡ seen.old.book) × (pen.old.nib.right ≡ may_write) × (0 < pen.old.nib.key) }
+    ensures grown { IsPrefix seen.old.log seen.new.log }
+    ensures whole { length seen.new.log + 2 ≤ pen.old.nib.key }
+    ensures pen { (pen.new.book ≡ pen.old.book) × (pen.new.nib ≡ pen.old.nib) }
+{
+    let mut offer: Offer<Shown, u64, Counted, Nothing> = seen.plain::<Nothing, NoPair, Look>(
+        &NoPair,
+    );
+    head.compare_exchange::<Look, Nothing>(0, 0, seen, &mut offer, pen);
+}
+
+/// One word more of a book, where it has so many, and the right to bring it home.
+fn next_word(
+    head: &Word<Shown, u64, Counted>,
+    seen: &Seen<Shown, u64, Counted>,
+    words: u64,
+) -> Option<Pen>
+    requires head { head.now ≡ head_of seen.now.book }
+    requires room { words < 2 ^ 64 - 1 }
+    ensures book { IfSome result (λ pen. pen.book ≡ seen.now.book) }
+    ensures pen { IfSome result (λ pen. (pen.nib.right ≡ may_write) × (pen.nib.key ≡ words)) }
+{
+    let mut seen = seen.again();
+    let mut offer: Offer<Shown, u64, Counted, Nothing> = seen.plain::<Nothing, NoPair, Look>(
+        &NoPair,
+    );
+    let mut pen = seen.no_pen();
+    let found = head.compare_exchange::<Open, Nothing>(
+        words,
+        words + 1,
+        &mut seen,
+        &mut offer,
+        &mut pen,
+    );
+    if found != words {
+        return None;
+    }
+    let _word: Word<Shown, u64, Counted> = Word::tracked(0, &mut pen);
+    Some(pen)
+}
+
+impl<J: Naming> Front<J> {
+    /// The front with one pair more, which is added to the log behind it.
+    fn with(
+        &self,
+        head: &Word<Shown, u64, Counted>,
+        pen: &mut Pen,
+        map: u32,
+        version: &Version,
+    ) -> Front<J>
+        requires head { head.now ≡ head_of J.book }
+        requires pen { (pen.old.book ≡ J.book) × IsNext self.now pen.old.nib }
+        requires room { length self.now < 2 ^ 63 }
+        ensures { result ≡ self.now ++ (map, version.now) ∷ [] }
+    {
+        let mut seen = self.seen.again();
+        let version = Snapshot::of(version);
+        let mut offer: Offer<Shown, u64, Counted, Nothing> = seen.plain::<Nothing, Next, Add>(
+            &Next { map, version },
+        );
+        head.compare_exchange::<Add, Nothing>(0, 0, &mut seen, &mut offer, pen);
+        Front {
+            count: self.count + 1,
+            seen,
+            of: PhantomData,
+        }
+    }
+}
