@@ -10,4 +10,4 @@ returns-in_err-answer-clause-tellable g c =
     (bytes_of c.args.question.now) c.in_err-answer.field-0.0 _ _ c.in_err-answer.ensures.dials)
 
 pub returns-clause-tellable : goal.returns-clause-tellable
-returns-clause-tellable g c = prints_tells _ c.print.result _ _ c.print.ensures.prints
+returns-clause-tellable g c = prints_tells c.in_ok-answer.answer c.print.result _ _ c.print.ensures.prints
