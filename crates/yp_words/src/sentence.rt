@@ -47,7 +47,7 @@ struct Sentence {
 }
 
 /// All sentences.
-const SENTENCES: [Sentence; 12] = [
+const SENTENCES: [Sentence; 13] = [
     Sentence {
         task: Task::Once,
         forms: &[Form::Exactly("once"), Form::Store],
@@ -126,6 +126,25 @@ const SENTENCES: [Sentence; 12] = [
     Sentence {
         task: Task::Ask(Question::Maps { domain: 2 }),
         forms: &[Form::Exactly("maps"), Form::Address, Form::Text],
+        further: Further::NoMore,
+    },
+    Sentence {
+        task: Task::Ask(Question::Innetgr {
+            domain: 2,
+            group: 3,
+            host: Some(4),
+            user: Some(5),
+            user_domain: Some(6),
+        }),
+        forms: &[
+            Form::Exactly("innetgr"),
+            Form::Address,
+            Form::Text,
+            Form::Key,
+            Form::Key,
+            Form::Key,
+            Form::Key,
+        ],
         further: Further::NoMore,
     },
 ];
