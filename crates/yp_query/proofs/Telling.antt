@@ -27,7 +27,7 @@ use Rattle.yp_query.specs.Asked.{MakesCalls, Converses, rows_told, membership_ou
 use Rattle.yp_query.specs.declared.answer.Answer.{Answer}
 use Rattle.yp_query.specs.declared.answer.Answer.TheVariants as answers
 use Rattle.yp_query.specs.Answers.{answer_outcome}
-use Rattle.yp_query.specs.Scenes.{Exchanges, Dials, Prints}
+use Rattle.yp_query.specs.Scenes.{Scene, Exchanges, Dials, Prints, Asks}
 
 -- ---- the fault of a call may be told
 
@@ -37,13 +37,25 @@ unspent : {X : Type 0} (limit : ℕ) (call : ℕ → List ℕ) (answers : ℕ �
 unspent limit call answers fault old new fresh calls is =
     let e : true ≡ false = sym (calls.exactly.0 (rw is refl)) ∙ fresh in cc
 
-refused : (fault : ClientFault) → (fault ≡ client_faults.Spent → ⊥) → IsTellable (query_fault fault)
+-- what calls may come to: what may be told, and no fault of a sink
+abbrev IsCalled : QueryFault → Type 0
+IsCalled Output = ⊥
+IsCalled fault = IsTellable fault
+
+called_tells : (fault : QueryFault) → IsCalled fault → IsTellable fault
+called_tells Output h = absurd h
+called_tells NotMember h = tt
+called_tells NoMemory h = tt
+called_tells Dial h = tt
+called_tells fault h = h
+
+refused : (fault : ClientFault) → (fault ≡ client_faults.Spent → ⊥) → IsCalled (query_fault fault)
 refused client_faults.Spent fresh = absurd (fresh refl)
 refused (client_faults.Rows row version_faults.NoMemory) fresh = tt
 refused (client_faults.Rows row fault) fresh = tt
 refused fault fresh = tt
 
-match_refused : (fault : ClientFault) → (fault ≡ client_faults.Spent → ⊥) → IsTellable (match_fault fault)
+match_refused : (fault : ClientFault) → (fault ≡ client_faults.Spent → ⊥) → IsCalled (match_fault fault)
 match_refused (client_faults.Yp stats.Nokey) fresh = tt
 match_refused client_faults.Spent fresh = absurd (fresh refl)
 match_refused (client_faults.Rows row version_faults.NoMemory) fresh = tt
@@ -53,11 +65,11 @@ match_refused fault fresh = tt
 -- ---- what calls come to may be told
 
 abbrev MayTell : Outcome → Type 0
-MayTell outcome = IfErr outcome IsTellable
+MayTell outcome = IfErr outcome IsCalled
 
 meant_tells : {X : Type 0} (refused : ClientFault → QueryFault) (means : X → Outcome) (answer : Result X ClientFault)
     (outcome : Outcome) → ((x : X) → MayTell (means x))
-    → ((fault : ClientFault) → answer ≡ Err fault → IsTellable (refused fault))
+    → ((fault : ClientFault) → answer ≡ Err fault → IsCalled (refused fault))
     → IsInMemory (told_by refused means answer) outcome → MayTell outcome
 meant_tells refused means answer (Ok t) m k h = tt
 meant_tells refused means answer (Err NoMemory) m k h = tt
@@ -67,7 +79,7 @@ meant_tells refused means (Err f) (Err fault) m k h = subst MayTell (sym h) (k f
 call_tells : {X : Type 0} (limit : ℕ) (call : ℕ → List ℕ) (answers : ℕ → List ℕ → Result X ClientFault → Type 0)
     (refused : ClientFault → QueryFault) (means : X → Outcome) (outcome : Outcome) (old new : ClientState)
     → old.spent ≡ false → ((x : X) → MayTell (means x))
-    → ((fault : ClientFault) → (fault ≡ client_faults.Spent → ⊥) → IsTellable (refused fault))
+    → ((fault : ClientFault) → (fault ≡ client_faults.Spent → ⊥) → IsCalled (refused fault))
     → CallIsMade limit call answers (told_by refused means) outcome old new → MayTell outcome
 call_tells {X} limit call answers refused means outcome old new fresh m k h =
     let P : Result X ClientFault → Type 0 = λ r. Calls limit call answers r old new in
@@ -77,7 +89,7 @@ call_tells {X} limit call answers refused means outcome old new fresh m k h =
 makes_tells : {X : Type 0} (limit : ℕ) (call : ℕ → List ℕ) (answers : ℕ → List ℕ → Result X ClientFault → Type 0)
     (means : ClientFault → QueryFault) (text : X → List ℕ) (outcome : Outcome) (old new : ClientState)
     → old.spent ≡ false
-    → ((fault : ClientFault) → (fault ≡ client_faults.Spent → ⊥) → IsTellable (means fault))
+    → ((fault : ClientFault) → (fault ≡ client_faults.Spent → ⊥) → IsCalled (means fault))
     → CallIsMade limit call answers (meant_by means text) outcome old new → MayTell outcome
 makes_tells limit call answers means text outcome old new fresh k h =
     call_tells limit call answers means (λ x. Ok (text x)) outcome old new fresh (λ x. tt) k h
@@ -139,12 +151,39 @@ exchanges_tell peer question outcome old new h =
 pub dials_tells : (peer : Peer) (question : ByteQuestion) (fault : QueryFault) (old new : Option Wires)
     → Dials peer question (Err fault) old new → IsTellable fault
 dials_tells peer question Dial old new h = tt
-dials_tells peer question fault old new h = exchanges_tell peer question (Err fault) old new h
+dials_tells peer question fault old new h = called_tells fault (exchanges_tell peer question (Err fault) old new h)
+
+-- ---- an answer that is printed
+
+exchanged : (peer : Peer) (question : ByteQuestion) (answer : Answer) (old new : Option Wires)
+    → Dials peer question (answer_outcome answer) old new → Exchanges peer question (answer_outcome answer) old new
+exchanged peer question (answers.Membership true) old new h = h
+exchanged peer question (answers.Membership false) old new h = h
+exchanged peer question answer old new h = h
+
+came : (answer : Answer) → answer_outcome answer ≡ Err Dial → ⊥
+came (answers.Membership true) e = cc
+came (answers.Membership false) e = cc
+came answer e = cc
+
+-- A wire came and went back, and what its calls came to was printed.
+pub answer_asks : (peer : Peer) (question : ByteQuestion) (answer : Answer) (result : Result (Unit {0}) QueryFault)
+    (old new : Scene) → Dials peer question (answer_outcome answer) old.dial.past new.dial.past
+    → Prints (answer_outcome answer) result old.output new.output → Asks peer question result old new
+answer_asks peer question answer (Err Dial) old new dials prints = absurd (came answer prints.0)
+answer_asks peer question answer (Ok done) old new dials prints =
+    (answer_outcome answer, exchanged peer question answer old.dial.past new.dial.past dials, prints)
+answer_asks peer question answer (Err fault) old new dials prints =
+    (answer_outcome answer, exchanged peer question answer old.dial.past new.dial.past dials, prints)
 
 -- what an answer comes to may be told
 answer_tells : (answer : Answer) → MayTell (answer_outcome answer)
 answer_tells (answers.Membership member) = outcome_tells member
 answer_tells answer = tt
+
+tells : (outcome : Outcome) → MayTell outcome → IfErr outcome IsTellable
+tells (Ok text) h = tt
+tells (Err fault) h = called_tells fault h
 
 pub prints_tells : (answer : Answer) (result : Result (Unit {0}) QueryFault) (before after : Option (List ℕ))
     → Prints (answer_outcome answer) result before after → IfErr result IsTellable
@@ -152,4 +191,6 @@ prints_tells answer (Ok done) before after h = tt
 prints_tells answer (Err Output) before after h = tt
 prints_tells answer (Err NotMember) before after h = tt
 prints_tells answer (Err NoMemory) before after h = tt
-prints_tells answer (Err fault) before after h = subst MayTell h.0 (answer_tells answer)
+prints_tells answer (Err fault) before after h =
+    let P : Outcome → Type 0 = λ outcome. IfErr outcome IsTellable in
+    subst P h.0 (tells (answer_outcome answer) (answer_tells answer))

@@ -162,7 +162,8 @@ fn ask_membership<S: Source, K: Sink>(
         Err(fault) => return Err(fault),
     };
     match innetgr(alloc, rt, &version, group, who) {
-        Ok(is_member) => Ok(Answer::Membership(is_member)),
+        Ok(true) => Ok(Answer::Membership(true)),
+        Ok(false) => Err(QueryFault::NotMember),
         Err(NoMemory) => Err(QueryFault::NoMemory),
     }
 }
