@@ -3,6 +3,7 @@ use Rattle.std.proofs.Common.{◌≡◌, Bool, true, false, Result, Ok, Err, ref
 use Rattle.std.specs.Prelude.{IsTrue, ◌↔◌}
 use Rattle.yp_msgs.specs.declared.stat.YpStat.{YpStat}
 use Rattle.yp_version.specs.Versions.{MapVersion}
+use Rattle.yp_netgroup.specs.Reach.{IsMember}
 use Rattle.yp_netgroup.specs.Decided.{is_member, MembershipIsDecided}
 use Rattle.yp_query.specs.Asked.{Outcome, netgroup, membership_outcome, membership_told, told_by}
 use Rattle.yp_query.specs.Faults.{query_fault}
@@ -22,5 +23,5 @@ by_value false is law = record {
 
 pub membership_is_told : MembershipIsDecided → MembershipIsTold
 membership_is_told law first second caller domain group asked version held =
-    subst (λ (shown : Result MapVersion YpStat). TellsWhether _ (told_by query_fault (membership_told group asked) (told (of_version all_in shown))))
+    subst (λ (shown : Result MapVersion YpStat). TellsWhether (IsMember version.rows group asked) (told_by query_fault (membership_told group asked) (told (of_version all_in shown))))
     (sym held) (by_value (is_member version.rows group asked) _ (law version.rows group asked))
