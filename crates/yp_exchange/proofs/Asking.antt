@@ -22,9 +22,11 @@ use Rattle.yp_client.specs.Asked.{all_call, match_call, master_call, order_call,
 use Rattle.yp_client.specs.Calls.{Calls}
 use Rattle.yp_query.specs.declared.fault.QueryFault.TheVariants.{Dial}
 use Rattle.yp_question.specs.declared.question.Question.TheVariants.{Cat, Catk, Match, Which, Poll, Maps as MapsOf}
+use Rattle.yp_question.specs.declared.question.Question.TheVariants.{Innetgr}
 use Rattle.yp_query.specs.Lines.{line, lines, rows_text, standing_text}
 use Rattle.yp_query.specs.Faults.{query_fault, match_fault}
-use Rattle.yp_query.specs.Asked.{Outcome, meant_by, no_rows, TakesRows, MakesMaster, MakesCalls}
+use Rattle.yp_query.specs.Asked.{Outcome, told_by, meant_by, no_rows, TakesRows, MakesMaster, MakesCalls}
+use Rattle.yp_query.specs.Asked.{rows_told, membership_told, netgroup}
 use Rattle.yp_question.specs.Questions.{ByteQuestion, QuestionIsWithin}
 use Rattle.yp_query.specs.Complete.{HasCome}
 use Rattle.yp_query.specs.Scenes.{IsFirst, Exchanges}
@@ -75,15 +77,15 @@ rows_in_memory said draft rows (Err ClientNoMemory) says = inr refl
 rows_in_memory said draft rows (Err fault) says = inl says
 
 -- the rows of a version stand in the builder, in their order
-rows_meant : RisingStays → (keyed : Bool) (held : Result MapVersion YpStat) (draft : Draft) (rows : ℕ) (answer : Result (Unit {0}) ClientFault) → IsSound held
+rows_meant : RisingStays → (means : List Row → Outcome) (held : Result MapVersion YpStat) (draft : Draft) (rows : ℕ) (answer : Result (Unit {0}) ClientFault) → IsSound held
     → record { draft = draft; rows = rows; end = answer } ≡ all_told no_rows held
-    → meant_by query_fault (λ _. rows_text keyed (listed draft.rows)) answer ≡ meant_by query_fault (rows_text keyed) (told (of_version all_in held))
-rows_meant stays keyed (Ok version) draft rows (Ok done) is said =
+    → told_by query_fault (λ _. means (listed draft.rows)) answer ≡ told_by query_fault means (told (of_version all_in held))
+rows_meant stays means (Ok version) draft rows (Ok done) is said =
     let same : draft.rows ≡ version.rows = ap (λ (s : AllSaid). s.draft.rows) said in
-    ap (λ (all : List Row). Ok (rows_text keyed (listed all))) same ∙ ap (λ (all : List Row). Ok (rows_text keyed all)) (stays version.rows is.rising)
-rows_meant stays keyed (Ok version) draft rows (Err fault) is said = absurd (let ends : Err fault ≡ Ok tt = ap (λ (s : AllSaid). s.end) said in cc)
-rows_meant stays keyed (Err stat) draft rows (Ok done) is said = absurd (let ends : Ok done ≡ Err (Yp stat) = ap (λ (s : AllSaid). s.end) said in cc)
-rows_meant stays keyed (Err stat) draft rows (Err fault) is said =
+    ap (λ (all : List Row). means (listed all)) same ∙ ap means (stays version.rows is.rising)
+rows_meant stays means (Ok version) draft rows (Err fault) is said = absurd (let ends : Err fault ≡ Ok tt = ap (λ (s : AllSaid). s.end) said in cc)
+rows_meant stays means (Err stat) draft rows (Ok done) is said = absurd (let ends : Ok done ≡ Err (Yp stat) = ap (λ (s : AllSaid). s.end) said in cc)
+rows_meant stays means (Err stat) draft rows (Err fault) is said =
     let ends : Err fault ≡ Err (Yp stat) = ap (λ (s : AllSaid). s.end) said in
     let same : fault ≡ Yp stat = cc in
     ap (λ (f : ClientFault). Err (query_fault f)) same
@@ -97,25 +99,25 @@ any_master (Err stat) = tt
 pub no_rows_room : RoomForVersion → (maps : Maps) (port : ℕ) (domain map : List ℕ) → AreServed maps → HasRoom no_rows (row_check maps port domain map)
 no_rows_room law maps port domain map served = law maps port domain map 0 [] served (any_master (row_check maps port domain map))
 
-rows_come : Laws → (maps : Maps) (peer : Peer) (keyed : Bool) (domain map stream : List ℕ) (outcome : Outcome) (old new : ClientState) → AreServed maps → length domain ≤ 64 → length map ≤ 64
-    → GivesReply maps peer all_max (all_call domain map 1) stream (λ rest. ⊤) → IsFirst old → old.wire.input ≡ Some stream → TakesRows keyed domain map outcome old new
-    → ComesTo (meant_by query_fault (rows_text keyed) (told (of_version all_in (row_check maps peer.port domain map)))) outcome
-rows_come laws maps peer keyed domain map stream outcome old new served d m good first told_input takes =
+rows_come : Laws → (maps : Maps) (peer : Peer) (means : List Row → Outcome) (domain map stream : List ℕ) (outcome : Outcome) (old new : ClientState) → AreServed maps → length domain ≤ 64 → length map ≤ 64
+    → GivesReply maps peer all_max (all_call domain map 1) stream (λ rest. ⊤) → IsFirst old → old.wire.input ≡ Some stream → TakesRows means domain map outcome old new
+    → ComesTo (told_by query_fault means (told (of_version all_in (row_check maps peer.port domain map)))) outcome
+rows_come laws maps peer means domain map stream outcome old new served d m good first told_input takes =
     let held = row_check maps peer.port domain map in
     let sound = row_sound maps peer.port domain map served in
     let answer = takes.makes.answer in
-    let to = meant_by query_fault (rows_text keyed) (told (of_version all_in held)) in
-    let text = λ (done : Unit {0}). rows_text keyed (listed takes.draft.rows) in
+    let to = told_by query_fault means (told (of_version all_in held)) in
+    let meant : Unit {0} → Outcome = λ done. means (listed takes.draft.rows) in
     let says : all_said no_rows 1 good.reply ≡ all_told no_rows held =
     tells_of maps peer all_max (all_call domain map 1) (all_said no_rows 1) (all_told no_rows held) good.reply
     (laws.replies.all maps peer 1 domain served (omega arith) d map m no_rows (no_rows_room laws.replies.room maps peer.port domain map served)) good.good.0 in
-    comes_in_memory to (meant_by query_fault text answer) outcome
+    comes_in_memory to (told_by query_fault meant answer) outcome
     (elim (call_heard laws.records all_max stream _ good (all_call domain map) (SaysAll no_rows takes.draft) old new told_input answer takes.makes.calls first.spent) [
-      | inr failed ↦ wire_comes to query_fault text answer fault_passes failed
+      | inr failed ↦ wire_comes to query_fault meant answer fault_passes failed
       | inl heard ↦ elim (rows_in_memory (all_said no_rows old.xid good.reply) takes.draft heard.by_reply.0 answer heard.by_reply.1) [
-        | inr none ↦ memory_comes to query_fault text answer fault_passes none
-        | inl is ↦ comes_same to (meant_by query_fault text answer)
-            (rows_meant laws.stays keyed held takes.draft heard.by_reply.0 answer sound (sym is ∙ ap (λ (xid : ℕ). all_said no_rows xid good.reply) first.xid ∙ says))
+        | inr none ↦ memory_comes to query_fault meant answer fault_passes none
+        | inl is ↦ comes_same to (told_by query_fault meant answer)
+            (rows_meant laws.stays means held takes.draft heard.by_reply.0 answer sound (sym is ∙ ap (λ (xid : ℕ). all_said no_rows xid good.reply) first.xid ∙ says))
       ]
     ]) takes.makes.meant
 
@@ -178,7 +180,7 @@ module _ (laws : Laws) (first second : Maps) (peer : Peer) (domain map stream : 
       (follows.0 ∙ ap (λ (said : Result ℕ ClientFault). standing_told said master_told) (order_is (Err fault) heard.by_reply))
   order_comes (Err fault) (inr failed) calls follows =
       subst (ComesTo (standing_told order_told master_told)) (sym follows.0)
-      (wire_comes (standing_told order_told master_told) query_fault (λ (n : ℕ). []) (Err fault) fault_passes failed)
+      (wire_comes (standing_told order_told master_told) query_fault (λ (n : ℕ). Ok []) (Err fault) fault_passes failed)
 
   pub polls_come : (order : Result ℕ ClientFault) → Calls reply_max (order_call domain map) (SaysNumber order_of) order old mid → MakesMaster domain map order outcome mid new
       → ComesTo (standing_told order_told master_told) outcome
@@ -189,8 +191,10 @@ module _ (laws : Laws) (first second : Maps) (peer : Peer) (domain map stream : 
 
 module _ (laws : Laws) (first second : Maps) (peer : Peer) (stream : List ℕ) (outcome : Outcome) (old new : ClientState) (one : AreServed first) (other : AreServed second) (begins : IsFirst old) (told_input : old.wire.input ≡ Some stream) where
   calls_come : (question : ByteQuestion) → QuestionIsWithin question → GivesReplies first second peer question stream → MakesCalls question outcome old new → ComesTo (text_told first second peer question) outcome
-  calls_come (Cat domain map) within good makes = rows_come laws first peer false domain map stream outcome old new one within.0 within.1 good begins told_input makes
-  calls_come (Catk domain map) within good makes = rows_come laws first peer true domain map stream outcome old new one within.0 within.1 good begins told_input makes
+  calls_come (Cat domain map) within good makes = rows_come laws first peer (rows_told false) domain map stream outcome old new one within.0 within.1 good begins told_input makes
+  calls_come (Catk domain map) within good makes = rows_come laws first peer (rows_told true) domain map stream outcome old new one within.0 within.1 good begins told_input makes
+  calls_come (Innetgr domain group host user user_domain) within good makes =
+      rows_come laws first peer (membership_told group (record { host = host; user = user; domain = user_domain })) domain netgroup stream outcome old new one within (omega arith) good begins told_input makes
   calls_come (Match domain map key) within good makes =
       let expected = told (of_version (value_in key) (row_check first peer.port domain map)) in
       call_comes laws.records reply_max 1 stream _ good (match_call domain map key) (λ (bytes : Bor (List ℕ)). bytes.now) value_of (SaysBytes value_of) match_fault line expected outcome old new

@@ -14,9 +14,11 @@ use Rattle.yp_client.specs.Results.{value_of, master_of, order_of, maps_of}
 use Rattle.yp_client.specs.All.{AllSaid, all_said}
 use Rattle.yp_client.specs.Asked.{all_call, match_call, master_call, order_call, maplist_call}
 use Rattle.yp_question.specs.declared.question.Question.TheVariants.{Cat, Catk, Match, Which, Poll, Maps as MapsOf}
+use Rattle.yp_question.specs.declared.question.Question.TheVariants.{Innetgr}
 use Rattle.yp_query.specs.Lines.{line, lines, rows_text, standing_text}
 use Rattle.yp_query.specs.Faults.{query_fault, match_fault}
-use Rattle.yp_query.specs.Asked.{meant_by, no_rows}
+use Rattle.yp_version.specs.Rows.{Row}
+use Rattle.yp_query.specs.Asked.{Outcome, told_by, meant_by, no_rows, rows_told, membership_told, netgroup}
 use Rattle.yp_question.specs.Questions.{ByteQuestion, QuestionIsWithin}
 use Rattle.yp_query.specs.Complete.{BeginsWithReply, IsFound, HasAnswer}
 use Rattle.yp_answer.specs.Maps.{Maps, map_check, row_check}
@@ -29,9 +31,9 @@ use Rattle.yp_exchange.proofs.Asking.{Replies, no_rows_room}
 
 -- ---- what has a text
 
-all_end : (keyed : Bool) (held : Result MapVersion YpStat) → HasText (meant_by query_fault (rows_text keyed) (told (of_version all_in held))) → (all_told no_rows held).end ≡ Ok tt
-all_end keyed (Ok version) has = refl
-all_end keyed (Err stat) has = absurd has
+all_end : (means : List Row → Outcome) (held : Result MapVersion YpStat) → HasText (told_by query_fault means (told (of_version all_in held))) → (all_told no_rows held).end ≡ Ok tt
+all_end means (Ok version) has = refl
+all_end means (Err stat) has = absurd has
 
 -- a fault has no text
 row_no_text : (row : ℕ) (fault : VersionFault) → HasText (Err (query_fault (Rows row fault))) → ⊥
@@ -70,15 +72,15 @@ given : (limit : ℕ) (stream : List ℕ) (P Q : List ℕ → List ℕ → Type 
 given limit stream P Q good holds = record { reply = good.reply; bytes = good.bytes; rest = good.rest; fragments = good.fragments; whole = good.whole; good = holds }
 
 module _ (laws : Replies) (first second : Maps) (peer : Peer) (stream : List ℕ) (one : AreServed first) (other : AreServed second) where
-  rows_answered : (keyed : Bool) (domain map : List ℕ) → length domain ≤ 64 → length map ≤ 64 → GivesReply first peer all_max (all_call domain map 1) stream (λ rest. ⊤)
-      → HasText (meant_by query_fault (rows_text keyed) (told (of_version all_in (row_check first peer.port domain map))))
+  rows_answered : (means : List Row → Outcome) (domain map : List ℕ) → length domain ≤ 64 → length map ≤ 64 → GivesReply first peer all_max (all_call domain map 1) stream (λ rest. ⊤)
+      → HasText (told_by query_fault means (told (of_version all_in (row_check first peer.port domain map))))
       → BeginsWithReply all_max stream (λ reply rest. (all_said no_rows 1 reply).end ≡ Ok tt)
-  rows_answered keyed domain map d m good has =
+  rows_answered means domain map d m good has =
       let held = row_check first peer.port domain map in
       let says : all_said no_rows 1 good.reply ≡ all_told no_rows held =
       tells_of first peer all_max (all_call domain map 1) (all_said no_rows 1) (all_told no_rows held) good.reply
       (laws.all first peer 1 domain one (omega arith) d map m no_rows (no_rows_room laws.room first peer.port domain map one)) good.good.0 in
-      given all_max stream _ (λ reply rest. (all_said no_rows 1 reply).end ≡ Ok tt) good (ap (λ (said : AllSaid). said.end) says ∙ all_end keyed held has)
+      given all_max stream _ (λ reply rest. (all_said no_rows 1 reply).end ≡ Ok tt) good (ap (λ (said : AllSaid). said.end) says ∙ all_end means held has)
 
   poll_answered : (domain map : List ℕ) → length domain ≤ 64 → length map ≤ 64
       → GivesStanding first second peer domain map stream
@@ -97,8 +99,10 @@ module _ (laws : Replies) (first second : Maps) (peer : Peer) (stream : List ℕ
       )
 
   answered : (question : ByteQuestion) → QuestionIsWithin question → GivesReplies first second peer question stream → HasText (text_told first second peer question) → HasAnswer question stream
-  answered (Cat domain map) within good has = rows_answered false domain map within.0 within.1 good has
-  answered (Catk domain map) within good has = rows_answered true domain map within.0 within.1 good has
+  answered (Cat domain map) within good has = rows_answered (rows_told false) domain map within.0 within.1 good has
+  answered (Catk domain map) within good has = rows_answered (rows_told true) domain map within.0 within.1 good has
+  answered (Innetgr domain group host user user_domain) within good has =
+      rows_answered (membership_told group (record { host = host; user = user; domain = user_domain })) domain netgroup within (omega arith) good has
   answered (Match domain map key) within good has =
       let expected = told (of_version (value_in key) (row_check first peer.port domain map)) in
       let says = tells_of first peer reply_max (match_call domain map key 1) (value_of 1) expected good.reply

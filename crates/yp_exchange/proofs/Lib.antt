@@ -18,3 +18,4 @@ pub mod Asking
 pub mod Running
 pub mod Completing
 pub mod OnLogs
+pub mod Members

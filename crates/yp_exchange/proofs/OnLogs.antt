@@ -11,10 +11,12 @@ use Rattle.yp_client.specs.declared.fault.ClientFault.{ClientFault}
 use Rattle.yp_client.specs.Results.{order_of}
 use Rattle.yp_client.specs.Asked.{all_call, match_call, master_call, order_call, maplist_call}
 use Rattle.yp_question.specs.declared.question.Question.TheVariants.{Cat, Catk, Match, Which, Poll, Maps as MapsOf}
+use Rattle.yp_question.specs.declared.question.Question.TheVariants.{Innetgr}
 use Rattle.yp_question.specs.Questions.{ByteQuestion, QuestionIsWithin}
 use Rattle.yp_answer.specs.declared.procedure.Path.TheVariants.{Stream}
 use Rattle.yp_answer.specs.Reply.{Response, Bytes, reply}
 use Rattle.yp_answer.specs.Served.{maps_on}
+use Rattle.yp_query.specs.Asked.{netgroup}
 use Rattle.yp_session.specs.Hosts.{Turn}
 use Rattle.yp_session.specs.LogRuns.{Gets, LogRun}
 use Rattle.yp_exchange.specs.Runs.{RepliesInTurn, behind_order, poll_calls, calls_made}
@@ -85,6 +87,7 @@ module _ (laws : Replied) (peer : Peer) where
   calls_replied : (question : ByteQuestion) (replies : List (List ℕ)) → QuestionIsWithin question → All (IsRepliedTo peer) (calls_made question replies)
   calls_replied (Cat domain map) replies within = one_call (all_call domain map 1) (λ maps served. laws.all maps peer 1 domain served (omega arith) within.0 map within.1)
   calls_replied (Catk domain map) replies within = one_call (all_call domain map 1) (λ maps served. laws.all maps peer 1 domain served (omega arith) within.0 map within.1)
+  calls_replied (Innetgr domain group host user user_domain) replies within = one_call (all_call domain netgroup 1) (λ maps served. laws.all maps peer 1 domain served (omega arith) within netgroup (omega arith))
   calls_replied (Match domain map key) replies within = one_call (match_call domain map key 1) (λ maps served. laws.value maps peer 1 domain served (omega arith) within.0 map within.1 key within.2)
   calls_replied (Which domain map) replies within = one_call (master_call domain map 1) (λ maps served. laws.master maps peer 1 domain served (omega arith) within.0 map within.1)
   calls_replied (Poll domain map) replies within = poll_replied domain map replies within.0 within.1

@@ -7,7 +7,7 @@ use Rattle.yp_client.specs.States.{ClientState}
 use Rattle.yp_client.specs.Results.{Says, SaysInMemory}
 use Rattle.yp_query.specs.declared.fault.QueryFault.{QueryFault}
 use Rattle.yp_query.specs.declared.fault.QueryFault.TheVariants.{Client, NoMemory}
-use Rattle.yp_query.specs.Asked.{Outcome, meant_by, IsInMemory, CallIsMade}
+use Rattle.yp_query.specs.Asked.{Outcome, told_by, meant_by, IsInMemory, CallIsMade}
 use Rattle.yp_query.specs.Complete.{BeginsWithReply}
 use Rattle.yp_answer.specs.declared.procedure.Path.TheVariants.{Stream}
 use Rattle.yp_answer.specs.Maps.{Maps}
@@ -68,15 +68,15 @@ pub record Passes (refused : ClientFault → QueryFault) : Type 0 where
   pub reading : refused ReadFault ≡ Client ReadFault
   pub writing : refused WriteFault ≡ Client WriteFault
 
-pub wire_comes : {X : Type 0} (expected : Outcome) (refused : ClientFault → QueryFault) (text : X → List ℕ) (answer : Result X ClientFault) → Passes refused → IsWireFault answer → ComesTo expected (meant_by refused text answer)
-wire_comes expected refused text (Err ReadFault) passes is = subst (λ (fault : QueryFault). ComesTo expected (Err fault)) (sym passes.reading) tt
-wire_comes expected refused text (Err WriteFault) passes is = subst (λ (fault : QueryFault). ComesTo expected (Err fault)) (sym passes.writing) tt
-wire_comes expected refused text (Ok x) passes is = absurd is
-wire_comes expected refused text (Err fault) passes is = absurd is
+pub wire_comes : {X : Type 0} (expected : Outcome) (refused : ClientFault → QueryFault) (means : X → Outcome) (answer : Result X ClientFault) → Passes refused → IsWireFault answer → ComesTo expected (told_by refused means answer)
+wire_comes expected refused means (Err ReadFault) passes is = subst (λ (fault : QueryFault). ComesTo expected (Err fault)) (sym passes.reading) tt
+wire_comes expected refused means (Err WriteFault) passes is = subst (λ (fault : QueryFault). ComesTo expected (Err fault)) (sym passes.writing) tt
+wire_comes expected refused means (Ok x) passes is = absurd is
+wire_comes expected refused means (Err fault) passes is = absurd is
 
-pub memory_comes : {X : Type 0} (expected : Outcome) (refused : ClientFault → QueryFault) (text : X → List ℕ) (answer : Result X ClientFault) → Passes refused → answer ≡ Err ClientNoMemory → ComesTo expected (meant_by refused text answer)
-memory_comes expected refused text answer passes is =
-    subst (λ (a : Result _ ClientFault). ComesTo expected (meant_by refused text a)) (sym is) (subst (λ (fault : QueryFault). ComesTo expected (Err fault)) (sym passes.memory) tt)
+pub memory_comes : {X : Type 0} (expected : Outcome) (refused : ClientFault → QueryFault) (means : X → Outcome) (answer : Result X ClientFault) → Passes refused → answer ≡ Err ClientNoMemory → ComesTo expected (told_by refused means answer)
+memory_comes expected refused means answer passes is =
+    subst (λ (a : Result _ ClientFault). ComesTo expected (told_by refused means a)) (sym is) (subst (λ (fault : QueryFault). ComesTo expected (Err fault)) (sym passes.memory) tt)
 
 -- ---- one call
 
@@ -92,9 +92,9 @@ call_comes laws {X} {V} limit n stream P good call view said answers refused tex
     let to = meant_by refused text expected in
     comes_in_memory to (meant_by refused (λ x. text (view x)) makes.answer) outcome
     (elim (call_heard laws limit stream P good call answers old new told makes.answer makes.calls fresh) [
-      | inr failed ↦ wire_comes to refused (λ x. text (view x)) makes.answer passes failed
+      | inr failed ↦ wire_comes to refused (λ x. Ok (text (view x))) makes.answer passes failed
       | inl heard ↦ elim (in_memory view (said old.xid good.reply) makes.answer (means old.xid good.reply makes.answer heard.by_reply)) [
-        | inr none ↦ memory_comes to refused (λ x. text (view x)) makes.answer passes none
+        | inr none ↦ memory_comes to refused (λ x. Ok (text (view x))) makes.answer passes none
         | inl is ↦ comes_same to (meant_by refused (λ x. text (view x)) makes.answer)
             (meant_viewed view refused text makes.answer ∙ ap (meant_by refused text) (sym is ∙ ap (λ (xid : ℕ). said xid good.reply) number ∙ says))
       ]

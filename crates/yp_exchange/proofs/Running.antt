@@ -16,7 +16,8 @@ use Rattle.yp_client.specs.Results.{value_of, master_of, order_of, maps_of}
 use Rattle.yp_client.specs.All.{all_said}
 use Rattle.yp_client.specs.Asked.{all_call, match_call, master_call, order_call, maplist_call}
 use Rattle.yp_question.specs.declared.question.Question.TheVariants.{Cat, Catk, Match, Which, Poll, Maps as MapsOf}
-use Rattle.yp_query.specs.Asked.{no_rows}
+use Rattle.yp_question.specs.declared.question.Question.TheVariants.{Innetgr}
+use Rattle.yp_query.specs.Asked.{no_rows, netgroup}
 use Rattle.yp_question.specs.Questions.{ByteQuestion, QuestionIsWithin}
 use Rattle.yp_answer.specs.declared.procedure.Path.TheVariants.{Stream}
 use Rattle.yp_answer.specs.Maps.{Maps, map_check, row_check}
@@ -169,6 +170,9 @@ module _ (laws : Laws) (catalogue : Catalogue) (peer : Peer) (rest : List ℕ) (
   run_answers (Catk domain map) replies within run =
       let once = answered_once catalogue peer (all_call domain map 1) replies old new run in
       once_between catalogue peer (Catk domain map) (all_call domain map 1) _ replies old new once (all_given domain map replies within.0 within.1 once)
+  run_answers (Innetgr domain group host user user_domain) replies within run =
+      let once = answered_once catalogue peer (all_call domain netgroup 1) replies old new run in
+      once_between catalogue peer (Innetgr domain group host user user_domain) (all_call domain netgroup 1) _ replies old new once (all_given domain netgroup replies within (omega arith) once)
   run_answers (Match domain map key) replies within run =
       let call = match_call domain map key 1 in
       let once = answered_once catalogue peer call replies old new run in

@@ -9,12 +9,13 @@ use Rattle.yp_client.specs.declared.fault.ClientFault.TheVariants.{ReadFault, Wr
 use Rattle.yp_client.specs.Limits.{reply_max, all_max}
 use Rattle.yp_client.specs.Asked.{all_call, match_call, master_call, order_call, maplist_call}
 use Rattle.yp_query.specs.declared.fault.QueryFault.{QueryFault}
-use Rattle.yp_query.specs.declared.fault.QueryFault.TheVariants.{NoKey, Client, NoMemory}
+use Rattle.yp_query.specs.declared.fault.QueryFault.TheVariants.{NoKey, NotMember, Client, NoMemory}
 use Rattle.yp_question.specs.declared.question.Question.TheVariants.{Cat, Catk, Match, Which, Poll, Maps as MapsOf}
+use Rattle.yp_question.specs.declared.question.Question.TheVariants.{Innetgr}
 use Rattle.yp_question.specs.Questions.{ByteQuestion}
 use Rattle.yp_query.specs.Lines.{line, lines, rows_text, standing_text}
 use Rattle.yp_query.specs.Faults.{query_fault, match_fault}
-use Rattle.yp_query.specs.Asked.{Outcome, meant_by}
+use Rattle.yp_query.specs.Asked.{Outcome, told_by, meant_by, netgroup, membership_told}
 use Rattle.yp_query.specs.Complete.{BeginsWithReply}
 use Rattle.yp_query.specs.Scenes.{Prints}
 use Rattle.yp_exchange.specs.Told.{told, rows_tell, map_tells, value_in, all_in, master_in, order_in, names_in}
@@ -46,6 +47,8 @@ GivesReplies first second peer (Which domain map) stream =
 GivesReplies first second peer (Poll domain map) stream = GivesStanding first second peer domain map stream
 GivesReplies first second peer (MapsOf domain) stream =
     GivesReply first peer reply_max (maplist_call domain 1) stream (λ rest. ⊤)
+GivesReplies first second peer (Innetgr domain group host user user_domain) stream =
+    GivesReply first peer all_max (all_call domain netgroup 1) stream (λ rest. ⊤)
 
 -- ---- what it comes to
 
@@ -66,11 +69,15 @@ text_told first second peer (Which domain map) = meant_by query_fault line (map_
 text_told first second peer (Poll domain map) =
     standing_told (map_tells order_in first domain map) (map_tells master_in second domain map)
 text_told first second peer (MapsOf domain) = meant_by query_fault lines (told (names_in first domain))
+text_told first second peer (Innetgr domain group host user user_domain) =
+    told_by query_fault (membership_told group (record { host = host; user = user; domain = user_domain }))
+    (rows_tell all_in first peer domain netgroup)
 
--- there is a text, or no such key
+-- there is a text, or no such key, or no such member
 abbrev pub HasText : Outcome → Type 0
 HasText (Ok text) = ⊤
 HasText (Err NoKey) = ⊤
+HasText (Err NotMember) = ⊤
 HasText outcome = ⊥
 
 -- It comes to this, unless memory ran out or the wire failed.

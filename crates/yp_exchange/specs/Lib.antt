@@ -8,3 +8,4 @@ pub mod QueryLaws
 pub mod LogRuns
 pub mod RunLaws
 pub mod SentLaws
+pub mod MemberLaws

@@ -13,7 +13,9 @@ use Rattle.yp_client.specs.Results.{order_of}
 use Rattle.yp_client.specs.Asked.{all_call, match_call, master_call, order_call, maplist_call}
 use Rattle.yp_query.specs.declared.fault.QueryFault.{QueryFault}
 use Rattle.yp_question.specs.declared.question.Question.TheVariants.{Cat, Catk, Match, Which, Poll, Maps as MapsOf}
+use Rattle.yp_question.specs.declared.question.Question.TheVariants.{Innetgr}
 use Rattle.yp_question.specs.Questions.{ByteQuestion}
+use Rattle.yp_query.specs.Asked.{netgroup}
 use Rattle.yp_exchange.specs.Answered.{text_told, PrintsTold}
 
 -- Calls were answered one after the other, each on a log that begins with the one before. Versions may be shown between
@@ -48,6 +50,7 @@ calls_made (Match domain map key) replies = match_call domain map key 1 ∷ []
 calls_made (Which domain map) replies = master_call domain map 1 ∷ []
 calls_made (Poll domain map) replies = poll_calls domain map replies
 calls_made (MapsOf domain) replies = maplist_call domain 1 ∷ []
+calls_made (Innetgr domain group host user user_domain) replies = all_call domain netgroup 1 ∷ []
 
 -- What these maps tell was printed, on two logs between an old and a new one: as they were at the first reply, and at
 -- the second.

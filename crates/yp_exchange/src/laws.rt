@@ -10,7 +10,9 @@ ghost use Rattle.yp_exchange.specs.RunLaws.{DomainHasReply, MatchHasReply, First
 ghost use Rattle.yp_exchange.specs.RunLaws.{MasterHasReply, OrderHasReply, MaplistHasReply};
 ghost use Rattle.yp_exchange.specs.RunLaws.{RunIsInTurn, LogRunIsPrinted};
 ghost use Rattle.yp_exchange.specs.SentLaws.{SentIsWhole};
+ghost use Rattle.yp_exchange.specs.MemberLaws.{MembershipIsTold};
 
+use yp_netgroup::laws::membership_is_decided;
 use yp_rpc::laws::{call_is_heard_again, first_is_one, rest_is_not_whole};
 use yp_version::laws::{rising_is_distinct, rising_stays};
 use yp_xdr::laws::written_is_read_again;
@@ -183,6 +185,13 @@ pub fn told_is_answered()
     master_tells();
     order_tells();
     maplist_tells();
+}
+
+/// Of a member of a group a question is told yes, and of others no, by one version of the groups.
+pub fn membership_is_told()
+    ensures { MembershipIsTold }
+{
+    membership_is_decided();
 }
 
 /// What is sent of a reply within a limit is that reply in fragments.

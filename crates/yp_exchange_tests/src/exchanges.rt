@@ -48,6 +48,10 @@ const ALL_BARE_CALL: &str =
     "00000001 00000000 00000002 000186a4 00000002 00000008 00000000 00000000 \
     00000000 00000000 00000003 6c616200 00000004 62617265";
 
+const GROUPS_CALL: &str =
+    "00000001 00000000 00000002 000186a4 00000002 00000008 00000000 00000000 \
+    00000000 00000000 00000003 6c616200 00000008 6e657467 726f7570";
+
 const MASTER_CALL: &str = "00000001 00000000 00000002 000186a4 00000002 00000009 00000000 00000000 \
     00000000 00000000 00000003 6c616200 0000000c 686f7374 732e6279 6e616d65";
 
@@ -114,6 +118,14 @@ const POLL_BARE: Fixed = Question::Poll {
 
 const MAPS: Fixed = Question::Maps { domain: b"lab" };
 
+const ANYBODY: Fixed = Question::Innetgr {
+    domain: b"lab",
+    group: b"a",
+    host: None,
+    user: None,
+    user_domain: None,
+};
+
 const NO_MAP: QueryFault = QueryFault::Client(ClientFault::Yp(YpStat::Nomap));
 
 /// What came of a question: its result, what was sent over its wire, and what was printed.
@@ -127,6 +139,13 @@ fn assert_within<R: Abort>(rt: &R, question: &Question<Vec<u8>>)
 
 fn text<R: Abort>(rt: &R, alloc: Global, text: &[u8]) -> Vec<u8> {
     text.to_vec(alloc).expect(rt, "a text")
+}
+
+fn given<R: Abort>(rt: &R, alloc: Global, given: Option<&[u8]>) -> Option<Vec<u8>> {
+    match given {
+        Some(bytes) => Some(text(rt, alloc, bytes)),
+        None => None,
+    }
 }
 
 // The same question in bytes of its own.
@@ -156,6 +175,19 @@ fn owned<R: Abort>(rt: &R, alloc: Global, question: &Fixed) -> Question<Vec<u8>>
         },
         Question::Maps { domain } => Question::Maps {
             domain: own(domain),
+        },
+        Question::Innetgr {
+            domain,
+            group,
+            host,
+            user,
+            user_domain,
+        } => Question::Innetgr {
+            domain: own(domain),
+            group: own(group),
+            host: given(rt, alloc, host),
+            user: given(rt, alloc, user),
+            user_domain: given(rt, alloc, user_domain),
         },
     }
 }
@@ -269,6 +301,15 @@ const CASES: &[Case] = &[
         row: "rows of no version",
         question: CAT_BARE,
         calls: &[(None, ALL_BARE_CALL)],
+        replies: "8000002c 00000001 00000001 00000000 00000000 00000000 00000000 \
+            00000001 ffffffff 00000000 00000000 00000000",
+        result: Err(NO_MAP),
+        printed: b"",
+    },
+    Case {
+        row: "members of no map",
+        question: ANYBODY,
+        calls: &[(None, GROUPS_CALL)],
         replies: "8000002c 00000001 00000001 00000000 00000000 00000000 00000000 \
             00000001 ffffffff 00000000 00000000 00000000",
         result: Err(NO_MAP),

@@ -21,6 +21,7 @@ ghost use Rattle.yp_exchange.specs.Told.{told, rows_tell, map_tells, value_in, f
 ghost use Rattle.yp_exchange.specs.Told.{master_in, order_in, all_told, names_in};
 ghost use Rattle.yp_exchange.specs.Served.{HasRoom};
 ghost use Rattle.yp_exchange.specs.CallLaws.{AnswersAsTold, AnswersInMemory, AllAnswersAsTold, GivesNextReply};
+ghost use Rattle.yp_exchange.specs.MemberLaws.{MembershipIsTold};
 ghost use Rattle.yp_exchange.specs.Answered.{GivesReplies, text_told, HasText, PrintsTold};
 ghost use Rattle.yp_exchange.specs.Runs.{RepliesInTurn, sent_all, calls_made, PrintsOnLogs};
 
@@ -194,6 +195,13 @@ pub fn all<S: Source, K: Sink>(
     laws::all_tells();
     laws::answers_are_told();
     client.all(domain, map, into)
+}
+
+/// Who is told to be a member is one, by the version of the groups that is shown.
+pub fn members_told()
+    ensures { MembershipIsTold }
+{
+    laws::membership_is_told();
 }
 
 /// A question prints what the maps tell, where the peer that was dialed gave a server's replies, and where a server

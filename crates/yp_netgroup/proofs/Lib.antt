@@ -1,4 +1,5 @@
 mod Cuts
+mod Deciding
 mod Ends
 mod NameBytes
 mod NamesMet

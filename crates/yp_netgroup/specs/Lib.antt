@@ -1,5 +1,6 @@
 pub mod Parts
 pub mod Reach
+pub mod Decided
 pub mod Member
 pub mod Who
 pub mod Seen

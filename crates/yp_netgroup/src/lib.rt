@@ -4,6 +4,7 @@
 //! of [`spread`], and the members of a text on that of [`members`].
 #![tactic(auto)]
 
+pub mod laws;
 mod search;
 mod text;
 mod who;

@@ -25,12 +25,15 @@ use Rattle.yp_client.specs.Asked.{match_call, master_call, order_call, maplist_c
 use Rattle.yp_msgs.specs.declared.maplist.MapList.{MapList}
 use Rattle.yp_query.specs.Lines.{line, lines, standing_text}
 use Rattle.yp_query.specs.declared.fault.QueryFault.{QueryFault}
-use Rattle.yp_query.specs.declared.fault.QueryFault.TheVariants.{NoKey, Client, Dial, Output, NoMemory}
-use Rattle.yp_question.specs.declared.question.Question.TheVariants.{Cat, Catk, Match, Which, Poll, Maps}
+use Rattle.yp_query.specs.declared.fault.QueryFault.TheVariants.{NoKey, NotMember, Client, Dial, Output, NoMemory}
+use Rattle.yp_question.specs.declared.question.Question.TheVariants.{Cat, Catk, Match, Which, Poll, Maps, Innetgr}
 use Rattle.yp_question.specs.Questions.{ByteQuestion}
 use Rattle.yp_query.specs.Faults.{query_fault, match_fault}
-use Rattle.yp_query.specs.Asked.{Outcome, meant_by, IsInMemory, no_rows, TakesRows, MakesMaster}
-use Rattle.yp_query.specs.Asked.{MakesCalls}
+use Rattle.yp_version.specs.Rows.{Row, listed}
+use Rattle.yp_netgroup.specs.Reach.{Asked}
+use Rattle.yp_netgroup.specs.Decided.{is_member}
+use Rattle.yp_query.specs.Asked.{Outcome, told_by, meant_by, IsInMemory, no_rows, TakesRows, MakesMaster}
+use Rattle.yp_query.specs.Asked.{MakesCalls, rows_told, membership_outcome, membership_told, netgroup}
 use Rattle.yp_query.specs.Scenes.{Scene, IsFirst, Exchanges, Asks, HasQueryCause}
 use Rattle.yp_query.specs.Complete.{BeginsWithReply, IsFound, HasAnswer, HasCome, IsAnswered}
 
@@ -108,10 +111,11 @@ not_long laws limit stream P good at old new told cause =
     let long : IsLong limit (good.bytes ++ good.rest) = (front, behind.0, cause.2, sym good.whole ∙ behind.2) in
     laws.rest limit good.reply good.bytes good.rest good.fragments (inr (inr long))
 
--- an answer, that there is no such key, want of memory, or a fault of the wire
+-- an answer, that there is no such key or no such member, want of memory, or a fault of the wire
 IsGood : Outcome → Type 0
 IsGood (Ok text) = ⊤
 IsGood (Err NoKey) = ⊤
+IsGood (Err NotMember) = ⊤
 IsGood (Err NoMemory) = ⊤
 IsGood (Err (Client client.ReadFault)) = ⊤
 IsGood (Err (Client client.WriteFault)) = ⊤
@@ -123,11 +127,66 @@ unfolding IsGood
 memory_good meant (Ok text) good is = tt
 memory_good meant (Err NoMemory) good is = tt
 memory_good meant (Err NoKey) good is = tt
+memory_good meant (Err NotMember) good is = tt
 memory_good meant (Err Dial) good is = subst IsGood (sym is) good
 memory_good meant (Err Output) good is = subst IsGood (sym is) good
 memory_good meant (Err (Client fault)) good is = subst IsGood (sym is) good
 
 -- One call whose reply is there comes to something good, where what a query_fault would have to say isn't said.
+told_good : Laws → {X : Type 0} (limit : ℕ) (stream : List ℕ) (P : List ℕ → List ℕ → Type 0)
+    (good : BeginsWithReply limit stream P) (call : ℕ → List ℕ) (answers : ℕ → List ℕ → Result X ClientFault → Type 0)
+    (refused : ClientFault → QueryFault) (means : X → Outcome) (answer : Result X ClientFault) (old new : ClientState)
+    → Calls limit call answers answer old new → old.wire.input ≡ Some stream → old.spent ≡ false
+    → ((fault : ClientFault) → answers old.xid good.reply (Err fault) → IsGood (Err (refused fault)))
+    → IsGood (Err (refused client.ReadFault)) → IsGood (Err (refused client.WriteFault))
+    → ((x : X) → IsGood (means x)) → IsGood (told_by refused means answer)
+unfolding IsGood
+told_good laws limit stream P good call answers refused means (Ok x) old new calls told fresh never reads writes means_good = means_good x
+told_good laws limit stream P good call answers refused means
+    (Err (client.Yp stat)) old new calls told fresh never reads writes means_good =
+    never (client.Yp stat) (hears_reply laws limit stream P good (answers old.xid)
+    (Err (client.Yp stat)) old new told calls.answered).by_reply
+told_good laws limit stream P good call answers refused means
+    (Err (client.Denied head)) old new calls told fresh never reads writes means_good =
+    never (client.Denied head)
+    (hears_reply laws limit stream P good (answers old.xid)
+    (Err (client.Denied head)) old new told calls.answered).by_reply
+told_good laws limit stream P good call answers refused means
+    (Err (client.BadReply at)) old new calls told fresh never reads writes means_good =
+    never (client.BadReply at)
+    (hears_reply laws limit stream P good (answers old.xid)
+    (Err (client.BadReply at)) old new told calls.answered).by_reply
+told_good laws limit stream P good call answers refused means
+    (Err (client.BadXid want got)) old new calls told fresh never reads writes means_good =
+    never (client.BadXid want got)
+    (hears_reply laws limit stream P good (answers old.xid)
+    (Err (client.BadXid want got)) old new told calls.answered).by_reply
+told_good laws limit stream P good call answers refused means
+    (Err (client.Torn at)) old new calls told fresh never reads writes means_good =
+    absurd (not_torn laws limit stream P good at old new told calls.answered)
+told_good laws limit stream P good call answers refused means
+    (Err (client.TooLong at)) old new calls told fresh never reads writes means_good =
+    absurd (not_long laws limit stream P good at old new told calls.answered)
+told_good laws limit stream P good call answers refused means
+    (Err client.ReadFault) old new calls told fresh never reads writes means_good =
+    reads
+told_good laws limit stream P good call answers refused means
+    (Err client.WriteFault) old new calls told fresh never reads writes means_good =
+    writes
+told_good laws limit stream P good call answers refused means
+    (Err client.Spent) old new calls told fresh never reads writes means_good =
+    absurd (let spent : old.spent ≡ true = calls.exactly.0 refl in cc)
+told_good laws limit stream P good call answers refused means
+    (Err (client.Rows row why)) old new calls told fresh never reads writes means_good =
+    never (client.Rows row why)
+    (hears_reply laws limit stream P good (answers old.xid)
+    (Err (client.Rows row why)) old new told calls.answered).by_reply
+told_good laws limit stream P good call answers refused means
+    (Err client.NoMemory) old new calls told fresh never reads writes means_good =
+    never client.NoMemory (hears_reply laws limit stream P good (answers old.xid)
+    (Err client.NoMemory) old new told calls.answered).by_reply
+
+-- the same, where the text of a value is meant
 call_good : Laws → {X : Type 0} (limit : ℕ) (stream : List ℕ) (P : List ℕ → List ℕ → Type 0)
     (good : BeginsWithReply limit stream P) (call : ℕ → List ℕ) (answers : ℕ → List ℕ → Result X ClientFault → Type 0)
     (refused : ClientFault → QueryFault) (text : X → List ℕ) (answer : Result X ClientFault) (old new : ClientState)
@@ -136,50 +195,9 @@ call_good : Laws → {X : Type 0} (limit : ℕ) (stream : List ℕ) (P : List �
     → IsGood (Err (refused client.ReadFault)) → IsGood (Err (refused client.WriteFault))
     → IsGood (meant_by refused text answer)
 unfolding IsGood
-call_good laws limit stream P good call answers refused text (Ok x) old new calls told fresh never reads writes = tt
-call_good laws limit stream P good call answers refused text
-    (Err (client.Yp stat)) old new calls told fresh never reads writes =
-    never (client.Yp stat) (hears_reply laws limit stream P good (answers old.xid)
-    (Err (client.Yp stat)) old new told calls.answered).by_reply
-call_good laws limit stream P good call answers refused text
-    (Err (client.Denied head)) old new calls told fresh never reads writes =
-    never (client.Denied head)
-    (hears_reply laws limit stream P good (answers old.xid)
-    (Err (client.Denied head)) old new told calls.answered).by_reply
-call_good laws limit stream P good call answers refused text
-    (Err (client.BadReply at)) old new calls told fresh never reads writes =
-    never (client.BadReply at)
-    (hears_reply laws limit stream P good (answers old.xid)
-    (Err (client.BadReply at)) old new told calls.answered).by_reply
-call_good laws limit stream P good call answers refused text
-    (Err (client.BadXid want got)) old new calls told fresh never reads writes =
-    never (client.BadXid want got)
-    (hears_reply laws limit stream P good (answers old.xid)
-    (Err (client.BadXid want got)) old new told calls.answered).by_reply
-call_good laws limit stream P good call answers refused text
-    (Err (client.Torn at)) old new calls told fresh never reads writes =
-    absurd (not_torn laws limit stream P good at old new told calls.answered)
-call_good laws limit stream P good call answers refused text
-    (Err (client.TooLong at)) old new calls told fresh never reads writes =
-    absurd (not_long laws limit stream P good at old new told calls.answered)
-call_good laws limit stream P good call answers refused text
-    (Err client.ReadFault) old new calls told fresh never reads writes =
-    reads
-call_good laws limit stream P good call answers refused text
-    (Err client.WriteFault) old new calls told fresh never reads writes =
-    writes
-call_good laws limit stream P good call answers refused text
-    (Err client.Spent) old new calls told fresh never reads writes =
-    absurd (let spent : old.spent ≡ true = calls.exactly.0 refl in cc)
-call_good laws limit stream P good call answers refused text
-    (Err (client.Rows row why)) old new calls told fresh never reads writes =
-    never (client.Rows row why)
-    (hears_reply laws limit stream P good (answers old.xid)
-    (Err (client.Rows row why)) old new told calls.answered).by_reply
-call_good laws limit stream P good call answers refused text
-    (Err client.NoMemory) old new calls told fresh never reads writes =
-    never client.NoMemory (hears_reply laws limit stream P good (answers old.xid)
-    (Err client.NoMemory) old new told calls.answered).by_reply
+call_good laws limit stream P good call answers refused text answer old new calls told fresh never reads writes =
+    told_good laws limit stream P good call answers refused (λ x. Ok (text x)) answer old new calls told fresh never reads
+    writes (λ x. tt)
 
 -- ---- what isn't said
 
@@ -264,18 +282,24 @@ rows_good draft rows said client.NoMemory ok says = tt
 
 -- ---- each query
 
-rows_answered : Laws → (keyed : Bool) (domain map : List ℕ) (stream : List ℕ)
+rows_answered : Laws → (means : List Row → Outcome) → ((rows : List Row) → IsGood (means rows))
+    → (domain map : List ℕ) (stream : List ℕ)
     (good : BeginsWithReply all_max stream (λ reply rest. (all_said no_rows 1 reply).end ≡ Ok tt)) (outcome : Outcome)
     (old new : ClientState) → IsFirst old → old.wire.input ≡ Some stream
-    → TakesRows keyed domain map outcome old new → IsGood outcome
+    → TakesRows means domain map outcome old new → IsGood outcome
 unfolding IsGood
-rows_answered laws keyed domain map stream good outcome old new first told takes =
-    memory_good _ outcome (call_good laws all_max stream _ good _ _ query_fault _ takes.makes.answer old new
-    takes.makes.calls told first.spent
+rows_answered laws means means_good domain map stream good outcome old new first told takes =
+    memory_good _ outcome (told_good laws all_max stream _ good _ _ query_fault (λ _. means (listed takes.draft.rows))
+    takes.makes.answer old new takes.makes.calls told first.spent
     (λ fault says. rows_good takes.draft says.0 (all_said no_rows 1 good.reply) fault good.good
     (subst (λ (xid : ℕ). IsSaid (all_said no_rows xid good.reply) takes.draft says.0 (Err fault)) first.xid says.1))
-    tt tt)
+    tt tt (λ _. means_good (listed takes.draft.rows)))
     takes.makes.meant
+
+member_good : (member : Bool) → IsGood (membership_outcome member)
+unfolding IsGood
+member_good true = tt
+member_good false = tt
 
 -- a second call of a client that was heard goes on
 goes_on : {X : Type 0} (limit : ℕ) (call : ℕ → List ℕ) (answers : ℕ → List ℕ → Result X ClientFault → Type 0) (x : X)
@@ -325,9 +349,13 @@ calls_answered : Laws → (question : ByteQuestion) (stream : List ℕ) (outcome
     → IsGood outcome
 unfolding IsGood
 calls_answered laws (Cat domain map) stream outcome old new good first told makes =
-    rows_answered laws false domain map stream good outcome old new first told makes
+    rows_answered laws (rows_told false) (λ rows. tt) domain map stream good outcome old new first told makes
 calls_answered laws (Catk domain map) stream outcome old new good first told makes =
-    rows_answered laws true domain map stream good outcome old new first told makes
+    rows_answered laws (rows_told true) (λ rows. tt) domain map stream good outcome old new first told makes
+calls_answered laws (Innetgr domain group host user user_domain) stream outcome old new good first told makes =
+    let asked : Asked = record { host = host; user = user; domain = user_domain } in
+    rows_answered laws (membership_told group asked) (λ rows. member_good (is_member rows group asked)) domain netgroup
+    stream good outcome old new first told makes
 calls_answered laws (Match domain map key) stream outcome old new good first told makes =
     memory_good _ outcome (call_good laws reply_max stream _ good (match_call domain map key)
     (SaysBytes value_of) match_fault
@@ -397,6 +425,7 @@ module _ (laws : Laws) (peer : Peer) (question : ByteQuestion) (stream : List �
   unfolding IsGood
   query_completes (Ok done) asks cause = tt
   query_completes (Err NoKey) asks cause = tt
+  query_completes (Err NotMember) asks cause = tt
   query_completes (Err NoMemory) asks cause = tt
   query_completes (Err Dial) asks cause = dial cause
   query_completes (Err Output) asks cause = sink cause

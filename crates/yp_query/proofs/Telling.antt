@@ -15,13 +15,19 @@ use Rattle.yp_client.specs.All.{SaysAll}
 use Rattle.yp_client.specs.States.{ClientState}
 use Rattle.yp_client.specs.Calls.{Calls}
 use Rattle.yp_query.specs.declared.fault.QueryFault.{QueryFault}
-use Rattle.yp_query.specs.declared.fault.QueryFault.TheVariants.{Dial, Output, NoMemory}
-use Rattle.yp_question.specs.declared.question.Question.TheVariants.{Cat, Catk, Match, Which, Poll, Maps}
+use Rattle.yp_query.specs.declared.fault.QueryFault.TheVariants.{NotMember, Dial, Output, NoMemory}
+use Rattle.yp_question.specs.declared.question.Question.TheVariants.{Cat, Catk, Match, Which, Poll, Maps, Innetgr}
 use Rattle.yp_question.specs.Questions.{ByteQuestion}
 use Rattle.yp_query.specs.Faults.{query_fault, match_fault, IsTellable}
-use Rattle.yp_query.specs.Asked.{Outcome, meant_by, IsInMemory, CallIsMade, no_rows, TakesRows, MakesMaster, MakesCalls}
-use Rattle.yp_query.specs.Asked.{Converses}
-use Rattle.yp_query.specs.Scenes.{Exchanges, Dials, Prints}
+use Rattle.yp_version.specs.Rows.{Row, listed}
+use Rattle.yp_netgroup.specs.Reach.{Asked}
+use Rattle.yp_netgroup.specs.Decided.{is_member}
+use Rattle.yp_query.specs.Asked.{Outcome, told_by, meant_by, IsInMemory, CallIsMade, no_rows, TakesRows, MakesMaster}
+use Rattle.yp_query.specs.Asked.{MakesCalls, Converses, rows_told, membership_outcome, membership_told, netgroup}
+use Rattle.yp_query.specs.declared.answer.Answer.{Answer}
+use Rattle.yp_query.specs.declared.answer.Answer.TheVariants as answers
+use Rattle.yp_query.specs.Answers.{answer_outcome}
+use Rattle.yp_query.specs.Scenes.{Scene, Exchanges, Dials, Prints, Asks}
 
 -- ---- the fault of a call may be told
 
@@ -31,13 +37,25 @@ unspent : {X : Type 0} (limit : ℕ) (call : ℕ → List ℕ) (answers : ℕ �
 unspent limit call answers fault old new fresh calls is =
     let e : true ≡ false = sym (calls.exactly.0 (rw is refl)) ∙ fresh in cc
 
-refused : (fault : ClientFault) → (fault ≡ client_faults.Spent → ⊥) → IsTellable (query_fault fault)
+-- what calls may come to: what may be told, and no fault of a sink
+abbrev IsCalled : QueryFault → Type 0
+IsCalled Output = ⊥
+IsCalled fault = IsTellable fault
+
+called_tells : (fault : QueryFault) → IsCalled fault → IsTellable fault
+called_tells Output h = absurd h
+called_tells NotMember h = tt
+called_tells NoMemory h = tt
+called_tells Dial h = tt
+called_tells fault h = h
+
+refused : (fault : ClientFault) → (fault ≡ client_faults.Spent → ⊥) → IsCalled (query_fault fault)
 refused client_faults.Spent fresh = absurd (fresh refl)
 refused (client_faults.Rows row version_faults.NoMemory) fresh = tt
 refused (client_faults.Rows row fault) fresh = tt
 refused fault fresh = tt
 
-match_refused : (fault : ClientFault) → (fault ≡ client_faults.Spent → ⊥) → IsTellable (match_fault fault)
+match_refused : (fault : ClientFault) → (fault ≡ client_faults.Spent → ⊥) → IsCalled (match_fault fault)
 match_refused (client_faults.Yp stats.Nokey) fresh = tt
 match_refused client_faults.Spent fresh = absurd (fresh refl)
 match_refused (client_faults.Rows row version_faults.NoMemory) fresh = tt
@@ -47,31 +65,46 @@ match_refused fault fresh = tt
 -- ---- what calls come to may be told
 
 abbrev MayTell : Outcome → Type 0
-MayTell outcome = IfErr outcome IsTellable
+MayTell outcome = IfErr outcome IsCalled
 
-meant_tells : {X : Type 0} (refused : ClientFault → QueryFault) (text : X → List ℕ) (answer : Result X ClientFault)
-    (outcome : Outcome) → ((fault : ClientFault) → answer ≡ Err fault → IsTellable (refused fault))
-    → IsInMemory (meant_by refused text answer) outcome → MayTell outcome
-meant_tells refused text answer (Ok t) k h = tt
-meant_tells refused text answer (Err NoMemory) k h = tt
-meant_tells refused text (Ok x) (Err fault) k h = subst MayTell (sym h) tt
-meant_tells refused text (Err f) (Err fault) k h = subst MayTell (sym h) (k f refl)
+meant_tells : {X : Type 0} (refused : ClientFault → QueryFault) (means : X → Outcome) (answer : Result X ClientFault)
+    (outcome : Outcome) → ((x : X) → MayTell (means x))
+    → ((fault : ClientFault) → answer ≡ Err fault → IsCalled (refused fault))
+    → IsInMemory (told_by refused means answer) outcome → MayTell outcome
+meant_tells refused means answer (Ok t) m k h = tt
+meant_tells refused means answer (Err NoMemory) m k h = tt
+meant_tells refused means (Ok x) (Err fault) m k h = subst MayTell (sym h) (m x)
+meant_tells refused means (Err f) (Err fault) m k h = subst MayTell (sym h) (k f refl)
+
+call_tells : {X : Type 0} (limit : ℕ) (call : ℕ → List ℕ) (answers : ℕ → List ℕ → Result X ClientFault → Type 0)
+    (refused : ClientFault → QueryFault) (means : X → Outcome) (outcome : Outcome) (old new : ClientState)
+    → old.spent ≡ false → ((x : X) → MayTell (means x))
+    → ((fault : ClientFault) → (fault ≡ client_faults.Spent → ⊥) → IsCalled (refused fault))
+    → CallIsMade limit call answers (told_by refused means) outcome old new → MayTell outcome
+call_tells {X} limit call answers refused means outcome old new fresh m k h =
+    let P : Result X ClientFault → Type 0 = λ r. Calls limit call answers r old new in
+    meant_tells refused means h.answer outcome m
+    (λ fault is. k fault (unspent limit call answers fault old new fresh (subst P is h.calls))) h.meant
 
 makes_tells : {X : Type 0} (limit : ℕ) (call : ℕ → List ℕ) (answers : ℕ → List ℕ → Result X ClientFault → Type 0)
     (means : ClientFault → QueryFault) (text : X → List ℕ) (outcome : Outcome) (old new : ClientState)
     → old.spent ≡ false
-    → ((fault : ClientFault) → (fault ≡ client_faults.Spent → ⊥) → IsTellable (means fault))
+    → ((fault : ClientFault) → (fault ≡ client_faults.Spent → ⊥) → IsCalled (means fault))
     → CallIsMade limit call answers (meant_by means text) outcome old new → MayTell outcome
-makes_tells {X} limit call answers means text outcome old new fresh k h =
-    let P : Result X ClientFault → Type 0 = λ r. Calls limit call answers r old new in
-    meant_tells means text h.answer outcome
-    (λ fault is. k fault (unspent limit call answers fault old new fresh (subst P is h.calls))) h.meant
+makes_tells limit call answers means text outcome old new fresh k h =
+    call_tells limit call answers means (λ x. Ok (text x)) outcome old new fresh (λ x. tt) k h
 
-rows_tell : (keyed : Bool) (domain map : List ℕ) (outcome : Outcome) (old new : ClientState) → old.spent ≡ false
-    → TakesRows keyed domain map outcome old new → MayTell outcome
-rows_tell keyed domain map outcome old new fresh h =
-    makes_tells all_max (all_call domain map)
-    (SaysAll no_rows h.draft) query_fault _ outcome old new fresh refused h.makes
+rows_tell : (means : List Row → Outcome) (domain map : List ℕ) (outcome : Outcome) (old new : ClientState)
+    → old.spent ≡ false → ((rows : List Row) → MayTell (means rows))
+    → TakesRows means domain map outcome old new → MayTell outcome
+rows_tell means domain map outcome old new fresh m h =
+    call_tells all_max (all_call domain map)
+    (SaysAll no_rows h.draft) query_fault (λ _. means (listed h.draft.rows)) outcome old new fresh
+    (λ _. m (listed h.draft.rows)) refused h.makes
+
+outcome_tells : (member : Bool) → MayTell (membership_outcome member)
+outcome_tells true = tt
+outcome_tells false = tt
 
 master_tells : (domain map : List ℕ) (order : Result ℕ ClientFault) (outcome : Outcome) (old mid new : ClientState)
     → old.spent ≡ false → Calls reply_max (order_call domain map) (SaysNumber order_of) order old mid
@@ -85,8 +118,14 @@ master_tells domain map (Err fault) outcome old mid new fresh calls h =
 
 calls_tell : (question : ByteQuestion) (outcome : Outcome) (old new : ClientState) → old.spent ≡ false
     → MakesCalls question outcome old new → MayTell outcome
-calls_tell (Cat domain map) outcome old new fresh h = rows_tell false domain map outcome old new fresh h
-calls_tell (Catk domain map) outcome old new fresh h = rows_tell true domain map outcome old new fresh h
+calls_tell (Cat domain map) outcome old new fresh h =
+    rows_tell (rows_told false) domain map outcome old new fresh (λ rows. tt) h
+calls_tell (Catk domain map) outcome old new fresh h =
+    rows_tell (rows_told true) domain map outcome old new fresh (λ rows. tt) h
+calls_tell (Innetgr domain group host user user_domain) outcome old new fresh h =
+    let asked : Asked = record { host = host; user = user; domain = user_domain } in
+    rows_tell (membership_told group asked) domain netgroup outcome old new fresh
+    (λ rows. outcome_tells (is_member rows group asked)) h
 calls_tell (Match domain map key) outcome old new fresh h =
     makes_tells reply_max (match_call domain map key) (SaysBytes value_of) match_fault _ outcome old new fresh
     match_refused h
@@ -112,13 +151,46 @@ exchanges_tell peer question outcome old new h =
 pub dials_tells : (peer : Peer) (question : ByteQuestion) (fault : QueryFault) (old new : Option Wires)
     → Dials peer question (Err fault) old new → IsTellable fault
 dials_tells peer question Dial old new h = tt
-dials_tells peer question fault old new h = exchanges_tell peer question (Err fault) old new h
+dials_tells peer question fault old new h = called_tells fault (exchanges_tell peer question (Err fault) old new h)
 
-pub prints_tells : (text : List ℕ) (result : Result (Unit {0}) QueryFault) (before after : Option (List ℕ))
-    → Prints (Ok text) result before after → IfErr result IsTellable
-prints_tells text (Ok done) before after h = tt
-prints_tells text (Err Output) before after h = tt
-prints_tells text (Err NoMemory) before after h = tt
-prints_tells text (Err fault) before after h =
+-- ---- an answer that is printed
+
+exchanged : (peer : Peer) (question : ByteQuestion) (answer : Answer) (old new : Option Wires)
+    → Dials peer question (answer_outcome answer) old new → Exchanges peer question (answer_outcome answer) old new
+exchanged peer question (answers.Membership true) old new h = h
+exchanged peer question (answers.Membership false) old new h = h
+exchanged peer question answer old new h = h
+
+came : (answer : Answer) → answer_outcome answer ≡ Err Dial → ⊥
+came (answers.Membership true) e = cc
+came (answers.Membership false) e = cc
+came answer e = cc
+
+-- A wire came and went back, and what its calls came to was printed.
+pub answer_asks : (peer : Peer) (question : ByteQuestion) (answer : Answer) (result : Result (Unit {0}) QueryFault)
+    (old new : Scene) → Dials peer question (answer_outcome answer) old.dial.past new.dial.past
+    → Prints (answer_outcome answer) result old.output new.output → Asks peer question result old new
+answer_asks peer question answer (Err Dial) old new dials prints = absurd (came answer prints.0)
+answer_asks peer question answer (Ok done) old new dials prints =
+    (answer_outcome answer, exchanged peer question answer old.dial.past new.dial.past dials, prints)
+answer_asks peer question answer (Err fault) old new dials prints =
+    (answer_outcome answer, exchanged peer question answer old.dial.past new.dial.past dials, prints)
+
+-- what an answer comes to may be told
+answer_tells : (answer : Answer) → MayTell (answer_outcome answer)
+answer_tells (answers.Membership member) = outcome_tells member
+answer_tells answer = tt
+
+tells : (outcome : Outcome) → MayTell outcome → IfErr outcome IsTellable
+tells (Ok text) h = tt
+tells (Err fault) h = called_tells fault h
+
+pub prints_tells : (answer : Answer) (result : Result (Unit {0}) QueryFault) (before after : Option (List ℕ))
+    → Prints (answer_outcome answer) result before after → IfErr result IsTellable
+prints_tells answer (Ok done) before after h = tt
+prints_tells answer (Err Output) before after h = tt
+prints_tells answer (Err NotMember) before after h = tt
+prints_tells answer (Err NoMemory) before after h = tt
+prints_tells answer (Err fault) before after h =
     let P : Outcome → Type 0 = λ outcome. IfErr outcome IsTellable in
-    subst P h.0 tt
+    subst P h.0 (tells (answer_outcome answer) (answer_tells answer))

@@ -1,6 +1,6 @@
 -- The calls of each question, and what they come to.
-use Rattle.std.specs.Prelude.{◌≡◌, ◌⊎◌, ℕ, Bool, true, false, List, [], Result, Ok, Err, ⊤}
-use Rattle.yp_version.specs.Rows.{listed}
+use Rattle.std.specs.Prelude.{◌≡◌, ◌⊎◌, ℕ, Bool, true, false, if◌then◌else◌, List, [], codes, Result, Ok, Err, ⊤}
+use Rattle.yp_version.specs.Rows.{Row, listed}
 use Rattle.yp_version.specs.Drafts.{Draft}
 use Rattle.yp_client.specs.declared.fault.ClientFault.{ClientFault}
 use Rattle.yp_client.specs.Results.{value_of, master_of, order_of, maps_of}
@@ -11,20 +11,26 @@ use Rattle.yp_client.specs.Asked.{all_call, match_call, master_call, order_call,
 use Rattle.yp_client.specs.States.{ClientState}
 use Rattle.yp_client.specs.Calls.{Calls}
 use Rattle.yp_query.specs.declared.fault.QueryFault.{QueryFault}
-use Rattle.yp_query.specs.declared.fault.QueryFault.TheVariants.{NoMemory}
-use Rattle.yp_question.specs.declared.question.Question.TheVariants.{Cat, Catk, Match, Which, Poll, Maps}
+use Rattle.yp_query.specs.declared.fault.QueryFault.TheVariants.{NoMemory, NotMember}
+use Rattle.yp_question.specs.declared.question.Question.TheVariants.{Cat, Catk, Match, Which, Poll, Maps, Innetgr}
 use Rattle.yp_question.specs.Questions.{ByteQuestion}
-use Rattle.yp_query.specs.Lines.{line, lines, rows_text, standing_text}
+use Rattle.yp_netgroup.specs.Reach.{Asked}
+use Rattle.yp_netgroup.specs.Decided.{is_member}
+use Rattle.yp_query.specs.Lines.{line, lines, rows_text, standing_text, membership_text}
 use Rattle.yp_query.specs.Faults.{query_fault, match_fault}
 
 -- the text of an answer, or why there is none
 abbrev pub Outcome : Type 0
 Outcome = Result (List ℕ) QueryFault
 
--- what is meant by what a call answers: the text of its value, or the fault
+-- what is told of what a call answers: what is meant by its value, or the fault
+abbrev pub told_by : {X : Type 0} → (ClientFault → QueryFault) → (X → Outcome) → Result X ClientFault → Outcome
+told_by refused means (Ok value) = means value
+told_by refused means (Err fault) = Err (refused fault)
+
+-- the same, where the text of the value is meant
 abbrev pub meant_by : {X : Type 0} → (ClientFault → QueryFault) → (X → List ℕ) → Result X ClientFault → Outcome
-meant_by refused text (Ok value) = Ok (text value)
-meant_by refused text (Err fault) = Err (refused fault)
+meant_by refused text answer = told_by refused (λ value. Ok (text value)) answer
 
 -- It is what is meant, unless memory ran out.
 abbrev pub IsInMemory : Outcome → Outcome → Type 0
@@ -43,11 +49,28 @@ pub record CallIsMade {X : Type 0} (limit : ℕ) (call : ℕ → List ℕ)
 abbrev pub no_rows : Draft
 no_rows = record { order = 0; master = []; rows = [] }
 
--- ALL was made for the rows of a version: their text, with keys or without, or the number of a row that none takes
-pub record TakesRows (keyed : Bool) (domain map : List ℕ) (outcome : Outcome) (old new : ClientState) : Type 0 where
+-- what is meant by rows: their text, with keys or without
+abbrev pub rows_told : Bool → List Row → Outcome
+rows_told keyed rows = Ok (rows_text keyed rows)
+
+-- the map of the groups (netgroup(5))
+abbrev pub netgroup : List ℕ
+netgroup = codes "netgroup"
+
+-- yes, or no, which is told apart and printed, too
+abbrev pub membership_outcome : Bool → Outcome
+membership_outcome is_member = if is_member then Ok (membership_text true) else Err NotMember
+
+-- whether a group that is reached from this one lists a triple that fits
+abbrev pub membership_told : List ℕ → Asked → List Row → Outcome
+membership_told group asked rows = membership_outcome (is_member rows group asked)
+
+-- ALL was made for the rows of a version, and came to what is meant by them, or to the number of a row that none takes.
+pub record TakesRows (means : List Row → Outcome) (domain map : List ℕ) (outcome : Outcome) (old new : ClientState)
+    : Type 0 where
   pub draft : Draft
   pub makes : CallIsMade all_max (all_call domain map) (SaysAll no_rows draft)
-      (meant_by query_fault (λ _. rows_text keyed (listed draft.rows))) outcome old new
+      (told_by query_fault (λ _. means (listed draft.rows))) outcome old new
 
 -- MASTER follows an order number, and nothing a fault.
 abbrev pub MakesMaster : List ℕ → List ℕ → Result ℕ ClientFault → Outcome → ClientState → ClientState → Type 0
@@ -65,8 +88,8 @@ pub record Polls (domain map : List ℕ) (outcome : Outcome) (old new : ClientSt
 
 -- the calls of a question were made, and came to this
 abbrev pub MakesCalls : ByteQuestion → Outcome → ClientState → ClientState → Type 0
-MakesCalls (Cat domain map) outcome old new = TakesRows false domain map outcome old new
-MakesCalls (Catk domain map) outcome old new = TakesRows true domain map outcome old new
+MakesCalls (Cat domain map) outcome old new = TakesRows (rows_told false) domain map outcome old new
+MakesCalls (Catk domain map) outcome old new = TakesRows (rows_told true) domain map outcome old new
 MakesCalls (Match domain map key) outcome old new =
     CallIsMade reply_max (match_call domain map key) (SaysBytes value_of)
     (meant_by match_fault (λ value. line value.now)) outcome old new
@@ -77,6 +100,9 @@ MakesCalls (Poll domain map) outcome old new = Polls domain map outcome old new
 MakesCalls (Maps domain) outcome old new =
     CallIsMade reply_max (maplist_call domain) (SaysNames maps_of)
     (meant_by query_fault (λ list. lines list.maps)) outcome old new
+MakesCalls (Innetgr domain group host user user_domain) outcome old new =
+    TakesRows (membership_told group (record { host = host; user = user; domain = user_domain })) domain netgroup
+    outcome old new
 
 -- These calls were made, or none for want of memory.
 abbrev pub IsUnlessMemory : (Outcome → ClientState → ClientState → Type 0) → Outcome → ClientState → ClientState

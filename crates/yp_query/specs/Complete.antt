@@ -10,8 +10,8 @@ use Rattle.yp_client.specs.Limits.{reply_max, all_max}
 use Rattle.yp_client.specs.Results.{value_of, master_of, order_of, maps_of}
 use Rattle.yp_client.specs.All.{all_said}
 use Rattle.yp_query.specs.declared.fault.QueryFault.{QueryFault}
-use Rattle.yp_query.specs.declared.fault.QueryFault.TheVariants.{NoKey, NoMemory}
-use Rattle.yp_question.specs.declared.question.Question.TheVariants.{Cat, Catk, Match, Which, Poll, Maps}
+use Rattle.yp_query.specs.declared.fault.QueryFault.TheVariants.{NoKey, NotMember, NoMemory}
+use Rattle.yp_question.specs.declared.question.Question.TheVariants.{Cat, Catk, Match, Which, Poll, Maps, Innetgr}
 use Rattle.yp_question.specs.Questions.{ByteQuestion}
 use Rattle.yp_query.specs.Asked.{no_rows}
 
@@ -40,6 +40,8 @@ HasAnswer (Match domain map key) stream = BeginsWithReply reply_max stream (λ r
 HasAnswer (Which domain map) stream = BeginsWithReply reply_max stream (λ reply rest. IsOk (master_of 1 reply))
 HasAnswer (Poll domain map) stream = BeginsWithReply reply_max stream (λ reply rest.
     IsOk (order_of 1 reply) × BeginsWithReply reply_max rest (λ second behind. IsOk (master_of 2 second)))
+HasAnswer (Innetgr domain group host user user_domain) stream =
+    BeginsWithReply all_max stream (λ reply rest. (all_said no_rows 1 reply).end ≡ Ok tt)
 HasAnswer (Maps domain) stream = BeginsWithReply reply_max stream (λ reply rest. IsOk (maps_of 1 reply))
 
 -- One wire to this peer came, which gives these bytes.
@@ -50,9 +52,10 @@ pub record HasCome (peer : Peer) (stream : List ℕ) (old new : Option Wires) : 
   pub is : new ≡ Some after
   pub came : after.came ≡ before.came ++ (peer, Some stream) ∷ []
 
--- an answer, that there is no such key, or want of memory
+-- an answer, that there is no such key or no such member, or want of memory
 abbrev pub IsAnswered : Result (Unit {0}) QueryFault → Type 0
 IsAnswered (Ok done) = ⊤
 IsAnswered (Err NoKey) = ⊤
+IsAnswered (Err NotMember) = ⊤
 IsAnswered (Err NoMemory) = ⊤
 IsAnswered result = ⊥

@@ -20,3 +20,7 @@ rows_text keyed rows = flat_map (row_line keyed) rows
 -- an order number, and the name of a master
 abbrev pub standing_text : ℕ → List ℕ → List ℕ
 standing_text order master = line (codes "order " ++ decimal order) ++ line (codes "master " ++ master)
+
+-- whether somebody is a member of a group
+abbrev pub membership_text : Bool → List ℕ
+membership_text is_member = if is_member then line (codes "yes") else line (codes "no")

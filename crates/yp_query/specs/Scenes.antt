@@ -1,5 +1,5 @@
 -- What a question does to a dial, and what it prints.
-use Rattle.std.specs.Prelude.{◌≡◌, ℕ, false, List, Option, Result, Ok, Err, IsOkAnd, ⊤}
+use Rattle.std.specs.Prelude.{◌≡◌, ℕ, false, List, Option, Some, None, Result, Ok, Err, IsOkAnd, IsSomeAnd, ⊤}
 use Rattle.std.specs.Io.KnownBytes.{Keeps, Appends}
 use Rattle.yp_io.specs.Counts.{HasRisen}
 use Rattle.yp_io.specs.declared.stream.Peer.{Peer}
@@ -7,9 +7,10 @@ use Rattle.yp_io.specs.Dials.{Wires, Comes, GoesBack, IsFresh}
 use Rattle.yp_client.specs.declared.fault.ClientFault.TheVariants.{ReadFault, WriteFault}
 use Rattle.yp_client.specs.States.{ClientState}
 use Rattle.yp_query.specs.declared.fault.QueryFault.{QueryFault}
-use Rattle.yp_query.specs.declared.fault.QueryFault.TheVariants.{Client, Dial, Output, NoMemory}
+use Rattle.yp_query.specs.declared.fault.QueryFault.TheVariants.{NotMember, Client, Dial, Output, NoMemory}
 use Rattle.yp_question.specs.Questions.{ByteQuestion}
 use Rattle.yp_io.specs.Streams.{AppendsFront}
+use Rattle.yp_query.specs.Lines.{membership_text}
 use Rattle.yp_query.specs.Asked.{Outcome, Converses}
 
 -- what a dial tells of its wires, and how often it has failed
@@ -63,10 +64,18 @@ DialHasCause fault before now = ⊤
 
 -- ---- both
 
+-- the text of what the calls came to: that of an answer, and a no
+abbrev pub text_of : Outcome → Option (List ℕ)
+text_of (Ok text) = Some text
+text_of (Err NotMember) = Some (membership_text false)
+text_of (Err fault) = None
+
 -- What is printed: the text, of which a sink that failed has taken a front, and nothing where there is none.
 abbrev pub Prints : Outcome → Result (Unit {0}) QueryFault → Option (List ℕ) → Option (List ℕ) → Type 0
 Prints outcome (Ok done) before after = IsOkAnd outcome (λ text. Appends before after text)
-Prints outcome (Err Output) before after = IsOkAnd outcome (λ text. AppendsFront text before after)
+Prints outcome (Err NotMember) before after =
+    (outcome ≡ Err NotMember) × Appends before after (membership_text false)
+Prints outcome (Err Output) before after = IsSomeAnd (text_of outcome) (λ text. AppendsFront text before after)
 Prints outcome (Err NoMemory) before after = Keeps before after
 Prints outcome (Err fault) before after = (outcome ≡ Err fault) × Keeps before after
 

@@ -1,6 +1,8 @@
 //! What the calls of a question come to.
 
-ghost use Rattle.std.specs.Prelude.{◌≡◌, ◌≤◌, length, IfOk};
+ghost use Rattle.std.specs.Prelude.{◌≡◌, ◌≤◌, List, length, option_map, IfOk};
+ghost use Rattle.yp_version.specs.Rows.{Row};
+ghost use Rattle.yp_netgroup.specs.Who.{lent, asked_of};
 ghost use Rattle.yp_msgs.specs.Numbers.{name_max, key_max};
 ghost use Rattle.yp_client.specs.Results.{value_of, master_of, maps_of};
 ghost use Rattle.yp_client.specs.Said.{SaysBytes, SaysNames};
@@ -9,9 +11,10 @@ ghost use Rattle.yp_client.specs.States.{state_of};
 ghost use Rattle.yp_query.specs.Lines.{line, lines};
 ghost use Rattle.yp_question.specs.Questions.{bytes_of, QuestionIsWithin};
 ghost use Rattle.yp_query.specs.Faults.{query_fault, match_fault};
-ghost use Rattle.yp_query.specs.Asked.{meant_by, CallIsMade, TakesRows, Polls, IsUnlessMemory, Converses};
+ghost use Rattle.yp_query.specs.Asked.{Outcome, meant_by, CallIsMade, TakesRows, Polls, IsUnlessMemory, Converses};
+ghost use Rattle.yp_query.specs.Asked.{rows_told, membership_told, netgroup};
 ghost use Rattle.yp_client.specs.Limits.{reply_max};
-ghost use Rattle.yp_query.specs.Answers.{outcome_of};
+ghost use Rattle.yp_query.specs.Answers.{outcome_of, version_outcome};
 
 use crate::fault::{QueryFault, of_match};
 use std::alloc::Global;
@@ -19,6 +22,8 @@ use std::random::RandomSource;
 use yp_client::Client;
 use yp_io::{NoMemory, Sink, Source};
 use yp_msgs::Names;
+use yp_netgroup::laws::membership_is_decided;
+use yp_netgroup::{Who, innetgr};
 use yp_question::Question;
 use yp_version::{Version, VersionBuilder};
 
@@ -33,7 +38,12 @@ pub enum Answer {
     Standing { order: u32, master: Vec<u8> },
     /// The names of maps.
     Maps(Names),
+    /// Whether somebody is a member of a group.
+    Membership(bool),
 }
+
+/// The map of the groups (netgroup(5)).
+const NETGROUP: &[u8] = b"netgroup";
 
 /// The bytes that a client lends, as the caller's own.
 fn copied(alloc: Global, bytes: &[u8]) -> Result<Vec<u8>, NoMemory>
@@ -54,27 +64,51 @@ pub fn ask<S: Source, K: Sink>(
         (state_of S.Source K.Sink client.old) (state_of S.Source K.Sink client.new) }
 {
     match question {
-        Question::Cat { domain, map } => ask_rows(alloc, rt, client, domain, map, false),
-        Question::Catk { domain, map } => ask_rows(alloc, rt, client, domain, map, true),
+        Question::Cat { domain, map } => ask_listed(alloc, rt, client, domain, map, false),
+        Question::Catk { domain, map } => ask_listed(alloc, rt, client, domain, map, true),
         Question::Match { domain, map, key } => ask_value(alloc, client, domain, map, key),
         Question::Which { domain, map } => ask_master(alloc, client, domain, map),
         Question::Poll { domain, map } => ask_standing(alloc, client, domain, map),
         Question::Maps { domain } => ask_maps(client, domain),
+        Question::Innetgr {
+            domain,
+            group,
+            host,
+            user,
+            user_domain,
+        } => {
+            let who = Who {
+                host: lent(host),
+                user: lent(user),
+                domain: lent(user_domain),
+            };
+            ask_membership(alloc, rt, client, domain, group, &who)
+        }
     }
 }
 
-fn ask_rows<S: Source, K: Sink>(
+/// What is given, if it is.
+fn lent(given: &Option<Vec<u8>>) -> Option<&[u8]>
+    ensures { lent result ≡ option_map (λ bytes. bytes.items) given.now }
+{
+    match given {
+        Some(bytes) => Some(bytes.as_slice()),
+        None => None,
+    }
+}
+
+/// ALL of a map, onto a builder of order 0 without a master. What is meant by its rows is for the caller to say.
+fn take_rows<S: Source, K: Sink>(
     alloc: Global,
     rt: &impl RandomSource,
     client: &mut Client<S, K>,
     domain: &[u8],
     map: &[u8],
-    keyed: bool,
-) -> Result<Answer, QueryFault>
+) -> Result<Version, QueryFault>
     requires domain { length domain.now ≤ name_max }
     requires map { length map.now ≤ name_max }
-    ensures { IsUnlessMemory (TakesRows keyed domain.now map.now) (outcome_of result)
-        (state_of S.Source K.Sink client.old) (state_of S.Source K.Sink client.new) }
+    ensures { (means : List Row → Outcome) → IsUnlessMemory (TakesRows means domain.now map.now)
+        (version_outcome means result) (state_of S.Source K.Sink client.old) (state_of S.Source K.Sink client.new) }
 {
     let mut builder = match VersionBuilder::new(alloc, rt, 0, b"") {
         Ok(builder) => builder,
@@ -85,7 +119,51 @@ fn ask_rows<S: Source, K: Sink>(
         Err(fault) => return Err(fault.into()),
     }
     match builder.finish() {
+        Ok(version) => Ok(version),
+        Err(NoMemory) => Err(QueryFault::NoMemory),
+    }
+}
+
+fn ask_listed<S: Source, K: Sink>(
+    alloc: Global,
+    rt: &impl RandomSource,
+    client: &mut Client<S, K>,
+    domain: &[u8],
+    map: &[u8],
+    keyed: bool,
+) -> Result<Answer, QueryFault>
+    requires domain { length domain.now ≤ name_max }
+    requires map { length map.now ≤ name_max }
+    ensures { IsUnlessMemory (TakesRows (rows_told keyed) domain.now map.now) (outcome_of result)
+        (state_of S.Source K.Sink client.old) (state_of S.Source K.Sink client.new) }
+{
+    match take_rows(alloc, rt, client, domain, map) {
         Ok(version) => Ok(Answer::Rows { version, keyed }),
+        Err(fault) => Err(fault),
+    }
+}
+
+/// The groups are read once, as one version, and who is asked for is looked for in it.
+fn ask_membership<S: Source, K: Sink>(
+    alloc: Global,
+    rt: &impl RandomSource,
+    client: &mut Client<S, K>,
+    domain: &[u8],
+    group: &[u8],
+    who: &Who<'_>,
+) -> Result<Answer, QueryFault>
+    requires { length domain.now ≤ name_max }
+    ensures { IsUnlessMemory (TakesRows (membership_told group.now (asked_of who.entry.now)) domain.now netgroup)
+        (outcome_of result) (state_of S.Source K.Sink client.old) (state_of S.Source K.Sink client.new) }
+{
+    membership_is_decided();
+    let version = match take_rows(alloc, rt, client, domain, NETGROUP) {
+        Ok(version) => version,
+        Err(fault) => return Err(fault),
+    };
+    match innetgr(alloc, rt, &version, group, who) {
+        Ok(true) => Ok(Answer::Membership(true)),
+        Ok(false) => Err(QueryFault::NotMember),
         Err(NoMemory) => Err(QueryFault::NoMemory),
     }
 }

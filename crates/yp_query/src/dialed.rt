@@ -79,8 +79,11 @@ fn ask_and_print<A: Dial, K: Sink>(
     ensures dial_faults { min (A.faults dial.old) last_count ≤ A.faults dial.new }
     ensures faults { K.faults sink.old ≤ K.faults sink.new }
 {
-    let answer = ask_dialed(alloc, rt, dial, to, question)?;
-    print(alloc, &answer, sink)
+    match ask_dialed(alloc, rt, dial, to, question) {
+        Ok(answer) => print(alloc, &answer, sink),
+        Err(QueryFault::NotMember) => print(alloc, &Answer::Membership(false), sink),
+        Err(fault) => Err(fault),
+    }
 }
 
 /// Dials, makes the calls of a question, and gives the wire back.

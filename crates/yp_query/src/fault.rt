@@ -8,11 +8,13 @@ use yp_io::NoMemory;
 use yp_msgs::YpStat;
 use yp_version::VersionFault;
 
-/// Why a question has no answer. Nothing was printed, but after `Output`.
+/// Why a question has no answer, or that the answer is no. Nothing was printed, but after `NotMember` and `Output`.
 #[derive(Clone, Copy, Debug, PartialEq, Eq)]
 pub enum QueryFault {
     /// MATCH: the map has no such key.
     NoKey,
+    /// Of a group: who was asked for is no member. That was printed.
+    NotMember,
     /// The first call that was refused was refused so: never `Spent`, `NoMemory`, or `Rows` for want of memory.
     Client(ClientFault),
     /// No wire came.

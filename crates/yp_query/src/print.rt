@@ -2,9 +2,9 @@
 
 ghost use Rattle.std.specs.Prelude.{◌≡◌, ◌≢◌, ◌≤◌, IsTrue, Ok, Err, OnOk, IfErr};
 ghost use Rattle.yp_io.specs.Counts.{CountsFaults, HasRisen};
-ghost use Rattle.yp_query.specs.Lines.{lines, row_line, rows_text, standing_text};
+ghost use Rattle.yp_query.specs.Lines.{lines, row_line, rows_text, standing_text, membership_text};
 ghost use Rattle.yp_query.specs.Printed.{Puts};
-ghost use Rattle.yp_query.specs.Answers.{answer_text};
+ghost use Rattle.yp_query.specs.Answers.{answer_text, answer_outcome, said};
 ghost use Rattle.yp_query.specs.Scenes.{Prints};
 
 use crate::answer::Answer;
@@ -17,7 +17,7 @@ use yp_version::Version;
 
 /// Prints an answer, and flushes.
 pub fn print<K: Sink>(alloc: Global, answer: &Answer, sink: &mut K) -> Result<(), QueryFault>
-    ensures prints { Prints (Ok (answer_text answer.now)) result (K.output sink.old) (K.output sink.new) }
+    ensures prints { Prints (answer_outcome answer.now) result (K.output sink.old) (K.output sink.new) }
     ensures flushed { result ≢ Err QueryFault.Output → IsTrue (K.flushed sink.old) → IsTrue (K.flushed sink.new) }
     ensures cause { result ≡ Err QueryFault.Output → HasRisen (K.faults sink.old) (K.faults sink.new) }
     ensures faults { K.faults sink.old ≤ K.faults sink.new }
@@ -28,8 +28,18 @@ pub fn print<K: Sink>(alloc: Global, answer: &Answer, sink: &mut K) -> Result<()
         Err(Failed) => return Err(QueryFault::Output),
     }
     match text.end(sink) {
-        Ok(()) => Ok(()),
+        Ok(()) => said(answer),
         Err(Failed) => Err(QueryFault::Output),
+    }
+}
+
+/// That an answer was printed: a no is told apart.
+fn said(answer: &Answer) -> Result<(), QueryFault>
+    ensures { result ≡ said (answer_outcome answer.now) }
+{
+    match answer {
+        Answer::Membership(false) => Err(QueryFault::NotMember),
+        _ => Ok(()),
     }
 }
 
@@ -42,6 +52,22 @@ fn print_answer<K: Sink>(text: &mut TextBuffer, sink: &mut K, answer: &Answer) -
         Answer::Line(line) => text.put_line(sink, line),
         Answer::Standing { order, master } => print_standing(text, sink, *order, master),
         Answer::Maps(names) => print_names(text, sink, names),
+        Answer::Membership(is_member) => print_membership(text, sink, *is_member),
+    }
+}
+
+fn print_membership<K: Sink>(
+    text: &mut TextBuffer,
+    sink: &mut K,
+    is_member: bool,
+) -> Result<(), Failed>
+    ensures puts { Puts (membership_text is_member) result text.old text.new (K.output sink.old) (K.output sink.new) }
+    ensures cause { CountsFaults (K.faults sink.old) (K.faults sink.new) result }
+{
+    if is_member {
+        text.put_line(sink, b"yes")
+    } else {
+        text.put_line(sink, b"no")
     }
 }
 

@@ -53,6 +53,13 @@ fn text<R: Abort>(rt: &R, alloc: Global, text: &[u8]) -> Vec<u8> {
     text.to_vec(alloc).expect(rt, "a text")
 }
 
+fn given<R: Abort>(rt: &R, alloc: Global, given: Option<&[u8]>) -> Option<Vec<u8>> {
+    match given {
+        Some(bytes) => Some(text(rt, alloc, bytes)),
+        None => None,
+    }
+}
+
 // The same in bytes of its own.
 fn owned<R: Abort>(rt: &R, alloc: Global, question: &Fixed) -> Question<Vec<u8>> {
     match *question {
@@ -79,6 +86,19 @@ fn owned<R: Abort>(rt: &R, alloc: Global, question: &Fixed) -> Question<Vec<u8>>
         },
         Question::Maps { domain } => Question::Maps {
             domain: text(rt, alloc, domain),
+        },
+        Question::Innetgr {
+            domain,
+            group,
+            host,
+            user,
+            user_domain,
+        } => Question::Innetgr {
+            domain: text(rt, alloc, domain),
+            group: text(rt, alloc, group),
+            host: given(rt, alloc, host),
+            user: given(rt, alloc, user),
+            user_domain: given(rt, alloc, user_domain),
         },
     }
 }
@@ -239,6 +259,65 @@ fn answers_are_printed(rt: HostRuntime) {
         let input = bytes(&rt, alloc, &[*input]);
         let printed = printed.to_vec(alloc).expect(&rt, "a text");
         let wanted = (Ok(()), 1, bytes(&rt, alloc, &[*calls]), printed);
+        let asked = ask(&rt, alloc, question, input, 4, FAIR);
+        assert_same(&rt, &asked, &wanted, *row);
+    }
+}
+
+/// The calls of ALL for `netgroup` in `lab`.
+const GROUPS_CALL: &str =
+    "8000003c 00000001 00000000 00000002 000186a4 00000002 00000008 00000000 00000000 \
+    00000000 00000000 00000003 6c616200 00000008 6e657467 726f7570";
+
+/// Groups that name each other: `a` with `b`, and `b` with `a (-,joe,)`.
+const GROUPS_REPLY: &str = "80000054 00000001 00000001 00000000 00000000 00000000 00000000 \
+    00000001 00000001 00000001 62000000 00000001 61000000 \
+    00000001 00000001 0000000a 6120282d 2c6a6f65 2c290000 00000001 62000000 00000000";
+
+/// `a` with `(h1,,lab)`, and again with `(h2,,lab)`.
+const REPEATED_REPLY: &str = "8000005c 00000001 00000001 00000000 00000000 00000000 00000000 \
+    00000001 00000001 00000009 2868312c 2c6c6162 29000000 00000001 61000000 \
+    00000001 00000001 00000009 2868322c 2c6c6162 29000000 00000001 61000000 00000000";
+
+fn innetgr_of(
+    group: &'static [u8],
+    host: Option<&'static [u8]>,
+    user: Option<&'static [u8]>,
+) -> Fixed {
+    Question::Innetgr {
+        domain: b"lab",
+        group,
+        host,
+        user,
+        user_domain: None,
+    }
+}
+
+#[test]
+fn members_of_groups(rt: HostRuntime) {
+    let alloc = rt.alloc();
+    let cases: [(&str, &str, Fixed, bool); 6] = [
+        ("a user", GROUPS_REPLY, innetgr_of(b"a", None, Some(b"joe")), true),
+        (
+            "a dash for the host",
+            GROUPS_REPLY,
+            innetgr_of(b"a", Some(b"h1"), Some(b"joe")),
+            false,
+        ),
+        ("no such group", GROUPS_REPLY, innetgr_of(b"c", None, None), false),
+        ("a user in capitals", GROUPS_REPLY, innetgr_of(b"a", None, Some(b"Joe")), false),
+        ("the first of equal keys", REPEATED_REPLY, innetgr_of(b"a", Some(b"H1"), None), true),
+        ("the second", REPEATED_REPLY, innetgr_of(b"a", Some(b"h2"), None), false),
+    ];
+    for (row, input, question, is_member) in &cases {
+        let input = bytes(&rt, alloc, &[*input]);
+        let calls = bytes(&rt, alloc, &[GROUPS_CALL]);
+        let (result, line): (Result<(), QueryFault>, &[u8]) = if *is_member {
+            (Ok(()), b"yes\n")
+        } else {
+            (Err(QueryFault::NotMember), b"no\n")
+        };
+        let wanted = (result, 1, calls, text(&rt, alloc, line));
         let asked = ask(&rt, alloc, question, input, 4, FAIR);
         assert_same(&rt, &asked, &wanted, *row);
     }

@@ -1,9 +1,10 @@
 -- What a client asks of a server.
 use Rattle.std.specs.Prelude.{ℕ, ◌≤◌, List, length, Vec}
+use Rattle.std.specs.Option.{option_map}
 use Rattle.std.specs.declared.alloc.Global.{Global}
 use Rattle.yp_msgs.specs.Numbers.{name_max, key_max}
 use Rattle.yp_question.specs.declared.question.Question.{Question}
-use Rattle.yp_question.specs.declared.question.Question.TheVariants.{Cat, Catk, Match, Which, Poll, Maps}
+use Rattle.yp_question.specs.declared.question.Question.TheVariants.{Cat, Catk, Match, Which, Poll, Maps, Innetgr}
 
 -- a question, each name and key of which is replaced
 abbrev pub question_map : {A B : Type 0} → (A → B) → Question A → Question B
@@ -13,6 +14,8 @@ question_map f (Match domain map key) = Match (f domain) (f map) (f key)
 question_map f (Which domain map) = Which (f domain) (f map)
 question_map f (Poll domain map) = Poll (f domain) (f map)
 question_map f (Maps domain) = Maps (f domain)
+question_map f (Innetgr domain group host user user_domain) =
+    Innetgr (f domain) (f group) (option_map f host) (option_map f user) (option_map f user_domain)
 
 -- a question in bytes
 abbrev pub ByteQuestion : Type 0
@@ -30,3 +33,4 @@ QuestionIsWithin (Match domain map key) =
 QuestionIsWithin (Which domain map) = (length domain ≤ name_max) × (length map ≤ name_max)
 QuestionIsWithin (Poll domain map) = (length domain ≤ name_max) × (length map ≤ name_max)
 QuestionIsWithin (Maps domain) = length domain ≤ name_max
+QuestionIsWithin (Innetgr domain group host user user_domain) = length domain ≤ name_max

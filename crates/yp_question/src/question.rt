@@ -22,10 +22,20 @@ pub enum Question<T> {
     Poll { domain: T, map: T },
     /// MAPLIST: the names of the maps, a line each, in the order of the reply.
     Maps { domain: T },
+    /// ALL of the map `netgroup`: `yes` or `no`, whether a host, a user and a domain are a member of a group. What isn't
+    /// given may be any.
+    Innetgr {
+        domain: T,
+        group: T,
+        host: Option<T>,
+        user: Option<T>,
+        user_domain: Option<T>,
+    },
 }
 
 impl Question<Vec<u8>> {
-    /// Whether its names have at most 64 bytes, and its key at most 65,536, so that a call can hold them.
+    /// Whether its names have at most 64 bytes, and its key at most 65,536, so that a call can hold them. A group, and
+    /// who may be in it, are in no call.
     pub fn is_within(&self) -> bool
         ensures { IsTrue result ↔ QuestionIsWithin (bytes_of self.now) }
     {
@@ -38,6 +48,7 @@ impl Question<Vec<u8>> {
             Question::Which { domain, map } => is_name(domain) && is_name(map),
             Question::Poll { domain, map } => is_name(domain) && is_name(map),
             Question::Maps { domain } => is_name(domain),
+            Question::Innetgr { domain, .. } => is_name(domain),
         }
     }
 }

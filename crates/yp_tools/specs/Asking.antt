@@ -23,6 +23,7 @@ use Rattle.yp_office.specs.Seeing.{Seeing, output, WriteFails, DialFails}
 abbrev pub status_of : Result (Unit {0}) QueryFault → Status
 status_of (Ok done) = Done
 status_of (Err fault.NoKey) = No
+status_of (Err fault.NotMember) = No
 status_of (Err fault.Dial) = DialFault
 status_of (Err fault.Output) = WriteFault
 status_of (Err fault.NoMemory) = NoMemory
@@ -49,7 +50,7 @@ pub record AsksAs (peer : Peer) (question : ByteQuestion) (status : Status) (old
   pub asks : Asks peer question result old new
   pub told : status ≡ status_of result
 
--- an answer, that there is no such key, or want of memory
+-- an answer, that there is no such key or no such member, or want of memory
 abbrev pub IsAnswer : Status → Type 0
 IsAnswer status = (status ≡ Done) ⊎ (status ≡ No) ⊎ (status ≡ NoMemory)
 
@@ -73,8 +74,9 @@ ask_may_end _ = false
 -- What a client command does: it asks one server, on one connection, and prints what its replies say, or tells the
 -- first refusal. Where the wire that came gives what a server of this product sent in a run over the calls of the
 -- question, the text, or the refusal, is what the maps of that server tell at its first call, and for `poll` at its
--- second: all rows of one version, the value of the key in it, its master, its order, or the names of maps. Where the
--- wire gives whole replies that answer its calls, and nothing fails, it is answered.
+-- second: all rows of one version, the value of the key in it, its master, its order, the names of maps, or whether a
+-- group that is reached in it lists a triple that fits. Where the wire gives whole replies that answer its calls, and
+-- nothing fails, it is answered.
 pub record AskDoes {S K D C A I T : Type 0} (seen : Seeing S K D C A I T) (peer : Peer) (question : ByteQuestion)
     (status : Status) (old new : Office S K D C A I T) : Type 0 where
   pub asks : AsksAs peer question status (scene seen old) (scene seen new)

@@ -15,7 +15,7 @@ use Rattle.yp_words.specs.Forms.{Form, has_form, before, after, is_name, is_stor
 use Rattle.yp_words.specs.Forms.{is_host}
 use Rattle.yp_words.specs.Words.{Meaning, Further, Sentence, once, session, check, build, build_flagged, xfr}
 use Rattle.yp_words.specs.Words.{xfr_flagged, sample, IsOneMap}
-use Rattle.yp_words.specs.Words.{match_key, maps, asking, sentences, further_fitting}
+use Rattle.yp_words.specs.Words.{match_key, maps, innetgr, asking, sentences, further_fitting}
 use Rattle.yp_words.specs.Words.{serving_fitting, joins, is_new_store, served, fitting, is_whole, asked, name_of}
 use Rattle.yp_words.specs.Words.{kind_of, IsNamed, HasNames}
 use Rattle.yp_question.specs.declared.question.Question.TheVariants.{Cat, Catk, Which, Poll}
@@ -337,6 +337,13 @@ maps_named (first ∷ []) h = absurd h.forms.1
 maps_named (first ∷ address ∷ []) h = absurd h.forms.1.1
 maps_named (first ∷ address ∷ domain ∷ more) h = text_short domain h.forms.1.1.0
 
+innetgr_named : (words : List (List ℕ)) → Fit innetgr words → HasNames (innetgr.asks words)
+unfolding HaveForms
+innetgr_named [] h = absurd h.forms
+innetgr_named (first ∷ []) h = absurd h.forms.1
+innetgr_named (first ∷ address ∷ []) h = absurd h.forms.1.1
+innetgr_named (first ∷ address ∷ domain ∷ more) h = text_short domain h.forms.1.1.0
+
 -- each of these sentences asks for a command with such names
 AllNamed : List Sentence → Type 0
 AllNamed [] = Unit {0}
@@ -388,7 +395,7 @@ asked_named words meaning e = rows_named sentences (
                       λ given fit. asked_short _ Which given fit (λ domain map short. short),
                       (
                         λ given fit. asked_short _ Poll given fit (λ domain map short. short),
-                        (match_named, (maps_named, tt)),
+                        (match_named, (maps_named, (innetgr_named, tt))),
                       ),
                     ),
                   ),

@@ -81,7 +81,7 @@ is_host word = is_name (before 64 word) && is_some (address_of (after 64 word))
 abbrev pub is_text : List ℕ → Bool
 is_text word = nat_le 1 (length word) && nat_le (length word) name_max
 
--- a key that a server is asked for
+-- a key that a server is asked for, a group, or who may be in it
 abbrev pub is_key : List ℕ → Bool
 is_key word = nat_le (length word) key_max
 
@@ -98,6 +98,10 @@ is_force word = bytes_eq word (codes "force")
 
 abbrev pub is_newer : List ℕ → Bool
 is_newer word = bytes_eq word (codes "newer")
+
+-- the word for any host, user or domain
+abbrev pub is_any : List ℕ → Bool
+is_any word = bytes_eq word (codes "*")
 
 pub data Form : Type 0 where
   -- this very word

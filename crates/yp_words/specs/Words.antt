@@ -3,7 +3,7 @@ use Rattle.std.specs.Prelude.{◌≡◌, ℕ, ◌+◌, ◌≤◌, Bool, true, no
 use Rattle.std.specs.Prelude.{if◌then◌else◌, List, [], ◌∷◌, ◌++◌, All, length, drop, map, filter, fold}
 use Rattle.std.specs.Prelude.{slice_index_or, Option, Some, None, unwrap_or, Result, Ok, Err, codes, string_bytes}
 use Rattle.std.specs.List.{find, list_any}
-use Rattle.std.specs.Option.{option_map, ok_or}
+use Rattle.std.specs.Option.{option_map, option_and_then, ok_or}
 use Rattle.std.specs.declared.string.String.{String}
 use Rattle.std.specs.declared.alloc.Global.{Global}
 use Rattle.yp_version.specs.Rows.{Row}
@@ -11,7 +11,8 @@ use Rattle.yp_io.specs.declared.stream.Peer.{Peer}
 use Rattle.yp_board.specs.Catalogues.{Name, name_max, maps_max, name_view, is_same, catalog_fault}
 use Rattle.yp_build.specs.declared.kind.Kind.{Kind}
 use Rattle.yp_build.specs.Kinds.{kinds, name_of as kind_name}
-use Rattle.yp_question.specs.declared.question.Question.TheVariants.{Cat, Catk, Match, Which, Poll, Maps}
+use Rattle.yp_question.specs.declared.question.Question.{Question}
+use Rattle.yp_question.specs.declared.question.Question.TheVariants.{Cat, Catk, Match, Which, Poll, Maps, Innetgr}
 use Rattle.yp_question.specs.Questions.{ByteQuestion, bytes_of, question_map, QuestionIsWithin}
 use Rattle.yp_words.specs.declared.command.KeyValue.{KeyValue}
 use Rattle.yp_words.specs.declared.command.HostWord.{HostWord}
@@ -25,7 +26,7 @@ use Rattle.yp_words.specs.declared.sentence.Task.TheVariants as task
 use Rattle.yp_words.specs.declared.words.ParseFault.{ParseFault}
 use Rattle.yp_words.specs.declared.words.ParseFault.TheVariants.{Usage, NoMemory}
 use Rattle.yp_words.specs.Forms.{Form, has_form, form_view, before, after, number_of, is_store, is_host, address_of}
-use Rattle.yp_words.specs.Forms.{is_secure, is_force}
+use Rattle.yp_words.specs.Forms.{is_secure, is_force, is_any}
 use Rattle.yp_words.specs.Forms as form
 
 -- ---- what words mean
@@ -192,10 +193,24 @@ maps = record {
   asks = λ words. Ask (peer_of (word_at 1 words)) (Maps (word_at 2 words));
 }
 
+-- who may be in a group: none is given where the word is an asterisk
+abbrev pub given_of : List ℕ → Option (List ℕ)
+given_of word = if is_any word then None else Some word
+
+abbrev pub innetgr : Sentence
+innetgr = record {
+  forms =
+      form.Exactly (codes "innetgr") ∷ form.Address ∷ form.Text ∷ form.Key ∷ form.Key ∷ form.Key ∷ form.Key ∷ [];
+  further = NoMore;
+  asks = λ words. Ask (peer_of (word_at 1 words))
+      (Innetgr (word_at 2 words) (word_at 3 words) (given_of (word_at 4 words)) (given_of (word_at 5 words))
+      (given_of (word_at 6 words)));
+}
+
 unfoldable pub sentences : List Sentence
 sentences =
     once ∷ session ∷ check ∷ build ∷ build_flagged ∷ xfr ∷ xfr_flagged ∷ sample
-    ∷ cat ∷ catk ∷ which ∷ poll ∷ match_key ∷ maps ∷ []
+    ∷ cat ∷ catk ∷ which ∷ poll ∷ match_key ∷ maps ∷ innetgr ∷ []
 
 -- how many words at the front are of a form
 abbrev pub each_fitting : Form → List (List ℕ) → ℕ
@@ -308,6 +323,17 @@ meaning (command.Ask addr question) = Ask addr (bytes_of question)
 abbrev pub texts : List (String Global) → List (List ℕ)
 texts words = map string_bytes words
 
+-- who may be in a group, of the word with this number
+abbrev pub given_at : Option ℕ → List (List ℕ) → Option (List ℕ)
+given_at at words = option_and_then (λ i. given_of (word_at i words)) at
+
+-- the question that is made of words, of the numbers where they stand
+abbrev pub question_of : Question ℕ → List (List ℕ) → ByteQuestion
+question_of (Innetgr domain group host user user_domain) words =
+    Innetgr (word_at domain words) (word_at group words) (given_at host words) (given_at user words)
+    (given_at user_domain words)
+question_of question words = question_map (λ at. word_at at words) question
+
 -- what the words of a sentence ask for, of its task
 abbrev pub asks_of : Task → List (List ℕ) → Meaning
 asks_of task.Once = once.asks
@@ -319,7 +345,7 @@ asks_of task.Xfr = xfr.asks
 asks_of task.XfrFlagged = xfr_flagged.asks
 asks_of task.Sample = sample.asks
 asks_of (task.Ask question) =
-    λ words. Ask (peer_of (word_at 1 words)) (question_map (λ at. word_at at words) question)
+    λ words. Ask (peer_of (word_at 1 words)) (question_of question words)
 
 -- the further words that a `Further` of the code stands for
 abbrev pub further_view : CodeFurther → Further

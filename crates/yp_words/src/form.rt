@@ -21,6 +21,9 @@ pub const FORCE: &str = "force";
 
 const NEWER: &str = "newer";
 
+/// The word for any host, user or domain.
+pub const ANY: &str = "*";
+
 /// A form of word.
 #[derive(Clone, Copy)]
 pub enum Form {
@@ -40,7 +43,7 @@ pub enum Form {
     Address,
     /// A name that a server is asked for: 1 to 64 bytes.
     Text,
-    /// A key that a server is asked for, which may be empty.
+    /// A key that a server is asked for, a group, or who may be in it: any of them may be empty.
     Key,
     /// `secure` or `plain`.
     Flag,

@@ -49,7 +49,7 @@ struct Sentence {
 }
 
 /// All sentences.
-const SENTENCES: [Sentence; 14] = [
+const SENTENCES: [Sentence; 15] = [
     Sentence {
         task: Task::Once,
         forms: &[Form::Exactly("once"), Form::Store],
@@ -151,6 +151,25 @@ const SENTENCES: [Sentence; 14] = [
     Sentence {
         task: Task::Ask(Question::Maps { domain: 2 }),
         forms: &[Form::Exactly("maps"), Form::Address, Form::Text],
+        further: Further::NoMore,
+    },
+    Sentence {
+        task: Task::Ask(Question::Innetgr {
+            domain: 2,
+            group: 3,
+            host: Some(4),
+            user: Some(5),
+            user_domain: Some(6),
+        }),
+        forms: &[
+            Form::Exactly("innetgr"),
+            Form::Address,
+            Form::Text,
+            Form::Key,
+            Form::Key,
+            Form::Key,
+            Form::Key,
+        ],
         further: Further::NoMore,
     },
 ];

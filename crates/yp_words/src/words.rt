@@ -1,9 +1,10 @@
 //! The words of the command line.
 
-ghost use Rattle.std.specs.Prelude.{◌≡◌, [], ◌∷◌, drop, map, Ok, IfOk, IfErr, OnErr};
+ghost use Rattle.std.specs.Prelude.{◌≡◌, [], ◌∷◌, drop, map, option_map, Ok, IfOk, IfErr, OnErr};
 ghost use Rattle.yp_board.specs.Catalogues.{name_view};
-ghost use Rattle.yp_question.specs.Questions.{bytes_of, question_map};
+ghost use Rattle.yp_question.specs.Questions.{bytes_of};
 ghost use Rattle.yp_words.specs.Words.{name_of, row_of, value_of, peer_of, host_of, served, known, word_at};
+ghost use Rattle.yp_words.specs.Words.{given_at, question_of};
 ghost use Rattle.yp_words.specs.Words.{command_of, disk_names, stores_of, port_of, row_view, host_view, meaning, texts};
 ghost use Rattle.yp_words.specs.Words.{asks_of, once, session, check, sample, Build, Xfr, TakesMemory};
 ghost use Rattle.yp_words.specs.Words.{IsSentenceOfWords};
@@ -11,7 +12,7 @@ ghost use Rattle.yp_words.specs.Forms.{is_force};
 ghost use Rattle.yp_words.specs.Words.{IsUsage, HasNames};
 
 use crate::command::{Command, HostWord, KeyValue};
-use crate::form::{FORCE, SECURE, address_of, cut_at, is_host, is_store, number_of};
+use crate::form::{ANY, FORCE, SECURE, address_of, cut_at, is_host, is_store, number_of};
 use crate::sentence::{Task, task_of, wrong_word};
 use std::alloc::{AllocError, Global};
 use yp_board::{MapName, copy_names};
@@ -201,6 +202,21 @@ fn text_at(alloc: Global, words: &[String], at: usize) -> Result<Vec<u8>, AllocE
     Vec::from_slice(alloc, word_at(words, at).as_bytes())
 }
 
+/// The bytes of a word, and none where it is an asterisk, which stands for any.
+fn given_at(
+    alloc: Global,
+    words: &[String],
+    at: Option<usize>,
+) -> Result<Option<Vec<u8>>, AllocError>
+    ensures { IfOk result (λ given.
+        option_map (λ bytes. bytes.items) given ≡ given_at at (texts words.now)) }
+{
+    match at {
+        Some(at) if word_at(words, at) != ANY => Ok(Some(text_at(alloc, words, at)?)),
+        _ => Ok(None),
+    }
+}
+
 /// The question that these words are made to.
 fn question_of(
     alloc: Global,
@@ -208,7 +224,7 @@ fn question_of(
     words: &[String],
 ) -> Result<Question<Vec<u8>>, AllocError>
     ensures { IfOk result (λ asked.
-        bytes_of asked ≡ question_map (λ at. word_at at (texts words.now)) question) }
+        bytes_of asked ≡ question_of question (texts words.now)) }
 {
     Ok(match question {
         Question::Cat { domain, map } => Question::Cat {
@@ -234,6 +250,19 @@ fn question_of(
         },
         Question::Maps { domain } => Question::Maps {
             domain: text_at(alloc, words, domain)?,
+        },
+        Question::Innetgr {
+            domain,
+            group,
+            host,
+            user,
+            user_domain,
+        } => Question::Innetgr {
+            domain: text_at(alloc, words, domain)?,
+            group: text_at(alloc, words, group)?,
+            host: given_at(alloc, words, host)?,
+            user: given_at(alloc, words, user)?,
+            user_domain: given_at(alloc, words, user_domain)?,
         },
     })
 }

@@ -40,6 +40,8 @@ const LONGEST_BYTES: &[u8] = b"0123456789abcdef0123456789abcdef0123456789abcdef0
 
 const TOO_LONG: &str = "0123456789abcdef0123456789abcdef0123456789abcdef0123456789abcdefg";
 
+const TOO_LONG_BYTES: &[u8] = b"0123456789abcdef0123456789abcdef0123456789abcdef0123456789abcdefg";
+
 /// Words that are no sentence, and the word that is wrong.
 const WRONG: [(&[&str], usize); 22] = [
     (&[], 0),
@@ -67,7 +69,7 @@ const WRONG: [(&[&str], usize); 22] = [
 ];
 
 /// The same of sentences with addresses and hosts.
-const WRONG_ADDRESSES: [(&[&str], usize); 24] = [
+const WRONG_ADDRESSES: [(&[&str], usize); 27] = [
     (&["match", "127.0.0.1:700"], 2),
     (&["match", "127.0.0.1:700", "lab", "hosts.byname"], 4),
     (&["match", "127.0.0.1:0", "lab", "hosts.byname", "a"], 1),
@@ -84,6 +86,12 @@ const WRONG_ADDRESSES: [(&[&str], usize); 24] = [
     (&["which", "127.0.0.1:7", "lab", TOO_LONG], 3),
     (&["poll", "127.0.0.1:7", "lab", "hosts.byname", "x"], 4),
     (&["maps", "127.0.0.1:7", "lab", "hosts.byname"], 3),
+    (&["innetgr", "127.0.0.1:7", TOO_LONG, "a", "*", "*", "*"], 2),
+    (&["innetgr", "127.0.0.1:7", "lab", "a", "*", "*"], 6),
+    (
+        &["innetgr", "127.0.0.1:7", "lab", "a", "*", "*", "*", "*"],
+        7,
+    ),
     (&["session", "m1"], 2),
     (&["session", "m1", "127.0.0.1:40000"], 3),
     (
@@ -443,6 +451,7 @@ fn asked(addr: Peer, question: &Question<Vec<u8>>) -> Asked<'_> {
         Question::Poll { domain, map } => ("poll", addr, [domain, map, b""]),
         Question::Match { domain, map, key } => ("match", addr, [domain, map, key]),
         Question::Maps { domain } => ("maps", addr, [domain, b"", b""]),
+        Question::Innetgr { domain, group, .. } => ("innetgr", addr, [domain, group, b""]),
     }
 }
 
@@ -493,6 +502,67 @@ fn check_question(rt: &impl Abort, alloc: Global, words: &[&str], question: Aske
 fn questions_parsed(rt: HostRuntime) {
     for (words, question) in &QUESTIONS {
         check_question(&rt, rt.alloc(), *words, *question);
+    }
+}
+
+/// A domain, a group, and who may be in it: a host, a user and a domain.
+type Membership<'a> = ([&'a [u8]; 2], [Option<&'a [u8]>; 3]);
+
+fn lent(given: &Option<Vec<u8>>) -> Option<&[u8]> {
+    match given {
+        Some(bytes) => Some(bytes.as_slice()),
+        None => None,
+    }
+}
+
+fn membership(command: &Command) -> Option<Membership<'_>> {
+    match command {
+        Command::Ask {
+            question:
+                Question::Innetgr {
+                    domain,
+                    group,
+                    host,
+                    user,
+                    user_domain,
+                },
+            ..
+        } => Some((
+            [domain, group],
+            [lent(host), lent(user), lent(user_domain)],
+        )),
+        _ => None,
+    }
+}
+
+/// Words of `innetgr`, and what they ask: an asterisk stands for any, and an empty word for the empty name.
+const MEMBERSHIPS: [(&[&str], Membership); 3] = [
+    (
+        &["innetgr", "127.0.0.1:700", "lab", "a", "*", "joe", "*"],
+        ([b"lab", b"a"], [None, Some(b"joe"), None]),
+    ),
+    (
+        &["innetgr", "127.0.0.1:700", "lab", "", "h1", "*", ""],
+        ([b"lab", b""], [Some(b"h1"), None, Some(b"")]),
+    ),
+    (
+        &["innetgr", "127.0.0.1:700", LONGEST, "*", "**", "-", TOO_LONG],
+        (
+            [LONGEST_BYTES, b"*"],
+            [Some(b"**"), Some(b"-"), Some(TOO_LONG_BYTES)],
+        ),
+    ),
+];
+
+fn check_membership(rt: &impl Abort, alloc: Global, words: &[&str], wanted: Membership) {
+    let command = parsed(rt, alloc, words);
+    assert_same(rt, &membership(&command), &Some(wanted), "innetgr");
+}
+
+#[test]
+fn memberships_parsed(rt: HostRuntime) {
+    for (words, wanted) in &MEMBERSHIPS {
+        check_membership(&rt, rt.alloc(), *words, *wanted);
     }
 }
 

@@ -1,13 +1,11 @@
-use Rattle.std.proofs.lemmas.Result.{err_from_is_err_and}
 use Rattle.yp_question.specs.Questions.{bytes_of}
-use Rattle.yp_query.proofs.Telling.{dials_tells, prints_tells}
+use Rattle.yp_query.specs.Scenes.{scene_of}
+use Rattle.yp_query.proofs.Telling.{answer_asks}
 use Rattle.yp_query.proofs.dialed.ask_and_print.Goals as goal
 
-pub returns-in_err-answer-clause-tellable : goal.returns-in_err-answer-clause-tellable
-returns-in_err-answer-clause-tellable g c =
-    let p = err_from_is_err_and c.from_residual.result c.from_residual.ensures.1 in
-    rw (p.1, p.2) (dials_tells c.args.to
-    (bytes_of c.args.question.now) c.in_err-answer.field-0.0 _ _ c.in_err-answer.ensures.dials)
-
-pub returns-clause-tellable : goal.returns-clause-tellable
-returns-clause-tellable g c = prints_tells _ c.print.result _ _ c.print.ensures.prints
+pub returns-in-Ok-clause-asks : goal.returns-in-Ok-clause-asks
+returns-in-Ok-clause-asks g c =
+    answer_asks c.args.to (bytes_of c.args.question.now) c.in-Ok.answer c.print.result
+    (scene_of g.A.Dial.past g.A.Dial.faults g.K.Sink.output g.K.Sink.faults c.args.dial.now c.args.sink.now)
+    (scene_of g.A.Dial.past g.A.Dial.faults g.K.Sink.output g.K.Sink.faults c.ask_dialed.new.dial c.print.new.sink)
+    c.in-Ok.ensures.dials c.print.ensures.prints

@@ -1,11 +1,23 @@
-use Rattle.std.proofs.Common.{◌≡◌, ◌++◌}
-use Rattle.yp_query.specs.Answers.{answer_text}
+use Rattle.std.proofs.Common.{◌≡◌, ◌++◌, ℕ, List, Bool, true, false, Option}
+use Rattle.std.specs.Prelude.{IsSomeAnd}
+use Rattle.yp_io.specs.Streams.{AppendsFront}
+use Rattle.yp_query.specs.declared.answer.Answer.{Answer}
+use Rattle.yp_query.specs.declared.answer.Answer.TheVariants.{Membership}
+use Rattle.yp_query.specs.Answers.{answer_text, answer_outcome}
+use Rattle.yp_query.specs.Scenes.{text_of}
 use Rattle.yp_query.proofs.Putting.{front_behind}
 use Rattle.yp_query.proofs.print.print.Goals as goal
+
+-- the text of an answer is that of what it comes to
+answer_front : (answer : Answer) (before after : Option (List ℕ)) → AppendsFront (answer_text answer) before after
+    → IsSomeAnd (text_of (answer_outcome answer)) (λ text. AppendsFront text before after)
+answer_front (Membership true) before after h = h
+answer_front (Membership false) before after h = h
+answer_front answer before after h = h
 
 pub returns-in-Err-end-clause-prints : goal.returns-in-Err-end-clause-prints
 returns-in-Err-end-clause-prints g c =
     let put = c.in-Ok.ensures.puts in
     let waits = c.print_answer.new.text in
     let whole : answer_text c.args.answer.now ≡ put.0 ++ waits = rw c.in_ok-text.ensures at put.2 in
-    rw whole (front_behind put.0 waits _ _ _ put.1 c.in-Err-end.ensures.front)
+    answer_front c.args.answer.now _ _ (rw whole (front_behind put.0 waits _ _ _ put.1 c.in-Err-end.ensures.front))

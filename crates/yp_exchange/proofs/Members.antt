@@ -1,0 +1,27 @@
+-- The law of members.
+use Rattle.std.proofs.Common.{◌≡◌, Bool, true, false, Result, Ok, Err, refl, sym, subst, true≢false}
+use Rattle.std.specs.Prelude.{IsTrue, ◌↔◌}
+use Rattle.yp_msgs.specs.declared.stat.YpStat.{YpStat}
+use Rattle.yp_version.specs.Versions.{MapVersion}
+use Rattle.yp_netgroup.specs.Reach.{IsMember}
+use Rattle.yp_netgroup.specs.Decided.{is_member, MembershipIsDecided}
+use Rattle.yp_query.specs.Asked.{Outcome, netgroup, membership_outcome, membership_told, told_by}
+use Rattle.yp_query.specs.Faults.{query_fault}
+use Rattle.yp_answer.specs.Maps.{row_check}
+use Rattle.yp_exchange.specs.Told.{told, of_version, all_in}
+use Rattle.yp_exchange.specs.MemberLaws.{TellsWhether, MembershipIsTold}
+
+by_value : (member : Bool) (is : Type 0) → IsTrue member ↔ is → TellsWhether is (membership_outcome member)
+by_value true is law = record {
+  yes = (λ e. law.0 refl, λ h. refl);
+  no = (λ e. absurd cc, λ none. absurd (none (law.0 refl)));
+}
+by_value false is law = record {
+  yes = (λ e. absurd cc, λ h. absurd (true≢false (sym (law.1 h))));
+  no = (λ e h. true≢false (sym (law.1 h)), λ none. refl);
+}
+
+pub membership_is_told : MembershipIsDecided → MembershipIsTold
+membership_is_told law first second caller domain group asked version held =
+    subst (λ (shown : Result MapVersion YpStat). TellsWhether (IsMember version.rows group asked) (told_by query_fault (membership_told group asked) (told (of_version all_in shown))))
+    (sym held) (by_value (is_member version.rows group asked) _ (law version.rows group asked))
