@@ -20,11 +20,11 @@ use Rattle.yp_tools.specs.Asking.{AskDoes}
 -- A connection was served whose records were the calls of a question, and its output took these bytes. Where a client
 -- that asked that question got a wire with them, it printed what the maps of the connection told between its first
 -- host and its last: the text, or the refusal.
-abbrev pub SessionIsPrinted : {D E S K F C A T : Type 0} → Service D Seen E → Seeing S K F C A T → Type 0
-SessionIsPrinted {D} {E} {S} {K} {F} {C} {A} {T} service seen =
+abbrev pub SessionIsPrinted : {D E S K F C A I T : Type 0} → Service D Seen E → Seeing S K F C A I T → Type 0
+SessionIsPrinted {D} {E} {S} {K} {F} {C} {A} {I} {T} service seen =
     (end : End) (old new : Connection D E) (wires : List Wire) (serves : Serves service end old new wires)
     (taken rest : List ℕ) (server : Peer) (question : ByteQuestion) (status : Status)
-    (before after : Office S K F C A T) (asks : AskDoes seen server question status before after)
+    (before after : Office S K F C A I T) (asks : AskDoes seen server question status before after)
     → records_of serves.runs.turns ≡ calls_made question (replies_of serves.runs.turns)
     → end ≢ WriteFault → old.wire.sink.output ≡ Some [] → new.wire.sink.output ≡ Some taken
     → HasCome server (taken ++ rest) (seen.dial.past before.dial) (seen.dial.past after.dial)
@@ -32,12 +32,12 @@ SessionIsPrinted {D} {E} {S} {K} {F} {C} {A} {T} service seen =
         asks.asks.result (output seen before) (output seen after)
 
 -- The same of a client that got what `once` sent.
-abbrev pub OnceIsPrinted : {S K F C A T : Type 0} → Seeing S K F C A T → Type 0
-OnceIsPrinted {S} {K} {F} {C} {A} {T} seen =
+abbrev pub OnceIsPrinted : {S K F C A I T : Type 0} → Seeing S K F C A I T → Type 0
+OnceIsPrinted {S} {K} {F} {C} {A} {I} {T} seen =
     (board : Seen) (served : Status) (old new : Wire) (wires : List Wire)
     (answers : IsAnswered board served old new wires)
     (taken rest : List ℕ) (server : Peer) (question : ByteQuestion) (status : Status)
-    (before after : Office S K F C A T) (asks : AskDoes seen server question status before after)
+    (before after : Office S K F C A I T) (asks : AskDoes seen server question status before after)
     → records_of answers.runs.turns ≡ calls_made question (replies_of answers.runs.turns)
     → answers.end ≢ WriteFault → old.sink.output ≡ Some [] → new.sink.output ≡ Some taken
     → HasCome server (taken ++ rest) (seen.dial.past before.dial) (seen.dial.past after.dial)
