@@ -73,14 +73,14 @@ answers_calls service end old new wires serves question calls = record {
   calls = calls;
 }
 
-pub session_printed : {D E S K F C A T : Type 0} (service : Service D Seen E) (seen : Seeing S K F C A T) → SessionIsPrinted service seen
+pub session_printed : {D E S K F C A I T : Type 0} (service : Service D Seen E) (seen : Seeing S K F C A I T) → SessionIsPrinted service seen
 session_printed service seen end old new wires serves taken rest server question status before after asks calls sound empty output came =
     let sent = run_sent _ service.peer _ end _ _ wires serves.runs [] sound empty in
     let same : taken ≡ sent_all (replies_of serves.runs.turns) = let both = sym output ∙ sent in cc in
     asks.prints service.catalogue service.peer serves.runs.turns rest (log_of service serves.start) (log_of service serves.finish)
     (answers_calls service end old new wires serves question calls) (rw (← same) came)
 
-pub once_printed : {S K F C A T : Type 0} (seen : Seeing S K F C A T) → OnceIsPrinted seen
+pub once_printed : {S K F C A I T : Type 0} (seen : Seeing S K F C A I T) → OnceIsPrinted seen
 once_printed seen board served old new wires answers taken rest server question status before after asks calls sound empty output came =
     let sent = run_sent fixed_conduct nobody _ answers.end _ _ wires answers.runs [] sound empty in
     let same : taken ≡ sent_all (replies_of answers.runs.turns) = let both = sym output ∙ sent in cc in
