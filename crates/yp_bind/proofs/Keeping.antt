@@ -1,6 +1,6 @@
 -- What the code keeps of a binder stays true by each event.
-use Rattle.std.proofs.Common.{◌≡◌, ◌≢◌, ℕ, ◌+◌, ◌%◌, ◌^◌, ◌<◌, ◌≤◌, Bool, true, false, cond, eqb, List, [], ◌∷◌, length, map}
-use Rattle.std.proofs.Common.{set, get_or, Option, Some, None, refl, sym, ap, subst, ◌∙◌, arith, inl, inr}
+use Rattle.std.proofs.Common.{◌≡◌, ◌≢◌, ℕ, ◌+◌, ◌%◌, ◌^◌, ◌<◌, ◌≤◌, false, List, [], ◌∷◌, length, map}
+use Rattle.std.proofs.Common.{set, get_or, Some, None, refl, sym, ap, ◌∙◌, arith, inl, inr}
 use Rattle.std.specs.Prelude.{replicate}
 use Rattle.std.specs.List.{slice_get}
 use Rattle.std.proofs.lemmas.Bool.{cases_eq, ne_eqb}
@@ -13,7 +13,7 @@ use Rattle.yp_bind.specs.declared.event.Binding.{Binding}
 use Rattle.yp_bind.specs.declared.event.Event.{Event}
 use Rattle.yp_bind.specs.declared.event.Event.TheVariants.{Pinged, Quiet}
 use Rattle.yp_bind.specs.declared.standing.Standing.{Standing}
-use Rattle.yp_bind.specs.Events.{binds, is_quiet, is_ping, server_for, latest, quiet_turns, binding_of}
+use Rattle.yp_bind.specs.Events.{is_quiet, server_for, latest, quiet_turns, binding_of}
 use Rattle.yp_bind.specs.Rounds.{Bindings, with_event, round_begin, this_round, out, first_number, targets}
 use Rattle.yp_bind.specs.Standings.{fresh, rested, bound_to, standing_of}
 use Rattle.yp_bind.specs.Kept.{domains_max, servers_max, Keeps, Binds}

@@ -1,7 +1,7 @@
 -- Lists whose first element is known.
 use Rattle.std.proofs.Common.{◌≡◌, ℕ, zero, suc, ◌+◌, ◌-◌, ◌<◌, ◌≤◌, Bool, true, false, List, [], ◌∷◌, ◌++◌, length}
 use Rattle.std.proofs.Common.{take, drop, map, set, get_or}
-use Rattle.std.proofs.Common.{Option, Some, None, refl, sym, ap, ◌∙◌, arith}
+use Rattle.std.proofs.Common.{Some, None, refl, sym, ap, ◌∙◌, arith}
 use Rattle.std.proofs.Common.{ltb}
 use Rattle.std.specs.List.{before_first, position, position_or_len, slice_get}
 use Rattle.std.proofs.lemmas.Bool.{le-ltb, lt-ltb}

@@ -1,6 +1,6 @@
 -- The pings of a round by their places.
 use Rattle.std.proofs.Common.{◌≡◌, ℕ, zero, suc, ◌+◌, ◌-◌, ◌*◌, ◌%◌, ◌^◌, ◌<◌, ◌≤◌, Bool, true, false, cond, ltb, eqb, List, []}
-use Rattle.std.proofs.Common.{◌∷◌, ◌++◌, length, take, map, Option, Some, None, refl, sym, ap, ◌∙◌, arith, inl, inr}
+use Rattle.std.proofs.Common.{◌∷◌, ◌++◌, length, take, Option, Some, None, refl, sym, ap, ◌∙◌, arith, inl, inr}
 use Rattle.std.specs.Prelude.{option_map}
 use Rattle.std.specs.List.{slice_get, find}
 use Rattle.std.proofs.lemmas.Bool.{cases_eq, ne_eqb, le-ltb, lt-ltb}
@@ -199,8 +199,7 @@ round_few servers events domain zero few = omega arith
 round_few servers events domain (suc n) few =
     let here = targets_of servers domain (binding_of domain events) in
     let more = targets_from servers events (domain + 1) n in
-    omega
-    (
+    omega (
       arith,
       targets_few servers domain (binding_of domain events) few,
       round_few servers events (domain + 1) n few,

@@ -1,14 +1,12 @@
 -- What one more event does to the standing of a domain, and to the round.
-use Rattle.std.proofs.Common.{◌≡◌, ℕ, zero, suc, ◌+◌, ◌%◌, ◌^◌, ◌<◌, ◌≤◌, min, Bool, true, false, cond, ltb, List, [], ◌∷◌}
-use Rattle.std.proofs.Common.{length, drop, Option, Some, None, refl, sym, ap, ◌∙◌, arith}
+use Rattle.std.proofs.Common.{◌≡◌, ℕ, ◌+◌, min, false, ltb, List, [], ◌∷◌}
+use Rattle.std.proofs.Common.{length, drop, Some, None, refl, ap, ◌∙◌, arith}
 use Rattle.std.specs.Prelude.{filter, is_some}
-use Rattle.std.specs.List.{filter_map, before_first}
 use Rattle.std.proofs.lemmas.Bool.Decides.{nat_tests}
 use Rattle.yp_io.specs.declared.stream.Peer.{Peer}
 use Rattle.yp_bind.specs.declared.event.Event.{Event}
 use Rattle.yp_bind.specs.declared.event.Event.TheVariants.{Called, Pinged, Offered, Quiet}
-use Rattle.yp_bind.specs.declared.standing.Standing.{Standing}
-use Rattle.yp_bind.specs.Events.{quiet_max, binds, is_quiet, is_ping, first_of, latest, quiet_turns, binding_of}
+use Rattle.yp_bind.specs.Events.{binds, is_quiet, is_ping, latest, quiet_turns, binding_of}
 use Rattle.yp_bind.specs.Rounds.{this_round, round_begin, ping_count, out, first_number}
 use Rattle.yp_bind.specs.Standings.{bound_by, rested, bound_to, standing_of}
 use Rattle.yp_bind.proofs.Lists.{before_first-yes, before_first-no}

@@ -10,7 +10,7 @@ use Rattle.yp_rpc.specs.declared.reply.ReplyHead.TheVariants.{Success}
 use Rattle.yp_rpc.specs.Reply.{reply_head}
 use Rattle.yp_msgs.specs.declared.binding.BindErr.{BindErr}
 use Rattle.yp_msgs.specs.declared.binding.BindErr.TheVariants.{Err, Noserv}
-use Rattle.yp_msgs.specs.Bindings.{bind_err_number, bind_resp, set_dom}
+use Rattle.yp_msgs.specs.Bindings.{bind_err_number, bind_resp}
 use Rattle.yp_bind.specs.declared.binder.Policy.{Policy}
 use Rattle.yp_bind.specs.declared.binder.Policy.TheVariants.{Fixed, Ypsetme, Ypset}
 use Rattle.yp_bind.specs.declared.event.Binding.{Binding}

@@ -1,6 +1,8 @@
-//! Tests of `yp_push`.
+//! Tests of `yp_push` and `yp_bind`.
 #![tactic(auto)]
 
+#[cfg(test)]
+mod bind;
 #[cfg(test)]
 mod given;
 #[cfg(test)]

@@ -1,4 +1,4 @@
-use Rattle.std.proofs.Common.{◌≡◌, ℕ, ◌+◌, ◌≤◌, List, ◌++◌, length, refl, ap, ◌∙◌, arith}
+use Rattle.std.proofs.Common.{◌≡◌, ℕ, ◌+◌, ◌≤◌, List, ◌++◌, length, arith}
 use Rattle.std.proofs.lemmas.List.{length-append, length-replicate}
 use Rattle.yp_xdr.specs.Spelling.{padding_len, padding, fixed, spelling, word}
 use Rattle.yp_msgs.specs.declared.binding.BindResp.{BindResp}

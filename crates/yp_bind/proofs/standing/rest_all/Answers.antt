@@ -1,4 +1,4 @@
-use Rattle.std.proofs.Common.{◌≡◌, ℕ, suc, ◌+◌, ◌<◌, List, ◌++◌, length, map, take, drop, set, get_or, sym, ap, ◌∙◌, arith}
+use Rattle.std.proofs.Common.{◌≡◌, ℕ, suc, ◌+◌, ◌<◌, List, ◌++◌, length, map, take, drop, set, get_or, ap, ◌∙◌, arith}
 use Rattle.yp_bind.specs.declared.standing.Standing.{Standing}
 use Rattle.yp_bind.specs.Standings.{fresh, rested}
 use Rattle.yp_bind.proofs.Lists.{mapped_item, mapped_more}

@@ -1,4 +1,4 @@
-use Rattle.std.proofs.Common.{◌≡◌, ◌<◌, length, sym, subst, Some, arith}
+use Rattle.std.proofs.Common.{◌<◌, length, sym, subst, Some, arith}
 use Rattle.std.proofs.lemmas.List.{get_or_read}
 use Rattle.yp_bind.specs.Rounds.{Bindings}
 use Rattle.yp_bind.specs.Standings.{fresh}

@@ -1,4 +1,4 @@
-use Rattle.std.proofs.Common.{◌≡◌, ◌++◌, length, map, drop, arith}
+use Rattle.std.proofs.Common.{◌≡◌, length, map, drop, arith}
 use Rattle.std.proofs.lemmas.List.{take_at, length-map}
 use Rattle.yp_bind.specs.Standings.{rested}
 use Rattle.yp_bind.specs.Kept.{bindings_of}
@@ -10,8 +10,7 @@ invariant_of-self c =
     let items = c.self.inside.standings.items in
     let new = map rested items in
     let len : length new ≡ c.self.inside.standings.len = omega (arith, length-map items rested) in
-    rw
-    (
+    rw (
       c.add.ensures,
       c.rest_all.ensures,
       c.deref_mut.ensures.value,

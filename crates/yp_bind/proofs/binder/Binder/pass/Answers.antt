@@ -1,4 +1,4 @@
-use Rattle.std.proofs.Common.{◌≡◌, length, sym, subst, None}
+use Rattle.std.proofs.Common.{length, sym, subst, None}
 use Rattle.yp_bind.specs.Rounds.{Bindings}
 use Rattle.yp_bind.specs.Kept.{bindings_of, Binds}
 use Rattle.yp_bind.proofs.Keeping.{passes}
