@@ -1,0 +1,8 @@
+use Rattle.std.proofs.Common.{◌≡◌, ◌++◌, map, take, drop}
+use Rattle.yp_bind.specs.Standings.{rested}
+use Rattle.yp_bind.proofs.standing.rest_all.Given as goal
+
+abbrev pub invariant-loop-standing : goal.invariant-loop-standing
+invariant-loop-standing l =
+    l.standing-items
+    ≡ map rested (take l.standing-index l.initial.standing-items) ++ drop l.standing-index l.initial.standing-items
