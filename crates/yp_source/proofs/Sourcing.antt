@@ -60,8 +60,12 @@ none_came : (peer : Peer) (stream : List ℕ) (old new : Option Wires) → HasCo
 none_came peer stream old new came same =
     let e : Some came.after ≡ Some came.before = sym came.is ∙ same ∙ came.was in
     let both : came.after ≡ came.before = cc in
-    omega (arith, ap (λ (w : Wires). length w.came) both, ap length came.came,
-    length-append came.before.came ((peer, Some stream) ∷ []))
+    omega (
+      arith,
+      ap (λ (w : Wires). length w.came) both,
+      ap length came.came,
+      length-append came.before.came ((peer, Some stream) ∷ []),
+    )
 
 by_address : (address : Result Peer XfrFault) (server : Peer) (wanted : Wanted) (outcome : Outcome)
     (stream : List ℕ) (old new : Dialing) → HasCome server stream old.past new.past

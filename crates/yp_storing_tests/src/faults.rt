@@ -9,7 +9,13 @@ use std::random::RandomSource;
 use yp_io::MemDisk;
 use yp_tools::NamedDisk;
 
-const WORDS: &[&str] = &["xfr", "s1", "newer", "lab/hosts.byname", "m1@127.0.0.1:7001"];
+const WORDS: &[&str] = &[
+    "xfr",
+    "s1",
+    "newer",
+    "lab/hosts.byname",
+    "m1@127.0.0.1:7001",
+];
 
 /// A crash may keep each of the last three writes, or drop it.
 const CRASHES: u64 = 8;

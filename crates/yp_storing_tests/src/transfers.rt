@@ -10,11 +10,29 @@ use std::alloc::Global;
 use std::process::Abort;
 use std::random::RandomSource;
 
-const NEWER: &[&str] = &["xfr", "s1", "newer", "lab/hosts.byname", "m1@127.0.0.1:7001"];
+const NEWER: &[&str] = &[
+    "xfr",
+    "s1",
+    "newer",
+    "lab/hosts.byname",
+    "m1@127.0.0.1:7001",
+];
 
-const FORCED: &[&str] = &["xfr", "s1", "force", "lab/hosts.byname", "m1@127.0.0.1:7001"];
+const FORCED: &[&str] = &[
+    "xfr",
+    "s1",
+    "force",
+    "lab/hosts.byname",
+    "m1@127.0.0.1:7001",
+];
 
-const OWN: &[&str] = &["xfr", "m1", "force", "lab/hosts.byname", "m1@127.0.0.1:7001"];
+const OWN: &[&str] = &[
+    "xfr",
+    "m1",
+    "force",
+    "lab/hosts.byname",
+    "m1@127.0.0.1:7001",
+];
 
 const SECURE: &[&str] = &[
     "xfr",

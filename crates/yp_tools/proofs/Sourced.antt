@@ -65,13 +65,17 @@ never_damaged : (a : Option MapVersion) (at rule : ℕ) → stands_for a ≡ sto
 never_damaged None at rule e = cc
 never_damaged (Some v) at rule e = cc
 
+abbrev held_with : Option MapVersion → ℕ → Held
+held_with version generation = record { version = version; generation = generation }
+
 held_same : (old : Option History) (held other : Held) → IsHeld old held → IsToldHeld old other → held ≡ other
 held_same old held other is told =
     let here = subst (λ (h : Option History). IsHeld h held) told.tells is in
     let version : held.version ≡ other.version =
     stands_same held.version other.version (sym here.version ∙ told.version) in
     let generation : held.generation ≡ other.generation = here.generation ∙ sym told.generation in
-    cc
+    ap (λ (v : Option MapVersion). held_with v held.generation) version
+    ∙ ap (λ (n : ℕ). held_with other.version n) generation
 
 -- ---- one that nothing stands against
 
@@ -80,7 +84,7 @@ unopposed : (cause : Option Refusal) (Failed : Type 0) (why : XfrFault) → caus
 unopposed cause Failed fault.Refused none is fine = absurd (let no = is.1 in cc)
 unopposed cause Failed (fault.Age was offered) none is fine = absurd cc
 unopposed cause Failed fault.File none is fine =
-    absurd (⊎_elim (λ spent. let no : cause ≡ _ = spent in let e = none in cc) (λ failed. fine failed.1) is)
+    absurd (⊎_elim (λ spent. cc) (λ failed. fine failed.1) is)
 unopposed cause Failed fault.NoMemory none is fine = refl
 unopposed cause Failed _ none is fine = absurd is
 

@@ -375,7 +375,13 @@ const TRANSFERS: [(&[&str], Transfer); 3] = [
             "force@127.0.0.1:700",
             "plain",
         ],
-        (b"newer", false, (b"lab", b"a"), (b"force", PEER), Some(false)),
+        (
+            b"newer",
+            false,
+            (b"lab", b"a"),
+            (b"force", PEER),
+            Some(false),
+        ),
     ),
 ];
 
