@@ -51,7 +51,8 @@ pub record IsUninstalled {D B : Type 0} (keeping : Keeping D B) (number : ℕ) (
   pub refuses : Refuses keeping number (built_offer version) fault old new
 
 -- A version that was built is offered: it is installed, or it isn't.
-abbrev pub OffersBuilt : {D B : Type 0} → Keeping D B → ℕ → MapVersion → XfrStat → Published D B → Published D B → Type 0
+abbrev pub OffersBuilt : {D B : Type 0} → Keeping D B → ℕ → MapVersion → XfrStat → Published D B → Published D B
+    → Type 0
 OffersBuilt keeping number version stat old new =
     ((stat ≡ Succ) × Installs keeping number (built_offer version) old new)
     ⊎ IsUninstalled keeping number version stat old new

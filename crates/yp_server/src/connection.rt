@@ -32,7 +32,8 @@ pub struct Stock<D, A, T, C> {
 
 /// Serves one connection from stored maps, to a caller at `peer`: loads the files of all disks, shows what they stand
 /// for, and answers at most [`CALLS_MAX`] records of the wire. The disks, in their order, and the desk come back with
-/// every outcome. Where a file isn't loaded, nothing is read from the wire or written. The witness sees the wire behind each record that was answered.
+/// every outcome. Where a file isn't loaded, nothing is read from the wire or written. The witness sees the wire behind
+/// each record that was answered.
 pub fn serve_wire<S: Source, K: Sink, D: Disk, A: Dial, T: Texts, C: Clock, W: Witness<S, K>>(
     alloc: Global,
     rt: &impl RandomSource,

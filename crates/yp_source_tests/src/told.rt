@@ -6,13 +6,13 @@ ghost use Rattle.yp_rpc.specs.Laws.{IsWord};
 ghost use Rattle.yp_msgs.specs.Numbers.{name_max};
 ghost use Rattle.yp_version.specs.Versions.{MapVersion};
 ghost use Rattle.yp_board.specs.Catalogues.{Catalogue};
+ghost use Rattle.yp_answer.specs.Served.{AreServed, maps_on};
 ghost use Rattle.yp_client.specs.States.{state_of};
 ghost use Rattle.yp_xfr.specs.Fetching.{wanted_of, against_order};
 ghost use Rattle.yp_xfr.specs.Fetched.{FailsByWire};
 ghost use Rattle.yp_source.specs.Replies.{Moments, AtEach, GivesFetch, IsShown, unsecured};
 ghost use Rattle.yp_source.specs.Laws.{Fronts, moments_on};
 ghost use Rattle.yp_source_tests.specs.Outcomes.{IsUnlessFailed};
-ghost use Rattle.yp_answer.specs.Served.{AreServed, maps_on};
 
 use std::alloc::Global;
 use std::random::RandomSource;

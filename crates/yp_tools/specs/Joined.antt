@@ -29,7 +29,7 @@ SessionIsPrinted {D} {E} {S} {K} {F} {C} {A} {I} {T} service seen =
     → end ≢ WriteFault → old.wire.sink.output ≡ Some [] → new.wire.sink.output ≡ Some taken
     → HasCome server (taken ++ rest) (seen.dial.past before.dial) (seen.dial.past after.dial)
     → PrintsOnLogs service.catalogue service.peer question (log_of service serves.start) (log_of service serves.finish)
-        asks.asks.result (output seen before) (output seen after)
+    asks.asks.result (output seen before) (output seen after)
 
 -- The same of a client that got what `once` sent.
 abbrev pub OnceIsPrinted : {S K F C A I T : Type 0} → Seeing S K F C A I T → Type 0
@@ -42,4 +42,4 @@ OnceIsPrinted {S} {K} {F} {C} {A} {I} {T} seen =
     → answers.end ≢ WriteFault → old.sink.output ≡ Some [] → new.sink.output ≡ Some taken
     → HasCome server (taken ++ rest) (seen.dial.past before.dial) (seen.dial.past after.dial)
     → PrintsOnLogs board.catalogue nobody question board.known answers.finish.board.known
-        asks.asks.result (output seen before) (output seen after)
+    asks.asks.result (output seen before) (output seen after)
