@@ -277,8 +277,8 @@ fn stored_bodies(rt: HostRuntime) {
     assert_same(&rt, &two.body(), &secure.as_slice(), "secure");
 }
 
-// As many rows as a version may have. Their keys are the numbers below this in an order, and their values tell it.
-const MANY: u32 = 65_536;
+// So many rows. Their keys are the numbers below this in an order, and their values tell it.
+const MANY: u32 = 16_384;
 
 // The key of the row that is pushed after so many others: a multiple, without what is over.
 fn key_of(step: u32, factor: u32) -> [u8; 4] {
@@ -299,14 +299,19 @@ fn assert_many<R: Abort>(rt: &R, version: &Version, factor: u32, order: &str) {
     for step in 0..MANY {
         let value = step.to_be_bytes();
         let wanted = (step, Some(value.as_slice()));
-        assert_same(rt, &(step, version.get(&key_of(step, factor))), &wanted, order);
+        assert_same(
+            rt,
+            &(step, version.get(&key_of(step, factor))),
+            &wanted,
+            order,
+        );
     }
-    let ends = [version.next(&[0, 0, 255, 255]), version.next(&[0, 1, 0, 0])];
+    let ends = [version.next(&[0, 0, 63, 255]), version.next(&[0, 0, 64, 0])];
     assert_same(rt, &ends, &[Next::Last, Next::Absent], order);
 }
 
 // By an odd factor each number comes once: by 1 they rise, and by one less than all they fall but for the first.
-const ORDERS: [(u32, &str); 3] = [(1, "rising"), (65_535, "falling"), (100_003, "mixed")];
+const ORDERS: [(u32, &str); 3] = [(1, "rising"), (16_383, "falling"), (10_007, "mixed")];
 
 #[test]
 fn many_rows_in_any_order(rt: HostRuntime) {
