@@ -1,7 +1,8 @@
 //! Versions and their builders: look-ups, marks, limits and faults.
 
-use crate::given::assert_same;
+use crate::given::{assert_same, bytes};
 use std::alloc::Global;
+use std::io;
 use std::process::Abort;
 use std::random::RandomSource;
 use yp_version::*;
@@ -253,4 +254,112 @@ fn tells_faults(rt: HostRuntime) {
         let told = format!(in rt.alloc(); "{fault}").expect(&rt, "a text");
         assert_same(&rt, &told.as_str(), text, *text);
     }
+}
+
+// The stored body of order 7, master `m1` and the rows of `TWO`, behind its first word.
+const TWO_ROWS: &str = "00000007 00000002 6d310000 00000002 00000000 00000004 666f7572
+    00000005 616c7068 61000000 00000001 31000000";
+
+// The stored body of no rows.
+const NO_ROWS: &str = "00000001 00000007 00000002 6d310000 00000000";
+
+#[test]
+fn stored_bodies(rt: HostRuntime) {
+    let alloc = rt.alloc();
+    let none = bytes(&rt, alloc, &[NO_ROWS]);
+    let plain = bytes(&rt, alloc, &["00000001", TWO_ROWS]);
+    let secure = bytes(&rt, alloc, &["00000002", TWO_ROWS]);
+    let empty = version(&rt, alloc, &[]);
+    assert_same(&rt, &empty.body(), &none.as_slice(), "no rows");
+    let two = version(&rt, alloc, &TWO);
+    assert_same(&rt, &two.body(), &plain.as_slice(), "two rows");
+    let two = two.marked(true);
+    assert_same(&rt, &two.body(), &secure.as_slice(), "secure");
+}
+
+// So many rows. Their keys are the numbers below this in an order, and their values tell it.
+const MANY: u32 = 16_384;
+
+// The key of the row that is pushed after so many others: a multiple, without what is over.
+fn key_of(step: u32, factor: u32) -> [u8; 4] {
+    (step.wrapping_mul(factor) % MANY).to_be_bytes()
+}
+
+// A version of these rows.
+fn many_rows<R: RandomSource + Abort>(rt: &R, alloc: Global, factor: u32) -> Version {
+    let mut builder = builder(rt, alloc);
+    for step in 0..MANY {
+        let pushed = builder.push(&key_of(step, factor), &step.to_be_bytes());
+        assert_same(rt, &(step, pushed), &(step, Ok(true)), "a new row");
+    }
+    builder.finish().expect(rt, "a version")
+}
+
+fn assert_many<R: Abort>(rt: &R, version: &Version, factor: u32, order: &str) {
+    for step in 0..MANY {
+        let value = step.to_be_bytes();
+        let wanted = (step, Some(value.as_slice()));
+        assert_same(
+            rt,
+            &(step, version.get(&key_of(step, factor))),
+            &wanted,
+            order,
+        );
+    }
+    let ends = [version.next(&[0, 0, 63, 255]), version.next(&[0, 0, 64, 0])];
+    assert_same(rt, &ends, &[Next::Last, Next::Absent], order);
+}
+
+// By an odd factor each number comes once: by 1 they rise, and by one less than all they fall but for the first.
+const ORDERS: [(u32, &str); 3] = [(1, "rising"), (16_383, "falling"), (10_007, "mixed")];
+
+#[test]
+fn many_rows_in_any_order(rt: HostRuntime) {
+    for (factor, order) in &ORDERS {
+        let version = many_rows(&rt, rt.alloc(), *factor);
+        assert_many(&rt, &version, *factor, *order);
+    }
+}
+
+// A source whose random numbers are all 0.
+struct Zeros;
+
+impl RandomSource for Zeros {
+    fn fill_bytes(&self, bytes: &mut [u8]) -> io::Result<()> {
+        bytes.fill(0);
+        Ok(())
+    }
+}
+
+// By SipHash-1-3 with both keys 0 the hash of each of these is 1 more than a multiple of 8, so they share one of the
+// eight buckets of a version of them.
+const COLLIDING: [Row; 8] = [
+    (b"dh", b"7"),
+    (b"aq", b"0"),
+    (b"cc", b"6"),
+    (b"aw", b"1"),
+    (b"bp", b"5"),
+    (b"ay", b"2"),
+    (b"bk", b"4"),
+    (b"az", b"3"),
+];
+
+fn assert_colliding<R: Abort>(rt: &R, version: &Version) {
+    for (key, value) in &COLLIDING {
+        assert_same(rt, &version.get(*key), &Some(*value), "a value");
+    }
+    let absent = [is_absent(version, b"dx"), is_absent(version, b"eb")];
+    assert_same(rt, &absent, &[[true; 2]; 2], "other keys of that bucket");
+}
+
+#[test]
+fn colliding_keys(rt: HostRuntime) {
+    let builder = VersionBuilder::new(rt.alloc(), &Zeros, 7, b"m1");
+    let mut builder = builder.expect(&rt, "a builder");
+    for (key, value) in &COLLIDING {
+        assert_same(&rt, &builder.push(*key, *value), &Ok(true), "a new row");
+    }
+    assert_same(&rt, &builder.push(b"aq", b"8"), &Ok(false), "a row again");
+    let version = builder.finish().expect(&rt, "a version");
+    assert_colliding(&rt, &version);
 }

@@ -13,7 +13,7 @@ mod loaded;
 mod open;
 mod publisher;
 mod same;
-mod both;
+mod spelled;
 mod stored;
 
 pub use install::{InstallFault, Installed, Origin};

@@ -17,7 +17,7 @@ ghost use Rattle.yp_publish.specs.Rising.{moment_of, with_shown, Stores};
 
 use crate::install::{InstallFault, Installed, Origin};
 use crate::loaded::{Loaded, give_back};
-use crate::both::Both;
+use crate::spelled::Spelled;
 use crate::stored::StoredMap;
 use std::alloc::Global;
 use std::marker::Model;
@@ -161,8 +161,8 @@ impl<D: Disk, B: Show> Publisher<D, B> {
     {
         self.check(alloc, map, &version, origin, force)?;
         let order = version.order();
-        let both = Both::new(alloc, version)?;
-        let generation = self.store(map, both)?;
+        let spelled = Spelled::new(alloc, version)?;
+        let generation = self.store(map, spelled)?;
         Ok(Installed { order, generation })
     }
 
@@ -192,34 +192,35 @@ impl<D: Disk, B: Show> Publisher<D, B> {
     }
 
     /// Stores a version of a level map, and then shows it.
-    fn store(&mut self, map: u32, both: Both) -> Result<u64, InstallFault>
+    fn store(&mut self, map: u32, spelled: Spelled) -> Result<u64, InstallFault>
         requires map { map < length self.old.maps }
         requires level { OfMap map self.old.maps (λ kept. kept.standing ≡ Level) }
         requires generation { OfMap map self.old.maps (λ kept. kept.generation < generation_max) }
-        requires shown { arc_value both.shown ≡ arc_value both.stored }
+        requires body { IsBody spelled.body.items (arc_value spelled.stored) }
+        requires shown { arc_value spelled.shown ≡ arc_value spelled.stored }
         ensures fault { IfErr result (λ fault. (fault ≡ InstallFault.DiskFault) ⊎ (fault ≡ InstallFault.NoMemory)) }
         ensures cause { IsErrOf result InstallFault.DiskFault → At map self.old.maps self.new.maps
             (λ before after. HasRisen (D.faults before.disk) (D.faults after.disk)) }
         ensures installed { OnOk result
-            (At map self.old.maps self.new.maps (IsInstalled (arc_value both.stored))) }
+            (At map self.old.maps self.new.maps (IsInstalled (arc_value spelled.stored))) }
         ensures answer { IfOk result (λ generation. OfMap map self.old.maps
             (λ kept. generation ≡ kept.generation + 1)) }
         ensures log { OnOk result
-            (B.log self.new.board ≡ with_shown map (arc_value both.stored) (B.log self.old.board)) }
+            (B.log self.new.board ≡ with_shown map (arc_value spelled.stored) (B.log self.old.board)) }
         ensures showed { OnOk result
-            (B.showed map (arc_value both.stored) self.old.board self.new.board) }
+            (B.showed map (arc_value spelled.stored) self.old.board self.new.board) }
         ensures not_shown { OnErr result (self.new.board ≡ self.old.board) }
         ensures disk_fault { IsErrOf result InstallFault.DiskFault
-            → At map self.old.maps self.new.maps (IsUnsure (arc_value both.stored)) }
+            → At map self.old.maps self.new.maps (IsUnsure (arc_value spelled.stored)) }
         ensures no_memory { IsErrOf result InstallFault.NoMemory
-            → At map self.old.maps self.new.maps (IsUnshown (arc_value both.stored)) }
+            → At map self.old.maps self.new.maps (IsUnshown (arc_value spelled.stored)) }
         ensures any_moment { At map self.old.maps self.new.maps
-            (LeavesEither D.history (arc_value both.stored)) }
+            (LeavesEither D.history (arc_value spelled.stored)) }
         ensures upheld { Upholds (keeping_of D.history D.faults B.log) map self.old self.new }
-        ensures stores { Stores map (arc_value both.stored) (moment_of B.log self.old) (moment_of B.log self.new) }
+        ensures stores { Stores map (arc_value spelled.stored) (moment_of B.log self.old) (moment_of B.log self.new) }
     {
         let stored = &mut self.maps[map as usize];
-        stored.install(&mut self.board, map, both)
+        stored.install(&mut self.board, map, spelled)
     }
 
     /// Opens the file of a map that is behind again, and shows what stands there where that isn't what is shown. The

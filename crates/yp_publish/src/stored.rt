@@ -21,7 +21,7 @@ ghost use Rattle.yp_publish.specs.Opens.{IsGenerationLeft, IsStillBehind, IsOpen
 use crate::install::{InstallFault, Origin};
 use crate::publisher::Standing;
 use crate::same::is_same;
-use crate::both::Both;
+use crate::spelled::Spelled;
 use std::alloc::{AllocError, Global};
 use std::marker::Model;
 use std::random::RandomSource;
@@ -173,29 +173,30 @@ impl<D: Disk> StoredMap<D> {
         &mut self,
         board: &mut B,
         map: u32,
-        both: Both,
+        spelled: Spelled,
     ) -> Result<u64, InstallFault>
         requires level { self.old.standing ≡ Level }
         requires generation { self.old.generation < generation_max }
         requires map { map < B.maps board.old }
-        requires shown { arc_value both.shown ≡ arc_value both.stored }
-        ensures installed { OnOk result (IsInstalled (arc_value both.stored) self.old self.new) }
+        requires body { IsBody spelled.body.items (arc_value spelled.stored) }
+        requires shown { arc_value spelled.shown ≡ arc_value spelled.stored }
+        ensures installed { OnOk result (IsInstalled (arc_value spelled.stored) self.old self.new) }
         ensures answer { IfOk result (λ generation. generation ≡ self.old.generation + 1) }
         ensures log { OnOk result
-            (B.log board.new ≡ B.log board.old ++ (map, arc_value both.stored) ∷ []) }
-        ensures showed { OnOk result (B.showed map (arc_value both.stored) board.old board.new) }
+            (B.log board.new ≡ B.log board.old ++ (map, arc_value spelled.stored) ∷ []) }
+        ensures showed { OnOk result (B.showed map (arc_value spelled.stored) board.old board.new) }
         ensures maps { B.maps board.new ≡ B.maps board.old }
         ensures not_shown { OnErr result (board.new ≡ board.old) }
         ensures fault { IfErr result (λ fault. (fault ≡ InstallFault.DiskFault) ⊎ (fault ≡ InstallFault.NoMemory)) }
         ensures disk_fault { IsErrOf result InstallFault.DiskFault
-            → IsUnsure (arc_value both.stored) self.old self.new }
+            → IsUnsure (arc_value spelled.stored) self.old self.new }
         ensures no_memory { IsErrOf result InstallFault.NoMemory
-            → IsUnshown (arc_value both.stored) self.old self.new }
-        ensures version { OnOk result (self.new.version ≡ Some (arc_value both.stored)) }
+            → IsUnshown (arc_value spelled.stored) self.old self.new }
+        ensures version { OnOk result (self.new.version ≡ Some (arc_value spelled.stored)) }
         ensures version_kept { OnErr result (self.new.version ≡ self.old.version) }
         ensures level { OnOk result (self.new.standing ≡ Level) }
-        ensures behind { OnErr result (self.new.standing ≡ Behind (arc_value both.stored)) }
-        ensures any_moment { LeavesEither D.history (arc_value both.stored) self.old self.new }
+        ensures behind { OnErr result (self.new.standing ≡ Behind (arc_value spelled.stored)) }
+        ensures any_moment { LeavesEither D.history (arc_value spelled.stored) self.old self.new }
         ensures bound { LeavesFew D.history self.old self.new }
         ensures standing { IsStanding D.history self.new }
         ensures numbered { IsNumbered D.history self.new }
@@ -203,8 +204,12 @@ impl<D: Disk> StoredMap<D> {
             → HasRisen (D.faults self.old.disk) (D.faults self.new.disk) }
         ensures never_falls { D.faults self.old.disk ≤ D.faults self.new.disk }
     {
-        let Both { stored, shown } = both;
-        match self.slot.commit(stored.body()) {
+        let Spelled {
+            body,
+            stored,
+            shown,
+        } = spelled;
+        match self.slot.commit(&body) {
             Err(Failed) => {
                 self.failed = Some(stored);
                 Err(InstallFault::DiskFault)

@@ -19,7 +19,7 @@ returns-in_err-generation-clause-refused g c =
     let new = c.store.new.self in
     let why = c.in_err-generation.field-0.0 in
     let none = c.in_ok-check.ensures.unopposed in
-    let same = c.in_ok-both.ensures.stored in
+    let same = c.in_ok-spelled.ensures.stored in
     let left = c.in_err-generation.ensures in
     let refused : Refuses K n o why old new = record {
       upheld = c.store.ensures.upheld;
@@ -45,7 +45,7 @@ returns-clause-installed g c =
     let old = c.args.self.now in
     let new = c.store.new.self in
     let none = c.in_ok-check.ensures.unopposed in
-    let same = c.in_ok-both.ensures.stored in
+    let same = c.in_ok-spelled.ensures.stored in
     record {
       upheld = c.store.ensures.upheld;
       unopposed = none;
