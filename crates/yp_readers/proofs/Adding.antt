@@ -6,7 +6,8 @@ use Rattle.std.proofs.lemmas.List.{get_or_append_left, get_or-append_right}
 use Rattle.std.proofs.lemmas.Grind.{get_or-set_at}
 use Rattle.std.proofs.lemmas.Bool.Decides.{nat_tests}
 use prog.Atomic.{either}
-use Rattle.logbook.specs.Pages.{Cell, cell, keeps, gives, adds, Nib, nib, no_nib, may_write, may_make, step, Moves, Goes}
+use Rattle.logbook.specs.Pages.{Cell, cell, keeps, gives, adds, Nib}
+use Rattle.logbook.specs.Pages.{nib, no_nib, may_write, may_make, step, Moves, Goes}
 use Rattle.yp_board.specs.Logs.{Log}
 use Rattle.yp_readers.specs.Histories.{Shown, IsCounted, IsNext, Opens, Adds, Looks}
 use Rattle.yp_readers.proofs.Fronts.{prefix_whole}

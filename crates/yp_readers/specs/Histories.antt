@@ -12,8 +12,9 @@ Shown = ℕ × MapVersion
 abbrev pub no_pair : Shown
 no_pair = (0, unmarked 0 [] [])
 
--- The first word of a book counts its words. Of those, the first two are at home, and one more for each pair of the log.
--- So a pair comes with the first word that isn't at home, and whoever has the pen of that one alone makes the log longer.
+-- The first word of a book counts its words. Of those, the first two are at home, and one more for each pair of the
+-- log. So a pair comes with the first word that isn't at home, and only whoever has the pen of that one makes the log
+-- longer.
 pub record IsCounted (cells : List Cell) (log : Log) : Type 0 where
   pub count : cell cells 0 ≡ (length cells, true)
   pub home : (key : ℕ) → 0 < key → key < length cells → (cell cells key).1 ≡ nat_lt key (length log + 2)

@@ -96,7 +96,7 @@ where
         Ok(Reader::new(catalog, table, handle))
     }
 
-    /// What a reader knows is a front of what was shown. It does nothing: its contract is the fact.
+    /// What a reader knows is a front of what was shown. The call changes nothing: its contract is the fact.
     pub fn covers(&mut self, reader: &Reader<J>)
         ensures front { IsFront reader.now.known self.old.log }
         ensures same { self.new ≡ self.old }

@@ -66,8 +66,8 @@ fn old_versions_are_let_go(rt: HostRuntime) {
     );
 }
 
-// How many owners a version has that this test keeps: once it is shown, and a reader holds it; once another one is shown
-// in its place; and once the reader has made a read step.
+// How many owners a version has that this test keeps: once it is shown, and a reader holds it; once another one is
+// shown in its place; and once the reader has made a read step.
 fn owners<J: Naming, R: Wait + RandomSource + Abort>(
     rt: &R,
     alloc: Global,
