@@ -108,7 +108,7 @@ taken_from bindings from None = None
 taken_from bindings from (Some ping) =
     taken_at (target_of ping) (binding_of ping.domain bindings.events) from
 
--- An offer is taken where it says yes, its xid is of the round, it comes of that ping's server, and the domain is unbound
--- or bound to it.
+-- An offer is taken where it says yes, its xid is of the round, it comes of that ping's server, and the domain is
+-- unbound or bound to it.
 abbrev pub taken_by : Bindings → ℕ → Peer → Bool → Option Binding
 taken_by bindings xid from has_it = if has_it then taken_from bindings from (ping_with bindings xid) else None

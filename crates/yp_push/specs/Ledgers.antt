@@ -56,7 +56,8 @@ outstanding first events = count_by (is_outstanding first events) (asked events)
 abbrev pub sending_of : Ledger → ℕ → Sending
 sending_of ledger slave = record { slave = slave; transid = transid_of ledger.first slave }
 
--- The slaves are asked in their order. None is asked where all were, or where as many as the window has are outstanding.
+-- The slaves are asked in their order. None is asked where all were, or where as many as the window has are
+-- outstanding.
 abbrev pub next_sending : Ledger → Option Sending
 next_sending ledger =
     if nat_lt (length (asked ledger.events)) ledger.slaves

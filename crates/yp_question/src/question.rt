@@ -22,8 +22,8 @@ pub enum Question<T> {
     Poll { domain: T, map: T },
     /// MAPLIST: the names of the maps, a line each, in the order of the reply.
     Maps { domain: T },
-    /// ALL of the map `netgroup`: `yes` or `no`, whether a host, a user and a domain are a member of a group. What isn't
-    /// given may be any.
+    /// ALL of the map `netgroup`: `yes` or `no`, whether a host, a user and a domain are a member of a group. What
+    /// isn't given may be any.
     Innetgr {
         domain: T,
         group: T,

@@ -185,7 +185,8 @@ pub fn run_watched<
 ) -> (Status, Outside<S, K, D, C, A, I, T>)
     requires { names_of outside.disks.items ≡ disk_names (texts words.now) }
     ensures does { Does (seeing S.Source K.Sink D.Disk C.Clock A.Dial I.Inbox T.Texts)
-        (command_of (texts words.now)) result.0 (office_of outside) (office_of result.1) (W.wires witness.old) (W.wires witness.new) }
+        (command_of (texts words.now)) result.0 (office_of outside) (office_of result.1)
+        (W.wires witness.old) (W.wires witness.new) }
     ensures may_end { MayEnd (command_of (texts words.now)) result.0 }
     ensures disks { names_of result.1.disks.items ≡ names_of outside.disks.items }
     ensures clock { C.moment result.1.clock ≡ C.moment outside.clock }

@@ -45,8 +45,8 @@ pub enum Command {
         store: MapName,
         flag: Option<bool>,
     },
-    /// Fetches this map from `host`, and installs it where its order is over the one that is shown, or in any case. `name`
-    /// is the host that fetches, and `flag` is as in `Build`.
+    /// Fetches this map from `host`, and installs it where its order is over the one that is shown, or in any case.
+    /// `name` is the host that fetches, and `flag` is as in `Build`.
     Xfr {
         name: Vec<u8>,
         force: bool,
