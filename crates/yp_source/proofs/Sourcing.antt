@@ -8,8 +8,8 @@ use Rattle.yp_version.specs.Versions.{MapVersion}
 use Rattle.yp_client.specs.Asked.{order_call, master_call, all_call}
 use Rattle.yp_query.specs.Complete.{HasCome}
 use Rattle.yp_board.specs.Logs.{Log}
-use Rattle.yp_answer.specs.Served.{AreServed}
-use Rattle.yp_exchange.specs.Runs.{maps_on, RepliesInTurn, sent_all}
+use Rattle.yp_answer.specs.Served.{AreServed, maps_on}
+use Rattle.yp_exchange.specs.Runs.{RepliesInTurn, sent_all}
 use Rattle.yp_exchange.specs.LogRuns.{records_of, replies_of, IsRepliedTo}
 use Rattle.yp_exchange.specs.RunLaws.{AllHasReply, MasterHasReply, OrderHasReply, RunIsInTurn}
 use Rattle.yp_io.specs.Counts.{HasRisen}

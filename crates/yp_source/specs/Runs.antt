@@ -11,8 +11,8 @@ use Rattle.yp_publish.specs.Rising.{IsRisingLog}
 use Rattle.yp_session.specs.Hosts.{Turn}
 use Rattle.yp_session.specs.LogRuns.{LogRun}
 use Rattle.yp_query.specs.Complete.{HasCome}
-use Rattle.yp_answer.specs.Served.{AreServed}
-use Rattle.yp_exchange.specs.Runs.{maps_on, sent_all}
+use Rattle.yp_answer.specs.Served.{AreServed, maps_on}
+use Rattle.yp_exchange.specs.Runs.{sent_all}
 use Rattle.yp_exchange.specs.LogRuns.{records_of, replies_of}
 use Rattle.yp_xfr.specs.declared.fault.XfrFault.TheVariants.{Rpc, NoMemory}
 use Rattle.yp_xfr.specs.Fetching.{Wanted, Outcome}
