@@ -23,8 +23,8 @@ use Rattle.yp_bind.specs.declared.request.Request.TheVariants.{Nothing, Answer, 
 abbrev pub server_of : Value set_dom → Peer
 server_of asked = record { addr = asked.1.0; port = from_be_bytes w16 asked.1.1.0 }
 
--- nothing that is answered; a reply of this head alone; DOMAIN of a domain; SETDOM with its arguments and the server that
--- they name
+-- nothing that is answered; a reply of this head alone; DOMAIN of a domain; SETDOM with its arguments and the server
+-- that they name
 pub data Asked : Type 0 where
   AsksNothing : Asked
   AsksHead : (xid : ℕ) (head : ReplyHead) → Asked

@@ -1,5 +1,6 @@
 -- A binder as a whole, and the pings of a round.
-use Rattle.std.specs.Prelude.{ℕ, zero, suc, ◌+◌, ◌%◌, ◌^◌, Bool, true, List, [], ◌∷◌, ◌++◌, length, map, filter, take, drop}
+use Rattle.std.specs.Prelude.{ℕ, zero, suc, ◌+◌, ◌%◌, ◌^◌, Bool, true}
+use Rattle.std.specs.Prelude.{List, [], ◌∷◌, ◌++◌, length, map, filter, take, drop}
 use Rattle.std.specs.Prelude.{Option, Some, None, ◌&&◌, ◌==◌, bytes_eq, if◌then◌else◌}
 use Rattle.std.specs.List.{slice_get, find, before_first}
 use Rattle.yp_io.specs.declared.stream.Peer.{Peer}
@@ -108,7 +109,7 @@ taken_from bindings from None = None
 taken_from bindings from (Some ping) =
     taken_at (target_of ping) (binding_of ping.domain bindings.events) from
 
--- An offer is taken where it says yes, its xid is of the round, it comes of that ping's server, and the domain is unbound
--- or bound to it.
+-- An offer is taken where it says yes, its xid is of the round, it comes of that ping's server, and the domain is
+-- unbound or bound to it.
 abbrev pub taken_by : Bindings → ℕ → Peer → Bool → Option Binding
 taken_by bindings xid from has_it = if has_it then taken_from bindings from (ping_with bindings xid) else None

@@ -110,8 +110,8 @@ impl Binder {
         })
     }
 
-    /// Answers a datagram, and binds a domain where it is a SETDOM that may. The reply is at the front of the buffer, and
-    /// has this length; it is 0 for silence.
+    /// Answers a datagram, and binds a domain where it is a SETDOM that may. The reply is at the front of the buffer,
+    /// and has this length; it is 0 for silence.
     pub fn on_call(&mut self, call: &[u8], from: Peer, buf: &mut [u8]) -> usize
         requires { datagram_max ≤ length buf.old }
         ensures reply { IsReply (reply_to self.old (asked_by call.now)) result buf.new }

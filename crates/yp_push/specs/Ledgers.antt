@@ -7,7 +7,8 @@ use Rattle.yp_push.specs.declared.event.Event.TheVariants.{Sent, Failed, Refused
 use Rattle.yp_push.specs.declared.ledger.Sending.{Sending}
 use Rattle.yp_push.specs.declared.outcome.Outcome.{Outcome}
 use Rattle.yp_push.specs.declared.outcome.Outcome.TheVariants.{Unanswered}
-use Rattle.yp_push.specs.Results.{transid_of, is_quiet, since_sending, result_of, is_unanswered, awaits_call, is_settled}
+use Rattle.yp_push.specs.Results.{transid_of, is_quiet, since_sending}
+use Rattle.yp_push.specs.Results.{result_of, is_unanswered, awaits_call, is_settled}
 
 -- how many slaves there are at most
 abbrev pub slaves_max : ℕ
@@ -56,7 +57,8 @@ outstanding first events = count_by (is_outstanding first events) (asked events)
 abbrev pub sending_of : Ledger → ℕ → Sending
 sending_of ledger slave = record { slave = slave; transid = transid_of ledger.first slave }
 
--- The slaves are asked in their order. None is asked where all were, or where as many as the window has are outstanding.
+-- The slaves are asked in their order. None is asked where all were, or where as many as the window has are
+-- outstanding.
 abbrev pub next_sending : Ledger → Option Sending
 next_sending ledger =
     if nat_lt (length (asked ledger.events)) ledger.slaves

@@ -9,7 +9,8 @@ use Rattle.yp_push.specs.declared.outcome.Missed.{Missed}
 use Rattle.yp_push.specs.declared.outcome.Outcome.{Outcome}
 use Rattle.yp_push.specs.declared.outcome.Outcome.TheVariants.{Unsent, Unanswered, Missed as WasMissed, Answered}
 
--- the number of a slave's transaction: they count from the first one on, and begin anew behind the last number of 32 bits
+-- the number of a slave's transaction: they count from the first one on, and begin anew behind the last number of 32
+-- bits
 abbrev pub transid_of : (first slave : ℕ) → ℕ
 transid_of first slave = (first + slave) % 2 ^ 32
 
