@@ -35,7 +35,8 @@ server_other : (domain other : ℕ) (server : Peer) → other ≢ domain
     → server_for other (Some (record { domain = domain; server = server })) ≡ None
 server_other domain other server differs = rw (ne_eqb domain other (λ q. differs (sym q))) refl
 
-pub binds_one : (bindings : Bindings) (standings : List Standing) (pinged first next : ℕ) (binding : Binding) (e : Event)
+pub binds_one : (bindings : Bindings) (standings : List Standing) (pinged first next : ℕ) (binding : Binding)
+    (e : Event)
     → Keeps bindings standings pinged first next → Binds (length bindings.domains) (Some binding) e
     → Keeps (with_event bindings e)
     (set standings binding.domain (bound_to (get_or standings binding.domain fresh) binding.server)) pinged first next

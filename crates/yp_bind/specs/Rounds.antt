@@ -1,5 +1,6 @@
 -- A binder as a whole, and the pings of a round.
-use Rattle.std.specs.Prelude.{ℕ, zero, suc, ◌+◌, ◌%◌, ◌^◌, Bool, true, List, [], ◌∷◌, ◌++◌, length, map, filter, take, drop}
+use Rattle.std.specs.Prelude.{ℕ, zero, suc, ◌+◌, ◌%◌, ◌^◌, Bool, true}
+use Rattle.std.specs.Prelude.{List, [], ◌∷◌, ◌++◌, length, map, filter, take, drop}
 use Rattle.std.specs.Prelude.{Option, Some, None, ◌&&◌, ◌==◌, bytes_eq, if◌then◌else◌}
 use Rattle.std.specs.List.{slice_get, find, before_first}
 use Rattle.yp_io.specs.declared.stream.Peer.{Peer}

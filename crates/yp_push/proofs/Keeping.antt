@@ -6,7 +6,8 @@ use Rattle.std.specs.Prelude.{replicate}
 use Rattle.std.specs.List.{count_by, range_with_len, cons_option}
 use Rattle.std.proofs.lemmas.Bool.{cases_eq, cases_lt, ne_eqb, le-ltb, lt-ltb, ltb-true}
 use Rattle.std.proofs.lemmas.Bool.Decides.{nat_tests, Decides-eqb}
-use Rattle.std.proofs.lemmas.List.{append-nil, length-set, get_or-set_same, get_or-set_other, get_or-replicate, length-replicate}
+use Rattle.std.proofs.lemmas.List.{append-nil, length-set, get_or-set_same}
+use Rattle.std.proofs.lemmas.List.{get_or-set_other, get_or-replicate, length-replicate}
 use Rattle.std.proofs.lemmas.List.Sums.{sum_by_push}
 use Rattle.yp_push.specs.declared.event.Event.{Event}
 use Rattle.yp_push.specs.declared.event.Event.TheVariants.{Sent, Failed, Refused, Called, Quiet}
@@ -70,7 +71,8 @@ pub sends : (outcomes : List Outcome) (first sent passed count : ℕ) (es : List
 sends outcomes first sent passed count es kept below =
     let e : Event = Sent sent in
     let wasnt : is_sent sent es ≡ false = kept.asked_below sent ∙ le-ltb sent sent (omega arith) in
-    let now : result_of first sent (es ++ e ∷ []) ≡ Unanswered = step_by first sent es e true (same_number sent) wasnt in
+    let now : result_of first sent (es ++ e ∷ []) ≡ Unanswered =
+    step_by first sent es e true (same_number sent) wasnt in
     let not_passed : is_passed_over sent (es ++ e ∷ []) ≡ false = passed_now sent es e wasnt (same_number sent) in
     let same : (slave : ℕ) → slave ≢ sent → result_of first slave (es ++ e ∷ []) ≡ result_of first slave es =
     λ slave differs.
@@ -163,7 +165,8 @@ quiets outcomes first sent passed count es kept =
 tells_order : (n : ℕ) (es : List Event) (e : Event) → Tells e → asked es ≡ range_with_len 0 n
     → asked (es ++ e ∷ []) ≡ range_with_len 0 n
 tells_order n es e tells order =
-    asked_step es e ∙ ap (λ (o : Option ℕ). asked es ++ cons_option o []) tells.asks_none ∙ append-nil (asked es) ∙ order
+    asked_step es e ∙ ap (λ (o : Option ℕ). asked es ++ cons_option o []) tells.asks_none ∙ append-nil (asked es)
+    ∙ order
 
 tells_sent : (slave : ℕ) (es : List Event) (e : Event) → Tells e → is_sent slave (es ++ e ∷ []) ≡ is_sent slave es
 tells_sent slave es e tells =

@@ -11,7 +11,8 @@ use Rattle.yp_push.specs.declared.outcome.Missed.{Missed}
 use Rattle.yp_push.specs.declared.outcome.Outcome.{Outcome}
 use Rattle.yp_push.specs.declared.outcome.Outcome.TheVariants.{Unsent, Unanswered, Missed as WasMissed, Answered}
 use Rattle.yp_push.specs.Results.{transid_of, awaits_call}
-use Rattle.yp_push.specs.Ledgers.{slaves_max, Ledger, outcome_at, asked, outstanding, next_sending, IsUnanswered, Awaits}
+use Rattle.yp_push.specs.Ledgers.{slaves_max, Ledger, outcome_at, asked}
+use Rattle.yp_push.specs.Ledgers.{outstanding, next_sending, IsUnanswered, Awaits}
 use Rattle.yp_push.specs.Settling.{Settles, ChangesNone}
 use Rattle.yp_push.specs.Kept.{Keeps}
 use Rattle.yp_push.proofs.Steps.{moved, step}

@@ -9,7 +9,8 @@ use Rattle.yp_push.specs.declared.event.Event.{Event}
 use Rattle.yp_push.specs.declared.outcome.Missed.{Missed}
 use Rattle.yp_push.specs.declared.outcome.Outcome.{Outcome}
 use Rattle.yp_push.specs.declared.outcome.Outcome.TheVariants.{Unsent, Unanswered, Missed as WasMissed, Answered}
-use Rattle.yp_push.specs.Results.{is_sending, is_quiet, answer_of, miss_of, is_sent, since_sending, first_of, outcome_of}
+use Rattle.yp_push.specs.Results.{is_sending, is_quiet, answer_of, miss_of}
+use Rattle.yp_push.specs.Results.{is_sent, since_sending, first_of, outcome_of}
 use Rattle.yp_push.specs.Results.{result_of}
 use Rattle.yp_push.specs.Ledgers.{asked_by, asked, is_passed_over}
 use Rattle.yp_push.proofs.Lists.{after_first-push, after_first-last, or_else, first_of-push}
@@ -27,7 +28,8 @@ after first slave event outcome =
 
 -- ---- a slave that was asked before
 
-pub sent_before : (slave : ℕ) (es : List Event) (e : Event) → is_sent slave es ≡ true → is_sent slave (es ++ e ∷ []) ≡ true
+pub sent_before : (slave : ℕ) (es : List Event) (e : Event) → is_sent slave es ≡ true
+    → is_sent slave (es ++ e ∷ []) ≡ true
 sent_before slave es e sent = list_any-append (is_sending slave) es (e ∷ []) ∙ rw sent refl
 
 since_before : (slave : ℕ) (es : List Event) (e : Event) → is_sent slave es ≡ true
@@ -80,7 +82,8 @@ now_asked : (first slave : ℕ) (es : List Event) → is_sent slave es ≡ true 
 unfolding result_of
 now_asked first slave es sent since = rw (sent, since) refl
 
-pub step_by : (first slave : ℕ) (es : List Event) (e : Event) (b : Bool) → is_sending slave e ≡ b → is_sent slave es ≡ false
+pub step_by : (first slave : ℕ) (es : List Event) (e : Event) (b : Bool) → is_sending slave e ≡ b
+    → is_sent slave es ≡ false
     → result_of first slave (es ++ e ∷ []) ≡ cond b Unanswered Unsent
 step_by first slave es e true sending sent =
     now_asked first slave (es ++ e ∷ []) (sent_now slave es e sent ∙ sending) (since_now slave es e sent sending)

@@ -7,7 +7,8 @@ use Rattle.yp_push.specs.declared.event.Event.TheVariants.{Sent, Failed, Refused
 use Rattle.yp_push.specs.declared.ledger.Sending.{Sending}
 use Rattle.yp_push.specs.declared.outcome.Outcome.{Outcome}
 use Rattle.yp_push.specs.declared.outcome.Outcome.TheVariants.{Unanswered}
-use Rattle.yp_push.specs.Results.{transid_of, is_quiet, since_sending, result_of, is_unanswered, awaits_call, is_settled}
+use Rattle.yp_push.specs.Results.{transid_of, is_quiet, since_sending}
+use Rattle.yp_push.specs.Results.{result_of, is_unanswered, awaits_call, is_settled}
 
 -- how many slaves there are at most
 abbrev pub slaves_max : ℕ

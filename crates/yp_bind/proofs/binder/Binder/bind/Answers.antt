@@ -14,6 +14,7 @@ invariant_of-self c =
     let kept = c.self.invariant in
     let standings = c.self.inside.standings.items in
     let within : c.args.binding.domain < length standings = omega (arith, binds.within, kept.count) in
-    let read = get_or_read standings c.args.binding.domain c.index_mut.result.now within c.index_mut.ensures.value fresh in
+    let read = get_or_read standings c.args.binding.domain c.index_mut.result.now within c.index_mut.ensures.value
+    fresh in
     rw (c.add.ensures, c.bind.ensures, read)
     (binds_one (bindings_of c.self.inside) standings _ _ _ c.args.binding c.args.event kept binds)

@@ -3,7 +3,8 @@ use Rattle.yp_push.specs.Ledgers.{next_sending}
 use Rattle.yp_push.proofs.Keeping.{sends}
 use Rattle.yp_push.proofs.Settling.{sends_none, sends_one}
 use Rattle.yp_push.proofs.ledger.Push.next_send.Goals as goal
-use Rattle.yp_push.proofs.ledger.Push.next_send.Goals.{then-self-len-via-then-self-len, then-self-len-via-else-self-len+then-self}
+use Rattle.yp_push.proofs.ledger.Push.next_send.Goals.{then-self-len-via-then-self-len}
+use Rattle.yp_push.proofs.ledger.Push.next_send.Goals.{then-self-len-via-else-self-len+then-self}
 
 pub returns-then-self-len-clause-sending : goal.returns-then-self-len-clause-sending
 returns-then-self-len-clause-sending c =
