@@ -297,17 +297,42 @@ fn innetgr_of(
 fn members_of_groups(rt: HostRuntime) {
     let alloc = rt.alloc();
     let cases: [(&str, &str, Fixed, bool); 6] = [
-        ("a user", GROUPS_REPLY, innetgr_of(b"a", None, Some(b"joe")), true),
+        (
+            "a user",
+            GROUPS_REPLY,
+            innetgr_of(b"a", None, Some(b"joe")),
+            true,
+        ),
         (
             "a dash for the host",
             GROUPS_REPLY,
             innetgr_of(b"a", Some(b"h1"), Some(b"joe")),
             false,
         ),
-        ("no such group", GROUPS_REPLY, innetgr_of(b"c", None, None), false),
-        ("a user in capitals", GROUPS_REPLY, innetgr_of(b"a", None, Some(b"Joe")), false),
-        ("the first of equal keys", REPEATED_REPLY, innetgr_of(b"a", Some(b"H1"), None), true),
-        ("the second", REPEATED_REPLY, innetgr_of(b"a", Some(b"h2"), None), false),
+        (
+            "no such group",
+            GROUPS_REPLY,
+            innetgr_of(b"c", None, None),
+            false,
+        ),
+        (
+            "a user in capitals",
+            GROUPS_REPLY,
+            innetgr_of(b"a", None, Some(b"Joe")),
+            false,
+        ),
+        (
+            "the first of equal keys",
+            REPEATED_REPLY,
+            innetgr_of(b"a", Some(b"H1"), None),
+            true,
+        ),
+        (
+            "the second",
+            REPEATED_REPLY,
+            innetgr_of(b"a", Some(b"h2"), None),
+            false,
+        ),
     ];
     for (row, input, question, is_member) in &cases {
         let input = bytes(&rt, alloc, &[*input]);

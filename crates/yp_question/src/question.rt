@@ -11,17 +11,35 @@ use yp_msgs::protocol::{KEY_MAX, NAME_MAX};
 #[derive(Clone, Copy, Debug, Drop)]
 pub enum Question<T> {
     /// ALL: the values of all rows, a line each, in rising order of their keys.
-    Cat { domain: T, map: T },
+    Cat {
+        domain: T,
+        map: T,
+    },
     /// ALL: the keys and values of all rows, with a space between, a line each, in rising order of the keys.
-    Catk { domain: T, map: T },
+    Catk {
+        domain: T,
+        map: T,
+    },
     /// MATCH: the value of a key.
-    Match { domain: T, map: T, key: T },
+    Match {
+        domain: T,
+        map: T,
+        key: T,
+    },
     /// MASTER: the name of the master of a map.
-    Which { domain: T, map: T },
+    Which {
+        domain: T,
+        map: T,
+    },
     /// ORDER and MASTER: `order N`, and then `master NAME`, a line each.
-    Poll { domain: T, map: T },
+    Poll {
+        domain: T,
+        map: T,
+    },
     /// MAPLIST: the names of the maps, a line each, in the order of the reply.
-    Maps { domain: T },
+    Maps {
+        domain: T,
+    },
     /// ALL of the map `netgroup`: `yes` or `no`, whether a host, a user and a domain are a member of a group. What
     /// isn't given may be any.
     Innetgr {

@@ -524,19 +524,15 @@ fn lent(given: &Option<Vec<u8>>) -> Option<&[u8]> {
 fn membership(command: &Command) -> Option<Membership<'_>> {
     match command {
         Command::Ask {
-            question:
-                Question::Innetgr {
-                    domain,
-                    group,
-                    host,
-                    user,
-                    user_domain,
-                },
+            question: Question::Innetgr {
+                domain,
+                group,
+                host,
+                user,
+                user_domain,
+            },
             ..
-        } => Some((
-            [domain, group],
-            [lent(host), lent(user), lent(user_domain)],
-        )),
+        } => Some(([domain, group], [lent(host), lent(user), lent(user_domain)])),
         _ => None,
     }
 }
@@ -552,7 +548,15 @@ const MEMBERSHIPS: [(&[&str], Membership); 3] = [
         ([b"lab", b""], [Some(b"h1"), None, Some(b"")]),
     ),
     (
-        &["innetgr", "127.0.0.1:700", LONGEST, "*", "**", "-", TOO_LONG],
+        &[
+            "innetgr",
+            "127.0.0.1:700",
+            LONGEST,
+            "*",
+            "**",
+            "-",
+            TOO_LONG,
+        ],
         (
             [LONGEST_BYTES, b"*"],
             [Some(b"**"), Some(b"-"), Some(TOO_LONG_BYTES)],

@@ -6,7 +6,7 @@ use Rattle.yp_words.specs.Words.{Once, Session, Check, Build, Xfr, Sample, Ask, 
 use Rattle.yp_office.specs.Seeing.{Seeing, seeing}
 use Rattle.yp_tools.specs.Commands.{CommandDoes, may_end}
 use Rattle.yp_tools.proofs.Dispatch.{same_does, same_passed, same_end}
-use Rattle.yp_tools.proofs.program.obey.Goals.{in-Once, in-Sample, in-Check, in-Build, in-Xfr, in-Ask+in-Cat-1, in-Ask+in-Catk-1, in-Ask+in-Match-1, in-Ask+in-Which-1, in-Ask+in-Poll-1, in-Ask+in-Maps-1, in-Ask+in-Innetgr-1}
+use Rattle.yp_tools.proofs.program.obey.Goals.{in-Once, in-Sample, in-Check, in-Build, in-Xfr, in-Ask+in-Cat-1, in-Ask+in-Catk-1, in-Ask+in-Match-1, in-Ask+in-Which-1, in-Ask+in-Poll-1, in-Ask+in-Maps-1, in-Ask+in-Innetgr+in-None-1, in-Ask+in-Innetgr+in-Some-1}
 use Rattle.yp_tools.proofs.program.obey.Goals as goal
 
 pub returns-in-Session-clause-does : goal.returns-in-Session-clause-does
@@ -64,7 +64,10 @@ returns-clause-does g c =
       | in-Ask+in-Maps-1 w ↦
           by (Ask w.in-Ask.addr (bytes_of w.in-Ask.question)) c.match-command.status w.ask-status.result c.match-command.office w.ask-status.new.office (wires c.match-command.witness) (wires c.args.witness.now)
           (ap meaning w.in-Ask.is) w.status-is w.office-is (ap wires w.witness-is) (w.ask-status.ensures.does, refl)
-      | in-Ask+in-Innetgr-1 w ↦
+      | in-Ask+in-Innetgr+in-None-1 w ↦
+          by (Ask w.in-Ask.addr (bytes_of w.in-Ask.question)) c.match-command.status w.ask-status.result c.match-command.office w.ask-status.new.office (wires c.match-command.witness) (wires c.args.witness.now)
+          (ap meaning w.in-Ask.is) w.status-is w.office-is (ap wires w.witness-is) (w.ask-status.ensures.does, refl)
+      | in-Ask+in-Innetgr+in-Some-1 w ↦
           by (Ask w.in-Ask.addr (bytes_of w.in-Ask.question)) c.match-command.status w.ask-status.result c.match-command.office w.ask-status.new.office (wires c.match-command.witness) (wires c.args.witness.now)
           (ap meaning w.in-Ask.is) w.status-is w.office-is (ap wires w.witness-is) (w.ask-status.ensures.does, refl)
     ]
@@ -84,7 +87,8 @@ returns-clause-may_end g c =
       | in-Ask+in-Which-1 w ↦ same_end (meaning c.args.command) (Ask w.in-Ask.addr (bytes_of w.in-Ask.question)) c.match-command.status w.ask-status.result (ap meaning w.in-Ask.is) w.status-is w.ask-status.ensures.may_end
       | in-Ask+in-Poll-1 w ↦ same_end (meaning c.args.command) (Ask w.in-Ask.addr (bytes_of w.in-Ask.question)) c.match-command.status w.ask-status.result (ap meaning w.in-Ask.is) w.status-is w.ask-status.ensures.may_end
       | in-Ask+in-Maps-1 w ↦ same_end (meaning c.args.command) (Ask w.in-Ask.addr (bytes_of w.in-Ask.question)) c.match-command.status w.ask-status.result (ap meaning w.in-Ask.is) w.status-is w.ask-status.ensures.may_end
-      | in-Ask+in-Innetgr-1 w ↦ same_end (meaning c.args.command) (Ask w.in-Ask.addr (bytes_of w.in-Ask.question)) c.match-command.status w.ask-status.result (ap meaning w.in-Ask.is) w.status-is w.ask-status.ensures.may_end
+      | in-Ask+in-Innetgr+in-None-1 w ↦ same_end (meaning c.args.command) (Ask w.in-Ask.addr (bytes_of w.in-Ask.question)) c.match-command.status w.ask-status.result (ap meaning w.in-Ask.is) w.status-is w.ask-status.ensures.may_end
+      | in-Ask+in-Innetgr+in-Some-1 w ↦ same_end (meaning c.args.command) (Ask w.in-Ask.addr (bytes_of w.in-Ask.question)) c.match-command.status w.ask-status.result (ap meaning w.in-Ask.is) w.status-is w.ask-status.ensures.may_end
     ]
 
 pub returns-clause-passed_on : goal.returns-clause-passed_on
@@ -102,5 +106,6 @@ returns-clause-passed_on g c =
       | in-Ask+in-Which-1 w ↦ by c.match-command.status w.ask-status.result c.match-command.office w.ask-status.new.office w.status-is w.office-is w.ask-status.ensures.passed_on
       | in-Ask+in-Poll-1 w ↦ by c.match-command.status w.ask-status.result c.match-command.office w.ask-status.new.office w.status-is w.office-is w.ask-status.ensures.passed_on
       | in-Ask+in-Maps-1 w ↦ by c.match-command.status w.ask-status.result c.match-command.office w.ask-status.new.office w.status-is w.office-is w.ask-status.ensures.passed_on
-      | in-Ask+in-Innetgr-1 w ↦ by c.match-command.status w.ask-status.result c.match-command.office w.ask-status.new.office w.status-is w.office-is w.ask-status.ensures.passed_on
+      | in-Ask+in-Innetgr+in-None-1 w ↦ by c.match-command.status w.ask-status.result c.match-command.office w.ask-status.new.office w.status-is w.office-is w.ask-status.ensures.passed_on
+      | in-Ask+in-Innetgr+in-Some-1 w ↦ by c.match-command.status w.ask-status.result c.match-command.office w.ask-status.new.office w.status-is w.office-is w.ask-status.ensures.passed_on
     ]
