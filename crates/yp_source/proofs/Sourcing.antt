@@ -109,10 +109,13 @@ module _ (laws : Replied) (peer : Peer) where
       λ maps served. laws.master maps peer 2 domain served (omega arith) d map m in
       let all : IsRepliedTo peer (all_call domain map 3) =
       λ maps served. laws.all maps peer 3 domain served (omega arith) d map m in
-      All-cons (IsRepliedTo peer) (order_call domain map 1) _ (order 1 (omega arith))
-      (All-cons (IsRepliedTo peer) (master_call domain map 2) _ master
-      (All-cons (IsRepliedTo peer) (all_call domain map 3) _ all
-      (All-cons (IsRepliedTo peer) (order_call domain map 4) _ (order 4 (omega arith)) (All-nil (IsRepliedTo peer)))))
+      let fourth = order_call domain map 4 ∷ [] in
+      let third = all_call domain map 3 ∷ fourth in
+      let second = master_call domain map 2 ∷ third in
+      All-cons (IsRepliedTo peer) (order_call domain map 1) second (order 1 (omega arith))
+      (All-cons (IsRepliedTo peer) (master_call domain map 2) third master
+      (All-cons (IsRepliedTo peer) (all_call domain map 3) fourth all
+      (All-cons (IsRepliedTo peer) (order_call domain map 4) [] (order 4 (omega arith)) (All-nil (IsRepliedTo peer)))))
 
 pub run_is_fetched : Replied → RunIsInTurn → TurnsGiveFetch → FetchedIsShown → WireIsFetched → RunIsFetched
 run_is_fetched replied in_turn turns_give shown by_wire catalogue server caller hosts name wanted turns rest before after

@@ -1,5 +1,5 @@
 -- What `xfr` does, and what its source showed.
-use Rattle.std.specs.Prelude.{◌≡◌, ◌⊎◌, ℕ, List, ◌++◌, Some, None, Ok, IsTrue}
+use Rattle.std.specs.Prelude.{◌≡◌, ◌⊎◌, ℕ, List, ◌++◌, Option, Some, None, Ok, IsTrue}
 use Rattle.yp_io.specs.declared.stream.Peer.{Peer}
 use Rattle.yp_io.specs.Disk.{History, MayLeave}
 use Rattle.yp_version.specs.Versions.{MapVersion}
