@@ -10,7 +10,7 @@ use Rattle.std.proofs.lemmas.List.Elements.{recursion_from_All}
 use Rattle.std.proofs.lemmas.List.Sums.{sum_by-cons}
 use Rattle.yp_xdr.specs.Kind.{Kind, U32, Opaque, Value}
 use Rattle.yp_xdr.specs.Spelling.{word, padding, padding_len, opaque, fixed, spelling, Fits}
-use Rattle.yp_xdr.specs.Reading.{Unread, BeginsWith}
+use Rattle.yp_xdr.specs.Reading.{Unread}
 use Rattle.yp_xdr.specs.Laws.{WrittenIsReadAgain}
 use Rattle.yp_version.specs.Limits.{key_max, value_max, master_max, rows_max, body_max}
 use Rattle.yp_version.specs.Rows.{Row, IsRising, padded, row_len, rows_len}

@@ -18,7 +18,7 @@ use Rattle.yp_version.specs.Limits.{key_max, value_max, master_max, rows_max, bo
 use Rattle.yp_version.specs.Rows.{Row, key_cmp, IsRising}
 use Rattle.yp_version.specs.Versions.{MapVersion, body_len}
 use Rattle.yp_slot.specs.declared.wrong.Wrong.{Wrong}
-use Rattle.yp_version.specs.Bodies.{format, row_bytes, front_bytes, head_bytes, body, IsBody}
+use Rattle.yp_version.specs.Bodies.{format, row_bytes, front_bytes, body, IsBody}
 use Rattle.yp_slot.specs.Bodies.{◌>>=◌, by_xdr, item, guard, Head, head_at}
 use Rattle.yp_slot.specs.Bodies.{is_over, row_at, rows_at, body_at}
 use Rattle.yp_slot.proofs.Again.{length-body}

@@ -1,4 +1,4 @@
-use Rattle.std.proofs.Common.{◌≡◌, ◌+◌, ℕ, List, [], length, Ok, None, ap, ◌∙◌, sym, arith}
+use Rattle.std.proofs.Common.{◌≡◌, ◌+◌, ℕ, List, length, Ok, None, ap, ◌∙◌, sym, arith}
 use Rattle.yp_xdr.specs.Cursor.{unread}
 use Rattle.yp_xdr.specs.Reading.{Unread}
 use Rattle.yp_version.specs.Drafts.{Draft}
