@@ -23,7 +23,10 @@ use std::alloc::Global;
 use std::random::RandomSource;
 use yp_board::{Catalog, MapName, PlainBoard};
 use yp_build::{AfterFault, BuildFault, Kind, build_after};
-use yp_io::{Clock, Dial, Disk, Failed, Inbox, NoMemory, Sink, Source, TEXT_MAX, Texts, Unread, read_all, write_through};
+use yp_io::{
+    Clock, Dial, Disk, Failed, Inbox, NoMemory, Sink, Source, TEXT_MAX, Texts, Unread, read_all,
+    write_through,
+};
 use yp_office::{
     Apart, BYTES_RULE, KEY_RULE, Line, NamedDisk, Office, ROWS_RULE, Status, VALUE_RULE, add,
     add_map, add_number, put_together, take_apart,

@@ -9,4 +9,6 @@ mod program;
 
 pub use program::{Outside, run, run_command, run_watched, tell};
 pub use yp_office::{NamedDisk, Status, named_disks};
-pub use yp_words::{Command, HostWord, KeyValue, ParseFault, disk_names, parse, port_of, stores_of};
+pub use yp_words::{
+    Command, HostWord, KeyValue, ParseFault, disk_names, parse, port_of, stores_of,
+};

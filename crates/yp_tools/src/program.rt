@@ -93,7 +93,16 @@ pub fn tell<K: Sink>(notes: &mut K, status: &Status)
 
 /// Does all that a command asks for, on the outside that it hands back, and writes a note of how it ended. The witness
 /// sees the wire behind each record that was answered.
-pub fn run_command<S: Source, K: Sink, D: Disk, C: Clock, A: Dial, I: Inbox, T: Texts, W: Witness<S, K>>(
+pub fn run_command<
+    S: Source,
+    K: Sink,
+    D: Disk,
+    C: Clock,
+    A: Dial,
+    I: Inbox,
+    T: Texts,
+    W: Witness<S, K>,
+>(
     alloc: Global,
     rt: &impl RandomSource,
     command: Command,
@@ -150,7 +159,16 @@ pub fn run_command<S: Source, K: Sink, D: Disk, C: Clock, A: Dial, I: Inbox, T: 
 }
 
 /// Does all that the words ask for, as [`run`] does. The witness sees the wire behind each record that was answered.
-pub fn run_watched<S: Source, K: Sink, D: Disk, C: Clock, A: Dial, I: Inbox, T: Texts, W: Witness<S, K>>(
+pub fn run_watched<
+    S: Source,
+    K: Sink,
+    D: Disk,
+    C: Clock,
+    A: Dial,
+    I: Inbox,
+    T: Texts,
+    W: Witness<S, K>,
+>(
     alloc: Global,
     rt: &impl RandomSource,
     words: &[String],

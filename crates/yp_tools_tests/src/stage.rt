@@ -10,12 +10,20 @@ use std::alloc::{AllocError, Global};
 use std::process::Abort;
 use std::random::RandomSource;
 use yp_board::MapName;
-use yp_mem::MemInbox;
 use yp_io::{MemDial, MemDisk, MemSink, MemSource, MemTexts, MemWire, Pair, SetClock, TextFile};
+use yp_mem::MemInbox;
 use yp_tools::{NamedDisk, Outside, Status, disk_names, named_disks, run};
 
 /// The outside in memory.
-pub(crate) type Memory = Outside<MemSource, MemSink, MemDisk, SetClock, MemDial, MemInbox, MemTexts>;
+pub(crate) type Memory = Outside<
+    MemSource,
+    MemSink,
+    MemDisk,
+    SetClock,
+    MemDial,
+    MemInbox,
+    MemTexts,
+>;
 
 /// What a run finds outside. Calls that fail are told by their numbers, from 0.
 #[derive(Clone, Copy)]

@@ -10,6 +10,7 @@ pub const NO_ANSWER: u8 = 0;
 
 /// Sends `ask` to a peer before the first turn and after each quiet one, and is done where an answer came, to which it
 /// replies `ok`.
+#[derive(Drop)]
 pub struct Asker {
     pub peer: Peer,
     pub is_due: bool,
