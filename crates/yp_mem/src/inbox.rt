@@ -161,9 +161,15 @@ impl Inbox for MemInbox {
         match brought(&self.mail, at) {
             Some(letter) => {
                 let arrived = Snapshot::of(letter);
-                self.past = Past::Brought { before, letter: arrived };
+                self.past = Past::Brought {
+                    before,
+                    letter: arrived,
+                };
                 let len = fill(buf, &letter.bytes);
-                Ok(Mail::Came { len, from: letter.peer })
+                Ok(Mail::Came {
+                    len,
+                    from: letter.peer,
+                })
             }
             None => {
                 self.past = Past::Passed { before };
@@ -200,7 +206,10 @@ impl Inbox for MemInbox {
             return Err(count_fault(&mut self.plan.faults));
         }
         let before = Snapshot::of(&self.past);
-        self.past = Past::Answered { before, letter: sent };
+        self.past = Past::Answered {
+            before,
+            letter: sent,
+        };
         Ok(())
     }
 }

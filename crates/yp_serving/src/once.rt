@@ -175,7 +175,16 @@ fn serve<S: Source, K: Sink, W: Witness<S, K>>(
 }
 
 /// Answers the calls of the wire on one map of these rows. The witness sees the wire behind each that was answered.
-pub fn serve_once<S: Source, K: Sink, D: Disk, C: Clock, A: Dial, I: Inbox, T: Texts, W: Witness<S, K>>(
+pub fn serve_once<
+    S: Source,
+    K: Sink,
+    D: Disk,
+    C: Clock,
+    A: Dial,
+    I: Inbox,
+    T: Texts,
+    W: Witness<S, K>,
+>(
     alloc: Global,
     rt: &impl RandomSource,
     store: MapName,

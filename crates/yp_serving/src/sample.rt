@@ -22,7 +22,9 @@ use std::sync::Arc;
 use yp_answer::RECORD_MAX;
 use yp_board::{MapName, PlainBoard};
 use yp_build::BuildFault;
-use yp_io::{Clock, Dial, Disk, Failed, Inbox, NoMemory, Sink, Source, Texts, write_through, zeros};
+use yp_io::{
+    Clock, Dial, Disk, Failed, Inbox, NoMemory, Sink, Source, Texts, write_through, zeros,
+};
 use yp_office::{Office, ROWS_RULE, Status};
 use yp_version::Version;
 

@@ -134,7 +134,16 @@ fn table_of(alloc: Global, words: Vec<HostWord>) -> Result<Hosts, NoMemory>
 
 /// Serves the input as one connection over the stored versions of these maps, by the host `own`, to a caller at `peer`.
 /// The witness sees the wire behind each record that was answered.
-fn session_over<S: Source, K: Sink, D: Disk, C: Clock, A: Dial, I: Inbox, T: Texts, W: Witness<S, K>>(
+fn session_over<
+    S: Source,
+    K: Sink,
+    D: Disk,
+    C: Clock,
+    A: Dial,
+    I: Inbox,
+    T: Texts,
+    W: Witness<S, K>,
+>(
     alloc: Global,
     rt: &impl RandomSource,
     own: Vec<u8>,
@@ -194,7 +203,16 @@ fn session_over<S: Source, K: Sink, D: Disk, C: Clock, A: Dial, I: Inbox, T: Tex
 }
 
 /// The same with the hosts that words name, from which maps are fetched.
-pub fn serve_session<S: Source, K: Sink, D: Disk, C: Clock, A: Dial, I: Inbox, T: Texts, W: Witness<S, K>>(
+pub fn serve_session<
+    S: Source,
+    K: Sink,
+    D: Disk,
+    C: Clock,
+    A: Dial,
+    I: Inbox,
+    T: Texts,
+    W: Witness<S, K>,
+>(
     alloc: Global,
     rt: &impl RandomSource,
     own: Vec<u8>,

@@ -65,7 +65,10 @@ fn receive(socket: &UdpSocket, buf: &mut [u8]) -> io::Result<Mail>
 {
     for _ in 0..u64::MAX {
         match socket.recv_from(buf) {
-            Ok((len, SocketAddr::V4(from))) => return Ok(Mail::Came { len, from: peer_of(&from) }),
+            Ok((len, SocketAddr::V4(from))) => return Ok(Mail::Came {
+                len,
+                from: peer_of(&from),
+            }),
             Ok((_, SocketAddr::V6(_))) => {}
             Err(error) if error.kind() == ErrorKind::Interrupted => {}
             Err(error) if error.kind() == ErrorKind::WouldBlock => return Ok(Mail::Quiet),

@@ -9,12 +9,14 @@ pub returns-in-Some-clause-turn : goal.returns-in-Some-clause-turn
 returns-in-Some-clause-turn c =
     let letter = c.in-Some.letter.now in
     let holds : HoldsFront letter.bytes.items c.fill-len.result c.fill-len.new.buf =
-        subst (λ (l : List ℕ). HoldsFront l c.fill-len.result c.fill-len.new.buf) c.deref-in-Some.ensures.value c.fill-len.ensures in
+    subst (λ (l : List ℕ). HoldsFront l c.fill-len.result c.fill-len.new.buf) c.deref-in-Some.ensures.value c.fill-len.ensures in
     let post = Arrived letter.peer letter.bytes.items in
-    let before : posts_of c.of-before.result.value ≡ c.args.self.now.past = search rules in
-    (post, (refl, holds),
-    ap (λ (l : Letter). posts_of c.of-before.result.value ++ Arrived l.peer l.bytes.items ∷ []) c.of-arrived.ensures
-    ∙ ap (λ (posts : List Post). posts ++ post ∷ []) before)
+    let before : posts_of c.of-before.result.value ≡ c.args.self.now.past = search rules in (
+      post,
+      (refl, holds),
+      ap (λ (l : Letter). posts_of c.of-before.result.value ++ Arrived l.peer l.bytes.items ∷ []) c.of-arrived.ensures
+          ∙ ap (λ (posts : List Post). posts ++ post ∷ []) before,
+    )
 
 pub returns-in-Some-clause-waiting : goal.returns-in-Some-clause-waiting
 returns-in-Some-clause-waiting c =
