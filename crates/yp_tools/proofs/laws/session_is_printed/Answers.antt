@@ -9,7 +9,7 @@ use Rattle.yp_tools.proofs.laws.session_is_printed.Goals as goal
 pub returns-clause-session : goal.returns-clause-session
 returns-clause-session g c = λ catalogue peer.
     session_printed (service_of (keeping_of g.D.Disk.history g.D.Disk.faults plain_log) (telling_of g.T.Texts g.C.Clock g.A.Dial.past g.A.Dial.letters g.A.Dial.faults) catalogue peer)
-    (seeing g.S.Source g.K.Sink g.D.Disk g.C.Clock g.A.Dial g.T.Texts)
+    (seeing g.S.Source g.K.Sink g.D.Disk g.C.Clock g.A.Dial g.I.Inbox g.T.Texts)
 
 pub returns-clause-once : goal.returns-clause-once
-returns-clause-once g c = once_printed (seeing g.S.Source g.K.Sink g.D.Disk g.C.Clock g.A.Dial g.T.Texts)
+returns-clause-once g c = once_printed (seeing g.S.Source g.K.Sink g.D.Disk g.C.Clock g.A.Dial g.I.Inbox g.T.Texts)
