@@ -293,6 +293,15 @@ fn innetgr_of(
     }
 }
 
+/// What comes of such a question, and what is printed.
+fn told_of(is_member: bool) -> (Result<(), QueryFault>, &'static [u8]) {
+    if is_member {
+        (Ok(()), b"yes\n")
+    } else {
+        (Err(QueryFault::NotMember), b"no\n")
+    }
+}
+
 #[test]
 fn members_of_groups(rt: HostRuntime) {
     let alloc = rt.alloc();
@@ -337,11 +346,7 @@ fn members_of_groups(rt: HostRuntime) {
     for (row, input, question, is_member) in &cases {
         let input = bytes(&rt, alloc, &[*input]);
         let calls = bytes(&rt, alloc, &[GROUPS_CALL]);
-        let (result, line): (Result<(), QueryFault>, &[u8]) = if *is_member {
-            (Ok(()), b"yes\n")
-        } else {
-            (Err(QueryFault::NotMember), b"no\n")
-        };
+        let (result, line) = told_of(*is_member);
         let wanted = (result, 1, calls, text(&rt, alloc, line));
         let asked = ask(&rt, alloc, question, input, 4, FAIR);
         assert_same(&rt, &asked, &wanted, *row);
