@@ -7,6 +7,7 @@ use std::alloc::Global;
 use std::process::Abort;
 use std::random::RandomSource;
 use yp_io::{MemDial, MemDisk, MemSink, MemSource, MemTexts, SetClock};
+use yp_mem::MemInbox;
 use yp_tools::laws;
 
 const MATCH: [&str; 5] = ["match", "10.0.0.1:834", "lab", "hosts.byname", "alpha"];
@@ -197,7 +198,15 @@ fn served<R: RandomSource + Abort>(rt: &R, alloc: Global, calls: &[&str]) -> Vec
 
 #[test]
 fn answers_of_a_server(rt: HostRuntime) {
-    laws::session_is_printed::<MemSource, MemSink, MemDisk, SetClock, MemDial, MemTexts>();
+    laws::session_is_printed::<
+        MemSource,
+        MemSink,
+        MemDisk,
+        SetClock,
+        MemDial,
+        MemInbox,
+        MemTexts,
+    >();
     let alloc = rt.alloc();
     for answer in &ANSWERS {
         let replies = served(&rt, alloc, answer.calls);
