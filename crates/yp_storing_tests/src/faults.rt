@@ -102,13 +102,13 @@ fn wire_and_output_fail(rt: HostRuntime) {
 }
 
 /// A read or a write of the wire fails: there is no transfer.
-fn try_wire<R: RandomSource + Abort>(
+fn try_wire<'a, R: RandomSource + Abort>(
     rt: &R,
     alloc: Global,
     words: &[String],
-    wire: &[u8],
-    reads: &[u64],
-    writes: &[u64],
+    wire: &'a [u8],
+    reads: &'a [u64],
+    writes: &'a [u64],
 ) {
     let scene = Scene {
         wire,
@@ -216,23 +216,38 @@ fn try_disk<R: RandomSource + Abort>(
     try_crashes(rt, alloc, &outside.disks, call, allowed);
 }
 
+/// A call of the disk fails in each way: from it on, and then it alone.
+fn try_call<'a, R: RandomSource + Abort>(
+    rt: &R,
+    alloc: Global,
+    words: &[String],
+    site: &Site,
+    call: u64,
+    alone: &'a [u64],
+    file: &'a [u8],
+    wire: &'a [u8],
+) {
+    let from = Scene {
+        file,
+        wire,
+        stop: Some(call),
+        ..FAIR
+    };
+    try_disk(rt, alloc, words, site, call, &from);
+    let only = Scene {
+        file,
+        wire,
+        disk: alone,
+        ..FAIR
+    };
+    try_disk(rt, alloc, words, site, call, &only);
+}
+
 fn try_site<R: RandomSource + Abort>(rt: &R, alloc: Global, words: &[String], site: &Site) {
     let file = bytes(rt, alloc, site.file);
     let wire = bytes(rt, alloc, REPLIES);
     for call in 0..=site.last {
-        let from = Scene {
-            file: &file,
-            wire: &wire,
-            stop: Some(call),
-            ..FAIR
-        };
-        let only = Scene {
-            stop: None,
-            disk: &[call],
-            ..from
-        };
-        try_disk(rt, alloc, words, site, call, &from);
-        try_disk(rt, alloc, words, site, call, &only);
+        try_call(rt, alloc, words, site, call, &[call], &file, &wire);
     }
 }
 

@@ -203,16 +203,17 @@ const CASES: [Case; 11] = [
     },
 ];
 
-fn try_case<R: RandomSource + Abort>(rt: &R, alloc: Global, case: &Case) {
+/// Compares what is told over a file and a wire, and the file that is left.
+fn try_scene<'a, R: RandomSource + Abort>(
+    rt: &R,
+    alloc: Global,
+    case: &Case,
+    file: &'a [u8],
+    wire: &'a [u8],
+    left: &[u8],
+) {
     let words = strings(rt, alloc, case.words);
-    let file = bytes(rt, alloc, case.file);
-    let wire = bytes(rt, alloc, case.replies);
-    let left = bytes(rt, alloc, case.left);
-    let scene = Scene {
-        file: &file,
-        wire: &wire,
-        ..FAIR
-    };
+    let scene = Scene { file, wire, ..FAIR };
     let (status, outside) = play(rt, alloc, &words, &scene);
     let came = (told_of(&status, &outside), file_of(&outside.disks));
     let told = (
@@ -221,7 +222,14 @@ fn try_case<R: RandomSource + Abort>(rt: &R, alloc: Global, case: &Case) {
         case.note.as_bytes(),
         case.calls * CALL_LEN,
     );
-    assert_same(rt, &came, &(told, left.as_slice()), case.row);
+    assert_same(rt, &came, &(told, left), case.row);
+}
+
+fn try_case<R: RandomSource + Abort>(rt: &R, alloc: Global, case: &Case) {
+    let file = bytes(rt, alloc, case.file);
+    let wire = bytes(rt, alloc, case.replies);
+    let left = bytes(rt, alloc, case.left);
+    try_scene(rt, alloc, case, &file, &wire, &left);
 }
 
 #[test]
