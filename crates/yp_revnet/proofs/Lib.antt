@@ -1,0 +1,8 @@
+mod Dots
+mod Fitting
+mod Linking
+mod Looking
+mod Meeting
+mod Pieces
+mod Leading
+pub mod Joining

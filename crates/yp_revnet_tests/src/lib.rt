@@ -1,0 +1,7 @@
+//! Tests of `yp_revnet`.
+#![tactic(auto)]
+
+#[cfg(test)]
+mod given;
+#[cfg(test)]
+mod reversed;
