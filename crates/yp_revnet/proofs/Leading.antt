@@ -156,7 +156,7 @@ module _ (rows : List Row) (rising : IsRising rows) where
       absurd (contains-none name (subst (λ members. Contains (filter_map pick members) name) no_parts h))
   value_links pick name group (Some text) e h = links_there pick rows name group text (row_of rows group text e).row h
 
-  names_link : (pick : Part → Option Name) (name group : Name) → Contains (filter_map pick (members_of rows group)) name
+  pub names_link : (pick : Part → Option Name) (name group : Name) → Contains (filter_map pick (members_of rows group)) name
       → Contains (sources name (flat_map (links_of pick) rows)) group
   names_link pick name group h = value_links pick name group (value_of group rows) refl h
 

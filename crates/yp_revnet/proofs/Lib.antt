@@ -6,3 +6,5 @@ mod Meeting
 mod Pieces
 mod Leading
 pub mod Joining
+mod Drafting
+mod Keyed

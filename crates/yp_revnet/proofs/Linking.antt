@@ -89,7 +89,7 @@ put_under other entries name group first empty groups pushed before was is none 
 pub sources-append : (name : List ℕ) (links more : List Link) → sources name (links ++ more) ≡ sources name links ++ sources name more
 sources-append name links more = flat_map-append (source name) links more
 
-drop_none : {X : Type 0} (xs : List X) → drop 0 xs ≡ xs
+pub drop_none : {X : Type 0} (xs : List X) → drop 0 xs ≡ xs
 drop_none [] = refl
 drop_none (x ∷ xs) = refl
 

@@ -1,5 +1,5 @@
 -- The rows of a reverse map while they are put one behind the other, and the first that a builder refuses.
-use Rattle.std.specs.Prelude.{◌≡◌, ◌⊎◌, ⊤, ⊥, ℕ, ◌+◌, All, Contains, List, [], ◌∷◌, ◌++◌, length, Some, None}
+use Rattle.std.specs.Prelude.{◌≡◌, ◌⊎◌, ⊤, ℕ, ◌+◌, All, Contains, List, [], ◌∷◌, ◌++◌, length, Some, None}
 use Rattle.std.specs.Map.{keys_of}
 use Rattle.std.specs.declared.cmp.Ordering.TheVariants.{Less}
 use Rattle.yp_version.specs.Rows.{Row, IsRising, key_cmp}
@@ -74,6 +74,7 @@ pub record IsRefusal (rows : List Row) (field : Field) (key : List ℕ) (draft :
 
 -- the rows of these keys are put, one behind the other
 pub record IsSoFar (rows : List Row) (field : Field) (start draft : Draft) (keys : List (List ℕ)) : Type 0 where
+  pub head : (draft.order ≡ start.order) × (draft.master ≡ start.master)
   pub same : draft ≡ with_rows start draft.rows
   pub taken : first_refused start draft.rows ≡ None
   pub rising : IsRising draft.rows
