@@ -1,10 +1,10 @@
 -- Keys and values taken apart again.
-use Rattle.std.proofs.Common.{◌≡◌, ℕ, suc, zero, ◌+◌, ◌<◌, Bool, true, false, cond, not, ◌||◌, ◌&&◌, List, [], ◌∷◌, ◌++◌, length}
-use Rattle.std.proofs.Common.{map, get_or, Contains, refl, sym, ap, ◌∙◌, subst, arith, true≢false, inl, inr, ◌⊎◌, bytes_eq}
-use Rattle.std.specs.Prelude.{All, IsTrue, ◌==◌, nat_lt, codes}
+use Rattle.std.proofs.Common.{◌≡◌, ℕ, suc, ◌<◌, Bool, true, false, not, ◌||◌, ◌&&◌, List, [], ◌∷◌, length}
+use Rattle.std.proofs.Common.{get_or, Contains, refl, sym, ap, ◌∙◌, arith, true≢false, inl, inr, ◌⊎◌, bytes_eq}
+use Rattle.std.specs.Prelude.{All, ◌==◌, codes}
 use Rattle.std.specs.Char.{to_ascii_lowercase}
 use Rattle.std.specs.Str.{str_to_ascii_lowercase}
-use Rattle.std.specs.List.{list_any, list_all, join_with_byte, slice_split}
+use Rattle.std.specs.List.{list_all, join_with_byte, slice_split}
 use Rattle.std.specs.Cmp.Lexicographic.{bytes_decides}
 use Rattle.std.proofs.lemmas.Bool.Decides.{nat_tests}
 use Rattle.std.proofs.lemmas.List.Sums.{AllPass-from_list_all}

@@ -1,9 +1,9 @@
 -- The rows of a reverse map are put one behind the other.
-use Rattle.std.proofs.Common.{◌≡◌, ℕ, suc, ◌+◌, ◌<◌, Bool, true, false, cond, List, [], ◌∷◌, ◌++◌, map, take, drop, length, get_or}
-use Rattle.std.proofs.Common.{Option, Some, None, Contains, refl, sym, ap, ◌∙◌, subst, inl, inr, ◌⊎◌, true≢false, arith, bytes_eq, Less}
+use Rattle.std.proofs.Common.{◌≡◌, ℕ, suc, ◌+◌, ◌<◌, cond, List, [], ◌∷◌, ◌++◌, take, drop, length, get_or}
+use Rattle.std.proofs.Common.{Option, Some, None, Contains, refl, sym, ap, ◌∙◌, subst, inl, inr, ◌⊎◌, true≢false, bytes_eq, Less}
 use Rattle.std.proofs.Common.{add-one, take-suc, take_all, drop-cons, is_eq, ◌≤◌}
-use Rattle.std.specs.Prelude.{⊤, All, is_some}
-use Rattle.std.specs.List.{AllByRecursion, fold}
+use Rattle.std.specs.Prelude.{All, is_some}
+use Rattle.std.specs.List.{AllByRecursion}
 use Rattle.std.specs.List.Sorted.{IsStrictlySortedBy}
 use Rattle.std.specs.Map.{keys_of}
 use Rattle.std.specs.Option.{option_map_or}
@@ -126,10 +126,10 @@ module _ (rows : List Row) (field : Field) (start : Draft) where
               ]);
           within = λ other h. elim (Contains-append_cases (keys_of draft.rows) (row.0 ∷ []) other
               (subst (λ names. Contains names other) (keys_of-push draft.rows row) h)) [
-            | inl before ↦ Contains-append_left keys (key ∷ []) other (is.within other before)
-            | inr last ↦ Contains-append_right keys (key ∷ []) other
-                (subst (Contains (key ∷ [])) (sym at ∙ contains-one row.0 other last) (first-in key []))
-          ];
+                | inl before ↦ Contains-append_left keys (key ∷ []) other (is.within other before)
+                | inr last ↦ Contains-append_right keys (key ∷ []) other
+                    (subst (Contains (key ∷ [])) (sym at ∙ contains-one row.0 other last) (first-in key []))
+              ];
         }
 
     -- the row of the next key is put

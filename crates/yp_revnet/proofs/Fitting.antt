@@ -1,8 +1,8 @@
 -- A triple that fits a plain name in a plain domain has one of its keys, and where keys are one triple's each, no other
 -- has.
-use Rattle.std.proofs.Common.{◌≡◌, ℕ, Bool, true, false, not, ◌||◌, ◌&&◌, List, [], ◌∷◌, length, bytes_eq, refl, sym, ap, ◌∙◌, subst}
-use Rattle.std.proofs.Common.{suc, arith, inl, inr, ◌⊎◌, true≢false, Option, Some, None}
-use Rattle.std.specs.Prelude.{◌==◌, codes}
+use Rattle.std.proofs.Common.{◌≡◌, ℕ, Bool, true, false, not, ◌||◌, ◌&&◌, List, [], ◌∷◌, length, bytes_eq, refl, sym, ap, ◌∙◌}
+use Rattle.std.proofs.Common.{suc, arith, inl, inr, ◌⊎◌, true≢false}
+use Rattle.std.specs.Prelude.{◌==◌}
 use Rattle.std.specs.Str.{str_to_ascii_lowercase}
 use Rattle.std.specs.List.{list_any}
 use Rattle.std.proofs.lemmas.Bool.Decides.{nat_tests}

@@ -1,7 +1,7 @@
 -- The groups that lead to those that list a key are those that have it.
 use Rattle.std.proofs.Common.{◌≡◌, ℕ, Bool, true, false, cond, List, [], ◌∷◌, ◌++◌, map, bytes_eq, Option, Some, None}
-use Rattle.std.proofs.Common.{Contains, refl, sym, ap, ◌∙◌, subst, inl, inr, ◌⊎◌, true≢false}
-use Rattle.std.specs.Prelude.{IsTrue, ◌↔◌, ◌&&◌, flat_map, is_some, unwrap_or, filter}
+use Rattle.std.proofs.Common.{Contains, refl, sym, ap, ◌∙◌, subst, inl, inr, true≢false}
+use Rattle.std.specs.Prelude.{◌↔◌, ◌&&◌, flat_map, is_some, unwrap_or, filter}
 use Rattle.std.specs.List.{filter_map}
 use Rattle.std.specs.List.Sorted.{IsStrictlySortedBy}
 use Rattle.std.specs.Map.{keys_of, lookup}
@@ -17,13 +17,13 @@ use Rattle.yp_revnet.specs.declared.field.Field.{Field}
 use Rattle.yp_revnet.specs.Keys.{counts, key_of, has_key}
 use Rattle.yp_revnet.specs.Links.{Link, source, sources, naming, listing, key_in}
 use Rattle.yp_revnet.specs.Back.{Leads, Start, Back}
-use Rattle.yp_revnet.specs.Reverse.{is_name, HasKey, IsListed}
+use Rattle.yp_revnet.specs.Reverse.{is_name, HasKey}
 use Rattle.yp_revnet.specs.Groups.{IsGroups}
 use Rattle.yp_revnet.proofs.Dots.{both, parted, same, equal}
 use Rattle.yp_revnet.proofs.Linking.{sources-append}
-use Rattle.yp_revnet.proofs.Looking.{Found, found, finds, row_of, row_case, no_parts}
+use Rattle.yp_revnet.proofs.Looking.{Found, found, finds, row_of, no_parts}
 use Rattle.yp_revnet.proofs.Meeting.{contains-none}
-use Rattle.yp_revnet.proofs.Pieces.{first-in, later-in, in-cases, Contains-map, Contains-filter, from-filter, Picked, picked, Contains-pick}
+use Rattle.yp_revnet.proofs.Pieces.{first-in, later-in, in-cases, Contains-map, Contains-filter, from-filter, picked, Contains-pick}
 
 abbrev Name : Type 0
 Name = List ℕ
@@ -212,9 +212,9 @@ module _ (rows : List Row) (rising : IsRising rows) where
       rising = sorted;
       exactly = λ group. (
         λ h.
-          let two = from-filter is_name seen group ((spelled group).0 h) in
-          let leads = (led group).0 two.0 in
-          record { row = leads_row group leads; name = two.1; has = leads_has group leads },
+            let two = from-filter is_name seen group ((spelled group).0 h) in
+            let leads = (led group).0 two.0 in
+            record { row = leads_row group leads; name = two.1; has = leads_has group leads },
         λ listed. (spelled group).1 (Contains-filter is_name seen group ((led group).1 (has_leads group listed.has)) listed.name),
       );
     }

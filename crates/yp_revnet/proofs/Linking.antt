@@ -4,7 +4,6 @@ use Rattle.std.proofs.Common.{◌∙◌, true≢false, append-nil, append_assoc,
 use Rattle.std.specs.Prelude.{unwrap_or, flat_map, slice_get}
 use Rattle.std.specs.Borrow.{Bor}
 use Rattle.std.specs.Map.{lookup}
-use Rattle.std.specs.Cmp.Lexicographic.{bytes_decides}
 use Rattle.std.proofs.lemmas.List.{map-append}
 use Rattle.std.proofs.lemmas.Option.{slice_get_within}
 use Rattle.std.proofs.lemmas.Grind.{flat_map-append}

@@ -1,9 +1,9 @@
 -- In a map whose keys are one triple's each, a look-up in its reverse is membership.
-use Rattle.std.proofs.Common.{◌≡◌, ℕ, Bool, true, false, not, ◌||◌, ◌&&◌, List, [], ◌∷◌, length, map, get_or, bytes_eq, Option, Some, None}
+use Rattle.std.proofs.Common.{◌≡◌, ℕ, Bool, true, false, not, ◌&&◌, List, [], bytes_eq, Option, Some, None}
 use Rattle.std.proofs.Common.{Contains, refl, sym, ap, ◌∙◌, subst, inl, inr, ◌⊎◌, true≢false, arith}
-use Rattle.std.specs.Prelude.{IsTrue, ◌↔◌, All, is_some, unwrap_or, codes}
+use Rattle.std.specs.Prelude.{is_some, unwrap_or}
 use Rattle.std.specs.Str.{str_to_ascii_lowercase}
-use Rattle.std.specs.List.{list_any, slice_split, join_with_byte}
+use Rattle.std.specs.List.{list_any, slice_split}
 use Rattle.std.specs.Map.{keys_of}
 use Rattle.std.proofs.lemmas.List.Folds.{Any-from_list_any, list_any-from_Any}
 use Rattle.std.proofs.lemmas.Map.Made.{is_some-lookup}
@@ -12,7 +12,7 @@ use Rattle.yp_version.specs.Rows.{Row, value_of}
 use Rattle.yp_netgroup.specs.Parts.{Part, Triple, parts, names, triples, is_comma}
 use Rattle.yp_netgroup.specs.Reach.{Asked, Names, Reaches, Itself, Onward, members_of, fits, has_fitting, IsMember}
 use Rattle.yp_revnet.specs.declared.field.Field.{Field}
-use Rattle.yp_revnet.specs.Keys.{counts, folded, key_of, has_key}
+use Rattle.yp_revnet.specs.Keys.{counts, folded, key_of}
 use Rattle.yp_revnet.specs.Reverse.{is_name, HasKey, IsListed, IsReversed, IsReverse}
 use Rattle.yp_revnet.specs.Listed.{has_group, keys_for, is_listed, has_dot, is_mixed, is_split, is_plain, asked_for, ListedIsMembership}
 use Rattle.yp_revnet.proofs.Dots.{both, parted, not_true, same, equal, joined_split}

@@ -6,7 +6,8 @@ use Rattle.yp_revnet.specs.declared.field.Field.{Field}
 use Rattle.yp_revnet.specs.Links.{LinkTable, under, sources, naming, listing}
 use Rattle.yp_revnet.specs.Reverse.{IsListed}
 
--- What is kept of a map, whose rows rise: under each name the groups that name it, and under each key those that list it.
+-- What is kept of a map, whose rows rise: under each name the groups that name it, and under each key those that list
+-- it.
 pub record IsKeptOf (rows : List Row) (field : Field) (named listed : LinkTable) : Type 0 where
   pub rising : IsRising rows
   pub by_name : (name : List ℕ) → under named name ≡ sources name (naming rows)

@@ -39,4 +39,5 @@ key_of field triple =
 
 -- one of the members is a triple that counts and has this key
 abbrev pub has_key : Field → List ℕ → List Part → Bool
-has_key field key members = list_any (λ triple. counts field triple && bytes_eq (key_of field triple) key) (triples members)
+has_key field key members =
+    list_any (λ triple. counts field triple && bytes_eq (key_of field triple) key) (triples members)

@@ -1,6 +1,6 @@
 -- What is kept of a map while it is reversed: under names the groups that name them, and under keys those that list
 -- them.
-use Rattle.std.specs.Prelude.{◌≡◌, ℕ, Bool, List, [], ◌∷◌, map, flat_map, Option, Some, None, Contains, bytes_eq}
+use Rattle.std.specs.Prelude.{ℕ, List, [], ◌∷◌, map, flat_map, Option, Some, None, bytes_eq}
 use Rattle.std.specs.Prelude.{if◌then◌else◌, Vec}
 use Rattle.std.specs.Borrow.{Bor}
 use Rattle.std.specs.declared.alloc.Global.{Global}

@@ -1,5 +1,5 @@
 -- Who is looked up in a reverse netgroup map, and when that is membership.
-use Rattle.std.specs.Prelude.{◌≡◌, ℕ, Bool, true, false, not, ◌||◌, ◌&&◌, ◌==◌, IsTrue, ◌↔◌, List, [], ◌∷◌, length, bytes_eq}
+use Rattle.std.specs.Prelude.{ℕ, Bool, false, not, ◌||◌, ◌&&◌, ◌==◌, IsTrue, ◌↔◌, List, [], ◌∷◌, length, bytes_eq}
 use Rattle.std.specs.Prelude.{codes, Option, Some, None}
 use Rattle.std.specs.List.{list_any, slice_split}
 use Rattle.std.specs.Str.{str_to_ascii_lowercase}
@@ -28,7 +28,8 @@ keys_for name domain = dotted name domain ∷ dotted name any ∷ dotted any dom
 -- a group is one of those of such a key; domains and hosts are without ASCII case
 unfoldable pub is_listed : List Row → Field → List ℕ → List ℕ → List ℕ → Bool
 is_listed reverse field group name domain =
-    list_any (λ key. has_group group (value_of key reverse)) (keys_for (folded field name) (str_to_ascii_lowercase domain))
+    list_any (λ key. has_group group (value_of key reverse))
+        (keys_for (folded field name) (str_to_ascii_lowercase domain))
 
 -- ---- membership
 

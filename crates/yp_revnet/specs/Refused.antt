@@ -5,7 +5,8 @@ use Rattle.std.specs.declared.cmp.Ordering.TheVariants.{Less}
 use Rattle.yp_version.specs.Rows.{Row, IsRising, key_cmp}
 use Rattle.yp_version.specs.Drafts.{Draft, with_row, with_rows, refused, first_refused}
 use Rattle.yp_version.specs.declared.builder.VersionFault.{VersionFault}
-use Rattle.yp_version.specs.declared.builder.VersionFault.TheVariants.{KeyLong, ValueLong, TooManyRows, TooBig, NoMemory}
+use Rattle.yp_version.specs.declared.builder.VersionFault.TheVariants.{KeyLong, ValueLong, TooManyRows, TooBig}
+use Rattle.yp_version.specs.declared.builder.VersionFault.TheVariants.{NoMemory}
 use Rattle.yp_revnet.specs.declared.field.Field.{Field}
 use Rattle.yp_revnet.specs.declared.fault.RevFault.{RevFault}
 use Rattle.yp_revnet.specs.declared.fault.RevFault.TheVariants.{Row as RowFault, NoMemory as WithoutMemory}
@@ -79,5 +80,6 @@ pub record IsSoFar (rows : List Row) (field : Field) (start draft : Draft) (keys
   pub taken : first_refused start draft.rows ≡ None
   pub rising : IsRising draft.rows
   pub each : All (IsReversed rows field) draft.rows
-  pub whole : (key group : List ℕ) → Contains keys key → IsListed rows field key group → Contains (keys_of draft.rows) key
+  pub whole : (key group : List ℕ) → Contains keys key → IsListed rows field key group
+      → Contains (keys_of draft.rows) key
   pub within : (key : List ℕ) → Contains (keys_of draft.rows) key → Contains keys key

@@ -1,6 +1,5 @@
 -- The rows of a reverse netgroup map: for each key, the groups that reach a triple with it.
-use Rattle.std.specs.Prelude.{◌≡◌, ℕ, suc, ◌+◌, ◌<◌, Bool, not, ◌&&◌, ◌==◌, IsTrue, All, Contains, ◌↔◌, List, [], length, Some}
-use Rattle.std.specs.Prelude.{Result, Ok, Err, ⊤}
+use Rattle.std.specs.Prelude.{◌≡◌, ℕ, ◌<◌, Bool, not, ◌&&◌, ◌==◌, IsTrue, All, Contains, ◌↔◌, List, length}
 use Rattle.std.specs.List.{list_all, join_with_byte}
 use Rattle.std.specs.List.Sorted.{IsStrictlySortedBy}
 use Rattle.std.specs.Map.{keys_of}

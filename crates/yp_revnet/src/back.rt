@@ -27,7 +27,8 @@ fn none_met<'a>(alloc: Global, rt: &impl RandomSource) -> Result<Seen<'a>, NoMem
 
 // Meets groups.
 fn meet<'a>(groups: &[&'a [u8]], seen: &mut Seen<'a>) -> Result<(), NoMemory>
-    ensures { OnOk result (bytes_in seen.new.keys ≡ insert_all bytes_eq (bytes_in seen.old.keys) (bytes_in groups.now)) }
+    ensures { OnOk result (bytes_in seen.new.keys
+        ≡ insert_all bytes_eq (bytes_in seen.old.keys) (bytes_in groups.now)) }
 {
     for group in groups {
         seen.insert(*group).map_err(|_| NoMemory)?;

@@ -21,8 +21,8 @@ use yp_version::{Version, VersionBuilder};
 ///
 /// Each text is read twice. Then for each key the groups that reach it are looked for backwards, from those that list
 /// it: each of them once, by the places where it is named. They are those of the key's row, but for names that no text
-/// can spell, so this costs about the rows and, for each group in one, the groups that name it; it ends with the first
-/// row that passes a limit. A random state that the runtime refuses is want of memory, too.
+/// can spell. So this costs about the texts, the rows and, for each group in one, the places where it is named; it ends
+/// with the first row that passes a limit. A random state that the runtime refuses is want of memory, too.
 pub fn reverse(
     alloc: Global,
     rt: &impl RandomSource,

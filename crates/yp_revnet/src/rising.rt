@@ -8,7 +8,8 @@ ghost use Rattle.yp_revnet.specs.Links.{bytes_in};
 // The same names in rising order, each once.
 pub(crate) fn rising<'a>(names: Vec<&'a [u8]>) -> Vec<&'a [u8]>
     ensures rising { IsStrictlySortedBy key_cmp (bytes_in result.items) }
-    ensures same { (name : List ℕ) → Contains (bytes_in result.items) name ↔ Contains (bytes_in names.entry.items) name }
+    ensures same { (name : List ℕ) →
+        Contains (bytes_in result.items) name ↔ Contains (bytes_in names.entry.items) name }
 {
     let mut names = names;
     names.sort_unstable();

@@ -4,4 +4,6 @@
 #[cfg(test)]
 mod given;
 #[cfg(test)]
+mod large;
+#[cfg(test)]
 mod reversed;

@@ -2,12 +2,13 @@
 
 use crate::given::{Row, assert_same, version};
 use std::alloc::Global;
-use std::process::Abort;
 use std::random::RandomSource;
-use yp_revnet::{Field, RevFault, listed_in, reverse, split};
+use yp_netgroup::{Who, innetgr};
+use yp_revnet::{Field, listed_in, reverse, split};
 use yp_version::Version;
 
-/// A map, the rows of its two reverses, and whether each is split.
+/// A map, the rows of its two reverses, and whether each of them is split.
+#[derive(Clone, Copy)]
 struct Case {
     row: &'static str,
     groups: &'static [Row<'static>],
@@ -16,7 +17,7 @@ struct Case {
     split: (bool, bool),
 }
 
-const CASES: &[Case] = &[
+const CASES: [Case; 6] = [
     Case {
         row: "groups that name each other",
         groups: &[(b"a", b"b"), (b"b", b"a (-,joe,)")],
@@ -39,108 +40,219 @@ const CASES: &[Case] = &[
         split: (false, false),
     },
     Case {
-        row: "users as they are, dashes, and a key that no text can spell",
+        row: "dashes in either part, and users as they are",
         groups: &[
-            (b"a b", b"(,Joe,) inner"),
             (b"inner", b"(h,joe,-) (h,-,d) (-,Joe,D)"),
             (b"outer", b"inner none inner"),
-            (b"x", b"(,u,*)"),
         ],
-        by_user: &[(b"Joe.*", b""), (b"Joe.d", b"inner,outer"), (b"u.*", b"x")],
-        by_host: &[(b"*.*", b"x"), (b"h.d", b"inner,outer")],
+        by_user: &[(b"Joe.d", b"inner,outer")],
+        by_host: &[(b"h.d", b"inner,outer")],
+        split: (true, true),
+    },
+    Case {
+        row: "groups that no text can name",
+        groups: &[
+            (b"", b"(,u,)"),
+            (b"a b", b"(,joe,) named"),
+            (b"named", b"(,ann,d)"),
+            (b"x,y", b"named"),
+        ],
+        by_user: &[(b"ann.d", b"named")],
+        by_host: &[(b"*.d", b"named")],
+        split: (true, true),
+    },
+    Case {
+        row: "asterisks",
+        groups: &[(b"x", b"(,u,*)"), (b"y", b"(*,v,)"), (b"z", b"y y y")],
+        by_user: &[(b"u.*", b"x"), (b"v.*", b"y,z")],
+        by_host: &[(b"*.*", b"x,y,z")],
         split: (false, false),
     },
 ];
 
-fn rows_of<R: RandomSource + Abort>(
+// Whether a version has these rows, and no others.
+fn has_rows(version: &Version, rows: &[Row]) -> bool {
+    for (i, row) in rows.iter().enumerate() {
+        if version.row(i) != Some(*row) {
+            return false;
+        }
+    }
+    version.len() == rows.len()
+}
+
+// Whether the reverse of a map has these rows, and the order and the master that were given.
+fn has_reverse<R: RandomSource>(
     rt: &R,
     alloc: Global,
     netgroup: &Version,
     field: Field,
-) -> Vec<(Vec<u8>, Vec<u8>)> {
-    let mut rows = Vec::new(alloc);
-    let reverse = reverse(alloc, rt, netgroup, field, 7, b"m1").expect(rt, "a reverse");
-    for i in 0..reverse.len() {
-        if let Some((key, value)) = reverse.row(i) {
-            rows.push((
-                key.to_vec(alloc).expect(rt, "a key"),
-                value.to_vec(alloc).expect(rt, "a value"),
-            ))
-            .expect(rt, "a row");
+    rows: &[Row],
+) -> bool {
+    match reverse(alloc, rt, netgroup, field, 7, b"m1") {
+        Ok(version) => {
+            has_rows(&version, rows)
+                && version.order() == 7
+                && version.master() == b"m1".as_slice()
+                && !version.secure()
         }
+        Err(_) => false,
     }
-    rows
 }
 
-fn given<R: Abort>(rt: &R, alloc: Global, rows: &[Row]) -> Vec<(Vec<u8>, Vec<u8>)> {
-    let mut given = Vec::new(alloc);
-    for (key, value) in rows {
-        if !value.is_empty() {
-            given
-                .push((
-                    key.to_vec(alloc).expect(rt, "a key"),
-                    value.to_vec(alloc).expect(rt, "a value"),
-                ))
-                .expect(rt, "a row");
-        }
-    }
-    given
+// What is told of a case: whether its reverses have its rows, and whether they are split.
+fn told_of<R: RandomSource>(
+    rt: &R,
+    alloc: Global,
+    netgroup: &Version,
+    case: &Case,
+) -> (bool, bool, Option<bool>, Option<bool>) {
+    (
+        has_reverse(rt, alloc, netgroup, Field::User, case.by_user),
+        has_reverse(rt, alloc, netgroup, Field::Host, case.by_host),
+        split(alloc, netgroup, Field::User).ok(),
+        split(alloc, netgroup, Field::Host).ok(),
+    )
 }
 
 #[test]
 fn reversed_by_hand(rt: HostRuntime) {
     let alloc = rt.alloc();
-    for case in CASES {
+    for case in &CASES {
         let netgroup = version(&rt, alloc, case.groups);
-        assert_same(
-            &rt,
-            &rows_of(&rt, alloc, &netgroup, Field::User),
-            &given(&rt, alloc, case.by_user),
-            case.row,
-        );
-        assert_same(
-            &rt,
-            &rows_of(&rt, alloc, &netgroup, Field::Host),
-            &given(&rt, alloc, case.by_host),
-            case.row,
-        );
-        let splits = (
-            split(alloc, &netgroup, Field::User).expect(&rt, "memory"),
-            split(alloc, &netgroup, Field::Host).expect(&rt, "memory"),
-        );
-        assert_same(&rt, &splits, &case.split, case.row);
+        let told = told_of(&rt, alloc, &netgroup, case);
+        let wanted = (true, true, Some(case.split.0), Some(case.split.1));
+        assert_same(&rt, &told, &wanted, case.row);
     }
 }
 
-fn listed<R: RandomSource + Abort>(
+// Who is looked up in the reverse of which case, and what is answered there and of the groups.
+#[derive(Clone, Copy)]
+struct Asked {
+    groups: &'static [Row<'static>],
+    field: Field,
+    group: &'static [u8],
+    name: &'static [u8],
+    domain: &'static [u8],
+    listed: bool,
+    member: bool,
+}
+
+const fn look_up(
+    groups: &'static [Row<'static>],
+    field: Field,
+    who: (&'static [u8], &'static [u8], &'static [u8]),
+    listed: bool,
+    member: bool,
+) -> Asked {
+    Asked {
+        groups,
+        field,
+        group: who.0,
+        name: who.1,
+        domain: who.2,
+        listed,
+        member,
+    }
+}
+
+// Whether somebody is listed in the reverse, and whether they are a member.
+fn looked_up<R: RandomSource>(
     rt: &R,
     alloc: Global,
-    groups: &[Row],
-    field: Field,
-    asked: [&[u8]; 3],
-) -> bool {
-    let netgroup = version(rt, alloc, groups);
-    let reverse = reverse(alloc, rt, &netgroup, field, 7, b"m1").expect(rt, "a reverse");
-    listed_in(alloc, &reverse, field, asked[0], asked[1], asked[2]).expect(rt, "memory")
+    netgroup: &Version,
+    asked: &Asked,
+) -> (Option<bool>, Option<bool>) {
+    let (host, user) = match asked.field {
+        Field::User => (None, Some(asked.name)),
+        Field::Host => (Some(asked.name), None),
+    };
+    let who = Who {
+        host,
+        user,
+        domain: Some(asked.domain),
+    };
+    let member = innetgr(alloc, rt, netgroup, asked.group, &who).ok();
+    match reverse(alloc, rt, netgroup, asked.field, 7, b"m1") {
+        Ok(reverse) => {
+            let listed = listed_in(
+                alloc,
+                &reverse,
+                asked.field,
+                asked.group,
+                asked.name,
+                asked.domain,
+            );
+            (listed.ok(), member)
+        }
+        Err(_) => (None, member),
+    }
 }
 
 #[test]
-fn looked_up(rt: HostRuntime) {
+fn looked_up_by_hand(rt: HostRuntime) {
     let alloc = rt.alloc();
-    let cases: [(&[Row], Field, [&[u8]; 3], bool); 6] = [
-        (CASES[0].groups, Field::User, [b"a", b"joe", b"lab"], true),
-        (CASES[0].groups, Field::User, [b"c", b"joe", b"lab"], false),
-        (CASES[0].groups, Field::Host, [b"a", b"h", b"lab"], false),
-        (CASES[1].groups, Field::Host, [b"g", b"H1", b"LAB"], true),
-        (CASES[1].groups, Field::User, [b"g", b"Ann", b"dom"], false),
-        (CASES[2].groups, Field::Host, [b"g", b"a.b", b"c"], true),
+    let table: [Asked; 8] = [
+        look_up(
+            CASES[0].groups,
+            Field::User,
+            (b"a", b"joe", b"lab"),
+            true,
+            true,
+        ),
+        look_up(
+            CASES[0].groups,
+            Field::User,
+            (b"c", b"joe", b"lab"),
+            false,
+            false,
+        ),
+        look_up(
+            CASES[0].groups,
+            Field::Host,
+            (b"a", b"h", b"lab"),
+            false,
+            false,
+        ),
+        look_up(
+            CASES[1].groups,
+            Field::Host,
+            (b"g", b"H1", b"LAB"),
+            true,
+            true,
+        ),
+        look_up(
+            CASES[1].groups,
+            Field::User,
+            (b"g", b"Ann", b"dom"),
+            false,
+            false,
+        ),
+        look_up(
+            CASES[1].groups,
+            Field::User,
+            (b"g", b"Ann", b"lab"),
+            true,
+            true,
+        ),
+        look_up(
+            CASES[2].groups,
+            Field::Host,
+            (b"g", b"a.b", b"c"),
+            true,
+            false,
+        ),
+        look_up(
+            CASES[5].groups,
+            Field::Host,
+            (b"z", b"h", b"lab"),
+            true,
+            false,
+        ),
     ];
-    for (groups, field, asked, wanted) in &cases {
-        assert_same(
-            &rt,
-            &listed(&rt, alloc, *groups, *field, *asked),
-            wanted,
-            "a look-up",
-        );
+    for asked in &table {
+        let netgroup = version(&rt, alloc, asked.groups);
+        let came = looked_up(&rt, alloc, &netgroup, asked);
+        let wanted = (Some(asked.listed), Some(asked.member));
+        assert_same(&rt, &came, &wanted, "a look-up");
     }
 }

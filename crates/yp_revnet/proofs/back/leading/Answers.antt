@@ -1,4 +1,4 @@
-use Rattle.std.proofs.Common.{◌≡◌, ◌<◌, ◌≤◌, ◌+◌, ◌∙◌, refl, sym, ap, subst, bytes_eq, map, get_or, arith, length, []}
+use Rattle.std.proofs.Common.{◌≡◌, ◌<◌, ◌≤◌, ◌+◌, ◌∙◌, refl, sym, ap, subst, bytes_eq, get_or, arith, length, []}
 use Rattle.std.proofs.lemmas.List.{length-map}
 use Rattle.indexmap.specs.IndexSet.{insert_all}
 use Rattle.yp_revnet.specs.Links.{bytes_in, under}

@@ -1,7 +1,6 @@
 use Rattle.std.proofs.Common.{◌≡◌, List, [], ℕ, get_or, rules}
 use Rattle.std.specs.Borrow.{Bor}
 use Rattle.indexmap.specs.IndexSet.{insert_key}
-use Rattle.yp_revnet.specs.Links.{bytes_in}
 use Rattle.yp_revnet.proofs.Linking.{alike}
 use Rattle.yp_revnet.proofs.Meeting.{meet-step}
 use Rattle.yp_revnet.proofs.back.meet.Goals as goal

@@ -1,4 +1,4 @@
-use Rattle.std.proofs.Common.{◌≡◌, List, ℕ, Contains, sym, subst}
+use Rattle.std.proofs.Common.{List, ℕ, Contains, subst}
 use Rattle.std.specs.Prelude.{◌↔◌, filter}
 use Rattle.yp_revnet.specs.Links.{bytes_in, under}
 use Rattle.yp_revnet.specs.Reverse.{is_name}

@@ -1,4 +1,4 @@
-use Rattle.std.proofs.Common.{◌≡◌, ◌∙◌, ◌++◌, List, ℕ, map, ap, sym}
+use Rattle.std.proofs.Common.{◌≡◌, ◌∙◌, ◌++◌, List, map, ap, sym}
 use Rattle.yp_version.specs.Rows.{Row}
 use Rattle.yp_netgroup.specs.Parts.{Part, names, parts}
 use Rattle.yp_netgroup.specs.Member.{part_of}

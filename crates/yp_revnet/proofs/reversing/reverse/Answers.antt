@@ -1,18 +1,14 @@
-use Rattle.std.proofs.Common.{◌≡◌, ◌∙◌, ◌+◌, ◌<◌, ◌≤◌, ◌++◌, ◌∷◌, [], List, ℕ, length, get_or, take, map, Contains, Less, refl, sym, ap, subst, arith, rules, inl, inr, ◌⊎◌, Result, Ok, Err}
+use Rattle.std.proofs.Common.{◌≡◌, ◌∙◌, ◌<◌, ◌≤◌, [], List, ℕ, length, get_or, take, refl, sym, ap, subst, arith, inl, inr, Result, Ok, Err}
 use Rattle.std.specs.Prelude.{IfErr}
 use Rattle.std.specs.Result.{IsErrAnd}
-use Rattle.std.specs.Borrow.{Bor}
 use Rattle.std.proofs.lemmas.List.{length-map}
-use Rattle.yp_version.specs.Rows.{Row, key_cmp, listed}
+use Rattle.yp_version.specs.Rows.{listed}
 use Rattle.yp_version.specs.Drafts.{Draft, first_refused}
 use Rattle.yp_version.specs.Versions.{MapVersion, unmarked}
 use Rattle.yp_version.proofs.Unique.{rising_stays}
 use Rattle.yp_revnet.specs.declared.fault.RevFault.{RevFault}
-use Rattle.yp_revnet.specs.declared.keys.Listing.{Listing}
-use Rattle.yp_revnet.specs.Links.{LinkTable, bytes_in, under, sources, naming, listing}
-use Rattle.yp_revnet.specs.Listings.{link_of}
-use Rattle.yp_revnet.specs.Reverse.{IsListed, IsReverse}
-use Rattle.yp_revnet.specs.Groups.{IsKeptOf}
+use Rattle.yp_revnet.specs.Links.{bytes_in}
+use Rattle.yp_revnet.specs.Reverse.{IsReverse}
 use Rattle.yp_revnet.specs.Refused.{begun, IsCause, IsPut, IsRefusal, IsSoFar}
 use Rattle.yp_revnet.proofs.Meeting.{bytes, name-at}
 use Rattle.yp_revnet.proofs.Drafting.{so_far-none, so_far-put, so_far-refused, so_far-whole, keys_below, keys_cases, keys_more, take_whole}

@@ -1,4 +1,4 @@
-use Rattle.std.proofs.Common.{◌≡◌, ◌∙◌, ◌<◌, ℕ, zero, suc, List, [], ◌∷◌, map, length, get_or, Contains, bytes_eq, Less, refl, sym, ap, subst, arith}
+use Rattle.std.proofs.Common.{◌≡◌, ◌∙◌, ℕ, List, [], ◌∷◌, Contains, Less, sym, subst}
 use Rattle.std.specs.Borrow.{Bor}
 use Rattle.std.specs.List.{AllByRecursion, dedup}
 use Rattle.std.specs.List.Sorted.{IsStrictlySortedBy}
@@ -36,12 +36,12 @@ returns-clause-same c = λ name.
     let is = dedup_is _ _ _ c.dedup.ensures.filtered in
     let moved = c.sort_unstable.ensures.permutation in (
       λ h.
-        let at : Mapped bytes (dedup alike c.sort_unstable.new.self.items) name = mapped bytes _ name (rw is at h) in
-        let here = Contains-permutation _ _ at.it (IsPermutation-sym _ _ moved) (Contains-from_dedup alike _ at.it at.there) in
-        subst (Contains (bytes_in c.args.names.items)) at.same (Contains-map bytes _ at.it here),
+          let at : Mapped bytes (dedup alike c.sort_unstable.new.self.items) name = mapped bytes _ name (rw is at h) in
+          let here = Contains-permutation _ _ at.it (IsPermutation-sym _ _ moved) (Contains-from_dedup alike _ at.it at.there) in
+          subst (Contains (bytes_in c.args.names.items)) at.same (Contains-map bytes _ at.it here),
       λ h.
-        let at : Mapped bytes c.args.names.items name = mapped bytes _ name h in
-        let kept = Any-dedup (on_texts_equal (λ (x : Bor (List ℕ)). x.now)) _ at.it (Contains-permutation _ _ at.it moved at.there) in
-        let e : kept.1.now ≡ name = sym (same at.it.now kept.1.now kept.4) ∙ at.same in
-        rw is (subst (Contains (bytes_in (dedup alike c.sort_unstable.new.self.items))) e (Contains-map bytes _ kept.1 (kept.0, kept.2, kept.3))),
+          let at : Mapped bytes c.args.names.items name = mapped bytes _ name h in
+          let kept = Any-dedup (on_texts_equal (λ (x : Bor (List ℕ)). x.now)) _ at.it (Contains-permutation _ _ at.it moved at.there) in
+          let e : kept.1.now ≡ name = sym (same at.it.now kept.1.now kept.4) ∙ at.same in
+          rw is (subst (Contains (bytes_in (dedup alike c.sort_unstable.new.self.items))) e (Contains-map bytes _ kept.1 (kept.0, kept.2, kept.3))),
     )

@@ -1,4 +1,4 @@
-use Rattle.std.proofs.Common.{◌≡◌, ◌∙◌, ◌<◌, ◌⊎◌, List, [], ◌∷◌, ℕ, length, Contains, sym, ap, refl, subst, inl, inr, arith, rules, map}
+use Rattle.std.proofs.Common.{◌≡◌, ◌∙◌, ◌<◌, List, [], ◌∷◌, ℕ, length, Contains, sym, ap, refl, subst, inl, inr, arith}
 use Rattle.std.specs.Borrow.{Bor}
 use Rattle.std.specs.List.{join_with_byte}
 use Rattle.std.proofs.lemmas.List.{length-map}
@@ -8,7 +8,7 @@ use Rattle.yp_revnet.specs.declared.field.Field.{Field}
 use Rattle.yp_revnet.specs.Links.{bytes_in}
 use Rattle.yp_revnet.specs.Reverse.{IsReversed}
 use Rattle.yp_revnet.specs.Groups.{IsGroups}
-use Rattle.yp_revnet.specs.Refused.{IsPut, Without, With, IsRefusal, row_fault}
+use Rattle.yp_revnet.specs.Refused.{IsPut, Without, With, row_fault}
 use Rattle.yp_revnet.proofs.Meeting.{bytes, contains-none}
 use Rattle.yp_revnet.proofs.rows.put_row.Goals as goal
 
@@ -56,12 +56,12 @@ returns-clause-err g c = λ rows field kept.
     c.len.ensures.len ∙ ap (λ (draft : Draft). length draft.rows) c.in-Err.ensures.err in
     elim c.in-Err.ensures.cause [
       | inl e ↦ inr (record {
-          row = (c.args.key.now, c.deref-2.result.now);
-          at = refl;
-          is = row;
-          cause = c.in-Err.fault;
-          refuses = e;
-          says = c.fault_of.ensures ∙ ap (λ n. row_fault n c.in-Err.fault) count;
-        })
+        row = (c.args.key.now, c.deref-2.result.now);
+        at = refl;
+        is = row;
+        cause = c.in-Err.fault;
+        refuses = e;
+        says = c.fault_of.ensures ∙ ap (λ n. row_fault n c.in-Err.fault) count;
+      })
       | inr two ↦ inl (c.fault_of.ensures ∙ ap (row_fault c.len.result) two.0)
     ]
