@@ -29,7 +29,7 @@ keys_for name domain = dotted name domain ∷ dotted name any ∷ dotted any dom
 unfoldable pub is_listed : List Row → Field → List ℕ → List ℕ → List ℕ → Bool
 is_listed reverse field group name domain =
     list_any (λ key. has_group group (value_of key reverse))
-        (keys_for (folded field name) (str_to_ascii_lowercase domain))
+    (keys_for (folded field name) (str_to_ascii_lowercase domain))
 
 -- ---- membership
 
