@@ -1,0 +1,8 @@
+use Rattle.std.proofs.Common.{◌≡◌, ◌++◌, map, drop}
+use Rattle.yp_revnet.specs.Links.{listing}
+use Rattle.yp_revnet.specs.Listings.{link_of}
+use Rattle.yp_revnet.proofs.field.Field.listings.Given as goal
+
+abbrev pub invariant-loop-i : goal.invariant-loop-i
+invariant-loop-i l =
+    map link_of l.listings.items ++ listing l.self (drop l.i l.netgroup.rows) ≡ listing l.self l.netgroup.rows

@@ -1,0 +1,11 @@
+use Rattle.std.proofs.Common.{◌≡◌, map, drop}
+use Rattle.std.specs.List.{list_any}
+use Rattle.yp_netgroup.specs.Parts.{triples}
+use Rattle.yp_netgroup.specs.Member.{part_of}
+use Rattle.yp_revnet.specs.Listed.{is_mixed}
+use Rattle.yp_revnet.proofs.field.Field.mixes.Given as goal
+
+abbrev pub invariant-loop-member : goal.invariant-loop-member
+invariant-loop-member l =
+    list_any (is_mixed l.self) (triples (map part_of l.members))
+    ≡ list_any (is_mixed l.self) (triples (map part_of (drop l.member-index l.members)))

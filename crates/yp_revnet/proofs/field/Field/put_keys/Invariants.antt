@@ -1,0 +1,10 @@
+use Rattle.std.proofs.Common.{◌≡◌, ◌++◌, map, drop}
+use Rattle.yp_netgroup.specs.Member.{part_of}
+use Rattle.yp_revnet.specs.Links.{listing_members}
+use Rattle.yp_revnet.specs.Listings.{link_of}
+use Rattle.yp_revnet.proofs.field.Field.put_keys.Given as goal
+
+abbrev pub invariant-loop-member : goal.invariant-loop-member
+invariant-loop-member l =
+    map link_of l.listings.items ++ listing_members l.self (map part_of (drop l.member-index l.members)) l.group
+    ≡ map link_of l.initial.listings.items ++ listing_members l.self (map part_of l.members) l.group

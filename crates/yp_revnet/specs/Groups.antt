@@ -1,0 +1,19 @@
+-- The groups of a key, as they are found.
+use Rattle.std.specs.Prelude.{◌≡◌, ℕ, List, Contains, ◌↔◌}
+use Rattle.std.specs.List.Sorted.{IsStrictlySortedBy}
+use Rattle.yp_version.specs.Rows.{Row, IsRising, key_cmp}
+use Rattle.yp_revnet.specs.declared.field.Field.{Field}
+use Rattle.yp_revnet.specs.Links.{LinkTable, under, sources, naming, listing}
+use Rattle.yp_revnet.specs.Reverse.{IsListed}
+
+-- What is kept of a map, whose rows rise: under each name the groups that name it, and under each key those that list
+-- it.
+pub record IsKeptOf (rows : List Row) (field : Field) (named listed : LinkTable) : Type 0 where
+  pub rising : IsRising rows
+  pub by_name : (name : List ℕ) → under named name ≡ sources name (naming rows)
+  pub by_key : (key : List ℕ) → under listed key ≡ sources key (listing field rows)
+
+-- exactly the groups that have a key, in rising order
+pub record IsGroups (rows : List Row) (field : Field) (key : List ℕ) (groups : List (List ℕ)) : Type 0 where
+  pub rising : IsStrictlySortedBy key_cmp groups
+  pub exactly : (group : List ℕ) → Contains groups group ↔ IsListed rows field key group

@@ -1,0 +1,8 @@
+pub mod Keys
+pub mod Reverse
+pub mod Listed
+pub mod Links
+pub mod Listings
+pub mod Back
+pub mod Refused
+pub mod Groups

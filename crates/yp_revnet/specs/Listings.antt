@@ -1,0 +1,7 @@
+-- A `Listing` as contracts see it.
+use Rattle.yp_revnet.specs.declared.keys.Listing.{Listing}
+use Rattle.yp_revnet.specs.Links.{Link}
+
+-- its key, and the group under it
+abbrev pub link_of : Listing → Link
+link_of listing = (listing.key.items, listing.group.now)

@@ -1,0 +1,71 @@
+//! The groups from which others are reached.
+
+ghost use Rattle.std.specs.Prelude.{◌≡◌, ◌↔◌, ℕ, List, [], Contains, IfOk, OnOk, bytes_eq};
+ghost use Rattle.indexmap.specs.IndexSet.{insert_all};
+ghost use Rattle.yp_revnet.specs.Links.{bytes_in, under};
+ghost use Rattle.yp_revnet.specs.Back.{Leads};
+
+use crate::links::Links;
+use indexmap::IndexSet;
+use std::alloc::Global;
+use std::hash::RandomState;
+use std::random::RandomSource;
+use yp_io::NoMemory;
+
+// The groups that were met so far, in the order of meeting.
+pub(crate) type Seen<'a> = IndexSet<&'a [u8], RandomState>;
+
+// No groups.
+fn none_met<'a>(alloc: Global, rt: &impl RandomSource) -> Result<Seen<'a>, NoMemory>
+    ensures { IfOk result (λ seen. bytes_in seen.keys ≡ []) }
+{
+    match RandomState::new(rt) {
+        Ok(hasher) => Ok(IndexSet::with_hasher(alloc, hasher)),
+        Err(_) => Err(NoMemory),
+    }
+}
+
+// Meets groups.
+fn meet<'a>(groups: &[&'a [u8]], seen: &mut Seen<'a>) -> Result<(), NoMemory>
+    ensures { OnOk result (bytes_in seen.new.keys
+        ≡ insert_all bytes_eq (bytes_in seen.old.keys) (bytes_in groups.now)) }
+{
+    for group in groups {
+        seen.insert(*group).map_err(|_| NoMemory)?;
+    }
+    Ok(())
+}
+
+// Meets the groups under a name.
+fn meet_under<'a>(links: &Links<'a>, name: &[u8], seen: &mut Seen<'a>) -> Result<(), NoMemory>
+    ensures { OnOk result (bytes_in seen.new.keys
+        ≡ insert_all bytes_eq (bytes_in seen.old.keys) (under links.now name.now)) }
+{
+    match links.get(name) {
+        Some(groups) => meet(groups, seen),
+        None => Ok(()),
+    }
+}
+
+// All groups from which one of those under a key is reached. Each is met once, and those that name it are met when its
+// turn comes.
+pub(crate) fn leading<'a>(
+    alloc: Global,
+    rt: &impl RandomSource,
+    named: &Links<'a>,
+    listed: &Links<'a>,
+    key: &[u8],
+) -> Result<Seen<'a>, NoMemory>
+    ensures { IfOk result (λ seen. (name : List ℕ) →
+        Contains (bytes_in seen.keys) name ↔ Leads (under named.now) (under listed.now key.now) name) }
+{
+    let mut seen = none_met(alloc, rt)?;
+    meet_under(listed, key, &mut seen)?;
+    let mut next = 0;
+    while next < seen.len() {
+        let group = seen.as_slice()[next];
+        meet_under(named, group, &mut seen)?;
+        next += 1;
+    }
+    Ok(seen)
+}

@@ -1,0 +1,49 @@
+//! A netgroup map, reversed.
+
+ghost use Rattle.std.specs.Prelude.{◌≡◌, ◌≤◌, None, length, IfOk, IfErr};
+ghost use Rattle.yp_version.specs.Limits.{master_max};
+ghost use Rattle.yp_version.specs.Drafts.{first_refused};
+ghost use Rattle.yp_version.specs.Versions.{unmarked};
+ghost use Rattle.yp_revnet.specs.Reverse.{IsReverse};
+ghost use Rattle.yp_revnet.specs.Refused.{begun, IsCause};
+
+use crate::fault::RevFault;
+use crate::field::Field;
+use crate::keys::{keys_of, listed};
+use crate::links::naming;
+use crate::rising::rising;
+use crate::rows::put_row;
+use std::alloc::Global;
+use std::random::RandomSource;
+use yp_version::{Version, VersionBuilder};
+
+/// The reverse of a netgroup map: for each user, or host, and domain of a triple the groups that reach it.
+///
+/// Each text is read twice. Then for each key the groups that reach it are looked for backwards, from those that list
+/// it: each of them once, by the places where it is named. They are those of the key's row, but for names that no text
+/// can spell. So this costs about the texts, the rows and, for each group in one, the places where it is named; it ends
+/// with the first row that passes a limit. A random state that the runtime refuses is want of memory, too.
+pub fn reverse(
+    alloc: Global,
+    rt: &impl RandomSource,
+    netgroup: &Version,
+    field: Field,
+    order: u32,
+    master: &[u8],
+) -> Result<Version, RevFault>
+    requires { length master.now ≤ master_max }
+    ensures reverse { IfOk result (λ version. IsReverse netgroup.now.rows field version.rows) }
+    ensures version { IfOk result (λ version. version ≡ unmarked order master.now version.rows) }
+    ensures fits { IfOk result (λ version. first_refused (begun order master.now) version.rows ≡ None) }
+    ensures cause { IfErr result (λ fault. IsCause netgroup.now.rows field (begun order master.now) fault) }
+{
+    let named = naming(alloc, rt, netgroup)?;
+    let listings = field.listings(alloc, netgroup)?;
+    let listed = listed(alloc, rt, &listings)?;
+    let keys = rising(keys_of(alloc, &listings)?);
+    let mut builder = VersionBuilder::new(alloc, rt, order, master)?;
+    for key in &keys {
+        put_row(alloc, rt, &named, &listed, *key, &mut builder)?;
+    }
+    Ok(builder.finish()?)
+}

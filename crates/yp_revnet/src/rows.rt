@@ -1,0 +1,40 @@
+//! The rows of a reverse map, put one behind the other.
+
+ghost use Rattle.std.specs.Prelude.{◌≡◌, ◌⊎◌, List, IfOk, IfErr, OnOk};
+ghost use Rattle.yp_version.specs.Rows.{Row};
+ghost use Rattle.yp_revnet.specs.declared.field.Field.{Field};
+ghost use Rattle.yp_revnet.specs.declared.fault.RevFault.TheVariants.{NoMemory as WithoutMemory};
+ghost use Rattle.yp_revnet.specs.Groups.{IsKeptOf};
+ghost use Rattle.yp_revnet.specs.Refused.{IsPut, IsRefusal};
+
+use crate::fault::{RevFault, fault_of};
+use crate::groups::{commas, groups_of};
+use crate::links::Links;
+use std::alloc::Global;
+use std::random::RandomSource;
+use yp_version::VersionBuilder;
+
+// Puts the row of a key behind those of lower keys, where a group has it.
+pub(crate) fn put_row(
+    alloc: Global,
+    rt: &impl RandomSource,
+    named: &Links<'_>,
+    listed: &Links<'_>,
+    key: &[u8],
+    builder: &mut VersionBuilder,
+) -> Result<(), RevFault>
+    ensures ok { OnOk result ((rows : List Row) (field : Field) → IsKeptOf rows field named.now listed.now
+        → IsPut rows field key.now builder.old builder.new) }
+    ensures err { IfErr result (λ fault. (rows : List Row) (field : Field) → IsKeptOf rows field named.now listed.now
+        → (fault ≡ WithoutMemory) ⊎ IsRefusal rows field key.now builder.old fault) }
+{
+    let groups = groups_of(alloc, rt, named, listed, key)?;
+    if groups.is_empty() {
+        return Ok(());
+    }
+    let value = commas(alloc, &groups)?;
+    match builder.push(key, &value) {
+        Ok(_) => Ok(()),
+        Err(fault) => Err(fault_of(builder.len(), fault)),
+    }
+}
