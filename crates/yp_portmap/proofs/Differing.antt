@@ -1,5 +1,5 @@
 -- A list of mappings that differ, with one more, or with some left out.
-use Rattle.std.proofs.Common.{◌≡◌, ◌∙◌, ◌++◌, ◌&&◌, ◌||◌, ◌==◌, ℕ, Bool, true, false, not, List, [], ◌∷◌, ◌<◌, ◌≤◌, subst, length, ap, sym, refl, rules, arith}
+use Rattle.std.proofs.Common.{◌≡◌, ◌∙◌, ◌++◌, ◌&&◌, ◌||◌, ◌==◌, ℕ, Bool, true, false, not, List, [], ◌∷◌, ◌<◌, ◌≤◌, subst, length, ap, sym, refl, arith}
 use Rattle.std.specs.Prelude.{nat_lt}
 use Rattle.yp_io.specs.declared.stream.Peer.{Peer}
 use Rattle.std.specs.List.{filter, list_any, IsDistinct, AllByRecursion}
@@ -29,9 +29,10 @@ same_turned m other = rw (turned m.prog other.prog, turned m.vers other.vers, tu
 pub with_more : (ms : List Mapping) (other : Mapping) → Differ ms → list_any (is_same other) ms ≡ false → Differ (ms ++ other ∷ [])
 unfolding IsDistinct
 with_more [] other differ none = (tt, tt)
-with_more (m ∷ ms) other differ none =
-    (behind m other ms differ.0 (sym (same_turned m other) ∙ first_false (is_same other m) (list_any (is_same other) ms) none),
-    with_more ms other differ.1 (second_false (is_same other m) (list_any (is_same other) ms) none))
+with_more (m ∷ ms) other differ none = (
+  behind m other ms differ.0 (sym (same_turned m other) ∙ first_false (is_same other m) (list_any (is_same other) ms) none),
+  with_more ms other differ.1 (second_false (is_same other m) (list_any (is_same other) ms) none),
+)
 
 all_by : (m x : Mapping) (p : Mapping → Bool) (ms : List Mapping) (b : Bool) → p x ≡ b → is_same m x ≡ false
     → AllByRecursion (λ y. is_same m y ≡ false) (filter p ms) → AllByRecursion (λ y. is_same m y ≡ false) (filter p (x ∷ ms))

@@ -6,7 +6,6 @@ use Rattle.yp_xdr.specs.Reading.{Unread, reading}
 use Rattle.yp_rpc.specs.declared.call.CallHead.{CallHead}
 use Rattle.yp_rpc.specs.declared.call.Heard.{Heard}
 use Rattle.yp_rpc.specs.declared.call.Heard.TheVariants.{Call, WrongRpc, Noise}
-use Rattle.yp_rpc.specs.declared.reply.ReplyHead.{ReplyHead}
 use Rattle.yp_rpc.specs.declared.reply.ReplyHead.TheVariants.{Success, ProgUnavail, ProgMismatch, ProcUnavail}
 use Rattle.yp_rpc.specs.declared.reply.ReplyHead.TheVariants.{GarbageArgs, RpcMismatch, AuthError}
 use Rattle.yp_rpc.specs.Call.{heard}

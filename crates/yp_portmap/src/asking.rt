@@ -24,13 +24,7 @@ pub struct PortReply {
 pub const CALL_LEN: usize = 56;
 
 /// Writes a call of GETPORT from the front of the buffer, with port 0, and answers its length.
-pub fn ask_port(
-    buf: &mut [u8],
-    xid: u32,
-    prog: u32,
-    vers: u32,
-    prot: u32,
-) -> Result<usize, NoRoom>
+pub fn ask_port(buf: &mut [u8], xid: u32, prog: u32, vers: u32, prot: u32) -> Result<usize, NoRoom>
     ensures { Writes (getport_call xid prog vers prot) 0 result buf.old buf.new }
 {
     if buf.len() < CALL_LEN {

@@ -1,4 +1,4 @@
-use Rattle.std.proofs.Common.{◌≡◌, ℕ, ◌+◌, ◌≤◌, List, ◌++◌, length, Ok, refl, subst, append_assoc, arith}
+use Rattle.std.proofs.Common.{ℕ, ◌+◌, ◌≤◌, List, ◌++◌, length, Ok, refl, subst, append_assoc, arith}
 use Rattle.yp_xdr.specs.Spelling.{spelling, opaque, fixed}
 use Rattle.yp_xdr.specs.Writing.{Writes}
 use Rattle.yp_rpc.specs.Call.{front_kind, procedure_kind}
@@ -27,7 +27,7 @@ returns c =
     let asked = spelling mapping_kind (c.args.prog, (c.args.vers, (c.args.prot, 0))) in
     let room : 0 + length (head ++ asked) ≤ length old = omega (arith, c.if-buf-lt-CALL_LEN.false) in
     let within : end ≤ length half =
-        omega (arith, c.set.ensures.place, c.in-Ok.ensures.len, c.write_call.auto.buf, c.if-buf-lt-CALL_LEN.false) in
+    omega (arith, c.set.ensures.place, c.in-Ok.ensures.len, c.write_call.auto.buf, c.if-buf-lt-CALL_LEN.false) in
     let put = writes_from_sets asked c.in-Ok.at end half new c.set.ensures within in
     subst (λ (bytes : List ℕ). Writes bytes 0 (Ok end) old new)
     (append_assoc (spelling front_kind (front c.args.xid)) (spelling procedure_kind (heading 100000 2 3)) asked)

@@ -1,4 +1,4 @@
-use Rattle.std.proofs.Common.{◌≡◌, ◌+◌, ◌*◌, ◌≤◌, ◌++◌, take, map}
+use Rattle.std.proofs.Common.{◌≡◌, ◌+◌, ◌*◌, ◌++◌, take, map}
 use Rattle.std.specs.Prelude.{flat_map}
 use Rattle.yp_xdr.specs.Spelling.{present, spelling}
 use Rattle.yp_portmap.specs.Registry.{mapping_kind, mapping_view}

@@ -1,7 +1,4 @@
-use Rattle.std.proofs.Common.{[], List, length, rules, arith}
-use Rattle.std.specs.List.{IsDistinct}
-use Rattle.yp_portmap.specs.declared.mapping.Mapping.{Mapping}
-use Rattle.yp_portmap.specs.Registry.{Differ}
+use Rattle.std.proofs.Common.{arith}
 use Rattle.yp_portmap.proofs.Differing.{none_differ, none_few}
 use Rattle.yp_portmap.proofs.registry.Registry.new.Goals as goal
 
