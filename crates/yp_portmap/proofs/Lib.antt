@@ -1,0 +1,3 @@
+mod Differing
+mod Repeating
+mod Putting

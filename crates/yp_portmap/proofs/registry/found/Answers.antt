@@ -1,0 +1,10 @@
+use Rattle.std.proofs.Common.{rules, tests}
+use Rattle.std.proofs.lemmas.Iterator.{YieldsList-from_slice}
+use Rattle.std.proofs.lemmas.Iterator.Search.{find_from_yields_List}
+use Rattle.yp_portmap.specs.Registry.{is_same}
+use Rattle.yp_portmap.proofs.registry.found.Goals as goal
+
+pub returns : goal.returns
+returns c =
+    find_from_yields_List (is_same c.args.asked.now) _ _ c.find.result c.find.ensures.ran
+    (YieldsList-from_slice c.args.mappings.now cc) (λ x b q k. search (rules, tests))

@@ -1,0 +1,5 @@
+pub mod Numbers
+pub mod Registry
+pub mod Requests
+pub mod Replies
+pub mod Asking

@@ -1,0 +1,9 @@
+//! Tests of `yp_portmap`.
+#![tactic(auto)]
+
+#[cfg(test)]
+mod asking;
+#[cfg(test)]
+mod given;
+#[cfg(test)]
+mod registry;
