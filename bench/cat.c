@@ -64,12 +64,14 @@ static void serve(const char *path, int count) {
     printf("%d\n", ntohs(addr.sin_port));
     fclose(stdout);
     for (int i = 0; i < count; i++) {
-        unsigned char came[CALL];
+        unsigned char head[4], came[BLOCK];
         int peer = accept(listener, NULL, NULL);
-        need(peer >= 0 && recv(peer, came, CALL, MSG_WAITALL) == CALL);
+        need(peer >= 0 && recv(peer, head, 4, MSG_WAITALL) == 4);
+        size_t called = number(head) & 0x7fffffff;
+        need(called <= BLOCK && recv(peer, came, called, MSG_WAITALL) == (ssize_t)called);
         write_all(peer, reply, len);
         /* The client ends first, so that nothing it reads is lost. */
-        while (read(peer, came, CALL) > 0)
+        while (read(peer, came, BLOCK) > 0)
             ;
         close(peer);
     }
