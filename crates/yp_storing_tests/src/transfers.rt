@@ -68,7 +68,7 @@ struct Case {
     code: u8,
     line: &'static str,
     note: &'static str,
-    calls: usize,
+    calls: u8,
     left: &'static [&'static str],
 }
 
@@ -220,7 +220,7 @@ fn try_scene<'a, R: RandomSource + Abort>(
         case.code,
         case.line.as_bytes(),
         case.note.as_bytes(),
-        case.calls * CALL_LEN,
+        case.calls as usize * CALL_LEN,
     );
     assert_same(rt, &came, &(told, left), case.row);
 }
