@@ -20,6 +20,14 @@ pub record Wires : Type 0 where
   pub came : List Dialed
   pub back : List WireState
 
+-- what a dial tells of its wires, and how often it has failed
+pub record Dialing : Type 0 where
+  pub past : Option Wires
+  pub faults : ℕ
+
+abbrev pub dialing_of : {A : Type 0} → (A → Option Wires) → (A → ℕ) → A → Dialing
+dialing_of past faults dial = record { past = past dial; faults = faults dial }
+
 -- This wire came.
 abbrev pub Comes : Dialed → Option Wires → Option Wires → Type 0
 Comes dialed None new = ⊤
