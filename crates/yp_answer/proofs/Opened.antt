@@ -19,7 +19,8 @@ use Rattle.yp_answer.specs.declared.procedure.Procedure.{Procedure}
 use Rattle.yp_answer.specs.declared.procedure.Procedure.TheVariants.{Null, Domain, DomainNonack, Match, First, Next, Xfr, Clear, All, Master, Order, Maplist, Make}
 use Rattle.yp_answer.specs.Maps.{Maps}
 use Rattle.yp_answer.specs.declared.make.Job.{Job}
-use Rattle.yp_answer.specs.Make.{MakeRequest, own_host, make_check}
+use Rattle.yp_io.specs.Peers.{own_host}
+use Rattle.yp_answer.specs.Make.{MakeRequest, make_check}
 use Rattle.yp_answer.specs.Transfer.{XfrRequest, Taken, taken_for, xfr_check}
 use Rattle.yp_answer.specs.Reply.{Response, Bytes, Takes, Open, arguments_of, xfr_response, make_response, procedure_reply, admitted, call_reply, heard_reply}
 use Rattle.yp_answer.proofs.Targets.{IsSpecial, not_of_bytes, of_arguments, not_of_either}

@@ -13,7 +13,8 @@ use Rattle.yp_rpc.specs.declared.reply.ReplyHead.TheVariants.{Success}
 use Rattle.yp_version.specs.Versions.{MapVersion}
 use Rattle.yp_answer.specs.Reply.{success}
 use Rattle.yp_answer.specs.Results.{all_items}
-use Rattle.yp_answer.specs.Streams.{parts, item_parts, joined, between, Gives}
+use Rattle.yp_rpc.specs.Records.{joined}
+use Rattle.yp_answer.specs.Streams.{parts, item_parts, between, Gives}
 
 -- items behind the word that says that they are there, and then the end, are a list
 joined_items : (items : List (Value key_val)) → joined (map (spelling all_item) (map (λ item. Some item) items ++ None ∷ [])) ≡ spelling (ListOf key_val) items

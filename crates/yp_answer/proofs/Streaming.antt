@@ -9,7 +9,8 @@ use Rattle.yp_answer.specs.declared.procedure.Procedure.TheVariants.{All}
 use Rattle.yp_answer.specs.Maps.{Maps, row_check}
 use Rattle.yp_answer.specs.Results.{all_items}
 use Rattle.yp_answer.specs.Reply.{Response, Bytes, arguments_of, with_arguments, procedure_reply, success}
-use Rattle.yp_answer.specs.Streams.{Streamed, source_of, parts_left, joined}
+use Rattle.yp_rpc.specs.Records.{joined}
+use Rattle.yp_answer.specs.Streams.{Streamed, source_of, parts_left}
 use Rattle.yp_answer.specs.Answers.{IsInside, Streams}
 use Rattle.yp_answer.proofs.Parts.{joined_parts}
 

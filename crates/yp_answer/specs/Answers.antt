@@ -14,7 +14,8 @@ use Rattle.yp_answer.specs.Transfer.{taken_view}
 use Rattle.yp_answer.specs.declared.calls.Answered.TheVariants as answers
 use Rattle.yp_answer.specs.Maps.{Maps}
 use Rattle.yp_answer.specs.Reply.{Response, Silence, Bytes, Takes, Open, reply, procedure_reply}
-use Rattle.yp_answer.specs.Streams.{Streamed, parts_left, joined}
+use Rattle.yp_rpc.specs.Records.{joined}
+use Rattle.yp_answer.specs.Streams.{Streamed, parts_left}
 
 -- the map of a stream is one of the catalogue
 abbrev pub IsInside : Maps → Result ℕ YpStat → Type 0

@@ -4,7 +4,7 @@ use Rattle.yp_io.specs.declared.stream.Peer.{Peer}
 use Rattle.yp_answer.specs.declared.procedure.Path.{Path}
 use Rattle.yp_answer.specs.declared.make.Job.{Job}
 use Rattle.yp_answer.specs.Maps.{Maps}
-use Rattle.yp_answer.specs.Make.{own_host}
+use Rattle.yp_io.specs.Peers.{own_host}
 use Rattle.yp_version.specs.Versions.{MapVersion}
 use Rattle.yp_board.specs.Logs.{shown}
 use Rattle.yp_answer.specs.Transfer.{Taken}

@@ -4,6 +4,7 @@ use Rattle.std.specs.Prelude.{bytes_eq}
 use Rattle.std.specs.List as lists
 use Rattle.std.specs.Option.{option_and_then, ok_or}
 use Rattle.yp_io.specs.declared.stream.Peer.{Peer}
+use Rattle.yp_io.specs.Peers.{own_host}
 use Rattle.yp_xdr.specs.Kind.{Value}
 use Rattle.yp_msgs.specs.declared.transfer.XfrStat.{XfrStat}
 use Rattle.yp_msgs.specs.declared.transfer.XfrStat.TheVariants.{Refused, Badargs, Nodom, Nomap}
@@ -12,10 +13,6 @@ use Rattle.yp_board.specs.Catalogues.{Catalogue, find, serves}
 use Rattle.yp_build.specs.declared.kind.Kind.{Kind}
 use Rattle.yp_build.specs.Kinds.{kinds, number_of, name_of}
 use Rattle.yp_answer.specs.declared.make.Job.{Job}
-
--- the address of a caller on the server's own host
-abbrev pub own_host : List ℕ
-own_host = 127 ∷ 0 ∷ 0 ∷ 1 ∷ []
 
 -- what MAKE asks for: a domain, and the number of a kind of map
 abbrev pub MakeRequest : Type 0

@@ -30,7 +30,8 @@ use Rattle.yp_answer.specs.declared.procedure.Procedure.{Procedure}
 use Rattle.yp_answer.specs.declared.caller.Caller.{Caller}
 use Rattle.yp_answer.specs.declared.procedure.Procedure.TheVariants.{Null, Domain, DomainNonack, Match, First, Next}
 use Rattle.yp_answer.specs.declared.procedure.Procedure.TheVariants.{Xfr, Clear, All, Master, Order, Maplist, Make}
-use Rattle.yp_answer.specs.Numbers.{auth_none, auth_sys, auth_rejectedcred, rpc_version, datagram_max}
+use Rattle.yp_rpc.specs.Numbers.{auth_none, auth_sys, auth_rejectedcred, rpc_version}
+use Rattle.yp_answer.specs.Numbers.{datagram_max}
 use Rattle.yp_answer.specs.Maps.{Maps, map_check, row_check}
 use Rattle.yp_answer.specs.Results.{no_value, no_row, matched, first_row, next_row, all_items, mastered, ordered}
 use Rattle.yp_answer.specs.Results.{maps_listed}

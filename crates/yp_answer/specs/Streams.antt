@@ -1,9 +1,10 @@
 -- The reply of ALL in parts, which are given one after the other.
-use Rattle.std.specs.Prelude.{◌≡◌, ℕ, ◌-◌, List, [], ◌∷◌, ◌++◌, take, drop, map, flat_map, Some, None, Result}
+use Rattle.std.specs.Prelude.{◌≡◌, ℕ, ◌-◌, List, [], ◌∷◌, ◌++◌, take, drop, map, Some, None, Result}
 use Rattle.std.specs.Prelude.{Ok, Err}
 use Rattle.std.specs.Option.{ok_or}
 use Rattle.yp_xdr.specs.Kind.{Value}
 use Rattle.yp_xdr.specs.Spelling.{spelling}
+use Rattle.yp_rpc.specs.Records.{joined}
 use Rattle.yp_rpc.specs.Reply.{reply_head}
 use Rattle.yp_rpc.specs.declared.reply.ReplyHead.TheVariants.{Success}
 use Rattle.yp_msgs.specs.declared.stat.YpStat.{YpStat}
@@ -40,10 +41,6 @@ parts xid source = reply_head xid Success ∷ item_parts source
 -- the parts that are still to be given
 abbrev pub parts_left : Log → Streamed → List (List ℕ)
 parts_left log stream = drop stream.given (parts stream.xid (source_of log stream.source))
-
--- the bytes of parts, joined
-abbrev pub joined : List (List ℕ) → List ℕ
-joined parts = flat_map (λ part. part) parts
 
 -- the parts from one place up to another
 abbrev pub between : ℕ → ℕ → List (List ℕ) → List (List ℕ)

@@ -9,12 +9,9 @@ ghost use Rattle.yp_answer.specs.Reply.{make_reply};
 use crate::caller::put_head;
 use yp_board::Catalog;
 use yp_build::Kind;
-use yp_io::Peer;
+use yp_io::{OWN_HOST, Peer};
 use yp_msgs::{Message, ReqMake, RespMake, XfrStat};
 use yp_rpc::ReplyHead;
-
-/// The address of a caller on the server's own host.
-const OWN_HOST: [u8; 4] = [127, 0, 0, 1];
 
 /// A map that is made: its number from 0, and its kind.
 #[derive(Clone, Copy, Debug, PartialEq, Eq)]

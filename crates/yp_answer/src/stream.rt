@@ -6,7 +6,8 @@ ghost use Rattle.yp_msgs.specs.Messages.{all_item, all_item_view, AllItemIsWithi
 ghost use Rattle.yp_xdr.specs.Spelling.{spelling};
 ghost use Rattle.yp_answer.specs.Numbers.{record_max};
 ghost use Rattle.yp_answer.specs.Maps.{maps_of};
-ghost use Rattle.yp_answer.specs.Streams.{Gives, item_parts, parts_left, source_of, joined, between};
+ghost use Rattle.yp_rpc.specs.Records.{joined};
+ghost use Rattle.yp_answer.specs.Streams.{Gives, item_parts, parts_left, source_of, between};
 ghost use Rattle.yp_answer.specs.declared.stream.TheConstants.{ITEM_MAX};
 ghost use Rattle.yp_answer.specs.Answers.{IsInside};
 ghost use Rattle.yp_answer.specs.Items.{items_view};

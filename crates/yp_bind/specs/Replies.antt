@@ -5,6 +5,7 @@ use Rattle.std.specs.Prelude.{option_map, position, ◌&&◌, ◌==◌, bytes_eq
 use Rattle.std.specs.Int.{w16, w32, to_be_bytes, cast_unsigned}
 use Rattle.std.proofs.Common.{inl, inr}
 use Rattle.yp_io.specs.declared.stream.Peer.{Peer}
+use Rattle.yp_io.specs.Peers.{own_host}
 use Rattle.yp_xdr.specs.Kind.{Value}
 use Rattle.yp_xdr.specs.Spelling.{spelling}
 use Rattle.yp_rpc.specs.declared.reply.ReplyHead.TheVariants.{Success}
@@ -26,10 +27,6 @@ datagram_max = 8192
 -- the version of YP that a server speaks that a domain may be bound to
 abbrev pub served_version : ℕ
 served_version = 2
-
--- the address of a caller on the binder's own host
-abbrev pub own_host : List ℕ
-own_host = 127 ∷ 0 ∷ 0 ∷ 1 ∷ []
 
 -- the number of a domain, where the binder has it
 abbrev pub domain_number : Bindings → List ℕ → Option ℕ

@@ -11,6 +11,7 @@ use Rattle.yp_rpc.specs.declared.call.Heard.TheVariants.{Call, WrongRpc, Noise}
 use Rattle.yp_rpc.specs.declared.reply.ReplyHead.{ReplyHead}
 use Rattle.yp_rpc.specs.declared.reply.ReplyHead.TheVariants.{Success, ProgUnavail, ProgMismatch, ProcUnavail}
 use Rattle.yp_rpc.specs.declared.reply.ReplyHead.TheVariants.{GarbageArgs, RpcMismatch, AuthError}
+use Rattle.yp_rpc.specs.Numbers.{auth_none, auth_sys, auth_rejectedcred, rpc_version}
 use Rattle.yp_rpc.specs.Call.{heard}
 use Rattle.yp_msgs.specs.Numbers.{bind_program, bind_version, bind_null_procedure, bind_domain_procedure}
 use Rattle.yp_msgs.specs.Numbers.{setdom_procedure}
@@ -37,19 +38,6 @@ asked_view Nothing = AsksNothing
 asked_view (Answer xid head) = AsksHead xid head
 asked_view (Domain xid asked) = AsksDomain xid (req_domain_view asked)
 asked_view (Setdom xid asked server) = AsksSetdom xid (set_dom_view asked) server
-
--- the credential that the binder refuses, its reason, and the one version of RPC
-abbrev pub auth_none : ℕ
-auth_none = 0
-
-abbrev pub auth_sys : ℕ
-auth_sys = 1
-
-abbrev pub auth_rejectedcred : ℕ
-auth_rejectedcred = 2
-
-abbrev pub rpc_version : ℕ
-rpc_version = 2
 
 abbrev pub domain_asked : ℕ → Result (List ℕ × Unread) XdrFault → Asked
 domain_asked xid (Ok read) = AsksDomain xid read.0

@@ -21,14 +21,11 @@ use crate::request::{Request, read_request};
 use crate::standing::{Standing, rest_all};
 use std::alloc::Global;
 use std::marker::Model;
-use yp_io::{NoMemory, Peer};
+use yp_io::{NoMemory, OWN_HOST, Peer};
 use yp_msgs::protocol::YPVERS;
 use yp_msgs::{BindErr, BindResp, Message};
 use yp_rpc::{ReplyHead, write_reply};
 use yp_xdr::NoRoom;
-
-/// The address of a caller on the binder's own host.
-const OWN_HOST: [u8; 4] = [127, 0, 0, 1];
 
 /// Who may bind a domain by SETDOM.
 #[derive(Clone, Copy, Debug, PartialEq, Eq)]

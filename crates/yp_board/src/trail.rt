@@ -79,7 +79,7 @@ enum Steps {
 
 /// A count that takes no memory: it is there for contracts alone. It is seen as a number.
 #[derive(Drop)]
-pub(crate) struct Count {
+pub struct Count {
     steps: Steps,
 }
 
@@ -94,14 +94,14 @@ impl Model for Count {
 
 impl Count {
     /// Zero.
-    pub(crate) fn new() -> Count
+    pub fn new() -> Count
         ensures { result ≡ 0 }
     {
         Count { steps: Steps::Zero }
     }
 
     /// One more, up to the last count.
-    pub(crate) fn rise(&mut self)
+    pub fn rise(&mut self)
         ensures { self.new ≡ next_count self.old }
     {
         let before = Snapshot::of(&self.steps);

@@ -4,13 +4,13 @@ use Rattle.std.proofs.Common.{Err, if◌then◌else◌, ◌==◌, arith, refl, s
 use Rattle.std.specs.Option.{option_map_or}
 use Rattle.yp_version.specs.Rows.{Row, value_of}
 use Rattle.yp_version.specs.Versions.{MapVersion}
-use Rattle.yp_version.specs.Drafts.{Draft, with_new, with_row, with_rows}
+use Rattle.yp_version.specs.Drafts.{Draft, with_new, with_row, with_rows, empty_draft}
 use Rattle.yp_build.specs.declared.kind.Kind.{Kind}
 use Rattle.yp_build.specs.declared.fault.BuildFault.{BuildFault}
 use Rattle.yp_build.specs.declared.fault.BuildFault.TheVariants as fault
 use Rattle.yp_build.specs.Rows.{LineRow, rows}
 use Rattle.yp_build.specs.Pushes.{plain, first_fault}
-use Rattle.yp_build.specs.Builds.{order_max, order_after, empty_draft, finished, filled, built}
+use Rattle.yp_build.specs.Builds.{order_max, order_after, finished, filled, built}
 use Rattle.yp_build.specs.After.{last_order, secured, IsOver}
 
 with_row_order : (draft : Draft) (row : Row) → (with_row draft row).order ≡ draft.order

@@ -19,10 +19,6 @@ abbrev pub order_after : Option ℕ → ℕ → Option ℕ
 order_after None now = Some now
 order_after (Some previous) now = if previous == order_max then None else Some (max (previous + 1) now)
 
--- a draft without rows
-abbrev pub empty_draft : ℕ → List ℕ → Draft
-empty_draft order master = record { order = order; master = master; rows = [] }
-
 -- the version of a draft
 abbrev pub finished : Draft → MapVersion
 finished draft = unmarked draft.order draft.master (listed draft.rows)

@@ -10,7 +10,8 @@ use Rattle.yp_build.specs.declared.kind.Kind.TheVariants.{PasswdByname, PasswdBy
 use Rattle.yp_build.specs.declared.kind.Kind.TheVariants.{HostsByname, HostsByaddr, ServicesByname, ProtocolsBynumber}
 use Rattle.yp_build.specs.declared.kind.Kind.TheVariants.{Netgroup, Ypservers}
 use Rattle.yp_build.specs.Lines.{Line, whole_lines}
-use Rattle.yp_build.specs.Words.{is_blank, is_filled, fields, words, after_word, bare}
+use Rattle.yp_version.specs.Blanks.{is_blank}
+use Rattle.yp_build.specs.Words.{is_filled, fields, words, after_word, uncommented}
 
 -- a key and its value that are lent, as a row
 abbrev pub row_view : Bor (List ℕ) × Bor (List ℕ) → Row
@@ -35,7 +36,7 @@ abbrev pub field_row : ℕ → List ℕ → Option Row
 field_row number line =
     if is_entry line then option_and_then (filled_row line) (slice_get (fields line) number) else None
 
--- ---- the others: the bare line, by one of its words
+-- ---- the others: the uncommented line, by one of its words
 
 -- by the word of this number, from 0
 abbrev pub word_row : ℕ → List ℕ → Option Row
@@ -61,12 +62,12 @@ rows_in PasswdByname line = option_to_list (field_row 0 line)
 rows_in PasswdByuid line = option_to_list (field_row 2 line)
 rows_in GroupByname line = option_to_list (field_row 0 line)
 rows_in GroupBygid line = option_to_list (field_row 2 line)
-rows_in HostsByname line = name_rows (bare line)
-rows_in HostsByaddr line = option_to_list (word_row 0 (bare line))
-rows_in ServicesByname line = option_to_list (word_row 1 (bare line))
-rows_in ProtocolsBynumber line = option_to_list (word_row 1 (bare line))
-rows_in Netgroup line = option_to_list (group_row (bare line))
-rows_in Ypservers line = option_to_list (server_row (bare line))
+rows_in HostsByname line = name_rows (uncommented line)
+rows_in HostsByaddr line = option_to_list (word_row 0 (uncommented line))
+rows_in ServicesByname line = option_to_list (word_row 1 (uncommented line))
+rows_in ProtocolsBynumber line = option_to_list (word_row 1 (uncommented line))
+rows_in Netgroup line = option_to_list (group_row (uncommented line))
+rows_in Ypservers line = option_to_list (server_row (uncommented line))
 
 -- whether lines go on in the next
 abbrev pub joins : Kind → Bool

@@ -3,8 +3,8 @@ use Rattle.std.specs.Prelude.{ℕ, suc, zero, ◌+◌, ◌*◌, ◌%◌, ◌^◌
 use Rattle.std.specs.Char.Escape.{hex_digit_at}
 use Rattle.yp_version.specs.Rows.{Row}
 use Rattle.yp_version.specs.Versions.{MapVersion}
-use Rattle.yp_version.specs.Drafts.{with_rows}
-use Rattle.yp_build.specs.Builds.{empty_draft, finished}
+use Rattle.yp_version.specs.Drafts.{with_rows, empty_draft}
+use Rattle.yp_build.specs.Builds.{finished}
 
 -- the number after one: a linear congruence of full period (Press et al., Numerical Recipes in C, section 7.1)
 abbrev pub number_after : ℕ → ℕ

@@ -1,10 +1,7 @@
 -- What stands in a line: fields, words, comments.
-use Rattle.std.specs.Prelude.{ℕ, ◌-◌, Bool, not, ◌||◌, ◌==◌, List, length, take, drop}
-use Rattle.std.specs.List.{slice_split, filter, prefix_len, suffix_len, before_first, after_first}
-
--- a space or a tab
-abbrev pub is_blank : ℕ → Bool
-is_blank b = b == 32 || b == 9
+use Rattle.std.specs.Prelude.{ℕ, Bool, not, ◌==◌, List, length}
+use Rattle.std.specs.List.{slice_split, filter, before_first, after_first}
+use Rattle.yp_version.specs.Blanks.{is_blank, without_front_blanks, bare}
 
 abbrev pub is_colon : ℕ → Bool
 is_colon b = b == 58
@@ -23,16 +20,10 @@ is_filled piece = not (length piece == 0)
 abbrev pub words : List ℕ → List (List ℕ)
 words line = filter is_filled (slice_split is_blank line)
 
-abbrev pub without_front_blanks : List ℕ → List ℕ
-without_front_blanks line = drop (prefix_len is_blank line) line
-
-abbrev pub without_back_blanks : List ℕ → List ℕ
-without_back_blanks line = take (length line - suffix_len is_blank line) line
-
 -- what follows the first word and the blanks after it
 abbrev pub after_word : List ℕ → List ℕ
 after_word line = without_front_blanks (after_first is_blank (without_front_blanks line))
 
 -- the line without its comment, then without the blanks at both ends
-abbrev pub bare : List ℕ → List ℕ
-bare line = without_back_blanks (without_front_blanks (before_first is_number_sign line))
+abbrev pub uncommented : List ℕ → List ℕ
+uncommented line = bare (before_first is_number_sign line)

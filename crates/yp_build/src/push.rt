@@ -11,7 +11,7 @@ use crate::fault::BuildFault;
 use crate::kind::Kind;
 use crate::lines::{cut_line, is_continued, join};
 use crate::row::one_row;
-use crate::words::{bare, cut_word};
+use crate::words::{cut_word, uncommented};
 use std::alloc::Global;
 use yp_version::{VersionBuilder, VersionFault};
 
@@ -73,7 +73,7 @@ fn push_line(
     ensures stopped { IfErr result (Stopped into.old (line_rows kind (number, line.now)) into.new) }
 {
     match kind {
-        Kind::HostsByname => push_names(number, bare(line), into),
+        Kind::HostsByname => push_names(number, uncommented(line), into),
         kind => match one_row(kind, line) {
             Some((key, value)) => push_row(number, key, value, into),
             None => Ok(()),

@@ -2,11 +2,12 @@
 
 ghost use Rattle.std.specs.Prelude.{◌≡◌, ◌≢◌, not, option_map, option_to_list};
 ghost use Rattle.std.specs.List.{list_all};
-ghost use Rattle.yp_build.specs.Words.{is_blank};
+ghost use Rattle.yp_version.specs.Blanks.{is_blank};
 ghost use Rattle.yp_build.specs.Rows.{is_entry, field_row, word_row, group_row, server_row, rows_in, row_view};
 
 use crate::kind::Kind;
-use crate::words::{bare, cut_word, field, is_blank, without_front_blanks};
+use crate::words::{cut_word, field, uncommented};
+use yp_version::{is_blank, without_front_blanks};
 
 /// Whether all bytes are blanks.
 fn is_all_blank(line: &[u8]) -> bool
@@ -37,7 +38,7 @@ fn field_row(number: usize, line: &[u8]) -> Option<(&[u8], &[u8])>
     }
 }
 
-/// The row of a bare line by its first word.
+/// The row of an uncommented line by its first word.
 fn first_word_row(line: &[u8]) -> Option<(&[u8], &[u8])>
     ensures { option_map row_view result ≡ word_row 0 line.now }
 {
@@ -45,7 +46,7 @@ fn first_word_row(line: &[u8]) -> Option<(&[u8], &[u8])>
     Some((word, line))
 }
 
-/// The row of a bare line by its second word.
+/// The row of an uncommented line by its second word.
 fn second_word_row(line: &[u8]) -> Option<(&[u8], &[u8])>
     ensures { option_map row_view result ≡ word_row 1 line.now }
 {
@@ -79,9 +80,9 @@ pub(crate) fn one_row(kind: Kind, line: &[u8]) -> Option<(&[u8], &[u8])>
         Kind::PasswdByname | Kind::GroupByname => field_row(0, line),
         Kind::PasswdByuid | Kind::GroupBygid => field_row(2, line),
         Kind::HostsByname => unreachable!(),
-        Kind::HostsByaddr => first_word_row(bare(line)),
-        Kind::ServicesByname | Kind::ProtocolsBynumber => second_word_row(bare(line)),
-        Kind::Netgroup => group_row(bare(line)),
-        Kind::Ypservers => server_row(bare(line)),
+        Kind::HostsByaddr => first_word_row(uncommented(line)),
+        Kind::ServicesByname | Kind::ProtocolsBynumber => second_word_row(uncommented(line)),
+        Kind::Netgroup => group_row(uncommented(line)),
+        Kind::Ypservers => server_row(uncommented(line)),
     }
 }

@@ -1,17 +1,12 @@
 //! What stands in a line: fields, words, comments.
 
 ghost use Rattle.std.specs.Prelude.{◌≡◌, ◌==◌, ◌+◌, ◌<◌, ◌≤◌, ◌∷◌, [], length, drop, option_map, IfNone, IfSome};
-ghost use Rattle.std.specs.List.{slice_get, position_or_len, prefix_len, suffix_len, before_first, after_first};
-ghost use Rattle.yp_build.specs.Words.{is_blank, fields, words, without_front_blanks, without_back_blanks, bare};
+ghost use Rattle.std.specs.List.{slice_get, position_or_len, before_first, after_first};
+ghost use Rattle.yp_version.specs.Blanks.{is_blank, without_front_blanks};
+ghost use Rattle.yp_build.specs.Words.{fields, words, uncommented};
 
 use memchr::memchr;
-
-/// A space or a tab.
-pub(crate) fn is_blank(byte: u8) -> bool
-    ensures { result ≡ is_blank byte }
-{
-    byte == b' ' || byte == b'\t'
-}
+use yp_version::{bare, is_blank, without_front_blanks};
 
 /// The place of the first such byte, or the length where there is none.
 pub(crate) fn place_of(mark: u8, text: &[u8]) -> usize
@@ -46,43 +41,11 @@ pub(crate) fn after(text: &[u8], place: usize) -> &[u8]
     }
 }
 
-/// How many blanks are at the front.
-fn front_blanks(line: &[u8]) -> usize
-    ensures count { result ≡ prefix_len is_blank line.now }
-    ensures within { result ≤ length line.now }
-{
-    for (i, byte) in line.iter().enumerate() {
-        if !is_blank(*byte) {
-            return i;
-        }
-    }
-    line.len()
-}
-
-/// The line without the blanks at its front.
-pub(crate) fn without_front_blanks(line: &[u8]) -> &[u8]
-    ensures { result.now ≡ without_front_blanks line.now }
-{
-    &line[front_blanks(line)..]
-}
-
-/// The line without the blanks at its end.
-fn without_back_blanks(line: &[u8]) -> &[u8]
-    ensures { result.now ≡ without_back_blanks line.now }
-{
-    let mut end = line.len();
-    while end > 0 && is_blank(line[end - 1]) {
-        end -= 1;
-    }
-    &line[..end]
-}
-
 /// The line without its comment and without the blanks at both ends.
-pub(crate) fn bare(line: &[u8]) -> &[u8]
-    ensures { result.now ≡ bare line.now }
+pub(crate) fn uncommented(line: &[u8]) -> &[u8]
+    ensures { result.now ≡ uncommented line.now }
 {
-    let line = &line[..place_of(b'#', line)];
-    without_back_blanks(without_front_blanks(line))
+    bare(&line[..place_of(b'#', line)])
 }
 
 /// The field of this number, from 0.

@@ -1,9 +1,9 @@
 -- What is told of a client between two calls.
-use Rattle.std.specs.Prelude.{ℕ, Bool, false}
+use Rattle.std.specs.Prelude.{◌≡◌, ℕ, Bool, false}
 use Rattle.yp_io.specs.declared.stream.Pair.{Pair}
 use Rattle.yp_io.specs.declared.stream.Source as source
 use Rattle.yp_io.specs.declared.stream.Sink as sink
-use Rattle.yp_io.specs.Dials.{WireState, wire_state}
+use Rattle.yp_io.specs.Dials.{WireState, wire_state, IsFresh}
 
 -- a client: its wire, the number of its next call, the place up to which it has read, whether it is spent, and its wire
 -- as it was when it began to wait for a reply the last time, which at first is its wire at first
@@ -23,6 +23,13 @@ pub record ClientState : Type 0 where
   pub place : ℕ
   pub spent : Bool
   pub waited : WireState
+
+-- a client of a wire that has met no fault and taken nothing, whose first call has the number 1
+pub record IsFirst (client : ClientState) : Type 0 where
+  pub fresh : IsFresh client.reads client.writes client.wire.output
+  pub xid : client.xid ≡ 1
+  pub place : client.place ≡ 0
+  pub spent : client.spent ≡ false
 
 -- one that isn't spent, and waits for nothing
 abbrev pub unspent : {S K : Type 0} → Pair S K → ℕ → ℕ → Held S K

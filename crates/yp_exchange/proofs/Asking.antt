@@ -14,7 +14,7 @@ use Rattle.yp_version.specs.Laws.{RisingStays}
 use Rattle.yp_client.specs.declared.fault.ClientFault.{ClientFault}
 use Rattle.yp_client.specs.declared.fault.ClientFault.TheVariants.{Yp, NoMemory as ClientNoMemory}
 use Rattle.yp_client.specs.Limits.{reply_max, all_max}
-use Rattle.yp_client.specs.States.{ClientState}
+use Rattle.yp_client.specs.States.{ClientState, IsFirst}
 use Rattle.yp_client.specs.Results.{Says, SaysInMemory, value_of, master_of, order_of, maps_of}
 use Rattle.yp_client.specs.Said.{SaysNumber, SaysBytes, SaysNames}
 use Rattle.yp_client.specs.All.{AllSaid, all_said, IsSaid, SaysAll}
@@ -29,7 +29,7 @@ use Rattle.yp_query.specs.Asked.{Outcome, told_by, meant_by, no_rows, TakesRows,
 use Rattle.yp_query.specs.Asked.{rows_told, membership_told, netgroup}
 use Rattle.yp_question.specs.Questions.{ByteQuestion, QuestionIsWithin}
 use Rattle.yp_query.specs.Complete.{HasCome}
-use Rattle.yp_query.specs.Scenes.{IsFirst, Exchanges}
+use Rattle.yp_query.specs.Scenes.{Exchanges}
 use Rattle.yp_answer.specs.Maps.{Maps, map_check, row_check}
 use Rattle.yp_answer.specs.Served.{AreServed}
 use Rattle.yp_exchange.specs.Told.{told, of_version, value_in, all_in, master_in, order_in, all_told, names_in}

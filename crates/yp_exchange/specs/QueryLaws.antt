@@ -5,12 +5,12 @@ use Rattle.yp_board.specs.Catalogues.{Catalogue}
 use Rattle.yp_board.specs.Logs.{Log}
 use Rattle.yp_answer.specs.Maps.{Maps}
 use Rattle.yp_answer.specs.Served.{AreServed, maps_on}
-use Rattle.yp_client.specs.States.{ClientState}
+use Rattle.yp_client.specs.States.{ClientState, IsFirst}
 use Rattle.yp_query.specs.declared.fault.QueryFault.{QueryFault}
 use Rattle.yp_question.specs.Questions.{ByteQuestion, QuestionIsWithin}
 use Rattle.yp_query.specs.Asked.{Outcome, Converses}
 use Rattle.yp_query.specs.Complete.{HasCome, HasAnswer}
-use Rattle.yp_query.specs.Scenes.{Scene, IsFirst, Asks}
+use Rattle.yp_query.specs.Scenes.{Scene, Asks}
 use Rattle.yp_exchange.specs.Runs.{RepliesInTurn, sent_all, calls_made, PrintsOnLogs}
 use Rattle.yp_exchange.specs.Answered.{GivesReplies, text_told, HasText, ComesTo, PrintsTold}
 

@@ -20,6 +20,28 @@ pub record Wires : Type 0 where
   pub came : List Dialed
   pub back : List WireState
 
+-- what a dial tells of its wires, and how often it has failed
+pub record Dialing : Type 0 where
+  pub past : Option Wires
+  pub faults : ℕ
+
+abbrev pub dialing_of : {A : Type 0} → (A → Option Wires) → (A → ℕ) → A → Dialing
+dialing_of past faults dial = record { past = past dial; faults = faults dial }
+
+-- the same, and the datagrams that were sent
+pub record DialTells : Type 0 where
+  pub past : Option Wires
+  pub letters : Option (List (Peer × List ℕ))
+  pub faults : ℕ
+
+abbrev pub dial_tells : {A : Type 0} → (A → Option Wires) → (A → Option (List (Peer × List ℕ))) → (A → ℕ) → A
+    → DialTells
+dial_tells past letters faults dial = record { past = past dial; letters = letters dial; faults = faults dial }
+
+-- what that tells of its wires
+abbrev pub wires_told : DialTells → Dialing
+wires_told tells = record { past = tells.past; faults = tells.faults }
+
 -- This wire came.
 abbrev pub Comes : Dialed → Option Wires → Option Wires → Type 0
 Comes dialed None new = ⊤

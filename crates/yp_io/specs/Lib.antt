@@ -1,5 +1,6 @@
 pub mod Counts
 pub mod Dials
+pub mod Peers
 pub mod Disk
 pub mod DiskLaws
 pub mod Inboxes

@@ -30,7 +30,7 @@ pub use mem_disk::MemDisk;
 pub use mem_texts::MemTexts;
 pub use plan::Plan;
 pub use stream::{
-    Failed, NoMemory, Pair, Peer, Sink, Source, count_fault, write_all, write_through,
+    Failed, NoMemory, OWN_HOST, Pair, Peer, Sink, Source, count_fault, write_all, write_through,
 };
 pub use texts::{TEXT_MAX, TextFault, TextFile, Texts};
 pub use whole::{Unread, read_all, zeros};

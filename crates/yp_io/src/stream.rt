@@ -18,6 +18,9 @@ pub struct Peer {
     pub port: u16,
 }
 
+/// The address of a caller on the own host.
+pub const OWN_HOST: [u8; 4] = [127, 0, 0, 1];
+
 /// Raises a count of faults, which stays at 2^64 - 1, and gives what the call that failed answers.
 pub fn count_fault(faults: &mut u64) -> Failed
     ensures raised { faults.new ≡ next_count faults.old }

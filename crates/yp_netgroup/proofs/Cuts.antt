@@ -4,7 +4,8 @@ use Rattle.std.proofs.Common.{refl, ap, ◌∙◌, ltb, is_some, rules, tests, t
 use Rattle.std.specs.Prelude.{position}
 use Rattle.std.specs.List.{list_any, position_or_len, before_first, after_first, slice_split, onto_first}
 use Rattle.std.proofs.lemmas.List.Splits.{slice_split-cons_no, slice_split_first}
-use Rattle.yp_netgroup.specs.Parts.{is_open, is_comma, bare, triple_in}
+use Rattle.yp_version.specs.Blanks.{bare}
+use Rattle.yp_netgroup.specs.Parts.{is_open, is_comma, triple_in}
 
 module _ (p : ℕ → Bool) where
   -- such a byte stands in a text exactly where its place is within it

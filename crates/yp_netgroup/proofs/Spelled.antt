@@ -6,8 +6,9 @@ use Rattle.std.specs.Borrow.{Bor}
 use Rattle.std.specs.Option.{option_map_or}
 use Rattle.std.specs.List.{list_any, prefix_len, position_or_len, before_first, after_first}
 use Rattle.std.proofs.lemmas.List.Sums.{prefix_len-le-length}
-use Rattle.yp_netgroup.specs.Parts.{Part, Triple, Lists, Cut, is_blank, is_open, is_close, is_name_byte}
-use Rattle.yp_netgroup.specs.Parts.{without_front_blanks, triple_in, cut_triple, cut_name, cut_bare, cut_member}
+use Rattle.yp_version.specs.Blanks.{is_blank, without_front_blanks}
+use Rattle.yp_netgroup.specs.Parts.{Part, Triple, Lists, Cut, is_open, is_close, is_name_byte}
+use Rattle.yp_netgroup.specs.Parts.{triple_in, cut_triple, cut_name, cut_bare, cut_member}
 use Rattle.yp_netgroup.specs.Parts.{parts_within, parts}
 use Rattle.yp_netgroup.specs.Member.{part_of, cut_of}
 use Rattle.yp_netgroup.specs.declared.text.Member.{Member}

@@ -1,15 +1,12 @@
 -- The members of a group as its text spells them (manual of netgroup(5)): names of groups, and triples of a host, a
 -- user and a domain. A text is any bytes.
-use Rattle.std.specs.Prelude.{ℕ, suc, zero, ◌-◌, Bool, not, ◌||◌, ◌==◌, if◌then◌else◌, List, [], ◌∷◌, length, take, drop}
+use Rattle.std.specs.Prelude.{ℕ, suc, zero, Bool, not, ◌||◌, ◌==◌, if◌then◌else◌, List, [], ◌∷◌, length, take, drop}
 use Rattle.std.specs.Prelude.{Option, Some, None, option_map, slice_index}
-use Rattle.std.specs.List.{filter_map, list_any, prefix_len, suffix_len, before_first, after_first, slice_split}
+use Rattle.std.specs.List.{filter_map, list_any, prefix_len, before_first, after_first, slice_split}
 use Rattle.std.specs.Option.{option_map_or}
+use Rattle.yp_version.specs.Blanks.{is_blank, without_front_blanks, bare}
 
 -- ---- bytes
-
--- a space or a tab
-abbrev pub is_blank : ℕ → Bool
-is_blank b = b == 32 || b == 9
 
 abbrev pub is_open : ℕ → Bool
 is_open b = b == 40
@@ -23,16 +20,6 @@ is_comma b = b == 44
 -- a byte of a name: no blank, parenthesis or comma
 abbrev pub is_name_byte : ℕ → Bool
 is_name_byte b = not (is_blank b || is_open b || is_close b || is_comma b)
-
-abbrev pub without_front_blanks : List ℕ → List ℕ
-without_front_blanks text = drop (prefix_len is_blank text) text
-
-abbrev pub without_back_blanks : List ℕ → List ℕ
-without_back_blanks text = take (length text - suffix_len is_blank text) text
-
--- freed of the blanks at both ends
-abbrev pub bare : List ℕ → List ℕ
-bare text = without_back_blanks (without_front_blanks text)
 
 -- ---- members
 

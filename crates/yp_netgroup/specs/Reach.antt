@@ -9,12 +9,12 @@ use Rattle.yp_netgroup.specs.Parts.{Triple, Part, parts, names, triples}
 -- ---- groups
 
 -- the text of a group: the value of its row; one without a row has none
-abbrev pub text_of : List Row → List ℕ → List ℕ
-text_of rows group = unwrap_or (value_of group rows) []
+abbrev pub group_text : List Row → List ℕ → List ℕ
+group_text rows group = unwrap_or (value_of group rows) []
 
 -- the members of a group
 abbrev pub members_of : List Row → List ℕ → List Part
-members_of rows group = parts (text_of rows group)
+members_of rows group = parts (group_text rows group)
 
 -- the text of one group names another
 abbrev pub Names : List Row → List ℕ → List ℕ → Type 0

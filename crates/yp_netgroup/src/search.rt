@@ -5,7 +5,7 @@ ghost use Rattle.std.specs.Prelude.{IfOk, IfSome, MatchOption, ◌∷◌};
 ghost use Rattle.std.specs.List.{IsDistinct};
 ghost use Rattle.indexmap.specs.IndexSet.{insert_all};
 ghost use Rattle.yp_netgroup.specs.Parts.{names, parts};
-ghost use Rattle.yp_netgroup.specs.Reach.{members_of, text_of, IsSpread, IsMember};
+ghost use Rattle.yp_netgroup.specs.Reach.{members_of, group_text, IsSpread, IsMember};
 ghost use Rattle.yp_netgroup.specs.Member.{part_of};
 ghost use Rattle.yp_netgroup.specs.Who.{asked_of, sought_of};
 ghost use Rattle.yp_netgroup.specs.Seen.{names_of, has_sought, IsMet, IsFound};
@@ -23,8 +23,8 @@ use yp_version::Version;
 type Seen<'a> = IndexSet<&'a [u8], RandomState>;
 
 // The text of a group; one without a row has none.
-fn text_of<'a>(version: &'a Version, group: &[u8]) -> &'a [u8]
-    ensures { result.now ≡ text_of version.now.rows group.now }
+fn group_text<'a>(version: &'a Version, group: &[u8]) -> &'a [u8]
+    ensures { result.now ≡ group_text version.now.rows group.now }
 {
     version.get(group).unwrap_or(&[])
 }
@@ -88,7 +88,7 @@ fn reach<'a>(
     let mut next = 0;
     while next < seen.len() {
         let group = seen.as_slice()[next];
-        if read(text_of(version, group), sought, &mut seen)? {
+        if read(group_text(version, group), sought, &mut seen)? {
             return Ok(None);
         }
         next += 1;

@@ -3,12 +3,12 @@
 ghost use Rattle.std.specs.Prelude.{◌≡◌, ◌==◌, ◌<◌, ◌≤◌, length, map, option_map, position, is_some, slice_index};
 ghost use Rattle.std.specs.Prelude.{[], ◌∷◌, IsTrue, IfOk, IfSome, IfNone};
 ghost use Rattle.std.specs.List.{list_any, prefix_len, before_first, after_first};
-ghost use Rattle.yp_netgroup.specs.Parts.{Lists, is_blank, is_open, is_name_byte, bare, without_front_blanks};
-ghost use Rattle.yp_netgroup.specs.Parts.{without_back_blanks, triple_in, cut_triple, cut_name, parts};
+ghost use Rattle.yp_netgroup.specs.Parts.{Lists, is_open, is_name_byte, triple_in, cut_triple, cut_name, parts};
 ghost use Rattle.yp_netgroup.specs.Member.{part_of, cut_of};
 
 use std::alloc::Global;
 use yp_io::NoMemory;
+use yp_version::{bare, is_blank, without_front_blanks};
 
 /// A member of a group. Its bytes are those of the text.
 #[derive(Clone, Copy, Debug, PartialEq, Eq)]
@@ -24,56 +24,11 @@ pub enum Member<'a> {
     },
 }
 
-// A space or a tab.
-fn is_blank(byte: u8) -> bool
-    ensures { result ≡ is_blank byte }
-{
-    byte == b' ' || byte == b'\t'
-}
-
 // A byte of a name.
 fn is_name_byte(byte: u8) -> bool
     ensures { result ≡ is_name_byte byte }
 {
     !(is_blank(byte) || matches!(byte, b'(' | b')' | b','))
-}
-
-// How many blanks are at the front.
-fn front_blanks(text: &[u8]) -> usize
-    ensures count { result ≡ prefix_len is_blank text.now }
-    ensures within { result ≤ length text.now }
-{
-    for (i, byte) in text.iter().enumerate() {
-        if !is_blank(*byte) {
-            return i;
-        }
-    }
-    text.len()
-}
-
-// The text without the blanks at its front.
-fn without_front_blanks(text: &[u8]) -> &[u8]
-    ensures { result.now ≡ without_front_blanks text.now }
-{
-    &text[front_blanks(text)..]
-}
-
-// The text without the blanks at its end.
-fn without_back_blanks(text: &[u8]) -> &[u8]
-    ensures { result.now ≡ without_back_blanks text.now }
-{
-    let mut end = text.len();
-    while end > 0 && is_blank(text[end - 1]) {
-        end -= 1;
-    }
-    &text[..end]
-}
-
-// The text without the blanks at both ends.
-fn bare(text: &[u8]) -> &[u8]
-    ensures { result.now ≡ bare text.now }
-{
-    without_back_blanks(without_front_blanks(text))
 }
 
 // How many bytes of a name are at the front.

@@ -18,7 +18,7 @@ use Rattle.yp_office.specs.declared.status.Status.TheVariants.{ReadFault, WriteF
 use Rattle.yp_office.specs.Disks.{names_of, history_of, faults_of}
 
 -- what a dial tells: its wires, the datagrams that were sent, and how often it has failed
-pub record Dialing (A : Type 0) : Type 0 where
+pub record DialGhosts (A : Type 0) : Type 0 where
   pub past : A → Option Wires
   pub letters : A → Option (List (Peer × List ℕ))
   pub faults : A → ℕ
@@ -29,7 +29,7 @@ pub record Seeing (S K D C A I T : Type 0) : Type 1 where
   pub sink : sink.Ghosts K
   pub disk : disk.Ghosts D
   pub clock : clock.Ghosts C
-  pub dial : Dialing A
+  pub dial : DialGhosts A
   pub inbox : inbox.Ghosts I
   pub texts : texts.Ghosts T
 

@@ -1,5 +1,5 @@
 -- The numbers of the port mapper (RFC 1833 section 3), and the limits of this one.
-use Rattle.std.specs.Prelude.{ℕ, List, [], ◌∷◌}
+use Rattle.std.specs.Prelude.{ℕ}
 
 abbrev pub program : ℕ
 program = 100000
@@ -40,20 +40,3 @@ mappings_max = 256
 -- the bytes of a call or a reply
 abbrev pub datagram_max : ℕ
 datagram_max = 8192
-
--- a caller on the own host has this address
-abbrev pub own_host : List ℕ
-own_host = 127 ∷ 0 ∷ 0 ∷ 1 ∷ []
-
--- the credentials that are let in, the reason for any other, and the one version of RPC (RFC 5531)
-abbrev pub auth_none : ℕ
-auth_none = 0
-
-abbrev pub auth_sys : ℕ
-auth_sys = 1
-
-abbrev pub auth_rejectedcred : ℕ
-auth_rejectedcred = 2
-
-abbrev pub rpc_version : ℕ
-rpc_version = 2

@@ -6,7 +6,8 @@ use Rattle.std.specs.List.{find, list_any, IsDistinct}
 use Rattle.yp_io.specs.declared.stream.Peer.{Peer}
 use Rattle.yp_xdr.specs.Kind.{Kind, U32, Sequence, Value}
 use Rattle.yp_portmap.specs.declared.mapping.Mapping.{Mapping}
-use Rattle.yp_portmap.specs.Numbers.{tcp, udp, port_max, mappings_max, own_host}
+use Rattle.yp_io.specs.Peers.{own_host}
+use Rattle.yp_portmap.specs.Numbers.{tcp, udp, port_max, mappings_max}
 
 -- a mapping as XDR: program, version, protocol and port
 abbrev pub mapping_kind : Kind

@@ -14,7 +14,7 @@ use Rattle.yp_portmap.specs.declared.request.Request.{Request}
 use Rattle.yp_portmap.specs.declared.request.Request.TheVariants.{Nothing, Answer, Set, Unset, GetPort, Dump}
 use Rattle.yp_portmap.specs.Numbers.{program, version, null_procedure, set_procedure, unset_procedure}
 use Rattle.yp_portmap.specs.Numbers.{getport_procedure, dump_procedure}
-use Rattle.yp_portmap.specs.Numbers.{auth_none, auth_sys, auth_rejectedcred, rpc_version}
+use Rattle.yp_rpc.specs.Numbers.{auth_none, auth_sys, auth_rejectedcred, rpc_version}
 use Rattle.yp_portmap.specs.Registry.{mapping_kind, mapping_of}
 
 -- what is asked with a mapping, or the refusal of arguments that no front of the bytes spells

@@ -30,6 +30,3 @@ pub const MAPPINGS_MAX: usize = 256;
 
 /// The most bytes of a call or a reply.
 pub const DATAGRAM_MAX: usize = 8_192;
-
-/// The address of a caller on the own host.
-pub const OWN_HOST: [u8; 4] = [127, 0, 0, 1];

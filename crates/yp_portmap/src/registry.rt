@@ -11,11 +11,11 @@ ghost use Rattle.yp_portmap.specs.Registry.{is_unset, with_unset, port_for, Diff
 ghost use Rattle.yp_portmap.specs.Replies.{success, reply, after, reply_in};
 
 use crate::mapping::Mapping;
-use crate::protocol::{DATAGRAM_MAX, MAPPINGS_MAX, OWN_HOST};
+use crate::protocol::{DATAGRAM_MAX, MAPPINGS_MAX};
 use crate::request::{Request, read_request};
 use std::alloc::Global;
 use std::marker::Model;
-use yp_io::{NoMemory, Peer};
+use yp_io::{NoMemory, OWN_HOST, Peer};
 use yp_msgs::Message;
 use yp_rpc::{ReplyHead, write_reply};
 use yp_xdr::{NoRoom, set_bool, set_u32};

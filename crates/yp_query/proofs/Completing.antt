@@ -16,7 +16,7 @@ use Rattle.yp_version.specs.Drafts.{Draft}
 use Rattle.yp_client.specs.declared.fault.ClientFault.{ClientFault}
 use Rattle.yp_client.specs.declared.fault.ClientFault.TheVariants as client
 use Rattle.yp_client.specs.Limits.{reply_max, all_max}
-use Rattle.yp_client.specs.States.{ClientState}
+use Rattle.yp_client.specs.States.{ClientState, IsFirst}
 use Rattle.yp_client.specs.Results.{Says, SaysInMemory, value_of, master_of, order_of, maps_of}
 use Rattle.yp_client.specs.All.{AllSaid, all_said, IsSaid}
 use Rattle.yp_client.specs.Calls.{Calls, Hears, NoReply}
@@ -34,7 +34,7 @@ use Rattle.yp_netgroup.specs.Reach.{Asked}
 use Rattle.yp_netgroup.specs.Decided.{is_member}
 use Rattle.yp_query.specs.Asked.{Outcome, told_by, meant_by, IsInMemory, no_rows, TakesRows, MakesMaster}
 use Rattle.yp_query.specs.Asked.{MakesCalls, rows_told, membership_outcome, membership_told, netgroup}
-use Rattle.yp_query.specs.Scenes.{Scene, IsFirst, Exchanges, Asks, HasQueryCause}
+use Rattle.yp_query.specs.Scenes.{Scene, Exchanges, Asks, HasQueryCause}
 use Rattle.yp_query.specs.Complete.{BeginsWithReply, IsFound, HasAnswer, HasCome, IsAnswered}
 
 -- what the laws of records say

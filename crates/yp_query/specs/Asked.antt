@@ -1,7 +1,7 @@
 -- The calls of each question, and what they come to.
 use Rattle.std.specs.Prelude.{◌≡◌, ◌⊎◌, ℕ, Bool, true, false, if◌then◌else◌, List, [], codes, Result, Ok, Err, ⊤}
 use Rattle.yp_version.specs.Rows.{Row, listed}
-use Rattle.yp_version.specs.Drafts.{Draft}
+use Rattle.yp_version.specs.Drafts.{Draft, empty_draft}
 use Rattle.yp_client.specs.declared.fault.ClientFault.{ClientFault}
 use Rattle.yp_client.specs.Results.{value_of, master_of, order_of, maps_of}
 use Rattle.yp_client.specs.Said.{SaysNumber, SaysBytes, SaysNames}
@@ -47,7 +47,7 @@ pub record CallIsMade {X : Type 0} (limit : ℕ) (call : ℕ → List ℕ)
 
 -- a version without rows, of order 0 and no master, that is begun
 abbrev pub no_rows : Draft
-no_rows = record { order = 0; master = []; rows = [] }
+no_rows = empty_draft 0 []
 
 -- what is meant by rows: their text, with keys or without
 abbrev pub rows_told : Bool → List Row → Outcome

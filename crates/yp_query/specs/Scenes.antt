@@ -3,9 +3,9 @@ use Rattle.std.specs.Prelude.{◌≡◌, ℕ, false, List, Option, Some, None, R
 use Rattle.std.specs.Io.KnownBytes.{Keeps, Appends}
 use Rattle.yp_io.specs.Counts.{HasRisen}
 use Rattle.yp_io.specs.declared.stream.Peer.{Peer}
-use Rattle.yp_io.specs.Dials.{Wires, Comes, GoesBack, IsFresh}
+use Rattle.yp_io.specs.Dials.{Wires, Dialing, dialing_of, Comes, GoesBack}
 use Rattle.yp_client.specs.declared.fault.ClientFault.TheVariants.{ReadFault, WriteFault}
-use Rattle.yp_client.specs.States.{ClientState}
+use Rattle.yp_client.specs.States.{ClientState, IsFirst}
 use Rattle.yp_query.specs.declared.fault.QueryFault.{QueryFault}
 use Rattle.yp_query.specs.declared.fault.QueryFault.TheVariants.{NotMember, Client, Dial, Output, NoMemory}
 use Rattle.yp_question.specs.Questions.{ByteQuestion}
@@ -13,32 +13,17 @@ use Rattle.yp_io.specs.Streams.{AppendsFront}
 use Rattle.yp_query.specs.Lines.{membership_text}
 use Rattle.yp_query.specs.Asked.{Outcome, Converses}
 
--- what a dial tells of its wires, and how often it has failed
-pub record Dialing : Type 0 where
-  pub past : Option Wires
-  pub faults : ℕ
-
 -- what a dial and a sink tell: with that, what the sink has taken, and how often it has failed
 pub record Scene : Type 0 where
   pub dial : Dialing
   pub output : Option (List ℕ)
   pub faults : ℕ
 
-abbrev pub dialing_of : {A : Type 0} → (A → Option Wires) → (A → ℕ) → A → Dialing
-dialing_of past faults dial = record { past = past dial; faults = faults dial }
-
 abbrev pub scene_of : {A K : Type 0} → (A → Option Wires) → (A → ℕ) → (K → Option (List ℕ)) → (K → ℕ) → A → K → Scene
 scene_of past dial_faults output faults dial sink =
     record { dial = dialing_of past dial_faults dial; output = output sink; faults = faults sink }
 
 -- ---- the dial
-
--- a client of a wire that has met no fault and taken nothing, whose first call has the number 1
-pub record IsFirst (client : ClientState) : Type 0 where
-  pub fresh : IsFresh client.reads client.writes client.wire.output
-  pub xid : client.xid ≡ 1
-  pub place : client.place ≡ 0
-  pub spent : client.spent ≡ false
 
 -- One wire to this peer came, the calls of a question were made on it, and it went back.
 pub record Exchanges (peer : Peer) (question : ByteQuestion) (outcome : Outcome) (old new : Option Wires) : Type 0 where
@@ -65,17 +50,17 @@ DialHasCause fault before now = ⊤
 -- ---- both
 
 -- the text of what the calls came to: that of an answer, and a no
-abbrev pub text_of : Outcome → Option (List ℕ)
-text_of (Ok text) = Some text
-text_of (Err NotMember) = Some (membership_text false)
-text_of (Err fault) = None
+abbrev pub outcome_text : Outcome → Option (List ℕ)
+outcome_text (Ok text) = Some text
+outcome_text (Err NotMember) = Some (membership_text false)
+outcome_text (Err fault) = None
 
 -- What is printed: the text, of which a sink that failed has taken a front, and nothing where there is none.
 abbrev pub Prints : Outcome → Result (Unit {0}) QueryFault → Option (List ℕ) → Option (List ℕ) → Type 0
 Prints outcome (Ok done) before after = IsOkAnd outcome (λ text. Appends before after text)
 Prints outcome (Err NotMember) before after =
     (outcome ≡ Err NotMember) × Appends before after (membership_text false)
-Prints outcome (Err Output) before after = IsSomeAnd (text_of outcome) (λ text. AppendsFront text before after)
+Prints outcome (Err Output) before after = IsSomeAnd (outcome_text outcome) (λ text. AppendsFront text before after)
 Prints outcome (Err NoMemory) before after = Keeps before after
 Prints outcome (Err fault) before after = (outcome ≡ Err fault) × Keeps before after
 

@@ -1,4 +1,3 @@
 pub mod Histories
 pub mod Tables
 pub mod Boards
-pub mod Steps

@@ -8,7 +8,6 @@
 #![tactic(auto)]
 
 mod beside;
-mod count;
 mod history;
 mod opening;
 mod reader;

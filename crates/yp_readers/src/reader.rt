@@ -4,13 +4,12 @@ ghost use Rattle.std.specs.Prelude.{◌≡◌, ◌⊎◌, IfSome, OnOk, OnErr, M
 ghost use Rattle.std.specs.Arc.{arc_value};
 ghost use Rattle.yp_board.specs.Views.{IsFront, Refreshes};
 
-use crate::count::Count;
 use crate::history::{Front, Naming};
 use crate::table::{Note, Table};
 use left_right::ReadHandle;
 use std::marker::Model;
 use std::sync::Arc;
-use yp_board::{Catalog, View};
+use yp_board::{Catalog, Count, View};
 use yp_io::NoMemory;
 use yp_version::Version;
 

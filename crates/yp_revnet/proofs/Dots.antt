@@ -9,7 +9,8 @@ use Rattle.std.specs.Cmp.Lexicographic.{bytes_decides}
 use Rattle.std.proofs.lemmas.Bool.Decides.{nat_tests}
 use Rattle.std.proofs.lemmas.List.Sums.{AllPass-from_list_all}
 use Rattle.std.proofs.lemmas.List.Splits.{slice_split_at, slice_split_none}
-use Rattle.yp_netgroup.specs.Parts.{is_comma, is_name_byte, is_blank, is_open, is_close}
+use Rattle.yp_version.specs.Blanks.{is_blank}
+use Rattle.yp_netgroup.specs.Parts.{is_comma, is_name_byte, is_open, is_close}
 use Rattle.yp_revnet.specs.Keys.{dotted}
 use Rattle.yp_revnet.specs.Reverse.{is_name}
 use Rattle.yp_revnet.specs.Listed.{has_dot}

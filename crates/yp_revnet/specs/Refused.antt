@@ -14,10 +14,6 @@ use Rattle.yp_revnet.specs.Reverse.{IsReversed, IsListed}
 
 -- ---- faults
 
--- a builder with no rows
-abbrev pub begun : ℕ → List ℕ → Draft
-begun order master = record { order = order; master = master; rows = [] }
-
 -- the number of the limit that a row passes
 abbrev pub rule_of : VersionFault → ℕ
 rule_of (KeyLong len) = 1

@@ -2,10 +2,10 @@
 
 ghost use Rattle.std.specs.Prelude.{◌≡◌, ◌≤◌, None, length, IfOk, IfErr};
 ghost use Rattle.yp_version.specs.Limits.{master_max};
-ghost use Rattle.yp_version.specs.Drafts.{first_refused};
+ghost use Rattle.yp_version.specs.Drafts.{first_refused, empty_draft};
 ghost use Rattle.yp_version.specs.Versions.{unmarked};
 ghost use Rattle.yp_revnet.specs.Reverse.{IsReverse};
-ghost use Rattle.yp_revnet.specs.Refused.{begun, IsCause};
+ghost use Rattle.yp_revnet.specs.Refused.{IsCause};
 
 use crate::fault::RevFault;
 use crate::field::Field;
@@ -34,8 +34,8 @@ pub fn reverse(
     requires { length master.now ≤ master_max }
     ensures reverse { IfOk result (λ version. IsReverse netgroup.now.rows field version.rows) }
     ensures version { IfOk result (λ version. version ≡ unmarked order master.now version.rows) }
-    ensures fits { IfOk result (λ version. first_refused (begun order master.now) version.rows ≡ None) }
-    ensures cause { IfErr result (λ fault. IsCause netgroup.now.rows field (begun order master.now) fault) }
+    ensures fits { IfOk result (λ version. first_refused (empty_draft order master.now) version.rows ≡ None) }
+    ensures cause { IfErr result (λ fault. IsCause netgroup.now.rows field (empty_draft order master.now) fault) }
 {
     let named = naming(alloc, rt, netgroup)?;
     let listings = field.listings(alloc, netgroup)?;

@@ -28,7 +28,8 @@ use Rattle.yp_publish.specs.declared.install.Installed.{Installed}
 use Rattle.yp_xfr.specs.declared.fault.XfrFault.{XfrFault}
 use Rattle.yp_xfr.specs.HostTable.{HostList}
 use Rattle.yp_xfr.specs.Fetching.{Outcome, wanted_of}
-use Rattle.yp_xfr.specs.Dialing.{Dialing, FetchesFrom}
+use Rattle.yp_io.specs.Dials.{Dialing}
+use Rattle.yp_xfr.specs.Dialing.{FetchesFrom}
 use Rattle.yp_xfr.specs.Installing.{OpensAndOffers, marking, fetched_offer}
 use Rattle.yp_xfr.specs.Transfers.{InstallsOutcome, wanted_at}
 use Rattle.yp_server.specs.Carried.{Carried, request_for}

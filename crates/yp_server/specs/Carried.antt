@@ -1,7 +1,7 @@
 -- The carrying out of a transfer by a host of one thread: a map is fetched and installed, and the caller is told.
 use Rattle.std.specs.Prelude.{◌≡◌, ◌⊎◌, ◌<◌, ℕ, Bool, true, false, not, ◌&&◌, ◌==◌, nat_lt, length, None, Result, Ok, Err}
 use Rattle.yp_io.specs.Counts.{HasRisen, next_count}
-use Rattle.yp_io.specs.Dials.{Gains}
+use Rattle.yp_io.specs.Dials.{Gains, Dialing, DialTells}
 use Rattle.yp_io.specs.declared.stream.Peer.{Peer}
 use Rattle.yp_msgs.specs.declared.transfer.XfrStat.{XfrStat}
 use Rattle.yp_msgs.specs.declared.transfer.XfrStat.TheVariants.{Succ}
@@ -12,9 +12,8 @@ use Rattle.yp_publish.specs.Keeping.{Keeping}
 use Rattle.yp_xfr.specs.declared.fault.XfrFault.{XfrFault}
 use Rattle.yp_xfr.specs.Faults.{stat_of}
 use Rattle.yp_xfr.specs.CallBack.{call_back_bytes}
-use Rattle.yp_xfr.specs.Dialing.{Dialing}
 use Rattle.yp_xfr.specs.Transfers.{Request, request_of, Transfers}
-use Rattle.yp_server.specs.Locals.{Local, Telling, DialTells, IsUsed}
+use Rattle.yp_server.specs.Locals.{Local, Telling, IsUsed}
 
 -- what a taken transfer asks for: it isn't forced, and has no mark of its own
 abbrev pub request_for : Taken → Request

@@ -21,7 +21,8 @@ use Rattle.yp_publish.specs.Opens.{IsOpened}
 use Rattle.yp_publish.specs.Rising.{IsRisingLog}
 use Rattle.yp_xfr.specs.HostTable.{HostList}
 use Rattle.yp_xfr.specs.Fetching.{wanted_of}
-use Rattle.yp_xfr.specs.Dialing.{Dialing, FetchesFrom}
+use Rattle.yp_io.specs.Dials.{Dialing}
+use Rattle.yp_xfr.specs.Dialing.{FetchesFrom}
 use Rattle.yp_xfr.specs.Installing.{marking}
 use Rattle.yp_session.specs.Progress.{Progress, begun}
 use Rattle.yp_session.specs.Hosts.{Conduct, Turn, conduct_of}

@@ -1,7 +1,7 @@
 -- A host of one thread, and what its parts tell.
 use Rattle.std.specs.Prelude.{◌≡◌, ◌≤◌, ℕ, List, Option, min}
 use Rattle.yp_io.specs.Counts.{last_count}
-use Rattle.yp_io.specs.Dials.{Wires}
+use Rattle.yp_io.specs.Dials.{Wires, DialTells, dial_tells}
 use Rattle.yp_io.specs.declared.stream.Peer.{Peer}
 use Rattle.yp_io.specs.declared.texts.Texts as texts
 use Rattle.yp_io.specs.declared.clock.Clock as clock
@@ -22,12 +22,6 @@ pub record Local (D B E : Type 0) : Type 0 where
   pub files : ℕ
   pub transfers : ℕ
 
--- what a dial tells: its wires, the datagrams that were sent, and how often it has failed
-pub record DialTells : Type 0 where
-  pub past : Option Wires
-  pub letters : Option (List (Peer × List ℕ))
-  pub faults : ℕ
-
 -- what a desk tells of its texts and of its clock, how often a text wasn't read, the addresses of its hosts, and what
 -- its dial tells
 pub record Telling (E : Type 0) : Type 0 where
@@ -45,7 +39,7 @@ telling_of texts clock past letters faults = record {
   told = told_by texts clock;
   faults = λ desk. texts.faults desk.texts;
   hosts = λ desk. desk.hosts;
-  dial = λ desk. record { past = past desk.dial; letters = letters desk.dial; faults = faults desk.dial };
+  dial = λ desk. dial_tells past letters faults desk.dial;
 }
 
 -- what a host tells: it knows the whole log

@@ -4,7 +4,8 @@ use Rattle.std.proofs.lemmas.List.{length-drop, take-append-drop, nil_from_lengt
 use Rattle.std.proofs.lemmas.Bool.{cases_lt}
 use Rattle.std.proofs.lemmas.Grind.{flat_map-append}
 use Rattle.std.proofs.Math.Seq.{drop-nil, take-nil}
-use Rattle.yp_answer.specs.Streams.{joined, Gives}
+use Rattle.yp_rpc.specs.Records.{joined}
+use Rattle.yp_answer.specs.Streams.{Gives}
 
 -- what was given, and what is left
 pub gives_joined : (bytes : List ℕ) (old new : List (List ℕ)) → Gives bytes old new → joined old ≡ bytes ++ joined new

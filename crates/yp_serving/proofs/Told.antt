@@ -10,7 +10,7 @@ use Rattle.yp_rpc.specs.Records.{Fragments, Cut, IsRest, IsTorn, IsTooLong, IsBe
 use Rattle.yp_answer.specs.declared.make.Job.{Job}
 use Rattle.yp_answer.specs.declared.procedure.Path.TheVariants.{Stream}
 use Rattle.yp_answer.specs.Maps.{Maps, maps_of}
-use Rattle.yp_answer.specs.Make.{own_host}
+use Rattle.yp_io.specs.Peers.{own_host}
 use Rattle.yp_answer.specs.Numbers.{record_max}
 use Rattle.yp_answer.specs.Transfer.{Taken}
 use Rattle.yp_answer.specs.Reply.{Response, Silence, Bytes, Takes, Open, reply, reply_at_once, asks}

@@ -4,8 +4,7 @@ use Rattle.std.specs.Prelude.{Option, Some, None, IfSome}
 use Rattle.std.specs.Option.{option_map}
 use Rattle.yp_version.specs.Rows.{Row, listed}
 use Rattle.yp_version.specs.Versions.{MapVersion}
-use Rattle.yp_version.specs.Drafts.{Draft, with_rows, first_refused}
-use Rattle.yp_build.specs.Builds.{empty_draft}
+use Rattle.yp_version.specs.Drafts.{Draft, with_rows, first_refused, empty_draft}
 use Rattle.yp_board.specs.Catalogues.{Name}
 use Rattle.yp_board.specs.Views.{Seen}
 use Rattle.yp_answer.specs.Maps.{Maps}

@@ -6,8 +6,8 @@ use Rattle.std.proofs.lemmas.List.{append-nil, length-append, length-drop, take-
 use Rattle.std.proofs.lemmas.Bool.{cases_lt}
 use Rattle.std.proofs.lemmas.Grind.{flat_map-append}
 use Rattle.std.proofs.Math.Seq.{drop-nil, take-nil}
-use Rattle.yp_rpc.specs.Records.{sent}
-use Rattle.yp_answer.specs.Streams.{joined, Gives}
+use Rattle.yp_rpc.specs.Records.{sent, joined}
+use Rattle.yp_answer.specs.Streams.{Gives}
 use Rattle.yp_session.proofs.Sending.{Appends-none, front_sent}
 
 -- Bytes of a record were put. What is sent of them and more is what went out, and what is sent of what waits and more.

@@ -3,10 +3,10 @@
 ghost use Rattle.std.specs.Prelude.{◌≡◌, ◌≢◌, ℕ, ◌<◌, ◌≤◌, IsTrue, [], length, take, OnOk, OnErr};
 ghost use Rattle.std.specs.Io.KnownBytes.{Appends};
 ghost use Rattle.yp_io.specs.Counts.{CountsFaults};
-ghost use Rattle.yp_rpc.specs.Records.{sent};
+ghost use Rattle.yp_rpc.specs.Records.{sent, joined};
 ghost use Rattle.yp_answer.specs.Numbers.{record_max};
 ghost use Rattle.yp_answer.specs.Maps.{maps_of};
-ghost use Rattle.yp_answer.specs.Streams.{parts_left, joined};
+ghost use Rattle.yp_answer.specs.Streams.{parts_left};
 ghost use Rattle.yp_answer.specs.Answers.{IsInside};
 
 use yp_answer::AllStream;

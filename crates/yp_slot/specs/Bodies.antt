@@ -83,9 +83,9 @@ body_at bytes = do
   Ok (record { order = head.0.order; master = head.0.master; secure = head.0.secure; rows = rows.0 })
 
 -- a reader of the code answers what is expected, and has then moved to what is left
-abbrev pub Answers : {X V : Type 0} → Result (V × Unread) Wrong → (X → V) → Result X Wrong → Unread → Type 0
-Answers expected view (Ok x) new = expected ≡ Ok (view x, new)
-Answers expected view (Err wrong) new = expected ≡ Err wrong
+abbrev pub Finds : {X V : Type 0} → Result (V × Unread) Wrong → (X → V) → Result X Wrong → Unread → Type 0
+Finds expected view (Ok x) new = expected ≡ Ok (view x, new)
+Finds expected view (Err wrong) new = expected ≡ Err wrong
 
 -- a reader passed some of the bytes that it had left
 abbrev pub Passes : Unread → Unread → Type 0

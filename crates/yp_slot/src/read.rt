@@ -5,7 +5,7 @@ ghost use Rattle.yp_xdr.specs.Cursor.{unread};
 ghost use Rattle.yp_version.specs.Limits.{key_max, value_max, master_max, rows_max, body_max};
 ghost use Rattle.yp_version.specs.Rows.{padded, row_len};
 ghost use Rattle.yp_version.specs.Drafts.{draft_len};
-ghost use Rattle.yp_slot.specs.Bodies.{Answers, Passes, head_at, row_at, rows_at, body_at, is_over};
+ghost use Rattle.yp_slot.specs.Bodies.{Finds, Passes, head_at, row_at, rows_at, body_at, is_over};
 ghost use Rattle.yp_slot.specs.Heads.{head_view, ReadsRows, ReadsBody};
 
 use crate::wrong::{BodyFault, Wrong};
@@ -32,7 +32,7 @@ pub(crate) struct Front<'a> {
 /// Reads what stands before the rows.
 #[tactic(auto, using(crate::proofs::Past::word, crate::proofs::Past::opaque), unfolding(crate::specs::Bodies::head_at))]
 fn read_front<'a>(cursor: &mut Cursor<'a>) -> Result<Front<'a>, Wrong>
-    ensures read { Answers (head_at (unread cursor.old)) head_view result (unread cursor.new) }
+    ensures read { Finds (head_at (unread cursor.old)) head_view result (unread cursor.new) }
     ensures passed { OnOk result (Passes (unread cursor.old) (unread cursor.new)) }
     ensures place { IfOk result (λ front. (unread cursor.new).at
         ≡ (unread cursor.old).at + 16 + padded (length front.master.now)) }
@@ -73,7 +73,7 @@ fn is_over(last: Option<&[u8]>, key: &[u8]) -> bool
 /// Reads a row, whose key has to be over the one before it.
 #[tactic(auto, using(crate::proofs::Past::opaque), unfolding(crate::specs::Bodies::row_at))]
 fn read_row<'a>(cursor: &mut Cursor<'a>, last: Option<&[u8]>) -> Result<(&'a [u8], &'a [u8]), Wrong>
-    ensures read { Answers (row_at (option_map (λ last. last.now) last.entry) (unread cursor.old))
+    ensures read { Finds (row_at (option_map (λ last. last.now) last.entry) (unread cursor.old))
         (λ row. (row.0.now, row.1.now)) result (unread cursor.new) }
     ensures passed { OnOk result (Passes (unread cursor.old) (unread cursor.new)) }
     ensures place { IfOk result (λ row. (unread cursor.new).at

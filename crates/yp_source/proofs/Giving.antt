@@ -6,7 +6,7 @@ use Rattle.yp_io.specs.declared.stream.Peer.{Peer}
 use Rattle.yp_rpc.specs.Laws.{IsWord}
 use Rattle.yp_msgs.specs.declared.stat.YpStat.{YpStat}
 use Rattle.yp_msgs.specs.Numbers.{name_max}
-use Rattle.yp_version.specs.Drafts.{Draft}
+use Rattle.yp_version.specs.Drafts.{Draft, empty_draft}
 use Rattle.yp_version.specs.Versions.{MapVersion, IsVersion, unmarked}
 use Rattle.yp_version.specs.Laws.{RisingStays}
 use Rattle.yp_board.specs.Catalogues.{is_name}
@@ -22,7 +22,7 @@ use Rattle.yp_exchange.specs.Served.{ReplyTells}
 use Rattle.yp_exchange.specs.Laws.{OrderTells, MasterTells, AllTells, RoomForVersion}
 use Rattle.yp_xfr.specs.declared.fault.XfrFault.TheVariants.{Skew, Dbm, Badargs}
 use Rattle.yp_xfr.specs.Fetching.{Wanted, Outcome, InMemory, Gives, AsksAgain, AsksRows, AsksMaster}
-use Rattle.yp_xfr.specs.Fetching.{against_names, against_order, against_master, against_second, begun}
+use Rattle.yp_xfr.specs.Fetching.{against_names, against_order, against_master, against_second}
 use Rattle.yp_xfr.specs.Fetched.{Place, place_of, draft_of, rows_of, by_bytes, Fetched}
 use Rattle.yp_source.specs.Replies.{next_xid, Moments, AtEach, GivesSecond, GivesAll, GivesMaster, GivesFetch}
 use Rattle.yp_source.specs.Replies.{unsecured, IsShown}
@@ -104,10 +104,10 @@ module _ (laws : Replies) (moments : Moments) (peer : Peer) (wanted : Wanted) (s
 
   rows_told : (maps : Maps) (xid : ℕ) → AreServed maps → IsWord xid → IsShown wanted source maps
       → ReplyTells maps peer all_max (all_call wanted.domain wanted.map xid)
-      (rows_of (begun source.order source.master) xid)
+      (rows_of (empty_draft source.order source.master) xid)
       (Ok (record { order = source.order; master = source.master; rows = source.rows }))
   rows_told maps xid serves word shows =
-      let draft = begun source.order source.master in
+      let draft = empty_draft source.order source.master in
       let rows : row_check maps peer.port wanted.domain wanted.map ≡ Ok source =
       rows_held maps peer.port wanted.domain wanted.map source may shows in
       let fits : IfOk (row_check maps peer.port wanted.domain wanted.map)
@@ -142,10 +142,10 @@ module _ (laws : Replies) (moments : Moments) (peer : Peer) (wanted : Wanted) (s
 
     rows : (place : Place) (xid : ℕ) → place.xid ≡ xid → IsWord xid
         → GivesAll peer wanted.domain wanted.map moments xid place.bytes
-        → AsksRows by_bytes (begun source.order source.master) outcome place last → outcome ≡ Ok (unsecured source)
+        → AsksRows by_bytes (empty_draft source.order source.master) outcome place last → outcome ≡ Ok (unsecured source)
     rows place xid at word gives asks =
         let step = stepped laws.records all_max (all_call wanted.domain wanted.map)
-        (rows_of (begun source.order source.master)) moments.third peer _ xid place asks.middle asks.answer at gives
+        (rows_of (empty_draft source.order source.master)) moments.third peer _ xid place asks.middle asks.answer at gives
         asks.answered _ (rows_told moments.third xid served.third word shown.third) in
         let more = goes_by _ _ outcome place last asks _ step.answer_is in
         let rows : row_check moments.third peer.port wanted.domain wanted.map ≡ Ok source =
@@ -160,8 +160,8 @@ module _ (laws : Replies) (moments : Moments) (peer : Peer) (wanted : Wanted) (s
         xid place asks.middle asks.answer at gives asks.answered (Ok source.master)
         (master_told moments.second xid served.second word shown.second) in
         let more = goes_by _ _ outcome place last asks source.master step.answer_is in
-        let asked = goes_in_memory (AsksRows by_bytes (begun source.order source.master)) outcome asks.middle last
-        (goes (against_master source.master) (InMemory by_bytes (AsksRows by_bytes (begun source.order source.master)))
+        let asked = goes_in_memory (AsksRows by_bytes (empty_draft source.order source.master)) outcome asks.middle last
+        (goes (against_master source.master) (InMemory by_bytes (AsksRows by_bytes (empty_draft source.order source.master)))
         outcome asks.middle last (has_name source.master some sound.master) more) in
         rows asks.middle (next_xid xid) step.xid_is (next_is_word xid) (step.behind (is_ok _ source shown.second)) asked
 

@@ -12,7 +12,7 @@ use Rattle.yp_msgs.specs.declared.stat.YpStat.{YpStat}
 use Rattle.yp_version.specs.declared.builder.VersionFault.{VersionFault}
 use Rattle.yp_version.specs.Rows.{listed, rows_len, value_of}
 use Rattle.yp_version.specs.Limits.{body_max}
-use Rattle.yp_version.specs.Drafts.{Draft, draft_len, refused, with_row}
+use Rattle.yp_version.specs.Drafts.{Draft, draft_len, refused, with_row, empty_draft}
 use Rattle.yp_version.specs.Versions.{MapVersion, unmarked}
 use Rattle.yp_board.specs.Catalogues.{Catalogue}
 use Rattle.yp_board.specs.Logs.{Log, shown}
@@ -28,7 +28,7 @@ use Rattle.yp_exchange.specs.Told.{told, of_version, order_in, master_in, all_to
 use Rattle.yp_exchange.specs.Served.{HasRoom}
 use Rattle.yp_exchange.specs.Answered.{GivesReply}
 use Rattle.yp_xfr.specs.Fetching.{Wanted, Outcome, InMemory, Gives, AsksRows, AsksMaster}
-use Rattle.yp_xfr.specs.Fetching.{against_names, against_order, against_master, against_second, begun}
+use Rattle.yp_xfr.specs.Fetching.{against_names, against_order, against_master, against_second}
 use Rattle.yp_xfr.specs.Fetched.{Place, place_of, Reads, draft_of, rows_of, by_bytes, Fetched}
 use Rattle.yp_source.specs.Replies.{next_xid, Moments, AtEach, GivesFetch}
 use Rattle.yp_source.specs.Replies.{unsecured, IsShown}
@@ -177,12 +177,12 @@ module _ (laws : Replies) (catalogue : Catalogue) (fronts : Fronts) (peer : Peer
   rows_are_shown : (order : ℕ) (name : List ℕ) (value : Draft) (xid : ℕ) (old new : Place) (P : List ℕ → Type 0)
       → IsWord xid → old.xid ≡ xid
       → GivesReply (maps_on catalogue fronts.third) peer all_max (all_call wanted.domain wanted.map xid) old.bytes P
-      → Reads all_max (rows_of (begun order name)) (Ok value) old new
+      → Reads all_max (rows_of (empty_draft order name)) (Ok value) old new
       → (source : MapVersion)
       × (row_check (maps_on catalogue fronts.third) peer.port wanted.domain wanted.map ≡ Ok source)
   rows_are_shown order name value xid old new P word here gives read =
       let maps = maps_on catalogue fronts.third in
-      let draft = begun order name in
+      let draft = empty_draft order name in
       let held = row_check maps peer.port wanted.domain wanted.map in
       elim (held_or_not held) [
         | inl shows ↦ shows
@@ -208,11 +208,11 @@ module _ (laws : Replies) (catalogue : Catalogue) (fronts : Fronts) (peer : Peer
       (P : List ℕ → Type 0) → IsWord xid → old.xid ≡ xid → name ≡ source.master
       → row_check (maps_on catalogue fronts.third) peer.port wanted.domain wanted.map ≡ Ok source
       → GivesReply (maps_on catalogue fronts.third) peer all_max (all_call wanted.domain wanted.map xid) old.bytes P
-      → Reads all_max (rows_of (begun order name)) (Ok value) old new
+      → Reads all_max (rows_of (empty_draft order name)) (Ok value) old new
       → value ≡ record { order = order; master = name; rows = source.rows }
   rows_are source order name value xid old new P word here same shows gives read =
       let maps = maps_on catalogue fronts.third in
-      let draft = begun order name in
+      let draft = empty_draft order name in
       let held = row_check maps peer.port wanted.domain wanted.map in
       let serves = served_before catalogue fronts.third fronts.log third_to_log served in
       let fits : IfOk held (λ version. length name ≤ length version.master) =
@@ -258,7 +258,7 @@ module _ (laws : Replies) (catalogue : Catalogue) (fronts : Fronts) (peer : Peer
       (served_before catalogue fronts.second fronts.log second_to_log served) (next_is_word xid) domain_fits m map_fits) in
       let held2 = master_held (map_check m2 d m) two.value told2.answer_is in
       let gives3 = told2.behind (is_ok _ held2.0 held2.1) in
-      let draft = begun one.value two.value in
+      let draft = empty_draft one.value two.value in
       let three = asked_ok _ _ version two.middle last
       (goes_in_memory (AsksRows by_bytes draft) (Ok version) two.middle last
       (unless_ok (against_master two.value) (InMemory by_bytes (AsksRows by_bytes draft)) version two.middle last

@@ -3,7 +3,7 @@ use Rattle.std.proofs.Common.{◌≡◌, ◌⊎◌, inl, inr, ⊎_elim, ℕ, ◌
 use Rattle.std.proofs.Common.{sym, ap, ◌∙◌, subst, arith, length-append, All}
 use Rattle.std.proofs.lemmas.List.Elements.{All-nil, All-cons}
 use Rattle.yp_io.specs.declared.stream.Peer.{Peer}
-use Rattle.yp_io.specs.Dials.{Wires, WireState, Dialed, Comes, GoesBack}
+use Rattle.yp_io.specs.Dials.{Wires, WireState, Dialed, Comes, GoesBack, Dialing}
 use Rattle.yp_version.specs.Versions.{MapVersion}
 use Rattle.yp_client.specs.Asked.{order_call, master_call, all_call}
 use Rattle.yp_query.specs.Complete.{HasCome}
@@ -17,7 +17,7 @@ use Rattle.yp_xfr.specs.declared.fault.XfrFault.{XfrFault}
 use Rattle.yp_xfr.specs.declared.fault.XfrFault.TheVariants.{Rpc, NoMemory}
 use Rattle.yp_xfr.specs.Fetching.{Wanted, Outcome}
 use Rattle.yp_xfr.specs.Fetched.{place_of, Fetched}
-use Rattle.yp_xfr.specs.Dialing.{Dialing, FetchesOnWire, ByAddress, sought}
+use Rattle.yp_xfr.specs.Dialing.{FetchesOnWire, ByAddress, sought}
 use Rattle.yp_source.specs.Replies.{next_xid, GivesFetch}
 use Rattle.yp_source.specs.Laws.{FetchedIsShown, moments_on}
 use Rattle.yp_source.specs.Turns.{fetch_calls, TurnsGiveFetch}

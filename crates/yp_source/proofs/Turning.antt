@@ -18,7 +18,7 @@ use Rattle.yp_exchange.specs.Laws.{OrderTells, MasterTells, AllTells, RoomForVer
 use Rattle.yp_exchange.specs.SentLaws.{SentIsWhole}
 use Rattle.yp_exchange.specs.Answered.{GivesReply}
 use Rattle.yp_exchange.specs.Runs.{sent_all}
-use Rattle.yp_xfr.specs.Fetching.{begun}
+use Rattle.yp_version.specs.Drafts.{empty_draft}
 use Rattle.yp_source.specs.Replies.{next_xid, GivesSecond, GivesAll, GivesMaster}
 use Rattle.yp_source.specs.Laws.{Fronts, moments_on}
 use Rattle.yp_source.specs.Turns.{TurnsGiveFetch}
@@ -100,7 +100,7 @@ module _ (laws : Sent) where
       let gives3 : GivesAll peer domain map (moments_on catalogue fronts) x3 (sent_all (c ∷ d ∷ []) ++ rest) =
       sent_gives m3 peer all_max (all_call domain map x3) _ _ c (d ∷ []) rest _
       (laws.all m3 peer x3 domain (served_before catalogue third.0 after third_ends served) (next_is_word x2) dlen map
-      mlen (begun 0 []) room) third.2 (λ ok. gives4) in
+      mlen (empty_draft 0 []) room) third.2 (λ ok. gives4) in
       let gives2 : GivesMaster peer domain map (moments_on catalogue fronts) x2 (sent_all (b ∷ c ∷ d ∷ []) ++ rest) =
       sent_gives m2 peer reply_max (master_call domain map x2) _ _ b (c ∷ d ∷ []) rest _
       (laws.master m2 peer x2 domain (served_before catalogue second.0 after second_ends served) (next_is_word xid) dlen

@@ -18,7 +18,8 @@ use Rattle.yp_xfr.specs.declared.fault.XfrFault.TheVariants.{Rpc, NoMemory}
 use Rattle.yp_xfr.specs.Fetching.{Wanted, Outcome}
 use Rattle.yp_xfr.specs.Fetched.{place_of, Fetched}
 use Rattle.yp_xfr.specs.HostTable.{HostList}
-use Rattle.yp_xfr.specs.Dialing.{Dialing, FetchesFrom}
+use Rattle.yp_io.specs.Dials.{Dialing}
+use Rattle.yp_xfr.specs.Dialing.{FetchesFrom}
 use Rattle.yp_source.specs.Replies.{AtEach, IsShown, unsecured}
 use Rattle.yp_source.specs.Laws.{Fronts, moments_on}
 use Rattle.yp_source.specs.Turns.{fetch_calls}

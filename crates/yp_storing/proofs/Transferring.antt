@@ -31,7 +31,8 @@ use Rattle.yp_xfr.specs.declared.fault.XfrFault.{XfrFault}
 use Rattle.yp_xfr.specs.declared.fault.XfrFault.TheVariants as fault
 use Rattle.yp_xfr.specs.Fetching.{Wanted, wanted_of, Outcome}
 use Rattle.yp_xfr.specs.HostTable.{HostList}
-use Rattle.yp_xfr.specs.Dialing.{Dialing, FetchesFrom}
+use Rattle.yp_io.specs.Dials.{Dialing}
+use Rattle.yp_xfr.specs.Dialing.{FetchesFrom}
 use Rattle.yp_xfr.specs.Installing.{marking, of_install, fetched_offer, IsTaken, IsNotTaken, Offers, InstallsFetched}
 use Rattle.yp_xfr.specs.Installing.{OpensAndOffers}
 use Rattle.yp_xfr.specs.Transfers.{request_of, wanted_at, InstallsOutcome}

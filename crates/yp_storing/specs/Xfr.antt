@@ -10,7 +10,7 @@ use Rattle.yp_slot.specs.declared.fault.SlotFault.TheVariants as slot
 use Rattle.yp_slot.specs.Loads.{Loads}
 use Rattle.yp_slot.specs.Slots.{HasGeneration}
 use Rattle.yp_slot.specs.Stands.{Stored, stands}
-use Rattle.yp_board.specs.Catalogues.{Name, name_view}
+use Rattle.yp_board.specs.Catalogues.{Name, name_view, catalog_fault}
 use Rattle.yp_board.specs.declared.catalog.MapName.{MapName}
 use Rattle.yp_publish.specs.declared.install.Installed.{Installed}
 use Rattle.yp_publish.specs.declared.install.Origin.TheVariants.{Fetched}
@@ -21,9 +21,10 @@ use Rattle.yp_publish.specs.Standing.{stands_for}
 use Rattle.yp_xfr.specs.declared.fault.XfrFault.{XfrFault}
 use Rattle.yp_xfr.specs.declared.fault.XfrFault.TheVariants as fault
 use Rattle.yp_xfr.specs.Fetching.{Wanted, wanted_of, Outcome}
-use Rattle.yp_xfr.specs.Dialing.{Dialing, dialing_of, FetchesFrom}
+use Rattle.yp_io.specs.Dials.{Dialing, dialing_of}
+use Rattle.yp_xfr.specs.Dialing.{FetchesFrom}
 use Rattle.yp_xfr.specs.Installing.{marking}
-use Rattle.yp_words.specs.Words.{Host, host_view}
+use Rattle.yp_words.specs.Words.{Host, IsNamed, host_view}
 use Rattle.yp_office.specs.Lines.{map_text}
 use Rattle.yp_office.specs.Files.{Fails}
 use Rattle.yp_office.specs.Disks.{names_of, faults_of}
@@ -50,6 +51,12 @@ pub record Order : Type 0 where
 abbrev pub order_of : List ℕ → Bool → Name → Host → Option Bool → Order
 order_of name force store host flag =
     record { name = name; force = force; store = store; host = host; flag = flag }
+
+-- A catalogue may have the map alone, a file may have its name, and its disk is the only one.
+pub record IsReady (order : Order) (disks : List Name) : Type 0 where
+  pub named : IsNamed order.store
+  pub catalogue : catalog_fault order.name (order.store ∷ []) ≡ None
+  pub only : disks ≡ order.store ∷ []
 
 -- what the file of the map had: its version, or none, and its generation
 pub record Held : Type 0 where

@@ -12,4 +12,4 @@ mod xfr;
 
 pub use build::build_map;
 pub use check::check_map;
-pub use xfr::transfer_map;
+pub use xfr::{XfrJob, transfer_map};

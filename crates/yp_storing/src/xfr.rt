@@ -4,12 +4,12 @@ ghost use Rattle.std.specs.Prelude.{◌≡◌, ◌≢◌, ℕ, true, List, [], �
 ghost use Rattle.yp_io.specs.Counts.{HasRisen};
 ghost use Rattle.yp_board.specs.Catalogues.{catalog_fault, name_view};
 ghost use Rattle.yp_words.specs.Words.{IsNamed, host_view};
-ghost use Rattle.yp_xfr.specs.Dialing.{dialing_of};
+ghost use Rattle.yp_io.specs.Dials.{dialing_of};
 ghost use Rattle.yp_office.specs.Disks.{names_of, history_of, faults_of, only_history, total_faults};
 ghost use Rattle.yp_office.specs.Seeing.{seeing, IsPassedOn};
 ghost use Rattle.yp_office.specs.Status.{IsTellable};
 ghost use Rattle.yp_storing.specs.Build.{LeavesFew, TellsLine};
-ghost use Rattle.yp_storing.specs.Xfr.{order_of, order_view, xfr_line, stop_of_open, Moves, is_undialed, IsEnd};
+ghost use Rattle.yp_storing.specs.Xfr.{order_view, IsReady, xfr_line, stop_of_open, Moves, is_undialed, IsEnd};
 ghost use Rattle.yp_storing.specs.Xfr.{XfrDoes, xfr_may_end};
 
 use crate::catalog::catalog_of;
@@ -28,8 +28,8 @@ use yp_xfr::{Hosts, XfrFault, transfer};
 
 /// What is to be transferred.
 #[derive(Drop)]
-pub(crate) struct XfrJob {
-    /// The own name.
+pub struct XfrJob {
+    /// The name of the host that stores the map.
     pub name: Vec<u8>,
     /// Whether the version goes in whatever its order is.
     pub force: bool,
@@ -224,35 +224,22 @@ fn tell_end<K: Sink>(sink: &mut K, store: MapName, done: Result<Installed, XfrSt
     }
 }
 
-/// Fetches the only map from a host, stores it on the only disk, and tells what was stored. `name` is the own name. The
-/// version goes in where its order is over the one that stands, or, where it is forced, in any case.
+/// Fetches the only map from a host, stores it on the only disk, and tells what was stored. The version goes in where
+/// its order is over the one that stands, or, where it is forced, in any case.
 pub fn transfer_map<S: Source, K: Sink, D: Disk, C: Clock, A: Dial, I: Inbox, T: Texts>(
     alloc: Global,
     rt: &impl RandomSource,
-    name: Vec<u8>,
-    force: bool,
-    store: MapName,
-    host: HostWord,
-    flag: Option<bool>,
+    job: XfrJob,
     office: &mut Office<S, K, D, C, A, I, T>,
 ) -> Status
-    requires named { IsNamed (name_view store) }
-    requires catalogue { catalog_fault name.items (name_view store ∷ []) ≡ None }
-    requires only { names_of office.old.disks.items ≡ name_view store ∷ [] }
+    requires { IsReady (order_view job) (names_of office.old.disks.items) }
     ensures does { XfrDoes (seeing S.Source K.Sink D.Disk C.Clock A.Dial I.Inbox T.Texts)
-        (order_of name.items force (name_view store) (host_view host) flag) result office.old office.new }
+        (order_view job) result office.old office.new }
     ensures may_end { IsTrue (xfr_may_end result) }
     ensures passed_on { IsPassedOn (seeing S.Source K.Sink D.Disk C.Clock A.Dial I.Inbox T.Texts)
         result office.old office.new }
     ensures tellable { IsTellable result }
 {
-    let job = XfrJob {
-        name,
-        force,
-        store,
-        host,
-        flag,
-    };
     let done = transfer_on(alloc, rt, &job, &mut office.disks, &mut office.dial);
     tell_end(&mut office.wire.sink, job.store, done)
 }

@@ -55,26 +55,28 @@ pub fn ask<S: Source, K: Sink, D: Disk, C: Clock, A: Dial, I: Inbox, T: Texts>(
     alloc: Global,
     rt: &impl RandomSource,
     to: Peer,
-    question: &Question<Vec<u8>>,
+    question: Question<Vec<u8>>,
     office: &mut Office<S, K, D, C, A, I, T>,
 ) -> Status
-    requires { QuestionIsWithin (bytes_of question.now) }
+    requires { QuestionIsWithin (bytes_of question) }
     ensures does { AskDoes (seeing S.Source K.Sink D.Disk C.Clock A.Dial I.Inbox T.Texts)
-        to (bytes_of question.now) result office.old office.new }
+        to (bytes_of question) result office.old office.new }
     ensures may_end { IsTrue (ask_may_end result) }
     ensures passed_on { IsPassedOn (seeing S.Source K.Sink D.Disk C.Clock A.Dial I.Inbox T.Texts)
         result office.old office.new }
     ensures tellable { IsTellable result }
 {
     laws::log_run_is_printed();
-    match query(
+    let asked = query(
         alloc,
         rt,
         &mut office.dial,
         to,
-        question,
+        &question,
         &mut office.wire.sink,
-    ) {
+    );
+    drop(question);
+    match asked {
         Ok(()) => Status::Done,
         Err(fault) => status_of(fault),
     }

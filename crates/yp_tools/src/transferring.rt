@@ -1,40 +1,30 @@
 //! The command `xfr`, and what its source showed.
 
-ghost use Rattle.std.specs.Prelude.{◌≡◌, [], ◌∷◌, None, IsTrue};
-ghost use Rattle.yp_board.specs.Catalogues.{catalog_fault, name_view};
-ghost use Rattle.yp_words.specs.Words.{IsNamed, host_view};
+ghost use Rattle.std.specs.Prelude.{IsTrue};
 ghost use Rattle.yp_office.specs.Disks.{names_of};
 ghost use Rattle.yp_office.specs.Seeing.{seeing, IsPassedOn};
 ghost use Rattle.yp_office.specs.Status.{IsTellable};
-ghost use Rattle.yp_storing.specs.Xfr.{order_of, xfr_may_end};
+ghost use Rattle.yp_storing.specs.Xfr.{order_view, IsReady, xfr_may_end};
 ghost use Rattle.yp_tools.specs.Transferring.{TransferDoes};
 
 use std::alloc::Global;
 use std::random::RandomSource;
-use yp_board::MapName;
 use yp_io::{Clock, Dial, Disk, Inbox, Sink, Source, Texts};
 use yp_office::{Office, Status};
 use yp_source::laws::{run_is_fetched, wire_is_fetched};
-use yp_storing::transfer_map;
-use yp_words::HostWord;
+use yp_storing::{XfrJob, transfer_map};
 use yp_xfr::laws::fetched_is_one;
 
 /// Fetches the only map from a host, stores it on the only disk, and tells what was stored.
 pub fn transfer<S: Source, K: Sink, D: Disk, C: Clock, A: Dial, I: Inbox, T: Texts>(
     alloc: Global,
     rt: &impl RandomSource,
-    name: Vec<u8>,
-    force: bool,
-    store: MapName,
-    host: HostWord,
-    flag: Option<bool>,
+    job: XfrJob,
     office: &mut Office<S, K, D, C, A, I, T>,
 ) -> Status
-    requires named { IsNamed (name_view store) }
-    requires catalogue { catalog_fault name.items (name_view store ∷ []) ≡ None }
-    requires only { names_of office.old.disks.items ≡ name_view store ∷ [] }
+    requires { IsReady (order_view job) (names_of office.old.disks.items) }
     ensures does { TransferDoes (seeing S.Source K.Sink D.Disk C.Clock A.Dial I.Inbox T.Texts)
-        (order_of name.items force (name_view store) (host_view host) flag) result office.old office.new }
+        (order_view job) result office.old office.new }
     ensures may_end { IsTrue (xfr_may_end result) }
     ensures passed_on { IsPassedOn (seeing S.Source K.Sink D.Disk C.Clock A.Dial I.Inbox T.Texts)
         result office.old office.new }
@@ -43,5 +33,5 @@ pub fn transfer<S: Source, K: Sink, D: Disk, C: Clock, A: Dial, I: Inbox, T: Tex
     run_is_fetched();
     wire_is_fetched();
     fetched_is_one();
-    transfer_map(alloc, rt, name, force, store, host, flag, office)
+    transfer_map(alloc, rt, job, office)
 }

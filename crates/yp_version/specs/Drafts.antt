@@ -13,6 +13,10 @@ pub record Draft : Type 0 where
   pub master : List ℕ
   pub rows : List Row
 
+-- one without rows
+abbrev pub empty_draft : ℕ → List ℕ → Draft
+empty_draft order master = record { order = order; master = master; rows = [] }
+
 -- the bytes of the stored body of these rows
 abbrev pub draft_len : Draft → ℕ
 draft_len draft = 16 + padded (length draft.master) + rows_len draft.rows

@@ -1,4 +1,5 @@
 pub mod Limits
+pub mod Blanks
 pub mod Rows
 pub mod Versions
 pub mod Bodies

@@ -5,6 +5,7 @@
 //! [`Version::first`] and [`Version::next`], and what joins the order of pushing with that of the rows on [`laws`].
 #![tactic(auto)]
 
+mod blanks;
 mod builder;
 mod head;
 pub mod laws;
@@ -13,6 +14,7 @@ mod slab;
 mod table;
 mod version;
 
+pub use blanks::{bare, is_blank, without_front_blanks};
 pub use builder::{VersionBuilder, VersionFault};
 pub use limits::{BODY_MAX, KEY_MAX, MASTER_MAX, ROWS_MAX, VALUE_MAX};
 pub use version::{Next, Version};

@@ -6,7 +6,7 @@ use Rattle.std.specs.Io.KnownBytes.{Consumes, IsAtEnd}
 use Rattle.std.proofs.lemmas.List.{append-nil}
 use Rattle.yp_io.specs.Counts.{HasRisen}
 use Rattle.yp_rpc.specs.Records.{IsTorn}
-use Rattle.yp_version.specs.Drafts.{Draft}
+use Rattle.yp_version.specs.Drafts.{Draft, empty_draft}
 use Rattle.yp_client.specs.declared.fault.ClientFault.{ClientFault}
 use Rattle.yp_client.specs.declared.fault.ClientFault.TheVariants as client
 use Rattle.yp_client.specs.Limits.{reply_max, all_max}
@@ -20,7 +20,7 @@ use Rattle.yp_xfr.specs.declared.fault.XfrFault.{XfrFault}
 use Rattle.yp_xfr.specs.declared.fault.XfrFault.TheVariants.{NoMemory}
 use Rattle.yp_xfr.specs.Faults.{of_client}
 use Rattle.yp_xfr.specs.Fetching.{Outcome, Course, Unless, ByAnswer, Asks, InMemory, Gives, Wanted, AsksAgain, AsksRows}
-use Rattle.yp_xfr.specs.Fetching.{AsksMaster, against_names, against_order, against_master, against_second, begun}
+use Rattle.yp_xfr.specs.Fetching.{AsksMaster, against_names, against_order, against_master, against_second}
 use Rattle.yp_xfr.specs.Fetched.{Place, place_of, IsUnreplied, Reads, draft_of, rows_of, by_bytes}
 use Rattle.yp_xfr.specs.Fetched.{FailsByWire, IsFetched}
 use Rattle.yp_xfr.specs.Called.{CallsMaster, CallsAll, by_calls, FetchesByCalls}
@@ -408,10 +408,10 @@ master : (domain map : List ℕ) (order : ℕ)
     → Translates (AsksMaster (by_calls domain map) order) (AsksMaster by_bytes order)
 master domain map order =
     asks reply_max master_of (by_calls domain map).master
-    (λ name. Unless (against_master name) (InMemory (by_calls domain map) (AsksRows (by_calls domain map) (begun order name))))
-    (λ name. Unless (against_master name) (InMemory by_bytes (AsksRows by_bytes (begun order name))))
+    (λ name. Unless (against_master name) (InMemory (by_calls domain map) (AsksRows (by_calls domain map) (empty_draft order name))))
+    (λ name. Unless (against_master name) (InMemory by_bytes (AsksRows by_bytes (empty_draft order name))))
     (master_step domain map)
-    (λ name. unless (against_master name) _ _ (in_memory domain map _ _ (rows domain map (begun order name))))
+    (λ name. unless (against_master name) _ _ (in_memory domain map _ _ (rows domain map (empty_draft order name))))
 
 pub is_fetched : (wanted : Wanted) (outcome : Outcome) (old new : ClientState) → old.spent ≡ false
     → FetchesByCalls wanted outcome old new → IsFetched wanted outcome old new

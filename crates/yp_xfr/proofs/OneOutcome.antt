@@ -4,13 +4,13 @@ use Rattle.std.proofs.Common.{◌∙◌, subst, inl, inr, arith, min, length-app
 use Rattle.yp_io.specs.Counts.{last_count}
 use Rattle.yp_rpc.specs.Records.{IsBegun, IsRest, IsLong}
 use Rattle.yp_rpc.specs.Laws.{FirstIsOne, RestIsNotWhole, TornIsNotLong, LongIsSome}
-use Rattle.yp_version.specs.Drafts.{Draft}
+use Rattle.yp_version.specs.Drafts.{Draft, empty_draft}
 use Rattle.yp_client.specs.declared.fault.ClientFault.{ClientFault}
 use Rattle.yp_client.specs.Limits.{reply_max, all_max}
 use Rattle.yp_client.specs.Results.{order_of, master_of}
 use Rattle.yp_xfr.specs.declared.fault.XfrFault.{XfrFault}
 use Rattle.yp_xfr.specs.Fetching.{Outcome, Course, Unless, ByAnswer, Asks, InMemory, Gives, AsksAgain, AsksRows}
-use Rattle.yp_xfr.specs.Fetching.{AsksMaster, against_names, against_order, against_master, against_second, begun}
+use Rattle.yp_xfr.specs.Fetching.{AsksMaster, against_names, against_order, against_master, against_second}
 use Rattle.yp_xfr.specs.Fetched.{Place, place_of, IsUnreplied, Reads, rows_of, by_bytes}
 use Rattle.yp_xfr.specs.Laws.{FetchedIsOne}
 
@@ -122,7 +122,7 @@ rows laws draft = asks laws all_max (rows_of draft) (AsksAgain by_bytes) (again 
 master : Records → (order : ℕ) → IsOne (AsksMaster by_bytes order)
 master laws order =
     asks laws reply_max master_of _
-    (λ name. unless (against_master name) _ (in_memory _ (rows laws (begun order name))))
+    (λ name. unless (against_master name) _ (in_memory _ (rows laws (empty_draft order name))))
 
 pub one_outcome : Records → FetchedIsOne
 unfolding IsOne

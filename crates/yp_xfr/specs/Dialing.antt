@@ -4,8 +4,8 @@ use Rattle.std.specs.Prelude.{if◌then◌else◌}
 use Rattle.std.specs.Option.{ok_or}
 use Rattle.yp_io.specs.Counts.{HasRisen, last_count}
 use Rattle.yp_io.specs.declared.stream.Peer.{Peer}
-use Rattle.yp_io.specs.Dials.{Wires, Comes, GoesBack, IsFresh}
-use Rattle.yp_client.specs.States.{ClientState}
+use Rattle.yp_io.specs.Dials.{Wires, Dialing, Comes, GoesBack}
+use Rattle.yp_client.specs.States.{ClientState, IsFirst}
 use Rattle.yp_xfr.specs.declared.fault.XfrFault.{XfrFault}
 use Rattle.yp_xfr.specs.declared.fault.XfrFault.TheVariants.{Maddr, Rpc, Badargs, NoMemory}
 use Rattle.yp_xfr.specs.Fetching.{Wanted, Outcome, Course, Stops}
@@ -13,26 +13,11 @@ use Rattle.yp_xfr.specs.Fetched.{IsFetched, FailsByWire}
 use Rattle.yp_xfr.specs.Called.{FetchesByCalls}
 use Rattle.yp_xfr.specs.HostTable.{HostList, find}
 
--- what a dial tells of its wires, and how often it has failed
-pub record Dialing : Type 0 where
-  pub past : Option Wires
-  pub faults : ℕ
-
-abbrev pub dialing_of : {A : Type 0} → (A → Option Wires) → (A → ℕ) → A → Dialing
-dialing_of past faults dial = record { past = past dial; faults = faults dial }
-
 -- the address of a source, or why it has none: a name that is empty, or that the table lacks
 abbrev pub sought : Wanted → List ℕ → HostList → Result Peer XfrFault
 sought wanted source hosts =
     if length wanted.domain == 0 || length wanted.map == 0 || length source == 0 then Err Badargs
     else ok_or (find source hosts) Maddr
-
--- a client of a wire that has met no fault and taken nothing, whose first call has the number 1
-pub record IsFirst (client : ClientState) : Type 0 where
-  pub fresh : IsFresh client.reads client.writes client.wire.output
-  pub xid : client.xid ≡ 1
-  pub place : client.place ≡ 0
-  pub spent : client.spent ≡ false
 
 -- One wire to this peer came, the calls were made on it, and it went back: its faults are counted as those of the
 -- dial, so the dial has failed where the wire has. No call was made where memory ran out for a client. What came of it

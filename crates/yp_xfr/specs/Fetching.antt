@@ -4,7 +4,7 @@ use Rattle.std.specs.Prelude.{◌≡◌, ◌⊎◌, ℕ, ◌==◌, ◌||◌, nat
 use Rattle.std.specs.Prelude.{Err, if◌then◌else◌}
 use Rattle.yp_version.specs.Rows.{listed}
 use Rattle.yp_version.specs.Versions.{MapVersion, unmarked}
-use Rattle.yp_version.specs.Drafts.{Draft}
+use Rattle.yp_version.specs.Drafts.{Draft, empty_draft}
 use Rattle.yp_board.specs.Catalogues.{is_name}
 use Rattle.yp_client.specs.declared.fault.ClientFault.{ClientFault}
 use Rattle.yp_xfr.specs.declared.fault.XfrFault.{XfrFault}
@@ -46,10 +46,6 @@ against_master master = if is_name master then None else Some Dbm
 -- an order that isn't the first one
 abbrev pub against_second : ℕ → ℕ → Option XfrFault
 against_second first second = if first == second then None else Some (Skew first second)
-
--- a version that is begun, with an order and a master
-abbrev pub begun : ℕ → List ℕ → Draft
-begun order master = record { order = order; master = master; rows = [] }
 
 -- ---- in turn
 
@@ -109,7 +105,7 @@ module _ {State : Type 0} (source : Source State) where
   abbrev pub AsksMaster : ℕ → Course State
   AsksMaster order =
       Asks source.master (λ master. Unless (against_master master)
-      (InMemory (AsksRows (begun order master))))
+      (InMemory (AsksRows (empty_draft order master))))
 
   -- ORDER, and the rest
   abbrev pub Fetches : Wanted → Course State

@@ -8,7 +8,8 @@ use Rattle.yp_publish.specs.Keeping.{Keeping}
 use Rattle.yp_xfr.specs.declared.fault.XfrFault.{XfrFault}
 use Rattle.yp_xfr.specs.Fetching.{Wanted, wanted_of, Outcome}
 use Rattle.yp_xfr.specs.HostTable.{HostList}
-use Rattle.yp_xfr.specs.Dialing.{Dialing, FetchesFrom}
+use Rattle.yp_io.specs.Dials.{Dialing}
+use Rattle.yp_xfr.specs.Dialing.{FetchesFrom}
 use Rattle.yp_xfr.specs.Installing.{InstallsFetched}
 
 -- what is asked for: a map by its number, from a source by its name, whether it is forced, and its mark, if it has one

@@ -8,7 +8,8 @@ ghost use Rattle.yp_xfr.specs.declared.fault.XfrFault.TheVariants.{NoMemory as M
 ghost use Rattle.yp_xfr.specs.Fetching.{wanted_of, Stops};
 ghost use Rattle.yp_xfr.specs.Fetched.{IsFetched};
 ghost use Rattle.yp_xfr.specs.Called.{FetchesByCalls};
-ghost use Rattle.yp_xfr.specs.Dialing.{dialing_of, sought, FetchesFrom};
+ghost use Rattle.yp_io.specs.Dials.{dialing_of};
+ghost use Rattle.yp_xfr.specs.Dialing.{sought, FetchesFrom};
 
 use crate::fault::XfrFault;
 use crate::fetching::fetch;

@@ -3,7 +3,7 @@
 ghost use Rattle.std.specs.Prelude.{◌≡◌, ◌<◌, ◌≤◌, length, min};
 ghost use Rattle.yp_io.specs.Counts.{last_count};
 ghost use Rattle.yp_publish.specs.Keeping.{keeping_of};
-ghost use Rattle.yp_xfr.specs.Dialing.{dialing_of};
+ghost use Rattle.yp_io.specs.Dials.{dialing_of};
 ghost use Rattle.yp_xfr.specs.Transfers.{request_of, Transfers};
 
 use crate::dialed::fetch_from;

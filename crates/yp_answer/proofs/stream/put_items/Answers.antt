@@ -3,7 +3,8 @@ use Rattle.std.proofs.lemmas.Bool.{cases_lt}
 use Rattle.std.proofs.lemmas.Option.{slice_get_within}
 use Rattle.yp_xdr.specs.Spelling.{spelling}
 use Rattle.yp_msgs.specs.Messages.{all_item, all_item_view}
-use Rattle.yp_answer.specs.Streams.{item_parts, joined, between}
+use Rattle.yp_rpc.specs.Records.{joined}
+use Rattle.yp_answer.specs.Streams.{item_parts, between}
 use Rattle.yp_answer.specs.Items.{items_view}
 use Rattle.yp_answer.proofs.Fronts.{front_set}
 use Rattle.yp_answer.proofs.Rooms.{item_short, item_some}

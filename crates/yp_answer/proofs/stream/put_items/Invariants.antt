@@ -1,5 +1,6 @@
 use Rattle.std.proofs.Common.{◌≡◌, ◌+◌, ◌-◌, ◌<◌, ◌≤◌, ◌++◌, length, take}
-use Rattle.yp_answer.specs.Streams.{item_parts, joined, between}
+use Rattle.yp_rpc.specs.Records.{joined}
+use Rattle.yp_answer.specs.Streams.{item_parts, between}
 use Rattle.yp_version.specs.Limits.{rows_max}
 use Rattle.yp_answer.specs.Items.{items_view}
 use Rattle.yp_answer.proofs.stream.put_items.Given as goal

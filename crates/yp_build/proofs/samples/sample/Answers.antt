@@ -1,6 +1,5 @@
 use Rattle.std.specs.Prelude.{codes}
-use Rattle.yp_version.specs.Drafts.{with_rows}
-use Rattle.yp_build.specs.Builds.{empty_draft}
+use Rattle.yp_version.specs.Drafts.{with_rows, empty_draft}
 use Rattle.yp_build.specs.Samples.{samples}
 use Rattle.yp_build.proofs.Sampling.{samples-left}
 use Rattle.yp_build.proofs.samples.sample.Goals as goal

@@ -1,7 +1,6 @@
 use Rattle.std.proofs.Common.{◌≡◌, ◌-◌, ◌≤◌, length}
 use Rattle.std.specs.Prelude.{codes}
-use Rattle.yp_version.specs.Drafts.{draft_len, with_rows}
-use Rattle.yp_build.specs.Builds.{empty_draft}
+use Rattle.yp_version.specs.Drafts.{draft_len, with_rows, empty_draft}
 use Rattle.yp_build.specs.Samples.{samples, samples_len}
 use Rattle.yp_build.proofs.samples.sample.Given as goal
 

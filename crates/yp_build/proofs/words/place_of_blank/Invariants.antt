@@ -1,6 +1,6 @@
 use Rattle.std.proofs.Common.{◌≡◌, ◌+◌, drop}
 use Rattle.std.specs.List.{position_or_len}
-use Rattle.yp_build.specs.Words.{is_blank}
+use Rattle.yp_version.specs.Blanks.{is_blank}
 use Rattle.yp_build.proofs.words.place_of_blank.Given as goal
 
 abbrev pub invariant-loop-i : goal.invariant-loop-i

@@ -3,7 +3,7 @@ use Rattle.std.proofs.lemmas.List.{length-map}
 use Rattle.std.proofs.lemmas.List.Elements.{Contains-get_or}
 use Rattle.indexmap.specs.IndexSet.{insert_key, insert_all}
 use Rattle.yp_netgroup.specs.Parts.{names, parts}
-use Rattle.yp_netgroup.specs.Reach.{members_of, text_of}
+use Rattle.yp_netgroup.specs.Reach.{members_of, group_text}
 use Rattle.yp_netgroup.specs.Who.{sought_of}
 use Rattle.yp_netgroup.specs.Seen.{names_of, has_sought, IsMet}
 use Rattle.yp_netgroup.proofs.NamesMet.{met-first, met-next}
@@ -24,8 +24,8 @@ returns-then-branch-clause-met g c =
     let met = names_of c.loop-next.seen in
     let group = get_or met c.loop-next.next [] in
     let within : c.loop-next.next < length c.loop-next.seen.keys = omega (arith, c.len.ensures.len, c.loop-next-test.true) in
-    let text : c.text_of.result.now ≡ text_of rows group =
-    c.text_of.ensures ∙ ap (text_of rows) (name-at c.loop-next.seen.keys c.as_slice.result.now c.loop-next.next _ c.as_slice.ensures.keys within) in
+    let text : c.group_text.result.now ≡ group_text rows group =
+    c.group_text.ensures ∙ ap (group_text rows) (name-at c.loop-next.seen.keys c.as_slice.result.now c.loop-next.next _ c.as_slice.ensures.keys within) in
     let there : c.loop-next.next < length met = omega (arith, within, length-map c.loop-next.seen.keys bytes) in
     record {
       via = group;
@@ -41,8 +41,8 @@ loop-next-preserved g c =
     let met = names_of c.loop-next.seen in
     let group = get_or met c.loop-next.next [] in
     let within : c.loop-next.next < length c.loop-next.seen.keys = omega (arith, c.len.ensures.len, c.loop-next-test.true) in
-    let text : c.text_of.result.now ≡ text_of rows group =
-    c.text_of.ensures ∙ ap (text_of rows) (name-at c.loop-next.seen.keys c.as_slice.result.now c.loop-next.next _ c.as_slice.ensures.keys within) in
+    let text : c.group_text.result.now ≡ group_text rows group =
+    c.group_text.ensures ∙ ap (group_text rows) (name-at c.loop-next.seen.keys c.as_slice.result.now c.loop-next.next _ c.as_slice.ensures.keys within) in
     let there : c.loop-next.next < length met = omega (arith, within, length-map c.loop-next.seen.keys bytes) in
     let missed : has_sought sought (members_of rows group) ≡ false =
     ap (λ bytes. has_sought sought (parts bytes)) (sym text) ∙ sym c.in_ok-read.ensures.found ∙ c.if-branch.false in

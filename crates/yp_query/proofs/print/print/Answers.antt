@@ -4,13 +4,13 @@ use Rattle.yp_io.specs.Streams.{AppendsFront}
 use Rattle.yp_query.specs.declared.answer.Answer.{Answer}
 use Rattle.yp_query.specs.declared.answer.Answer.TheVariants.{Membership}
 use Rattle.yp_query.specs.Answers.{answer_text, answer_outcome}
-use Rattle.yp_query.specs.Scenes.{text_of}
+use Rattle.yp_query.specs.Scenes.{outcome_text}
 use Rattle.yp_query.proofs.Putting.{front_behind}
 use Rattle.yp_query.proofs.print.print.Goals as goal
 
 -- the text of an answer is that of what it comes to
 answer_front : (answer : Answer) (before after : Option (List ℕ)) → AppendsFront (answer_text answer) before after
-    → IsSomeAnd (text_of (answer_outcome answer)) (λ text. AppendsFront text before after)
+    → IsSomeAnd (outcome_text (answer_outcome answer)) (λ text. AppendsFront text before after)
 answer_front (Membership true) before after h = h
 answer_front (Membership false) before after h = h
 answer_front answer before after h = h

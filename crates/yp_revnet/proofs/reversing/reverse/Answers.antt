@@ -3,13 +3,13 @@ use Rattle.std.specs.Prelude.{IfErr}
 use Rattle.std.specs.Result.{IsErrAnd}
 use Rattle.std.proofs.lemmas.List.{length-map}
 use Rattle.yp_version.specs.Rows.{listed}
-use Rattle.yp_version.specs.Drafts.{Draft, first_refused}
+use Rattle.yp_version.specs.Drafts.{Draft, first_refused, empty_draft}
 use Rattle.yp_version.specs.Versions.{MapVersion, unmarked}
 use Rattle.yp_version.proofs.Unique.{rising_stays}
 use Rattle.yp_revnet.specs.declared.fault.RevFault.{RevFault}
 use Rattle.yp_revnet.specs.Links.{bytes_in}
 use Rattle.yp_revnet.specs.Reverse.{IsReverse}
-use Rattle.yp_revnet.specs.Refused.{begun, IsCause, IsPut, IsRefusal, IsSoFar}
+use Rattle.yp_revnet.specs.Refused.{IsCause, IsPut, IsRefusal, IsSoFar}
 use Rattle.yp_revnet.proofs.Meeting.{bytes, name-at}
 use Rattle.yp_revnet.proofs.Drafting.{so_far-none, so_far-put, so_far-refused, so_far-whole, keys_below, keys_cases, keys_more, take_whole}
 use Rattle.yp_revnet.proofs.Keyed.{kept_of, keys_whole, sorted_keys}
@@ -24,14 +24,14 @@ err_same (Err other) fault P is h = subst P (sym is) h
 pub loop-key-init : goal.loop-key-init
 loop-key-init g c =
     let rows = c.args.netgroup.now.rows in
-    let start = begun c.args.order c.args.master.now in
+    let start = empty_draft c.args.order c.args.master.now in
     subst (λ (draft : Draft). IsSoFar rows c.args.field start draft []) (sym c.in_ok-builder.ensures) (so_far-none rows c.args.field start refl)
 
 pub loop-key-preserved : goal.loop-key-preserved
 loop-key-preserved g c =
     let rows = c.args.netgroup.now.rows in
     let field = c.args.field in
-    let start = begun c.args.order c.args.master.now in
+    let start = empty_draft c.args.order c.args.master.now in
     let lent = c.deref-key-items.result.now in
     let keys = bytes_in lent in
     let i = c.loop-key.key-index in
@@ -49,7 +49,7 @@ pub returns-in_err-put_row-clause-cause : goal.returns-in_err-put_row-clause-cau
 returns-in_err-put_row-clause-cause g c =
     let rows = c.args.netgroup.now.rows in
     let field = c.args.field in
-    let start = begun c.args.order c.args.master.now in
+    let start = empty_draft c.args.order c.args.master.now in
     let lent = c.deref-key-items.result.now in
     let keys = bytes_in lent in
     let i = c.loop-key.key-index in
@@ -75,7 +75,7 @@ pub returns-clause-reverse : goal.returns-clause-reverse
 returns-clause-reverse g c =
     let rows = c.args.netgroup.now.rows in
     let field = c.args.field in
-    let start = begun c.args.order c.args.master.now in
+    let start = empty_draft c.args.order c.args.master.now in
     let lent = c.deref-key-items.result.now in
     let keys = bytes_in lent in
     let i = c.loop-key.key-index in
@@ -104,4 +104,4 @@ returns-clause-fits g c =
     let is = c.loop-key.invariant in
     let same : c.in_ok-finish.field-0.rows ≡ c.loop-key.builder.rows =
     ap (λ (version : MapVersion). version.rows) c.in_ok-finish.ensures ∙ rising_stays c.loop-key.builder.rows is.rising in
-    ap (first_refused (begun c.args.order c.args.master.now)) same ∙ is.taken
+    ap (first_refused (empty_draft c.args.order c.args.master.now)) same ∙ is.taken

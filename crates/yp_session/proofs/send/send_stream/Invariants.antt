@@ -1,5 +1,6 @@
 use Rattle.std.proofs.Common.{◌≡◌, ℕ, ◌+◌, ◌≤◌, ◌<◌, List, [], ◌++◌, length, take, min}
-use Rattle.yp_answer.specs.Streams.{parts_left, joined}
+use Rattle.yp_rpc.specs.Records.{joined}
+use Rattle.yp_answer.specs.Streams.{parts_left}
 use Rattle.yp_session.proofs.Streaming.{HasPut}
 use Rattle.yp_session.proofs.send.send_stream.Given as goal
 

@@ -1,7 +1,8 @@
 use Rattle.std.proofs.Common.{true, false, refl, take}
 use Rattle.yp_answer.specs.declared.procedure.Path.TheVariants.{Stream}
 use Rattle.yp_answer.specs.Transfer.{taken_view}
-use Rattle.yp_answer.specs.Streams.{parts_left, joined}
+use Rattle.yp_rpc.specs.Records.{joined}
+use Rattle.yp_answer.specs.Streams.{parts_left}
 use Rattle.yp_session.specs.Hosts.{conduct_of}
 use Rattle.yp_session.proofs.Sending.{Appends-none, on_err, on_ok_two, on_err_two}
 use Rattle.yp_session.proofs.Links.{link_silent, link_bytes, link_takes, link_open}

@@ -1,20 +1,19 @@
 use Rattle.std.proofs.Common.{refl}
 use Rattle.yp_board.specs.Catalogues.{name_view}
-use Rattle.yp_words.specs.Words.{host_view}
 use Rattle.yp_office.specs.Seeing.{seeing}
-use Rattle.yp_storing.specs.Xfr.{order_of}
+use Rattle.yp_storing.specs.Xfr.{order_view}
 use Rattle.yp_storing.proofs.Checking.{one_name}
 use Rattle.yp_storing.proofs.Transferred.{xfr_does}
 use Rattle.yp_storing.proofs.xfr.transfer_map.Goals as goal
 
 pub transfer_on-done-requires-clause-only : goal.transfer_on-done-requires-clause-only
 transfer_on-done-requires-clause-only g c =
-    one_name c.args.office.now.disks.items (name_view c.args.store) c.requires.only
+    one_name c.args.office.now.disks.items (name_view c.args.job.store) c.requires.only
 
 pub returns-clause-does : goal.returns-clause-does
 returns-clause-does g c =
     let seen = seeing g.S.Source g.K.Sink g.D.Disk g.C.Clock g.A.Dial g.I.Inbox g.T.Texts in
-    let order = order_of c.args.name.items c.args.force (name_view c.args.store) (host_view c.args.host) c.args.flag in
+    let order = order_view c.args.job in
     let old = c.args.office.now in
     let new = record old {
       wire = record old.wire { sink = c.tell_end.new.sink };

@@ -1,5 +1,5 @@
 use Rattle.std.proofs.Common.{Ok, Err}
-use Rattle.yp_xfr.specs.Dialing.{dialing_of}
+use Rattle.yp_io.specs.Dials.{dialing_of}
 use Rattle.yp_storing.specs.Xfr.{order_view}
 use Rattle.yp_storing.proofs.Transferring.{did_named}
 use Rattle.yp_storing.proofs.xfr.transfer_over.Goals as goal

@@ -12,7 +12,7 @@ returns-in-Ok-clause-does g c =
     record {
       asks = record { result = Ok c.in-Ok.field-0; asks = c.in-Ok.ensures.asks; told = refl };
       prints = λ catalogue caller turns rest before after answers came.
-          c.log_run_is_printed.ensures catalogue c.args.to caller (bytes_of c.args.question.now) turns rest before after (Ok c.in-Ok.field-0) (scene seen old) (scene seen new) c.requires answers came c.in-Ok.ensures.asks;
+          c.log_run_is_printed.ensures catalogue c.args.to caller (bytes_of c.args.question) turns rest before after (Ok c.in-Ok.field-0) (scene seen old) (scene seen new) c.requires answers came c.in-Ok.ensures.asks;
       complete = search rules;
       read_fault = search rules;
       write_fault = search rules;
@@ -28,7 +28,7 @@ returns-in-Err-clause-does g c =
     record {
       asks = record { result = Err c.in-Err.fault; asks = c.in-Err.ensures.asks; told = c.status_of.ensures };
       prints = λ catalogue caller turns rest before after answers came.
-          c.log_run_is_printed.ensures catalogue c.args.to caller (bytes_of c.args.question.now) turns rest before after (Err c.in-Err.fault) (scene seen old) (scene seen new) c.requires answers came c.in-Err.ensures.asks;
+          c.log_run_is_printed.ensures catalogue c.args.to caller (bytes_of c.args.question) turns rest before after (Err c.in-Err.fault) (scene seen old) (scene seen new) c.requires answers came c.in-Err.ensures.asks;
       complete = search rules;
       read_fault = search rules;
       write_fault = search rules;

@@ -1,14 +1,12 @@
-use Rattle.yp_board.specs.Catalogues.{name_view}
-use Rattle.yp_words.specs.Words.{host_view}
 use Rattle.yp_office.specs.Seeing.{seeing}
-use Rattle.yp_storing.specs.Xfr.{order_of}
+use Rattle.yp_storing.specs.Xfr.{order_view}
 use Rattle.yp_tools.proofs.Sourced.{of_run, whole}
 use Rattle.yp_tools.proofs.transferring.transfer.Goals as goal
 
 pub returns-clause-does : goal.returns-clause-does
 returns-clause-does g c =
     let seen = seeing g.S.Source g.K.Sink g.D.Disk g.C.Clock g.A.Dial g.I.Inbox g.T.Texts in
-    let order = order_of c.args.name.items c.args.force (name_view c.args.store) (host_view c.args.host) c.args.flag in
+    let order = order_view c.args.job in
     let old = c.args.office.now in
     let new = c.transfer_map.new.office in
     let status = c.transfer_map.result in

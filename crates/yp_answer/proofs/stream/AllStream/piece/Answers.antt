@@ -5,7 +5,8 @@ use Rattle.yp_rpc.specs.Reply.{reply_head}
 use Rattle.yp_rpc.specs.declared.reply.ReplyHead.TheVariants.{Success}
 use Rattle.yp_version.specs.Versions.{MapVersion}
 use Rattle.yp_msgs.specs.declared.stat.YpStat.{YpStat}
-use Rattle.yp_answer.specs.Streams.{Streamed, Gives, source_of, item_parts, parts, parts_left, joined, between}
+use Rattle.yp_rpc.specs.Records.{joined}
+use Rattle.yp_answer.specs.Streams.{Streamed, Gives, source_of, item_parts, parts, parts_left, between}
 use Rattle.yp_answer.specs.Items.{items_view}
 use Rattle.yp_answer.proofs.Parts.{gives_first, gives_later, left_len}
 use Rattle.yp_answer.proofs.stream.AllStream.piece.Goals as goal

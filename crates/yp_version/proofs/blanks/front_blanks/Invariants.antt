@@ -1,7 +1,7 @@
 use Rattle.std.proofs.Common.{◌≡◌, ◌+◌, drop}
 use Rattle.std.specs.List.{prefix_len}
-use Rattle.yp_netgroup.specs.Parts.{is_blank}
-use Rattle.yp_netgroup.proofs.text.front_blanks.Given as goal
+use Rattle.yp_version.specs.Blanks.{is_blank}
+use Rattle.yp_version.proofs.blanks.front_blanks.Given as goal
 
 abbrev pub invariant-loop-i : goal.invariant-loop-i
 invariant-loop-i l = l.i + prefix_len is_blank (drop l.i l.text) ≡ prefix_len is_blank l.text

@@ -1,12 +1,12 @@
 use Rattle.std.proofs.Common.{◌≡◌, ◌≤◌, ◌+◌, length, take}
 use Rattle.std.specs.List.{suffix_len}
-use Rattle.yp_build.specs.Words.{is_blank}
-use Rattle.yp_build.proofs.words.without_back_blanks.Given as goal
+use Rattle.yp_version.specs.Blanks.{is_blank}
+use Rattle.yp_version.proofs.blanks.without_back_blanks.Given as goal
 
 abbrev pub invariant-loop-end : goal.invariant-loop-end
 invariant-loop-end l = record {
-  within : l.end ≤ length l.line;
-  blanks : l.end + suffix_len is_blank l.line ≡ length l.line + suffix_len is_blank (take l.end l.line);
+  within : l.end ≤ length l.text;
+  blanks : l.end + suffix_len is_blank l.text ≡ length l.text + suffix_len is_blank (take l.end l.text);
 }
 
 abbrev pub decreases-loop-end : goal.decreases-loop-end

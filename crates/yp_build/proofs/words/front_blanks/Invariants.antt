@@ -1,7 +1,0 @@
-use Rattle.std.proofs.Common.{◌≡◌, ◌+◌, drop}
-use Rattle.std.specs.List.{prefix_len}
-use Rattle.yp_build.specs.Words.{is_blank}
-use Rattle.yp_build.proofs.words.front_blanks.Given as goal
-
-abbrev pub invariant-loop-i : goal.invariant-loop-i
-invariant-loop-i l = l.i + prefix_len is_blank (drop l.i l.line) ≡ prefix_len is_blank l.line
