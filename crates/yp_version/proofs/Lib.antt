@@ -10,3 +10,4 @@ pub mod Lengths
 pub mod Packing
 pub mod Chains
 pub mod Rising
+pub mod Stored

@@ -14,7 +14,7 @@ use Rattle.yp_xdr.specs.Writing.{written}
 use Rattle.yp_version.specs.Limits.{key_max, value_max, body_max}
 use Rattle.yp_version.specs.Rows.{Row, padded, row_len, rows_len}
 use Rattle.yp_version.specs.Bodies.{row_bytes}
-use Rattle.yp_version.specs.Slabs.{Packed, KeepsLimits, counted, opaque_from, key_from, value_from, row_from, places_from}
+use Rattle.yp_version.specs.Slabs.{Packed, KeepsLimits, Lies, counted, opaque_from, key_from, value_from, row_from, places_from}
 use Rattle.yp_version.specs.Slab.{packed_of, IsPacked}
 use Rattle.yp_version.specs.declared.slab.Slab.TheInside.{Inside}
 use Rattle.yp_version.proofs.Lengths.{length_opaque, length_row, length_rows}
@@ -77,7 +77,7 @@ within_moved rows moved is within = record {
 pub bytes_len : (inside : Inside) → IsPacked inside
     → length inside.bytes.items ≡ length (packed_of inside).head + rows_len (packed_of inside).rows
 bytes_len inside kept =
-    ap length kept.bytes ∙ length-append (packed_of inside).head (flat_map row_bytes (packed_of inside).rows)
+    ap length kept.lies.bytes ∙ length-append (packed_of inside).head (flat_map row_bytes (packed_of inside).rows)
     ∙ ap (λ n. length (packed_of inside).head + n) (length_rows (packed_of inside).rows)
 
 counted_read : (content rest : List ℕ) → length content < 2 ^ 32 → counted (opaque content ++ rest) ≡ content
@@ -144,11 +144,9 @@ pub packed_kept : (inside : Inside) (head : List ℕ) (rows : List Row) → Keep
 packed_kept inside head rows within bytes len places small =
     let view = packed_view inside head rows within bytes len places in
     record {
-      within = subst (λ (p : Packed). KeepsLimits p.rows) (sym view) within;
-      bytes = bytes ∙ ap (λ (p : Packed). p.head ++ flat_map row_bytes p.rows) (sym view);
+      lies = subst (Lies inside.bytes.items inside.places.items) (sym view)
+          (record { within = within; bytes = bytes; places = places; small = small });
       head = len ∙ ap (λ (p : Packed). length p.head) (sym view);
-      places = places ∙ (λ i. places_from (sym len i) (sym view i).rows);
-      small = small;
     }
 
 -- one more row
@@ -162,15 +160,14 @@ pub more_bytes : (inside : Inside) (row : Row) → IsPacked inside
     → inside.bytes.items ++ row_bytes row
     ≡ (packed_of inside).head ++ flat_map row_bytes ((packed_of inside).rows ++ row ∷ [])
 more_bytes inside row kept =
-    ap (λ l. l ++ row_bytes row) kept.bytes
+    ap (λ l. l ++ row_bytes row) kept.lies.bytes
     ∙ flat_map_more row_bytes (packed_of inside).head (packed_of inside).rows row
 
 pub more_places : (inside : Inside) (row : Row) → IsPacked inside
     → inside.places.items ++ length inside.bytes.items ∷ []
     ≡ places_from (length (packed_of inside).head) ((packed_of inside).rows ++ row ∷ [])
 more_places inside row kept =
-    (λ i. kept.places i ++ bytes_len inside kept i ∷ [])
-    ∙ (λ i. places_from (kept.head i) (packed_of inside).rows ++ (length (packed_of inside).head + rows_len (packed_of inside).rows) ∷ [])
+    (λ i. kept.lies.places i ++ bytes_len inside kept i ∷ [])
     ∙ sym (places_push (length (packed_of inside).head) (packed_of inside).rows row)
 
 pub pushed_view : (old : Inside) (bytes places : Vec ℕ Global) (row : Row) → IsPacked old → FitsRow row
@@ -179,7 +176,7 @@ pub pushed_view : (old : Inside) (bytes places : Vec ℕ Global) (row : Row) →
     → packed_of (record old { bytes = bytes; places = places }) ≡ record (packed_of old) { rows = (packed_of old).rows ++ row ∷ [] }
 pushed_view old bytes places row kept fits bytes_are places_are =
     packed_view (record old { bytes = bytes; places = places }) (packed_of old).head ((packed_of old).rows ++ row ∷ [])
-    (within_push (packed_of old).rows row kept.within fits)
+    (within_push (packed_of old).rows row kept.lies.within fits)
     (bytes_are ∙ more_bytes old row kept) kept.head (places_are ∙ more_places old row kept)
 
 pub pushed_kept : (old : Inside) (bytes places : Vec ℕ Global) (row : Row) → IsPacked old → FitsRow row
@@ -189,7 +186,7 @@ pub pushed_kept : (old : Inside) (bytes places : Vec ℕ Global) (row : Row) →
     → IsPacked (record old { bytes = bytes; places = places })
 pushed_kept old bytes places row kept fits room bytes_are places_are =
     packed_kept (record old { bytes = bytes; places = places }) (packed_of old).head ((packed_of old).rows ++ row ∷ [])
-    (within_push (packed_of old).rows row kept.within fits)
+    (within_push (packed_of old).rows row kept.lies.within fits)
     (bytes_are ∙ more_bytes old row kept) kept.head (places_are ∙ more_places old row kept)
     (let a = ap length bytes_are in let b = length-append old.bytes.items (row_bytes row) in let d = length_row row in let e = bytes_len old kept in omega arith)
 
@@ -198,7 +195,7 @@ worded : (inside : Inside) (word : ℕ) → IsPacked inside → 4 ≤ length (pa
     → written inside.bytes.items 0 (spelling U32 word)
     ≡ (spelling U32 word ++ drop 4 (packed_of inside).head) ++ flat_map row_bytes (packed_of inside).rows
 worded inside word kept long =
-    ap (λ l. spelling U32 word ++ drop 4 l) kept.bytes
+    ap (λ l. spelling U32 word ++ drop 4 l) kept.lies.bytes
     ∙ ap (λ l. spelling U32 word ++ l) (drop-append-le 4 (packed_of inside).head (flat_map row_bytes (packed_of inside).rows) long)
     ∙ sym (append_assoc (spelling U32 word) (drop 4 (packed_of inside).head) (flat_map row_bytes (packed_of inside).rows))
 
@@ -210,20 +207,20 @@ pub worded_view : (old : Inside) (bytes : Vec ℕ Global) (word : ℕ) → IsPac
     → bytes.items ≡ written old.bytes.items 0 (spelling U32 word)
     → packed_of (record old { bytes = bytes }) ≡ record (packed_of old) { head = spelling U32 word ++ drop 4 (packed_of old).head }
 worded_view old bytes word kept long bytes_are =
-    packed_view (record old { bytes = bytes }) (spelling U32 word ++ drop 4 (packed_of old).head) (packed_of old).rows kept.within
+    packed_view (record old { bytes = bytes }) (spelling U32 word ++ drop 4 (packed_of old).head) (packed_of old).rows kept.lies.within
     (bytes_are ∙ worded old word kept long) (kept.head ∙ worded_len (packed_of old).head word long)
-    (kept.places ∙ ap (λ n. places_from n (packed_of old).rows) (kept.head ∙ worded_len (packed_of old).head word long))
+    (kept.lies.places ∙ ap (λ n. places_from n (packed_of old).rows) (worded_len (packed_of old).head word long))
 
 pub worded_kept : (old : Inside) (bytes : Vec ℕ Global) (word : ℕ) → IsPacked old → 4 ≤ length (packed_of old).head
     → bytes.items ≡ written old.bytes.items 0 (spelling U32 word) → IsPacked (record old { bytes = bytes })
 worded_kept old bytes word kept long bytes_are =
-    packed_kept (record old { bytes = bytes }) (spelling U32 word ++ drop 4 (packed_of old).head) (packed_of old).rows kept.within
+    packed_kept (record old { bytes = bytes }) (spelling U32 word ++ drop 4 (packed_of old).head) (packed_of old).rows kept.lies.within
     (bytes_are ∙ worded old word kept long) (kept.head ∙ worded_len (packed_of old).head word long)
-    (kept.places ∙ ap (λ n. places_from n (packed_of old).rows) (kept.head ∙ worded_len (packed_of old).head word long))
-    (let s = kept.small in
+    (kept.lies.places ∙ ap (λ n. places_from n (packed_of old).rows) (worded_len (packed_of old).head word long))
+    (let s = kept.lies.small in
     let len = ap length (bytes_are ∙ worded old word kept long) in
     let a = length-append (spelling U32 word ++ drop 4 (packed_of old).head) (flat_map row_bytes (packed_of old).rows) in
-    let b = ap length kept.bytes in
+    let b = ap length kept.lies.bytes in
     let c = length-append (packed_of old).head (flat_map row_bytes (packed_of old).rows) in
     let d = worded_len (packed_of old).head word long in
     omega arith)
@@ -233,26 +230,26 @@ headed : (inside : Inside) (head : List ℕ) → IsPacked inside → length head
     → written inside.bytes.items 0 head ≡ head ++ flat_map row_bytes (packed_of inside).rows
 headed inside head kept len =
     ap (λ n. head ++ drop n inside.bytes.items) (let e : 0 + length head ≡ length (packed_of inside).head = omega arith in e)
-    ∙ ap (λ l. head ++ drop (length (packed_of inside).head) l) kept.bytes
+    ∙ ap (λ l. head ++ drop (length (packed_of inside).head) l) kept.lies.bytes
     ∙ ap (λ l. head ++ l) (drop-append_seam (packed_of inside).head (flat_map row_bytes (packed_of inside).rows))
 
 pub headed_view : (old : Inside) (bytes : Vec ℕ Global) (head : List ℕ) → IsPacked old → length head ≡ length (packed_of old).head
     → bytes.items ≡ written old.bytes.items 0 head
     → packed_of (record old { bytes = bytes }) ≡ record (packed_of old) { head = head }
 headed_view old bytes head kept len bytes_are =
-    packed_view (record old { bytes = bytes }) head (packed_of old).rows kept.within
+    packed_view (record old { bytes = bytes }) head (packed_of old).rows kept.lies.within
     (bytes_are ∙ headed old head kept len) (kept.head ∙ sym len)
-    (kept.places ∙ ap (λ n. places_from n (packed_of old).rows) (kept.head ∙ sym len))
+    (kept.lies.places ∙ ap (λ n. places_from n (packed_of old).rows) (sym len))
 
 pub headed_kept : (old : Inside) (bytes : Vec ℕ Global) (head : List ℕ) → IsPacked old → length head ≡ length (packed_of old).head
     → bytes.items ≡ written old.bytes.items 0 head → IsPacked (record old { bytes = bytes })
 headed_kept old bytes head kept len bytes_are =
-    packed_kept (record old { bytes = bytes }) head (packed_of old).rows kept.within
+    packed_kept (record old { bytes = bytes }) head (packed_of old).rows kept.lies.within
     (bytes_are ∙ headed old head kept len) (kept.head ∙ sym len)
-    (kept.places ∙ ap (λ n. places_from n (packed_of old).rows) (kept.head ∙ sym len))
-    (let s = kept.small in
+    (kept.lies.places ∙ ap (λ n. places_from n (packed_of old).rows) (sym len))
+    (let s = kept.lies.small in
     let e = ap length (bytes_are ∙ headed old head kept len) in
     let a = length-append head (flat_map row_bytes (packed_of old).rows) in
-    let b = ap length kept.bytes in
+    let b = ap length kept.lies.bytes in
     let d = length-append (packed_of old).head (flat_map row_bytes (packed_of old).rows) in
     omega arith)

@@ -11,4 +11,5 @@ pub mod Version
 pub mod VersionBuilder
 pub mod Next
 pub mod Places
+pub mod Stored
 pub mod Laws

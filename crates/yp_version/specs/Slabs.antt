@@ -1,8 +1,10 @@
 -- A slab: bytes that stand before rows, and behind them the rows, each spelled as in the body of a version.
-use Rattle.std.specs.Prelude.{ℕ, ◌+◌, ◌≤◌, List, [], ◌∷◌, length, take, drop, All}
+use Rattle.std.specs.Prelude.{◌≡◌, ℕ, ◌+◌, ◌≤◌, List, [], ◌∷◌, ◌++◌, length, take, drop, All}
+use Rattle.std.specs.List.{flat_map}
 use Rattle.std.specs.Int.{w32, from_be_bytes}
-use Rattle.yp_version.specs.Limits.{key_max, value_max}
+use Rattle.yp_version.specs.Limits.{key_max, value_max, body_max}
 use Rattle.yp_version.specs.Rows.{Row, padded, row_len}
+use Rattle.yp_version.specs.Bodies.{row_bytes}
 
 -- what a slab holds
 pub record Packed : Type 0 where
@@ -38,3 +40,10 @@ places_from at (row ∷ rows) = at ∷ places_from (at + row_len row) rows
 pub record KeepsLimits (rows : List Row) : Type 0 where
   pub keys : All (λ row. length row.0 ≤ key_max) rows
   pub values : All (λ row. length row.1 ≤ value_max) rows
+
+-- bytes are what a slab holds, and its rows stand at these places
+pub record Lies (all starts : List ℕ) (packed : Packed) : Type 0 where
+  pub within : KeepsLimits packed.rows
+  pub bytes : all ≡ packed.head ++ flat_map row_bytes packed.rows
+  pub places : starts ≡ places_from (length packed.head) packed.rows
+  pub small : length all ≤ body_max

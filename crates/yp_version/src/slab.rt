@@ -40,6 +40,8 @@ impl Model for Slab {
 }
 
 impl Slab {
+    ghost use Rattle.yp_version.specs.Slabs.{Packed, Lies};
+
     /// No rows behind these bytes, and room for some.
     pub(crate) fn new(alloc: Global, head: Vec<u8>, rows: usize) -> Result<Slab, NoMemory>
         requires { length head.items ≤ body_max }
@@ -52,6 +54,19 @@ impl Slab {
             head_len,
             places,
         })
+    }
+
+    /// What these bytes are, where the rows behind their head stand at these places. The bytes stay where they are.
+    pub(crate) fn of_parts(bytes: Vec<u8>, head_len: usize, places: Vec<u32>) -> Slab
+        requires { (packed : Packed) × Lies bytes.items places.items packed × (head_len ≡ length packed.head) }
+        ensures { (packed : Packed) → Lies bytes.items places.items packed → head_len ≡ length packed.head
+            → result ≡ packed }
+    {
+        Slab {
+            bytes,
+            head_len,
+            places,
+        }
     }
 
     /// Puts a row behind the others. After a refusal nothing has changed.

@@ -13,7 +13,7 @@ pub gathered-requires-clause-within : goal.gathered-requires-clause-within
 gathered-requires-clause-within c =
     let bytes = c.as_slice-all.ensures.value in
     let moved = IsPermutation-map (row_from c.self.inside.bytes.items) _ _ c.sort_unstable_by.ensures.permutation in
-    let within = within_moved (packed_of c.self.inside).rows (map (row_from c.self.inside.bytes.items) c.sort_unstable_by.new.self.items) moved c.self.invariant.within in
+    let within = within_moved (packed_of c.self.inside).rows (map (row_from c.self.inside.bytes.items) c.sort_unstable_by.new.self.items) moved c.self.invariant.lies.within in
     subst (λ (l : List ℕ). KeepsLimits (map (row_from l) c.deref.result.now)) (sym bytes)
     (subst (λ (l : List ℕ). KeepsLimits (map (row_from c.self.inside.bytes.items) l)) (sym c.deref.ensures.value) within)
 
@@ -25,7 +25,7 @@ gathered-requires-clause-room c =
     (λ i. rows_len (map (row_from (c.as_slice-all.ensures.value i)) (c.deref.ensures.value i))) in
     let head = c.requires.head ∙ ap (λ (p : Packed). length p.head) (sym c.self.view_is) in
     let len = bytes_len c.self.inside c.self.invariant in
-    let small = c.self.invariant.small in
+    let small = c.self.invariant.lies.small in
     omega arith
 
 pub returns-clause-moved : goal.returns-clause-moved
