@@ -11,3 +11,4 @@ pub mod Packing
 pub mod Chains
 pub mod Rising
 pub mod Stored
+pub mod Fronts

@@ -1,13 +1,12 @@
 -- A body whose rows are found is a slab.
 use Rattle.std.proofs.Common.{◌≡◌, ℕ, ◌+◌, List, length, sym, ap, ◌∙◌, subst, arith}
-use Rattle.yp_version.specs.Bodies.{IsBody, format, head_bytes}
-use Rattle.yp_version.specs.Limits.{body_max}
+use Rattle.yp_version.specs.Bodies.{format, head_bytes}
 use Rattle.yp_version.specs.Rows.{padded}
 use Rattle.yp_version.specs.Slabs.{Packed, Lies, places_from}
 use Rattle.yp_version.specs.Stored.{IsStored}
 use Rattle.yp_version.specs.Table.{IsTable, HasAll}
 use Rattle.yp_version.specs.Version.{version_of, IsKept}
-use Rattle.yp_version.specs.Versions.{MapVersion, IsVersion, body_len}
+use Rattle.yp_version.specs.Versions.{MapVersion, IsVersion}
 use Rattle.yp_version.specs.declared.version.Version.TheInside.{Inside}
 use Rattle.yp_version.proofs.Lengths.{length_front, length_body}
 

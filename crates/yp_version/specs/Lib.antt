@@ -5,6 +5,7 @@ pub mod Bodies
 pub mod Drafts
 pub mod Slabs
 pub mod Slab
+pub mod Ranks
 pub mod Tables
 pub mod Table
 pub mod Version

@@ -13,8 +13,8 @@ ghost use Rattle.yp_version.specs.Bodies.{row_bytes};
 ghost use Rattle.yp_version.specs.Slabs.{KeepsLimits, opaque_from, key_from, row_from};
 
 use crate::limits::{WORD, padded, row_len};
+use crate::ranks::sorted_places;
 use std::alloc::Global;
-use std::cmp::Ordering;
 use std::marker::Model;
 use yp_io::NoMemory;
 use yp_xdr::{set_opaque, set_u32};
@@ -190,15 +190,12 @@ impl Slab {
         let Slab {
             bytes,
             head_len: _,
-            mut places,
+            places,
         } = self;
         let all = bytes.as_slice();
-        places.sort_unstable_by(
-            |a: &u32, b: &u32| -> Ordering
-                ensures { result ≡ key_cmp (key_from all.entry.now a.now) (key_from all.entry.now b.now) }
-            { key_from(all, *a).cmp(key_from(all, *b)) },
-        );
-        gathered(alloc, head, all, &places)
+        let sorted = sorted_places(alloc, all, &places)?;
+        drop(places);
+        gathered(alloc, head, all, &sorted)
     }
 }
 
@@ -274,8 +271,8 @@ fn opaque_from(bytes: &[u8], place: usize) -> &[u8]
     &content[..len.min(content.len())]
 }
 
-// The key of the row that is spelled from a place on.
-fn key_from(bytes: &[u8], place: u32) -> &[u8]
+/// The key of the row that is spelled from a place on.
+pub(crate) fn key_from(bytes: &[u8], place: u32) -> &[u8]
     ensures { result.now ≡ key_from bytes.now place }
 {
     opaque_from(bytes, place as usize)
