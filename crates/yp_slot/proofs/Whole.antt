@@ -1,7 +1,8 @@
 -- A version that is read is the one that the bytes of its body spell.
 use Rattle.std.proofs.Common.{◌≡◌, ℕ, zero, suc, ◌+◌, ◌<◌, ◌≤◌, ◌^◌, Bool, true, false, cond, eqb, ltb, List, [], ◌∷◌}
 use Rattle.std.proofs.Common.{◌++◌, length, get_or, Option, Some, None, Result, Ok, Err, refl, sym, ap, subst, ◌∙◌}
-use Rattle.std.proofs.Common.{append_assoc, arith, Less}
+use Rattle.std.proofs.Common.{append_assoc, arith, Ordering, Less, Equal, Greater}
+use Rattle.std.specs.Ordering.{is_lt}
 use Rattle.std.specs.Map.{keys_of}
 use Rattle.std.specs.List.{flat_map, AllByRecursion}
 use Rattle.std.specs.List.Sorted.{IsStrictlySortedBy}
@@ -22,7 +23,11 @@ use Rattle.yp_version.specs.Bodies.{format, row_bytes, front_bytes, body, IsBody
 use Rattle.yp_slot.specs.Bodies.{◌>>=◌, by_xdr, item, guard, Head, head_at}
 use Rattle.yp_slot.specs.Bodies.{is_over, row_at, rows_at, body_at}
 use Rattle.yp_slot.proofs.Again.{length-body}
-use Rattle.yp_slot.proofs.Rows.{lt_is}
+
+lt_is : (o : Ordering) → is_lt o ≡ true → o ≡ Less
+lt_is Less e = refl
+lt_is Equal e = absurd cc
+lt_is Greater e = absurd cc
 
 -- what holds of an answer that isn't a refusal
 abbrev OkThat : {A : Type 0} → Result A Wrong → (A → Type 0) → Type 0

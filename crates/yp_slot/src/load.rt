@@ -114,7 +114,7 @@ fn load_body<D: Disk>(
 {
     let mut body = vec![in alloc; 0; entry.len as usize]?;
     disk.read(entry.place, &mut body)?;
-    match read_version(alloc, rt, &body) {
+    match read_version(alloc, rt, body) {
         Ok(version) => Ok(version),
         Err(fault) => Err(SlotFault::in_body(entry.place, fault)),
     }

@@ -1,17 +1,18 @@
 //! Bodies, read.
 
-ghost use Rattle.std.specs.Prelude.{◌≡◌, ◌+◌, ◌≤◌, [], None, true, length, option_map, IfOk, OnOk};
+ghost use Rattle.std.specs.Prelude.{◌≡◌, ◌+◌, ◌≤◌, None, true, length, option_map, IfOk, OnOk};
 ghost use Rattle.yp_xdr.specs.Cursor.{unread};
+ghost use Rattle.yp_xdr.specs.Reading.{IsBytes};
 ghost use Rattle.yp_version.specs.Limits.{key_max, value_max, master_max, rows_max, body_max};
 ghost use Rattle.yp_version.specs.Rows.{padded, row_len};
-ghost use Rattle.yp_version.specs.Drafts.{draft_len};
 ghost use Rattle.yp_slot.specs.Bodies.{Finds, Passes, head_at, row_at, rows_at, body_at, is_over};
-ghost use Rattle.yp_slot.specs.Heads.{head_view, ReadsRows, ReadsBody};
+ghost use Rattle.yp_slot.specs.Heads.{head_view, ReadsRows, FindsBody, ReadsBody};
 
 use crate::wrong::{BodyFault, Wrong};
 use std::alloc::Global;
 use std::random::RandomSource;
-use yp_version::{KEY_MAX, MASTER_MAX, ROWS_MAX, VALUE_MAX, Version, VersionBuilder, VersionFault};
+use yp_io::NoMemory;
+use yp_version::{KEY_MAX, MASTER_MAX, ROWS_MAX, VALUE_MAX, Version};
 use yp_xdr::Cursor;
 
 /// The first word of a body whose version isn't secure.
@@ -91,53 +92,74 @@ fn read_row<'a>(cursor: &mut Cursor<'a>, last: Option<&[u8]>) -> Result<(&'a [u8
     Ok((key, value))
 }
 
-/// Reads this many rows into a builder that has none, each once.
-fn read_rows(
-    cursor: &mut Cursor<'_>,
-    count: u32,
-    builder: &mut VersionBuilder,
-) -> Result<(), BodyFault>
-    requires none { builder.old.rows ≡ [] }
+/// Reads this many rows, and answers the place of each.
+fn read_rows(alloc: Global, cursor: &mut Cursor<'_>, count: u32) -> Result<Vec<u32>, BodyFault>
     requires count { count ≤ rows_max }
-    requires place { (unread cursor.old).at ≡ draft_len builder.old }
     requires size { (unread cursor.old).at + length (unread cursor.old).bytes ≤ body_max }
-    ensures read { ReadsRows (rows_at count None (unread cursor.old)) result
-        builder.old builder.new (unread cursor.new) }
+    ensures read { ReadsRows (rows_at count None (unread cursor.old)) (unread cursor.old).at
+        result (unread cursor.new) }
     ensures passed { OnOk result (Passes (unread cursor.old) (unread cursor.new)) }
 {
+    let mut places = Vec::with_capacity(alloc, count as usize).map_err(|_| NoMemory)?;
     let mut last: Option<&[u8]> = None;
     for _number in 0..count {
-        let (key, value) = read_row(cursor, last)?;
-        if let Err(fault) = builder.push(key, value) {
-            // The row keeps the limits and its key is new, so only memory can be wanting.
-            prove!(matches!(fault, VersionFault::NoMemory));
-            return Err(BodyFault::NoMemory);
-        }
+        let place = cursor.at() as u32;
+        let (key, _) = read_row(cursor, last)?;
+        places.push(place).map_err(|_| NoMemory)?;
         last = Some(key);
     }
-    Ok(())
+    Ok(places)
 }
 
-/// The version that a body spells, or the first thing that is wrong in it.
+/// What a body holds: all but its rows, and the place of each of these.
+#[derive(Debug, Drop)]
+pub(crate) struct Found {
+    pub secure: bool,
+    pub order: u32,
+    pub master: Vec<u8>,
+    pub places: Vec<u32>,
+}
+
+/// Reads a body, or finds the first thing that is wrong in it.
 #[tactic(auto, unfolding(crate::specs::Bodies::body_at))]
-pub(crate) fn read_version(
-    alloc: Global,
-    rt: &impl RandomSource,
-    body: &[u8],
-) -> Result<Version, BodyFault>
+fn find(alloc: Global, body: &[u8]) -> Result<Found, BodyFault>
     requires { length body.now ≤ body_max }
-    ensures { ReadsBody (body_at body.now) result }
+    ensures finds { FindsBody (body_at body.now) result }
+    ensures are_bytes { IsBytes body.now }
 {
-    yp_version::laws::rising_stays();
     let mut cursor = Cursor::new(body);
     let front = read_front(&mut cursor)?;
-    let mut builder = VersionBuilder::new(alloc, rt, front.order, front.master)?;
-    read_rows(&mut cursor, front.count, &mut builder)?;
+    let places = read_rows(alloc, &mut cursor, front.count)?;
     if cursor.at() < body.len() {
         return Err(BodyFault::Wrong(Wrong {
             at: cursor.at(),
             rule: 9,
         }));
     }
-    Ok(builder.finish()?.marked(front.secure))
+    let master = Vec::from_slice(alloc, front.master).map_err(|_| NoMemory)?;
+    Ok(Found {
+        secure: front.secure,
+        order: front.order,
+        master,
+        places,
+    })
+}
+
+/// The version that a body spells, or the first thing that is wrong in it. No row is copied: the version takes the body.
+pub(crate) fn read_version(
+    alloc: Global,
+    rt: &impl RandomSource,
+    body: Vec<u8>,
+) -> Result<Version, BodyFault>
+    requires { length body.items ≤ body_max }
+    ensures { ReadsBody (body_at body.items) result }
+{
+    crate::laws::read_is_body();
+    let Found {
+        secure,
+        order,
+        master,
+        places,
+    } = find(alloc, &body)?;
+    Ok(Version::of_body(alloc, rt, order, master, secure, body, places)?)
 }

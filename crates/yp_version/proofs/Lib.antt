@@ -10,3 +10,5 @@ pub mod Lengths
 pub mod Packing
 pub mod Chains
 pub mod Rising
+pub mod Stored
+pub mod Fronts

@@ -4,18 +4,17 @@ use Rattle.std.specs.List.{flat_map, AllByRecursion}
 use Rattle.std.proofs.Math.ListN.{drop_of_length-le}
 use Rattle.std.proofs.Math.Seq.{drop-append_seam, take-append_seam}
 use Rattle.std.proofs.lemmas.List.Sums.{sum_by-cons}
+use Rattle.std.proofs.lemmas.Nat.{from_be_bytes-to_be_bytes_4}
 use Rattle.std.proofs.lemmas.List.{length-append, length-drop, length-replicate, append-nil, drop-append-le, flat_map_more}
 use Rattle.std.proofs.lemmas.List.Elements.{recursion_from_All, All-push}
 use Rattle.std.proofs.lemmas.List.Sorted.{All-permutation}
 use Rattle.yp_xdr.specs.Kind.{U32, Opaque}
-use Rattle.yp_xdr.specs.Spelling.{spelling}
-use Rattle.yp_xdr.specs.Reading.{reading}
+use Rattle.yp_xdr.specs.Spelling.{spelling, opaque, fixed, padding}
 use Rattle.yp_xdr.specs.Writing.{written}
-use Rattle.yp_xdr.specs.Laws.{WrittenIsReadAgain}
 use Rattle.yp_version.specs.Limits.{key_max, value_max, body_max}
 use Rattle.yp_version.specs.Rows.{Row, padded, row_len, rows_len}
 use Rattle.yp_version.specs.Bodies.{row_bytes}
-use Rattle.yp_version.specs.Slabs.{Packed, KeepsLimits, read_or_none, opaque_from, key_from, value_from, row_from, places_from}
+use Rattle.yp_version.specs.Slabs.{Packed, KeepsLimits, Lies, counted, opaque_from, key_from, value_from, row_from, places_from}
 use Rattle.yp_version.specs.Slab.{packed_of, IsPacked}
 use Rattle.yp_version.specs.declared.slab.Slab.TheInside.{Inside}
 use Rattle.yp_version.proofs.Lengths.{length_opaque, length_row, length_rows}
@@ -78,178 +77,179 @@ within_moved rows moved is within = record {
 pub bytes_len : (inside : Inside) → IsPacked inside
     → length inside.bytes.items ≡ length (packed_of inside).head + rows_len (packed_of inside).rows
 bytes_len inside kept =
-    ap length kept.bytes ∙ length-append (packed_of inside).head (flat_map row_bytes (packed_of inside).rows)
+    ap length kept.lies.bytes ∙ length-append (packed_of inside).head (flat_map row_bytes (packed_of inside).rows)
     ∙ ap (λ n. length (packed_of inside).head + n) (length_rows (packed_of inside).rows)
 
-module _ (again : WrittenIsReadAgain) where
-  opaque_read : (max : ℕ) (front content rest : List ℕ) → length content ≤ max → max < 2 ^ 32
-      → opaque_from max (front ++ (spelling (Opaque max) content ++ rest)) (length front) ≡ content
-  unfolding opaque_from
-  opaque_read max front content rest few small =
-      ap (λ l. read_or_none (reading (Opaque max) (record { at = 0; bytes = l })))
-      (drop-append_seam front (spelling (Opaque max) content ++ rest))
-      ∙ ap read_or_none (again (Opaque max) content (spelling (Opaque max) content) rest 0 (record { fits = (few, omega arith); spelled = refl }))
+counted_read : (content rest : List ℕ) → length content < 2 ^ 32 → counted (opaque content ++ rest) ≡ content
+unfolding opaque fixed
+counted_read content rest few =
+    ap (λ n. take n ((content ++ padding (length content)) ++ rest)) (from_be_bytes-to_be_bytes_4 (length content) few)
+    ∙ ap (take (length content)) (append_assoc content (padding (length content)) rest)
+    ∙ take-append_seam content (padding (length content) ++ rest)
 
-  row_read : (front : List ℕ) (row : Row) (rest : List ℕ) → FitsRow row → row_from (front ++ (row_bytes row ++ rest)) (length front) ≡ row
-  unfolding row_bytes
-  row_read front row rest fits =
-      let a = spelling (Opaque key_max) row.0 in
-      let b = spelling (Opaque value_max) row.1 in
-      let whole = front ++ ((a ++ b) ++ rest) in
-      let one : whole ≡ front ++ (a ++ (b ++ rest)) = ap (λ l. front ++ l) (append_assoc a b rest) in
-      let two : whole ≡ (front ++ a) ++ (b ++ rest) = one ∙ sym (append_assoc front a (b ++ rest)) in
-      let key : key_from whole (length front) ≡ row.0 =
-      ap (λ l. key_from l (length front)) one ∙ opaque_read key_max front row.0 (b ++ rest) fits.0 (omega arith) in
-      let place : length front + (4 + padded (length row.0)) ≡ length (front ++ a) =
-      omega (arith, length-append front a, length_opaque key_max row.0) in
-      let value : value_from whole (length front) ≡ row.1 =
-      ap (λ k. opaque_from value_max whole (length front + (4 + padded (length k)))) key
-      ∙ ap (opaque_from value_max whole) place
-      ∙ ap (λ l. opaque_from value_max l (length (front ++ a))) two
-      ∙ opaque_read value_max (front ++ a) row.1 rest fits.1 (omega arith) in
-      λ i. (key i, value i)
+opaque_read : (max : ℕ) (front content rest : List ℕ) → length content ≤ max → max < 2 ^ 32
+    → opaque_from (front ++ (spelling (Opaque max) content ++ rest)) (length front) ≡ content
+unfolding opaque_from
+opaque_read max front content rest few small =
+    ap counted (drop-append_seam front (spelling (Opaque max) content ++ rest)) ∙ counted_read content rest (omega arith)
 
-  rows_read : (front : List ℕ) (rows : List Row) → AllByRecursion FitsRow rows
-      → map (row_from (front ++ flat_map row_bytes rows)) (places_from (length front) rows) ≡ rows
-  rows_read front [] fits = refl
-  rows_read front (row ∷ rows) fits =
-      let whole = front ++ (row_bytes row ++ flat_map row_bytes rows) in
-      let first = row_read front row (flat_map row_bytes rows) fits.0 in
-      let split : whole ≡ (front ++ row_bytes row) ++ flat_map row_bytes rows =
-      sym (append_assoc front (row_bytes row) (flat_map row_bytes rows)) in
-      let place : length front + row_len row ≡ length (front ++ row_bytes row) =
-      omega (arith, length-append front (row_bytes row), length_row row) in
-      let others : map (row_from whole) (places_from (length front + row_len row) rows) ≡ rows =
-      (λ i. map (row_from (split i)) (places_from (place i) rows)) ∙ rows_read (front ++ row_bytes row) rows fits.1 in
-      λ i. first i ∷ others i
+row_read : (front : List ℕ) (row : Row) (rest : List ℕ) → FitsRow row → row_from (front ++ (row_bytes row ++ rest)) (length front) ≡ row
+unfolding row_bytes
+row_read front row rest fits =
+    let a = spelling (Opaque key_max) row.0 in
+    let b = spelling (Opaque value_max) row.1 in
+    let whole = front ++ ((a ++ b) ++ rest) in
+    let one : whole ≡ front ++ (a ++ (b ++ rest)) = ap (λ l. front ++ l) (append_assoc a b rest) in
+    let two : whole ≡ (front ++ a) ++ (b ++ rest) = one ∙ sym (append_assoc front a (b ++ rest)) in
+    let key : key_from whole (length front) ≡ row.0 =
+    ap (λ l. key_from l (length front)) one ∙ opaque_read key_max front row.0 (b ++ rest) fits.0 (omega arith) in
+    let place : length front + (4 + padded (length row.0)) ≡ length (front ++ a) =
+    omega (arith, length-append front a, length_opaque key_max row.0) in
+    let value : value_from whole (length front) ≡ row.1 =
+    ap (λ k. opaque_from whole (length front + (4 + padded (length k)))) key
+    ∙ ap (opaque_from whole) place
+    ∙ ap (λ l. opaque_from l (length (front ++ a))) two
+    ∙ opaque_read value_max (front ++ a) row.1 rest fits.1 (omega arith) in
+    λ i. (key i, value i)
 
-  -- the fields hold these rows behind this head
-  pub packed_view : (inside : Inside) (head : List ℕ) (rows : List Row) → KeepsLimits rows
-      → inside.bytes.items ≡ head ++ flat_map row_bytes rows → inside.head_len ≡ length head
-      → inside.places.items ≡ places_from (length head) rows
-      → packed_of inside ≡ record { head = head; rows = rows }
-  packed_view inside head rows within bytes len places =
-      let front : take inside.head_len inside.bytes.items ≡ head =
-      (λ i. take (len i) (bytes i)) ∙ take-append_seam head (flat_map row_bytes rows) in
-      let all : map (row_from inside.bytes.items) inside.places.items ≡ rows =
-      (λ i. map (row_from (bytes i)) (places i)) ∙ rows_read head rows (fits_all rows within) in
-      λ i. record { head = front i; rows = all i }
+rows_read : (front : List ℕ) (rows : List Row) → AllByRecursion FitsRow rows
+    → map (row_from (front ++ flat_map row_bytes rows)) (places_from (length front) rows) ≡ rows
+rows_read front [] fits = refl
+rows_read front (row ∷ rows) fits =
+    let whole = front ++ (row_bytes row ++ flat_map row_bytes rows) in
+    let first = row_read front row (flat_map row_bytes rows) fits.0 in
+    let split : whole ≡ (front ++ row_bytes row) ++ flat_map row_bytes rows =
+    sym (append_assoc front (row_bytes row) (flat_map row_bytes rows)) in
+    let place : length front + row_len row ≡ length (front ++ row_bytes row) =
+    omega (arith, length-append front (row_bytes row), length_row row) in
+    let others : map (row_from whole) (places_from (length front + row_len row) rows) ≡ rows =
+    (λ i. map (row_from (split i)) (places_from (place i) rows)) ∙ rows_read (front ++ row_bytes row) rows fits.1 in
+    λ i. first i ∷ others i
 
-  pub packed_kept : (inside : Inside) (head : List ℕ) (rows : List Row) → KeepsLimits rows
-      → inside.bytes.items ≡ head ++ flat_map row_bytes rows → inside.head_len ≡ length head
-      → inside.places.items ≡ places_from (length head) rows → length inside.bytes.items ≤ body_max → IsPacked inside
-  packed_kept inside head rows within bytes len places small =
-      let view = packed_view inside head rows within bytes len places in
-      record {
-        within = subst (λ (p : Packed). KeepsLimits p.rows) (sym view) within;
-        bytes = bytes ∙ ap (λ (p : Packed). p.head ++ flat_map row_bytes p.rows) (sym view);
-        head = len ∙ ap (λ (p : Packed). length p.head) (sym view);
-        places = places ∙ (λ i. places_from (sym len i) (sym view i).rows);
-        small = small;
-      }
+-- the fields hold these rows behind this head
+pub packed_view : (inside : Inside) (head : List ℕ) (rows : List Row) → KeepsLimits rows
+    → inside.bytes.items ≡ head ++ flat_map row_bytes rows → inside.head_len ≡ length head
+    → inside.places.items ≡ places_from (length head) rows
+    → packed_of inside ≡ record { head = head; rows = rows }
+packed_view inside head rows within bytes len places =
+    let front : take inside.head_len inside.bytes.items ≡ head =
+    (λ i. take (len i) (bytes i)) ∙ take-append_seam head (flat_map row_bytes rows) in
+    let all : map (row_from inside.bytes.items) inside.places.items ≡ rows =
+    (λ i. map (row_from (bytes i)) (places i)) ∙ rows_read head rows (fits_all rows within) in
+    λ i. record { head = front i; rows = all i }
 
-  -- one more row
-  within_push : (rows : List Row) (row : Row) → KeepsLimits rows → FitsRow row → KeepsLimits (rows ++ row ∷ [])
-  within_push rows row within fits = record {
-    keys = All-push (λ (row : Row). length row.0 ≤ key_max) rows row within.keys fits.0;
-    values = All-push (λ (row : Row). length row.1 ≤ value_max) rows row within.values fits.1;
-  }
+pub packed_kept : (inside : Inside) (head : List ℕ) (rows : List Row) → KeepsLimits rows
+    → inside.bytes.items ≡ head ++ flat_map row_bytes rows → inside.head_len ≡ length head
+    → inside.places.items ≡ places_from (length head) rows → length inside.bytes.items ≤ body_max → IsPacked inside
+packed_kept inside head rows within bytes len places small =
+    let view = packed_view inside head rows within bytes len places in
+    record {
+      lies = subst (Lies inside.bytes.items inside.places.items) (sym view)
+          (record { within = within; bytes = bytes; places = places; small = small });
+      head = len ∙ ap (λ (p : Packed). length p.head) (sym view);
+    }
 
-  pub more_bytes : (inside : Inside) (row : Row) → IsPacked inside
-      → inside.bytes.items ++ row_bytes row
-      ≡ (packed_of inside).head ++ flat_map row_bytes ((packed_of inside).rows ++ row ∷ [])
-  more_bytes inside row kept =
-      ap (λ l. l ++ row_bytes row) kept.bytes
-      ∙ flat_map_more row_bytes (packed_of inside).head (packed_of inside).rows row
+-- one more row
+within_push : (rows : List Row) (row : Row) → KeepsLimits rows → FitsRow row → KeepsLimits (rows ++ row ∷ [])
+within_push rows row within fits = record {
+  keys = All-push (λ (row : Row). length row.0 ≤ key_max) rows row within.keys fits.0;
+  values = All-push (λ (row : Row). length row.1 ≤ value_max) rows row within.values fits.1;
+}
 
-  pub more_places : (inside : Inside) (row : Row) → IsPacked inside
-      → inside.places.items ++ length inside.bytes.items ∷ []
-      ≡ places_from (length (packed_of inside).head) ((packed_of inside).rows ++ row ∷ [])
-  more_places inside row kept =
-      (λ i. kept.places i ++ bytes_len inside kept i ∷ [])
-      ∙ (λ i. places_from (kept.head i) (packed_of inside).rows ++ (length (packed_of inside).head + rows_len (packed_of inside).rows) ∷ [])
-      ∙ sym (places_push (length (packed_of inside).head) (packed_of inside).rows row)
+pub more_bytes : (inside : Inside) (row : Row) → IsPacked inside
+    → inside.bytes.items ++ row_bytes row
+    ≡ (packed_of inside).head ++ flat_map row_bytes ((packed_of inside).rows ++ row ∷ [])
+more_bytes inside row kept =
+    ap (λ l. l ++ row_bytes row) kept.lies.bytes
+    ∙ flat_map_more row_bytes (packed_of inside).head (packed_of inside).rows row
 
-  pub pushed_view : (old : Inside) (bytes places : Vec ℕ Global) (row : Row) → IsPacked old → FitsRow row
-      → bytes.items ≡ old.bytes.items ++ row_bytes row
-      → places.items ≡ old.places.items ++ length old.bytes.items ∷ []
-      → packed_of (record old { bytes = bytes; places = places }) ≡ record (packed_of old) { rows = (packed_of old).rows ++ row ∷ [] }
-  pushed_view old bytes places row kept fits bytes_are places_are =
-      packed_view (record old { bytes = bytes; places = places }) (packed_of old).head ((packed_of old).rows ++ row ∷ [])
-      (within_push (packed_of old).rows row kept.within fits)
-      (bytes_are ∙ more_bytes old row kept) kept.head (places_are ∙ more_places old row kept)
+pub more_places : (inside : Inside) (row : Row) → IsPacked inside
+    → inside.places.items ++ length inside.bytes.items ∷ []
+    ≡ places_from (length (packed_of inside).head) ((packed_of inside).rows ++ row ∷ [])
+more_places inside row kept =
+    (λ i. kept.lies.places i ++ bytes_len inside kept i ∷ [])
+    ∙ sym (places_push (length (packed_of inside).head) (packed_of inside).rows row)
 
-  pub pushed_kept : (old : Inside) (bytes places : Vec ℕ Global) (row : Row) → IsPacked old → FitsRow row
-      → length (packed_of old).head + rows_len (packed_of old).rows + row_len row ≤ body_max
-      → bytes.items ≡ old.bytes.items ++ row_bytes row
-      → places.items ≡ old.places.items ++ length old.bytes.items ∷ []
-      → IsPacked (record old { bytes = bytes; places = places })
-  pushed_kept old bytes places row kept fits room bytes_are places_are =
-      packed_kept (record old { bytes = bytes; places = places }) (packed_of old).head ((packed_of old).rows ++ row ∷ [])
-      (within_push (packed_of old).rows row kept.within fits)
-      (bytes_are ∙ more_bytes old row kept) kept.head (places_are ∙ more_places old row kept)
-      (let a = ap length bytes_are in let b = length-append old.bytes.items (row_bytes row) in let d = length_row row in let e = bytes_len old kept in omega arith)
+pub pushed_view : (old : Inside) (bytes places : Vec ℕ Global) (row : Row) → IsPacked old → FitsRow row
+    → bytes.items ≡ old.bytes.items ++ row_bytes row
+    → places.items ≡ old.places.items ++ length old.bytes.items ∷ []
+    → packed_of (record old { bytes = bytes; places = places }) ≡ record (packed_of old) { rows = (packed_of old).rows ++ row ∷ [] }
+pushed_view old bytes places row kept fits bytes_are places_are =
+    packed_view (record old { bytes = bytes; places = places }) (packed_of old).head ((packed_of old).rows ++ row ∷ [])
+    (within_push (packed_of old).rows row kept.lies.within fits)
+    (bytes_are ∙ more_bytes old row kept) kept.head (places_are ∙ more_places old row kept)
 
-  -- another first word
-  worded : (inside : Inside) (word : ℕ) → IsPacked inside → 4 ≤ length (packed_of inside).head
-      → written inside.bytes.items 0 (spelling U32 word)
-      ≡ (spelling U32 word ++ drop 4 (packed_of inside).head) ++ flat_map row_bytes (packed_of inside).rows
-  worded inside word kept long =
-      ap (λ l. spelling U32 word ++ drop 4 l) kept.bytes
-      ∙ ap (λ l. spelling U32 word ++ l) (drop-append-le 4 (packed_of inside).head (flat_map row_bytes (packed_of inside).rows) long)
-      ∙ sym (append_assoc (spelling U32 word) (drop 4 (packed_of inside).head) (flat_map row_bytes (packed_of inside).rows))
+pub pushed_kept : (old : Inside) (bytes places : Vec ℕ Global) (row : Row) → IsPacked old → FitsRow row
+    → length (packed_of old).head + rows_len (packed_of old).rows + row_len row ≤ body_max
+    → bytes.items ≡ old.bytes.items ++ row_bytes row
+    → places.items ≡ old.places.items ++ length old.bytes.items ∷ []
+    → IsPacked (record old { bytes = bytes; places = places })
+pushed_kept old bytes places row kept fits room bytes_are places_are =
+    packed_kept (record old { bytes = bytes; places = places }) (packed_of old).head ((packed_of old).rows ++ row ∷ [])
+    (within_push (packed_of old).rows row kept.lies.within fits)
+    (bytes_are ∙ more_bytes old row kept) kept.head (places_are ∙ more_places old row kept)
+    (let a = ap length bytes_are in let b = length-append old.bytes.items (row_bytes row) in let d = length_row row in let e = bytes_len old kept in omega arith)
 
-  worded_len : (head : List ℕ) (word : ℕ) → 4 ≤ length head → length head ≡ length (spelling U32 word ++ drop 4 head)
-  worded_len head word long =
-      omega (arith, length-append (spelling U32 word) (drop 4 head), length-drop 4 head)
+-- another first word
+worded : (inside : Inside) (word : ℕ) → IsPacked inside → 4 ≤ length (packed_of inside).head
+    → written inside.bytes.items 0 (spelling U32 word)
+    ≡ (spelling U32 word ++ drop 4 (packed_of inside).head) ++ flat_map row_bytes (packed_of inside).rows
+worded inside word kept long =
+    ap (λ l. spelling U32 word ++ drop 4 l) kept.lies.bytes
+    ∙ ap (λ l. spelling U32 word ++ l) (drop-append-le 4 (packed_of inside).head (flat_map row_bytes (packed_of inside).rows) long)
+    ∙ sym (append_assoc (spelling U32 word) (drop 4 (packed_of inside).head) (flat_map row_bytes (packed_of inside).rows))
 
-  pub worded_view : (old : Inside) (bytes : Vec ℕ Global) (word : ℕ) → IsPacked old → 4 ≤ length (packed_of old).head
-      → bytes.items ≡ written old.bytes.items 0 (spelling U32 word)
-      → packed_of (record old { bytes = bytes }) ≡ record (packed_of old) { head = spelling U32 word ++ drop 4 (packed_of old).head }
-  worded_view old bytes word kept long bytes_are =
-      packed_view (record old { bytes = bytes }) (spelling U32 word ++ drop 4 (packed_of old).head) (packed_of old).rows kept.within
-      (bytes_are ∙ worded old word kept long) (kept.head ∙ worded_len (packed_of old).head word long)
-      (kept.places ∙ ap (λ n. places_from n (packed_of old).rows) (kept.head ∙ worded_len (packed_of old).head word long))
+worded_len : (head : List ℕ) (word : ℕ) → 4 ≤ length head → length head ≡ length (spelling U32 word ++ drop 4 head)
+worded_len head word long =
+    omega (arith, length-append (spelling U32 word) (drop 4 head), length-drop 4 head)
 
-  pub worded_kept : (old : Inside) (bytes : Vec ℕ Global) (word : ℕ) → IsPacked old → 4 ≤ length (packed_of old).head
-      → bytes.items ≡ written old.bytes.items 0 (spelling U32 word) → IsPacked (record old { bytes = bytes })
-  worded_kept old bytes word kept long bytes_are =
-      packed_kept (record old { bytes = bytes }) (spelling U32 word ++ drop 4 (packed_of old).head) (packed_of old).rows kept.within
-      (bytes_are ∙ worded old word kept long) (kept.head ∙ worded_len (packed_of old).head word long)
-      (kept.places ∙ ap (λ n. places_from n (packed_of old).rows) (kept.head ∙ worded_len (packed_of old).head word long))
-      (let s = kept.small in
-      let len = ap length (bytes_are ∙ worded old word kept long) in
-      let a = length-append (spelling U32 word ++ drop 4 (packed_of old).head) (flat_map row_bytes (packed_of old).rows) in
-      let b = ap length kept.bytes in
-      let c = length-append (packed_of old).head (flat_map row_bytes (packed_of old).rows) in
-      let d = worded_len (packed_of old).head word long in
-      omega arith)
+pub worded_view : (old : Inside) (bytes : Vec ℕ Global) (word : ℕ) → IsPacked old → 4 ≤ length (packed_of old).head
+    → bytes.items ≡ written old.bytes.items 0 (spelling U32 word)
+    → packed_of (record old { bytes = bytes }) ≡ record (packed_of old) { head = spelling U32 word ++ drop 4 (packed_of old).head }
+worded_view old bytes word kept long bytes_are =
+    packed_view (record old { bytes = bytes }) (spelling U32 word ++ drop 4 (packed_of old).head) (packed_of old).rows kept.lies.within
+    (bytes_are ∙ worded old word kept long) (kept.head ∙ worded_len (packed_of old).head word long)
+    (kept.lies.places ∙ ap (λ n. places_from n (packed_of old).rows) (worded_len (packed_of old).head word long))
 
-  -- another head
-  headed : (inside : Inside) (head : List ℕ) → IsPacked inside → length head ≡ length (packed_of inside).head
-      → written inside.bytes.items 0 head ≡ head ++ flat_map row_bytes (packed_of inside).rows
-  headed inside head kept len =
-      ap (λ n. head ++ drop n inside.bytes.items) (let e : 0 + length head ≡ length (packed_of inside).head = omega arith in e)
-      ∙ ap (λ l. head ++ drop (length (packed_of inside).head) l) kept.bytes
-      ∙ ap (λ l. head ++ l) (drop-append_seam (packed_of inside).head (flat_map row_bytes (packed_of inside).rows))
+pub worded_kept : (old : Inside) (bytes : Vec ℕ Global) (word : ℕ) → IsPacked old → 4 ≤ length (packed_of old).head
+    → bytes.items ≡ written old.bytes.items 0 (spelling U32 word) → IsPacked (record old { bytes = bytes })
+worded_kept old bytes word kept long bytes_are =
+    packed_kept (record old { bytes = bytes }) (spelling U32 word ++ drop 4 (packed_of old).head) (packed_of old).rows kept.lies.within
+    (bytes_are ∙ worded old word kept long) (kept.head ∙ worded_len (packed_of old).head word long)
+    (kept.lies.places ∙ ap (λ n. places_from n (packed_of old).rows) (worded_len (packed_of old).head word long))
+    (let s = kept.lies.small in
+    let len = ap length (bytes_are ∙ worded old word kept long) in
+    let a = length-append (spelling U32 word ++ drop 4 (packed_of old).head) (flat_map row_bytes (packed_of old).rows) in
+    let b = ap length kept.lies.bytes in
+    let c = length-append (packed_of old).head (flat_map row_bytes (packed_of old).rows) in
+    let d = worded_len (packed_of old).head word long in
+    omega arith)
 
-  pub headed_view : (old : Inside) (bytes : Vec ℕ Global) (head : List ℕ) → IsPacked old → length head ≡ length (packed_of old).head
-      → bytes.items ≡ written old.bytes.items 0 head
-      → packed_of (record old { bytes = bytes }) ≡ record (packed_of old) { head = head }
-  headed_view old bytes head kept len bytes_are =
-      packed_view (record old { bytes = bytes }) head (packed_of old).rows kept.within
-      (bytes_are ∙ headed old head kept len) (kept.head ∙ sym len)
-      (kept.places ∙ ap (λ n. places_from n (packed_of old).rows) (kept.head ∙ sym len))
+-- another head
+headed : (inside : Inside) (head : List ℕ) → IsPacked inside → length head ≡ length (packed_of inside).head
+    → written inside.bytes.items 0 head ≡ head ++ flat_map row_bytes (packed_of inside).rows
+headed inside head kept len =
+    ap (λ n. head ++ drop n inside.bytes.items) (let e : 0 + length head ≡ length (packed_of inside).head = omega arith in e)
+    ∙ ap (λ l. head ++ drop (length (packed_of inside).head) l) kept.lies.bytes
+    ∙ ap (λ l. head ++ l) (drop-append_seam (packed_of inside).head (flat_map row_bytes (packed_of inside).rows))
 
-  pub headed_kept : (old : Inside) (bytes : Vec ℕ Global) (head : List ℕ) → IsPacked old → length head ≡ length (packed_of old).head
-      → bytes.items ≡ written old.bytes.items 0 head → IsPacked (record old { bytes = bytes })
-  headed_kept old bytes head kept len bytes_are =
-      packed_kept (record old { bytes = bytes }) head (packed_of old).rows kept.within
-      (bytes_are ∙ headed old head kept len) (kept.head ∙ sym len)
-      (kept.places ∙ ap (λ n. places_from n (packed_of old).rows) (kept.head ∙ sym len))
-      (let s = kept.small in
-      let e = ap length (bytes_are ∙ headed old head kept len) in
-      let a = length-append head (flat_map row_bytes (packed_of old).rows) in
-      let b = ap length kept.bytes in
-      let d = length-append (packed_of old).head (flat_map row_bytes (packed_of old).rows) in
-      omega arith)
+pub headed_view : (old : Inside) (bytes : Vec ℕ Global) (head : List ℕ) → IsPacked old → length head ≡ length (packed_of old).head
+    → bytes.items ≡ written old.bytes.items 0 head
+    → packed_of (record old { bytes = bytes }) ≡ record (packed_of old) { head = head }
+headed_view old bytes head kept len bytes_are =
+    packed_view (record old { bytes = bytes }) head (packed_of old).rows kept.lies.within
+    (bytes_are ∙ headed old head kept len) (kept.head ∙ sym len)
+    (kept.lies.places ∙ ap (λ n. places_from n (packed_of old).rows) (sym len))
+
+pub headed_kept : (old : Inside) (bytes : Vec ℕ Global) (head : List ℕ) → IsPacked old → length head ≡ length (packed_of old).head
+    → bytes.items ≡ written old.bytes.items 0 head → IsPacked (record old { bytes = bytes })
+headed_kept old bytes head kept len bytes_are =
+    packed_kept (record old { bytes = bytes }) head (packed_of old).rows kept.lies.within
+    (bytes_are ∙ headed old head kept len) (kept.head ∙ sym len)
+    (kept.lies.places ∙ ap (λ n. places_from n (packed_of old).rows) (sym len))
+    (let s = kept.lies.small in
+    let e = ap length (bytes_are ∙ headed old head kept len) in
+    let a = length-append head (flat_map row_bytes (packed_of old).rows) in
+    let b = ap length kept.lies.bytes in
+    let d = length-append (packed_of old).head (flat_map row_bytes (packed_of old).rows) in
+    omega arith)

@@ -1,9 +1,6 @@
 -- What the code keeps of a slab.
-use Rattle.std.specs.Prelude.{◌≡◌, ◌≤◌, ◌++◌, length, take, map}
-use Rattle.std.specs.List.{flat_map}
-use Rattle.yp_version.specs.Limits.{body_max}
-use Rattle.yp_version.specs.Bodies.{row_bytes}
-use Rattle.yp_version.specs.Slabs.{Packed, KeepsLimits, row_from, places_from}
+use Rattle.std.specs.Prelude.{◌≡◌, length, take, map}
+use Rattle.yp_version.specs.Slabs.{Packed, Lies, row_from}
 use Rattle.yp_version.specs.declared.slab.Slab.TheInside.{Inside}
 
 -- the bytes before the rows, and the rows at their places
@@ -15,8 +12,5 @@ packed_of inside = record {
 
 -- the bytes are those before the rows, and the rows, which stand at their places
 pub record IsPacked (inside : Inside) : Type 0 where
-  pub within : KeepsLimits (packed_of inside).rows
-  pub bytes : inside.bytes.items ≡ (packed_of inside).head ++ flat_map row_bytes (packed_of inside).rows
+  pub lies : Lies inside.bytes.items inside.places.items (packed_of inside)
   pub head : inside.head_len ≡ length (packed_of inside).head
-  pub places : inside.places.items ≡ places_from inside.head_len (packed_of inside).rows
-  pub small : length inside.bytes.items ≤ body_max

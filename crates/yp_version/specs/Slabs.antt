@@ -1,32 +1,31 @@
 -- A slab: bytes that stand before rows, and behind them the rows, each spelled as in the body of a version.
-use Rattle.std.specs.Prelude.{ℕ, ◌+◌, ◌≤◌, List, [], ◌∷◌, length, drop, All, Result, Ok, Err}
-use Rattle.yp_xdr.specs.declared.fault.XdrFault.{XdrFault}
-use Rattle.yp_xdr.specs.Kind.{Opaque}
-use Rattle.yp_xdr.specs.Reading.{Unread, reading}
-use Rattle.yp_version.specs.Limits.{key_max, value_max}
+use Rattle.std.specs.Prelude.{◌≡◌, ℕ, ◌+◌, ◌≤◌, List, [], ◌∷◌, ◌++◌, length, take, drop, All}
+use Rattle.std.specs.List.{flat_map}
+use Rattle.std.specs.Int.{w32, from_be_bytes}
+use Rattle.yp_version.specs.Limits.{key_max, value_max, body_max}
 use Rattle.yp_version.specs.Rows.{Row, padded, row_len}
+use Rattle.yp_version.specs.Bodies.{row_bytes}
 
 -- what a slab holds
 pub record Packed : Type 0 where
   pub head : List ℕ
   pub rows : List Row
 
--- the bytes that were read, and none where they were refused
-abbrev pub read_or_none : Result (List ℕ × Unread) XdrFault → List ℕ
-read_or_none (Ok read) = read.0
-read_or_none (Err fault) = []
+-- the bytes behind the first word, as many as it says
+abbrev pub counted : List ℕ → List ℕ
+counted bytes = take (from_be_bytes w32 (take 4 bytes)) (drop 4 bytes)
 
--- the bytes that are spelled from a place on, and none where none are
-unfoldable pub opaque_from : ℕ → List ℕ → ℕ → List ℕ
-opaque_from max bytes place = read_or_none (reading (Opaque max) (record { at = 0; bytes = drop place bytes }))
+-- the bytes that are spelled from a place on
+unfoldable pub opaque_from : List ℕ → ℕ → List ℕ
+opaque_from bytes place = counted (drop place bytes)
 
 -- the key that is spelled from a place on
 abbrev pub key_from : List ℕ → ℕ → List ℕ
-key_from bytes place = opaque_from key_max bytes place
+key_from bytes place = opaque_from bytes place
 
 -- the value behind it
 abbrev pub value_from : List ℕ → ℕ → List ℕ
-value_from bytes place = opaque_from value_max bytes (place + (4 + padded (length (key_from bytes place))))
+value_from bytes place = opaque_from bytes (place + (4 + padded (length (key_from bytes place))))
 
 -- the row that is spelled from a place on
 abbrev pub row_from : List ℕ → ℕ → Row
@@ -41,3 +40,10 @@ places_from at (row ∷ rows) = at ∷ places_from (at + row_len row) rows
 pub record KeepsLimits (rows : List Row) : Type 0 where
   pub keys : All (λ row. length row.0 ≤ key_max) rows
   pub values : All (λ row. length row.1 ≤ value_max) rows
+
+-- bytes are what a slab holds, and its rows stand at these places
+pub record Lies (all starts : List ℕ) (packed : Packed) : Type 0 where
+  pub within : KeepsLimits packed.rows
+  pub bytes : all ≡ packed.head ++ flat_map row_bytes packed.rows
+  pub places : starts ≡ places_from (length packed.head) packed.rows
+  pub small : length all ≤ body_max

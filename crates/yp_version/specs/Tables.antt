@@ -1,8 +1,7 @@
 -- A table of row numbers by a hash of the key: chains of rows, one for each bucket. Which hash it is, is free.
-use Rattle.std.specs.Prelude.{◌≡◌, ℕ, zero, suc, ◌-◌, ◌%◌, ◌<◌, ◌≤◌, Bool, false, List, length, fold, slice_get}
+use Rattle.std.specs.Prelude.{◌≡◌, ℕ, zero, suc, ◌-◌, ◌%◌, ◌<◌, ◌≤◌, Bool, false, List, length, slice_get}
 use Rattle.std.specs.Prelude.{slice_index_or}
 use Rattle.std.specs.Prelude.{Option, Some, None, if◌then◌else◌, ◌==◌, bytes_eq}
-use Rattle.std.specs.Hash as fed
 use Rattle.std.specs.Hash.DefaultHasher as sip
 use Rattle.std.specs.Option.{option_map_or}
 use Rattle.std.specs.RandomState.{initial_hasher}
@@ -10,9 +9,9 @@ use Rattle.std.specs.declared.hash.RandomState.{RandomState}
 use Rattle.yp_version.specs.Rows.{Row}
 use Rattle.yp_version.specs.declared.table.Link.{Link}
 
--- the hash of a key by random keys
+-- the hash of a key by random keys, which takes the key in one piece
 unfoldable pub hash_of : RandomState → List ℕ → ℕ
-hash_of state key = sip.finish (fold sip.write (initial_hasher state) (fed.slice fed.u8 key))
+hash_of state key = sip.finish (sip.write (initial_hasher state) key)
 
 -- the number of its bucket among this many
 abbrev pub bucket_of : RandomState → ℕ → List ℕ → ℕ

@@ -19,6 +19,9 @@ use std::random::RandomSource;
 use thiserror::Error;
 use yp_io::NoMemory;
 
+// How many buckets a new table has for each row, so that few rows share one, and few tables are made.
+const GROWTH: usize = 4;
+
 /// Why a row is refused. Lengths are in bytes.
 #[derive(Clone, Copy, Debug, PartialEq, Eq, Error)]
 pub enum VersionFault {
@@ -117,27 +120,29 @@ impl VersionBuilder {
         if value.len() > VALUE_MAX {
             return Err(VersionFault::ValueLong { len: value.len() });
         }
-        if !self.is_new(key) {
+        let Some(rises) = self.place_for(key) else {
             return Ok(false);
-        }
+        };
         self.room_for(key, value)?;
-        match self.add(key, value) {
+        match self.add(key, value, rises) {
             Ok(()) => Ok(true),
             Err(NoMemory) => Err(VersionFault::NoMemory),
         }
     }
 
-    // Whether no row has this key. Where it doesn't rise, the table takes in all rows before it is asked.
-    fn is_new(&mut self, key: &[u8]) -> bool
-        ensures answer { result ≡ is_none (value_of key.now self.old.rows) }
+    // Whether the rows rise with a new one that has this key, and none where a row has it. Where it doesn't rise, the
+    // table takes in all rows before it is asked.
+    fn place_for(&mut self, key: &[u8]) -> Option<bool>
+        ensures answer { is_some result ≡ is_none (value_of key.now self.old.rows) }
+        ensures rising { IfSome result (λ rises. IsTrue rises → IsRising (self.old.rows ++ (key.now, []) ∷ [])) }
         ensures same { self.new ≡ self.old }
     {
         if self.rises(key) {
-            return true;
+            return Some(true);
         }
         // Want of memory costs only time here: what the table lacks is looked for row by row.
         let _ = self.index();
-        !self.holds(key)
+        if self.holds(key) { None } else { Some(false) }
     }
 
     // Whether the rows rise, with a further one that has this key.
@@ -196,16 +201,16 @@ impl VersionBuilder {
         Ok(())
     }
 
-    // Adds a row that fits and has a new key.
-    fn add(&mut self, key: &[u8], value: &[u8]) -> Result<(), NoMemory>
+    // Adds a row that fits and has a new key. `rises` tells whether the rows rise with it.
+    fn add(&mut self, key: &[u8], value: &[u8], rises: bool) -> Result<(), NoMemory>
         requires key { length key.now ≤ key_max }
         requires value { length value.now ≤ value_max }
         requires absent { value_of key.now self.old.rows ≡ None }
         requires fits { refused_new self.old (key.now, value.now) ≡ None }
+        requires rising { IsTrue rises → IsRising (self.old.rows ++ (key.now, []) ∷ []) }
         ensures ok { OnOk result (self.new ≡ with_new self.old (key.now, value.now)) }
         ensures err { OnErr result (self.new ≡ self.old) }
     {
-        let rises = self.rises(key);
         self.slab.push(key, value)?;
         self.rising = rises;
         Ok(())
@@ -273,6 +278,6 @@ fn roomy(
 {
     match table {
         Some(table) if slab.len() <= table.buckets() => Ok(table),
-        _ => Table::new(alloc, hasher, 2 * slab.len()),
+        _ => Table::new(alloc, hasher, GROWTH * slab.len()),
     }
 }

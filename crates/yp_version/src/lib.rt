@@ -10,6 +10,7 @@ mod builder;
 mod head;
 pub mod laws;
 mod limits;
+mod ranks;
 mod slab;
 mod table;
 mod version;

@@ -1,6 +1,6 @@
 //! The limits of a version, and the length of its stored body.
 
-ghost use Rattle.std.specs.Prelude.{◌≡◌, ◌+◌, ◌≤◌, length};
+ghost use Rattle.std.specs.Prelude.{◌≡◌, ◌+◌, ◌^◌, ◌<◌, ◌≤◌, length};
 ghost use Rattle.yp_version.specs.Limits.{key_max, value_max};
 ghost use Rattle.yp_version.specs.Rows.{padded, row_len};
 
@@ -30,7 +30,7 @@ pub(crate) const WORD: usize = 4;
 
 // Bytes up to a multiple of a word.
 pub(crate) fn padded(len: usize) -> usize
-    requires { len ≤ key_max }
+    requires { len < 2 ^ 63 }
     ensures value { result ≡ padded len }
     ensures small { result ≤ len + 3 }
 {

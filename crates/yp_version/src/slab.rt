@@ -12,12 +12,12 @@ ghost use Rattle.yp_version.specs.Tables.{has_key};
 ghost use Rattle.yp_version.specs.Bodies.{row_bytes};
 ghost use Rattle.yp_version.specs.Slabs.{KeepsLimits, opaque_from, key_from, row_from};
 
-use crate::limits::{KEY_MAX, VALUE_MAX, WORD, padded, row_len};
+use crate::limits::{WORD, padded, row_len};
+use crate::ranks::sorted_places;
 use std::alloc::Global;
-use std::cmp::Ordering;
 use std::marker::Model;
 use yp_io::NoMemory;
-use yp_xdr::{Cursor, set_opaque, set_u32};
+use yp_xdr::{set_opaque, set_u32};
 
 /// Rows in one piece of memory, each behind the one before it, and the place of each.
 #[derive(Debug, Drop)]
@@ -40,6 +40,8 @@ impl Model for Slab {
 }
 
 impl Slab {
+    ghost use Rattle.yp_version.specs.Slabs.{Packed, Lies};
+
     /// No rows behind these bytes, and room for some.
     pub(crate) fn new(alloc: Global, head: Vec<u8>, rows: usize) -> Result<Slab, NoMemory>
         requires { length head.items ≤ body_max }
@@ -54,6 +56,19 @@ impl Slab {
         })
     }
 
+    /// What these bytes are, where the rows behind their head stand at these places. The bytes stay where they are.
+    pub(crate) fn of_parts(bytes: Vec<u8>, head_len: usize, places: Vec<u32>) -> Slab
+        requires { (packed : Packed) × Lies bytes.items places.items packed × (head_len ≡ length packed.head) }
+        ensures { (packed : Packed) → Lies bytes.items places.items packed → head_len ≡ length packed.head
+            → result ≡ packed }
+    {
+        Slab {
+            bytes,
+            head_len,
+            places,
+        }
+    }
+
     /// Puts a row behind the others. After a refusal nothing has changed.
     pub(crate) fn push(&mut self, key: &[u8], value: &[u8]) -> Result<(), NoMemory>
         requires key { length key.now ≤ key_max }
@@ -62,7 +77,6 @@ impl Slab {
         ensures ok { OnOk result (self.new ≡ record self.old { rows = self.old.rows ++ (key.now, value.now) ∷ [] }) }
         ensures err { OnErr result (self.new ≡ self.old) }
     {
-        yp_xdr::laws::written_is_read_again();
         let place = self.bytes.len() as u32;
         add_row(&mut self.bytes, key, value)?;
         if self.places.push(place).is_err() {
@@ -131,7 +145,6 @@ impl Slab {
         requires { 4 ≤ length self.old.head }
         ensures { self.new ≡ record self.old { head = spelling U32 word ++ drop 4 self.old.head } }
     {
-        yp_xdr::laws::written_is_read_again();
         set_u32(&mut self.bytes, 0, word);
     }
 
@@ -163,7 +176,6 @@ impl Slab {
         requires { length head.now ≡ length self.old.head }
         ensures { self.new ≡ record self.old { head = head.now } }
     {
-        yp_xdr::laws::written_is_read_again();
         overwrite(&mut self.bytes, head);
     }
 
@@ -178,15 +190,12 @@ impl Slab {
         let Slab {
             bytes,
             head_len: _,
-            mut places,
+            places,
         } = self;
         let all = bytes.as_slice();
-        places.sort_unstable_by(
-            |a: &u32, b: &u32| -> Ordering
-                ensures { result ≡ key_cmp (key_from all.entry.now a.now) (key_from all.entry.now b.now) }
-            { key_from(all, *a).cmp(key_from(all, *b)) },
-        );
-        gathered(alloc, head, all, &places)
+        let sorted = sorted_places(alloc, all, &places)?;
+        drop(places);
+        gathered(alloc, head, all, &sorted)
     }
 }
 
@@ -247,28 +256,26 @@ fn set_row(buf: &mut [u8], at: usize, key: &[u8], value: &[u8])
     set_opaque(buf, behind, value);
 }
 
-// The bytes that are spelled from a place on, at most this many, and none where none are.
+// The bytes that are spelled from a place on.
 #[tactic(auto, unfolding(crate::specs::Slabs::opaque_from))]
-fn opaque_from(bytes: &[u8], place: usize, max: u32) -> &[u8]
-    ensures value { result.now ≡ opaque_from max bytes.now place }
-    ensures len { length result.now ≤ max }
+fn opaque_from(bytes: &[u8], place: usize) -> &[u8]
+    ensures { result.now ≡ opaque_from bytes.now place }
 {
     if bytes.len() < place {
         return &[];
     }
-    let mut cursor = Cursor::new(&bytes[place..]);
-    match cursor.opaque(max) {
-        Ok(content) => content,
-        Err(_) => &[],
-    }
+    let Some((word, content)) = bytes[place..].split_first_chunk::<4>() else {
+        return &[];
+    };
+    let len = u32::from_be_bytes(*word) as usize;
+    &content[..len.min(content.len())]
 }
 
-// The key of the row that is spelled from a place on.
-fn key_from(bytes: &[u8], place: u32) -> &[u8]
-    ensures value { result.now ≡ key_from bytes.now place }
-    ensures len { length result.now ≤ key_max }
+/// The key of the row that is spelled from a place on.
+pub(crate) fn key_from(bytes: &[u8], place: u32) -> &[u8]
+    ensures { result.now ≡ key_from bytes.now place }
 {
-    opaque_from(bytes, place as usize, KEY_MAX as u32)
+    opaque_from(bytes, place as usize)
 }
 
 // The row that is spelled from a place on.
@@ -277,5 +284,5 @@ fn row_from(bytes: &[u8], place: u32) -> (&[u8], &[u8])
 {
     let key = key_from(bytes, place);
     let behind = place as usize + (WORD + padded(key.len()));
-    (key, opaque_from(bytes, behind, VALUE_MAX as u32))
+    (key, opaque_from(bytes, behind))
 }

@@ -8,7 +8,7 @@ ghost use Rattle.yp_version.specs.Tables.{linked, bucket_of, last_below, has_key
 
 use crate::slab::Slab;
 use std::alloc::Global;
-use std::hash::{BuildHasher, RandomState};
+use std::hash::{BuildHasher, Hasher, RandomState};
 use yp_io::NoMemory;
 
 /// The number of a row, or none. It takes four bytes.
@@ -137,5 +137,7 @@ fn bucket(hasher: &RandomState, count: usize, key: &[u8]) -> usize
     ensures value { result ≡ bucket_of hasher.now count key.now }
     ensures within { result < count }
 {
-    (hasher.hash_one(key) % count as u64) as usize
+    let mut state = hasher.build_hasher();
+    state.write(key);
+    (state.finish() % count as u64) as usize
 }

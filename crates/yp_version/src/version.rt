@@ -1,18 +1,25 @@
 //! A version of a map, which never changes.
 
-ghost use Rattle.std.specs.Prelude.{◌≡◌, ◌≤◌, ◌↔◌, [], length, slice_get, option_map, MatchOption, IsTrue, IfSome};
+ghost use Rattle.std.specs.Prelude.{◌≡◌, ◌≤◌, ◌↔◌, List, [], length, slice_get, option_map, MatchOption, IsTrue};
+ghost use Rattle.std.specs.Prelude.{IfSome, IfOk};
 ghost use Rattle.yp_version.specs.Limits.{key_max, value_max};
-ghost use Rattle.yp_version.specs.Rows.{value_of, first_of, following};
+ghost use Rattle.yp_version.specs.Rows.{Row, value_of, first_of, following};
 ghost use Rattle.yp_version.specs.Versions.{IsVersion, body_len, unmarked};
 ghost use Rattle.yp_version.specs.Bodies.{IsBody, head_bytes};
+ghost use Rattle.yp_version.specs.Stored.{IsStored};
 ghost use Rattle.yp_version.specs.Table.{IsTable, HasAll};
 ghost use Rattle.yp_version.specs.Places.{StandsAt, IsAbsent};
 ghost use Rattle.yp_version.specs.Next.{next_row, IsWithin};
 
 use crate::head::format_of;
+use crate::limits::{HEAD_LEN, padded};
 use crate::slab::Slab;
 use crate::table::Table;
+use std::alloc::Global;
+use std::hash::RandomState;
 use std::marker::Model;
+use std::random::RandomSource;
+use yp_io::NoMemory;
 
 /// What stands behind the row with a key.
 #[derive(Clone, Copy, Debug, PartialEq, Eq)]
@@ -68,6 +75,38 @@ impl Version {
             slab,
             table,
         }
+    }
+
+    /// The version that a body spells, whose rows stand at these places. The body stays where it is.
+    pub fn of_body(
+        alloc: Global,
+        rt: &impl RandomSource,
+        order: u32,
+        master: Vec<u8>,
+        secure: bool,
+        body: Vec<u8>,
+        places: Vec<u32>,
+    ) -> Result<Version, NoMemory>
+        requires { (rows : List Row) × IsStored body.items places.items
+            (record { order = order; master = master.items; secure = secure; rows = rows }) }
+        ensures { (rows : List Row) → IsStored body.items places.items
+            (record { order = order; master = master.items; secure = secure; rows = rows })
+            → IfOk result (λ version. version
+            ≡ record { order = order; master = master.items; secure = secure; rows = rows }) }
+    {
+        let Ok(hasher) = RandomState::new(rt) else {
+            return Err(NoMemory);
+        };
+        let head_len = HEAD_LEN + padded(master.len());
+        let slab = Slab::of_parts(body, head_len, places);
+        let table = Table::of(alloc, hasher, &slab)?;
+        Ok(Version {
+            order,
+            master,
+            secure,
+            slab,
+            table,
+        })
     }
 
     /// The order: the moment of its making, in seconds, or one more than the order before.

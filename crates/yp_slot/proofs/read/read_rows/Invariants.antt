@@ -1,16 +1,12 @@
 -- How far the rows have been read.
-use Rattle.std.proofs.Common.{◌≡◌, length, option_map}
+use Rattle.std.proofs.Common.{option_map}
 use Rattle.yp_xdr.specs.Cursor.{unread}
 use Rattle.yp_slot.specs.Bodies.{Passes}
 use Rattle.yp_slot.proofs.Rows.{HasRead}
-use Rattle.yp_version.specs.Drafts.{draft_len}
 use Rattle.yp_slot.proofs.read.read_rows.Given as goal
 
 abbrev pub invariant-loop-number : goal.invariant-loop-number
 invariant-loop-number l = record {
-  rows : HasRead l.count (unread l.fn.cursor) l.fn.builder l.builder l._number (option_map (λ last. last.now) l.last)
-      (unread l.cursor);
+  rows : HasRead l.count (unread l.fn.cursor) l.places.items l._number (option_map (λ last. last.now) l.last) (unread l.cursor);
   passed : Passes (unread l.fn.cursor) (unread l.cursor);
-  place : (unread l.cursor).at ≡ draft_len l.builder;
-  len : length l.builder.rows ≡ l._number;
 }

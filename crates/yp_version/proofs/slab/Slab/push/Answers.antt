@@ -15,12 +15,12 @@ pub invariant_of-self-else-is_err : goal.invariant_of-self-else-is_err
 invariant_of-self-else-is_err c =
     let room = subst (λ (p : Packed). length p.head + rows_len p.rows + row_len (c.args.key.now, c.args.value.now) ≤ body_max) (sym c.self.view_is) c.requires.room in
     let places : c.push.new.self.items ≡ c.self.inside.places.items ++ length c.self.inside.bytes.items ∷ [] = search rules in
-    pushed_kept c.written_is_read_again.ensures c.self.inside c.add_row.new.bytes c.push.new.self (c.args.key.now, c.args.value.now)
+    pushed_kept c.self.inside c.add_row.new.bytes c.push.new.self (c.args.key.now, c.args.value.now)
     c.self.invariant (c.requires.key, c.requires.value) room c.in_ok-add_row.ensures.ok places
 
 pub returns-clause-ok : goal.returns-clause-ok
 returns-clause-ok c =
     let places : c.push.new.self.items ≡ c.self.inside.places.items ++ length c.self.inside.bytes.items ∷ [] = search rules in
-    pushed_view c.written_is_read_again.ensures c.self.inside c.add_row.new.bytes c.push.new.self (c.args.key.now, c.args.value.now)
+    pushed_view c.self.inside c.add_row.new.bytes c.push.new.self (c.args.key.now, c.args.value.now)
     c.self.invariant (c.requires.key, c.requires.value) c.in_ok-add_row.ensures.ok places
     ∙ ap (λ (p : Packed). record p { rows = p.rows ++ (c.args.key.now, c.args.value.now) ∷ [] }) c.self.view_is

@@ -15,7 +15,7 @@ invariant_of-self c =
     let bytes : (with_items c.self.inside.bytes c.set_u32.new.buf).items ≡ written c.self.inside.bytes.items 0 (spelling U32 c.args.word) =
     with_items_is c.self.inside.bytes c.set_u32.new.buf (omega arith)
     ∙ c.set_u32.ensures.bytes_there ∙ ap (λ l. written l 0 (spelling U32 c.args.word)) c.deref_mut.ensures.value in
-    worded_kept c.written_is_read_again.ensures c.self.inside (with_items c.self.inside.bytes c.set_u32.new.buf) c.args.word c.self.invariant
+    worded_kept c.self.inside (with_items c.self.inside.bytes c.set_u32.new.buf) c.args.word c.self.invariant
     (subst (λ (p : Packed). 4 ≤ length p.head) (sym c.self.view_is) c.requires) bytes
 
 pub returns : goal.returns
@@ -25,6 +25,6 @@ returns c =
     let bytes : (with_items c.self.inside.bytes c.set_u32.new.buf).items ≡ written c.self.inside.bytes.items 0 (spelling U32 c.args.word) =
     with_items_is c.self.inside.bytes c.set_u32.new.buf (omega arith)
     ∙ c.set_u32.ensures.bytes_there ∙ ap (λ l. written l 0 (spelling U32 c.args.word)) c.deref_mut.ensures.value in
-    worded_view c.written_is_read_again.ensures c.self.inside (with_items c.self.inside.bytes c.set_u32.new.buf) c.args.word c.self.invariant
+    worded_view c.self.inside (with_items c.self.inside.bytes c.set_u32.new.buf) c.args.word c.self.invariant
     (subst (λ (p : Packed). 4 ≤ length p.head) (sym c.self.view_is) c.requires) bytes
     ∙ ap (λ (p : Packed). record p { head = spelling U32 c.args.word ++ drop 4 p.head }) c.self.view_is

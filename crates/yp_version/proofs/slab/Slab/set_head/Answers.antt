@@ -13,7 +13,7 @@ invariant_of-self c =
     let bytes : (with_items c.self.inside.bytes c.overwrite.new.bytes).items ≡ written c.self.inside.bytes.items 0 c.args.head.now =
     with_items_is c.self.inside.bytes c.overwrite.new.bytes (omega arith)
     ∙ c.overwrite.ensures ∙ ap (λ l. written l 0 c.args.head.now) c.deref_mut.ensures.value in
-    headed_kept c.written_is_read_again.ensures c.self.inside (with_items c.self.inside.bytes c.overwrite.new.bytes) c.args.head.now c.self.invariant
+    headed_kept c.self.inside (with_items c.self.inside.bytes c.overwrite.new.bytes) c.args.head.now c.self.invariant
     (c.requires ∙ ap (λ (p : Packed). length p.head) (sym c.self.view_is)) bytes
 
 pub returns : goal.returns
@@ -23,6 +23,6 @@ returns c =
     let bytes : (with_items c.self.inside.bytes c.overwrite.new.bytes).items ≡ written c.self.inside.bytes.items 0 c.args.head.now =
     with_items_is c.self.inside.bytes c.overwrite.new.bytes (omega arith)
     ∙ c.overwrite.ensures ∙ ap (λ l. written l 0 c.args.head.now) c.deref_mut.ensures.value in
-    headed_view c.written_is_read_again.ensures c.self.inside (with_items c.self.inside.bytes c.overwrite.new.bytes) c.args.head.now c.self.invariant
+    headed_view c.self.inside (with_items c.self.inside.bytes c.overwrite.new.bytes) c.args.head.now c.self.invariant
     (c.requires ∙ ap (λ (p : Packed). length p.head) (sym c.self.view_is)) bytes
     ∙ ap (λ (p : Packed). record p { head = c.args.head.now }) c.self.view_is
