@@ -15,4 +15,4 @@ mod view;
 pub use catalog::{Catalog, CatalogFault, MAPS_MAX, MapName, NAME_MAX, copy_names};
 pub use plain::PlainBoard;
 pub use trail::Count;
-pub use view::{Show, ShowRefused, View};
+pub use view::{Show, ShowRefused, Tell, View};

@@ -4,10 +4,11 @@ ghost use Rattle.std.specs.Prelude.{◌≡◌, ℕ, ◌<◌, [], ◌∷◌, ◌+
 ghost use Rattle.std.specs.Arc.{arc_value};
 ghost use Rattle.yp_version.specs.Versions.{MapVersion};
 ghost use Rattle.yp_board.specs.Logs.{Log, shown};
-ghost use Rattle.yp_board.specs.Views.{Seen, Refreshes};
+ghost use Rattle.yp_board.specs.Views.{Seen, IsFront, Refreshes};
 
 use crate::catalog::Catalog;
 use std::sync::Arc;
+use yp_io::NoMemory;
 use yp_version::Version;
 
 /// A reader of a board. It knows a front of the board's log, which changes in a read step alone.
@@ -60,4 +61,19 @@ pub trait Show {
         ensures maps { maps self.new ≡ maps self.old }
         ensures err { OnErr result (self.new ≡ self.old) }
         ensures returned { IfErr result (λ refused. refused.version ≡ version) };
+}
+
+/// A writer that lets the readers of its board know all that was shown.
+pub trait Tell: Show {
+    /// What reads the board.
+    type Reader: View;
+
+    /// Lets a reader know all that was shown. It takes no memory, waits for nobody, and makes no read step. After a
+    /// refusal nothing has changed.
+    fn tell_to(&mut self, reader: &mut Self::Reader) -> Result<(), NoMemory>
+        ensures same { self.new ≡ self.old }
+        ensures front { IsFront (Self.Reader.seen reader.old).known (Self.log self.old) }
+        ensures told { OnOk result (Self.Reader.seen reader.new
+            ≡ record (Self.Reader.seen reader.old) { known = Self.log self.old }) }
+        ensures refused { OnErr result (reader.new ≡ reader.old) };
 }

@@ -8,6 +8,7 @@ ghost use Rattle.yp_version.specs.Versions.{MapVersion};
 ghost use Rattle.yp_version.specs.Bodies.{IsBody};
 ghost use Rattle.yp_slot.specs.Commits.{generation_max};
 ghost use Rattle.yp_board.specs.Logs.{shown};
+ghost use Rattle.yp_board.specs.Views.{IsFront};
 ghost use Rattle.yp_publish.specs.Standing.{Level, IsStanding, IsNumbered, OfMap, At, versions, Shows, standing_name};
 ghost use Rattle.yp_publish.specs.Keeping.{keeping_of, Upholds};
 ghost use Rattle.yp_publish.specs.Installs.{offer, install_refusal, IsCause, IsUnopposed, IsInstalled, IsUnsure, IsUnshown};
@@ -23,8 +24,8 @@ use std::alloc::Global;
 use std::marker::Model;
 use std::random::RandomSource;
 use std::sync::Arc;
-use yp_board::{Catalog, Show};
-use yp_io::Disk;
+use yp_board::{Catalog, Show, Tell};
+use yp_io::{Disk, NoMemory};
 use yp_slot::SlotFault;
 use yp_version::Version;
 
@@ -242,5 +243,18 @@ impl<D: Disk, B: Show> Publisher<D, B> {
         yp_slot::laws::file_is_bounded();
         let stored = &mut self.maps[map as usize];
         stored.reopen(alloc, rt, &mut self.board, map)
+    }
+}
+
+impl<D: Disk, B: Tell> Publisher<D, B> {
+    /// Lets a reader of its board know all that was shown. It takes no memory, and after a refusal nothing has changed.
+    pub fn tell_to(&mut self, reader: &mut B::Reader) -> Result<(), NoMemory>
+        ensures same { self.new ≡ self.old }
+        ensures front { IsFront (B.Reader.seen reader.old).known (B.log self.old.board) }
+        ensures told { OnOk result (B.Reader.seen reader.new
+            ≡ record (B.Reader.seen reader.old) { known = B.log self.old.board }) }
+        ensures refused { OnErr result (reader.new ≡ reader.old) }
+    {
+        self.board.tell_to(reader)
     }
 }

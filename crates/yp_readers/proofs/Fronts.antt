@@ -52,3 +52,12 @@ covered front log both seen n p q r most key =
     let longer : length both ≤ length seen = prefix_length both seen r in
     let within : length front ≤ length both = prefix_length front both q in
     front_of front log both q p (omega (arith, most, key, longer, within))
+
+-- two lists of which each begins with the other are one
+pub both_fronts : {A : Type 0} (xs ys : List A) → (more : List A) × (ys ≡ xs ++ more)
+    → (more : List A) × (xs ≡ ys ++ more) → xs ≡ ys
+both_fronts [] [] p q = refl
+both_fronts [] (y ∷ ys) p q = absurd (cc (q.1))
+both_fronts (x ∷ xs) [] p q = absurd (cc (p.1))
+both_fronts (x ∷ xs) (y ∷ ys) p q =
+    let rest = both_fronts xs ys (p.0, cc (p.1)) (q.0, cc (q.1)) in cc (p.1, rest)

@@ -13,7 +13,7 @@ use left_right::{Absorb, WriteHandle};
 use std::alloc::Global;
 use std::marker::Model;
 use std::sync::{Arc, Wait};
-use yp_board::{Catalog, Show, ShowRefused};
+use yp_board::{Catalog, Show, ShowRefused, Tell};
 use yp_io::NoMemory;
 use yp_version::Version;
 
@@ -149,5 +149,18 @@ where
         self.slots = slots;
         self.carry();
         Ok(())
+    }
+}
+
+impl<J: Naming, R: Wait + Drop> Tell for Writer<J, R>
+where
+    Table<J>: Absorb<Table<J>, State = [Shown; 0]>,
+{
+    type Reader = Reader<J>;
+
+    #[tactic(auto, using(crate::proofs::Fronts::both_fronts))]
+    fn tell_to(&mut self, reader: &mut Reader<J>) -> Result<(), NoMemory> {
+        self.history.covers(reader.front());
+        reader.meet(self.tell())
     }
 }
