@@ -6,7 +6,7 @@ ghost use Rattle.yp_client.specs.Results.{results_of, behind_true, Says};
 ghost use Rattle.yp_client.specs.Results.{nothing_of, served_of, value_of, row_of, master_of, order_of, maps_of};
 ghost use Rattle.yp_client.specs.Results.{taken_of, made_of};
 ghost use Rattle.yp_client.specs.Calls.{IsOfReply};
-ghost use Rattle.yp_client.specs.Said.{SaysNothing, SaysBool, SaysNumber, SaysRow, SaysNames, SaysStat};
+ghost use Rattle.yp_client.specs.Said.{SaysNothing, SaysBool, SaysNumber, SaysBytes, SaysRow, SaysNames, SaysStat};
 
 use crate::fault::ClientFault;
 use std::alloc::Global;
@@ -128,13 +128,21 @@ impl Lending for Mastered {
     ghost said = { master_of };
 
     fn read<'m>(&self, message: &'m [u8], xid: u32) -> Result<&'m [u8], ClientFault> {
-        let mut cursor = read_results(message, xid)?;
-        read_true(&mut cursor)?;
-        Ok(cursor.string(NAME_MAX)?)
+        read_master(message, xid)
     }
 }
 
-/// Reads the result of FIRST and NEXT.
+/// Reads the result of MASTER from the whole reply to the call with this number.
+pub fn read_master(message: &[u8], xid: u32) -> Result<&[u8], ClientFault>
+    ensures says { SaysBytes master_of xid message.now result }
+    ensures of_reply { IsOfReply result }
+{
+    let mut cursor = read_results(message, xid)?;
+    read_true(&mut cursor)?;
+    Ok(cursor.string(NAME_MAX)?)
+}
+
+/// Reads the result of FIRST and NEXT from the whole reply to the call with this number.
 pub fn read_found(message: &[u8], xid: u32) -> Result<Row<'_>, ClientFault>
     ensures says { SaysRow row_of xid message.now result }
     ensures of_reply { IsOfReply result }
@@ -155,10 +163,18 @@ impl Answer for Ordered {
     ghost answers = { SaysNumber order_of };
 
     fn judge(&self, _alloc: Global, message: &[u8], xid: u32) -> Result<u32, ClientFault> {
-        let mut cursor = read_results(message, xid)?;
-        read_true(&mut cursor)?;
-        Ok(cursor.u32()?)
+        read_order(message, xid)
     }
+}
+
+/// Reads the result of ORDER from the whole reply to the call with this number.
+pub fn read_order(message: &[u8], xid: u32) -> Result<u32, ClientFault>
+    ensures says { SaysNumber order_of xid message.now result }
+    ensures of_reply { IsOfReply result }
+{
+    let mut cursor = read_results(message, xid)?;
+    read_true(&mut cursor)?;
+    Ok(cursor.u32()?)
 }
 
 /// The result of MAPLIST.

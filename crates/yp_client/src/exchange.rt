@@ -27,7 +27,7 @@ pub struct Called {
 }
 
 /// Puts a call at the front of the buffer, and answers its length.
-fn set_call<M: Message>(buf: &mut [u8], xid: u32, called: Called, arguments: &M) -> usize
+pub fn set_call<M: Message>(buf: &mut [u8], xid: u32, called: Called, arguments: &M) -> usize
     requires within { M.is_within arguments.now }
     requires room { 40 + length (spelling M.kind (M.view arguments.now)) ≤ length buf.old }
     ensures call { take result buf.new

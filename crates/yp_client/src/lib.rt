@@ -14,6 +14,7 @@ mod fault;
 pub mod limits;
 mod procedures;
 
-pub use answers::Row;
+pub use answers::{Row, read_found, read_master, read_order};
 pub use client::{Client, ClientRefused};
+pub use exchange::{Called, set_call};
 pub use fault::ClientFault;

@@ -75,7 +75,7 @@ fn fetch_by_calls<S: Source, K: Sink>(
 }
 
 /// Why a version with this order isn't fetched.
-fn against_order(shown: Option<u32>, force: bool, order: u32) -> Option<XfrFault>
+pub fn against_order(shown: Option<u32>, force: bool, order: u32) -> Option<XfrFault>
     ensures { result ≡ against_order (wanted_of [] [] shown force) order }
 {
     match shown {
@@ -112,7 +112,7 @@ fn fetch_newer<S: Source, K: Sink>(
 }
 
 /// A builder of a version with an order and a master, who needs a name.
-fn begin(
+pub fn begin(
     alloc: Global,
     rt: &impl RandomSource,
     order: u32,

@@ -17,7 +17,7 @@ mod transferring;
 pub use calling_back::call_back;
 pub use dialed::fetch_from;
 pub use fault::XfrFault;
-pub use fetching::fetch;
+pub use fetching::{against_order, begin, fetch};
 pub use hosts::Hosts;
 pub use install::install_fetched;
 pub use transferring::transfer;
