@@ -14,12 +14,12 @@ use Rattle.yp_mailing.specs.declared.getport.Asking.{Asking}
 use Rattle.yp_mailing.specs.Getport.{Answer, is_answer, wanted, sent, heard, asking_ways, first_answer}
 
 -- an answer that is there, or what is read of the one that was found
-later : Option Answer → Option (List ℕ) → Option Answer
+abbrev later : Option Answer → Option (List ℕ) → Option Answer
 later (Some answer) found = Some answer
 later None found = option_map port_read found
 
 -- what was found first, or else behind it
-either : Option (List ℕ) → Option (List ℕ) → Option (List ℕ)
+abbrev either : Option (List ℕ) → Option (List ℕ) → Option (List ℕ)
 either (Some mail) more = Some mail
 either None more = more
 
@@ -161,5 +161,4 @@ module _ where
 pub first_counts : (most : ℕ) (posts : List Post) (end : Result Ended Failed) (old last : Asking)
     → Runs asking_ways most posts end old last → old.answer ≡ None
     → last.answer ≡ option_map port_read (first_answer old.mapper posts)
-unfolding later
 first_counts most posts end old last runs none = run_answered most posts end old last runs None none

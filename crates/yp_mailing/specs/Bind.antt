@@ -1,6 +1,7 @@
 -- What `bind` does: it asks servers for a domain, answers which one it is bound to, and tells that at the end.
-use Rattle.std.specs.Prelude.{◌≡◌, ◌⊎◌, ℕ, Bool, true, false, bytes_eq, List, [], ◌∷◌, ◌++◌, map, take, drop}
+use Rattle.std.specs.Prelude.{◌≡◌, ◌⊎◌, ℕ, Bool, true, false, ◌==◌, List, [], ◌∷◌, ◌++◌, map, drop}
 use Rattle.std.specs.Prelude.{slice_index, slice_index_or, Option, None, Some, Result, Ok, Err, codes, decimal}
+use Rattle.std.specs.List.{starts_with}
 use Rattle.yp_io.specs.declared.stream.Failed.{Failed}
 use Rattle.yp_io.specs.declared.stream.Peer.{Peer}
 use Rattle.yp_xdr.specs.declared.fault.XdrFault.{XdrFault}
@@ -47,7 +48,7 @@ Goes old want new = (want ≡ wanted old (next_ping_of old)) × (new ≡ after_p
 
 -- the second word of a reply
 abbrev pub is_reply : List ℕ → Bool
-is_reply mail = bytes_eq (take 4 (drop 4 mail)) (0 ∷ 0 ∷ 0 ∷ 1 ∷ [])
+is_reply mail = starts_with ◌==◌ (drop 4 mail) (0 ∷ 0 ∷ 0 ∷ 1 ∷ [])
 
 -- what a reply with results offers: whether the server has the domain
 abbrev pub offer_behind : ℕ → Result (Bool × Unread) XdrFault → Option Offer

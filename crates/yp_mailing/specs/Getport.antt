@@ -1,7 +1,8 @@
 -- What `getport` does: a port mapper is asked for a port, again after each quiet turn, until it answers.
-use Rattle.std.specs.Prelude.{◌≡◌, ◌⊎◌, ℕ, Bool, true, false, ◌&&◌, ◌==◌, bytes_eq, if◌then◌else◌}
-use Rattle.std.specs.Prelude.{nat_le, List, [], ◌∷◌, ◌++◌, length, take, Option, None, Some, Result, Ok, Err}
+use Rattle.std.specs.Prelude.{◌≡◌, ◌⊎◌, ℕ, Bool, true, false, ◌&&◌, ◌==◌, if◌then◌else◌}
+use Rattle.std.specs.Prelude.{nat_le, List, [], ◌∷◌, ◌++◌, length, Option, None, Some, Result, Ok, Err}
 use Rattle.std.specs.Prelude.{option_map, codes, decimal}
+use Rattle.std.specs.List.{starts_with}
 use Rattle.yp_io.specs.declared.stream.Failed.{Failed}
 use Rattle.yp_io.specs.declared.stream.Peer.{Peer}
 use Rattle.yp_xdr.specs.declared.fault.XdrFault.{XdrFault}
@@ -38,7 +39,7 @@ answer_front = 0 ∷ 0 ∷ 0 ∷ 1 ∷ 0 ∷ 0 ∷ 0 ∷ 1 ∷ []
 
 -- a datagram is the answer: it comes of the port mapper, and begins with these words
 abbrev pub is_answer : (mapper from : Peer) → List ℕ → Bool
-is_answer mapper from mail = is_same_peer mapper from && bytes_eq (take 8 mail) answer_front
+is_answer mapper from mail = is_same_peer mapper from && starts_with ◌==◌ mail answer_front
 
 -- the call
 abbrev pub call_of : Asking → List ℕ

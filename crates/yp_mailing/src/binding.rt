@@ -66,7 +66,7 @@ pub struct Offer {
 fn is_reply(mail: &[u8]) -> bool
     ensures { result ≡ is_reply mail.now }
 {
-    mail.len() >= 8 && mail[4..8] == REPLY
+    mail.len() >= 4 && mail[4..].starts_with(&REPLY)
 }
 
 /// What a reply offers.

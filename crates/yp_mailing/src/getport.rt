@@ -4,7 +4,7 @@ ghost use Rattle.std.specs.Prelude.{◌≡◌, ◌≢◌, IsTrue, if◌then◌el
 ghost use Rattle.yp_io.specs.Counts.{HasRisen};
 ghost use Rattle.yp_office.specs.Seeing.{seeing, IsPassedOn};
 ghost use Rattle.yp_office.specs.Status.{IsTellable};
-ghost use Rattle.yp_office.specs.declared.status.Status.TheVariants.{WriteFault};
+ghost use Rattle.yp_office.specs.declared.status.Status.TheVariants.{WriteFault, InboxFault};
 ghost use Rattle.yp_mailing.specs.Telling.{Tells};
 ghost use Rattle.yp_mailing.specs.Getport.{Goes, Hears, Rests, is_answer, begun, port_line, port_status, answer_text};
 ghost use Rattle.yp_mailing.specs.Getport.{answer_status, getport_may_end, GetportDoes};
@@ -44,7 +44,7 @@ pub struct Asking {
 fn is_answer(mapper: Peer, from: Peer, mail: &[u8]) -> bool
     ensures { result ≡ is_answer mapper from mail.now }
 {
-    is_same_peer(mapper, from) && mail.len() >= 8 && mail[..8] == ANSWER_FRONT
+    is_same_peer(mapper, from) && mail.starts_with(&ANSWER_FRONT)
 }
 
 impl Errand for Asking {
@@ -112,6 +112,7 @@ fn tell_answer<K: Sink>(
     ensures tells { Tells (answer_text answer) (answer_status turns answer) result
         (K.output sink.old) (K.output sink.new) }
     ensures may_end { IsTrue (getport_may_end result) }
+    ensures heard { result ≢ InboxFault }
     ensures flushed { result ≢ WriteFault → IsTrue (K.flushed sink.old) → IsTrue (K.flushed sink.new) }
     ensures cause { result ≡ WriteFault → HasRisen (K.faults sink.old) (K.faults sink.new) }
     ensures tellable { IsTellable result }

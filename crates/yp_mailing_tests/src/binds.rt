@@ -114,7 +114,10 @@ const ROWS: [Row; 14] = [
     },
     Row {
         name: "an offer of another peer",
-        brings: &[Some((CALLER, OFFER.1))],
+        brings: &[Some((
+            CALLER,
+            &["00000001 00000001 00000000 00000000 00000000 00000000 00000001"],
+        ))],
         sends: &[PING],
         ..SILENT
     },
