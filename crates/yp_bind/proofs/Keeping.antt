@@ -15,6 +15,7 @@ use Rattle.yp_bind.specs.declared.event.Event.TheVariants.{Pinged, Quiet}
 use Rattle.yp_bind.specs.declared.standing.Standing.{Standing}
 use Rattle.yp_bind.specs.Events.{is_quiet, server_for, latest, quiet_turns, binding_of}
 use Rattle.yp_bind.specs.Rounds.{Bindings, with_event, round_begin, this_round, out, first_number, targets}
+use Rattle.yp_bind.specs.Rounds.{pings_left}
 use Rattle.yp_bind.specs.Standings.{fresh, rested, bound_to, standing_of}
 use Rattle.yp_bind.specs.Kept.{domains_max, servers_max, Keeps, Binds}
 use Rattle.yp_bind.proofs.Lists.{slice_get-there}
@@ -105,6 +106,13 @@ pings bindings standings pinged first next to kept there =
       first = rw (first_heard Pinged es refl) kept.first;
       next = rw (first_heard Pinged es refl) (more_mod (first_number es) pinged next kept.next);
     }
+
+pub fewer : (bindings : Bindings) (standings : List Standing) (pinged first next : ℕ) (to : Binding)
+    → Keeps bindings standings pinged first next → Some to ≡ slice_get (targets bindings) pinged
+    → pings_left (with_event bindings Pinged) < pings_left bindings
+fewer bindings standings pinged first next to kept there =
+    let under = slice_get-there (targets bindings) pinged to (sym there) in
+    rw (targets_same bindings Pinged refl, out_ping bindings.events) (omega (arith, under, kept.are_out))
 
 pub quiets : (bindings : Bindings) (standings : List Standing) (pinged first next : ℕ)
     → Keeps bindings standings pinged first next

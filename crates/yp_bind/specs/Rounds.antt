@@ -1,5 +1,5 @@
 -- A binder as a whole, and the pings of a round.
-use Rattle.std.specs.Prelude.{ℕ, zero, suc, ◌+◌, ◌%◌, ◌^◌, Bool, true}
+use Rattle.std.specs.Prelude.{ℕ, zero, suc, ◌+◌, ◌-◌, ◌%◌, ◌^◌, Bool, true}
 use Rattle.std.specs.Prelude.{List, [], ◌∷◌, ◌++◌, length, map, filter, take, drop}
 use Rattle.std.specs.Prelude.{Option, Some, None, ◌&&◌, ◌==◌, bytes_eq, if◌then◌else◌}
 use Rattle.std.specs.List.{slice_get, find, before_first}
@@ -75,6 +75,10 @@ round_of bindings = pings_from (first_number bindings.events) (targets bindings)
 -- the next of them, if any isn't out
 abbrev pub next_ping_of : Bindings → Option Ping
 next_ping_of bindings = slice_get (round_of bindings) (out bindings.events)
+
+-- how many pings of the round aren't out
+abbrev pub pings_left : Bindings → ℕ
+pings_left bindings = length (targets bindings) - out bindings.events
 
 -- the binder behind such an answer
 abbrev pub after_ping : Bindings → Option Ping → Bindings

@@ -9,7 +9,7 @@ ghost use Rattle.yp_rpc.specs.declared.reply.ReplyHead.TheVariants.{Success};
 ghost use Rattle.yp_bind.specs.declared.event.Event.TheVariants.{Called, Offered, Quiet};
 ghost use Rattle.yp_bind.specs.Events.{binding_of};
 ghost use Rattle.yp_bind.specs.Rounds.{with_event, next_ping_of, after_ping, taken_by, targets, ping_with, targets_of};
-ghost use Rattle.yp_bind.specs.Rounds.{is_same_peer, may_bind, target_of, taken_at, taken_from};
+ghost use Rattle.yp_bind.specs.Rounds.{is_same_peer, may_bind, target_of, taken_at, taken_from, pings_left};
 ghost use Rattle.yp_bind.specs.Requests.{asked_by, asked_view};
 ghost use Rattle.yp_bind.specs.Replies.{datagram_max, domain_number, bound_answer, error_number, reply_to, IsReply};
 ghost use Rattle.yp_bind.specs.Replies.{lets, set_by};
@@ -26,6 +26,9 @@ use yp_msgs::protocol::YPVERS;
 use yp_msgs::{BindErr, BindResp, Message};
 use yp_rpc::{ReplyHead, write_reply};
 use yp_xdr::NoRoom;
+
+/// The most servers of a binder.
+pub const SERVERS_MAX: usize = 64;
 
 /// Who may bind a domain by SETDOM.
 #[derive(Clone, Copy, Debug, PartialEq, Eq)]
@@ -125,6 +128,8 @@ impl Binder {
     pub fn next_ping(&mut self) -> Option<Ping>
         ensures ping { result ≡ next_ping_of self.old }
         ensures bindings { self.new ≡ after_ping self.old result }
+        ensures within { IfSome result (λ ping. ping.domain < length self.old.domains) }
+        ensures fewer { IfSome result (λ _. pings_left self.new < pings_left self.old) }
     {
         let Some(target) = self.target(self.pinged) else {
             return None;
@@ -327,7 +332,7 @@ fn target_server(servers: &[Peer], asked: Option<Peer>, place: usize) -> Peer
 }
 
 /// Whether two peers are one.
-fn is_same_peer(a: Peer, b: Peer) -> bool
+pub fn is_same_peer(a: Peer, b: Peer) -> bool
     ensures { result ≡ is_same_peer a b }
 {
     a.addr == b.addr && a.port == b.port

@@ -10,5 +10,5 @@ mod event;
 mod request;
 mod standing;
 
-pub use binder::{Binder, Ping, Policy};
+pub use binder::{Binder, Ping, Policy, SERVERS_MAX, is_same_peer};
 pub use event::{Binding, Event};

@@ -14,7 +14,7 @@ use Rattle.yp_office.specs.declared.status.Status.{Status}
 use Rattle.yp_office.specs.declared.status.Status.TheVariants.{Done, No, Usage, ReadFault, WriteFault, Torn, TooLong}
 use Rattle.yp_office.specs.declared.status.Status.TheVariants.{NoMemory, Damaged, NoVersion, DiskFault, Yp, Denied}
 use Rattle.yp_office.specs.declared.status.Status.TheVariants.{BadReply, BadXid, DialFault, Rows, OrderSpent, Refused}
-use Rattle.yp_office.specs.declared.status.Status.TheVariants.{GenerationsSpent, Enough, Xfr}
+use Rattle.yp_office.specs.declared.status.Status.TheVariants.{GenerationsSpent, Enough, Xfr, InboxFault, Unanswered}
 
 -- the code with which the program ends
 abbrev pub code_of : Status → ℕ
@@ -39,7 +39,9 @@ code_of (Rows row rule) = 17
 code_of OrderSpent = 18
 code_of (Refused master) = 19
 code_of (GenerationsSpent map) = 20
+code_of InboxFault = 22
 code_of Enough = 23
+code_of (Unanswered turns) = 24
 
 -- a line of the program
 abbrev pub note_line : List ℕ → List ℕ
@@ -77,7 +79,9 @@ note (Rows row rule) = note_line (codes "row " ++ decimal row ++ codes " rule " 
 note OrderSpent = note_line (codes "order spent")
 note (Refused master) = note_line (codes "mastered by " ++ master.items)
 note (GenerationsSpent map) = note_line (codes "generations spent in " ++ map_text (name_view map))
+note InboxFault = note_line (codes "inbox fault")
 note Enough = note_line (codes "enough calls")
+note (Unanswered turns) = note_line (codes "unanswered after " ++ decimal turns ++ codes " turns")
 
 -- each name of a status is one that a line has room for
 abbrev pub IsTellable : Status → Type 0

@@ -63,8 +63,12 @@ pub enum Status {
     Refused { master: Vec<u8> },
     /// The stored file of this map has the greatest generation that there is.
     GenerationsSpent { map: MapName },
+    /// The inbox failed.
+    InboxFault,
     /// As many calls were read as a session may have.
     Enough,
+    /// No answer came in so many turns.
+    Unanswered { turns: u32 },
 }
 
 impl Status {
@@ -94,7 +98,9 @@ impl Status {
             Status::OrderSpent => 18,
             Status::Refused { .. } => 19,
             Status::GenerationsSpent { .. } => 20,
+            Status::InboxFault => 22,
             Status::Enough => 23,
+            Status::Unanswered { .. } => 24,
         }
     }
 
@@ -125,7 +131,9 @@ impl Status {
             Status::OrderSpent => line(b"order spent", b""),
             Status::Refused { master } => line(b"mastered by ", master),
             Status::GenerationsSpent { map } => named(b"generations spent in ", map),
+            Status::InboxFault => line(b"inbox fault", b""),
             Status::Enough => line(b"enough calls", b""),
+            Status::Unanswered { turns } => unanswered(*turns),
         }
     }
 }
@@ -231,6 +239,18 @@ fn ruled(row: u32, rule: u8) -> Line
     add_number(&mut note, u64::from(row));
     add(&mut note, b" rule ");
     add_number(&mut note, u64::from(rule));
+    add(&mut note, b"\n");
+    note
+}
+
+/// The line of turns that brought no answer.
+fn unanswered(turns: u32) -> Line
+    ensures { result.items ≡ note_line (codes "unanswered after " ++ decimal turns ++ codes " turns") }
+{
+    let mut note = Line::new();
+    add(&mut note, b"yp: unanswered after ");
+    add_number(&mut note, u64::from(turns));
+    add(&mut note, b" turns");
     add(&mut note, b"\n");
     note
 }

@@ -1,7 +1,8 @@
 -- What the program does, by its command: one line each.
 use Rattle.std.specs.Prelude.{◌≡◌, ◌⊎◌, ℕ, Bool, IsTrue, List, Result, Ok, Err}
 use Rattle.yp_session.specs.Wires.{Wire}
-use Rattle.yp_words.specs.Words.{Meaning, Once, Session, Check, Build, Xfr, Sample, Ask, TakesMemory}
+use Rattle.yp_words.specs.Words.{Meaning, Once, Session, Check, Build, Xfr, Sample, Bind, Portmap, Getport}
+use Rattle.yp_words.specs.Words.{Ask, TakesMemory}
 use Rattle.yp_words.specs.declared.words.ParseFault.{ParseFault}
 use Rattle.yp_words.specs.declared.words.ParseFault.TheVariants as fault
 use Rattle.yp_office.specs.declared.office.Office.{Office}
@@ -14,6 +15,9 @@ use Rattle.yp_serving.specs.Session.{SessionDoes, session_may_end}
 use Rattle.yp_storing.specs.Build.{BuildDoes, build_may_end}
 use Rattle.yp_storing.specs.Check.{CheckDoes, check_may_end}
 use Rattle.yp_storing.specs.Xfr.{order_of, xfr_may_end}
+use Rattle.yp_mailing.specs.Bind.{BindDoes, bind_may_end, servers_of}
+use Rattle.yp_mailing.specs.Getport.{GetportDoes, getport_may_end, begun}
+use Rattle.yp_mailing.specs.Portmap.{PortmapDoes, portmap_may_end}
 use Rattle.yp_tools.specs.Asking.{AskDoes, ask_may_end}
 use Rattle.yp_tools.specs.Transferring.{TransferDoes}
 use Rattle.yp_tools.specs.declared.program.Outside.{Outside}
@@ -31,6 +35,12 @@ CommandDoes seen (Xfr name force store host flag) status old new before after =
     TransferDoes seen (order_of name force store host flag) status old new × (after ≡ before)
 CommandDoes seen (Sample start count) status old new before after =
     SampleDoes seen start count status old new × (after ≡ before)
+CommandDoes seen (Bind port policy turns domain hosts) status old new before after =
+    BindDoes seen turns domain (servers_of hosts) policy status old new × (after ≡ before)
+CommandDoes seen (Portmap port turns) status old new before after =
+    PortmapDoes seen turns status old new × (after ≡ before)
+CommandDoes seen (Getport port turns peer prog vers prot) status old new before after =
+    GetportDoes seen turns (begun peer prog vers prot) status old new × (after ≡ before)
 CommandDoes seen (Ask peer question) status old new before after =
     AskDoes seen peer question status old new × (after ≡ before)
 
@@ -57,6 +67,9 @@ may_end (Check store) status = check_may_end status
 may_end (Build name store flag) status = build_may_end status
 may_end (Xfr name force store host flag) status = xfr_may_end status
 may_end (Sample start count) status = sample_may_end status
+may_end (Bind port policy turns domain hosts) status = bind_may_end status
+may_end (Portmap port turns) status = portmap_may_end status
+may_end (Getport port turns peer prog vers prot) status = getport_may_end status
 may_end (Ask peer question) status = ask_may_end status
 
 abbrev pub MayEnd : Result Meaning ℕ → Status → Type 0

@@ -15,6 +15,7 @@ use crate::transferring::transfer;
 use std::alloc::Global;
 use std::random::RandomSource;
 use yp_io::{Clock, Dial, Disk, Inbox, Pair, Sink, Source, Texts, write_all};
+use yp_mailing::{ask_mapper, bind_domain, serve_ports};
 use yp_office::{NamedDisk, Office, Status};
 use yp_serving::{serve_once, serve_session, tell_sample};
 use yp_session::{Trail, Witness};
@@ -90,6 +91,22 @@ fn obey<S: Source, K: Sink, D: Disk, C: Clock, A: Dial, I: Inbox, T: Texts, W: W
             },
             &mut office,
         ),
+        Command::Bind {
+            policy,
+            turns,
+            domain,
+            hosts,
+            ..
+        } => bind_domain(alloc, policy, turns, domain, hosts, &mut office),
+        Command::Portmap { turns, .. } => serve_ports(alloc, turns, &mut office),
+        Command::Getport {
+            turns,
+            addr,
+            prog,
+            vers,
+            prot,
+            ..
+        } => ask_mapper(alloc, turns, addr, prog, vers, prot, &mut office),
         Command::Ask { addr, question } => ask(alloc, rt, addr, question, &mut office),
         Command::Session {
             name,

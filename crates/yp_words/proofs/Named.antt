@@ -6,18 +6,20 @@ use Rattle.std.specs.Prelude.{nat_le, nat_lt, ◌==◌, is_some, IsSome, All, fi
 use Rattle.std.specs.List.{find, list_any, prefix_len}
 use Rattle.std.specs.Option.{option_map}
 use Rattle.std.proofs.lemmas.Bool.Decides.{nat_tests}
-use Rattle.std.proofs.lemmas.List.{append-nil, map-append, take_all}
+use Rattle.std.proofs.lemmas.List.{append-nil, length-map, map-append, take_all}
 use Rattle.std.proofs.lemmas.List.Elements.{filter-append, All-append}
 use Rattle.yp_version.specs.Limits.{key_max}
+use Rattle.yp_bind.specs.Kept.{servers_max}
+use Rattle.yp_bind.specs.Rounds.{is_same_peer}
 use Rattle.yp_board.specs.Catalogues.{Name, name_max, maps_max, is_same, is_map_name, is_name as is_short_name}
 use Rattle.yp_board.specs.Catalogues.{again_from, with_numbers, bad_name, twice, catalog_fault}
 use Rattle.yp_words.specs.Forms.{Form, has_form, before, after, is_name, is_store, is_kind_store, is_text, is_key}
 use Rattle.yp_words.specs.Forms.{is_host}
 use Rattle.yp_words.specs.Words.{Meaning, Further, Sentence, once, session, check, build, build_flagged, xfr}
-use Rattle.yp_words.specs.Words.{xfr_flagged, sample, IsOneMap}
+use Rattle.yp_words.specs.Words.{xfr_flagged, sample, bind, portmap, getport, cat, catk, which, poll, IsOneMap}
 use Rattle.yp_words.specs.Words.{match_key, maps, innetgr, asking, sentences, further_fitting}
 use Rattle.yp_words.specs.Words.{serving_fitting, joins, is_new_store, served, fitting, is_whole, asked, name_of}
-use Rattle.yp_words.specs.Words.{kind_of, IsNamed, HasNames}
+use Rattle.yp_words.specs.Words.{kind_of, joins_servers, servers_fitting, peer_word, host_of, IsNamed, HasNames}
 use Rattle.yp_question.specs.declared.question.Question.TheVariants.{Cat, Catk, Which, Poll}
 use Rattle.yp_question.specs.Questions.{ByteQuestion, QuestionIsWithin}
 
@@ -307,6 +309,39 @@ xfr_flagged_named (first ∷ name ∷ mode ∷ store ∷ more) h = one_map name 
 sample_named : (words : List (List ℕ)) → Fit sample words → HasNames (sample.asks words)
 sample_named words h = tt
 
+-- as many servers as a binder may have
+servers_few : (earlier words : List (List ℕ)) → length earlier ≤ servers_max
+    → servers_fitting earlier words ≡ length words → length earlier + length words ≤ servers_max
+servers_few earlier [] few fit = omega (arith, few)
+servers_few earlier (word ∷ words) few fit =
+    let first = fits_first (joins_servers earlier word) (servers_fitting (earlier ++ word ∷ []) words) (length words)
+    (omega (arith, fit)) in
+    let parts = both (is_host word && nat_lt (length earlier) servers_max)
+    (not (list_any (is_same_peer (peer_word word)) (map peer_word earlier))) first.0 in
+    let room = (both (is_host word) (nat_lt (length earlier) servers_max) parts.0).1 in
+    let under : length earlier < servers_max = grind (arith, nat_tests) in
+    let more : length (earlier ++ word ∷ []) ≤ servers_max =
+    omega (arith, under, length-append earlier (word ∷ [])) in
+    omega (arith, servers_few (earlier ++ word ∷ []) words more first.1, length-append earlier (word ∷ []))
+
+bind_named : (words : List (List ℕ)) → Fit bind words → HasNames (bind.asks words)
+unfolding HaveForms HaveFurther
+bind_named [] h = absurd h.forms
+bind_named (first ∷ []) h = absurd h.forms.1
+bind_named (first ∷ port ∷ []) h = absurd h.forms.1.1
+bind_named (first ∷ port ∷ policy ∷ []) h = absurd h.forms.1.1.1
+bind_named (first ∷ port ∷ policy ∷ turns ∷ []) h = absurd h.forms.1.1.1.1
+bind_named (first ∷ port ∷ policy ∷ turns ∷ name ∷ more) h = (
+  name_short name h.forms.1.1.1.1.0,
+  omega (arith, servers_few [] more (omega arith) h.further, length-map more host_of),
+)
+
+portmap_named : (words : List (List ℕ)) → Fit portmap words → HasNames (portmap.asks words)
+portmap_named words h = tt
+
+getport_named : (words : List (List ℕ)) → Fit getport words → HasNames (getport.asks words)
+getport_named words h = tt
+
 -- a domain and a map of a question
 asked_short : (word : List ℕ) (question : List ℕ → List ℕ → ByteQuestion) (words : List (List ℕ))
     → Fit (asking word question) words
@@ -371,40 +406,36 @@ rows_named (sentence ∷ rows) each words meaning e =
 -- what the words ask for has such names
 pub asked_named : (words : List (List ℕ)) (meaning : Meaning) → asked sentences words ≡ Some meaning → HasNames meaning
 unfolding sentences AllNamed
-asked_named words meaning e = rows_named sentences (
-  once_named,
-  (
-    session_named,
-    (
-      check_named,
+asked_named words meaning e =
+    let questions : AllNamed (cat ∷ catk ∷ which ∷ poll ∷ match_key ∷ maps ∷ innetgr ∷ []) = (
+      λ given fit. asked_short _ Cat given fit (λ domain map short. short),
       (
-        build_named,
+        λ given fit. asked_short _ Catk given fit (λ domain map short. short),
         (
-          flagged_named,
+          λ given fit. asked_short _ Which given fit (λ domain map short. short),
           (
-            xfr_named,
+            λ given fit. asked_short _ Poll given fit (λ domain map short. short),
+            (match_named, (maps_named, (innetgr_named, tt))),
+          ),
+        ),
+      ),
+    ) in
+    rows_named sentences (
+      once_named,
+      (
+        session_named,
+        (
+          check_named,
+          (
+            build_named,
             (
-              xfr_flagged_named,
+              flagged_named,
               (
-                sample_named,
-                (
-                  λ given fit. asked_short _ Cat given fit (λ domain map short. short),
-                  (
-                    λ given fit. asked_short _ Catk given fit (λ domain map short. short),
-                    (
-                      λ given fit. asked_short _ Which given fit (λ domain map short. short),
-                      (
-                        λ given fit. asked_short _ Poll given fit (λ domain map short. short),
-                        (match_named, (maps_named, (innetgr_named, tt))),
-                      ),
-                    ),
-                  ),
-                ),
+                xfr_named,
+                (xfr_flagged_named, (sample_named, (bind_named, (portmap_named, (getport_named, questions))))),
               ),
             ),
           ),
         ),
       ),
-    ),
-  ),
-) words meaning e
+    ) words meaning e

@@ -99,6 +99,16 @@ is_force word = bytes_eq word (codes "force")
 abbrev pub is_newer : List ℕ → Bool
 is_newer word = bytes_eq word (codes "newer")
 
+-- the policies of a binder: nobody binds a domain by a call, a caller on its own host does, or anybody
+abbrev pub is_fixed : List ℕ → Bool
+is_fixed word = bytes_eq word (codes "fixed")
+
+abbrev pub is_ypsetme : List ℕ → Bool
+is_ypsetme word = bytes_eq word (codes "ypsetme")
+
+abbrev pub is_ypset : List ℕ → Bool
+is_ypset word = bytes_eq word (codes "ypset")
+
 -- the word for any host, user or domain
 abbrev pub is_any : List ℕ → Bool
 is_any word = bytes_eq word (codes "*")
@@ -111,6 +121,8 @@ pub data Form : Type 0 where
   KindStore : Form
   Pair : Form
   Number : Form
+  Port : Form
+  Policy : Form
   Address : Form
   Text : Form
   Key : Form
@@ -125,6 +137,8 @@ has_form Store word = is_store word
 has_form KindStore word = is_kind_store word
 has_form Pair word = is_row word
 has_form Number word = is_number word
+has_form Port word = is_some (port_of word)
+has_form Policy word = is_fixed word || is_ypsetme word || is_ypset word
 has_form Address word = is_some (address_of word)
 has_form Text word = is_text word
 has_form Key word = is_key word
@@ -140,6 +154,8 @@ form_view code.Store = Store
 form_view code.KindStore = KindStore
 form_view code.Pair = Pair
 form_view code.Number = Number
+form_view code.Port = Port
+form_view code.Policy = Policy
 form_view code.Address = Address
 form_view code.Text = Text
 form_view code.Key = Key

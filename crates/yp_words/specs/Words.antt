@@ -8,6 +8,10 @@ use Rattle.std.specs.declared.string.String.{String}
 use Rattle.std.specs.declared.alloc.Global.{Global}
 use Rattle.yp_version.specs.Rows.{Row}
 use Rattle.yp_io.specs.declared.stream.Peer.{Peer}
+use Rattle.yp_bind.specs.declared.binder.Policy.{Policy}
+use Rattle.yp_bind.specs.declared.binder.Policy.TheVariants.{Fixed, Ypsetme, Ypset}
+use Rattle.yp_bind.specs.Kept.{servers_max}
+use Rattle.yp_bind.specs.Rounds.{is_same_peer}
 use Rattle.yp_board.specs.Catalogues.{Name, name_max, maps_max, name_view, is_same, catalog_fault}
 use Rattle.yp_build.specs.declared.kind.Kind.{Kind}
 use Rattle.yp_build.specs.Kinds.{kinds, name_of as kind_name}
@@ -26,7 +30,7 @@ use Rattle.yp_words.specs.declared.sentence.Task.TheVariants as task
 use Rattle.yp_words.specs.declared.words.ParseFault.{ParseFault}
 use Rattle.yp_words.specs.declared.words.ParseFault.TheVariants.{Usage, NoMemory}
 use Rattle.yp_words.specs.Forms.{Form, has_form, form_view, before, after, number_of, is_store, is_host, address_of}
-use Rattle.yp_words.specs.Forms.{is_secure, is_force, is_any}
+use Rattle.yp_words.specs.Forms.{is_secure, is_force, is_ypsetme, is_ypset, is_any}
 use Rattle.yp_words.specs.Forms as form
 
 -- ---- what words mean
@@ -46,6 +50,12 @@ pub data Meaning : Type 0 where
   -- the own name, whether the order doesn't count, the map, the host that has it, and the flag
   Xfr : (name : List ℕ) (force : Bool) (store : Name) (host : Host) (flag : Option Bool) → Meaning
   Sample : (start count : ℕ) → Meaning
+  -- the port, who may bind the domain, how many turns there are, the domain, and the servers
+  Bind : (port : ℕ) (policy : Policy) (turns : ℕ) (domain : List ℕ) (hosts : List Host) → Meaning
+  -- the port, and how many turns there are
+  Portmap : (port turns : ℕ) → Meaning
+  -- the port, the most turns, the port mapper, and the program, version and protocol that it is asked for
+  Getport : (port turns : ℕ) (peer : Peer) (prog vers prot : ℕ) → Meaning
   -- a server, and what it is asked
   Ask : (peer : Peer) (question : ByteQuestion) → Meaning
 
@@ -65,6 +75,10 @@ row_of word = (before 61 word, after 61 word)
 abbrev pub value_of : List ℕ → ℕ
 value_of word = unwrap_or (number_of word) 0
 
+-- the port that a word says, and 0 where it says none
+abbrev pub port_value : List ℕ → ℕ
+port_value word = unwrap_or (form.port_of word) 0
+
 -- the address that a word says, and that of nobody where it says none
 abbrev pub nobody : Peer
 nobody = record { addr = 0 ∷ 0 ∷ 0 ∷ 0 ∷ []; port = 0 }
@@ -82,11 +96,12 @@ word_at at words = slice_index_or words at []
 
 -- ---- sentences
 
--- the further words of a sentence: none, any number of one form, or the maps and hosts of a server
+-- the further words of a sentence: none, any number of one form, the maps and hosts of a server, or servers
 pub data Further : Type 0 where
   NoMore : Further
   Each : (form : Form) → Further
   StoresAndHosts : Further
+  Servers : Further
 
 -- the forms of a sentence's words in order, its further words, and what such words ask for
 pub record Sentence : Type 0 where
@@ -159,6 +174,35 @@ sample = record {
   asks = λ words. Sample (value_of (word_at 1 words)) (value_of (word_at 2 words));
 }
 
+-- the policy that a word says, and `fixed` where it says none
+abbrev pub policy_of : List ℕ → Policy
+policy_of word = if is_ypset word then Ypset else (if is_ypsetme word then Ypsetme else Fixed)
+
+abbrev pub bind : Sentence
+bind = record {
+  forms = form.Exactly (codes "bind") ∷ form.Port ∷ form.Policy ∷ form.Number ∷ form.Name ∷ [];
+  further = Servers;
+  asks = λ words. Bind (port_value (word_at 1 words)) (policy_of (word_at 2 words)) (value_of (word_at 3 words))
+      (word_at 4 words) (map host_of (drop 5 words));
+}
+
+abbrev pub portmap : Sentence
+portmap = record {
+  forms = form.Exactly (codes "portmap") ∷ form.Port ∷ form.Number ∷ [];
+  further = NoMore;
+  asks = λ words. Portmap (port_value (word_at 1 words)) (value_of (word_at 2 words));
+}
+
+abbrev pub getport : Sentence
+getport = record {
+  forms =
+      form.Exactly (codes "getport") ∷ form.Port ∷ form.Number ∷ form.Address ∷ form.Number ∷ form.Number
+      ∷ form.Number ∷ [];
+  further = NoMore;
+  asks = λ words. Getport (port_value (word_at 1 words)) (value_of (word_at 2 words)) (peer_of (word_at 3 words))
+      (value_of (word_at 4 words)) (value_of (word_at 5 words)) (value_of (word_at 6 words));
+}
+
 -- a question to a server, of a map
 abbrev pub asking : List ℕ → (List ℕ → List ℕ → ByteQuestion) → Sentence
 asking word question = record {
@@ -209,7 +253,7 @@ innetgr = record {
 
 unfoldable pub sentences : List Sentence
 sentences =
-    once ∷ session ∷ check ∷ build ∷ build_flagged ∷ xfr ∷ xfr_flagged ∷ sample
+    once ∷ session ∷ check ∷ build ∷ build_flagged ∷ xfr ∷ xfr_flagged ∷ sample ∷ bind ∷ portmap ∷ getport
     ∷ cat ∷ catk ∷ which ∷ poll ∷ match_key ∷ maps ∷ innetgr ∷ []
 
 -- how many words at the front are of a form
@@ -230,11 +274,28 @@ serving_fitting earlier [] = 0
 serving_fitting earlier (word ∷ words) =
     if joins earlier word then serving_fitting (earlier ++ word ∷ []) words + 1 else 0
 
+-- the address of a host, of a word
+abbrev pub peer_word : List ℕ → Peer
+peer_word word = peer_of (after 64 word)
+
+-- A word may stand behind these as a server: a host at an address of its own, of at most 64.
+abbrev pub joins_servers : List (List ℕ) → List ℕ → Bool
+joins_servers earlier word =
+    is_host word && nat_lt (length earlier) servers_max
+    && not (list_any (is_same_peer (peer_word word)) (map peer_word earlier))
+
+-- how many words at the front may stand behind these as servers
+abbrev pub servers_fitting : List (List ℕ) → List (List ℕ) → ℕ
+servers_fitting earlier [] = 0
+servers_fitting earlier (word ∷ words) =
+    if joins_servers earlier word then servers_fitting (earlier ++ word ∷ []) words + 1 else 0
+
 -- how many words at the front are further ones
 abbrev pub further_fitting : Further → List (List ℕ) → ℕ
 further_fitting NoMore words = 0
 further_fitting (Each form) words = each_fitting form words
 further_fitting StoresAndHosts words = serving_fitting [] words
+further_fitting Servers words = servers_fitting [] words
 
 -- how many words at the front are as the sentence has them
 abbrev pub fitting : List Form → Further → List (List ℕ) → ℕ
@@ -245,11 +306,12 @@ fitting (form ∷ forms) further (word ∷ words) = if has_form form word then f
 abbrev pub fits_to : List (List ℕ) → Sentence → ℕ
 fits_to words sentence = fitting sentence.forms sentence.further words
 
--- a server has a map
+-- a server has a map, and a binder has a server
 abbrev pub has_enough : Further → List (List ℕ) → Bool
 has_enough NoMore words = true
 has_enough (Each form) words = true
 has_enough StoresAndHosts words = list_any is_store words
+has_enough Servers words = nat_le 1 (length words)
 
 -- the words are the whole sentence
 abbrev pub is_whole : List (List ℕ) → Sentence → Bool
@@ -280,6 +342,9 @@ stores_of (Check store) = store ∷ []
 stores_of (Build name store flag) = store ∷ []
 stores_of (Xfr name force store host flag) = store ∷ []
 stores_of (Sample start count) = []
+stores_of (Bind port policy turns domain hosts) = []
+stores_of (Portmap port turns) = []
+stores_of (Getport port turns peer prog vers prot) = []
 stores_of (Ask peer question) = []
 
 -- those of the command that the words are, and none where they are no sentence
@@ -298,6 +363,9 @@ port_of (Check store) = None
 port_of (Build name store flag) = None
 port_of (Xfr name force store host flag) = None
 port_of (Sample start count) = None
+port_of (Bind port policy turns domain hosts) = Some port
+port_of (Portmap port turns) = Some port
+port_of (Getport port turns peer prog vers prot) = Some port
 port_of (Ask peer question) = None
 
 -- ---- what the code has
@@ -317,6 +385,10 @@ meaning (command.Build name store flag) = Build name.items (name_view store) fla
 meaning (command.Xfr name force store host flag) =
     Xfr name.items force (name_view store) (host_view host) flag
 meaning (command.Sample start count) = Sample start count
+meaning (command.Bind port policy turns domain hosts) =
+    Bind port policy turns domain.items (map host_view hosts.items)
+meaning (command.Portmap port turns) = Portmap port turns
+meaning (command.Getport port turns addr prog vers prot) = Getport port turns addr prog vers prot
 meaning (command.Ask addr question) = Ask addr (bytes_of question)
 
 -- the bytes of each word
@@ -344,6 +416,9 @@ asks_of task.BuildFlagged = build_flagged.asks
 asks_of task.Xfr = xfr.asks
 asks_of task.XfrFlagged = xfr_flagged.asks
 asks_of task.Sample = sample.asks
+asks_of task.Bind = bind.asks
+asks_of task.Portmap = portmap.asks
+asks_of task.Getport = getport.asks
 asks_of (task.Ask question) =
     λ words. Ask (peer_of (word_at 1 words)) (question_of question words)
 
@@ -352,6 +427,7 @@ abbrev pub further_view : CodeFurther → Further
 further_view further.NoMore = NoMore
 further_view (further.Each form) = Each (form_view form)
 further_view further.StoresAndHosts = StoresAndHosts
+further_view further.Servers = Servers
 
 -- the sentence that a row of the code's table is
 abbrev pub sentence_view : CodeSentence → Sentence
@@ -380,6 +456,9 @@ HasNames (Check store) = IsNamed store
 HasNames (Build name store flag) = IsOneMap name store × IsSome (kind_of store)
 HasNames (Xfr name force store host flag) = IsOneMap name store
 HasNames (Sample start count) = ⊤
+HasNames (Bind port policy turns domain hosts) = (length domain ≤ name_max) × (length hosts ≤ servers_max)
+HasNames (Portmap port turns) = ⊤
+HasNames (Getport port turns peer prog vers prot) = ⊤
 HasNames (Ask peer question) = QuestionIsWithin question
 
 -- ---- refusals
@@ -392,6 +471,9 @@ TakesMemory (Check store) = Unit {0}
 TakesMemory (Build name store flag) = Unit {0}
 TakesMemory (Xfr name force store host flag) = Unit {0}
 TakesMemory (Sample start count) = ⊥
+TakesMemory (Bind port policy turns domain hosts) = Unit {0}
+TakesMemory (Portmap port turns) = ⊥
+TakesMemory (Getport port turns peer prog vers prot) = ⊥
 TakesMemory (Ask peer question) = Unit {0}
 
 -- the words are a sentence whose command takes memory

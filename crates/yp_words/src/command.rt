@@ -1,5 +1,6 @@
 //! What the program can be asked to do.
 
+use yp_bind::Policy;
 use yp_board::MapName;
 use yp_io::Peer;
 use yp_question::Question;
@@ -58,6 +59,30 @@ pub enum Command {
     Sample {
         start: u32,
         count: u32,
+    },
+    /// Asks these hosts for a domain from `port`, and answers there which one it is bound to, in so many turns.
+    /// `policy` says who may bind it by a call.
+    Bind {
+        port: u16,
+        policy: Policy,
+        turns: u32,
+        domain: Vec<u8>,
+        hosts: Vec<HostWord>,
+    },
+    /// Answers the calls of the port mapper at `port`, in so many turns.
+    Portmap {
+        port: u16,
+        turns: u32,
+    },
+    /// Asks the port mapper at `addr`, from `port` and in at most so many turns, for the port of version `vers` of
+    /// program `prog` over protocol `prot`.
+    Getport {
+        port: u16,
+        turns: u32,
+        addr: Peer,
+        prog: u32,
+        vers: u32,
+        prot: u32,
     },
     /// Asks the server at `addr` a question.
     Ask {

@@ -21,6 +21,13 @@ pub const FORCE: &str = "force";
 
 const NEWER: &str = "newer";
 
+/// The policies of a binder: nobody binds a domain by a call, a caller on its own host does, or anybody.
+const FIXED: &str = "fixed";
+
+pub const YPSETME: &str = "ypsetme";
+
+pub const YPSET: &str = "ypset";
+
 /// The word for any host, user or domain.
 pub const ANY: &str = "*";
 
@@ -39,6 +46,10 @@ pub enum Form {
     Pair,
     /// A number of 32 bits.
     Number,
+    /// A port: a number from 1 to 65535.
+    Port,
+    /// Who may bind a domain: `fixed`, `ypsetme` or `ypset`.
+    Policy,
     /// Four numbers of a byte with dots between, a colon, and a port from 1 on.
     Address,
     /// A name that a server is asked for: 1 to 64 bytes.
@@ -65,6 +76,8 @@ impl Form {
             Form::KindStore => is_kind_store(word),
             Form::Pair => is_row(word),
             Form::Number => number_of(word).is_some(),
+            Form::Port => port_of(word).is_some(),
+            Form::Policy => word == FIXED || word == YPSETME || word == YPSET,
             Form::Address => address_of(word).is_some(),
             Form::Text => is_text(word),
             Form::Key => is_key(word),
@@ -133,7 +146,7 @@ fn octet_of(word: &str) -> Option<u8>
 }
 
 /// A port, which isn't 0.
-fn port_of(word: &str) -> Option<u16>
+pub fn port_of(word: &str) -> Option<u16>
     ensures { result ≡ port_of word.now }
 {
     match u16::try_from(number_of(word)?) {

@@ -5,10 +5,10 @@ ghost use Rattle.std.specs.Option.{option_map};
 ghost use Rattle.yp_words.specs.Forms.{form_view};
 ghost use Rattle.yp_words.specs.Words.{sentences, fits_to, fitting, each_fitting, serving_fitting, further_fitting};
 ghost use Rattle.yp_words.specs.Words.{further_view, has_enough, joins, is_whole, asked, wrong_word, asks_of};
-ghost use Rattle.yp_words.specs.Words.{sentence_view, texts};
+ghost use Rattle.yp_words.specs.Words.{sentence_view, servers_fitting, texts};
 
 use crate::form::Form;
-use crate::serving::{has_store, joins};
+use crate::serving::{has_store, joins, joins_servers};
 use yp_question::Question;
 
 /// What the words of a sentence ask for.
@@ -22,6 +22,9 @@ pub enum Task {
     Xfr,
     XfrFlagged,
     Sample,
+    Bind,
+    Portmap,
+    Getport,
     /// A question to the server that the word behind the first names. The numbers are those of the words that it is
     /// made of, counted from 0.
     Ask(Question<usize>),
@@ -35,6 +38,8 @@ pub enum Further {
     Each(Form),
     /// The maps and hosts of a server, of which at least one is a map.
     StoresAndHosts,
+    /// 1 to 64 hosts, each at an address of its own.
+    Servers,
 }
 
 /// A sentence.
@@ -49,7 +54,7 @@ struct Sentence {
 }
 
 /// All sentences.
-const SENTENCES: [Sentence; 15] = [
+const SENTENCES: [Sentence; 18] = [
     Sentence {
         task: Task::Once,
         forms: &[Form::Exactly("once"), Form::Store],
@@ -106,6 +111,35 @@ const SENTENCES: [Sentence; 15] = [
     Sentence {
         task: Task::Sample,
         forms: &[Form::Exactly("sample"), Form::Number, Form::Number],
+        further: Further::NoMore,
+    },
+    Sentence {
+        task: Task::Bind,
+        forms: &[
+            Form::Exactly("bind"),
+            Form::Port,
+            Form::Policy,
+            Form::Number,
+            Form::Name,
+        ],
+        further: Further::Servers,
+    },
+    Sentence {
+        task: Task::Portmap,
+        forms: &[Form::Exactly("portmap"), Form::Port, Form::Number],
+        further: Further::NoMore,
+    },
+    Sentence {
+        task: Task::Getport,
+        forms: &[
+            Form::Exactly("getport"),
+            Form::Port,
+            Form::Number,
+            Form::Address,
+            Form::Number,
+            Form::Number,
+            Form::Number,
+        ],
         further: Further::NoMore,
     },
     Sentence {
@@ -200,6 +234,19 @@ fn serving_fitting(words: &[String]) -> usize
     words.len()
 }
 
+/// How many words at the front are hosts, each at an address of its own.
+fn servers_fitting(words: &[String]) -> usize
+    ensures value { result ≡ servers_fitting [] (texts words.now) }
+    ensures within { result ≤ length words.now }
+{
+    for (i, word) in words.iter().enumerate() {
+        if !joins_servers(&words[..i], word.as_str()) {
+            return i;
+        }
+    }
+    words.len()
+}
+
 impl Further {
     /// How many words at the front are further ones.
     fn fits(self, words: &[String]) -> usize
@@ -210,6 +257,7 @@ impl Further {
             Further::NoMore => 0,
             Further::Each(form) => each_fitting(form, words),
             Further::StoresAndHosts => serving_fitting(words),
+            Further::Servers => servers_fitting(words),
         }
     }
 
@@ -221,6 +269,7 @@ impl Further {
             Further::NoMore => true,
             Further::Each(_) => true,
             Further::StoresAndHosts => has_store(words),
+            Further::Servers => !words.is_empty(),
         }
     }
 }

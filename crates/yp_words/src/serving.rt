@@ -4,10 +4,14 @@ ghost use Rattle.std.specs.Prelude.{◌≡◌, length, map};
 ghost use Rattle.std.specs.List.{list_any};
 ghost use Rattle.yp_board.specs.Catalogues.{is_same};
 ghost use Rattle.yp_words.specs.Forms.{is_store};
-ghost use Rattle.yp_words.specs.Words.{joins, name_of, served, texts};
+ghost use Rattle.yp_bind.specs.Rounds.{is_same_peer};
+ghost use Rattle.yp_words.specs.Words.{joins, joins_servers, name_of, peer_word, served, texts};
 
 use crate::form::{cut_at, is_host, is_store};
+use crate::words::peer_of;
+use yp_bind::{SERVERS_MAX, is_same_peer};
 use yp_board::MAPS_MAX;
+use yp_io::Peer;
 
 /// Whether two words name the same map.
 fn is_same(word: &str, other: &str) -> bool
@@ -64,4 +68,26 @@ pub fn joins(earlier: &[String], word: &str) -> bool
     } else {
         is_host(word)
     }
+}
+
+/// Whether one of these words names a host at this address.
+fn has_address(words: &[String], peer: Peer) -> bool
+    ensures { result ≡ list_any (is_same_peer peer) (map peer_word (texts words.now)) }
+{
+    for word in words {
+        let (_, address) = cut_at(word.as_str(), '@');
+        if is_same_peer(peer, peer_of(address)) {
+            return true;
+        }
+    }
+    false
+}
+
+/// Whether a word may stand behind these as a server: a host at an address of its own, of at most 64.
+pub fn joins_servers(earlier: &[String], word: &str) -> bool
+    ensures { result ≡ joins_servers (texts earlier.now) word.now }
+{
+    is_host(word)
+        && earlier.len() < SERVERS_MAX
+        && !has_address(earlier, peer_of(cut_at(word, '@').1))
 }

@@ -6,15 +6,18 @@ ghost use Rattle.yp_question.specs.Questions.{bytes_of};
 ghost use Rattle.yp_words.specs.Words.{name_of, row_of, value_of, peer_of, host_of, served, known, word_at};
 ghost use Rattle.yp_words.specs.Words.{given_at, question_of};
 ghost use Rattle.yp_words.specs.Words.{command_of, disk_names, stores_of, port_of, row_view, host_view, meaning, texts};
-ghost use Rattle.yp_words.specs.Words.{asks_of, once, session, check, sample, Build, Xfr, TakesMemory};
+ghost use Rattle.yp_words.specs.Words.{asks_of, once, session, check, sample, portmap, getport, Build, Xfr};
+ghost use Rattle.yp_words.specs.Words.{bind, port_value, policy_of, TakesMemory};
 ghost use Rattle.yp_words.specs.Words.{IsSentenceOfWords};
 ghost use Rattle.yp_words.specs.Forms.{is_force};
 ghost use Rattle.yp_words.specs.Words.{IsUsage, HasNames};
 
 use crate::command::{Command, HostWord, KeyValue};
-use crate::form::{ANY, FORCE, SECURE, address_of, cut_at, is_host, is_store, number_of};
+use crate::form::{ANY, FORCE, SECURE, YPSET, YPSETME, address_of, cut_at, is_host, is_store, number_of};
+use crate::form::port_of as port_in;
 use crate::sentence::{Task, task_of, wrong_word};
 use std::alloc::{AllocError, Global};
+use yp_bind::Policy;
 use yp_board::{MapName, copy_names};
 use yp_io::{NoMemory, Peer};
 use yp_question::Question;
@@ -52,6 +55,13 @@ fn value_of(word: &str) -> u32
     ensures { result ≡ value_of word.now }
 {
     number_of(word).unwrap_or(0)
+}
+
+/// The port that a word says, and 0 where it says none.
+fn port_value(word: &str) -> u16
+    ensures { result ≡ port_value word.now }
+{
+    port_in(word).unwrap_or(0)
 }
 
 fn store_of(alloc: Global, word: &str) -> Result<MapName, AllocError>
@@ -94,7 +104,7 @@ fn once_of(alloc: Global, words: &[String]) -> Result<Command, AllocError>
 }
 
 /// The address that a word says, and that of nobody where it says none.
-fn peer_of(word: &str) -> Peer
+pub fn peer_of(word: &str) -> Peer
     ensures { result ≡ peer_of word.now }
 {
     match address_of(word) {
@@ -195,6 +205,64 @@ fn sample_of(words: &[String]) -> Command
     }
 }
 
+/// The policy that a word says, and `fixed` where it says none.
+fn policy_of(word: &str) -> Policy
+    ensures { result ≡ policy_of word.now }
+{
+    if word == YPSET {
+        return Policy::Ypset;
+    }
+    if word == YPSETME {
+        return Policy::Ypsetme;
+    }
+    Policy::Fixed
+}
+
+fn bind_of(alloc: Global, words: &[String]) -> Result<Command, AllocError>
+    ensures { IfOk result (λ command. meaning command ≡ bind.asks (texts words.now)) }
+{
+    Ok(Command::Bind {
+        port: port_value(word_at(words, 1)),
+        policy: policy_of(word_at(words, 2)),
+        turns: value_of(word_at(words, 3)),
+        domain: text_at(alloc, words, 4)?,
+        hosts: hosts_of(alloc, words_from(words, 5))?,
+    })
+}
+
+/// The hosts that these words are.
+fn hosts_of(alloc: Global, words: &[String]) -> Result<Vec<HostWord>, AllocError>
+    ensures { IfOk result (λ hosts. map host_view hosts.items ≡ map host_of (texts words.now)) }
+{
+    let mut hosts = Vec::new(alloc);
+    for word in words {
+        hosts.push(host_of(alloc, word.as_str())?)?;
+    }
+    Ok(hosts)
+}
+
+fn portmap_of(words: &[String]) -> Command
+    ensures { meaning result ≡ portmap.asks (texts words.now) }
+{
+    Command::Portmap {
+        port: port_value(word_at(words, 1)),
+        turns: value_of(word_at(words, 2)),
+    }
+}
+
+fn getport_of(words: &[String]) -> Command
+    ensures { meaning result ≡ getport.asks (texts words.now) }
+{
+    Command::Getport {
+        port: port_value(word_at(words, 1)),
+        turns: value_of(word_at(words, 2)),
+        addr: peer_of(word_at(words, 3)),
+        prog: value_of(word_at(words, 4)),
+        vers: value_of(word_at(words, 5)),
+        prot: value_of(word_at(words, 6)),
+    }
+}
+
 /// The bytes of a word.
 fn text_at(alloc: Global, words: &[String], at: usize) -> Result<Vec<u8>, AllocError>
     ensures { IfOk result (λ text. text.items ≡ word_at at (texts words.now)) }
@@ -290,6 +358,9 @@ fn command_for(alloc: Global, task: Task, words: &[String]) -> Result<Command, A
         Task::Xfr => xfr_of(alloc, words, None),
         Task::XfrFlagged => xfr_of(alloc, words, Some(word_at(words, 5) == SECURE)),
         Task::Sample => Ok(sample_of(words)),
+        Task::Bind => bind_of(alloc, words),
+        Task::Portmap => Ok(portmap_of(words)),
+        Task::Getport => Ok(getport_of(words)),
         Task::Ask(question) => ask_of(alloc, question, words),
     }
 }
@@ -323,6 +394,9 @@ pub fn stores_of(alloc: Global, command: &Command) -> Result<Vec<MapName>, NoMem
         Command::Session { stores, .. } => copy_names(alloc, stores),
         Command::Once { .. } => return Ok(Vec::new(alloc)),
         Command::Sample { .. } => return Ok(Vec::new(alloc)),
+        Command::Bind { .. } => return Ok(Vec::new(alloc)),
+        Command::Portmap { .. } => return Ok(Vec::new(alloc)),
+        Command::Getport { .. } => return Ok(Vec::new(alloc)),
         Command::Ask { .. } => return Ok(Vec::new(alloc)),
     };
     match names {
@@ -342,6 +416,9 @@ pub fn port_of(command: &Command) -> Option<u16>
         Command::Build { .. } => None,
         Command::Xfr { .. } => None,
         Command::Sample { .. } => None,
+        Command::Bind { port, .. } => Some(*port),
+        Command::Portmap { port, .. } => Some(*port),
+        Command::Getport { port, .. } => Some(*port),
         Command::Ask { .. } => None,
     }
 }

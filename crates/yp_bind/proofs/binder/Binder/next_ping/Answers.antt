@@ -6,7 +6,7 @@ use Rattle.yp_bind.specs.declared.event.Binding.{Binding}
 use Rattle.yp_bind.specs.Rounds.{Bindings, targets, first_number, ping_at, next_ping_of}
 use Rattle.yp_bind.specs.Kept.{bindings_of}
 use Rattle.yp_bind.proofs.Pings.{next_by, targets_bound}
-use Rattle.yp_bind.proofs.Keeping.{pings}
+use Rattle.yp_bind.proofs.Keeping.{pings, fewer}
 use Rattle.yp_bind.proofs.binder.Binder.next_ping.Goals as goal
 
 pub returns-in_default-clause-ping : goal.returns-in_default-clause-ping
@@ -42,3 +42,11 @@ returns-clause-ping c =
     ap P c.self.invariant.next
     ∙ ap (λ (o : Option Binding). option_map (ping_at (number + pinged)) o) there
     ∙ sym (next_by (bindings_of c.self.inside) pinged c.self.invariant.are_out) ∙ ap next_ping_of c.self.view_is
+
+pub returns-clause-fewer : goal.returns-clause-fewer
+returns-clause-fewer c =
+    let pinged = c.self.inside.pinged in
+    let there = c.in-Some.ensures.target
+    ∙ ap (λ (bindings : Bindings). slice_get (targets bindings) pinged) (sym c.self.view_is) in
+    rw (c.add.ensures, ← c.self.view_is)
+    (fewer (bindings_of c.self.inside) _ _ _ _ c.in-Some.target c.self.invariant there)

@@ -1,0 +1,6 @@
+pub mod Told
+pub mod Answered
+pub mod Calling
+pub mod Going
+pub mod Lines
+pub mod Doing

@@ -1,0 +1,16 @@
+use Rattle.std.proofs.Common.{sym, ◌∙◌, arith}
+use Rattle.yp_xdr.specs.Spelling.{opaque, fixed}
+use Rattle.yp_mailing.specs.Getport.{call_of}
+use Rattle.yp_mailing.proofs.Calling.{front_set}
+use Rattle.yp_mailing.proofs.Going.{letter_goes}
+use Rattle.yp_mailing.proofs.getport.AskingErrand.next.Goals as goal
+
+pub unreachable-requires : goal.unreachable-requires
+unfolding opaque fixed
+unreachable-requires c = omega (arith, c.in-Err.ensures.no_room, c.requires)
+
+pub returns-clause-goes : goal.returns-clause-goes
+returns-clause-goes c =
+    let old = c.args.self.now in
+    letter_goes old.answer old.is_due old _ (sym c.is_some.ensures ∙ c.if-is_some.false) c.if-not-self.false
+    (front_set c.args.buf.now c.ask_port.new.buf (call_of old) c.in-Ok.len c.in-Ok.ensures.bytes_there c.in-Ok.ensures.place.0)

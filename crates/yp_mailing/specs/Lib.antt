@@ -1,0 +1,4 @@
+pub mod Telling
+pub mod Getport
+pub mod Portmap
+pub mod Bind

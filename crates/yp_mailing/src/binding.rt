@@ -1,0 +1,256 @@
+//! The command `bind`: the server that a domain is bound to.
+
+ghost use Rattle.std.specs.Prelude.{◌≡◌, ◌≢◌, ◌≤◌, ◌+◌, ◌++◌, [], ◌∷◌, length, map, take, IsTrue, IfOk};
+ghost use Rattle.arrayvec.specs.ArrayVec.{array_vec_len};
+ghost use Rattle.yp_io.specs.Counts.{HasRisen};
+ghost use Rattle.yp_rpc.specs.Called.{call_of};
+ghost use Rattle.yp_msgs.specs.Messages.{req_domain};
+ghost use Rattle.yp_msgs.specs.Numbers.{program, version, domain_nonack_procedure};
+ghost use Rattle.yp_bind.specs.Events.{binding_of};
+ghost use Rattle.yp_bind.specs.Kept.{servers_max};
+ghost use Rattle.yp_bind.specs.Rounds.{pings_left};
+ghost use Rattle.yp_board.specs.Catalogues.{name_max};
+ghost use Rattle.yp_words.specs.Words.{host_view};
+ghost use Rattle.yp_office.specs.Seeing.{seeing, IsPassedOn};
+ghost use Rattle.yp_office.specs.Status.{IsTellable};
+ghost use Rattle.yp_office.specs.declared.status.Status.TheVariants.{Done, WriteFault};
+ghost use Rattle.yp_mailing.specs.Telling.{Tells};
+ghost use Rattle.yp_mailing.specs.Bind.{Goes, Hears, Rests, is_reply, offer_of, unbound, peer_text, server_text};
+ghost use Rattle.yp_mailing.specs.Bind.{bound_line, servers_of, bind_may_end, BindDoes};
+
+use crate::text::tell_text;
+use std::alloc::{AllocError, Global};
+use std::marker::Model;
+use yp_bind::{Binder, Policy};
+use yp_io::{Clock, Dial, Disk, Failed, Inbox, NoMemory, Peer, Sink, Source, Texts};
+use yp_msgs::protocol::{DOMAIN_NONACK, YPPROG, YPVERS};
+use yp_msgs::{Message, ReqDomain};
+use yp_office::{LINE_MAX, Line, Office, Status, add, add_number};
+use yp_rpc::{ReplyHead, read_reply_at, write_call};
+use yp_turns::{Errand, MAIL_MAX, Room, Wish, take_turns};
+use yp_words::HostWord;
+use yp_xdr::{Cursor, NoRoom, laws};
+
+/// The second word of a reply.
+const REPLY: [u8; 4] = [0, 0, 0, 1];
+
+/// A binder of one domain.
+#[derive(Drop)]
+pub struct Binding {
+    binder: Binder,
+    domain: Vec<u8>,
+}
+
+impl Model for Binding {
+    ghost use Rattle.std.specs.Prelude.{◌≡◌, ◌≤◌, [], ◌∷◌, length};
+    ghost use Rattle.yp_bind.specs.Rounds.{Bindings};
+    ghost use Rattle.yp_board.specs.Catalogues.{name_max};
+
+    ghost Value = { Bindings };
+
+    ghost view = { λ b. b.binder };
+
+    ghost invariant = { λ b. (b.binder.domains ≡ b.domain.items ∷ []) × (length b.domain.items ≤ name_max) };
+}
+
+/// What a server answers to a ping.
+#[derive(Clone, Copy)]
+pub struct Offer {
+    /// The number of the ping.
+    pub xid: u32,
+    /// Whether it has the domain.
+    pub yes: bool,
+}
+
+/// Whether a datagram is a reply, by its second word.
+fn is_reply(mail: &[u8]) -> bool
+    ensures { result ≡ is_reply mail.now }
+{
+    mail.len() >= 4 && mail[4..].starts_with(&REPLY)
+}
+
+/// What a reply offers.
+fn offer_of(mail: &[u8]) -> Option<Offer>
+    ensures { result ≡ offer_of mail.now }
+{
+    let mut cursor = Cursor::new(mail);
+    let Ok(reply) = read_reply_at(&mut cursor) else {
+        return None;
+    };
+    match reply.head {
+        ReplyHead::Success => match cursor.bool() {
+            Ok(yes) => Some(Offer {
+                xid: reply.xid,
+                yes,
+            }),
+            Err(_) => None,
+        },
+        _ => None,
+    }
+}
+
+/// Puts the call of a ping at the front of the buffer, and answers its length.
+fn put_ping(buf: &mut [u8], xid: u32, domain: &[u8]) -> usize
+    requires room { MAIL_MAX ≤ length buf.old }
+    requires domain { length domain.now ≤ name_max }
+    ensures call { take result buf.new ≡ call_of req_domain xid program version domain_nonack_procedure domain.now }
+    ensures within { result ≤ length buf.new }
+{
+    laws::written_is_joined();
+    let at = match write_call(buf, xid, YPPROG, YPVERS, DOMAIN_NONACK) {
+        Ok(at) => at,
+        Err(NoRoom) => unreachable!(),
+    };
+    let arguments = ReqDomain { domain };
+    arguments.set(buf, at)
+}
+
+impl Errand for Binding {
+    ghost goes = { Goes };
+
+    ghost hears = { Hears };
+
+    ghost rests = { Rests };
+
+    ghost letters = { pings_left };
+
+    fn next(&mut self, buf: &mut [u8]) -> Wish {
+        match self.binder.next_ping() {
+            None => Wish::Wait,
+            Some(ping) => Wish::Send {
+                to: ping.server,
+                len: put_ping(buf, ping.xid, &self.domain),
+            },
+        }
+    }
+
+    fn hear(&mut self, from: Peer, mail: &[u8], buf: &mut [u8]) -> usize {
+        if !is_reply(mail) {
+            return self.binder.on_call(mail, from, buf);
+        }
+        if let Some(offer) = offer_of(mail) {
+            self.binder.on_offer(offer.xid, from, offer.yes);
+        }
+        0
+    }
+
+    fn rest(&mut self) {
+        self.binder.on_quiet();
+    }
+}
+
+/// Adds the address of a server: four numbers and its port.
+fn add_peer(line: &mut Line, peer: Peer)
+    requires { array_vec_len line.old + 104 ≤ LINE_MAX }
+    ensures text { line.new.items ≡ line.old.items ++ peer_text peer }
+    ensures len { array_vec_len line.new ≤ array_vec_len line.old + 104 }
+{
+    add_number(line, u64::from(peer.addr[0]));
+    add(line, b".");
+    add_number(line, u64::from(peer.addr[1]));
+    add(line, b".");
+    add_number(line, u64::from(peer.addr[2]));
+    add(line, b".");
+    add_number(line, u64::from(peer.addr[3]));
+    add(line, b":");
+    add_number(line, u64::from(peer.port));
+}
+
+/// Adds the server that a domain is bound to, or that there is none.
+fn add_server(line: &mut Line, bound: Option<Peer>)
+    requires { array_vec_len line.old + 104 ≤ LINE_MAX }
+    ensures text { line.new.items ≡ line.old.items ++ server_text bound }
+    ensures len { array_vec_len line.new ≤ array_vec_len line.old + 104 }
+{
+    match bound {
+        Some(peer) => add_peer(line, peer),
+        None => add(line, b"none"),
+    }
+}
+
+/// The line of a domain that is bound so.
+fn line(domain: &[u8], bound: Option<Peer>) -> Line
+    requires { length domain.now ≤ name_max }
+    ensures { result.items ≡ bound_line domain.now bound }
+{
+    let mut line = Line::new();
+    add(&mut line, domain);
+    add(&mut line, b" ");
+    add_server(&mut line, bound);
+    add(&mut line, b"\n");
+    line
+}
+
+impl Binding {
+    /// A binder of a domain, which asks these hosts for it.
+    fn new(
+        alloc: Global,
+        policy: Policy,
+        domain: &[u8],
+        hosts: &[HostWord],
+    ) -> Result<Binding, NoMemory>
+        requires domain { length domain.now ≤ name_max }
+        requires hosts { length hosts.now ≤ servers_max }
+        ensures { IfOk result (λ binding.
+            binding ≡ unbound domain.now (servers_of (map host_view hosts.now)) policy) }
+    {
+        let Ok(servers) = servers_of(alloc, hosts) else {
+            return Err(NoMemory);
+        };
+        let Ok(name) = Vec::from_slice(alloc, domain) else {
+            return Err(NoMemory);
+        };
+        let Ok(domain) = Vec::from_slice(alloc, domain) else {
+            return Err(NoMemory);
+        };
+        let Ok(domains) = vec![in alloc; name] else {
+            return Err(NoMemory);
+        };
+        let binder = Binder::new(alloc, domains, servers, policy)?;
+        Ok(Binding { binder, domain })
+    }
+
+    /// The server that the domain is bound to.
+    fn server(&self) -> Option<Peer>
+        ensures { result ≡ binding_of 0 self.now.events }
+    {
+        self.binder.binding(0)
+    }
+}
+
+/// The addresses of hosts.
+fn servers_of(alloc: Global, hosts: &[HostWord]) -> Result<Vec<Peer>, AllocError>
+    ensures { IfOk result (λ servers. servers.items ≡ servers_of (map host_view hosts.now)) }
+{
+    hosts.iter().map(|host| host.peer).collect(alloc)
+}
+
+/// Asks these hosts for a domain, answers which server it is bound to, in so many turns, and tells that.
+pub fn bind_domain<S: Source, K: Sink, D: Disk, C: Clock, A: Dial, I: Inbox, T: Texts>(
+    alloc: Global,
+    policy: Policy,
+    turns: u32,
+    domain: Vec<u8>,
+    hosts: Vec<HostWord>,
+    office: &mut Office<S, K, D, C, A, I, T>,
+) -> Status
+    requires domain { length domain.items ≤ name_max }
+    requires hosts { length hosts.items ≤ servers_max }
+    ensures does { BindDoes (seeing S.Source K.Sink D.Disk C.Clock A.Dial I.Inbox T.Texts) turns domain.items
+        (servers_of (map host_view hosts.items)) policy result office.old office.new }
+    ensures may_end { IsTrue (bind_may_end result) }
+    ensures passed_on { IsPassedOn (seeing S.Source K.Sink D.Disk C.Clock A.Dial I.Inbox T.Texts)
+        result office.old office.new }
+    ensures tellable { IsTellable result }
+{
+    let Ok(mut room) = Room::new(alloc) else {
+        return Status::NoMemory;
+    };
+    let Ok(mut binding) = Binding::new(alloc, policy, &domain, &hosts) else {
+        return Status::NoMemory;
+    };
+    match take_turns(&mut office.inbox, &mut binding, &mut room, turns) {
+        Ok(_) => tell_text(&mut office.wire.sink, &line(&domain, binding.server()), Status::Done),
+        Err(Failed) => Status::InboxFault,
+    }
+}

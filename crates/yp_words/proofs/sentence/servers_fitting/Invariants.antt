@@ -1,0 +1,7 @@
+use Rattle.std.proofs.Common.{◌≡◌, ◌+◌, [], take, drop}
+use Rattle.yp_words.specs.Words.{servers_fitting, texts}
+use Rattle.yp_words.proofs.sentence.servers_fitting.Given as goal
+
+abbrev pub invariant-loop-i : goal.invariant-loop-i
+invariant-loop-i l =
+    l.i + servers_fitting (texts (take l.i l.words)) (texts (drop l.i l.words)) ≡ servers_fitting [] (texts l.words)
