@@ -175,9 +175,8 @@ fn version<R: RandomSource + Abort>(rt: &R, alloc: Global, order: u32) -> Versio
 }
 
 // Stores a version, where the slot is ready for it.
-fn store(rt: &impl Abort, alloc: Global, slot: &mut Slot<MemDisk>, version: &Version) -> bool {
-    let body = body_of(alloc, version).expect(rt, "a body");
-    slot.ready() && slot.generation() < u64::MAX && slot.commit(&body).is_ok()
+fn store(slot: &mut Slot<MemDisk>, version: &Version) -> bool {
+    slot.ready() && slot.generation() < u64::MAX && slot.commit(version.body()).is_ok()
 }
 
 // How many of three commits after a load are done.
@@ -186,7 +185,7 @@ fn commit_three<R: RandomSource + Abort>(rt: &R, alloc: Global, slot: &mut Slot<
     if slot.load(alloc, rt).is_ok() {
         for order in 100..103 {
             let version = version(rt, alloc, order);
-            if store(rt, alloc, slot, &version) {
+            if store(slot, &version) {
                 done = order - 99;
             }
         }

@@ -23,24 +23,30 @@ fn version<R: RandomSource + Abort>(rt: &R, alloc: Global, rows: &[Row]) -> Vers
     builder.finish().expect(rt, "a version")
 }
 
-// A key that begins others comes before them, and bytes compare as numbers from 0 to 255.
-const KEYS: [Row; 6] = [
+// A key that begins others comes before them, and bytes compare as numbers from 0 to 255, also behind the first eight.
+const KEYS: [Row; 9] = [
     (b"b", b"3"),
     (b"\xff\x00", b"6"),
+    (b"hostname\xff", b"9"),
     (b"ab", b"2"),
     (b"\x80", b"5"),
+    (b"hostname", b"7"),
     (b"a", b"1"),
+    (b"hostname1", b"8"),
     (b"b\x00", b""),
 ];
 
 // The rows by rising keys: the number of each, its key and value, and what comes next.
-const IN_ORDER: [(usize, Row, Next); 6] = [
+const IN_ORDER: [(usize, Row, Next); 9] = [
     (0, (b"a", b"1"), Next::Row(b"ab", b"2")),
     (1, (b"ab", b"2"), Next::Row(b"b", b"3")),
     (2, (b"b", b"3"), Next::Row(b"b\x00", b"")),
-    (3, (b"b\x00", b""), Next::Row(b"\x80", b"5")),
-    (4, (b"\x80", b"5"), Next::Row(b"\xff\x00", b"6")),
-    (5, (b"\xff\x00", b"6"), Next::Last),
+    (3, (b"b\x00", b""), Next::Row(b"hostname", b"7")),
+    (4, (b"hostname", b"7"), Next::Row(b"hostname1", b"8")),
+    (5, (b"hostname1", b"8"), Next::Row(b"hostname\xff", b"9")),
+    (6, (b"hostname\xff", b"9"), Next::Row(b"\x80", b"5")),
+    (7, (b"\x80", b"5"), Next::Row(b"\xff\x00", b"6")),
+    (8, (b"\xff\x00", b"6"), Next::Last),
 ];
 
 // Keys of no row, and what a test calls them.
@@ -74,9 +80,9 @@ fn assert_absent<R: Abort>(rt: &R, version: &Version) {
 }
 
 fn assert_ends<R: Abort>(rt: &R, version: &Version) {
-    let came = (version.len(), version.first(), version.row(6));
+    let came = (version.len(), version.first(), version.row(9));
     let first = (b"a".as_slice(), b"1".as_slice());
-    assert_same(rt, &came, &(6, Some(first), None), "ends");
+    assert_same(rt, &came, &(9, Some(first), None), "ends");
 }
 
 #[test]

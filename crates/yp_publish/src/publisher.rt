@@ -5,7 +5,6 @@ ghost use Rattle.std.specs.Prelude.{option_map};
 ghost use Rattle.std.specs.Arc.{arc_value};
 ghost use Rattle.yp_io.specs.Counts.{HasRisen};
 ghost use Rattle.yp_version.specs.Versions.{MapVersion};
-ghost use Rattle.yp_version.specs.Bodies.{IsBody};
 ghost use Rattle.yp_slot.specs.Commits.{generation_max};
 ghost use Rattle.yp_board.specs.Logs.{shown};
 ghost use Rattle.yp_board.specs.Views.{IsFront};
@@ -197,7 +196,6 @@ impl<D: Disk, B: Show> Publisher<D, B> {
         requires map { map < length self.old.maps }
         requires level { OfMap map self.old.maps (λ kept. kept.standing ≡ Level) }
         requires generation { OfMap map self.old.maps (λ kept. kept.generation < generation_max) }
-        requires body { IsBody spelled.body.items (arc_value spelled.stored) }
         requires shown { arc_value spelled.shown ≡ arc_value spelled.stored }
         ensures fault { IfErr result (λ fault. (fault ≡ InstallFault.DiskFault) ⊎ (fault ≡ InstallFault.NoMemory)) }
         ensures cause { IsErrOf result InstallFault.DiskFault → At map self.old.maps self.new.maps

@@ -2,14 +2,15 @@
 
 ghost use Rattle.std.specs.Prelude.{◌≡◌, ◌≢◌, ◌⊎◌, ◌+◌, ◌<◌, ◌≤◌, ◌++◌, ◌∷◌, ◌↔◌, [], ℕ, Some, None, length};
 ghost use Rattle.std.specs.Prelude.{OnOk, OnErr, IfOk, IfErr, IfSome, IsOk, IsTrue, IsErrOf, IsSome, option_map};
+ghost use Rattle.std.specs.Prelude.{List, is_ok, if◌then◌else◌};
 ghost use Rattle.std.specs.Arc.{arc_value};
-ghost use Rattle.yp_io.specs.Counts.{HasRisen};
+ghost use Rattle.yp_io.specs.Counts.{CountsFaults, HasRisen};
 ghost use Rattle.yp_io.specs.Disk.{LeavesOnly, MayLeave, IsDurable, after_sync};
 ghost use Rattle.yp_version.specs.Versions.{MapVersion};
-ghost use Rattle.yp_version.specs.Bodies.{IsBody};
 ghost use Rattle.yp_slot.specs.Commits.{generation_max};
-ghost use Rattle.yp_slot.specs.Slots.{HasGeneration, is_ready};
-ghost use Rattle.yp_slot.specs.Stands.{stands};
+ghost use Rattle.yp_slot.specs.Slots.{HasGeneration, IsAsBeforeOr, is_ready};
+ghost use Rattle.yp_slot.specs.Stands.{Stored, file_max, stands};
+ghost use Rattle.yp_slot.specs.declared.known.Stage.TheVariants.{Unready, Loaded};
 ghost use Rattle.yp_publish.specs.Standing.{Level, Behind, IsStanding, IsNumbered, standing_name};
 ghost use Rattle.yp_publish.specs.Keeping.{keeping_of, LeavesFew};
 ghost use Rattle.yp_publish.specs.Shared.{LoadsShared};
@@ -178,7 +179,6 @@ impl<D: Disk> StoredMap<D> {
         requires level { self.old.standing ≡ Level }
         requires generation { self.old.generation < generation_max }
         requires map { map < B.maps board.old }
-        requires body { IsBody spelled.body.items (arc_value spelled.stored) }
         requires shown { arc_value spelled.shown ≡ arc_value spelled.stored }
         ensures installed { OnOk result (IsInstalled (arc_value spelled.stored) self.old self.new) }
         ensures answer { IfOk result (λ generation. generation ≡ self.old.generation + 1) }
@@ -204,27 +204,17 @@ impl<D: Disk> StoredMap<D> {
             → HasRisen (D.faults self.old.disk) (D.faults self.new.disk) }
         ensures never_falls { D.faults self.old.disk ≤ D.faults self.new.disk }
     {
-        let Spelled {
-            body,
-            stored,
-            shown,
-        } = spelled;
-        match self.slot.commit(&body) {
-            Err(Failed) => {
-                self.failed = Some(stored);
-                Err(InstallFault::DiskFault)
-            }
-            Ok(generation) => match board.show(map, shown) {
-                Ok(()) => {
-                    self.version = Some(stored);
-                    Ok(generation)
-                }
-                Err(_) => {
-                    self.failed = Some(stored);
-                    Err(InstallFault::NoMemory)
-                }
-            },
+        let Spelled { stored, shown } = spelled;
+        let Ok(generation) = commit(&mut self.slot, &stored) else {
+            self.failed = Some(stored);
+            return Err(InstallFault::DiskFault);
+        };
+        if board.show(map, shown).is_err() {
+            self.failed = Some(stored);
+            return Err(InstallFault::NoMemory);
         }
+        self.version = Some(stored);
+        Ok(generation)
     }
 
     /// Loads its file again where it is behind, and shows what stands there where that isn't what is shown.
@@ -352,4 +342,24 @@ fn refuse_after(
         });
     }
     Ok(())
+}
+
+// Stores a version in a slot, whose body it lends, and answers its generation.
+fn commit<D: Disk>(slot: &mut Slot<D>, version: &Arc<Version>) -> Result<u64, Failed>
+    requires ready { IsTrue (is_ready slot.old.stage) }
+    requires generation { slot.old.generation < generation_max }
+    ensures stage { slot.new.stage ≡ (if is_ok result then Loaded else Unready) }
+    ensures generation { IfOk result (λ generation. generation ≡ slot.old.generation + 1) }
+    ensures generation_kept { slot.new.generation ≡ slot.old.generation + (if is_ok result then 1 else 0) }
+    ensures any_moment { LeavesOnly (D.history slot.old.disk) (D.history slot.new.disk)
+        (IsAsBeforeOr (arc_value version.now) (D.history slot.old.disk)) }
+    ensures ok { OnOk result ((image : List ℕ) → MayLeave (D.history slot.new.disk) image
+        → stands image ≡ Stored (arc_value version.now)) }
+    ensures durable { OnOk result (IsDurable (D.history slot.new.disk)) }
+    ensures numbered { OnOk result (HasGeneration (D.history slot.new.disk) slot.new.generation) }
+    ensures bound { LeavesOnly (D.history slot.old.disk) (D.history slot.new.disk)
+        (λ image. length image ≤ file_max) }
+    ensures cause { CountsFaults (D.faults slot.old.disk) (D.faults slot.new.disk) result }
+{
+    slot.commit(version.body())
 }

@@ -2,7 +2,7 @@
 //!
 //! What its bytes stand for is the definition `stands`. [`Slot::load`] answers it. [`Slot::commit`] stores a version:
 //! at each moment of the call a crash leaves a file that stands for what stood before or for that version, and after
-//! Ok for that version alone. Its clauses rest on those of its four parts, on [`body_of`], and on [`laws`].
+//! Ok for that version alone. Its clauses rest on those of its four parts, and on [`laws`].
 #![tactic(auto)]
 
 mod cells;
@@ -13,10 +13,8 @@ mod load;
 mod parts;
 mod read;
 mod slot;
-mod write;
 mod wrong;
 
 pub use fault::SlotFault;
 pub use known::Stage;
 pub use slot::{GENERATION_MAX, Slot};
-pub use write::body_of;

@@ -145,7 +145,7 @@ fn find(alloc: Global, body: &[u8]) -> Result<Found, BodyFault>
     })
 }
 
-/// The version that a body spells, or the first thing that is wrong in it. No row is copied: the version takes the body.
+/// The version that a body spells, or the first thing that is wrong in it. The version takes the body as it is.
 pub(crate) fn read_version(
     alloc: Global,
     rt: &impl RandomSource,

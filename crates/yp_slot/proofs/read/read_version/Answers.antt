@@ -1,6 +1,5 @@
 use Rattle.std.proofs.Common.{◌≡◌, ap, sym, subst, ◌∙◌, Ok, List, ℕ, ◌≤◌, length}
 use Rattle.yp_xdr.specs.Reading.{IsBytes}
-use Rattle.yp_version.specs.Bodies.{IsBody}
 use Rattle.yp_version.specs.Limits.{body_max}
 use Rattle.yp_version.specs.Versions.{MapVersion}
 use Rattle.yp_version.specs.Stored.{IsStored, row_places}
