@@ -16,8 +16,6 @@ use Rattle.yp_version.specs.Rows.{Row, IsRising, key_cmp, value_of}
 use Rattle.yp_version.specs.Drafts.{Draft, with_new, with_row, with_rows, refused, refused_from, first_refused}
 use Rattle.yp_version.specs.declared.builder.VersionFault.{VersionFault}
 use Rattle.yp_version.specs.declared.builder.VersionFault.TheVariants.{KeyLong, ValueLong, TooManyRows, TooBig, NoMemory}
-use Rattle.yp_version.proofs.Drafted.{keys_of-push}
-use Rattle.yp_version.proofs.Rising.{rising_none}
 use Rattle.yp_revnet.specs.declared.field.Field.{Field}
 use Rattle.yp_revnet.specs.declared.fault.RevFault.{RevFault}
 use Rattle.yp_revnet.specs.Reverse.{IsListed, IsReversed, IsReverse}
@@ -29,6 +27,14 @@ abbrev Name : Type 0
 Name = List ℕ
 
 -- ---- keys in order
+
+keys_of-push : (rows : List Row) (row : Row) → keys_of (rows ++ row ∷ []) ≡ keys_of rows ++ row.0 ∷ []
+keys_of-push [] row = refl
+keys_of-push (other ∷ rows) row = ap (λ keys. other.0 ∷ keys) (keys_of-push rows row)
+
+rising_none : IsRising []
+unfolding IsStrictlySortedBy
+rising_none = tt
 
 all_at : (P : Name → Type 0) (names : List Name) (name : Name) → AllByRecursion P names → Contains names name → P name
 all_at P [] name all h = absurd (contains-none name h)

@@ -35,13 +35,13 @@ link_names : (listings : List Listing) → map name_of_link (map link_of listing
 link_names [] = refl
 link_names (first ∷ listings) = ap (λ names. first.key.items ∷ names) (link_names listings)
 
-pub listed_key : (rows : List Row) (rising : IsRising rows) (field : Field) (listings : List Listing) (keys : List Name)
+pub listed_key : (rows : List Row) (field : Field) (listings : List Listing) (keys : List Name)
     → map link_of listings ≡ listing field rows
     → ((name : Name) → Contains keys name ↔ Contains (map (λ (listing : Listing). listing.key.items) listings) name)
     → (key group : Name) → IsListed rows field key group → Contains keys key
-listed_key rows rising field listings keys are all key group listed =
+listed_key rows field listings keys are all key group listed =
     let via = listed.has.via in
-    let link = names_link rows rising (key_in field) key via (key_picked field key (members_of rows via) listed.has.listed) in
+    let link = names_link rows (key_in field) key via (key_picked field key (members_of rows via) listed.has.listed) in
     let named = source_name key via (listing field rows) link in
     (all key).1 (subst (λ names. Contains names key) (sym (ap (map name_of_link) are) ∙ link_names listings) named)
 
@@ -69,7 +69,7 @@ module _ (rows : List Row) (field : Field) (listings lent : List Listing) (risin
       subst (λ names. (name : Name) → Contains (bytes_in sorted) name ↔ Contains names name)
       (puts ∙ ap (map (λ (listing : Listing). listing.key.items)) same_again) moved in
       subst (λ names. Contains (bytes_in names) key) (sym same_read)
-      (listed_key rows rising field listings (bytes_in sorted) are from key group listed)
+      (listed_key rows field listings (bytes_in sorted) are from key group listed)
 
 pub sorted_keys : (sorted read : List (Bor (List ℕ))) → read ≡ sorted → IsStrictlySortedBy key_cmp (bytes_in sorted)
     → IsStrictlySortedBy key_cmp (bytes_in read)

@@ -8,9 +8,7 @@ use Rattle.std.specs.Map.{keys_of, lookup}
 use Rattle.std.proofs.lemmas.Cmp.{nat_list_eq_equiv}
 use Rattle.std.proofs.lemmas.List.Elements.{Contains-append_left, Contains-append_right, Contains-append_cases}
 use Rattle.std.proofs.lemmas.Map.Views.{lookup-from_Contains}
-use Rattle.yp_version.specs.Rows.{Row, IsRising, key_cmp, value_of}
-use Rattle.yp_version.proofs.Keys.{eq_flip}
-use Rattle.yp_version.proofs.Unique.{rising_is_distinct}
+use Rattle.yp_version.specs.Rows.{Row, HasDistinctKeys, key_cmp, value_of}
 use Rattle.yp_netgroup.specs.Parts.{Part, Triple, Includes, Lists, parts, names, triples, name_of, triple_in_part}
 use Rattle.yp_netgroup.specs.Reach.{Names, Reaches, Itself, Onward, members_of}
 use Rattle.yp_revnet.specs.declared.field.Field.{Field}
@@ -136,19 +134,23 @@ key_picked field key members h =
 
 -- ---- what leads to a key
 
-module _ (rows : List Row) (rising : IsRising rows) where
-  text_is : (group text : Name) → Contains rows (group, text) → members_of rows group ≡ parts text
-  text_is group text h =
+-- the test of a key may have its names the other way round
+eq_flip : (key : Name) → (λ other. bytes_eq other key) ≡ bytes_eq key
+eq_flip key i other = nat_list_eq_equiv.symm other key i
+
+module _ (rows : List Row) where
+  text_is : HasDistinctKeys rows → (group text : Name) → Contains rows (group, text) → members_of rows group ≡ parts text
+  text_is distinct group text h =
       let value : value_of group rows ≡ Some text =
-      ap (λ test. lookup test rows) (eq_flip group)
-      ∙ lookup-from_Contains nat_list_eq_equiv group text rows (rising_is_distinct rows rising) h in
+      ap (λ test. lookup test rows) (eq_flip group) ∙ lookup-from_Contains nat_list_eq_equiv group text rows distinct h in
       ap (λ v. parts (unwrap_or v [])) value
 
-  link_names : (pick : Part → Option Name) (name group : Name) → Contains (sources name (flat_map (links_of pick) rows)) group
+  link_names : HasDistinctKeys rows → (pick : Part → Option Name) (name group : Name)
+      → Contains (sources name (flat_map (links_of pick) rows)) group
       → Contains (filter_map pick (members_of rows group)) name
-  link_names pick name group h =
+  link_names distinct pick name group h =
       let at = linked pick rows name group h in
-      subst (λ members. Contains (filter_map pick members) name) (sym (text_is group at.text at.row)) at.has
+      subst (λ members. Contains (filter_map pick members) name) (sym (text_is distinct group at.text at.row)) at.has
 
   value_links : (pick : Part → Option Name) (name group : Name) (value : Option Name) → value_of group rows ≡ value
       → Contains (filter_map pick (parts (unwrap_or value []))) name → Contains (sources name (flat_map (links_of pick) rows)) group
@@ -171,20 +173,20 @@ module _ (rows : List Row) (rising : IsRising rows) where
   reaches_front group name via named Itself = Onward Itself named
   reaches_front group name via named (Onward {via = mid} reached last) = Onward (reaches_front group name mid named reached) last
 
-  module _ (field : Field) (key : Name) (under : Name → List Name) (starts : List Name)
+  module _ (distinct : HasDistinctKeys rows) (field : Field) (key : Name) (under : Name → List Name) (starts : List Name)
       (are : (name : Name) → under name ≡ sources name (naming rows)) (begin : starts ≡ sources key (listing field rows)) where
     leads_has : (group : Name) → Leads under starts group → HasKey rows field key group
     leads_has group (Start h) = record {
       via = group;
       reached = Itself;
       listed = picked_key field key (members_of rows group)
-          (link_names (key_in field) key group (subst (λ groups. Contains groups group) begin h));
+          (link_names distinct (key_in field) key group (subst (λ groups. Contains groups group) begin h));
     }
     leads_has group (Back {via} led below) =
         let has = leads_has via led in record {
           via = has.via;
           reached = reaches_front group via has.via
-              (link_names name_of via group (subst (λ groups. Contains groups group) (are via) below)) has.reached;
+              (link_names distinct name_of via group (subst (λ groups. Contains groups group) (are via) below)) has.reached;
           listed = has.listed;
         }
 

@@ -15,6 +15,7 @@ use crate::rising::rising;
 use std::alloc::Global;
 use std::random::RandomSource;
 use yp_io::NoMemory;
+use yp_version::laws::rising_is_distinct;
 
 // A byte of a name.
 fn is_name_byte(byte: u8) -> bool
@@ -59,6 +60,7 @@ pub(crate) fn groups_of<'a>(
     ensures { IfOk result (λ groups. (rows : List Row) (field : Field) → IsKeptOf rows field named.now listed.now
         → IsGroups rows field key.now (bytes_in groups.items)) }
 {
+    rising_is_distinct();
     let seen = leading(alloc, rt, named, listed, key)?;
     Ok(rising(spelled(alloc, &seen)?))
 }

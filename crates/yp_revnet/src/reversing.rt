@@ -15,6 +15,7 @@ use crate::rising::rising;
 use crate::rows::put_row;
 use std::alloc::Global;
 use std::random::RandomSource;
+use yp_version::laws::rising_stays;
 use yp_version::{Version, VersionBuilder};
 
 /// The reverse of a netgroup map: for each user, or host, and domain of a triple the groups that reach it.
@@ -37,6 +38,7 @@ pub fn reverse(
     ensures fits { IfOk result (λ version. first_refused (empty_draft order master.now) version.rows ≡ None) }
     ensures cause { IfErr result (λ fault. IsCause netgroup.now.rows field (empty_draft order master.now) fault) }
 {
+    rising_stays();
     let named = naming(alloc, rt, netgroup)?;
     let listings = field.listings(alloc, netgroup)?;
     let listed = listed(alloc, rt, &listings)?;

@@ -155,6 +155,66 @@ const fn look_up(
     }
 }
 
+// Look-ups in the reverses of the cases above.
+const LOOK_UPS: [Asked; 8] = [
+    look_up(
+        CASES[0].groups,
+        Field::User,
+        (b"a", b"joe", b"lab"),
+        true,
+        true,
+    ),
+    look_up(
+        CASES[0].groups,
+        Field::User,
+        (b"c", b"joe", b"lab"),
+        false,
+        false,
+    ),
+    look_up(
+        CASES[0].groups,
+        Field::Host,
+        (b"a", b"h", b"lab"),
+        false,
+        false,
+    ),
+    look_up(
+        CASES[1].groups,
+        Field::Host,
+        (b"g", b"H1", b"LAB"),
+        true,
+        true,
+    ),
+    look_up(
+        CASES[1].groups,
+        Field::User,
+        (b"g", b"Ann", b"dom"),
+        false,
+        false,
+    ),
+    look_up(
+        CASES[1].groups,
+        Field::User,
+        (b"g", b"Ann", b"lab"),
+        true,
+        true,
+    ),
+    look_up(
+        CASES[2].groups,
+        Field::Host,
+        (b"g", b"a.b", b"c"),
+        true,
+        false,
+    ),
+    look_up(
+        CASES[5].groups,
+        Field::Host,
+        (b"z", b"h", b"lab"),
+        true,
+        false,
+    ),
+];
+
 // Whether somebody is listed in the reverse, and whether they are a member.
 fn looked_up<R: RandomSource>(
     rt: &R,
@@ -191,65 +251,7 @@ fn looked_up<R: RandomSource>(
 #[test]
 fn looked_up_by_hand(rt: HostRuntime) {
     let alloc = rt.alloc();
-    let table: [Asked; 8] = [
-        look_up(
-            CASES[0].groups,
-            Field::User,
-            (b"a", b"joe", b"lab"),
-            true,
-            true,
-        ),
-        look_up(
-            CASES[0].groups,
-            Field::User,
-            (b"c", b"joe", b"lab"),
-            false,
-            false,
-        ),
-        look_up(
-            CASES[0].groups,
-            Field::Host,
-            (b"a", b"h", b"lab"),
-            false,
-            false,
-        ),
-        look_up(
-            CASES[1].groups,
-            Field::Host,
-            (b"g", b"H1", b"LAB"),
-            true,
-            true,
-        ),
-        look_up(
-            CASES[1].groups,
-            Field::User,
-            (b"g", b"Ann", b"dom"),
-            false,
-            false,
-        ),
-        look_up(
-            CASES[1].groups,
-            Field::User,
-            (b"g", b"Ann", b"lab"),
-            true,
-            true,
-        ),
-        look_up(
-            CASES[2].groups,
-            Field::Host,
-            (b"g", b"a.b", b"c"),
-            true,
-            false,
-        ),
-        look_up(
-            CASES[5].groups,
-            Field::Host,
-            (b"z", b"h", b"lab"),
-            true,
-            false,
-        ),
-    ];
-    for asked in &table {
+    for asked in &LOOK_UPS {
         let netgroup = version(&rt, alloc, asked.groups);
         let came = looked_up(&rt, alloc, &netgroup, asked);
         let wanted = (Some(asked.listed), Some(asked.member));

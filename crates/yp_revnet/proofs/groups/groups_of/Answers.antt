@@ -11,5 +11,5 @@ returns g c = λ rows field kept.
     let groups = bytes_in c.rising.result.items in
     let same : (name : List ℕ) → Contains groups name ↔ Contains (filter is_name seen) name =
     subst (λ names. (name : List ℕ) → Contains groups name ↔ Contains names name) c.in_ok-spelled.ensures c.rising.ensures.same in
-    leading_groups rows kept.rising field c.args.key.now (under c.args.named.now) (under c.args.listed.now c.args.key.now)
-    kept.by_name (kept.by_key c.args.key.now) seen groups c.in_ok-seen.ensures c.rising.ensures.rising same
+    leading_groups rows (c.rising_is_distinct.ensures rows kept.rising) field c.args.key.now (under c.args.named.now)
+    (under c.args.listed.now c.args.key.now) kept.by_name (kept.by_key c.args.key.now) seen groups c.in_ok-seen.ensures c.rising.ensures.rising same

@@ -5,7 +5,6 @@ use Rattle.std.proofs.lemmas.List.{length-map}
 use Rattle.yp_version.specs.Rows.{listed}
 use Rattle.yp_version.specs.Drafts.{Draft, first_refused, empty_draft}
 use Rattle.yp_version.specs.Versions.{MapVersion, unmarked}
-use Rattle.yp_version.proofs.Unique.{rising_stays}
 use Rattle.yp_revnet.specs.declared.fault.RevFault.{RevFault}
 use Rattle.yp_revnet.specs.Links.{bytes_in}
 use Rattle.yp_revnet.specs.Reverse.{IsReverse}
@@ -85,7 +84,7 @@ returns-clause-reverse g c =
     c.deref-2.ensures.value c.in_ok-keys_of.ensures c.deref-key-items.ensures.value c.rising-keys.ensures.same in
     let over : length keys ≤ i = omega (arith, c.loop-key-test.false, length-map lent bytes) in
     let same : c.in_ok-finish.field-0.rows ≡ c.loop-key.builder.rows =
-    ap (λ (version : MapVersion). version.rows) c.in_ok-finish.ensures ∙ rising_stays c.loop-key.builder.rows is.rising in
+    ap (λ (version : MapVersion). version.rows) c.in_ok-finish.ensures ∙ c.rising_stays.ensures c.loop-key.builder.rows is.rising in
     subst (IsReverse rows field) (sym same)
     (so_far-whole rows field start c.loop-key.builder keys
     (subst (IsSoFar rows field start c.loop-key.builder) (take_whole keys i over) is) all)
@@ -103,5 +102,5 @@ pub returns-clause-fits : goal.returns-clause-fits
 returns-clause-fits g c =
     let is = c.loop-key.invariant in
     let same : c.in_ok-finish.field-0.rows ≡ c.loop-key.builder.rows =
-    ap (λ (version : MapVersion). version.rows) c.in_ok-finish.ensures ∙ rising_stays c.loop-key.builder.rows is.rising in
+    ap (λ (version : MapVersion). version.rows) c.in_ok-finish.ensures ∙ c.rising_stays.ensures c.loop-key.builder.rows is.rising in
     ap (first_refused (empty_draft c.args.order c.args.master.now)) same ∙ is.taken
