@@ -20,7 +20,7 @@ fn address_of(port: u16) -> SocketAddrV4 {
 }
 
 // A port that was just left.
-fn left_port(net: &impl Net<Listener = TcpListener>) -> io::Result<u16> {
+fn left_port(net: &impl Net<Stream = TcpStream, Listener = TcpListener>) -> io::Result<u16> {
     let listener = TcpListener::bind(net, address_of(0))?;
     Ok(listener.local_addr()?.port())
 }
@@ -42,7 +42,7 @@ fn hear<L: Listen>(listen: &mut L) -> Heard {
     }
 }
 
-fn hear_three<L: Listen>(mut listen: L) -> [Heard; 3] {
+fn hear_three<L: Listen + Drop>(mut listen: L) -> [Heard; 3] {
     [hear(&mut listen), hear(&mut listen), hear(&mut listen)]
 }
 
