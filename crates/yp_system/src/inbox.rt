@@ -103,7 +103,7 @@ fn send_from(socket: &UdpSocket, to: Peer, piece: &[u8]) -> io::Result<()> {
     Err(ErrorKind::TimedOut.into())
 }
 
-fn peer_of(address: &SocketAddrV4) -> Peer
+pub(crate) fn peer_of(address: &SocketAddrV4) -> Peer
     ensures addr { result.addr ≡ ipv4_octets (v4_ip address.now) }
     ensures port { result.port ≡ v4_port address.now }
 {

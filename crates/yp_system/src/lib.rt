@@ -1,15 +1,16 @@
-//! The real outside of the program: standard streams, files, the clock, connections over TCP, datagrams at
-//! a port, and texts in a folder.
+//! The real outside of the program: standard streams, files, the clock, connections over TCP, dialed and accepted,
+//! datagrams at a port, and texts in a folder.
 //!
-//! Each is proved to keep the trait of `yp_io` that it stands for. Which bytes the system gives them no contract says,
-//! so they are done with care: a failed sync is never trusted again, a file has one writer, and each wire that is
-//! dialed has a limit of time.
+//! Each is proved to keep the trait of `yp_io` or `yp_listen` that it stands for. Which bytes the system gives them no
+//! contract says, so they are done with care: a failed sync is never trusted again, a file has one writer, and each
+//! wire that is dialed or accepted has a limit of time.
 #![tactic(auto)]
 
 mod clock;
 mod dial;
 mod disk;
 mod inbox;
+mod listen;
 mod locked;
 mod patient;
 mod streams;
@@ -20,6 +21,7 @@ pub use clock::SystemClock;
 pub use dial::{TcpDial, TcpWire};
 pub use disk::FileDisk;
 pub use inbox::{TURN_SECONDS, UdpInbox};
+pub use listen::{SILENCE_SECONDS, TcpCall, TcpListen};
 pub use locked::{LockedFile, Locking, MapFile};
 pub use patient::Patient;
 pub use streams::{BlockReader, DirectWriter, StandardStream};

@@ -1,0 +1,222 @@
+//! What lies under the lock.
+
+ghost use Rattle.std.specs.Prelude.{◌≡◌, ◌<◌, false, length, option_map, OnOk, OnErr, IfErr, None};
+ghost use Rattle.std.specs.Arc.{arc_value};
+ghost use Rattle.std.specs.Option.{option_map_or};
+ghost use Rattle.yp_board.specs.Logs.{shown};
+ghost use Rattle.yp_board.specs.Views.{IsFront};
+ghost use Rattle.yp_publish.specs.Standing.{Level, OfMap};
+ghost use Rattle.yp_publish.specs.Installs.{Installs, not_following};
+ghost use Rattle.yp_publish.specs.Keeping.{keeping_of};
+ghost use Rattle.yp_publish.specs.Rising.{with_shown};
+ghost use Rattle.yp_shared.specs.Shares.{offer_behind, OpensAndInstalls, IsNotInstalled, IsRefused, IsShownBehind};
+ghost use Rattle.yp_shared.specs.Shares.{IsReason, Learns};
+
+use std::alloc::Global;
+use std::marker::{Brand, Model, PhantomData};
+use std::random::RandomSource;
+use std::sync::Arc;
+use yp_board::{Show, Tell};
+use yp_io::{Disk, NoMemory};
+use yp_publish::{InstallFault, Origin, Publisher};
+use yp_slot::SlotFault;
+use yp_version::Version;
+
+/// Which maps are served. Each call of a program that shares a publisher picks it.
+pub trait Site {
+    ghost use Rattle.yp_board.specs.Catalogues.{Catalogue};
+
+    /// The own name, and the maps.
+    ghost catalogue: { Catalogue };
+}
+
+impl Site for Brand {
+    ghost use Rattle.std.specs.Prelude.{[]};
+
+    ghost catalogue = { record { own = []; maps = [] } };
+}
+
+/// Why a version wasn't installed, or why the reader doesn't know it.
+#[derive(Debug, PartialEq, Eq, Drop)]
+pub enum ShareFault {
+    /// The file of the map, which is behind, wasn't opened again.
+    Shut(SlotFault),
+    /// The version was refused.
+    Unfit(InstallFault),
+    /// Whatever came of it, memory ran out while the reader was told.
+    Untold,
+}
+
+/// A publisher of the maps that are served, for a lock to keep. It is seen as that publisher.
+#[derive(Drop)]
+pub struct Locked<S: Site, D: Disk, B: Show> {
+    publisher: Publisher<D, B>,
+    of: PhantomData<S>,
+}
+
+impl<S: Site, D: Disk, B: Show> Model for Locked<S, D, B> {
+    ghost use Rattle.std.specs.Prelude.{◌≡◌};
+    ghost use Rattle.yp_publish.specs.Standing.{Published};
+
+    ghost Value = { Published D B };
+
+    ghost view = { λ l. l.publisher };
+
+    ghost invariant = { λ l. l.publisher.catalogue ≡ S.catalogue };
+}
+
+impl<S: Site, D: Disk, B: Show> Locked<S, D, B> {
+    /// A publisher of the maps that are served.
+    pub fn new(publisher: Publisher<D, B>) -> Locked<S, D, B>
+        requires { publisher.catalogue ≡ S.catalogue }
+        ensures { result ≡ publisher }
+    {
+        Locked {
+            publisher,
+            of: PhantomData,
+        }
+    }
+
+    /// The publisher, once the lock is left.
+    pub fn into_publisher(self) -> Publisher<D, B>
+        ensures publisher { result ≡ self }
+        ensures catalogue { result.catalogue ≡ S.catalogue }
+    {
+        self.publisher
+    }
+
+    /// Stores a version of a map, and then shows it. A map that is behind is opened again first. The version is marked
+    /// as the one that is shown then, and has to have a higher order. At each moment of the call a crash leaves a file
+    /// that stands as the map stood, or for that version.
+    pub fn install(
+        &mut self,
+        alloc: Global,
+        rt: &impl RandomSource,
+        map: u32,
+        version: Version,
+        origin: Origin,
+    ) -> Result<(), ShareFault>
+        requires { map < length S.catalogue.maps }
+        ensures installed { OnOk result (OpensAndInstalls (keeping_of D.history D.faults B.log) map version origin
+            self.old self.new) }
+        ensures refused { IfErr result (λ fault. IsNotInstalled (keeping_of D.history D.faults B.log) map version
+            origin fault self.old self.new) }
+
+        // What that is to the log.
+        ensures shown { OnOk result (IsShownBehind S.catalogue.own map version origin
+            (B.log self.old.board) (B.log self.new.board)) }
+        ensures reason { IfErr result (λ fault. IsReason S.catalogue.own map version origin fault
+            (B.log self.new.board)) }
+        ensures grown { IsFront (B.log self.old.board) (B.log self.new.board) }
+    {
+        let _catalog = self.publisher.catalog();
+        open_and_offer(alloc, rt, &mut self.publisher, map, version, origin)
+    }
+}
+
+impl<S: Site, D: Disk, B: Tell> Locked<S, D, B> {
+    /// Lets a reader of the board know all that was shown. After a refusal nothing has changed.
+    pub fn tell_to(&mut self, reader: &mut B::Reader) -> Result<(), NoMemory>
+        ensures same { self.new ≡ self.old }
+        ensures front { IsFront (B.Reader.seen reader.old).known (B.log self.old.board) }
+        ensures told { OnOk result (B.Reader.seen reader.new
+            ≡ record (B.Reader.seen reader.old) { known = B.log self.old.board }) }
+        ensures refused { OnErr result (reader.new ≡ reader.old) }
+    {
+        self.publisher.tell_to(reader)
+    }
+
+    /// Installs a version as [`Locked::install`] does, and lets a reader of the board know what was shown.
+    #[tactic(auto, using(crate::proofs::Learning::learned))]
+    pub fn install_for(
+        &mut self,
+        alloc: Global,
+        rt: &impl RandomSource,
+        reader: &mut B::Reader,
+        map: u32,
+        version: Version,
+        origin: Origin,
+    ) -> Result<(), ShareFault>
+        requires { map < length S.catalogue.maps }
+        ensures shown { OnOk result (IsShownBehind S.catalogue.own map version origin
+            (B.Reader.seen reader.old).known (B.Reader.seen reader.new).known) }
+        ensures reason { IfErr result (λ fault. IsReason S.catalogue.own map version origin fault
+            (B.Reader.seen reader.new).known) }
+        ensures learned { Learns (B.Reader.seen reader.old) (B.Reader.seen reader.new) }
+    {
+        // It needn't know what was shown before, but that this begins with all that it knows.
+        let _ = self.tell_to(reader);
+        let installed = self.install(alloc, rt, map, version, origin);
+        match self.tell_to(reader) {
+            Ok(()) => installed,
+            Err(NoMemory) => Err(ShareFault::Untold),
+        }
+    }
+}
+
+/// Opens the file of a map again where it is behind, and offers a version of it, marked as the one that is shown.
+fn open_and_offer<D: Disk, B: Show>(
+    alloc: Global,
+    rt: &impl RandomSource,
+    publisher: &mut Publisher<D, B>,
+    map: u32,
+    version: Version,
+    origin: Origin,
+) -> Result<(), ShareFault>
+    requires { map < length publisher.old.maps }
+    ensures installed { OnOk result (OpensAndInstalls (keeping_of D.history D.faults B.log) map version origin
+        publisher.old publisher.new) }
+    ensures refused { IfErr result (λ fault. IsNotInstalled (keeping_of D.history D.faults B.log) map version origin
+        fault publisher.old publisher.new) }
+    ensures shown { OnOk result (IsShownBehind publisher.old.catalogue.own map version origin
+        (B.log publisher.old.board) (B.log publisher.new.board)) }
+    ensures reason { IfErr result (λ fault. IsReason publisher.old.catalogue.own map version origin fault
+        (B.log publisher.new.board)) }
+    ensures grown { IsFront (B.log publisher.old.board) (B.log publisher.new.board) }
+    ensures catalogue { publisher.new.catalogue ≡ publisher.old.catalogue }
+{
+    match publisher.reopen(alloc, rt, map) {
+        Ok(()) => offer(alloc, publisher, map, version, origin),
+        Err(fault) => Err(ShareFault::Shut(fault)),
+    }
+}
+
+/// Offers a version of a level map, marked as the one that is shown.
+#[tactic(auto, using(crate::proofs::Installing::unshown))]
+fn offer<D: Disk, B: Show>(
+    alloc: Global,
+    publisher: &mut Publisher<D, B>,
+    map: u32,
+    version: Version,
+    origin: Origin,
+) -> Result<(), ShareFault>
+    requires map { map < length publisher.old.maps }
+    requires level { OfMap map publisher.old.maps (λ kept. kept.standing ≡ Level) }
+    ensures installed { OnOk result (Installs (keeping_of D.history D.faults B.log) map
+        (offer_behind map version origin (B.log publisher.old.board)) publisher.old publisher.new) }
+    ensures refused { IfErr result (λ fault. IsRefused (keeping_of D.history D.faults B.log) map
+        (offer_behind map version origin (B.log publisher.old.board)) fault publisher.old publisher.new) }
+    ensures follows { OnOk result (not_following publisher.old.catalogue.own
+        (offer_behind map version origin (B.log publisher.old.board)) (shown map (B.log publisher.old.board)) ≡ None) }
+    ensures reason { IfErr result (λ fault. IsReason publisher.old.catalogue.own map version origin fault
+        (B.log publisher.old.board)) }
+    ensures unshown { OnErr result (publisher.new.board ≡ publisher.old.board) }
+    ensures catalogue { publisher.new.catalogue ≡ publisher.old.catalogue }
+{
+    let secure = was_secure(publisher.shown(map));
+    match publisher.install(alloc, map, version.marked(secure), origin, false) {
+        Ok(_) => Ok(()),
+        Err(fault) => Err(ShareFault::Unfit(fault)),
+    }
+}
+
+/// Whether the version that is shown is secure, and no where none is.
+fn was_secure(shown: Option<&Arc<Version>>) -> bool
+    ensures { result ≡ option_map_or (λ version. version.secure)
+        (option_map (λ version. arc_value version.now) shown.entry) false }
+{
+    match shown {
+        Some(version) => version.secure(),
+        None => false,
+    }
+}

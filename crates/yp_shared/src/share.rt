@@ -1,0 +1,52 @@
+//! The calls that take the lock.
+
+ghost use Rattle.std.specs.Prelude.{◌≡◌, ◌<◌, length, OnOk, OnErr, IfErr};
+ghost use Rattle.yp_shared.specs.Shares.{IsShownBehind, IsReason, Learns};
+
+use crate::locked::{Locked, ShareFault, Site};
+use std::alloc::Global;
+use std::random::RandomSource;
+use std::sync::{Mutex, Wait};
+use yp_board::Tell;
+use yp_io::{Disk, NoMemory};
+use yp_publish::Origin;
+use yp_version::Version;
+
+/// Stores a version of a map and shows it, in any thread, and lets the caller's reader know it. It waits for the lock,
+/// and for readers that are inside a read step.
+///
+/// The version is shown behind all that the reader knew. Where it isn't, the reader knows why, or memory ran out, or
+/// the map's file failed.
+pub fn install_shared<S: Site, D: Disk, B: Tell, R: RandomSource + Wait>(
+    alloc: Global,
+    rt: &R,
+    shared: &Mutex<Locked<S, D, B>>,
+    reader: &mut B::Reader,
+    map: u32,
+    version: Version,
+    origin: Origin,
+) -> Result<(), ShareFault>
+    requires { map < length S.catalogue.maps }
+    ensures shown { OnOk result (IsShownBehind S.catalogue.own map version origin
+        (B.Reader.seen reader.old).known (B.Reader.seen reader.new).known) }
+    ensures reason { IfErr result (λ fault. IsReason S.catalogue.own map version origin fault
+        (B.Reader.seen reader.new).known) }
+    ensures learned { Learns (B.Reader.seen reader.old) (B.Reader.seen reader.new) }
+{
+    let mut locked = shared.lock(rt);
+    locked.install_for(alloc, rt, reader, map, version, origin)
+}
+
+/// Lets a reader of the board know all that was shown, in any thread. It waits for the lock. After a refusal the reader
+/// is as it was.
+pub fn tell_shared<S: Site, D: Disk, B: Tell, R: Wait>(
+    rt: &R,
+    shared: &Mutex<Locked<S, D, B>>,
+    reader: &mut B::Reader,
+) -> Result<(), NoMemory>
+    ensures learned { Learns (B.Reader.seen reader.old) (B.Reader.seen reader.new) }
+    ensures refused { OnErr result (reader.new ≡ reader.old) }
+{
+    let mut locked = shared.lock(rt);
+    locked.tell_to(reader)
+}

@@ -1,0 +1,9 @@
+//! Tests of `yp_shared`.
+#![tactic(auto)]
+
+#[cfg(test)]
+mod given;
+#[cfg(test)]
+mod learning;
+#[cfg(test)]
+mod threads;

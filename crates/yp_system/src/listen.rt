@@ -1,0 +1,215 @@
+//! Connections that are accepted at a port of the system.
+
+ghost use Rattle.std.specs.Prelude.{◌≡◌, ◌≤◌, None, IfOk, IfSome};
+ghost use Rattle.std.specs.Net.Addr.{ipv4_octets};
+ghost use Rattle.std.specs.Net.Socket.{v4_ip, v4_port};
+ghost use Rattle.yp_io.specs.Dials.{IsFresh};
+ghost use Rattle.yp_io.specs.Counts.{next_count};
+ghost use Rattle.yp_listen.specs.Calls.{IsFreshCall, Returns, ended_by};
+
+use crate::dial::TcpWire;
+use crate::inbox::peer_of;
+use crate::streams::{BlockReader, DirectWriter};
+use std::alloc::Global;
+use std::io::ErrorKind;
+use std::net::{Ipv4Addr, Net, SocketAddr, SocketAddrV4, TcpListener, TcpStream};
+use std::time::Duration;
+use std::{io, rt, thread};
+use yp_io::{Failed, Pair, Sink, Source, count_fault};
+use yp_listen::{Arrival, Called, Listen};
+
+/// How long an accepted connection may bring no byte, or take none, in seconds. Then it fails, so that a silent caller
+/// keeps nobody waiting for longer.
+pub const SILENCE_SECONDS: u64 = 10;
+
+// How often an accept is tried that fails for one caller alone or for a moment, as where descriptors are short.
+const TRIES: u32 = 100;
+
+// How long it pauses behind each such try, in milliseconds.
+const PAUSE_MILLIS: u64 = 100;
+
+/// A connection that was accepted by TCP, and its caller.
+pub type TcpCall = Called<BlockReader<TcpStream>, DirectWriter<TcpStream>>;
+
+/// A port of TCP over IPv4, on every address of this machine. It is opened at the first call, so that a command that
+/// has no use for it opens nothing, and a port that can't be opened is a fault of that call. A port that another
+/// program has just left can be opened. It tells nothing of its connections.
+#[derive(Drop)]
+pub struct TcpListen<R> {
+    alloc: Global,
+    system: R,
+    port: u16,
+    listener: Option<TcpListener>,
+    most: u32,
+    accepted: u32,
+    returned: u64,
+    faults: u64,
+    silence: Duration,
+    ghost within: { accepted ≤ most },
+}
+
+impl<R: Net<Stream = TcpStream, Listener = TcpListener> + rt::Clock> TcpListen<R> {
+    /// What accepts so many connections at a port. Nothing is opened yet.
+    pub fn new(alloc: Global, system: R, port: u16, most: u32) -> TcpListen<R>
+        ensures accepted { ⟦<TcpListen<R> as Listen>⟧.accepted result ≡ 0 }
+        ensures most { ⟦<TcpListen<R> as Listen>⟧.most result ≡ most }
+        ensures faults { ⟦<TcpListen<R> as Listen>⟧.faults result ≡ 0 }
+    {
+        TcpListen::with_silence(
+            alloc,
+            system,
+            port,
+            most,
+            Duration::from_secs(SILENCE_SECONDS),
+        )
+    }
+
+    /// The same with a limit of its own for silence.
+    pub fn with_silence(
+        alloc: Global,
+        system: R,
+        port: u16,
+        most: u32,
+        silence: Duration,
+    ) -> TcpListen<R>
+        ensures accepted { ⟦<TcpListen<R> as Listen>⟧.accepted result ≡ 0 }
+        ensures most { ⟦<TcpListen<R> as Listen>⟧.most result ≡ most }
+        ensures faults { ⟦<TcpListen<R> as Listen>⟧.faults result ≡ 0 }
+    {
+        TcpListen {
+            alloc,
+            system,
+            port,
+            listener: None,
+            most,
+            accepted: 0,
+            returned: 0,
+            faults: 0,
+            silence,
+        }
+    }
+}
+
+// The listener of a port, which the first call opens.
+fn opened<'a, R: Net<Stream = TcpStream, Listener = TcpListener>>(
+    net: &R,
+    port: u16,
+    listener: &'a mut Option<TcpListener>,
+) -> io::Result<&'a TcpListener> {
+    if listener.is_none() {
+        let address = SocketAddrV4::new(Ipv4Addr::UNSPECIFIED, port);
+        *listener = Some(TcpListener::bind(net, address)?);
+    }
+    listener.as_ref().ok_or(ErrorKind::NotConnected.into())
+}
+
+// The wire of a connection. What is written goes out at once, since each reply is awaited.
+fn wire_of(alloc: Global, stream: TcpStream, silence: Duration) -> io::Result<TcpWire>
+    ensures { IfOk result (λ wire. IsFresh
+        (⟦<BlockReader<TcpStream> as Source>⟧.faults wire.source)
+        (⟦<DirectWriter<TcpStream> as Sink>⟧.faults wire.sink)
+        (⟦<DirectWriter<TcpStream> as Sink>⟧.output wire.sink)) }
+{
+    stream.set_nodelay(true)?;
+    stream.set_read_timeout(Some(silence))?;
+    stream.set_write_timeout(Some(silence))?;
+    let Ok(source) = BlockReader::new(alloc, stream.try_clone()?) else {
+        return Err(ErrorKind::OutOfMemory.into());
+    };
+    Ok(Pair {
+        source,
+        sink: DirectWriter::new(stream),
+    })
+}
+
+// Accepts one connection. A caller of which no wire can be made is let go.
+fn accept_one(alloc: Global, listener: &TcpListener, silence: Duration) -> io::Result<TcpCall>
+    ensures { IfOk result (IsFreshCall
+        (⟦<BlockReader<TcpStream> as Source>⟧.faults)
+        (⟦<DirectWriter<TcpStream> as Sink>⟧.faults)
+        (⟦<DirectWriter<TcpStream> as Sink>⟧.output)) }
+{
+    match listener.accept()? {
+        (stream, SocketAddr::V4(from)) => {
+            let wire = wire_of(alloc, stream, silence)?;
+            let peer = peer_of(&from);
+            Ok(Called { peer, wire })
+        }
+        (_, SocketAddr::V6(_)) => Err(ErrorKind::Unsupported.into()),
+    }
+}
+
+// Accepts the next connection that can be, and pauses behind each that can't.
+fn accept_next<R: rt::Clock>(
+    alloc: Global,
+    system: &R,
+    listener: &TcpListener,
+    silence: Duration,
+) -> Option<TcpCall>
+    ensures { IfSome result (IsFreshCall
+        (⟦<BlockReader<TcpStream> as Source>⟧.faults)
+        (⟦<DirectWriter<TcpStream> as Sink>⟧.faults)
+        (⟦<DirectWriter<TcpStream> as Sink>⟧.output)) }
+{
+    for _ in 0..TRIES {
+        match accept_one(alloc, listener, silence) {
+            Ok(call) => return Some(call),
+            Err(_) => thread::sleep(system, Duration::from_millis(PAUSE_MILLIS)),
+        }
+    }
+    None
+}
+
+impl<R: Net<Stream = TcpStream, Listener = TcpListener> + rt::Clock> Listen for TcpListen<R> {
+    type In = BlockReader<TcpStream>;
+
+    type Out = DirectWriter<TcpStream>;
+
+    ghost past = { λ _. None };
+
+    ghost most = { λ l. l.most };
+
+    ghost accepted = { λ l. l.accepted };
+
+    ghost returned = { λ l. l.returned };
+
+    ghost faults = { λ l. l.faults };
+
+    fn accept(
+        &mut self,
+    ) -> Result<Arrival<BlockReader<TcpStream>, DirectWriter<TcpStream>>, Failed> {
+        if self.accepted == self.most {
+            return Ok(Arrival::Closed);
+        }
+        let came = match opened(&self.system, self.port, &mut self.listener) {
+            Ok(listener) => accept_next(self.alloc, &self.system, listener, self.silence),
+            Err(_) => None,
+        };
+        match came {
+            Some(call) => {
+                self.accepted += 1;
+                Ok(Arrival::Came(call))
+            }
+            None => Err(count_fault(&mut self.faults)),
+        }
+    }
+
+    fn back(&mut self, call: TcpCall)
+        ensures past { Returns
+            (ended_by
+            (⟦<BlockReader<TcpStream> as Source>⟧.input)
+            (⟦<DirectWriter<TcpStream> as Sink>⟧.output)
+            (⟦<DirectWriter<TcpStream> as Sink>⟧.flushed)
+            call)
+            (⟦<TcpListen<R> as Listen>⟧.past self.old)
+            (⟦<TcpListen<R> as Listen>⟧.past self.new) }
+        ensures most { ⟦<TcpListen<R> as Listen>⟧.most self.new ≡ ⟦<TcpListen<R> as Listen>⟧.most self.old }
+        ensures accepted { ⟦<TcpListen<R> as Listen>⟧.accepted self.new ≡ ⟦<TcpListen<R> as Listen>⟧.accepted self.old }
+        ensures returned { ⟦<TcpListen<R> as Listen>⟧.returned self.new
+            ≡ next_count (⟦<TcpListen<R> as Listen>⟧.returned self.old) }
+        ensures faults { ⟦<TcpListen<R> as Listen>⟧.faults self.new ≡ ⟦<TcpListen<R> as Listen>⟧.faults self.old }
+    {
+        let _closed = call;
+        self.returned = self.returned.saturating_add(1);
+    }
+}
