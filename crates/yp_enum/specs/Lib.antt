@@ -1,0 +1,7 @@
+pub mod Standings
+pub mod Schedules
+pub mod Kept
+pub mod Walks
+pub mod Inside
+pub mod Told
+pub mod Laws
