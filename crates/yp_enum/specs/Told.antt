@@ -1,5 +1,5 @@
 -- A source that shows one version throughout, and what comes of a walk over it.
-use Rattle.std.specs.Prelude.{◌≡◌, ℕ, ◌⊎◌, List, [], ◌∷◌, ◌++◌, Option, Some, None, Result, Ok, Err, ⊤}
+use Rattle.std.specs.Prelude.{◌≡◌, ℕ, ◌+◌, ◌-◌, ◌<◌, ◌⊎◌, length, List, [], ◌∷◌, ◌++◌, Option, Some, None, Result, Ok, Err, ⊤}
 use Rattle.yp_io.specs.declared.stream.Peer.{Peer}
 use Rattle.yp_msgs.specs.declared.stat.YpStat.TheVariants.{Nomore, Nokey}
 use Rattle.yp_version.specs.Rows.{Row, first_of, following}
@@ -10,8 +10,10 @@ use Rattle.yp_client.specs.declared.fault.ClientFault.TheVariants.{Yp}
 use Rattle.yp_client.specs.Results.{order_of, master_of, row_of}
 use Rattle.yp_xfr.specs.declared.fault.XfrFault.{XfrFault}
 use Rattle.yp_xfr.specs.declared.fault.XfrFault.TheVariants.{Dbm}
-use Rattle.yp_xfr.specs.Fetching.{Wanted, against_order}
+use Rattle.yp_turns.specs.Turns.{mail_max}
+use Rattle.yp_xfr.specs.Fetching.{Wanted, against_order, against_master}
 use Rattle.yp_enum.specs.Standings.{Standing, AsksOrder, AsksMaster, AsksFirst, AsksNext, AsksAgain, HasEnded}
+use Rattle.yp_enum.specs.Standings.{next_len}
 use Rattle.yp_enum.specs.Schedules.{Walking, gone_on, begun, came_of}
 
 -- ---- what the replies say
@@ -56,10 +58,20 @@ pub record HasRowsTo (version : MapVersion) (draft : Draft) (key : List ℕ) : T
   pub last : key ≡ row.0
   pub so_far : draft ≡ draft_with version (front ++ row ∷ [])
 
--- The refusal is the walk's own: the order isn't over the shown one, or the master, a row or the call behind it is past
--- a limit.
+-- The call behind some row doesn't fit into a datagram.
+pub record HasLongCall (wanted : Wanted) (version : MapVersion) : Type 0 where
+  pub front : List Row
+  pub row : Row
+  pub rest : List Row
+  pub whole : version.rows ≡ front ++ row ∷ rest
+  pub long : mail_max < next_len wanted row.0
+
+-- The refusal is the walk's own: the order isn't over the shown one, the master has no name, or a call would be too
+-- long.
 abbrev pub IsOwn : Wanted → MapVersion → XfrFault → Type 0
-IsOwn wanted version fault = (against_order wanted version.order ≡ Some fault) ⊎ (fault ≡ Dbm)
+IsOwn wanted version fault =
+    (against_order wanted version.order ≡ Some fault) ⊎ (against_master version.master ≡ Some fault)
+    ⊎ ((fault ≡ Dbm) × HasLongCall wanted version)
 
 -- A walk is on its way over a version: it has the order, the master and the rows so far, and at its end all of them. It
 -- never finds another order, a row twice, or a key that is gone.
@@ -79,3 +91,31 @@ ToldIsWalked =
     → IsVersion version
     → AllTell version (begun source wanted) replies
     → IsAlong wanted version (came_of (begun source wanted) replies).standing
+
+-- ---- how many of them it takes
+
+-- how many awaited mails a walk over a version still takes at most
+abbrev pub left : MapVersion → Standing → ℕ
+left version AsksOrder = length version.rows + 4
+left version (AsksMaster order) = length version.rows + 3
+left version (AsksFirst draft) = length version.rows + 2
+left version (AsksNext draft key) = length version.rows + 2 - length draft.rows
+left version (AsksAgain draft why) = 1
+left version (HasEnded outcome) = 0
+
+-- Nothing of a version stands against a walk.
+pub record Suits (wanted : Wanted) (version : MapVersion) : Type 0 where
+  pub order : against_order wanted version.order ≡ None
+  pub master : against_master version.master ≡ None
+  pub calls : HasLongCall wanted version → ⊥
+
+-- Where the replies that it awaits, four and one for each row, all say what one version has, against which nothing
+-- stands, it ends with that version.
+abbrev pub ToldIsWhole : Type 0
+ToldIsWhole =
+    (source : Peer) (wanted : Wanted) (version : MapVersion) (replies : List (List ℕ))
+    → IsVersion version
+    → Suits wanted version
+    → AllTell version (begun source wanted) replies
+    → length replies ≡ length version.rows + 4
+    → (came_of (begun source wanted) replies).standing ≡ HasEnded (Ok (draft_with version version.rows))
