@@ -1,5 +1,6 @@
 -- A source that shows one version throughout, and what comes of a walk over it.
-use Rattle.std.specs.Prelude.{◌≡◌, ℕ, ◌+◌, ◌-◌, ◌<◌, ◌⊎◌, length, List, [], ◌∷◌, ◌++◌, Option, Some, None, Result, Ok, Err, ⊤}
+use Rattle.std.specs.Prelude.{◌≡◌, ℕ, ◌+◌, ◌-◌, ◌<◌, ◌⊎◌, List, [], ◌∷◌, ◌++◌, length, Option, Some, None, Result}
+use Rattle.std.specs.Prelude.{Ok, Err, ⊤}
 use Rattle.yp_io.specs.declared.stream.Peer.{Peer}
 use Rattle.yp_msgs.specs.declared.stat.YpStat.TheVariants.{Nomore, Nokey}
 use Rattle.yp_version.specs.Rows.{Row, first_of, following}
