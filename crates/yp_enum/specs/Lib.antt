@@ -4,4 +4,3 @@ pub mod Kept
 pub mod Walks
 pub mod Inside
 pub mod Told
-pub mod Laws

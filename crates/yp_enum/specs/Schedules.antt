@@ -1,6 +1,7 @@
 -- A walk under any schedule: mail is lost, repeated and reordered, and comes from others. What comes of it is a
 -- function of the awaited mails alone.
 use Rattle.std.specs.Prelude.{◌≡◌, ℕ, ◌+◌, ◌%◌, ◌^◌, ◌==◌, ◌&&◌, Bool, false, ◌⊎◌, List, [], ◌∷◌, Result, Ok, Err}
+use Rattle.std.specs.Prelude.{◌++◌, ⊤}
 use Rattle.std.specs.Prelude.{bytes_eq, if◌then◌else◌, IsTrue}
 use Rattle.yp_io.specs.declared.stream.Peer.{Peer}
 use Rattle.yp_xdr.specs.declared.fault.XdrFault.{XdrFault}
@@ -105,3 +106,10 @@ came_of walking (reply ∷ replies) = came_of (gone_on walking reply) replies
 -- the walk behind all that is delivered
 abbrev pub walk_by : Peer → Wanted → List Delivery → Walking
 walk_by source wanted deliveries = came_of (begun source wanted) (awaited source 1 deliveries)
+
+-- A mail was delivered beside the others: the walk stands for all of them, unless memory ran out.
+abbrev pub AddsDelivery : Delivery → Result Walked XfrFault → Walking → Walking → Type 0
+AddsDelivery delivered (Err NoMemory) old new = ⊤
+AddsDelivery delivered result old new =
+    (source : Peer) (wanted : Wanted) (deliveries : List Delivery) → old ≡ walk_by source wanted deliveries
+    → new ≡ walk_by source wanted (deliveries ++ delivered ∷ [])

@@ -1,15 +1,8 @@
 //! What holds of walks. Each law is the contract of a function that does nothing.
 
-ghost use Rattle.yp_enum.specs.Laws.{HeardIsDelivered};
 ghost use Rattle.yp_enum.specs.Told.{ToldIsWalked, ToldIsWhole};
 
 use yp_version::laws::rising_is_distinct;
-
-/// A walk that stands for all that was delivered so far stands, behind one more mail, for that and the mail: what comes
-/// of it is a function of the awaited mails alone.
-pub fn heard_is_delivered()
-    ensures { HeardIsDelivered }
-{}
 
 /// Where all awaited replies say what one version has, the walk is on its way over that version, and where it is done
 /// it has its order, its master and its rows. It is refused then only for what is wanted of it, or for a limit.

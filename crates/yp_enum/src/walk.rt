@@ -5,7 +5,7 @@ ghost use Rattle.yp_msgs.specs.Numbers.{name_max};
 ghost use Rattle.yp_turns.specs.Turns.{mail_max};
 ghost use Rattle.yp_xfr.specs.Fetching.{wanted_of};
 ghost use Rattle.yp_enum.specs.Standings.{IsAsking};
-ghost use Rattle.yp_enum.specs.Schedules.{outstanding, Hears, answers, is_awaited};
+ghost use Rattle.yp_enum.specs.Schedules.{outstanding, Hears, AddsDelivery, answers, is_awaited};
 ghost use Rattle.yp_enum.specs.Walks.{IsBegun, map_call, IsDone, GoesOn, GivesVersion};
 
 use crate::behind::behind;
@@ -152,6 +152,16 @@ impl Walk {
         from: Peer,
         mail: &[u8],
     ) -> Result<Walked, XfrFault>
+        requires { IsAsking self.old.standing }
+        ensures hears { Hears (from, mail.now) result self.old self.new }
+        ensures adds { AddsDelivery (from, mail.now) result self.old self.new }
+        ensures goes_on { GoesOn result self.new.standing }
+    {
+        self.hear(rt, from, mail)
+    }
+
+    /// The same, by one mail alone.
+    fn hear(&mut self, rt: &impl RandomSource, from: Peer, mail: &[u8]) -> Result<Walked, XfrFault>
         requires { IsAsking self.old.standing }
         ensures hears { Hears (from, mail.now) result self.old self.new }
         ensures goes_on { GoesOn result self.new.standing }
