@@ -1,0 +1,45 @@
+-- What the code keeps of a walk.
+use Rattle.std.specs.Prelude.{ℕ, ◌+◌, ◌≤◌, List, length, Result, Ok, Err, ⊤}
+use Rattle.yp_turns.specs.Turns.{mail_max}
+use Rattle.yp_xdr.specs.Spelling.{spelling}
+use Rattle.yp_msgs.specs.Numbers.{name_max, key_max}
+use Rattle.yp_msgs.specs.Messages.{req_key}
+use Rattle.yp_xfr.specs.Fetching.{Wanted, wanted_of}
+use Rattle.yp_enum.specs.declared.stage.Asked.{Asked}
+use Rattle.yp_enum.specs.declared.stage.Stage.{Stage}
+use Rattle.yp_enum.specs.declared.stage.Stage.TheVariants.{Order, Master, First, Next, Again, Ended}
+use Rattle.yp_client.specs.declared.fault.ClientFault.{ClientFault}
+use Rattle.yp_client.specs.declared.answers.Row.{Row}
+use Rattle.yp_enum.specs.Standings.{Standing, AsksOrder, AsksMaster, AsksFirst, AsksNext, AsksAgain, HasEnded}
+
+-- what is wanted
+abbrev pub wanted_in : Asked → Wanted
+wanted_in asked = wanted_of asked.domain.items asked.map.items asked.shown asked.force
+
+-- what is asked next
+abbrev pub standing_of : Stage → Standing
+standing_of Order = AsksOrder
+standing_of (Master order) = AsksMaster order
+standing_of (First builder) = AsksFirst builder
+standing_of (Next builder key) = AsksNext builder key.items
+standing_of (Again builder why) = AsksAgain builder why
+standing_of (Ended outcome) = HasEnded outcome
+
+-- The names are within their limit.
+pub record HasNames (asked : Asked) : Type 0 where
+  pub domain : length asked.domain.items ≤ name_max
+  pub map : length asked.map.items ≤ name_max
+
+-- The call for the row behind a key fits into a datagram.
+pub record HasRoom (asked : Asked) (key : List ℕ) : Type 0 where
+  pub within : length key ≤ key_max
+  pub call : 40 + length (spelling req_key (asked.domain.items, (asked.map.items, key))) ≤ mail_max
+
+abbrev pub IsRoomy : Asked → Stage → Type 0
+IsRoomy asked (Next builder key) = HasRoom asked key.items
+IsRoomy asked stage = ⊤
+
+-- what a reply to FIRST or NEXT says: a value and its key
+abbrev pub found_in : Result Row ClientFault → Result (List ℕ × List ℕ) ClientFault
+found_in (Ok row) = Ok (row.value.now, row.key.now)
+found_in (Err fault) = Err fault

@@ -1,0 +1,6 @@
+pub mod Standings
+pub mod Schedules
+pub mod Kept
+pub mod Walks
+pub mod Inside
+pub mod Told

@@ -1,0 +1,199 @@
+//! A walk over the rows of a map.
+
+ghost use Rattle.std.specs.Prelude.{◌≡◌, ◌≤◌, length, take};
+ghost use Rattle.yp_msgs.specs.Numbers.{name_max};
+ghost use Rattle.yp_turns.specs.Turns.{mail_max};
+ghost use Rattle.yp_xfr.specs.Fetching.{wanted_of};
+ghost use Rattle.yp_enum.specs.Standings.{IsAsking};
+ghost use Rattle.yp_enum.specs.Schedules.{outstanding, Hears, AddsDelivery, answers, is_awaited};
+ghost use Rattle.yp_enum.specs.Walks.{IsBegun, map_call, IsDone, GoesOn, GivesVersion};
+
+use crate::behind::behind;
+use crate::stage::{Asked, Stage};
+use crate::walked::Walked;
+use std::alloc::Global;
+use std::marker::Model;
+use std::mem;
+use std::random::RandomSource;
+use yp_client::{Called, set_call};
+use yp_io::{NoMemory, Peer};
+use yp_msgs::protocol::{FIRST, MASTER, NEXT, ORDER, YPPROG, YPVERS};
+use yp_msgs::{ReqKey, ReqNokey};
+use yp_rpc::protocol::REPLY;
+use yp_version::Version;
+use yp_xdr::Cursor;
+use yp_xfr::XfrFault;
+
+/// A map of a domain that is fetched row by row from a source that serves datagrams. It has one builder and one
+/// outstanding call, whose number begins with 1.
+#[derive(Drop)]
+pub struct Walk {
+    source: Peer,
+    asked: Asked,
+    /// The number of the outstanding call.
+    xid: u32,
+    stage: Stage,
+}
+
+impl Model for Walk {
+    ghost use Rattle.yp_enum.specs.Schedules.{Walking};
+
+    ghost Value = { Walking };
+
+    ghost use Rattle.yp_enum.specs.Inside.{walking_of, IsKept};
+
+    ghost view = { walking_of };
+
+    ghost invariant = { IsKept };
+}
+
+/// A procedure of YP.
+fn procedure(number: u32) -> Called
+    ensures { result ≡ record { prog = 100004; vers = 2; procedure = number } }
+{
+    Called {
+        prog: YPPROG,
+        vers: YPVERS,
+        procedure: number,
+    }
+}
+
+/// Whether a mail begins as the reply to the call with a number.
+fn answers(mail: &[u8], xid: u32) -> bool
+    ensures { result ≡ answers xid mail.now }
+{
+    let mut cursor = Cursor::new(mail);
+    match (cursor.u32(), cursor.u32()) {
+        (Ok(number), Ok(kind)) => number == xid && kind == REPLY,
+        _ => false,
+    }
+}
+
+impl Walk {
+    /// A walk over a map of a domain at a source, of which nothing was asked. A name that is empty is refused.
+    ///
+    /// `shown` is the order of the version that is shown, if one is; unless it is forced, an order that isn't over that
+    /// is refused by the first reply.
+    pub fn new(
+        alloc: Global,
+        source: Peer,
+        domain: &[u8],
+        map: &[u8],
+        shown: Option<u32>,
+        force: bool,
+    ) -> Result<Walk, XfrFault>
+        requires domain { length domain.now ≤ name_max }
+        requires map { length map.now ≤ name_max }
+        ensures { IsBegun source (wanted_of domain.now map.now shown force) result }
+    {
+        if domain.is_empty() || map.is_empty() {
+            return Err(XfrFault::Badargs);
+        }
+        let (Ok(domain), Ok(map)) = (Vec::from_slice(alloc, domain), Vec::from_slice(alloc, map))
+        else {
+            return Err(XfrFault::NoMemory);
+        };
+        Ok(Walk {
+            source,
+            asked: Asked {
+                alloc,
+                domain,
+                map,
+                shown,
+                force,
+            },
+            xid: 1,
+            stage: Stage::Order,
+        })
+    }
+
+    /// Puts the outstanding call at the front of the buffer, and answers its length, which is 0 where the walk has
+    /// ended.
+    pub fn ask(&self, buf: &mut [u8]) -> usize
+        requires { mail_max ≤ length buf.old }
+        ensures call { take result buf.new ≡ outstanding self.now }
+        ensures within { result ≤ length buf.new }
+    {
+        match &self.stage {
+            Stage::Order | Stage::Again(_, _) => self.ask_of_map(ORDER, buf),
+            Stage::Master(_) => self.ask_of_map(MASTER, buf),
+            Stage::First(_) => self.ask_of_map(FIRST, buf),
+            Stage::Next { key, .. } => {
+                let arguments = ReqKey {
+                    domain: &self.asked.domain,
+                    map: &self.asked.map,
+                    key,
+                };
+                set_call(buf, self.xid, procedure(NEXT), &arguments)
+            }
+            Stage::Ended(_) => 0,
+        }
+    }
+
+    /// Puts a call about the map at the front of the buffer.
+    fn ask_of_map(&self, number: u32, buf: &mut [u8]) -> usize
+        requires { mail_max ≤ length buf.old }
+        ensures call { take result buf.new ≡ map_call number self.now }
+        ensures within { result ≤ length buf.new }
+    {
+        let arguments = ReqNokey {
+            domain: &self.asked.domain,
+            map: &self.asked.map,
+        };
+        set_call(buf, self.xid, procedure(number), &arguments)
+    }
+
+    /// Hears a mail. The awaited one is the first of the source that begins with the number of the outstanding call and
+    /// with 1, REPLY; any other changes nothing. `Done` comes with the last ORDER, and each refusal with the awaited
+    /// mail. After either no more is heard.
+    pub fn on_mail(
+        &mut self,
+        rt: &impl RandomSource,
+        from: Peer,
+        mail: &[u8],
+    ) -> Result<Walked, XfrFault>
+        requires { IsAsking self.old.standing }
+        ensures hears { Hears (from, mail.now) result self.old self.new }
+        ensures adds { AddsDelivery (from, mail.now) result self.old self.new }
+        ensures goes_on { GoesOn result self.new.standing }
+    {
+        self.hear(rt, from, mail)
+    }
+
+    /// The same, by one mail alone.
+    fn hear(&mut self, rt: &impl RandomSource, from: Peer, mail: &[u8]) -> Result<Walked, XfrFault>
+        requires { IsAsking self.old.standing }
+        ensures hears { Hears (from, mail.now) result self.old self.new }
+        ensures goes_on { GoesOn result self.new.standing }
+    {
+        if !self.awaits(from, mail) {
+            return Ok(Walked::Ignored);
+        }
+        let stage = mem::replace(&mut self.stage, Stage::Order);
+        self.stage = behind(rt, &self.asked, self.xid, stage, mail);
+        self.xid = self.xid.wrapping_add(1);
+        self.stage.told()
+    }
+
+    /// Whether this is the awaited mail.
+    fn awaits(&self, from: Peer, mail: &[u8]) -> bool
+        ensures { result ≡ is_awaited self.now.source self.now.xid (from, mail.now) }
+    {
+        from.addr == self.source.addr && from.port == self.source.port && answers(mail, self.xid)
+    }
+
+    /// The version, with the rows in rising order of their keys, not secure.
+    pub fn finish(self) -> Result<Version, XfrFault>
+        requires { IsDone self.standing }
+        ensures { GivesVersion self.standing result }
+    {
+        let Walk { stage, .. } = self;
+        let Stage::Ended(Ok(builder)) = stage else {
+            unreachable!()
+        };
+        match builder.finish() {
+            Ok(version) => Ok(version),
+            Err(NoMemory) => Err(XfrFault::NoMemory),
+        }
+    }
+}

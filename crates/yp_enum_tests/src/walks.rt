@@ -1,0 +1,634 @@
+//! Walks under schedules of mail that is lost, repeated and reordered, and that comes from others. Calls and replies
+//! are written out by hand, from RFC 5531 and yp.x.
+
+ghost use Rattle.std.specs.Prelude.{◌≡◌, Ok};
+ghost use Rattle.yp_enum.specs.Standings.{IsAsking};
+ghost use Rattle.yp_enum.specs.Walks.{IsDone};
+
+use crate::given::{assert_same, bytes};
+use std::alloc::Global;
+use std::process::Abort;
+use std::random::RandomSource;
+use yp_enum::{Walk, Walked};
+use yp_io::Peer;
+use yp_msgs::YpStat;
+use yp_xfr::XfrFault;
+
+const SOURCE: Peer = Peer {
+    addr: [127, 0, 0, 1],
+    port: 7001,
+};
+
+/// The same host at another port, and another host at the same port.
+const OTHER_PORT: Peer = Peer {
+    addr: [127, 0, 0, 1],
+    port: 7002,
+};
+
+const OTHER_HOST: Peer = Peer {
+    addr: [127, 0, 0, 2],
+    port: 7001,
+};
+
+/// A mail: its sender, and its words.
+type Mail = (Peer, [&'static str; 3]);
+
+// The front of a reply that is SUCCESS, behind its number.
+const SUCCESS: &str = "00000001 00000000 00000000 00000000 00000000";
+
+const ORDER_100: &str = "00000001 00000064";
+
+const MASTER_M1: &str = "00000001 00000002 6d310000";
+
+// The row `alpha`, and one of the key `beta`.
+const ALPHA: &str =
+    "00000001 0000000e 31302e30 2e302e31 20616c70 68610000 00000005 616c7068 61000000";
+
+const BETA: &str = "00000001 00000001 32000000 00000004 62657461";
+
+const NOMORE: &str = "00000002 00000000 00000000";
+
+const NOKEY: &str = "fffffffd 00000000 00000000";
+
+// The replies of a source with the one row `alpha`.
+const REPLY_1: Mail = (SOURCE, ["00000001", SUCCESS, ORDER_100]);
+
+const REPLY_2: Mail = (SOURCE, ["00000002", SUCCESS, MASTER_M1]);
+
+const REPLY_3: Mail = (SOURCE, ["00000003", SUCCESS, ALPHA]);
+
+const REPLY_4: Mail = (SOURCE, ["00000004", SUCCESS, NOMORE]);
+
+const REPLY_5: Mail = (SOURCE, ["00000005", SUCCESS, ORDER_100]);
+
+// The body of that version, of order 100 and the master `m1`.
+const BODY: &str = "00000001 00000064 00000002 6d310000 00000001 00000005 616c7068 61000000 \
+    0000000e 31302e30 2e302e31 20616c70 68610000";
+
+// What came of a walk: how many mails were ignored and how many led on, how it ended, and the call that is then
+// outstanding.
+#[derive(Debug, PartialEq, Drop)]
+struct Came {
+    ignored: usize,
+    onward: usize,
+    end: End,
+}
+
+#[derive(Debug, PartialEq, Drop)]
+enum End {
+    /// It still asks, by a call of so many bytes.
+    Asks(usize),
+    /// The body of its version.
+    Gives(Vec<u8>),
+    Refuses(XfrFault),
+}
+
+// The mails that a walk has heard, up to its end, if there was one.
+#[derive(Clone, Copy, Debug)]
+struct Heard {
+    ignored: usize,
+    onward: usize,
+    end: Option<Result<(), XfrFault>>,
+}
+
+fn hear_all<R: RandomSource>(rt: &R, walk: &mut Walk, mails: &[(Peer, Vec<u8>)]) -> Heard
+    requires { IsAsking walk.old.standing }
+    ensures done { result.end ≡ Some (Ok tt) → IsDone walk.new.standing }
+{
+    let mut heard = Heard {
+        ignored: 0,
+        onward: 0,
+        end: None,
+    };
+    for (from, mail) in mails {
+        match walk.on_mail(rt, *from, mail) {
+            Ok(Walked::Ignored) => heard.ignored = heard.ignored.saturating_add(1),
+            Ok(Walked::Onward) => heard.onward = heard.onward.saturating_add(1),
+            Ok(Walked::Done) => {
+                heard.end = Some(Ok(()));
+                return heard;
+            }
+            Err(fault) => {
+                heard.end = Some(Err(fault));
+                return heard;
+            }
+        }
+    }
+    heard
+}
+
+// The body of the version of a walk that is done.
+fn body_of<R: Abort>(rt: &R, alloc: Global, walk: Walk) -> End
+    requires { IsDone walk.standing }
+{
+    match walk.finish() {
+        Ok(version) => End::Gives(version.body().to_vec(alloc).expect(rt, "a body")),
+        Err(fault) => End::Refuses(fault),
+    }
+}
+
+// What comes of these mails to a walk.
+fn come_of<R: RandomSource + Abort>(
+    rt: &R,
+    alloc: Global,
+    walk: Walk,
+    mails: &[(Peer, Vec<u8>)],
+) -> Came
+    requires { IsAsking walk.standing }
+{
+    let mut walk = walk;
+    let heard = hear_all(rt, &mut walk, mails);
+    let end = match heard.end {
+        None => {
+            let mut buf = [0; 8_192];
+            End::Asks(walk.ask(&mut buf))
+        }
+        Some(Ok(())) => body_of(rt, alloc, walk),
+        Some(Err(fault)) => End::Refuses(fault),
+    };
+    Came {
+        ignored: heard.ignored,
+        onward: heard.onward,
+        end,
+    }
+}
+
+// A walk over `hosts.byname` of `lab`.
+fn hosts_walk<R: Abort>(rt: &R, alloc: Global, shown: Option<u32>, force: bool) -> Walk
+    ensures { IsAsking result.standing }
+{
+    Walk::new(alloc, SOURCE, b"lab", b"hosts.byname", shown, force).expect(rt, "a walk")
+}
+
+fn mails_of<R: Abort>(rt: &R, alloc: Global, mails: &[Mail]) -> Vec<(Peer, Vec<u8>)> {
+    let mut list = Vec::new(alloc);
+    for (from, words) in mails {
+        let mail = bytes(rt, alloc, words);
+        list.push((*from, mail)).expect(rt, "a list");
+    }
+    list
+}
+
+// How a walk should end: asking, with a body of these words, or refused.
+#[derive(Clone, Copy, Debug)]
+enum Wanted {
+    Asks(usize),
+    Gives(&'static str),
+    Refuses(XfrFault),
+}
+
+fn end_of<R: Abort>(rt: &R, alloc: Global, wanted: Wanted) -> End {
+    match wanted {
+        Wanted::Asks(len) => End::Asks(len),
+        Wanted::Gives(words) => End::Gives(bytes(rt, alloc, &[words])),
+        Wanted::Refuses(fault) => End::Refuses(fault),
+    }
+}
+
+// The mails to a walk where nothing is shown, how many of them are ignored and lead on, and the end.
+struct Row {
+    name: &'static str,
+    mails: &'static [Mail],
+    ignored: usize,
+    onward: usize,
+    end: Wanted,
+}
+
+fn check_rows<R: RandomSource + Abort>(rt: &R, alloc: Global, rows: &[Row]) {
+    for row in rows {
+        let mails = mails_of(rt, alloc, row.mails);
+        let wanted = Came {
+            ignored: row.ignored,
+            onward: row.onward,
+            end: end_of(rt, alloc, row.end),
+        };
+        let walk = hosts_walk(rt, alloc, None, false);
+        let came = come_of(rt, alloc, walk, &mails);
+        assert_same(rt, &came, &wanted, row.name);
+    }
+}
+
+const SKEW: XfrFault = XfrFault::Skew {
+    first: 100,
+    second: 101,
+};
+
+const ORDER_101: &str = "00000001 00000065";
+
+// A whole walk.
+const WALKED: [Row; 3] = [
+    Row {
+        name: "a map of one row",
+        mails: &[
+            REPLY_1, REPLY_1, REPLY_2, REPLY_3, REPLY_3, REPLY_4, REPLY_5,
+        ],
+        ignored: 2,
+        onward: 4,
+        end: Wanted::Gives(BODY),
+    },
+    Row {
+        name: "without the last reply",
+        mails: &[REPLY_1, REPLY_1, REPLY_2, REPLY_3, REPLY_3, REPLY_4],
+        ignored: 2,
+        onward: 4,
+        end: Wanted::Asks(64),
+    },
+    Row {
+        name: "another order in the last reply",
+        mails: &[
+            REPLY_1,
+            REPLY_1,
+            REPLY_2,
+            REPLY_3,
+            REPLY_3,
+            REPLY_4,
+            (SOURCE, ["00000005", SUCCESS, ORDER_101]),
+        ],
+        ignored: 2,
+        onward: 4,
+        end: Wanted::Refuses(SKEW),
+    },
+];
+
+#[test]
+fn walked(rt: HostRuntime) {
+    check_rows(&rt, rt.alloc(), &WALKED);
+}
+
+// What the network does.
+const SCHEDULES: [Row; 7] = [
+    Row {
+        name: "each reply twice",
+        mails: &[
+            REPLY_1, REPLY_1, REPLY_2, REPLY_2, REPLY_3, REPLY_3, REPLY_4, REPLY_4, REPLY_5,
+        ],
+        ignored: 4,
+        onward: 4,
+        end: Wanted::Gives(BODY),
+    },
+    Row {
+        name: "a reply before its call",
+        mails: &[
+            REPLY_2, REPLY_1, REPLY_3, REPLY_2, REPLY_5, REPLY_3, REPLY_4, REPLY_5,
+        ],
+        ignored: 3,
+        onward: 4,
+        end: Wanted::Gives(BODY),
+    },
+    Row {
+        name: "all replies late, and again",
+        mails: &[
+            REPLY_5, REPLY_4, REPLY_3, REPLY_2, REPLY_1, REPLY_1, REPLY_2, REPLY_1, REPLY_3,
+            REPLY_2, REPLY_4, REPLY_3, REPLY_5,
+        ],
+        ignored: 8,
+        onward: 4,
+        end: Wanted::Gives(BODY),
+    },
+    Row {
+        name: "replies of other peers",
+        mails: &[
+            (OTHER_PORT, ["00000001", SUCCESS, ORDER_101]),
+            (OTHER_HOST, ["00000001", SUCCESS, ORDER_101]),
+            REPLY_1,
+            (OTHER_HOST, ["00000002", SUCCESS, NOMORE]),
+            REPLY_2,
+            REPLY_3,
+            (OTHER_PORT, ["00000004", SUCCESS, BETA]),
+            REPLY_4,
+            REPLY_5,
+        ],
+        ignored: 4,
+        onward: 4,
+        end: Wanted::Gives(BODY),
+    },
+    Row {
+        name: "a call, and mails without two words",
+        mails: &[
+            (
+                SOURCE,
+                ["00000001 00000000", "00000002 000186a4", "00000002"],
+            ),
+            (SOURCE, ["00000001 000000", "", ""]),
+            (SOURCE, ["", "", ""]),
+            REPLY_1,
+        ],
+        ignored: 3,
+        onward: 1,
+        end: Wanted::Asks(64),
+    },
+    Row {
+        name: "rows in another order",
+        mails: &[
+            REPLY_1,
+            REPLY_2,
+            (SOURCE, ["00000003", SUCCESS, BETA]),
+            (SOURCE, ["00000004", SUCCESS, ALPHA]),
+            (SOURCE, ["00000005", SUCCESS, NOMORE]),
+            (SOURCE, ["00000006", SUCCESS, ORDER_100]),
+        ],
+        ignored: 0,
+        onward: 5,
+        end: Wanted::Gives(
+            "00000001 00000064 00000002 6d310000 00000002 00000005 616c7068 61000000 \
+            0000000e 31302e30 2e302e31 20616c70 68610000 00000004 62657461 00000001 32000000",
+        ),
+    },
+    Row {
+        name: "no rows",
+        mails: &[
+            REPLY_1,
+            REPLY_2,
+            (SOURCE, ["00000003", SUCCESS, NOMORE]),
+            (SOURCE, ["00000004", SUCCESS, ORDER_100]),
+        ],
+        ignored: 0,
+        onward: 3,
+        end: Wanted::Gives("00000001 00000064 00000002 6d310000 00000000"),
+    },
+];
+
+#[test]
+fn any_schedule(rt: HostRuntime) {
+    check_rows(&rt, rt.alloc(), &SCHEDULES);
+}
+
+// Rows that a map doesn't have at the end: the order decides what that means.
+const LOST_ROWS: [Row; 5] = [
+    Row {
+        name: "a row twice, and the same order",
+        mails: &[
+            REPLY_1,
+            REPLY_2,
+            REPLY_3,
+            (SOURCE, ["00000004", SUCCESS, ALPHA]),
+            REPLY_5,
+        ],
+        ignored: 0,
+        onward: 4,
+        end: Wanted::Refuses(XfrFault::Xfrerr { at: 0 }),
+    },
+    Row {
+        name: "a row twice, and another order",
+        mails: &[
+            REPLY_1,
+            REPLY_2,
+            REPLY_3,
+            (SOURCE, ["00000004", SUCCESS, BETA]),
+            (SOURCE, ["00000005", SUCCESS, ALPHA]),
+            (SOURCE, ["00000006", SUCCESS, ORDER_101]),
+        ],
+        ignored: 0,
+        onward: 5,
+        end: Wanted::Refuses(SKEW),
+    },
+    Row {
+        name: "NOKEY, and the same order",
+        mails: &[
+            REPLY_1,
+            REPLY_2,
+            REPLY_3,
+            (SOURCE, ["00000004", SUCCESS, NOKEY]),
+            REPLY_5,
+        ],
+        ignored: 0,
+        onward: 4,
+        end: Wanted::Refuses(XfrFault::Yperr {
+            stat: Some(YpStat::Nokey),
+        }),
+    },
+    Row {
+        name: "NOKEY, and another order",
+        mails: &[
+            REPLY_1,
+            REPLY_2,
+            REPLY_3,
+            (SOURCE, ["00000004", SUCCESS, NOKEY]),
+            (SOURCE, ["00000005", SUCCESS, ORDER_101]),
+        ],
+        ignored: 0,
+        onward: 4,
+        end: Wanted::Refuses(SKEW),
+    },
+    Row {
+        name: "NOKEY to FIRST",
+        mails: &[REPLY_1, REPLY_2, (SOURCE, ["00000003", SUCCESS, NOKEY])],
+        ignored: 0,
+        onward: 2,
+        end: Wanted::Refuses(XfrFault::Yperr {
+            stat: Some(YpStat::Nokey),
+        }),
+    },
+];
+
+#[test]
+fn lost_rows(rt: HostRuntime) {
+    check_rows(&rt, rt.alloc(), &LOST_ROWS);
+}
+
+// Other refusals, each by the mail that it comes with.
+const REFUSED: [Row; 8] = [
+    Row {
+        name: "no such map",
+        mails: &[(SOURCE, ["00000001", SUCCESS, "ffffffff 00000000"])],
+        ignored: 0,
+        onward: 0,
+        end: Wanted::Refuses(XfrFault::Nomap),
+    },
+    Row {
+        name: "no such domain",
+        mails: &[
+            REPLY_1,
+            (SOURCE, ["00000002", SUCCESS, "fffffffe 00000000"]),
+        ],
+        ignored: 0,
+        onward: 1,
+        end: Wanted::Refuses(XfrFault::Nodom),
+    },
+    Row {
+        name: "refused by RPC",
+        mails: &[(
+            SOURCE,
+            ["00000001", "00000001 00000001", "00000001 00000002"],
+        )],
+        ignored: 0,
+        onward: 0,
+        end: Wanted::Refuses(XfrFault::Yperr { stat: None }),
+    },
+    Row {
+        name: "rows that aren't shown to this caller",
+        mails: &[
+            REPLY_1,
+            REPLY_2,
+            (SOURCE, ["00000003", SUCCESS, "fffffffa 00000000 00000000"]),
+        ],
+        ignored: 0,
+        onward: 2,
+        end: Wanted::Refuses(XfrFault::Yperr {
+            stat: Some(YpStat::Yperr),
+        }),
+    },
+    Row {
+        name: "a master without a name",
+        mails: &[
+            REPLY_1,
+            (SOURCE, ["00000002", SUCCESS, "00000001 00000000"]),
+        ],
+        ignored: 0,
+        onward: 1,
+        end: Wanted::Refuses(XfrFault::Dbm),
+    },
+    Row {
+        name: "an order that isn't whole",
+        mails: &[(SOURCE, ["00000001", SUCCESS, "00000001 0000"])],
+        ignored: 0,
+        onward: 0,
+        end: Wanted::Refuses(XfrFault::Xfrerr { at: 28 }),
+    },
+    Row {
+        name: "two words alone",
+        mails: &[(SOURCE, ["00000001", "00000001", ""])],
+        ignored: 0,
+        onward: 0,
+        end: Wanted::Refuses(XfrFault::Xfrerr { at: 8 }),
+    },
+    Row {
+        name: "padding that isn't zero",
+        mails: &[
+            REPLY_1,
+            REPLY_2,
+            (
+                SOURCE,
+                ["00000003", SUCCESS, "00000001 00000001 32000001 00000000"],
+            ),
+        ],
+        ignored: 0,
+        onward: 2,
+        end: Wanted::Refuses(XfrFault::Xfrerr { at: 35 }),
+    },
+];
+
+#[test]
+fn refused(rt: HostRuntime) {
+    check_rows(&rt, rt.alloc(), &REFUSED);
+}
+
+#[test]
+fn age_and_force(rt: HostRuntime) {
+    let alloc = rt.alloc();
+    let older = XfrFault::Age {
+        shown: 100,
+        offered: 100,
+    };
+    let cases = [
+        ("an older one is shown", Some(99), false, Wanted::Asks(64)),
+        (
+            "the same is shown",
+            Some(100),
+            false,
+            Wanted::Refuses(older),
+        ),
+        ("the same, forced", Some(100), true, Wanted::Asks(64)),
+        ("a newer one, forced", Some(101), true, Wanted::Asks(64)),
+    ];
+    for (name, shown, force, end) in &cases {
+        let mails = mails_of(&rt, alloc, &[REPLY_1]);
+        let walk = hosts_walk(&rt, alloc, *shown, *force);
+        let came = come_of(&rt, alloc, walk, &mails);
+        let wanted = end_of(&rt, alloc, *end);
+        assert_same(&rt, &came.end, &wanted, *name);
+    }
+}
+
+// The calls, each with the mails that it comes behind.
+const FRONT: &str = "00000000 00000002 000186a4 00000002";
+
+const BEHIND: &str =
+    "00000000 00000000 00000000 00000000 00000003 6c616200 0000000c 686f7374 732e6279 6e616d65";
+
+const CALLS: [(&[Mail], [&str; 5]); 5] = [
+    (&[], ["00000001", FRONT, "0000000a", BEHIND, ""]),
+    (&[REPLY_1], ["00000002", FRONT, "00000009", BEHIND, ""]),
+    (
+        &[REPLY_1, REPLY_2],
+        ["00000003", FRONT, "00000004", BEHIND, ""],
+    ),
+    (
+        &[REPLY_1, REPLY_2, REPLY_3],
+        [
+            "00000004",
+            FRONT,
+            "00000005",
+            BEHIND,
+            "00000005 616c7068 61000000",
+        ],
+    ),
+    (
+        &[REPLY_1, REPLY_2, REPLY_3, REPLY_4],
+        ["00000005", FRONT, "0000000a", BEHIND, ""],
+    ),
+];
+
+// Whether a walk asks by these bytes, behind these mails.
+fn asks<R: RandomSource>(rt: &R, walk: Walk, mails: &[(Peer, Vec<u8>)], call: &[u8]) -> bool
+    requires { IsAsking walk.standing }
+{
+    let mut walk = walk;
+    let _heard = hear_all(rt, &mut walk, mails);
+    let mut buf = [0; 8_192];
+    let len = walk.ask(&mut buf);
+    buf.get(..len) == Some(call)
+}
+
+#[test]
+fn calls_asked(rt: HostRuntime) {
+    let alloc = rt.alloc();
+    for (mails, words) in &CALLS {
+        let mails = mails_of(&rt, alloc, *mails);
+        let call = bytes(&rt, alloc, words);
+        let walk = hosts_walk(&rt, alloc, None, false);
+        let is = asks(&rt, walk, &mails, &call);
+        assert_same(&rt, &is, &true, words[0]);
+    }
+}
+
+// A row with a key of so many bytes, multiples of four, and no value.
+fn long_row<R: Abort>(rt: &R, alloc: Global, len: u32) -> (Peer, Vec<u8>) {
+    let mut mail = bytes(rt, alloc, &["00000003", SUCCESS, "00000001 00000000"]);
+    mail.extend_from_slice(&len.to_be_bytes())
+        .expect(rt, "a length");
+    let key = vec![in alloc; 0; len as usize].expect(rt, "a key");
+    mail.extend_from_slice(&key).expect(rt, "a mail");
+    (SOURCE, mail)
+}
+
+#[test]
+fn longest_key(rt: HostRuntime) {
+    let alloc = rt.alloc();
+    let cases = [
+        (8_124, Wanted::Asks(8_192)),
+        (8_128, Wanted::Refuses(XfrFault::Dbm)),
+    ];
+    for (len, end) in &cases {
+        let mut mails = mails_of(&rt, alloc, &[REPLY_1, REPLY_2]);
+        let row = long_row(&rt, alloc, *len);
+        mails.push(row).expect(&rt, "a list");
+        let walk = hosts_walk(&rt, alloc, None, false);
+        let came = come_of(&rt, alloc, walk, &mails);
+        let wanted = end_of(&rt, alloc, *end);
+        assert_same(&rt, &came.end, &wanted, "a long key");
+    }
+}
+
+#[test]
+fn empty_names(rt: HostRuntime) {
+    let alloc = rt.alloc();
+    let cases: [(&[u8], &[u8]); 2] = [(b"", b"hosts.byname"), (b"lab", b"")];
+    for (domain, map) in &cases {
+        let fault = match Walk::new(alloc, SOURCE, *domain, *map, None, false) {
+            Ok(_) => None,
+            Err(fault) => Some(fault),
+        };
+        assert_same(&rt, &fault, &Some(XfrFault::Badargs), "an empty name");
+    }
+}
