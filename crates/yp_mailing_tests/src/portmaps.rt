@@ -52,7 +52,7 @@ const SET_TWICE: Row = Row {
     turns: 3,
 };
 
-const ROWS: [Row; 10] = [
+const ROWS: [Row; 12] = [
     SET_TWICE,
     Row {
         name: "no turn",
@@ -127,6 +127,26 @@ const ROWS: [Row; 10] = [
         note: "yp: inbox fault\n",
         sends: &[(HERE, TRUE)],
         turns: 1,
+        ..SET_TWICE
+    },
+    Row {
+        name: "the second reply fails",
+        failing: &[3],
+        code: 22,
+        output: "",
+        note: "yp: inbox fault\n",
+        sends: &[(HERE, TRUE)],
+        turns: 2,
+        ..SET_TWICE
+    },
+    Row {
+        name: "the last turn fails",
+        failing: &[4],
+        code: 22,
+        output: "",
+        note: "yp: inbox fault\n",
+        sends: &[(HERE, TRUE), (HERE, FALSE)],
+        turns: 2,
         ..SET_TWICE
     },
     Row {
