@@ -4,7 +4,7 @@ use Rattle.std.specs.Prelude.{if◌then◌else◌, ⊤, []}
 use Rattle.yp_turns.specs.Turns.{mail_max}
 use Rattle.yp_msgs.specs.declared.stat.YpStat.TheVariants.{Nomore, Nokey}
 use Rattle.yp_version.specs.Rows.{Row, value_of}
-use Rattle.yp_version.specs.Drafts.{Draft, refused, with_row}
+use Rattle.yp_version.specs.Drafts.{Draft, empty_draft, refused, with_row}
 use Rattle.yp_client.specs.declared.fault.ClientFault.{ClientFault}
 use Rattle.yp_client.specs.declared.fault.ClientFault.TheVariants.{Yp}
 use Rattle.yp_client.specs.Results.{order_of, master_of, row_of}
@@ -12,7 +12,7 @@ use Rattle.yp_client.specs.Asked.{order_call, master_call, first_call, next_call
 use Rattle.yp_xfr.specs.declared.fault.XfrFault.{XfrFault}
 use Rattle.yp_xfr.specs.declared.fault.XfrFault.TheVariants.{Yperr, Xfrerr, Dbm, NoMemory}
 use Rattle.yp_xfr.specs.Faults.{of_client}
-use Rattle.yp_xfr.specs.Fetching.{Wanted, against_order, against_master, against_second, begun}
+use Rattle.yp_xfr.specs.Fetching.{Wanted, against_order, against_master, against_second}
 
 -- What is asked: the order; the master of the version with an order; the first row; the row behind that of a key; the
 -- order again, behind the last of some rows, which ended well or by a fault. Or it has ended, with a version or a
@@ -56,7 +56,7 @@ by_order wanted (Err fault) = refusal (of_client fault)
 
 -- MASTER
 abbrev pub by_master : ℕ → Result (List ℕ) ClientFault → Standing
-by_master order (Ok master) = unless (against_master master) (AsksFirst (begun order master))
+by_master order (Ok master) = unless (against_master master) (AsksFirst (empty_draft order master))
 by_master order (Err fault) = refusal (of_client fault)
 
 -- the bytes of the call for the row behind a key

@@ -222,7 +222,11 @@ impl Binding {
 fn servers_of(alloc: Global, hosts: &[HostWord]) -> Result<Vec<Peer>, AllocError>
     ensures { IfOk result (λ servers. servers.items ≡ servers_of (map host_view hosts.now)) }
 {
-    hosts.iter().map(|host| host.peer).collect(alloc)
+    let mut servers = Vec::new(alloc);
+    for host in hosts {
+        servers.push(host.peer)?;
+    }
+    Ok(servers)
 }
 
 /// Asks these hosts for a domain, answers which server it is bound to, in so many turns, and tells that.
@@ -250,7 +254,11 @@ pub fn bind_domain<S: Source, K: Sink, D: Disk, C: Clock, A: Dial, I: Inbox, T: 
         return Status::NoMemory;
     };
     match take_turns(&mut office.inbox, &mut binding, &mut room, turns) {
-        Ok(_) => tell_text(&mut office.wire.sink, &line(&domain, binding.server()), Status::Done),
+        Ok(_) => tell_text(
+            &mut office.wire.sink,
+            &line(&domain, binding.server()),
+            Status::Done,
+        ),
         Err(Failed) => Status::InboxFault,
     }
 }

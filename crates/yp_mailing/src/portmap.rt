@@ -4,7 +4,7 @@ ghost use Rattle.std.specs.Prelude.{◌≡◌, ◌≢◌, ◌⊎◌, IsTrue, IfO
 ghost use Rattle.yp_io.specs.Counts.{HasRisen};
 ghost use Rattle.yp_office.specs.Seeing.{seeing, IsPassedOn};
 ghost use Rattle.yp_office.specs.Status.{IsTellable};
-ghost use Rattle.yp_office.specs.declared.status.Status.TheVariants.{Done, WriteFault, NoMemory, InboxFault};
+ghost use Rattle.yp_office.specs.declared.status.Status.TheVariants.{Done, WriteFault, InboxFault};
 ghost use Rattle.yp_mailing.specs.Telling.{Tells};
 ghost use Rattle.yp_mailing.specs.Portmap.{Goes, Hears, Rests, mapping_line, mappings_text, portmap_may_end};
 ghost use Rattle.yp_mailing.specs.Portmap.{PortmapDoes};
@@ -77,7 +77,7 @@ fn text_of(alloc: Global, registry: &Registry) -> Result<Vec<u8>, NoMemory>
 /// Tells all mappings, or that memory ran out.
 fn tell_ports<K: Sink>(alloc: Global, sink: &mut K, registry: &Registry) -> Status
     ensures tells { Tells (mappings_text registry.now) Done result (K.output sink.old) (K.output sink.new)
-        ⊎ ((result ≡ NoMemory) × (sink.new ≡ sink.old)) }
+        ⊎ ((result ≡ Status.NoMemory) × (sink.new ≡ sink.old)) }
     ensures may_end { IsTrue (portmap_may_end result) }
     ensures heard { result ≢ InboxFault }
     ensures flushed { result ≢ WriteFault → IsTrue (K.flushed sink.old) → IsTrue (K.flushed sink.new) }

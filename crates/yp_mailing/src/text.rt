@@ -10,6 +10,7 @@ use yp_office::Status;
 
 /// Prints a text, and answers the status that was wanted, or that the output failed. An empty text isn't printed.
 pub(crate) fn tell_text<K: Sink>(sink: &mut K, text: &[u8], wanted: Status) -> Status
+    requires { wanted ≢ WriteFault }
     ensures tells { Tells text.now wanted result (K.output sink.old) (K.output sink.new) }
     ensures either { (result ≡ wanted) ⊎ (result ≡ WriteFault) }
     ensures flushed { result ≢ WriteFault → IsTrue (K.flushed sink.old) → IsTrue (K.flushed sink.new) }

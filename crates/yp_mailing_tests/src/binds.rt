@@ -96,7 +96,7 @@ const SILENT: Row = Row {
     ..OFFERED
 };
 
-const ROWS: [Row; 14] = [
+const ROWS: [Row; 16] = [
     OFFERED,
     SILENT,
     Row {
@@ -197,6 +197,25 @@ const ROWS: [Row; 14] = [
         note: "yp: inbox fault\n",
         sends: &[PING],
         turns: 0,
+        ..SILENT
+    },
+    Row {
+        name: "the second ping fails",
+        failing: &[2],
+        code: 22,
+        output: "",
+        note: "yp: inbox fault\n",
+        sends: &[PING],
+        turns: 1,
+        ..SILENT
+    },
+    Row {
+        name: "the second turn fails",
+        failing: &[3],
+        code: 22,
+        output: "",
+        note: "yp: inbox fault\n",
+        turns: 1,
         ..SILENT
     },
     Row {

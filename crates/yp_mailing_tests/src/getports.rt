@@ -56,7 +56,7 @@ const FOUND: Row = Row {
     ..QUIET
 };
 
-const ROWS: [Row; 14] = [
+const ROWS: [Row; 15] = [
     QUIET,
     FOUND,
     Row {
@@ -153,6 +153,14 @@ const ROWS: [Row; 14] = [
         code: 22,
         note: "yp: inbox fault\n",
         sends: &[CALL],
+        turns: 1,
+        ..QUIET
+    },
+    Row {
+        name: "the second turn fails",
+        failing: &[3],
+        code: 22,
+        note: "yp: inbox fault\n",
         turns: 1,
         ..QUIET
     },

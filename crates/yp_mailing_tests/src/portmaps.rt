@@ -26,8 +26,9 @@ const TRUE: &[&str] = &["00000001 00000001 00000000 00000000 00000000 00000000 0
 const FALSE: &[&str] = &["00000001 00000001 00000000 00000000 00000000 00000000 00000000"];
 
 /// DUMP, and the list of that mapping.
-const DUMP: &[&str] =
-    &["00000002 00000000 00000002 000186a0 00000002 00000004 00000000 00000000 00000000 00000000"];
+const DUMP: &[&str] = &[
+    "00000002 00000000 00000002 000186a0 00000002 00000004 00000000 00000000 00000000 00000000",
+];
 
 const LIST: &[&str] = &[
     "00000002 00000001 00000000 00000000 00000000 00000000",
@@ -51,7 +52,7 @@ const SET_TWICE: Row = Row {
     turns: 3,
 };
 
-const ROWS: [Row; 10] = [
+const ROWS: [Row; 12] = [
     SET_TWICE,
     Row {
         name: "no turn",
@@ -74,11 +75,15 @@ const ROWS: [Row; 10] = [
             Some((HERE, &["00000001 00000001 00000002"])),
             Some((
                 HERE,
-                &["00000003 00000000 00000002 000186a0 00000002 00000005 00000000 00000000 00000000 00000000"],
+                &[
+                    "00000003 00000000 00000002 000186a0 00000002 00000005 00000000 00000000 00000000 00000000",
+                ],
             )),
             Some((
                 HERE,
-                &["00000004 00000000 00000002 000186a0 00000002 00000001 00000000 00000000 00000000 00000000"],
+                &[
+                    "00000004 00000000 00000002 000186a0 00000002 00000001 00000000 00000000 00000000 00000000",
+                ],
             )),
         ],
         output: "",
@@ -122,6 +127,26 @@ const ROWS: [Row; 10] = [
         note: "yp: inbox fault\n",
         sends: &[(HERE, TRUE)],
         turns: 1,
+        ..SET_TWICE
+    },
+    Row {
+        name: "the second reply fails",
+        failing: &[3],
+        code: 22,
+        output: "",
+        note: "yp: inbox fault\n",
+        sends: &[(HERE, TRUE)],
+        turns: 2,
+        ..SET_TWICE
+    },
+    Row {
+        name: "the last turn fails",
+        failing: &[4],
+        code: 22,
+        output: "",
+        note: "yp: inbox fault\n",
+        sends: &[(HERE, TRUE), (HERE, FALSE)],
+        turns: 2,
         ..SET_TWICE
     },
     Row {

@@ -13,8 +13,10 @@ ghost use Rattle.yp_words.specs.Forms.{is_force};
 ghost use Rattle.yp_words.specs.Words.{IsUsage, HasNames};
 
 use crate::command::{Command, HostWord, KeyValue};
-use crate::form::{ANY, FORCE, SECURE, YPSET, YPSETME, address_of, cut_at, is_host, is_store, number_of};
-use crate::form::port_of as port_in;
+use crate::form::{
+    ANY, FORCE, SECURE, YPSET, YPSETME, address_of, cut_at, is_host, is_store, number_of,
+    port_of as port_in,
+};
 use crate::sentence::{Task, task_of, wrong_word};
 use std::alloc::{AllocError, Global};
 use yp_bind::Policy;
