@@ -21,6 +21,7 @@ pub enum Task {
     BuildFlagged,
     Xfr,
     XfrFlagged,
+    Revnet,
     Sample,
     /// A question to the server that the word behind the first names. The numbers are those of the words that it is
     /// made of, counted from 0.
@@ -49,7 +50,7 @@ struct Sentence {
 }
 
 /// All sentences.
-const SENTENCES: [Sentence; 15] = [
+const SENTENCES: [Sentence; 16] = [
     Sentence {
         task: Task::Once,
         forms: &[Form::Exactly("once"), Form::Store],
@@ -101,6 +102,11 @@ const SENTENCES: [Sentence; 15] = [
             Form::Host,
             Form::Flag,
         ],
+        further: Further::NoMore,
+    },
+    Sentence {
+        task: Task::Revnet,
+        forms: &[Form::Exactly("revnet"), Form::Name, Form::ReverseStore],
         further: Further::NoMore,
     },
     Sentence {
