@@ -1,7 +1,7 @@
 -- What the program does, by its command: one line each.
 use Rattle.std.specs.Prelude.{◌≡◌, ◌⊎◌, ℕ, Bool, IsTrue, List, Result, Ok, Err}
 use Rattle.yp_session.specs.Wires.{Wire}
-use Rattle.yp_words.specs.Words.{Meaning, Once, Session, Check, Build, Xfr, Sample, Ask, TakesMemory}
+use Rattle.yp_words.specs.Words.{Meaning, Once, Session, Check, Build, Xfr, Revnet, Sample, Ask, TakesMemory}
 use Rattle.yp_words.specs.declared.words.ParseFault.{ParseFault}
 use Rattle.yp_words.specs.declared.words.ParseFault.TheVariants as fault
 use Rattle.yp_office.specs.declared.office.Office.{Office}
@@ -13,6 +13,7 @@ use Rattle.yp_serving.specs.Sample.{SampleDoes, sample_may_end}
 use Rattle.yp_serving.specs.Session.{SessionDoes, session_may_end}
 use Rattle.yp_storing.specs.Build.{BuildDoes, build_may_end}
 use Rattle.yp_storing.specs.Check.{CheckDoes, check_may_end}
+use Rattle.yp_storing.specs.Revnet.{RevnetDoes, revnet_may_end}
 use Rattle.yp_storing.specs.Xfr.{order_of, xfr_may_end}
 use Rattle.yp_tools.specs.Asking.{AskDoes, ask_may_end}
 use Rattle.yp_tools.specs.Transferring.{TransferDoes}
@@ -29,6 +30,8 @@ CommandDoes seen (Build name store flag) status old new before after =
     BuildDoes seen name store flag status old new × (after ≡ before)
 CommandDoes seen (Xfr name force store host flag) status old new before after =
     TransferDoes seen (order_of name force store host flag) status old new × (after ≡ before)
+CommandDoes seen (Revnet name store) status old new before after =
+    RevnetDoes seen name store status old new × (after ≡ before)
 CommandDoes seen (Sample start count) status old new before after =
     SampleDoes seen start count status old new × (after ≡ before)
 CommandDoes seen (Ask peer question) status old new before after =
@@ -56,6 +59,7 @@ may_end (Session own peer stores hosts) status = session_may_end status
 may_end (Check store) status = check_may_end status
 may_end (Build name store flag) status = build_may_end status
 may_end (Xfr name force store host flag) status = xfr_may_end status
+may_end (Revnet name store) status = revnet_may_end status
 may_end (Sample start count) status = sample_may_end status
 may_end (Ask peer question) status = ask_may_end status
 

@@ -18,7 +18,7 @@ use yp_io::{Clock, Dial, Disk, Inbox, Pair, Sink, Source, Texts, write_all};
 use yp_office::{NamedDisk, Office, Status};
 use yp_serving::{serve_once, serve_session, tell_sample};
 use yp_session::{Trail, Witness};
-use yp_storing::{build_map, check_map};
+use yp_storing::{build_map, check_map, reverse_map};
 use yp_words::{Command, ParseFault, parse};
 
 /// What the program reaches outside itself.
@@ -79,6 +79,7 @@ fn obey<S: Source, K: Sink, D: Disk, C: Clock, A: Dial, I: Inbox, T: Texts, W: W
             host,
             flag,
         } => transfer(alloc, rt, name, force, store, host, flag, &mut office),
+        Command::Revnet { name, store } => reverse_map(alloc, rt, name, store, &mut office),
         Command::Ask { addr, question } => ask(alloc, rt, addr, &question, &mut office),
         Command::Session {
             name,
