@@ -2,7 +2,9 @@
 # Shows how the time of `yp innetgr` grows with its map: of a chain of 100000 groups, at the
 # end of which is the user who is asked for, and of 2000 groups that all name one another,
 # of which the last lists the user; each beside a map of half as many groups, and beside
-# `yp cat`, which takes the same reply and looks at no group:
+# `yp cat`, which takes the same reply and looks at no group. And how that of `yp revnet` grows
+# with its result: of a chain of 2000 groups with a user each, whose rows together have two
+# million groups, and of 100000 groups that name none; each beside half as many groups:
 # bench/netgroup.sh [ROUNDS]
 . "$(dirname -- "$(readlink -f -- "$0")")/room.sh"
 rounds=${1:-7}
@@ -56,4 +58,31 @@ for shape in "chain 100000 g000000" "full 2000 000"; do
         whole "$yp" innetgr "127.0.0.1:$port" lab "$first" '*' joe '*' ";" \
         half "$yp" innetgr "127.0.0.1:$half" lab "$first" '*' joe '*' ";" \
         "cat" "$yp" cat "127.0.0.1:$port" lab netgroup
+done
+
+# A chain of N groups with a user each.
+users() {
+    awk -v n="$1" 'BEGIN { for (i = 0; i < n; i++) printf "g%05d g%05d (-,u%d,)\n", i, i + 1, i }'
+}
+
+# N groups that name none, with a user each.
+apart() {
+    awk -v n="$1" 'BEGIN { for (i = 0; i < n; i++) printf "g%05d (-,u%d,)\n", i, i }'
+}
+
+# Makes a map of what comes in, and its reverse, in this folder.
+reverse() {
+    mkdir -p "$1"
+    (cd "$1" && "$yp" build m1 lab/netgroup && "$yp" revnet m1 lab/netgroup.byuser) >/dev/null
+    stat -c %s "$1/ypdata/lab/netgroup.byuser"
+}
+
+again='cd "$0" && exec "$1" revnet m1 lab/netgroup.byuser >/dev/null'
+for shape in "users 2000" "apart 100000"; do
+    read -r make count <<<"$shape"
+    whole=$("$make" "$count" | reverse "$make.whole")
+    half=$("$make" $((count / 2)) | reverse "$make.half")
+    echo "$make: $count groups, a reverse of $whole bytes, and of half as many one of $half"
+    python3 "$top/bench/measure.py" "$room" "$rounds" /dev/null \
+        whole bash -c "$again" "$make.whole" "$yp" ";" half bash -c "$again" "$make.half" "$yp"
 done

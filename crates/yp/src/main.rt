@@ -21,11 +21,13 @@ use yp_tools::{
     stores_of, tell,
 };
 
-/// When the files of a command are locked. A session answers from what it loaded, and may never write.
-fn locking_of(command: &Command) -> Locking {
+/// When the file of a map is locked, which a command reads or writes. A session answers from what it loaded, and may
+/// never write. Netgroups that are reversed are only read.
+fn locking_of(command: &Command, name: &MapName) -> Locking {
     match command {
         Command::Build { .. } => Locking::AtOnce,
         Command::Xfr { .. } => Locking::AtOnce,
+        Command::Revnet { store, .. } if store.map == name.map => Locking::AtOnce,
         _ => Locking::AtFirstWrite,
     }
 }
@@ -39,8 +41,10 @@ fn disks(
     ensures { IfOk result (λ disks. names_of disks.items ≡ stores_of (meaning command.now)) }
 {
     let names = stores_of(alloc, command)?;
-    let locking = locking_of(command);
-    let make = |name: &MapName| FileDisk::new(alloc, files, &name.domain, &name.map, locking);
+    let make = |name: &MapName| {
+        let locking = locking_of(command, name);
+        FileDisk::new(alloc, files, &name.domain, &name.map, locking)
+    };
     match named_disks(alloc, names, make) {
         Ok(disks) => Ok(disks),
         Err(AllocError) => Err(NoMemory),

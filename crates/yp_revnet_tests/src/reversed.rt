@@ -17,24 +17,33 @@ struct Case {
     split: (bool, bool),
 }
 
+/// The groups of the cases whose reverses are looked up in.
+const CYCLE: &[Row<'static>] = &[(b"a", b"b"), (b"b", b"a (-,joe,)")];
+
+const STAFF: &[Row<'static>] = &[(b"g", b"(H1,,Lab) (,ann,)")];
+
+const DOTTED: &[Row<'static>] = &[(b"g", b"(a,,b.c)")];
+
+const STARS: &[Row<'static>] = &[(b"x", b"(,u,*)"), (b"y", b"(*,v,)"), (b"z", b"y y y")];
+
 const CASES: [Case; 6] = [
     Case {
         row: "groups that name each other",
-        groups: &[(b"a", b"b"), (b"b", b"a (-,joe,)")],
+        groups: CYCLE,
         by_user: &[(b"joe.*", b"a,b")],
         by_host: &[],
         split: (true, true),
     },
     Case {
         row: "upper case, and empty parts",
-        groups: &[(b"g", b"(H1,,Lab) (,ann,)")],
+        groups: STAFF,
         by_user: &[(b"*.lab", b"g"), (b"ann.*", b"g")],
         by_host: &[(b"*.*", b"g"), (b"h1.lab", b"g")],
         split: (true, true),
     },
     Case {
         row: "a dot in a domain",
-        groups: &[(b"g", b"(a,,b.c)")],
+        groups: DOTTED,
         by_user: &[(b"*.b.c", b"g")],
         by_host: &[(b"a.b.c", b"g")],
         split: (false, false),
@@ -63,7 +72,7 @@ const CASES: [Case; 6] = [
     },
     Case {
         row: "asterisks",
-        groups: &[(b"x", b"(,u,*)"), (b"y", b"(*,v,)"), (b"z", b"y y y")],
+        groups: STARS,
         by_user: &[(b"u.*", b"x"), (b"v.*", b"y,z")],
         by_host: &[(b"*.*", b"x,y,z")],
         split: (false, false),
@@ -125,94 +134,65 @@ fn reversed_by_hand(rt: HostRuntime) {
     }
 }
 
-// Who is looked up in the reverse of which case, and what is answered there and of the groups.
+// Who is looked up in the reverse of which groups, by a group, a name and a domain, and whether they are listed there
+// and are a member.
 #[derive(Clone, Copy)]
 struct Asked {
     groups: &'static [Row<'static>],
     field: Field,
-    group: &'static [u8],
-    name: &'static [u8],
-    domain: &'static [u8],
-    listed: bool,
-    member: bool,
-}
-
-const fn look_up(
-    groups: &'static [Row<'static>],
-    field: Field,
     who: (&'static [u8], &'static [u8], &'static [u8]),
-    listed: bool,
-    member: bool,
-) -> Asked {
-    Asked {
-        groups,
-        field,
-        group: who.0,
-        name: who.1,
-        domain: who.2,
-        listed,
-        member,
-    }
+    told: (bool, bool),
 }
 
-// Look-ups in the reverses of the cases above.
 const LOOK_UPS: [Asked; 8] = [
-    look_up(
-        CASES[0].groups,
-        Field::User,
-        (b"a", b"joe", b"lab"),
-        true,
-        true,
-    ),
-    look_up(
-        CASES[0].groups,
-        Field::User,
-        (b"c", b"joe", b"lab"),
-        false,
-        false,
-    ),
-    look_up(
-        CASES[0].groups,
-        Field::Host,
-        (b"a", b"h", b"lab"),
-        false,
-        false,
-    ),
-    look_up(
-        CASES[1].groups,
-        Field::Host,
-        (b"g", b"H1", b"LAB"),
-        true,
-        true,
-    ),
-    look_up(
-        CASES[1].groups,
-        Field::User,
-        (b"g", b"Ann", b"dom"),
-        false,
-        false,
-    ),
-    look_up(
-        CASES[1].groups,
-        Field::User,
-        (b"g", b"Ann", b"lab"),
-        true,
-        true,
-    ),
-    look_up(
-        CASES[2].groups,
-        Field::Host,
-        (b"g", b"a.b", b"c"),
-        true,
-        false,
-    ),
-    look_up(
-        CASES[5].groups,
-        Field::Host,
-        (b"z", b"h", b"lab"),
-        true,
-        false,
-    ),
+    Asked {
+        groups: CYCLE,
+        field: Field::User,
+        who: (b"a", b"joe", b"lab"),
+        told: (true, true),
+    },
+    Asked {
+        groups: CYCLE,
+        field: Field::User,
+        who: (b"c", b"joe", b"lab"),
+        told: (false, false),
+    },
+    Asked {
+        groups: CYCLE,
+        field: Field::Host,
+        who: (b"a", b"h", b"lab"),
+        told: (false, false),
+    },
+    Asked {
+        groups: STAFF,
+        field: Field::Host,
+        who: (b"g", b"H1", b"LAB"),
+        told: (true, true),
+    },
+    Asked {
+        groups: STAFF,
+        field: Field::User,
+        who: (b"g", b"Ann", b"dom"),
+        told: (false, false),
+    },
+    Asked {
+        groups: STAFF,
+        field: Field::User,
+        who: (b"g", b"Ann", b"lab"),
+        told: (true, true),
+    },
+    Asked {
+        groups: DOTTED,
+        field: Field::Host,
+        who: (b"g", b"a.b", b"c"),
+        told: (true, false),
+    },
+    Asked {
+        groups: STARS,
+        field: Field::Host,
+        who: (b"z", b"h", b"lab"),
+        told: (true, false),
+    },
 ];
 
 // Whether somebody is listed in the reverse, and whether they are a member.
@@ -222,26 +202,20 @@ fn looked_up<R: RandomSource>(
     netgroup: &Version,
     asked: &Asked,
 ) -> (Option<bool>, Option<bool>) {
+    let (group, name, domain) = asked.who;
     let (host, user) = match asked.field {
-        Field::User => (None, Some(asked.name)),
-        Field::Host => (Some(asked.name), None),
+        Field::User => (None, Some(name)),
+        Field::Host => (Some(name), None),
     };
     let who = Who {
         host,
         user,
-        domain: Some(asked.domain),
+        domain: Some(domain),
     };
-    let member = innetgr(alloc, rt, netgroup, asked.group, &who).ok();
+    let member = innetgr(alloc, rt, netgroup, group, &who).ok();
     match reverse(alloc, rt, netgroup, asked.field, 7, b"m1") {
         Ok(reverse) => {
-            let listed = listed_in(
-                alloc,
-                &reverse,
-                asked.field,
-                asked.group,
-                asked.name,
-                asked.domain,
-            );
+            let listed = listed_in(alloc, &reverse, asked.field, group, name, domain);
             (listed.ok(), member)
         }
         Err(_) => (None, member),
@@ -254,7 +228,7 @@ fn looked_up_by_hand(rt: HostRuntime) {
     for asked in &LOOK_UPS {
         let netgroup = version(&rt, alloc, asked.groups);
         let came = looked_up(&rt, alloc, &netgroup, asked);
-        let wanted = (Some(asked.listed), Some(asked.member));
+        let wanted = (Some(asked.told.0), Some(asked.told.1));
         assert_same(&rt, &came, &wanted, "a look-up");
     }
 }

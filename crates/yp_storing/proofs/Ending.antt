@@ -89,12 +89,12 @@ no_read store stop.NoMemory status is e = let wrong : NoMemory ≡ ReadFault = s
 
 -- ---- and of a line that was told
 
-line_written : (text : List ℕ) (status : Status) (before after : Option (List ℕ)) → TellsLine text status before after → may_have_written status ≡ false → ⊥
+pub line_written : (text : List ℕ) (status : Status) (before after : Option (List ℕ)) → TellsLine text status before after → may_have_written status ≡ false → ⊥
 line_written text Done before after told mild = cc
 line_written text WriteFault before after told mild = cc
 line_written text _ before after told mild = told
 
-line_no_disk : (text : List ℕ) (status : Status) (before after : Option (List ℕ)) (map : MapName) → TellsLine text status before after → status ≡ DiskFault map → ⊥
+pub line_no_disk : (text : List ℕ) (status : Status) (before after : Option (List ℕ)) (map : MapName) → TellsLine text status before after → status ≡ DiskFault map → ⊥
 line_no_disk text Done before after map told e = cc
 line_no_disk text WriteFault before after map told e = cc
 line_no_disk text _ before after map told e = told

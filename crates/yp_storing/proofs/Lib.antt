@@ -5,3 +5,5 @@ pub mod Checking
 pub mod Ending
 pub mod Transferring
 pub mod Transferred
+pub mod Reversing
+pub mod Reversed

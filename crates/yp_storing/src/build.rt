@@ -340,7 +340,7 @@ fn status_stopped(store: MapName, stop: Stop) -> Status
 }
 
 /// Tells what was stored.
-fn tell_built<K: Sink>(sink: &mut K, store: &MapName, built: &Built) -> Status
+pub(crate) fn tell_built<K: Sink>(sink: &mut K, store: &MapName, built: &Built) -> Status
     requires { IsNamed (name_view store.now) }
     ensures tells { TellsLine (build_line (name_view store.now) built.now.order built.now.rows built.now.generation)
         result (K.output sink.old) (K.output sink.new) }

@@ -1,15 +1,18 @@
 //! The commands over stored maps: `build`, which builds a map and stores it, `xfr`, which fetches a map from another
-//! host and stores it, and `check`, which tells what a file stands for.
+//! host and stores it, `revnet`, which reverses netgroups and stores them, and `check`, which tells what a file stands
+//! for.
 //!
 //! Each takes the office of the outside, and ensures the one relation that says what it does to it: [`build_map`],
-//! [`transfer_map`] and [`check_map`].
+//! [`transfer_map`], [`reverse_map`] and [`check_map`].
 #![tactic(auto)]
 
 mod build;
 mod catalog;
 mod check;
+mod revnet;
 mod xfr;
 
 pub use build::build_map;
 pub use check::check_map;
+pub use revnet::reverse_map;
 pub use xfr::{XfrJob, transfer_map};

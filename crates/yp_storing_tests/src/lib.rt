@@ -1,11 +1,13 @@
-//! Tests of `xfr` as `yp_tools` runs it: what memory alone can show, as calls that fail, and crashes. The rest is in
-//! examples/.
+//! Tests of `xfr` and `revnet` as `yp_tools` runs them: what memory alone can show, as calls that fail, and crashes. The
+//! rest is in examples/.
 #![tactic(auto)]
 
 #[cfg(test)]
 mod faults;
 #[cfg(test)]
 mod given;
+#[cfg(test)]
+mod reverses;
 #[cfg(test)]
 mod source;
 #[cfg(test)]

@@ -1,4 +1,4 @@
-//! Runs of `xfr` over memory.
+//! Runs of `xfr` and `revnet` over memory.
 
 ghost use Rattle.std.specs.Prelude.{◌≡◌, All, IfOk};
 ghost use Rattle.yp_io.specs.MemDial.{IsNew};
@@ -25,6 +25,9 @@ pub struct Scene<'a> {
     /// The call from which on its disk fails, and the further ones that fail.
     pub stop: Option<u64>,
     pub disk: &'a [u64],
+    /// The file of the netgroups, where the words name it, and the calls of its disk that fail.
+    pub netgroup: &'a [u8],
+    pub netgroup_disk: &'a [u64],
     /// What the only wire gives.
     pub wire: &'a [u8],
     pub dials: &'a [u64],
@@ -39,6 +42,8 @@ pub const FAIR: Scene<'static> = Scene {
     file: &[],
     stop: None,
     disk: &[],
+    netgroup: &[],
+    netgroup_disk: &[],
     wire: &[],
     dials: &[],
     reads: &[],
@@ -66,7 +71,12 @@ fn copied<R: Abort, T: Copy>(rt: &R, alloc: Global, items: &[T]) -> Vec<T> {
     Vec::from_slice(alloc, items).expect(rt, "memory")
 }
 
-fn disk_of(alloc: Global, scene: &Scene<'_>) -> Result<MemDisk, AllocError> {
+fn disk_of(alloc: Global, map: &[u8], scene: &Scene<'_>) -> Result<MemDisk, AllocError> {
+    if map == b"netgroup".as_slice() {
+        let bytes = Vec::from_slice(alloc, scene.netgroup)?;
+        let failing = Vec::from_slice(alloc, scene.netgroup_disk)?;
+        return Ok(MemDisk::new(alloc, bytes, None, failing));
+    }
     let bytes = Vec::from_slice(alloc, scene.file)?;
     let failing = Vec::from_slice(alloc, scene.disk)?;
     Ok(MemDisk::new(alloc, bytes, scene.stop, failing))
@@ -83,7 +93,7 @@ fn disks_of(
     let Ok(names) = disk_names(alloc, words) else {
         return Err(AllocError);
     };
-    let make = |_: &MapName| disk_of(alloc, scene);
+    let make = |name: &MapName| disk_of(alloc, &name.map, scene);
     named_disks(alloc, names, make)
 }
 
@@ -149,10 +159,10 @@ pub fn told_of<'a>(status: &Status, outside: &'a Memory) -> Told<'a> {
     )
 }
 
-/// The bytes of the only disk.
+/// The bytes of the first disk.
 pub fn file_of(disks: &[NamedDisk<MemDisk>]) -> &[u8] {
     match disks {
-        [first] => first.disk.bytes(),
+        [first, ..] => first.disk.bytes(),
         _ => &[],
     }
 }

@@ -14,9 +14,9 @@ use Rattle.yp_bind.specs.Rounds.{is_same_peer}
 use Rattle.yp_board.specs.Catalogues.{Name, name_max, maps_max, is_same, is_map_name, is_name as is_short_name}
 use Rattle.yp_board.specs.Catalogues.{again_from, with_numbers, bad_name, twice, catalog_fault}
 use Rattle.yp_words.specs.Forms.{Form, has_form, before, after, is_name, is_store, is_kind_store, is_text, is_key}
-use Rattle.yp_words.specs.Forms.{is_host}
+use Rattle.yp_words.specs.Forms.{is_host, is_reverse}
 use Rattle.yp_words.specs.Words.{Meaning, Further, Sentence, once, session, check, build, build_flagged, xfr}
-use Rattle.yp_words.specs.Words.{xfr_flagged, sample, bind, portmap, getport, cat, catk, which, poll, IsOneMap}
+use Rattle.yp_words.specs.Words.{xfr_flagged, sample, bind, portmap, getport, cat, catk, which, poll, IsOneMap, revnet}
 use Rattle.yp_words.specs.Words.{match_key, maps, innetgr, asking, sentences, further_fitting}
 use Rattle.yp_words.specs.Words.{serving_fitting, joins, is_new_store, served, fitting, is_whole, asked, name_of}
 use Rattle.yp_words.specs.Words.{kind_of, joins_servers, servers_fitting, peer_word, host_of, IsNamed, HasNames}
@@ -306,6 +306,15 @@ xfr_flagged_named (first ∷ name ∷ []) h = absurd h.forms.1.1
 xfr_flagged_named (first ∷ name ∷ mode ∷ []) h = absurd h.forms.1.1.1
 xfr_flagged_named (first ∷ name ∷ mode ∷ store ∷ more) h = one_map name store h.forms.1.0 h.forms.1.1.1.0
 
+revnet_named : (words : List (List ℕ)) → Fit revnet words → HasNames (revnet.asks words)
+unfolding HaveForms
+revnet_named [] h = absurd h.forms
+revnet_named (first ∷ []) h = absurd h.forms.1
+revnet_named (first ∷ name ∷ []) h = absurd h.forms.1.1
+revnet_named (first ∷ name ∷ store ∷ more) h =
+    let parts = both (is_store store) (is_reverse (after 47 store)) h.forms.1.1.0 in
+    (name_short name h.forms.1.0, store_named store parts.0, parts.1)
+
 sample_named : (words : List (List ℕ)) → Fit sample words → HasNames (sample.asks words)
 sample_named words h = tt
 
@@ -432,7 +441,7 @@ asked_named words meaning e =
               flagged_named,
               (
                 xfr_named,
-                (xfr_flagged_named, (sample_named, (bind_named, (portmap_named, (getport_named, questions))))),
+                (xfr_flagged_named, (revnet_named, (sample_named, (bind_named, (portmap_named, (getport_named, questions)))))),
               ),
             ),
           ),

@@ -39,6 +39,20 @@ is_store word = is_name (before 47 word) && is_name (after 47 word)
 abbrev pub is_kind_store : List ℕ → Bool
 is_kind_store word = is_store word && is_some (find (λ kind. bytes_eq (kind_name kind) (after 47 word)) kinds)
 
+-- the maps of netgroups by users, and by hosts
+abbrev pub by_user : List ℕ
+by_user = codes "netgroup.byuser"
+
+abbrev pub by_host : List ℕ
+by_host = codes "netgroup.byhost"
+
+abbrev pub is_reverse : List ℕ → Bool
+is_reverse map = bytes_eq map by_user || bytes_eq map by_host
+
+-- a store whose map is one of these
+abbrev pub is_reverse_store : List ℕ → Bool
+is_reverse_store word = is_store word && is_reverse (after 47 word)
+
 -- a row: a key, which isn't empty, and its value behind the first equals sign
 abbrev pub is_row : List ℕ → Bool
 is_row word =
@@ -119,6 +133,7 @@ pub data Form : Type 0 where
   Name : Form
   Store : Form
   KindStore : Form
+  ReverseStore : Form
   Pair : Form
   Number : Form
   Port : Form
@@ -135,6 +150,7 @@ has_form (Exactly text) word = bytes_eq word text
 has_form Name word = is_name word
 has_form Store word = is_store word
 has_form KindStore word = is_kind_store word
+has_form ReverseStore word = is_reverse_store word
 has_form Pair word = is_row word
 has_form Number word = is_number word
 has_form Port word = is_some (port_of word)
@@ -152,6 +168,7 @@ form_view (code.Exactly text) = Exactly text.now
 form_view code.Name = Name
 form_view code.Store = Store
 form_view code.KindStore = KindStore
+form_view code.ReverseStore = ReverseStore
 form_view code.Pair = Pair
 form_view code.Number = Number
 form_view code.Port = Port

@@ -30,7 +30,7 @@ use Rattle.yp_words.specs.declared.sentence.Task.TheVariants as task
 use Rattle.yp_words.specs.declared.words.ParseFault.{ParseFault}
 use Rattle.yp_words.specs.declared.words.ParseFault.TheVariants.{Usage, NoMemory}
 use Rattle.yp_words.specs.Forms.{Form, has_form, form_view, before, after, number_of, is_store, is_host, address_of}
-use Rattle.yp_words.specs.Forms.{is_secure, is_force, is_ypsetme, is_ypset, is_any}
+use Rattle.yp_words.specs.Forms.{is_secure, is_force, is_ypsetme, is_ypset, is_any, is_reverse}
 use Rattle.yp_words.specs.Forms as form
 
 -- ---- what words mean
@@ -49,6 +49,8 @@ pub data Meaning : Type 0 where
   Build : (name : List ℕ) (store : Name) (flag : Option Bool) → Meaning
   -- the own name, whether the order doesn't count, the map, the host that has it, and the flag
   Xfr : (name : List ℕ) (force : Bool) (store : Name) (host : Host) (flag : Option Bool) → Meaning
+  -- the own name, and the map of netgroups by users or by hosts
+  Revnet : (name : List ℕ) (store : Name) → Meaning
   Sample : (start count : ℕ) → Meaning
   -- the port, who may bind the domain, how many turns there are, the domain, and the servers
   Bind : (port : ℕ) (policy : Policy) (turns : ℕ) (domain : List ℕ) (hosts : List Host) → Meaning
@@ -167,6 +169,13 @@ xfr_flagged = record {
       (host_of (word_at 4 words)) (Some (is_secure (word_at 5 words)));
 }
 
+abbrev pub revnet : Sentence
+revnet = record {
+  forms = form.Exactly (codes "revnet") ∷ form.Name ∷ form.ReverseStore ∷ [];
+  further = NoMore;
+  asks = λ words. Revnet (word_at 1 words) (name_of (word_at 2 words));
+}
+
 abbrev pub sample : Sentence
 sample = record {
   forms = form.Exactly (codes "sample") ∷ form.Number ∷ form.Number ∷ [];
@@ -253,7 +262,7 @@ innetgr = record {
 
 unfoldable pub sentences : List Sentence
 sentences =
-    once ∷ session ∷ check ∷ build ∷ build_flagged ∷ xfr ∷ xfr_flagged ∷ sample ∷ bind ∷ portmap ∷ getport
+    once ∷ session ∷ check ∷ build ∷ build_flagged ∷ xfr ∷ xfr_flagged ∷ revnet ∷ sample ∷ bind ∷ portmap ∷ getport
     ∷ cat ∷ catk ∷ which ∷ poll ∷ match_key ∷ maps ∷ innetgr ∷ []
 
 -- how many words at the front are of a form
@@ -334,6 +343,10 @@ command_of words = ok_or (asked sentences words) (wrong_word sentences words)
 
 -- ---- the maps that words name
 
+-- the map of netgroups in the domain of a map
+abbrev pub netgroup_of : Name → Name
+netgroup_of store = (store.0, codes "netgroup")
+
 -- the maps whose files a command reads or writes, in the order of its words
 abbrev pub stores_of : Meaning → List Name
 stores_of (Once store rows) = []
@@ -341,6 +354,7 @@ stores_of (Session own peer stores hosts) = stores
 stores_of (Check store) = store ∷ []
 stores_of (Build name store flag) = store ∷ []
 stores_of (Xfr name force store host flag) = store ∷ []
+stores_of (Revnet name store) = store ∷ netgroup_of store ∷ []
 stores_of (Sample start count) = []
 stores_of (Bind port policy turns domain hosts) = []
 stores_of (Portmap port turns) = []
@@ -362,6 +376,7 @@ port_of (Session own peer stores hosts) = None
 port_of (Check store) = None
 port_of (Build name store flag) = None
 port_of (Xfr name force store host flag) = None
+port_of (Revnet name store) = None
 port_of (Sample start count) = None
 port_of (Bind port policy turns domain hosts) = Some port
 port_of (Portmap port turns) = Some port
@@ -384,6 +399,7 @@ meaning (command.Check store) = Check (name_view store)
 meaning (command.Build name store flag) = Build name.items (name_view store) flag
 meaning (command.Xfr name force store host flag) =
     Xfr name.items force (name_view store) (host_view host) flag
+meaning (command.Revnet name store) = Revnet name.items (name_view store)
 meaning (command.Sample start count) = Sample start count
 meaning (command.Bind port policy turns domain hosts) =
     Bind port policy turns domain.items (map host_view hosts.items)
@@ -415,6 +431,7 @@ asks_of task.Build = build.asks
 asks_of task.BuildFlagged = build_flagged.asks
 asks_of task.Xfr = xfr.asks
 asks_of task.XfrFlagged = xfr_flagged.asks
+asks_of task.Revnet = revnet.asks
 asks_of task.Sample = sample.asks
 asks_of task.Bind = bind.asks
 asks_of task.Portmap = portmap.asks
@@ -455,6 +472,7 @@ HasNames (Session own peer stores hosts) =
 HasNames (Check store) = IsNamed store
 HasNames (Build name store flag) = IsOneMap name store × IsSome (kind_of store)
 HasNames (Xfr name force store host flag) = IsOneMap name store
+HasNames (Revnet name store) = (length name ≤ name_max) × IsNamed store × (is_reverse store.1 ≡ true)
 HasNames (Sample start count) = ⊤
 HasNames (Bind port policy turns domain hosts) = (length domain ≤ name_max) × (length hosts ≤ servers_max)
 HasNames (Portmap port turns) = ⊤
@@ -470,6 +488,7 @@ TakesMemory (Session own peer stores hosts) = Unit {0}
 TakesMemory (Check store) = Unit {0}
 TakesMemory (Build name store flag) = Unit {0}
 TakesMemory (Xfr name force store host flag) = Unit {0}
+TakesMemory (Revnet name store) = Unit {0}
 TakesMemory (Sample start count) = ⊥
 TakesMemory (Bind port policy turns domain hosts) = Unit {0}
 TakesMemory (Portmap port turns) = ⊥

@@ -55,6 +55,12 @@ pub enum Command {
         host: HostWord,
         flag: Option<bool>,
     },
+    /// Makes this map, of netgroups by users or by hosts, of the domain's netgroups, and installs it. `name` is its
+    /// master.
+    Revnet {
+        name: Vec<u8>,
+        store: MapName,
+    },
     /// Asks for each row of a map of `count` sample rows, made of the numbers after `start`, and for all of them.
     Sample {
         start: u32,

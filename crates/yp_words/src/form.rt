@@ -4,7 +4,7 @@ ghost use Rattle.std.specs.Prelude.{◌≡◌, ◌<◌, ◌≤◌};
 ghost use Rattle.std.specs.List.{list_all};
 ghost use Rattle.yp_words.specs.Forms.{is_name_byte, is_name, is_store, is_kind_store, is_row, number_of, octet_of};
 ghost use Rattle.yp_words.specs.Forms.{port_of, address_of, is_host, is_text, is_key, before, after, has_form};
-ghost use Rattle.yp_words.specs.Forms.{form_view};
+ghost use Rattle.yp_words.specs.Forms.{is_reverse_store, form_view};
 
 use yp_board::NAME_MAX;
 use yp_build::Kind;
@@ -15,6 +15,11 @@ use yp_version::{KEY_MAX, VALUE_MAX};
 pub const SECURE: &str = "secure";
 
 const PLAIN: &str = "plain";
+
+/// The map of netgroups by users, and that by hosts.
+pub const BY_USER: &str = "netgroup.byuser";
+
+const BY_HOST: &str = "netgroup.byhost";
 
 /// The mode of a transfer whatever the order of the version is, and that of one with a newer order alone.
 pub const FORCE: &str = "force";
@@ -42,6 +47,8 @@ pub enum Form {
     Store,
     /// A store whose map has the name of a kind.
     KindStore,
+    /// A store whose map is that of netgroups by users, or by hosts.
+    ReverseStore,
     /// A row: its key, which isn't empty, and its value behind the first equals sign.
     Pair,
     /// A number of 32 bits.
@@ -74,6 +81,7 @@ impl Form {
             Form::Name => is_name(word),
             Form::Store => is_store(word),
             Form::KindStore => is_kind_store(word),
+            Form::ReverseStore => is_reverse_store(word),
             Form::Pair => is_row(word),
             Form::Number => number_of(word).is_some(),
             Form::Port => port_of(word).is_some(),
@@ -118,6 +126,13 @@ fn is_kind_store(word: &str) -> bool
     ensures { result ≡ is_kind_store word.now }
 {
     is_store(word) && Kind::of_name(cut_at(word, '/').1.as_bytes()).is_some()
+}
+
+fn is_reverse_store(word: &str) -> bool
+    ensures { result ≡ is_reverse_store word.now }
+{
+    let map = cut_at(word, '/').1;
+    is_store(word) && (map == BY_USER || map == BY_HOST)
 }
 
 fn is_row(word: &str) -> bool

@@ -11,4 +11,5 @@ mod serving;
 mod words;
 
 pub use command::{Command, HostWord, KeyValue};
-pub use words::{ParseFault, disk_names, parse, port_of, stores_of};
+pub use form::BY_USER;
+pub use words::{ParseFault, disk_names, netgroup_of, parse, port_of, stores_of};

@@ -21,6 +21,7 @@ pub enum Task {
     BuildFlagged,
     Xfr,
     XfrFlagged,
+    Revnet,
     Sample,
     Bind,
     Portmap,
@@ -54,7 +55,7 @@ struct Sentence {
 }
 
 /// All sentences.
-const SENTENCES: [Sentence; 18] = [
+const SENTENCES: [Sentence; 19] = [
     Sentence {
         task: Task::Once,
         forms: &[Form::Exactly("once"), Form::Store],
@@ -106,6 +107,11 @@ const SENTENCES: [Sentence; 18] = [
             Form::Host,
             Form::Flag,
         ],
+        further: Further::NoMore,
+    },
+    Sentence {
+        task: Task::Revnet,
+        forms: &[Form::Exactly("revnet"), Form::Name, Form::ReverseStore],
         further: Further::NoMore,
     },
     Sentence {

@@ -6,9 +6,8 @@ ghost use Rattle.yp_question.specs.Questions.{bytes_of};
 ghost use Rattle.yp_words.specs.Words.{name_of, row_of, value_of, peer_of, host_of, served, known, word_at};
 ghost use Rattle.yp_words.specs.Words.{given_at, question_of};
 ghost use Rattle.yp_words.specs.Words.{command_of, disk_names, stores_of, port_of, row_view, host_view, meaning, texts};
-ghost use Rattle.yp_words.specs.Words.{asks_of, once, session, check, sample, portmap, getport, Build, Xfr};
-ghost use Rattle.yp_words.specs.Words.{bind, port_value, policy_of, TakesMemory};
-ghost use Rattle.yp_words.specs.Words.{IsSentenceOfWords};
+ghost use Rattle.yp_words.specs.Words.{asks_of, once, session, check, sample, portmap, getport, Build};
+ghost use Rattle.yp_words.specs.Words.{Xfr, bind, port_value, policy_of, TakesMemory, IsSentenceOfWords, revnet, netgroup_of};
 ghost use Rattle.yp_words.specs.Forms.{is_force};
 ghost use Rattle.yp_words.specs.Words.{IsUsage, HasNames};
 
@@ -21,6 +20,7 @@ use crate::sentence::{Task, task_of, wrong_word};
 use std::alloc::{AllocError, Global};
 use yp_bind::Policy;
 use yp_board::{MapName, copy_names};
+use yp_build::Kind;
 use yp_io::{NoMemory, Peer};
 use yp_question::Question;
 
@@ -198,6 +198,15 @@ fn xfr_of(alloc: Global, words: &[String], flag: Option<bool>) -> Result<Command
     })
 }
 
+fn revnet_of(alloc: Global, words: &[String]) -> Result<Command, AllocError>
+    ensures { IfOk result (λ command. meaning command ≡ revnet.asks (texts words.now)) }
+{
+    Ok(Command::Revnet {
+        name: Vec::from_slice(alloc, word_at(words, 1).as_bytes())?,
+        store: store_of(alloc, word_at(words, 2))?,
+    })
+}
+
 fn sample_of(words: &[String]) -> Command
     ensures { meaning result ≡ sample.asks (texts words.now) }
 {
@@ -359,6 +368,7 @@ fn command_for(alloc: Global, task: Task, words: &[String]) -> Result<Command, A
         Task::BuildFlagged => build_of(alloc, words, Some(word_at(words, 3) == SECURE)),
         Task::Xfr => xfr_of(alloc, words, None),
         Task::XfrFlagged => xfr_of(alloc, words, Some(word_at(words, 5) == SECURE)),
+        Task::Revnet => revnet_of(alloc, words),
         Task::Sample => Ok(sample_of(words)),
         Task::Bind => bind_of(alloc, words),
         Task::Portmap => Ok(portmap_of(words)),
@@ -393,6 +403,7 @@ pub fn stores_of(alloc: Global, command: &Command) -> Result<Vec<MapName>, NoMem
         Command::Check { store } => only_name(alloc, store),
         Command::Build { store, .. } => only_name(alloc, store),
         Command::Xfr { store, .. } => only_name(alloc, store),
+        Command::Revnet { store, .. } => with_netgroup(alloc, store),
         Command::Session { stores, .. } => copy_names(alloc, stores),
         Command::Once { .. } => return Ok(Vec::new(alloc)),
         Command::Sample { .. } => return Ok(Vec::new(alloc)),
@@ -417,6 +428,7 @@ pub fn port_of(command: &Command) -> Option<u16>
         Command::Check { .. } => None,
         Command::Build { .. } => None,
         Command::Xfr { .. } => None,
+        Command::Revnet { .. } => None,
         Command::Sample { .. } => None,
         Command::Bind { port, .. } => Some(*port),
         Command::Portmap { port, .. } => Some(*port),
@@ -431,6 +443,26 @@ fn only_name(alloc: Global, store: &MapName) -> Result<Vec<MapName>, AllocError>
 {
     let store = store.copy(alloc)?;
     Ok(vec![in alloc; store]?)
+}
+
+/// The map of netgroups in the domain of a map.
+pub fn netgroup_of(alloc: Global, store: &MapName) -> Result<MapName, AllocError>
+    ensures { IfOk result (λ netgroup. name_view netgroup ≡ netgroup_of (name_view store.now)) }
+{
+    Ok(MapName {
+        domain: Vec::from_slice(alloc, &store.domain)?,
+        map: Vec::from_slice(alloc, Kind::Netgroup.name())?,
+    })
+}
+
+/// A list of a name, and of that of its domain's netgroups.
+fn with_netgroup(alloc: Global, store: &MapName) -> Result<Vec<MapName>, AllocError>
+    ensures { IfOk result (λ names.
+        map name_view names.items ≡ name_view store.now ∷ netgroup_of (name_view store.now) ∷ []) }
+{
+    let netgroup = netgroup_of(alloc, store)?;
+    let store = store.copy(alloc)?;
+    Ok(vec![in alloc; store, netgroup]?)
 }
 
 /// The maps whose files the command of these words reads or writes, in the order of the words. There are none where

@@ -43,7 +43,7 @@ const TOO_LONG: &str = "0123456789abcdef0123456789abcdef0123456789abcdef01234567
 const TOO_LONG_BYTES: &[u8] = b"0123456789abcdef0123456789abcdef0123456789abcdef0123456789abcdefg";
 
 /// Words that are no sentence, and the word that is wrong.
-const WRONG: [(&[&str], usize); 22] = [
+const WRONG: [(&[&str], usize); 26] = [
     (&[], 0),
     (&["Check", "lab/hosts.byname"], 0),
     (&["check"], 1),
@@ -66,6 +66,10 @@ const WRONG: [(&[&str], usize); 22] = [
     (&["build", "m1", "lab/hosts.byname", "Secure"], 3),
     (&["build", "m1", "lab/hosts.byname", "secure", "x"], 4),
     (&["build", "m1", "lab/hosts.byname", "plain", "plain"], 4),
+    (&["revnet"], 1),
+    (&["revnet", "m1"], 2),
+    (&["revnet", "m1", "lab/netgroup"], 2),
+    (&["revnet", "m1", "lab/netgroup.byuser", "secure"], 3),
 ];
 
 /// The same of sentences with addresses and hosts.
@@ -573,6 +577,34 @@ fn check_membership(rt: &impl Abort, alloc: Global, words: &[&str], wanted: Memb
 fn memberships_parsed(rt: HostRuntime) {
     for (words, wanted) in &MEMBERSHIPS {
         check_membership(&rt, rt.alloc(), *words, *wanted);
+    }
+}
+
+/// What `revnet` is made of, and the maps whose files it reads or writes, in their order.
+#[test]
+fn revnet_parsed(rt: HostRuntime) {
+    let words = ["revnet", "m1", "lab/netgroup.byhost"];
+    let alloc = rt.alloc();
+    let command = parsed(&rt, alloc, &words);
+    let names = disk_names(alloc, &strings(&rt, alloc, &words)).expect(&rt, "memory");
+    let came = (reversed(&command), two_of(&names));
+    let store: Names = (b"lab", b"netgroup.byhost");
+    let name: &[u8] = b"m1";
+    let wanted = (Some((name, store)), Some([store, (b"lab", b"netgroup")]));
+    assert_same(&rt, &came, &wanted, "revnet");
+}
+
+fn reversed(command: &Command) -> Option<(&[u8], Names<'_>)> {
+    match command {
+        Command::Revnet { name, store } => Some((name, names_of(store))),
+        _ => None,
+    }
+}
+
+fn two_of(names: &[MapName]) -> Option<[Names<'_>; 2]> {
+    match names {
+        [first, second] => Some([names_of(first), names_of(second)]),
+        _ => None,
     }
 }
 

@@ -1,0 +1,11 @@
+use Rattle.yp_storing.specs.Build.{last_view}
+use Rattle.yp_storing.specs.Revnet.{IsUnmade}
+use Rattle.yp_storing.proofs.Reversing.{err_same}
+use Rattle.yp_storing.proofs.revnet.make.Goals as goal
+
+pub returns-in_err-order-clause-unmade : goal.returns-in_err-order-clause-unmade
+returns-in_err-order-clause-unmade g c =
+    let rows = c.args.netgroup.now.rows in
+    err_same c.from_residual.result c.in_err-order.field-0.0
+    (IsUnmade c.args.name.now c.args.field c.args.now (last_view c.args.last) rows) c.from_residual.ensures.1
+    (c.in_err-order.ensures.unmade c.args.field rows)

@@ -1,0 +1,36 @@
+use Rattle.std.proofs.Common.{◌≡◌, ◌∙◌, ℕ, List, refl, ap, rules}
+use Rattle.yp_board.specs.Catalogues.{Name, name_view}
+use Rattle.yp_office.specs.Disks.{faults_of}
+use Rattle.yp_office.specs.Seeing.{seeing}
+use Rattle.yp_storing.specs.Revnet.{job_of, store_history, netgroup_history}
+use Rattle.yp_storing.proofs.Reversing.{renews_as}
+use Rattle.yp_storing.proofs.Reversed.{revnet_does}
+use Rattle.yp_storing.proofs.revnet.reverse_map.Goals as goal
+
+pub returns-clause-does : goal.returns-clause-does
+returns-clause-does g c =
+    let seen = seeing g.S.Source g.K.Sink g.D.Disk g.C.Clock g.A.Dial g.I.Inbox g.T.Texts in
+    let old = c.args.office.now in
+    let new = record old {
+      wire = record old.wire { sink = c.tell_end.new.sink };
+      disks = c.renew_named-built.new.disks;
+      clock = c.now-now.new.self;
+    } in
+    let told : name_view c.in-Ok-Ok.told ≡ name_view c.args.store = search (rules, c.in-Ok-Ok.ensures, c.in-Ok-Ok.told-is) in
+    revnet_does seen c.args.name.items (name_view c.args.store) c.now-now.result c.renew_named-built.result c.tell_end.result old new
+    (record {
+      clock = c.now-now.ensures.told;
+      renews = renews_as (job_of c.deref.result.now (name_view c.in-Ok-Ok.told)) (job_of c.args.name.items (name_view c.args.store))
+          c.now-now.result c.renew_named-built.result (store_history seen old) (store_history seen new) (netgroup_history seen old)
+          (netgroup_history seen new) (faults_of seen.disk.faults old.disks.items) (faults_of seen.disk.faults new.disks.items)
+          (ap (λ (own : List ℕ). job_of own (name_view c.in-Ok-Ok.told)) c.deref.ensures.value
+          ∙ ap (λ (store : Name). job_of c.args.name.items store) told)
+          c.renew_named-built.ensures.renews;
+      stop = c.renew_named-built.ensures.stop;
+      ends = c.tell_end.ensures.ends;
+      may_end = c.tell_end.ensures.may_end;
+      write_fault = c.tell_end.ensures.write_fault;
+      names = c.renew_named-built.ensures.names;
+      told = c.now-now.ensures.same;
+      stays = refl;
+    })
