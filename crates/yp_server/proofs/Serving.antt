@@ -19,8 +19,10 @@ use Rattle.yp_session.specs.Hosts.{Turn}
 use Rattle.yp_session.specs.Runs.{dialogue_at, Runs}
 use Rattle.yp_session.specs.declared.session.End.{End}
 use Rattle.yp_session.specs.declared.session.TheConstants.{CALLS_MAX}
-use Rattle.yp_server.specs.Locals.{Local, TellsSame, IsUsed}
-use Rattle.yp_server.specs.Connections.{Service, Connection, local_conduct, IsFirst, IsLast, IsGiven, IsOfBetween, IsBehindMade, AtDisk, LeavesOr, AreTold, log_of, Serves}
+use Rattle.yp_answer.specs.Causes.{TellsSame}
+use Rattle.yp_server.specs.Locals.{Local, IsUsed}
+use Rattle.yp_publish.specs.Grown.{IsOfBetween, IsBehindMade, AtDisk, LeavesOr, AreTold}
+use Rattle.yp_server.specs.Connections.{Service, Connection, local_conduct, IsFirst, IsLast, IsGiven, log_of, Serves}
 use Rattle.yp_server.proofs.Leaving.{weaker, left_alone, both_leave_or, told_on, opt_both, opt_then, opt_second, opt_at, opt_put_map, same_places, zip_at, all_at}
 use Rattle.yp_server.proofs.Leading.{rises_from}
 use Rattle.yp_server.proofs.Hosting.{SoundHost, GoesOnTo, session_on}
