@@ -74,7 +74,7 @@ log_of service host = service.keeping.log host.published.board
 -- ---- its first and its last host
 
 -- The host that it starts with: each map is level with what its disk stood for, and exactly that is shown.
-pub record IsFirst {D B E : Type 0} (service : Service D B E) (old : Connection D E) (start : Local D B E)
+pub record IsFirstHost {D B E : Type 0} (service : Service D B E) (old : Connection D E) (start : Local D B E)
     : Type 0 where
   pub catalogue : start.published.catalogue ≡ service.catalogue
   pub opened : AllZip (IsOpened service.keeping.history service.keeping.faults) old.disks start.published.maps
@@ -84,7 +84,7 @@ pub record IsFirst {D B E : Type 0} (service : Service D B E) (old : Connection 
 
 -- The host that it ends with, of which the disks and the desk are handed back: what is shown of each map agrees with
 -- what a crash may leave of its disk now.
-pub record IsLast {D B E : Type 0} (service : Service D B E) (finish : Local D B E) (new : Connection D E)
+pub record IsLastHost {D B E : Type 0} (service : Service D B E) (finish : Local D B E) (new : Connection D E)
     : Type 0 where
   pub disks : new.disks ≡ map (λ kept. kept.disk) finish.published.maps
   pub desk : new.desk ≡ finish.desk
@@ -152,10 +152,10 @@ pub record Serves {D B E : Type 0} (service : Service D B E) (end : End) (old ne
   pub start : Local D B E
   pub finish : Local D B E
   pub progress : Progress
-  pub first : IsFirst service old start
+  pub first : IsFirstHost service old start
   pub runs : Runs (local_conduct service.keeping service.telling) service.peer CALLS_MAX end
       (dialogue_at start old.wire begun) (dialogue_at finish new.wire progress) wires
-  pub last : IsLast service finish new
+  pub last : IsLastHost service finish new
   pub any_moment : (number : ℕ) → AtDisk number old.disks new.disks (LeavesOr service.keeping.history
       (IsOfBetween (given_for service runs.turns old.desk) number (log_of service start) (log_of service finish)))
   pub behind : (number : ℕ) → OfMap number finish.published.maps (λ kept. IsSome (service.keeping.history kept.disk)
