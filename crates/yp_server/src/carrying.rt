@@ -36,8 +36,9 @@ pub(crate) fn carry_out<D: Disk, B: Show, A: Dial, T: Texts, C: Clock>(
     ensures catalogue { publisher.new.catalogue ≡ publisher.old.catalogue }
     ensures grown { IsFront (B.log publisher.old.board) (B.log publisher.new.board) }
 {
+    let addr = peer.addr;
     let asker = Asker {
-        addr: peer.addr,
+        addr,
         prog: errand.prog,
         port: errand.port,
         transid: errand.transid,
