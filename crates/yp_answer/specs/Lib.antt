@@ -5,6 +5,7 @@ pub mod Held
 pub mod Results
 pub mod Procedures
 pub mod Make
+pub mod Causes
 pub mod Transfer
 pub mod Reply
 pub mod Streams

@@ -3,7 +3,7 @@ use Rattle.std.specs.Prelude.{ℕ, ◌+◌, ◌==◌, max, if◌then◌else◌, 
 use Rattle.std.specs.Option.{option_map_or}
 use Rattle.yp_version.specs.Rows.{listed}
 use Rattle.yp_version.specs.Versions.{MapVersion, unmarked}
-use Rattle.yp_version.specs.Drafts.{Draft, with_rows}
+use Rattle.yp_version.specs.Drafts.{Draft, empty_draft, with_rows}
 use Rattle.yp_build.specs.declared.kind.Kind.{Kind}
 use Rattle.yp_build.specs.declared.fault.BuildFault.{BuildFault}
 use Rattle.yp_build.specs.declared.fault.BuildFault.TheVariants.{OrderSpent}

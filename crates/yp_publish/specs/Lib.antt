@@ -5,5 +5,6 @@ pub mod Installs
 pub mod Opens
 pub mod Starts
 pub mod Rising
+pub mod Grown
 pub mod Begins
 pub mod Laws

@@ -8,15 +8,15 @@ use Rattle.yp_build.specs.After.{Basis, Material, HasFault, last_order, built_af
 use Rattle.yp_publish.specs.declared.install.Origin.TheVariants.{Built}
 use Rattle.yp_publish.specs.Installs.{offer, not_following}
 use Rattle.yp_publish.specs.Standing.{Kept, OfMap}
-use Rattle.yp_session.specs.Causes.{IsTold}
+use Rattle.yp_answer.specs.Causes.{IsTold, is_of_another, HasBadRowAt, build_stat}
 use Rattle.yp_server.specs.Locals.{Telling}
-use Rattle.yp_server.specs.Anew.{is_of_another, stat_of, IsUnbuilt, HasBadRowAt}
+use Rattle.yp_server.specs.Anew.{IsUnbuilt}
 
 -- ---- why a version isn't built
 
 pub unbuilt : {E : Type 0} (telling : Telling E) (site : Basis) (material : Material) (why : BuildFault) (old new : E)
     → is_of_another site ≡ false → IsTold (telling.told old) site material → (why ≡ fault.NoMemory) ⊎ (built_after site material ≡ Err (HasFault why))
-    → (why ≡ fault.OrderSpent → last_order site.last ≡ Some order_max) → IsUnbuilt telling site (stat_of why) old new
+    → (why ≡ fault.OrderSpent → last_order site.last ≡ Some order_max) → IsUnbuilt telling site (build_stat why) old new
 unbuilt telling site material why old new own told cause spent = by_fault why cause spent where
   row : (f : BuildFault) → (f ≡ fault.NoMemory → ⊥) → (f ≡ fault.OrderSpent → ⊥) → (f ≡ fault.NoMemory) ⊎ (built_after site material ≡ Err (HasFault f)) → HasBadRowAt (telling.told old) site
   row f memory spent cause = elim cause [
@@ -25,7 +25,7 @@ unbuilt telling site material why old new own told cause spent = by_fault why ca
   ]
 
   by_fault : (f : BuildFault) → (f ≡ fault.NoMemory) ⊎ (built_after site material ≡ Err (HasFault f)) → (f ≡ fault.OrderSpent → last_order site.last ≡ Some order_max)
-      → IsUnbuilt telling site (stat_of f) old new
+      → IsUnbuilt telling site (build_stat f) old new
   by_fault fault.OrderSpent cause spent = (own, spent refl)
   by_fault fault.NoMemory cause spent = own
   by_fault (fault.KeyLong line) cause spent = (own, row (fault.KeyLong line) (λ e. cc) (λ e. cc) cause)

@@ -19,11 +19,11 @@ use Rattle.yp_publish.specs.Rising.{Moment, with_shown}
 use Rattle.yp_publish.specs.Keeping.{Keeping}
 use Rattle.yp_publish.specs.Installs.{Installs}
 use Rattle.yp_publish.specs.Opens.{Opens}
-use Rattle.yp_session.specs.Causes.{IsAnew, IsCaused, basis_at}
-use Rattle.yp_session.specs.Causes as causes
+use Rattle.yp_answer.specs.Causes.{IsAnew, IsCaused, basis_at, HasBadRowAt}
+use Rattle.yp_answer.specs.Causes as causes
 use Rattle.yp_session.specs.Hosts.{Fulfils, counts_after}
 use Rattle.yp_server.specs.Locals.{Local, Telling}
-use Rattle.yp_server.specs.Anew.{IsUnbuilt, HasBadRowAt}
+use Rattle.yp_server.specs.Anew.{IsUnbuilt}
 use Rattle.yp_server.specs.Made.{open_stat, IsInstallStat, built_offer}
 use Rattle.yp_server.specs.Made.{site_at, Makes, OpensAndTries}
 use Rattle.yp_server.specs.Connections.{local_conduct}

@@ -20,7 +20,7 @@ use Rattle.yp_session.specs.declared.session.End.TheVariants.{Clean, Torn, TooLo
 use Rattle.yp_session.specs.Wires.{Wire}
 use Rattle.yp_session.specs.Hosts.{Turn, CarriesWhere, Carries, Link}
 use Rattle.yp_session.specs.Runs.{Dialogue, Chain, Ends, unsent, Runs}
-use Rattle.yp_server.specs.Locals.{Local, Telling, TellsSame, IsUsed, seen_of}
+use Rattle.yp_server.specs.Locals.{Local, Telling, IsUsed, seen_of}
 use Rattle.yp_build.specs.After.{Basis}
 use Rattle.yp_io.specs.declared.stream.Peer.{Peer}
 use Rattle.std.specs.Prelude.{IsTrue}
@@ -33,7 +33,7 @@ use Rattle.yp_xfr.specs.Dialing.{FetchesFrom}
 use Rattle.yp_xfr.specs.Installing.{OpensAndOffers, marking, fetched_offer}
 use Rattle.yp_xfr.specs.Transfers.{InstallsOutcome, wanted_at}
 use Rattle.yp_server.specs.Carried.{Carried, request_for}
-use Rattle.yp_session.specs.Causes.{Told, IsAnew}
+use Rattle.yp_answer.specs.Causes.{Told, IsAnew, TellsSame}
 use Rattle.yp_build.specs.After.{basis_of}
 use Rattle.yp_server.specs.Made.{Made, OpensAndTries}
 use Rattle.yp_server.specs.Connections.{Service, IsCalledFor, IsMade, WasTaken, WasFetched, IsGiven, local_conduct}
@@ -217,9 +217,9 @@ module _ {D B E : Type 0} (service : Service D B E) (turns : List Turn) (first :
   carried_out : (taken : Taken) (peer : Peer) (old new : Local D B E) → WasTaken service turns taken → SoundHost old
       → Carried service.keeping service.telling taken peer old new → GoesOnTo old new
   carried_out taken peer old new by_turn sound step =
-      let carries = step.carries in
-      with_maps old new sound carries.used
-      (installs_fetched taken carries.transfers.outcome carries.result old new _ _ by_turn sound step.inside carries.transfers.fetches carries.transfers.installs)
+      let done = step.transfers in
+      with_maps old new sound step.used
+      (installs_fetched taken done.transfers.outcome done.result old new _ _ by_turn sound step.inside done.transfers.fetches done.transfers.installs)
 
   -- it is carried out where its reply was flushed
   carried_where : (flushed : Bool) (taken : Taken) (old new : Local D B E) → (IsTrue flushed → WasTaken service turns taken) → SoundHost old

@@ -20,7 +20,7 @@ use Rattle.yp_publish.specs.declared.install.Installed.{Installed}
 use Rattle.yp_xfr.specs.declared.fault.XfrFault.{XfrFault}
 use Rattle.yp_xfr.specs.Installing as fetching
 use Rattle.yp_server.specs.Made.{OffersBuilt}
-use Rattle.yp_server.specs.Connections.{Making, AreMade, GrowsBy, IsOfBetween, IsBehindMade, LeavesOr}
+use Rattle.yp_publish.specs.Grown.{Making, AreMade, GrowsBy, IsOfBetween, IsBehindMade, LeavesOr}
 use Rattle.yp_server.proofs.Leading.{Leads, leads_one, leads_none, leads_then, stand_same}
 use Rattle.yp_server.proofs.Growing.{front_same, front_more, at_one}
 use Rattle.yp_server.proofs.Leaving.{weaker, left_alone, both_leave_or, told_on, told_before, opt_one, opt_both, opt_same, opt_then, opt_second, opt_at, opt_at_both, same_places}

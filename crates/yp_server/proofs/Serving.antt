@@ -19,8 +19,10 @@ use Rattle.yp_session.specs.Hosts.{Turn}
 use Rattle.yp_session.specs.Runs.{dialogue_at, Runs}
 use Rattle.yp_session.specs.declared.session.End.{End}
 use Rattle.yp_session.specs.declared.session.TheConstants.{CALLS_MAX}
-use Rattle.yp_server.specs.Locals.{Local, TellsSame, IsUsed}
-use Rattle.yp_server.specs.Connections.{Service, Connection, local_conduct, IsFirst, IsLast, IsGiven, IsOfBetween, IsBehindMade, AtDisk, LeavesOr, AreTold, log_of, Serves}
+use Rattle.yp_answer.specs.Causes.{TellsSame}
+use Rattle.yp_server.specs.Locals.{Local, IsUsed}
+use Rattle.yp_publish.specs.Grown.{IsOfBetween, IsBehindMade, AtDisk, LeavesOr, AreTold}
+use Rattle.yp_server.specs.Connections.{Service, Connection, local_conduct, IsFirstHost, IsLastHost, IsGiven, log_of, Serves}
 use Rattle.yp_server.proofs.Leaving.{weaker, left_alone, both_leave_or, told_on, opt_both, opt_then, opt_second, opt_at, opt_put_map, same_places, zip_at, all_at}
 use Rattle.yp_server.proofs.Leading.{rises_from}
 use Rattle.yp_server.proofs.Hosting.{SoundHost, GoesOnTo, session_on}
@@ -49,12 +51,12 @@ module _ {D : Type 0} (history : D → Option History) (faults : D → ℕ) wher
 module _ {D B E : Type 0} (service : Service D B E) (old new : Connection D E) (start finish : Local D B E) where
   -- the host that is made of what was opened
   pub first_from : (published : Published D B) → start ≡ record { published = published; desk = old.desk; asked = 0; files = 0; transfers = 0 } → published.catalogue ≡ service.catalogue
-      → AllZip (IsOpened service.keeping.history service.keeping.faults) old.disks published.maps → service.keeping.log published.board ≡ starts 0 (versions published.maps) → IsFirst service old start
+      → AllZip (IsOpened service.keeping.history service.keeping.faults) old.disks published.maps → service.keeping.log published.board ≡ starts 0 (versions published.maps) → IsFirstHost service old start
   first_from published is served opened log =
-      subst (λ (host : Local D B E). IsFirst service old host) (sym is)
+      subst (λ (host : Local D B E). IsFirstHost service old host) (sym is)
       record { catalogue = served; opened = opened; log = log; begun = refl }
 
-  first_sound : (turns : List Turn) → StartsAreShown → IsFirst service old start → SoundHost service turns (service.telling.told old.desk) (service.telling.hosts old.desk) start
+  first_sound : (turns : List Turn) → StartsAreShown → IsFirstHost service old start → SoundHost service turns (service.telling.told old.desk) (service.telling.hosts old.desk) start
   first_sound turns law first = record {
     maps = record {
       shows = subst (λ (l : Log). Shows l (versions start.published.maps)) (sym first.log) (law (versions start.published.maps));
@@ -69,7 +71,7 @@ module _ {D B E : Type 0} (service : Service D B E) (old new : Connection D E) (
     hosts = ap service.telling.hosts (ap (λ (h : Local D B E). h.desk) first.begun);
   }
 
-  pub went_on : StartsAreShown → (end : End) (progress : Progress) (wires : List Wire) → IsFirst service old start
+  pub went_on : StartsAreShown → (end : End) (progress : Progress) (wires : List Wire) → IsFirstHost service old start
       → (runs : Runs (local_conduct service.keeping service.telling) service.peer CALLS_MAX end (dialogue_at start old.wire begun) (dialogue_at finish new.wire progress) wires)
       → GoesOnTo service runs.turns (service.telling.told old.desk) (service.telling.hosts old.desk) start finish
   went_on shown end progress wires first runs =
@@ -78,7 +80,7 @@ module _ {D B E : Type 0} (service : Service D B E) (old new : Connection D E) (
   -- what holds of a disk from its opening to its handing back
   through : (P : D → D → Type 0) (Q : Kept D → Kept D → Type 0) (number : ℕ)
       → ((disk : D) (before after : Kept D) → IsOpened service.keeping.history service.keeping.faults disk before → Q before after → P disk after.disk)
-      → IsFirst service old start → At number start.published.maps finish.published.maps Q → IsLast service finish new → AtDisk number old.disks new.disks P
+      → IsFirstHost service old start → At number start.published.maps finish.published.maps Q → IsLastHost service finish new → AtDisk number old.disks new.disks P
   through P Q number f first at last =
       opt_put_map P (λ (kept : Kept D). kept.disk) (slice_get old.disks number) (slice_get finish.published.maps number) (slice_get new.disks number)
       (ap (λ (l : List D). slice_get l number) last.disks ∙ slice_get-map (λ (kept : Kept D). kept.disk) finish.published.maps number)
@@ -93,7 +95,7 @@ module _ {D B E : Type 0} (service : Service D B E) (old new : Connection D E) (
       both_leave_or (service.keeping.history disk) (service.keeping.history before.disk) (service.keeping.history after.disk)
       (weaker (service.keeping.history disk) (service.keeping.history before.disk) (λ told image left. inl left) opened.moments) leaves
 
-  told_maps : IsFirst service old start → AreTold service.keeping.history old.disks → (number : ℕ)
+  told_maps : IsFirstHost service old start → AreTold service.keeping.history old.disks → (number : ℕ)
       → IfSome (slice_get start.published.maps number) (λ kept. IsSome (service.keeping.history kept.disk))
   told_maps first told number =
       opt_second {P = IsOpened service.keeping.history service.keeping.faults} (slice_get old.disks number) (slice_get start.published.maps number)
@@ -102,9 +104,9 @@ module _ {D B E : Type 0} (service : Service D B E) (old new : Connection D E) (
       (opt_at (λ (d : D). IsSome (service.keeping.history d)) (slice_get old.disks number) disk there (all_at (λ (d : D). IsSome (service.keeping.history d)) old.disks number told)))
       (zip_at (IsOpened service.keeping.history service.keeping.faults) old.disks start.published.maps number first.opened)
 
-  pub served : LogRises → BeginningIsStart → (end : End) (progress : Progress) (wires : List Wire) → IsFirst service old start
+  pub served : LogRises → BeginningIsStart → (end : End) (progress : Progress) (wires : List Wire) → IsFirstHost service old start
       → (runs : Runs (local_conduct service.keeping service.telling) service.peer CALLS_MAX end (dialogue_at start old.wire begun) (dialogue_at finish new.wire progress) wires)
-      → GoesOnTo service runs.turns (service.telling.told old.desk) (service.telling.hosts old.desk) start finish → IsLast service finish new
+      → GoesOnTo service runs.turns (service.telling.told old.desk) (service.telling.hosts old.desk) start finish → IsLastHost service finish new
       → IsCatalogue service.catalogue → All (λ entry. IsVersion entry.1) (log_of service finish) → Serves service end old new wires
   served rises begins end progress wires first runs went last catalogue versions = record {
     start = start;
@@ -124,24 +126,24 @@ module _ {D B E : Type 0} (service : Service D B E) (old new : Connection D E) (
     served = record { catalogue = catalogue; versions = versions };
   }
 
-  pub served_bound : {turns : List Turn} → IsFirst service old start → GoesOnTo service turns (service.telling.told old.desk) (service.telling.hosts old.desk) start finish → IsLast service finish new
+  pub served_bound : {turns : List Turn} → IsFirstHost service old start → GoesOnTo service turns (service.telling.told old.desk) (service.telling.hosts old.desk) start finish → IsLastHost service finish new
       → (number : ℕ) → AtDisk number old.disks new.disks (LeavesOr service.keeping.history (λ image. length image ≤ file_max))
   served_bound first went last number =
       through (LeavesOr service.keeping.history (λ image. length image ≤ file_max)) (λ before after. LeavesOr service.keeping.history (λ image. length image ≤ file_max) before.disk after.disk)
       number with_opening first (went.1.maps.bound number) last
 
-  pub served_falls : {turns : List Turn} → IsFirst service old start → GoesOnTo service turns (service.telling.told old.desk) (service.telling.hosts old.desk) start finish → IsLast service finish new
+  pub served_falls : {turns : List Turn} → IsFirstHost service old start → GoesOnTo service turns (service.telling.told old.desk) (service.telling.hosts old.desk) start finish → IsLastHost service finish new
       → (number : ℕ) → AtDisk number old.disks new.disks (λ before after. service.keeping.faults before ≤ service.keeping.faults after)
   served_falls first went last number =
       through (λ before after. service.keeping.faults before ≤ service.keeping.faults after) (λ before after. service.keeping.faults before.disk ≤ service.keeping.faults after.disk)
       number (λ disk before after opened le. omega (arith, opened.never_falls)) first (went.1.maps.never_falls number) last
 
-  pub served_count : {turns : List Turn} → IsFirst service old start → GoesOnTo service turns (service.telling.told old.desk) (service.telling.hosts old.desk) start finish → IsLast service finish new → length new.disks ≡ length old.disks
+  pub served_count : {turns : List Turn} → IsFirstHost service old start → GoesOnTo service turns (service.telling.told old.desk) (service.telling.hosts old.desk) start finish → IsLastHost service finish new → length new.disks ≡ length old.disks
   served_count first went last =
       ap length last.disks ∙ length-map finish.published.maps (λ (kept : Kept D). kept.disk) ∙ went.1.maps.count
       ∙ AllZip-long (IsOpened service.keeping.history service.keeping.faults) old.disks start.published.maps first.opened
 
-  pub served_desk : {turns : List Turn} → IsFirst service old start → GoesOnTo service turns (service.telling.told old.desk) (service.telling.hosts old.desk) start finish → IsLast service finish new → IsUsed service.telling old.desk new.desk
+  pub served_desk : {turns : List Turn} → IsFirstHost service old start → GoesOnTo service turns (service.telling.told old.desk) (service.telling.hosts old.desk) start finish → IsLastHost service finish new → IsUsed service.telling old.desk new.desk
   served_desk first went last =
       subst (λ (d : E). IsUsed service.telling d new.desk) (ap (λ (h : Local D B E). h.desk) first.begun)
       (subst (λ (d : E). IsUsed service.telling start.desk d) (sym last.desk) went.1.desk)

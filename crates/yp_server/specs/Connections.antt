@@ -1,13 +1,11 @@
 -- One connection over stored maps: the host that it starts with, the one that it ends with, and what a crash leaves at
 -- each moment between.
-use Rattle.std.specs.Prelude.{◌≡◌, ◌≢◌, ◌⊎◌, ℕ, List, [], ◌∷◌, ◌++◌, map, slice_get, All, Contains, Option}
-use Rattle.std.specs.Prelude.{IfSome, IsSome, IsTrue, None, Ok, false, ⊤}
+use Rattle.std.specs.Prelude.{◌≡◌, ◌⊎◌, ℕ, List, map, slice_get, Contains, Option, None, Ok, IfSome, IsSome, IsTrue}
+use Rattle.std.specs.Prelude.{false}
 use Rattle.std.specs.List.{AllZip}
 use Rattle.yp_io.specs.Counts.{next_count}
-use Rattle.yp_io.specs.Disk.{History, LeavesOnly, MayLeave}
 use Rattle.yp_io.specs.declared.stream.Peer.{Peer}
 use Rattle.yp_version.specs.Versions.{MapVersion}
-use Rattle.yp_slot.specs.Stands.{Stored, stands}
 use Rattle.yp_board.specs.Catalogues.{Catalogue}
 use Rattle.yp_board.specs.Logs.{Log, shown, starts}
 use Rattle.yp_answer.specs.declared.procedure.Path.TheVariants.{Stream}
@@ -16,9 +14,10 @@ use Rattle.yp_answer.specs.Served.{AreServed, maps_on}
 use Rattle.yp_answer.specs.Transfer.{Taken}
 use Rattle.yp_answer.specs.Reply.{Response, Takes, Open, reply}
 use Rattle.yp_answer.specs.declared.make.Job.{Job}
-use Rattle.yp_publish.specs.Standing.{MapStanding, Level, Behind, IsStanding, OfMap, Shows, stands_for, versions}
+use Rattle.yp_publish.specs.Standing.{IsStanding, OfMap, Shows, versions}
 use Rattle.yp_publish.specs.Opens.{IsOpened}
 use Rattle.yp_publish.specs.Rising.{IsRisingLog}
+use Rattle.yp_publish.specs.Grown.{Making, GrowsBy, IsOfBetween, IsBehindMade, AtDisk, LeavesOr, AreTold}
 use Rattle.yp_xfr.specs.HostTable.{HostList}
 use Rattle.yp_xfr.specs.Fetching.{wanted_of}
 use Rattle.yp_io.specs.Dials.{Dialing}
@@ -34,7 +33,7 @@ use Rattle.yp_server.specs.declared.connection.Stock.{Stock}
 use Rattle.yp_publish.specs.Keeping.{Keeping}
 use Rattle.yp_server.specs.declared.desk.Desk.{Desk}
 use Rattle.yp_server.specs.Locals.{Local, Telling, seen_of}
-use Rattle.yp_session.specs.Causes.{Told, Between, IsAnew}
+use Rattle.yp_answer.specs.Causes.{Told, IsAnew}
 use Rattle.yp_build.specs.After.{basis_of}
 use Rattle.yp_server.specs.Made.{Made}
 use Rattle.yp_server.specs.Carried.{Carried}
@@ -75,7 +74,7 @@ log_of service host = service.keeping.log host.published.board
 -- ---- its first and its last host
 
 -- The host that it starts with: each map is level with what its disk stood for, and exactly that is shown.
-pub record IsFirst {D B E : Type 0} (service : Service D B E) (old : Connection D E) (start : Local D B E)
+pub record IsFirstHost {D B E : Type 0} (service : Service D B E) (old : Connection D E) (start : Local D B E)
     : Type 0 where
   pub catalogue : start.published.catalogue ≡ service.catalogue
   pub opened : AllZip (IsOpened service.keeping.history service.keeping.faults) old.disks start.published.maps
@@ -85,7 +84,7 @@ pub record IsFirst {D B E : Type 0} (service : Service D B E) (old : Connection 
 
 -- The host that it ends with, of which the disks and the desk are handed back: what is shown of each map agrees with
 -- what a crash may leave of its disk now.
-pub record IsLast {D B E : Type 0} (service : Service D B E) (finish : Local D B E) (new : Connection D E)
+pub record IsLastHost {D B E : Type 0} (service : Service D B E) (finish : Local D B E) (new : Connection D E)
     : Type 0 where
   pub disks : new.disks ≡ map (λ kept. kept.disk) finish.published.maps
   pub desk : new.desk ≡ finish.desk
@@ -135,57 +134,12 @@ pub record WasFetched {D B E : Type 0} (service : Service D B E) (turns : List T
       FetchesFrom hosts taken.source (wanted_of name.0 name.1 order false) (Ok fetched) before after)
   pub marked : version ≡ record fetched { secure = marking None (shown number log) }
 
--- what it is that a version was made or fetched of a map behind a log
-abbrev pub Making : Type 1
-Making = ℕ → Log → MapVersion → Type 0
-
 abbrev pub IsGiven : {D B E : Type 0} → Service D B E → List Turn → Told → HostList → Making
 IsGiven service turns told hosts number log version =
     IsMade service turns told number log version ⊎ WasFetched service turns hosts number log version
 
 abbrev pub given_for : {D B E : Type 0} → Service D B E → List Turn → E → Making
 given_for service turns desk = IsGiven service turns (service.telling.told desk) (service.telling.hosts desk)
-
--- Each of these entries was made or fetched behind the log and the entries before it.
-abbrev pub AreMade : Making → Log → Log → Type 0
-AreMade Is log [] = ⊤
-AreMade Is log (entry ∷ more) = Is entry.0 log entry.1 × AreMade Is (log ++ entry ∷ []) more
-
--- A log grew by versions that were made or fetched, each behind the log before it.
-pub record GrowsBy (Is : Making) (first last : Log) : Type 0 where
-  pub more : Log
-  pub last_is : last ≡ first ++ more
-  pub made : AreMade Is first more
-
--- ---- what a crash leaves
-
--- The bytes stand for what the log shows of a map, or for a version that was made or fetched of it behind the log.
-abbrev pub IsShownOrMade : Making → ℕ → Log → List ℕ → Type 0
-IsShownOrMade Is number log image =
-    (stands image ≡ stands_for (shown number log))
-    ⊎ ((version : MapVersion) × Is number log version × (stands image ≡ Stored version))
-
--- The bytes are so by a log of which the first is a front, and which is a front of the last.
-abbrev pub IsOfBetween : Making → ℕ → Log → Log → List ℕ → Type 0
-IsOfBetween Is number first last image = Between first last (λ log. IsShownOrMade Is number log image)
-
--- A map is level, or behind a version that was made or fetched of it behind the log.
-abbrev pub IsBehindMade : Making → ℕ → Log → MapStanding → Type 0
-IsBehindMade Is number log Level = ⊤
-IsBehindMade Is number log (Behind version) = Is number log version
-
--- P holds of the disk with this number before and after, and nothing is said where there is none
-abbrev pub AtDisk : {D : Type 0} → ℕ → List D → List D → (D → D → Type 0) → Type 0
-AtDisk number old new P = IfSome (slice_get old number) (λ before. IfSome (slice_get new number) (P before))
-
--- At each moment a crash leaves of a disk what it might have left at the start, or bytes with P.
-abbrev pub LeavesOr : {D : Type 0} → (D → Option History) → (List ℕ → Type 0) → D → D → Type 0
-LeavesOr history P before after =
-    LeavesOnly (history before) (history after) (λ image. MayLeave (history before) image ⊎ P image)
-
--- every disk tells its history
-abbrev pub AreTold : {D : Type 0} → (D → Option History) → List D → Type 0
-AreTold history disks = All (λ disk. IsSome (history disk)) disks
 
 -- ---- the whole
 
@@ -198,10 +152,10 @@ pub record Serves {D B E : Type 0} (service : Service D B E) (end : End) (old ne
   pub start : Local D B E
   pub finish : Local D B E
   pub progress : Progress
-  pub first : IsFirst service old start
+  pub first : IsFirstHost service old start
   pub runs : Runs (local_conduct service.keeping service.telling) service.peer CALLS_MAX end
       (dialogue_at start old.wire begun) (dialogue_at finish new.wire progress) wires
-  pub last : IsLast service finish new
+  pub last : IsLastHost service finish new
   pub any_moment : (number : ℕ) → AtDisk number old.disks new.disks (LeavesOr service.keeping.history
       (IsOfBetween (given_for service runs.turns old.desk) number (log_of service start) (log_of service finish)))
   pub behind : (number : ℕ) → OfMap number finish.published.maps (λ kept. IsSome (service.keeping.history kept.disk)

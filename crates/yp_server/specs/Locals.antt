@@ -9,7 +9,7 @@ use Rattle.yp_io.specs.declared.texts.TextFile.{TextFile}
 use Rattle.yp_board.specs.Logs.{Log}
 use Rattle.yp_board.specs.Views.{Seen}
 use Rattle.yp_publish.specs.Standing.{Published}
-use Rattle.yp_session.specs.Causes.{Told}
+use Rattle.yp_answer.specs.Causes.{Told, TellsSame}
 use Rattle.yp_xfr.specs.HostTable.{HostList}
 use Rattle.yp_server.specs.declared.desk.Desk.{Desk}
 
@@ -46,11 +46,6 @@ telling_of texts clock past letters faults = record {
 abbrev pub seen_of : {D B E : Type 0} → (B → Log) → Local D B E → Seen
 seen_of log host =
     record { catalogue = host.published.catalogue; known = log host.published.board; asked = host.asked }
-
--- A desk tells what it told.
-pub record TellsSame (old new : Told) : Type 0 where
-  pub texts : (file : TextFile) → new.text file ≡ old.text file
-  pub moment : new.moment ≡ old.moment
 
 -- Its dial stays.
 abbrev pub LeavesDial : {E : Type 0} → Telling E → E → E → Type 0

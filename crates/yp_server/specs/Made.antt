@@ -15,7 +15,7 @@ use Rattle.yp_publish.specs.Standing.{Published}
 use Rattle.yp_publish.specs.Keeping.{Keeping}
 use Rattle.yp_publish.specs.Installs.{Offer, offer, Installs, Refuses}
 use Rattle.yp_publish.specs.Opens.{Opens, StaysBehind}
-use Rattle.yp_session.specs.Causes.{IsAnew, basis_at}
+use Rattle.yp_answer.specs.Causes.{IsAnew, basis_at}
 use Rattle.yp_server.specs.Locals.{Local, Telling, IsUsed, LeavesDial}
 use Rattle.yp_server.specs.Anew.{IsUnbuilt}
 

@@ -9,9 +9,9 @@ ghost use Rattle.yp_build.specs.Kinds.{file_of};
 ghost use Rattle.yp_publish.specs.declared.install.Origin.TheVariants.{Built};
 ghost use Rattle.yp_publish.specs.Installs.{offer, not_following};
 ghost use Rattle.yp_server.specs.Locals.{told_by, telling_of, IsUsed, LeavesDial};
-ghost use Rattle.yp_session.specs.Causes.{IsAnew};
+ghost use Rattle.yp_answer.specs.Causes.{IsAnew, build_stat};
 ghost use Rattle.yp_build.specs.After.{basis_of};
-ghost use Rattle.yp_server.specs.Anew.{stat_of, IsUnbuilt};
+ghost use Rattle.yp_server.specs.Anew.{IsUnbuilt};
 
 use crate::desk::Desk;
 use std::alloc::Global;
@@ -75,7 +75,7 @@ fn read_text<T: Texts>(alloc: Global, texts: &mut T, kind: Kind) -> Result<Vec<u
 
 /// The status of a version that isn't built.
 fn build_stat(fault: BuildFault) -> XfrStat
-    ensures { result ≡ stat_of fault }
+    ensures { result ≡ build_stat fault }
 {
     match fault {
         BuildFault::OrderSpent => XfrStat::Age,

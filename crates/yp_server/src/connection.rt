@@ -10,7 +10,8 @@ ghost use Rattle.yp_publish.specs.Begins.{plain_log, IsUnwritten, IsUnopened};
 ghost use Rattle.yp_session.specs.Wires.{wire_of, NeverFalls, SeesMore};
 ghost use Rattle.yp_publish.specs.Keeping.{keeping_of};
 ghost use Rattle.yp_server.specs.Locals.{telling_of, IsUsed};
-ghost use Rattle.yp_server.specs.Connections.{service_of, connection_of, AtDisk, LeavesOr, Serves};
+ghost use Rattle.yp_publish.specs.Grown.{AtDisk, LeavesOr};
+ghost use Rattle.yp_server.specs.Connections.{service_of, connection_of, Serves};
 
 use crate::desk::Desk;
 use crate::local::LocalHost;

@@ -11,7 +11,7 @@ ghost use Rattle.yp_publish.specs.Standing.{Level, OfMap};
 ghost use Rattle.yp_answer.specs.Make.{job_of};
 ghost use Rattle.yp_publish.specs.Keeping.{keeping_of};
 ghost use Rattle.yp_server.specs.Locals.{seen_of, told_by, telling_of, IsUsed, LeavesDial};
-ghost use Rattle.yp_session.specs.Causes.{IsAnew};
+ghost use Rattle.yp_answer.specs.Causes.{IsAnew};
 ghost use Rattle.yp_server.specs.Anew.{IsUnbuilt};
 ghost use Rattle.yp_server.specs.Made.{site_at, Tries, Makes, Made};
 ghost use Rattle.yp_server.specs.Carried.{Carried};

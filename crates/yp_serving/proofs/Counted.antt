@@ -7,17 +7,17 @@ use Rattle.yp_version.specs.Rows.{Row}
 use Rattle.yp_version.specs.Versions.{MapVersion, body_len}
 use Rattle.yp_answer.specs.Maps.{Maps}
 use Rattle.yp_serving.specs.Callers.{reply_to}
-use Rattle.yp_serving.specs.Sample.{sample_maps, match_call, all_call, value_reply, is_reply, is_matched, reply_len, tally_of}
+use Rattle.yp_serving.specs.Sample.{sample_maps, sample_match, sample_all, value_reply, is_reply, is_matched, reply_len, tally_of}
 
 module _ (maps : Maps) (call : List ℕ) (key value bytes : List ℕ) where
   -- no reply
-  pub unmatched : (some : Bool) → call ≡ match_call key → reply_to maps call ≡ cond some (Some bytes) None → some ≡ false → false ≡ is_matched maps (key, value)
+  pub unmatched : (some : Bool) → call ≡ sample_match key → reply_to maps call ≡ cond some (Some bytes) None → some ≡ false → false ≡ is_matched maps (key, value)
   unmatched true is answered none = absurd cc
   unmatched false is answered none =
       sym (ap (λ (r : Option (List ℕ)). is_reply r (value_reply value)) (ap (reply_to maps) (sym is) ∙ answered))
 
   -- a reply
-  pub matched_is : (some : Bool) → call ≡ match_call key → reply_to maps call ≡ cond some (Some bytes) None → some ≡ true → bytes_eq bytes (value_reply value) ≡ is_matched maps (key, value)
+  pub matched_is : (some : Bool) → call ≡ sample_match key → reply_to maps call ≡ cond some (Some bytes) None → some ≡ true → bytes_eq bytes (value_reply value) ≡ is_matched maps (key, value)
   matched_is false is answered there = absurd cc
   matched_is true is answered there =
       sym (ap (λ (r : Option (List ℕ)). is_reply r (value_reply value)) (ap (reply_to maps) (sym is) ∙ answered))
@@ -38,6 +38,6 @@ row_there rows i none lt =
 
 -- all numbers of a version
 pub tally_is : (version : MapVersion) (maps : Maps) (rows body all matched : ℕ) → maps ≡ sample_maps version → rows ≡ length version.rows → body ≡ body_len version
-    → all ≡ reply_len (reply_to maps all_call) → matched ≡ count_by (is_matched maps) version.rows
+    → all ≡ reply_len (reply_to maps sample_all) → matched ≡ count_by (is_matched maps) version.rows
     → record { rows = rows; body = body; all = all; matched = matched } ≡ tally_of version
 tally_is version maps rows body all matched shown r b a m = rw (r, b, a, m, shown) refl

@@ -21,7 +21,8 @@ use Rattle.yp_publish.specs.declared.open.OpenFault.TheVariants as opening
 use Rattle.yp_publish.specs.Begins.{IsUnopened, IsUnwritten}
 use Rattle.yp_publish.specs.Keeping.{Keeping}
 use Rattle.yp_server.specs.Locals.{Telling}
-use Rattle.yp_server.specs.Connections.{Service, service_of, Connection, Serves, AtDisk, LeavesOr}
+use Rattle.yp_publish.specs.Grown.{AtDisk, LeavesOr}
+use Rattle.yp_server.specs.Connections.{Service, service_of, Connection, Serves}
 use Rattle.yp_office.specs.declared.disks.NamedDisk.{NamedDisk}
 use Rattle.yp_office.specs.declared.status.Status.{Status}
 use Rattle.yp_office.specs.declared.status.Status.TheVariants.{Done, ReadFault, WriteFault, Torn, TooLong, NoMemory, Damaged, DiskFault, Enough}

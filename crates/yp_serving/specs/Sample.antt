@@ -3,13 +3,12 @@ use Rattle.std.specs.Prelude.{◌≡◌, ℕ, ◌<◌, ◌≤◌, Bool, true, fa
 use Rattle.std.specs.Prelude.{Option, Some, None, codes, decimal, bytes_eq}
 use Rattle.std.specs.Io.KnownBytes.{Appends}
 use Rattle.yp_io.specs.Streams.{AppendsFront}
-use Rattle.yp_rpc.specs.Called.{call_of}
-use Rattle.yp_msgs.specs.Numbers.{program, version, match_procedure, all_procedure}
-use Rattle.yp_msgs.specs.Messages.{req_key, req_nokey, resp_val}
+use Rattle.yp_msgs.specs.Messages.{resp_val}
 use Rattle.yp_version.specs.Limits.{rows_max}
 use Rattle.yp_version.specs.Rows.{Row}
 use Rattle.yp_version.specs.Versions.{MapVersion, body_len}
 use Rattle.yp_build.specs.Samples.{sampled}
+use Rattle.yp_client.specs.Asked.{match_call, all_call}
 use Rattle.yp_answer.specs.Maps.{Maps}
 use Rattle.yp_answer.specs.Results.{value_found}
 use Rattle.yp_answer.specs.Reply.{success}
@@ -34,11 +33,11 @@ sample_maps version = record {
 -- ---- the calls
 
 -- MATCH for a key of the map, and ALL of the map
-abbrev pub match_call : List ℕ → List ℕ
-match_call key = call_of req_key 0 program version match_procedure (sample_name, (sample_name, key))
+abbrev pub sample_match : List ℕ → List ℕ
+sample_match key = match_call sample_name sample_name key 0
 
-abbrev pub all_call : List ℕ
-all_call = call_of req_nokey 0 program version all_procedure (sample_name, sample_name)
+abbrev pub sample_all : List ℕ
+sample_all = all_call sample_name sample_name 0
 
 -- ---- the numbers
 
@@ -52,7 +51,7 @@ is_reply (Some bytes) expected = bytes_eq bytes expected
 
 -- MATCH for the key of the row has its value
 abbrev pub is_matched : Maps → Row → Bool
-is_matched maps row = is_reply (reply_to maps (match_call row.0)) (value_reply row.1)
+is_matched maps row = is_reply (reply_to maps (sample_match row.0)) (value_reply row.1)
 
 abbrev pub reply_len : Option (List ℕ) → ℕ
 reply_len None = 0
@@ -63,7 +62,7 @@ abbrev pub tally_of : MapVersion → Tally
 tally_of version = record {
   rows = length version.rows;
   body = body_len version;
-  all = reply_len (reply_to (sample_maps version) all_call);
+  all = reply_len (reply_to (sample_maps version) sample_all);
   matched = count_by (is_matched (sample_maps version)) version.rows;
 }
 

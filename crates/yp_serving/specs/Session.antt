@@ -21,7 +21,8 @@ use Rattle.yp_xfr.specs.HostTable.{HostList}
 use Rattle.yp_server.specs.declared.desk.Desk.{Desk}
 use Rattle.yp_publish.specs.Keeping.{keeping_of}
 use Rattle.yp_server.specs.Locals.{telling_of}
-use Rattle.yp_server.specs.Connections.{Service, Connection, Serves, AtDisk, LeavesOr, service_of}
+use Rattle.yp_publish.specs.Grown.{AtDisk, LeavesOr}
+use Rattle.yp_server.specs.Connections.{Service, Connection, Serves, service_of}
 use Rattle.yp_office.specs.Files.{Fails}
 use Rattle.yp_office.specs.declared.office.Office.{Office}
 use Rattle.yp_office.specs.Seeing.{Seeing, moment, HasCauses, DiskFails}

@@ -12,7 +12,7 @@ ghost use Rattle.yp_rpc.specs.Records.{joined};
 ghost use Rattle.yp_answer.specs.Streams.{parts_left};
 ghost use Rattle.yp_answer.specs.Answers.{IsInside};
 ghost use Rattle.yp_serving.specs.Callers.{reply_to};
-ghost use Rattle.yp_serving.specs.Sample.{match_call, all_call, value_reply};
+ghost use Rattle.yp_serving.specs.Sample.{sample_match, sample_all, value_reply};
 
 use crate::once::NOBODY;
 use yp_answer::{AllStream, Answered, answer};
@@ -48,7 +48,7 @@ fn set_call<M: Message>(buf: &mut [u8], procedure: u32, arguments: &M) -> usize
 pub fn set_match(buf: &mut [u8], key: &[u8]) -> usize
     requires room { record_max ≤ length buf.old }
     requires key { length key.now ≤ key_max }
-    ensures call { take result buf.new ≡ match_call key.now }
+    ensures call { take result buf.new ≡ sample_match key.now }
     ensures within { result ≤ length buf.new }
 {
     let asked = ReqKey {
@@ -62,7 +62,7 @@ pub fn set_match(buf: &mut [u8], key: &[u8]) -> usize
 /// Puts the call ALL at the front of the buffer, and answers its length.
 pub fn set_all(buf: &mut [u8]) -> usize
     requires { record_max ≤ length buf.old }
-    ensures call { take result buf.new ≡ all_call }
+    ensures call { take result buf.new ≡ sample_all }
     ensures within { result ≤ length buf.new }
 {
     let asked = ReqNokey {

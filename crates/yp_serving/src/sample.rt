@@ -10,7 +10,7 @@ ghost use Rattle.yp_office.specs.Seeing.{seeing, IsPassedOn};
 ghost use Rattle.yp_office.specs.Rows.{rows_rule};
 ghost use Rattle.yp_office.specs.Status.{IsTellable};
 ghost use Rattle.yp_serving.specs.Callers.{reply_to};
-ghost use Rattle.yp_serving.specs.Sample.{sample_maps, is_matched, reply_len, all_call, tally_of, first_over};
+ghost use Rattle.yp_serving.specs.Sample.{sample_maps, is_matched, reply_len, sample_all, tally_of, first_over};
 ghost use Rattle.yp_serving.specs.Sample.{SampleDoes, sample_may_end};
 
 use crate::calls::{SAMPLE, ask, set_all, set_match, set_value};
@@ -92,7 +92,7 @@ fn all_len(
 ) -> Result<usize, NoMemory>
     requires message { record_max ≤ length message.old }
     requires piece { record_max ≤ length piece.old }
-    ensures { IfOk result (λ len. len ≡ reply_len (reply_to (maps_of board.old) all_call)) }
+    ensures { IfOk result (λ len. len ≡ reply_len (reply_to (maps_of board.old) sample_all)) }
 {
     let len = set_all(message);
     if !ask(board, &message[..len], piece, reply)? {

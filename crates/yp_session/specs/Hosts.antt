@@ -12,7 +12,7 @@ use Rattle.yp_answer.specs.Maps.{maps_of}
 use Rattle.yp_answer.specs.Transfer.{Taken}
 use Rattle.yp_answer.specs.Reply.{Response, Silence, Bytes, Takes, Open, reply, asks, make_reply}
 use Rattle.yp_answer.specs.Answers.{StepsWhere}
-use Rattle.yp_session.specs.Causes.{Told, IsCaused}
+use Rattle.yp_answer.specs.Causes.{Told, IsCaused}
 
 -- what a host counts, each up to the last count: the replies of FILE, and the transfers that were carried out
 pub record Counts : Type 0 where

@@ -1,6 +1,5 @@
 pub mod Wires
 pub mod Progress
-pub mod Causes
 pub mod Hosts
 pub mod LogRuns
 pub mod Runs

@@ -7,7 +7,7 @@ use Rattle.yp_board.specs.Logs.{Log}
 use Rattle.yp_board.specs.Views.{IsFront}
 use Rattle.yp_answer.specs.declared.procedure.Path.{Path}
 use Rattle.yp_answer.specs.Reply.{Response, Silence, Bytes, Takes, Open, reply, make_reply}
-use Rattle.yp_session.specs.Causes.{Told, IsCaused}
+use Rattle.yp_answer.specs.Causes.{Told, IsCaused}
 use Rattle.yp_session.specs.Hosts.{Turn}
 
 -- What a record got: its reply, or, where a map is made first, a status with its cause by the log behind that.

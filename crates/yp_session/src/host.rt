@@ -4,7 +4,7 @@ ghost use Rattle.std.specs.Prelude.{◌≡◌, ◌<◌, ◌≤◌, length};
 ghost use Rattle.yp_io.specs.declared.stream.Peer.{Peer};
 ghost use Rattle.yp_msgs.specs.declared.transfer.XfrStat.{XfrStat};
 ghost use Rattle.yp_answer.specs.declared.make.Job.{Job};
-ghost use Rattle.yp_session.specs.Causes.{Told};
+ghost use Rattle.yp_answer.specs.Causes.{Told};
 ghost use Rattle.yp_msgs.specs.Numbers.{name_max};
 ghost use Rattle.yp_answer.specs.Transfer.{Taken, taken_view};
 ghost use Rattle.yp_session.specs.Hosts.{Counts, conduct_of, Fulfils, CarriesOut};

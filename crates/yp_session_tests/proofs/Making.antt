@@ -9,7 +9,7 @@ use Rattle.yp_board.specs.Views.{IsFront}
 use Rattle.yp_build.specs.declared.kind.Kind.{Kind}
 use Rattle.yp_build.specs.After.{Material, material_of, basis_of, other_master, built_after, IsOver}
 use Rattle.yp_answer.specs.declared.make.Job.{Job}
-use Rattle.yp_session.specs.Causes.{IsCaused, basis_at}
+use Rattle.yp_answer.specs.Causes.{IsCaused, basis_at}
 use Rattle.yp_session.specs.Hosts.{Counts, counts_after}
 
 pub front : (log : Log) → IsFront log log

@@ -7,7 +7,7 @@ ghost use Rattle.yp_io.specs.Texts.{text_max};
 ghost use Rattle.yp_board.specs.Logs.{shown};
 ghost use Rattle.yp_board.specs.Views.{IsFront};
 ghost use Rattle.yp_build.specs.After.{Material, built_after, IsOver};
-ghost use Rattle.yp_session.specs.Causes.{IsCaused, basis_at};
+ghost use Rattle.yp_answer.specs.Causes.{IsCaused, basis_at};
 
 use std::alloc::Global;
 use std::sync::Arc;

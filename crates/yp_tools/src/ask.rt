@@ -67,17 +67,21 @@ pub fn ask<S: Source, K: Sink, D: Disk, C: Clock, A: Dial, I: Inbox, T: Texts>(
     ensures tellable { IsTellable result }
 {
     laws::log_run_is_printed();
-    let asked = query(
+    match query(
         alloc,
         rt,
         &mut office.dial,
         to,
         &question,
         &mut office.wire.sink,
-    );
-    drop(question);
-    match asked {
-        Ok(()) => Status::Done,
-        Err(fault) => status_of(fault),
+    ) {
+        Ok(()) => {
+            drop(question);
+            Status::Done
+        }
+        Err(fault) => {
+            drop(question);
+            status_of(fault)
+        }
     }
 }

@@ -6,6 +6,6 @@ pub mod Called
 pub mod HostTable
 pub mod Dialing
 pub mod Installing
-pub mod Transfers
 pub mod CallBack
+pub mod Transfers
 pub mod Laws

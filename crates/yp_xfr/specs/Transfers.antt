@@ -1,5 +1,7 @@
 -- A transfer: what is fetched of a map is installed.
-use Rattle.std.specs.Prelude.{◌≡◌, ℕ, Bool, List, Option, option_map, IfSome, slice_get, Result, Ok, Err}
+use Rattle.std.specs.Prelude.{◌≡◌, ℕ, ◌≤◌, min, Bool, List, Option, option_map, IfSome, slice_get, Result, Ok, Err}
+use Rattle.yp_io.specs.Counts.{last_count}
+use Rattle.yp_io.specs.Dials.{Dialing, DialTells, wires_told}
 use Rattle.yp_board.specs.Catalogues.{Name}
 use Rattle.yp_board.specs.Logs.{shown}
 use Rattle.yp_publish.specs.declared.install.Installed.{Installed}
@@ -8,9 +10,10 @@ use Rattle.yp_publish.specs.Keeping.{Keeping}
 use Rattle.yp_xfr.specs.declared.fault.XfrFault.{XfrFault}
 use Rattle.yp_xfr.specs.Fetching.{Wanted, wanted_of, Outcome}
 use Rattle.yp_xfr.specs.HostTable.{HostList}
-use Rattle.yp_io.specs.Dials.{Dialing}
 use Rattle.yp_xfr.specs.Dialing.{FetchesFrom}
 use Rattle.yp_xfr.specs.Installing.{InstallsFetched}
+use Rattle.yp_xfr.specs.declared.calling_back.Asker.{Asker}
+use Rattle.yp_xfr.specs.CallBack.{outcome_stat, wants_call, CallsBack}
 
 -- what is asked for: a map by its number, from a source by its name, whether it is forced, and its mark, if it has one
 pub record Request : Type 0 where
@@ -42,3 +45,13 @@ pub record Transfers {D B : Type 0} (keeping : Keeping D B) (hosts : HostList) (
   pub fetches : IfSome (slice_get old.catalogue.maps request.number)
       (λ name. FetchesFrom hosts request.source (wanted_at keeping request name old) outcome before after)
   pub installs : InstallsOutcome keeping request outcome result old new
+
+-- A map was transferred for a caller, and then, from this moment of the dial on, the caller was told what came of it.
+pub record TransfersFor {D B : Type 0} (keeping : Keeping D B) (hosts : HostList) (request : Request) (asker : Asker)
+    (before after : DialTells) (old new : Published D B) : Type 0 where
+  pub result : Result Installed XfrFault
+  pub fetched : DialTells
+  pub transfers : Transfers keeping hosts request result (wires_told before) (wires_told fetched) old new
+  pub unposted : fetched.letters ≡ before.letters
+  pub never_falls : min before.faults last_count ≤ fetched.faults
+  pub called_back : CallsBack (wants_call asker) asker (outcome_stat result) fetched after

@@ -2,7 +2,7 @@
 //!
 //! That the version is the one that the source's replies say, or the first cause against it, stands on [`fetch`] and
 //! [`fetch_from`]; that it is installed and shown, and what a crash leaves meanwhile, on [`install_fetched`] and
-//! [`transfer`]; and what is posted of the outcome on [`call_back`].
+//! [`transfer`]; what is posted of the outcome on [`call_back`]; and both for a caller on [`transfer_for`].
 #![tactic(auto)]
 
 mod calling_back;
@@ -14,10 +14,10 @@ mod install;
 pub mod laws;
 mod transferring;
 
-pub use calling_back::call_back;
+pub use calling_back::{Asker, call_back};
 pub use dialed::fetch_from;
 pub use fault::XfrFault;
 pub use fetching::{against_order, begin, fetch};
 pub use hosts::Hosts;
 pub use install::install_fetched;
-pub use transferring::transfer;
+pub use transferring::{transfer, transfer_for};

@@ -1,11 +1,12 @@
 //! A map that is transferred.
 
-ghost use Rattle.std.specs.Prelude.{◌≡◌, ◌<◌, ◌≤◌, length, min};
+ghost use Rattle.std.specs.Prelude.{◌≡◌, ◌<◌, ◌≤◌, false, None, length, min};
 ghost use Rattle.yp_io.specs.Counts.{last_count};
 ghost use Rattle.yp_publish.specs.Keeping.{keeping_of};
-ghost use Rattle.yp_io.specs.Dials.{dialing_of};
-ghost use Rattle.yp_xfr.specs.Transfers.{request_of, Transfers};
+ghost use Rattle.yp_io.specs.Dials.{dialing_of, dial_tells};
+ghost use Rattle.yp_xfr.specs.Transfers.{request_of, Transfers, TransfersFor};
 
+use crate::calling_back::{Asker, stat_of, tell_back};
 use crate::dialed::fetch_from;
 use crate::fault::XfrFault;
 use crate::hosts::Hosts;
@@ -55,4 +56,25 @@ pub fn transfer<D: Disk, B: Show, A: Dial>(
         Ok(version) => install_fetched(alloc, rt, publisher, map, version, force, mark),
         Err(fault) => Err(fault),
     }
+}
+
+/// Transfers a map for a caller, not forced and without a mark, and then tells the caller what came of it, where it
+/// wants to be told.
+pub fn transfer_for<D: Disk, B: Show, A: Dial>(
+    alloc: Global,
+    rt: &impl RandomSource,
+    publisher: &mut Publisher<D, B>,
+    dial: &mut A,
+    hosts: &Hosts,
+    map: u32,
+    source: &[u8],
+    asker: Asker,
+)
+    requires { map < length publisher.old.maps }
+    ensures { TransfersFor (keeping_of D.history D.faults B.log) hosts.now (request_of map source.now false None) asker
+        (dial_tells A.past A.letters A.faults dial.old) (dial_tells A.past A.letters A.faults dial.new)
+        publisher.old publisher.new }
+{
+    let outcome = transfer(alloc, rt, publisher, dial, hosts, map, source, false, None);
+    tell_back(dial, &asker, stat_of(&outcome));
 }

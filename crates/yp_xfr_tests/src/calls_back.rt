@@ -7,8 +7,8 @@ use yp_io::{MemDial, Peer};
 use yp_msgs::XfrStat;
 use yp_xfr::call_back;
 
-// The letters of a dial: where each went, and its bytes.
-fn letters<R: Abort>(rt: &R, alloc: Global, dial: &MemDial) -> Vec<(Peer, Vec<u8>)> {
+/// The letters of a dial: where each went, and its bytes.
+pub fn letters<R: Abort>(rt: &R, alloc: Global, dial: &MemDial) -> Vec<(Peer, Vec<u8>)> {
     let mut letters = Vec::new(alloc);
     for letter in dial.letters() {
         let bytes = letter.bytes.to_vec(alloc).expect(rt, "a letter");

@@ -2,6 +2,7 @@
 
 ghost use Rattle.std.specs.Prelude.{◌≡◌, ◌≤◌};
 
+use crate::calls_back::letters;
 use crate::given::{
     ALL_REPLY, FAIR, MASTER_REPLY, ORDER_REPLY, SECOND_REPLY, SKEWED_REPLY, assert_same, bytes,
     dial, table,
@@ -10,9 +11,9 @@ use std::alloc::Global;
 use std::process::Abort;
 use std::random::RandomSource;
 use yp_board::{Catalog, MapName, PlainBoard};
-use yp_io::{MemDial, MemDisk};
+use yp_io::{MemDial, MemDisk, Peer};
 use yp_publish::{Installed, Publisher, open_publisher};
-use yp_xfr::{Hosts, XfrFault, transfer};
+use yp_xfr::{Asker, Hosts, XfrFault, transfer, transfer_for};
 
 // The cells of a file of one version, at generation 1, and the second one of a file of two: the body behind the first.
 const CELLS: &str = "01000000 00000000 00000000 00000001 00000000 00000040 00000000 00000034
@@ -277,4 +278,81 @@ fn play_failing<R: RandomSource + Abort>(
     let hosts = table(rt, alloc);
     let mut maps = published(rt, alloc, b"s1", &[], failing);
     transfer_over(rt, alloc, &mut maps, &mut dial, &hosts, false, None)
+}
+
+const ASKER: Asker = Asker {
+    addr: [10, 0, 0, 7],
+    prog: 0x4000_0000,
+    port: 834,
+    transid: 9,
+};
+
+const PORT_834: Peer = Peer {
+    addr: [10, 0, 0, 7],
+    port: 834,
+};
+
+// The head of a call back, and its arguments: the transaction, and YPXFR_SUCC or YPXFR_SKEW.
+const TOLD_SUCC: &str = "00000009 00000000 00000002 40000000 00000001 00000001
+    00000000 00000000 00000000 00000000 00000009 00000001";
+
+const TOLD_SKEW: &str = "00000009 00000000 00000002 40000000 00000001 00000001
+    00000000 00000000 00000000 00000000 00000009 fffffff6";
+
+/// A caller, the reply to the second ORDER, and the letter that it gets, if it does.
+const CALLERS: [(&str, Asker, &str, Option<&str>); 5] = [
+    ("stored", ASKER, SECOND_REPLY, Some(TOLD_SUCC)),
+    ("skewed", ASKER, SKEWED_REPLY, Some(TOLD_SKEW)),
+    (
+        "no program",
+        Asker { prog: 0, ..ASKER },
+        SECOND_REPLY,
+        None,
+    ),
+    ("port 0", Asker { port: 0, ..ASKER }, SECOND_REPLY, None),
+    (
+        "port 65536",
+        Asker {
+            port: 65_536,
+            ..ASKER
+        },
+        SECOND_REPLY,
+        None,
+    ),
+];
+
+// The letters behind a transfer for a caller.
+fn told<R: RandomSource + Abort>(
+    rt: &R,
+    alloc: Global,
+    asker: Asker,
+    last: &str,
+) -> Vec<(Peer, Vec<u8>)> {
+    let input = bytes(rt, alloc, &[ORDER_REPLY, MASTER_REPLY, ALL_REPLY, last]);
+    let mut dial = dial(rt, alloc, input, FAIR);
+    let hosts = table(rt, alloc);
+    let mut maps = published(rt, alloc, b"s1", &[], &[]);
+    assert!(rt; 0 < maps.catalog().len());
+    transfer_for(alloc, rt, &mut maps, &mut dial, &hosts, 0, b"m1", asker);
+    letters(rt, alloc, &dial)
+}
+
+// What a caller gets.
+fn wanted<R: Abort>(rt: &R, alloc: Global, letter: Option<&str>) -> Vec<(Peer, Vec<u8>)> {
+    let mut wanted = Vec::new(alloc);
+    if let Some(words) = letter {
+        let letter = bytes(rt, alloc, &[words]);
+        wanted.push((PORT_834, letter)).expect(rt, "a letter");
+    }
+    wanted
+}
+
+#[test]
+fn callers(rt: HostRuntime) {
+    let alloc = rt.alloc();
+    for (name, asker, last, letter) in &CALLERS {
+        let wanted = wanted(&rt, alloc, *letter);
+        let came = told(&rt, alloc, *asker, *last);
+        assert_same(&rt, &came, &wanted, *name);
+    }
 }

@@ -1,7 +1,7 @@
 use Rattle.std.proofs.Common.{Err, None, ap, ◌∙◌, rules}
 use Rattle.yp_build.specs.After.{material_of, basis_of}
 use Rattle.yp_build.specs.declared.after.AfterFault.TheVariants.{Build}
-use Rattle.yp_session.specs.Causes.{IsTold}
+use Rattle.yp_answer.specs.Causes.{IsTold}
 use Rattle.yp_server.specs.Locals.{told_by, telling_of}
 use Rattle.yp_server.proofs.Building.{unbuilt}
 use Rattle.yp_server.proofs.anew.build_anew.Goals as goal

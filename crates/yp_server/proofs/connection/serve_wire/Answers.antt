@@ -6,7 +6,7 @@ use Rattle.yp_board.specs.Logs.{Log}
 use Rattle.yp_session.specs.Wires.{wire_of}
 use Rattle.yp_session.specs.declared.session.End.{End}
 use Rattle.yp_server.specs.Locals.{telling_of}
-use Rattle.yp_server.specs.Connections.{service_of, connection_of, IsLast}
+use Rattle.yp_server.specs.Connections.{service_of, connection_of, IsLastHost}
 use Rattle.yp_server.proofs.Hosting.{used_never}
 use Rattle.yp_server.proofs.Serving.{uncalled, bound_at, falls_at, count_of, first_from, went_on, served, served_bound, served_falls, served_count, served_desk}
 use Rattle.yp_server.proofs.connection.serve_wire.Goals as goal
@@ -39,7 +39,7 @@ returns-in-Ok-open_publisher g c =
     let first = first_from service old new start finish c.in-Ok-open_publisher.publisher c.new-host.ensures begun.catalogue begun.opened (ap (λ (board : Seen). board.known) begun.board) in
     let runs = c.run-end.ensures.runs in
     let went = went_on service old new start finish c.starts_are_shown.ensures c.run-end.result c.run-end.new.self runs.more first runs.done in
-    let last : IsLast service finish new = record { disks = c.stock_of.ensures.disks; desk = c.stock_of.ensures.desk; shows = c.stock_of.ensures.shows; standing = c.stock_of.ensures.standing } in
+    let last : IsLastHost service finish new = record { disks = c.stock_of.ensures.disks; desk = c.stock_of.ensures.desk; shows = c.stock_of.ensures.shows; standing = c.stock_of.ensures.standing } in
     record {
       served = record {
         more = runs.more;

@@ -1,7 +1,7 @@
 use Rattle.std.proofs.Common.{◌≡◌, ◌++◌, ◌∷◌, [], ℕ, None, subst, sym, ap, ◌∙◌}
 use Rattle.yp_msgs.specs.declared.transfer.XfrStat.{XfrStat}
 use Rattle.yp_version.specs.Versions.{MapVersion}
-use Rattle.yp_session.specs.Causes.{IsCaused}
+use Rattle.yp_answer.specs.Causes.{IsCaused}
 use Rattle.yp_session_tests.proofs.Making.{shown_anew}
 use Rattle.yp_session_tests.proofs.host.make_next.Goals as goal
 use Rattle.yp_session_tests.proofs.host.make_next.Goals.{in-Ok-show, in-Err-show}

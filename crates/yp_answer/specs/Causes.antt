@@ -1,13 +1,14 @@
 -- Why a map that was to be made has its status, by the logs before and after.
-use Rattle.std.specs.Prelude.{◌≡◌, ◌≢◌, ℕ, List, [], ◌∷◌, ◌++◌, Option, Some, None, Ok, Err, IfSome, ⊤}
+use Rattle.std.specs.Prelude.{◌≡◌, ◌≢◌, ℕ, Bool, List, [], ◌∷◌, ◌++◌, Option, Some, None, is_some, Ok, Err, IfSome, ⊤}
 use Rattle.yp_io.specs.declared.texts.TextFile.{TextFile}
 use Rattle.yp_msgs.specs.declared.transfer.XfrStat.{XfrStat}
 use Rattle.yp_msgs.specs.declared.transfer.XfrStat.TheVariants.{Succ, Age, Rsrc, Dbm, File, Refused}
 use Rattle.yp_version.specs.Versions.{MapVersion}
 use Rattle.yp_board.specs.Logs.{Log, shown}
 use Rattle.yp_board.specs.Views.{IsFront}
+use Rattle.yp_board.specs.Between.{Between}
 use Rattle.yp_build.specs.declared.fault.BuildFault.{BuildFault}
-use Rattle.yp_build.specs.declared.fault.BuildFault.TheVariants.{OrderSpent}
+use Rattle.yp_build.specs.declared.fault.BuildFault.TheVariants.{OrderSpent, NoMemory}
 use Rattle.yp_build.specs.Kinds.{file_of}
 use Rattle.yp_build.specs.Builds.{order_max}
 use Rattle.yp_build.specs.After.{Basis, Material, HasFault, basis_of, other_master, last_order, built_after, IsOver}
@@ -17,6 +18,11 @@ use Rattle.yp_answer.specs.declared.make.Job.{Job}
 pub record Told : Type 0 where
   pub text : TextFile → Option (List ℕ)
   pub moment : Option ℕ
+
+-- What is told stays.
+pub record TellsSame (old new : Told) : Type 0 where
+  pub texts : (file : TextFile) → new.text file ≡ old.text file
+  pub moment : new.moment ≡ old.moment
 
 -- what a version is built of is what is told
 pub record IsTold (told : Told) (basis : Basis) (material : Material) : Type 0 where
@@ -29,16 +35,27 @@ pub record IsAnew (told : Told) (basis : Basis) (version : MapVersion) : Type 0 
   pub of_told : IsTold told basis material
   pub built : built_after basis material ≡ Ok version
 
+-- whether the version that is shown has another master than the own name
+abbrev pub is_of_another : Basis → Bool
+is_of_another basis = is_some (other_master basis.own basis.last)
+
+-- the status of a version that isn't built: AGE of a spent order, DBM of a row past a limit
+abbrev pub build_stat : BuildFault → XfrStat
+build_stat OrderSpent = Age
+build_stat NoMemory = Rsrc
+build_stat _ = Dbm
+
+-- a row of the text passes a limit, while the order isn't spent
+pub record HasBadRowAt (told : Told) (basis : Basis) : Type 0 where
+  pub material : Material
+  pub of_told : IsTold told basis material
+  pub fault : BuildFault
+  pub of_row : fault ≢ OrderSpent
+  pub cause : built_after basis material ≡ Err (HasFault fault)
+
 -- what a version of a map is built for, behind a log
 abbrev pub basis_at : List ℕ → Job → Log → Basis
 basis_at own job log = basis_of job.kind own None (shown job.map log)
-
--- P holds of a log from one up to another
-pub record Between (first last : Log) (P : Log → Type 0) : Type 0 where
-  pub log : Log
-  pub begins : IsFront first log
-  pub goes_on : IsFront log last
-  pub holds : P log
 
 -- A version was built anew, behind the versions of its map before it, and was shown. Its order is over that of the
 -- version that was shown at a moment of the making.

@@ -1,0 +1,53 @@
+-- Logs that grew by versions that were made or fetched, and what a crash leaves of a map meanwhile.
+use Rattle.std.specs.Prelude.{◌≡◌, ◌⊎◌, ℕ, List, [], ◌∷◌, ◌++◌, slice_get, All, Option, IfSome, IsSome, ⊤}
+use Rattle.yp_io.specs.Disk.{History, LeavesOnly, MayLeave}
+use Rattle.yp_version.specs.Versions.{MapVersion}
+use Rattle.yp_slot.specs.Stands.{Stored, stands}
+use Rattle.yp_board.specs.Logs.{Log, shown}
+use Rattle.yp_board.specs.Between.{Between}
+use Rattle.yp_publish.specs.Standing.{MapStanding, Level, Behind, stands_for}
+
+-- what it is that a version was made or fetched of a map behind a log
+abbrev pub Making : Type 1
+Making = ℕ → Log → MapVersion → Type 0
+
+-- Each of these entries was made or fetched behind the log and the entries before it.
+abbrev pub AreMade : Making → Log → Log → Type 0
+AreMade Is log [] = ⊤
+AreMade Is log (entry ∷ more) = Is entry.0 log entry.1 × AreMade Is (log ++ entry ∷ []) more
+
+-- A log grew by versions that were made or fetched, each behind the log before it.
+pub record GrowsBy (Is : Making) (first last : Log) : Type 0 where
+  pub more : Log
+  pub last_is : last ≡ first ++ more
+  pub made : AreMade Is first more
+
+-- ---- what a crash leaves
+
+-- The bytes stand for what the log shows of a map, or for a version that was made or fetched of it behind the log.
+abbrev pub IsShownOrMade : Making → ℕ → Log → List ℕ → Type 0
+IsShownOrMade Is number log image =
+    (stands image ≡ stands_for (shown number log))
+    ⊎ ((version : MapVersion) × Is number log version × (stands image ≡ Stored version))
+
+-- The bytes are so by a log of which the first is a front, and which is a front of the last.
+abbrev pub IsOfBetween : Making → ℕ → Log → Log → List ℕ → Type 0
+IsOfBetween Is number first last image = Between first last (λ log. IsShownOrMade Is number log image)
+
+-- A map is level, or behind a version that was made or fetched of it behind the log.
+abbrev pub IsBehindMade : Making → ℕ → Log → MapStanding → Type 0
+IsBehindMade Is number log Level = ⊤
+IsBehindMade Is number log (Behind version) = Is number log version
+
+-- P holds of the disk with this number before and after, and nothing is said where there is none
+abbrev pub AtDisk : {D : Type 0} → ℕ → List D → List D → (D → D → Type 0) → Type 0
+AtDisk number old new P = IfSome (slice_get old number) (λ before. IfSome (slice_get new number) (P before))
+
+-- At each moment a crash leaves of a disk what it might have left at the start, or bytes with P.
+abbrev pub LeavesOr : {D : Type 0} → (D → Option History) → (List ℕ → Type 0) → D → D → Type 0
+LeavesOr history P before after =
+    LeavesOnly (history before) (history after) (λ image. MayLeave (history before) image ⊎ P image)
+
+-- every disk tells its history
+abbrev pub AreTold : {D : Type 0} → (D → Option History) → List D → Type 0
+AreTold history disks = All (λ disk. IsSome (history disk)) disks
