@@ -7,7 +7,8 @@ use Rattle.yp_io.specs.Counts.{HasRisen}
 use Rattle.yp_io.specs.Disk.{History, LeavesOnly, MayLeave}
 use Rattle.yp_io.specs.Streams.{AppendsFront}
 use Rattle.yp_version.specs.Versions.{MapVersion}
-use Rattle.yp_revnet.specs.Refused.{begun, RefusesRow}
+use Rattle.yp_revnet.specs.Refused.{RefusesRow}
+use Rattle.yp_version.specs.Drafts.{empty_draft}
 use Rattle.yp_slot.specs.Commits.{generation_of, winning}
 use Rattle.yp_slot.specs.Stands.{Stands, Stored, stands}
 use Rattle.yp_slot.specs.Stands as stood
@@ -137,11 +138,11 @@ module _ (job : Job) (site : Site) (free : IsFree job site) where
       sym has.next ∙ ap (λ (l : Option MapVersion). order_after (last_order l) site.now) (last_is held is) ∙ free.has_order.next in cc
 
   fits_all : (held : Held) (order row rule : ℕ) → IsHeld site held → HasOrder job.name site.now held.last order
-      → RefusesRow held.netgroup.rows job.field (begun order job.name) row rule → ⊥
+      → RefusesRow held.netgroup.rows job.field (empty_draft order job.name) row rule → ⊥
   fits_all held order row rule is has refuses =
       free.fits row rule
-      (subst (λ (n : ℕ). RefusesRow free.held.netgroup.rows job.field (begun n job.name) row rule) (order_is held order is has)
-      (subst (λ (v : MapVersion). RefusesRow v.rows job.field (begun order job.name) row rule) (netgroup_is held is) refuses))
+      (subst (λ (n : ℕ). RefusesRow free.held.netgroup.rows job.field (empty_draft n job.name) row rule) (order_is held order is has)
+      (subst (λ (v : MapVersion). RefusesRow v.rows job.field (empty_draft order job.name) row rule) (netgroup_is held is) refuses))
 
   -- where nothing is in the way, the version is stored and told, but for faults and want of memory
   whole : (made : Option MapVersion) (status : Status) (before after : Option (List ℕ)) → Reverses job site made status before after

@@ -7,12 +7,12 @@ use Rattle.yp_io.specs.Counts.{HasRisen}
 use Rattle.yp_io.specs.Streams.{AppendsFront}
 use Rattle.yp_io.specs.Disk.{History, LeavesOnly, MayLeave}
 use Rattle.yp_version.specs.Rows.{Row}
-use Rattle.yp_version.specs.Drafts.{first_refused}
+use Rattle.yp_version.specs.Drafts.{empty_draft, first_refused}
 use Rattle.yp_version.specs.Versions.{MapVersion, unmarked}
 use Rattle.yp_revnet.specs.declared.field.Field.{Field}
 use Rattle.yp_revnet.specs.declared.field.Field.TheVariants.{User, Host}
 use Rattle.yp_revnet.specs.Reverse.{IsReverse}
-use Rattle.yp_revnet.specs.Refused.{begun, RefusesRow}
+use Rattle.yp_revnet.specs.Refused.{RefusesRow}
 use Rattle.yp_slot.specs.Commits.{generation_of, winning, generation_max}
 use Rattle.yp_slot.specs.Slots.{IsAsBefore}
 use Rattle.yp_slot.specs.Stands.{Nothing, Stored, stands}
@@ -83,7 +83,7 @@ IsUnmade name field now last rows (Refused master) = other_master name last ≡ 
 IsUnmade name field now last rows OrderSpent =
     (other_master name last ≡ None) × (order_after (last_order last) now ≡ None)
 IsUnmade name field now last rows (Rows row rule) =
-    (order : ℕ) × HasOrder name now last order × RefusesRow rows field (begun order name) row rule
+    (order : ℕ) × HasOrder name now last order × RefusesRow rows field (empty_draft order name) row rule
 IsUnmade name field now last rows NoMemory = ⊤
 IsUnmade name field now last rows _ = ⊥
 
@@ -247,7 +247,7 @@ pub record IsFree (job : Job) (site : Site) : Type 0 where
   pub is_held : IsHeld site held
   pub order : ℕ
   pub has_order : HasOrder job.name site.now held.last order
-  pub fits : (row rule : ℕ) → ¬ RefusesRow held.netgroup.rows job.field (begun order job.name) row rule
+  pub fits : (row rule : ℕ) → ¬ RefusesRow held.netgroup.rows job.field (empty_draft order job.name) row rule
   pub generation : generation_of (winning site.file) < generation_max
 
 -- What `revnet` does: the reverse of the netgroups that stand is stored behind the version that stands, or the first
