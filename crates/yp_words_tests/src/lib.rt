@@ -4,6 +4,4 @@
 #[cfg(test)]
 mod given;
 #[cfg(test)]
-mod mailing;
-#[cfg(test)]
 mod words;
