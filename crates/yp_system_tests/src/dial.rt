@@ -18,16 +18,16 @@ use yp_io::{Dial, Failed, Pair, Peer, Sink, Source, count_fault};
 use yp_system::{TcpDial, TcpWire};
 
 // Any free port of this machine.
-const ANY: Peer = Peer {
+pub const ANY: Peer = Peer {
     addr: [127, 0, 0, 1],
     port: 0,
 };
 
-fn address_of(peer: Peer) -> SocketAddrV4 {
+pub fn address_of(peer: Peer) -> SocketAddrV4 {
     SocketAddrV4::new(Ipv4Addr::from(peer.addr), peer.port)
 }
 
-fn local(port: u16) -> Peer {
+pub fn local(port: u16) -> Peer {
     Peer { port, ..ANY }
 }
 

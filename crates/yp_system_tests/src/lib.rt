@@ -6,6 +6,8 @@ mod dial;
 #[cfg(test)]
 mod disk;
 #[cfg(test)]
+mod inbox;
+#[cfg(test)]
 mod scripted;
 #[cfg(test)]
 mod streams;

@@ -28,7 +28,7 @@ fn is_session(alloc: Global, words: &[String]) -> Result<bool, ParseFault> {
 }
 
 /// What words ask for.
-fn parsed(rt: &impl Abort, alloc: Global, words: &[&str]) -> Command {
+pub fn parsed(rt: &impl Abort, alloc: Global, words: &[&str]) -> Command {
     let words = strings(rt, alloc, words);
     parse(alloc, &words).expect(rt, "the words are a sentence")
 }
@@ -158,7 +158,7 @@ const WRONG_TRANSFERS: [(&[&str], usize); 9] = [
     ),
 ];
 
-fn check_wrong(rt: &impl Abort, alloc: Global, words: &[&str], word: usize) {
+pub fn check_wrong(rt: &impl Abort, alloc: Global, words: &[&str], word: usize) {
     let owned = strings(rt, alloc, words);
     let came = (words, is_session(alloc, &owned));
     let wanted = (words, Err(ParseFault::Usage { word }));

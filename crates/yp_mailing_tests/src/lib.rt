@@ -1,0 +1,14 @@
+//! Tests of `bind`, `portmap` and `getport`, as `yp_tools` runs them: what comes to an inbox and goes out from there,
+//! and calls of it that fail.
+#![tactic(auto)]
+
+#[cfg(test)]
+mod binds;
+#[cfg(test)]
+mod getports;
+#[cfg(test)]
+mod given;
+#[cfg(test)]
+mod portmaps;
+#[cfg(test)]
+mod stage;

@@ -1,0 +1,206 @@
+//! Words of the commands that ask and answer in datagrams, and the port that they name.
+
+use crate::given::assert_same;
+use crate::words::{check_wrong, parsed};
+use yp_bind::Policy;
+use yp_io::Peer;
+use yp_words::{Command, HostWord, port_of};
+
+/// Words that are no sentence, and the word that is wrong.
+const WRONG: [(&[&str], usize); 21] = [
+    (&["portmap"], 1),
+    (&["portmap", "0", "3"], 1),
+    (&["portmap", "65536", "3"], 1),
+    (&["portmap", "0111", "3"], 1),
+    (&["portmap", "111"], 2),
+    (&["portmap", "111", "4294967296"], 2),
+    (&["portmap", "111", "3", "x"], 3),
+    (
+        &["getport", "7112", "2", "127.0.0.1", "100004", "2", "6"],
+        3,
+    ),
+    (
+        &["getport", "7112", "2", "127.0.0.1:0", "100004", "2", "6"],
+        3,
+    ),
+    (
+        &["getport", "7112", "2", "127.0.0.1:111", "yp", "2", "6"],
+        4,
+    ),
+    (&["getport", "7112", "2", "127.0.0.1:111", "100004", "2"], 6),
+    (
+        &[
+            "getport",
+            "7112",
+            "2",
+            "127.0.0.1:111",
+            "100004",
+            "2",
+            "tcp",
+        ],
+        6,
+    ),
+    (&["bind", "7100"], 2),
+    (&["bind", "7100", "ypSet", "2", "lab", "z1@10.0.0.2:834"], 2),
+    (&["bind", "7100", "", "2", "lab", "z1@10.0.0.2:834"], 2),
+    (
+        &["bind", "7100", "fixed", "-1", "lab", "z1@10.0.0.2:834"],
+        3,
+    ),
+    (&["bind", "7100", "fixed", "2", "a/b", "z1@10.0.0.2:834"], 4),
+    (&["bind", "7100", "fixed", "2", "lab"], 5),
+    (&["bind", "7100", "fixed", "2", "lab", "10.0.0.2:834"], 5),
+    (
+        &[
+            "bind",
+            "7100",
+            "fixed",
+            "2",
+            "lab",
+            "z1@10.0.0.2:834",
+            "z2@10.0.0.2:834",
+        ],
+        6,
+    ),
+    (
+        &[
+            "bind",
+            "7100",
+            "fixed",
+            "2",
+            "lab",
+            "z1@10.0.0.2:834",
+            "z1@10.0.0.2:835",
+            "lab/a",
+        ],
+        7,
+    ),
+];
+
+#[test]
+fn wrong_mailing_words(rt: HostRuntime) {
+    for (words, word) in &WRONG {
+        check_wrong(&rt, rt.alloc(), *words, *word);
+    }
+}
+
+const MAPPER: Peer = Peer {
+    addr: [127, 0, 0, 1],
+    port: 111,
+};
+
+/// The turns, the port mapper, and the three numbers that it is asked for.
+type Asked = (u32, Peer, [u32; 3]);
+
+fn asked(command: &Command) -> Option<Asked> {
+    match command {
+        Command::Getport {
+            turns,
+            addr,
+            prog,
+            vers,
+            prot,
+            ..
+        } => Some((*turns, *addr, [*prog, *vers, *prot])),
+        _ => None,
+    }
+}
+
+#[test]
+fn getport_parsed(rt: HostRuntime) {
+    let command = parsed(
+        &rt,
+        rt.alloc(),
+        &[
+            "getport",
+            "65535",
+            "4294967295",
+            "127.0.0.1:111",
+            "100004",
+            "2",
+            "17",
+        ],
+    );
+    let came = (port_of(&command), asked(&command));
+    let wanted = (
+        Some(65_535),
+        Some((4_294_967_295, MAPPER, [100_004, 2, 17])),
+    );
+    assert_same(&rt, &came, &wanted, "getport");
+}
+
+fn mapped(command: &Command) -> Option<u32> {
+    match command {
+        Command::Portmap { turns, .. } => Some(*turns),
+        _ => None,
+    }
+}
+
+#[test]
+fn portmap_parsed(rt: HostRuntime) {
+    let command = parsed(&rt, rt.alloc(), &["portmap", "1", "0"]);
+    let came = (port_of(&command), mapped(&command));
+    assert_same(&rt, &came, &(Some(1), Some(0)), "portmap");
+}
+
+fn host_of(host: &HostWord) -> (&[u8], Peer) {
+    (&host.name, host.peer)
+}
+
+/// The policy, the turns, the domain and two hosts.
+type Bound<'a> = (Policy, u32, &'a [u8], [(&'a [u8], Peer); 2]);
+
+fn bound(command: &Command) -> Option<Bound<'_>> {
+    match command {
+        Command::Bind {
+            policy,
+            turns,
+            domain,
+            hosts,
+            ..
+        } => match hosts.as_slice() {
+            [first, second] => Some((*policy, *turns, domain, [host_of(first), host_of(second)])),
+            _ => None,
+        },
+        _ => None,
+    }
+}
+
+/// Words of `bind` but the policy, and what they say.
+const POLICIES: [(&str, Policy); 3] = [
+    ("fixed", Policy::Fixed),
+    ("ypsetme", Policy::Ypsetme),
+    ("ypset", Policy::Ypset),
+];
+
+const NEAR: Peer = Peer {
+    addr: [127, 0, 0, 1],
+    port: 112,
+};
+
+#[test]
+fn bind_parsed(rt: HostRuntime) {
+    for (word, policy) in &POLICIES {
+        let words = [
+            "bind",
+            "7100",
+            *word,
+            "2",
+            "lab",
+            "z1@127.0.0.1:111",
+            "z1@127.0.0.1:112",
+        ];
+        let command = parsed(&rt, rt.alloc(), &words);
+        let hosts: [(&[u8], Peer); 2] = [(b"z1", MAPPER), (b"z1", NEAR)];
+        let domain: &[u8] = b"lab";
+        let came = (port_of(&command), bound(&command));
+        let wanted = (Some(7_100), Some((*policy, 2, domain, hosts)));
+        assert_same(&rt, &came, &wanted, word);
+    }
+}
+
+#[test]
+fn a_command_without_a_port(rt: HostRuntime) {
+    let command = parsed(&rt, rt.alloc(), &["sample", "0", "3"]);
+    assert_same(&rt, &port_of(&command), &None, "sample");
+}
