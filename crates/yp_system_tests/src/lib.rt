@@ -6,8 +6,6 @@ mod dial;
 #[cfg(test)]
 mod disk;
 #[cfg(test)]
-mod listen;
-#[cfg(test)]
 mod scripted;
 #[cfg(test)]
 mod streams;
