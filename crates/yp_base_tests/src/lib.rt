@@ -1,4 +1,4 @@
-//! Tests of `yp_io`, `yp_mem`, `yp_listen`, `yp_xdr` and `yp_msgs`.
+//! Tests of `yp_io`, `yp_mem`, `yp_xdr` and `yp_msgs`.
 #![tactic(auto)]
 
 #[cfg(test)]
@@ -9,8 +9,6 @@ mod disk;
 mod given;
 #[cfg(test)]
 mod inbox;
-#[cfg(test)]
-mod listen;
 #[cfg(test)]
 mod messages;
 #[cfg(test)]

@@ -8,8 +8,6 @@ mod disk;
 #[cfg(test)]
 mod inbox;
 #[cfg(test)]
-mod listen;
-#[cfg(test)]
 mod scripted;
 #[cfg(test)]
 mod streams;
