@@ -26,7 +26,7 @@ use yp_tools::{
 fn locking_of(command: &Command, name: &MapName) -> Locking {
     match command {
         Command::Build { .. } => Locking::AtOnce,
-        Command::Xfr { .. } => Locking::AtOnce,
+        Command::Xfr(_) => Locking::AtOnce,
         Command::Revnet { store, .. } if store.map == name.map => Locking::AtOnce,
         _ => Locking::AtFirstWrite,
     }

@@ -32,7 +32,7 @@ use Rattle.yp_office.specs.Seeing.{Seeing, output, history, WriteFails, DiskFail
 use Rattle.yp_office.specs.declared.office.Office.{Office}
 use Rattle.yp_office.specs.declared.status.Status.{Status}
 use Rattle.yp_office.specs.declared.status.Status.TheVariants.{Done, WriteFault, NoMemory, Damaged, DiskFault, Xfr}
-use Rattle.yp_storing.specs.declared.xfr.XfrJob.{XfrJob}
+use Rattle.yp_words.specs.declared.command.XfrJob.{XfrJob}
 use Rattle.yp_storing.specs.declared.xfr.XfrStop.{XfrStop}
 use Rattle.yp_storing.specs.declared.xfr.XfrStop.TheVariants as stop
 use Rattle.yp_storing.specs.Build.{TellsLine, LeavesFew}

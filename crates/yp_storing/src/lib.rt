@@ -15,4 +15,4 @@ mod xfr;
 pub use build::build_map;
 pub use check::check_map;
 pub use revnet::reverse_map;
-pub use xfr::{XfrJob, transfer_map};
+pub use xfr::transfer_map;

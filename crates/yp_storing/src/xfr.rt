@@ -23,23 +23,8 @@ use yp_office::{
 };
 use yp_publish::{Installed, OpenFault, open_publisher};
 use yp_slot::SlotFault;
-use yp_words::HostWord;
+use yp_words::{HostWord, XfrJob};
 use yp_xfr::{Hosts, XfrFault, transfer};
-
-/// What is to be transferred.
-#[derive(Drop)]
-pub struct XfrJob {
-    /// The name of the host that stores the map.
-    pub name: Vec<u8>,
-    /// Whether the version goes in whatever its order is.
-    pub force: bool,
-    /// The map.
-    pub store: MapName,
-    /// The host that has it.
-    pub host: HostWord,
-    /// Whether the version is secure, where that is said.
-    pub flag: Option<bool>,
-}
 
 /// Why a map isn't transferred.
 #[derive(Clone, Copy, Debug)]

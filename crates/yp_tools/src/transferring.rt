@@ -12,7 +12,8 @@ use std::random::RandomSource;
 use yp_io::{Clock, Dial, Disk, Inbox, Sink, Source, Texts};
 use yp_office::{Office, Status};
 use yp_source::laws::{run_is_fetched, wire_is_fetched};
-use yp_storing::{XfrJob, transfer_map};
+use yp_storing::transfer_map;
+use yp_words::XfrJob;
 use yp_xfr::laws::fetched_is_one;
 
 /// Fetches the only map from a host, stores it on the only disk, and tells what was stored.

@@ -397,8 +397,7 @@ meaning (command.Session name addr stores hosts) =
     Session name.items addr (map name_view stores.items) (map host_view hosts.items)
 meaning (command.Check store) = Check (name_view store)
 meaning (command.Build name store flag) = Build name.items (name_view store) flag
-meaning (command.Xfr name force store host flag) =
-    Xfr name.items force (name_view store) (host_view host) flag
+meaning (command.Xfr job) = Xfr job.name.items job.force (name_view job.store) (host_view job.host) job.flag
 meaning (command.Revnet name store) = Revnet name.items (name_view store)
 meaning (command.Sample start count) = Sample start count
 meaning (command.Bind port policy turns domain hosts) =

@@ -19,6 +19,21 @@ pub struct HostWord {
     pub peer: Peer,
 }
 
+/// A map that is to be fetched and stored.
+#[derive(Debug, Drop)]
+pub struct XfrJob {
+    /// The name of the host that stores the map.
+    pub name: Vec<u8>,
+    /// Whether the version goes in whatever its order is.
+    pub force: bool,
+    /// The map.
+    pub store: MapName,
+    /// The host that has it.
+    pub host: HostWord,
+    /// Whether the version is secure, where that is said.
+    pub flag: Option<bool>,
+}
+
 /// What the words of the command line ask for.
 #[derive(Debug, Drop)]
 pub enum Command {
@@ -46,15 +61,8 @@ pub enum Command {
         store: MapName,
         flag: Option<bool>,
     },
-    /// Fetches this map from `host`, and installs it where its order is over the one that is shown, or in any case.
-    /// `name` is the host that fetches, and `flag` is as in `Build`.
-    Xfr {
-        name: Vec<u8>,
-        force: bool,
-        store: MapName,
-        host: HostWord,
-        flag: Option<bool>,
-    },
+    /// Fetches a map, and installs it where its order is over the one that is shown, or in any case.
+    Xfr(XfrJob),
     /// Makes this map, of netgroups by users or by hosts, of the domain's netgroups, and installs it. `name` is its
     /// master.
     Revnet {

@@ -11,7 +11,7 @@ ghost use Rattle.yp_words.specs.Words.{Xfr, bind, port_value, policy_of, TakesMe
 ghost use Rattle.yp_words.specs.Forms.{is_force};
 ghost use Rattle.yp_words.specs.Words.{IsUsage, HasNames};
 
-use crate::command::{Command, HostWord, KeyValue};
+use crate::command::{Command, HostWord, KeyValue, XfrJob};
 use crate::form::{
     ANY, FORCE, SECURE, YPSET, YPSETME, address_of, cut_at, is_host, is_store, number_of,
     port_of as port_in,
@@ -189,13 +189,13 @@ fn xfr_of(alloc: Global, words: &[String], flag: Option<bool>) -> Result<Command
         ≡ Xfr (word_at 1 (texts words.now)) (is_force (word_at 2 (texts words.now)))
         (name_of (word_at 3 (texts words.now))) (host_of (word_at 4 (texts words.now))) flag) }
 {
-    Ok(Command::Xfr {
+    Ok(Command::Xfr(XfrJob {
         name: Vec::from_slice(alloc, word_at(words, 1).as_bytes())?,
         force: word_at(words, 2) == FORCE,
         store: store_of(alloc, word_at(words, 3))?,
         host: host_of(alloc, word_at(words, 4))?,
         flag,
-    })
+    }))
 }
 
 fn revnet_of(alloc: Global, words: &[String]) -> Result<Command, AllocError>
@@ -402,7 +402,7 @@ pub fn stores_of(alloc: Global, command: &Command) -> Result<Vec<MapName>, NoMem
     let names = match command {
         Command::Check { store } => only_name(alloc, store),
         Command::Build { store, .. } => only_name(alloc, store),
-        Command::Xfr { store, .. } => only_name(alloc, store),
+        Command::Xfr(job) => only_name(alloc, &job.store),
         Command::Revnet { store, .. } => with_netgroup(alloc, store),
         Command::Session { stores, .. } => copy_names(alloc, stores),
         Command::Once { .. } => return Ok(Vec::new(alloc)),
@@ -427,7 +427,7 @@ pub fn port_of(command: &Command) -> Option<u16>
         Command::Session { .. } => None,
         Command::Check { .. } => None,
         Command::Build { .. } => None,
-        Command::Xfr { .. } => None,
+        Command::Xfr(_) => None,
         Command::Revnet { .. } => None,
         Command::Sample { .. } => None,
         Command::Bind { port, .. } => Some(*port),

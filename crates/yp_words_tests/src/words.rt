@@ -391,13 +391,13 @@ const TRANSFERS: [(&[&str], Transfer); 3] = [
 
 fn transferred(command: &Command) -> Option<Transfer<'_>> {
     match command {
-        Command::Xfr {
-            name,
-            force,
-            store,
-            host,
-            flag,
-        } => Some((name, *force, names_of(store), host_of(host), *flag)),
+        Command::Xfr(job) => Some((
+            &job.name,
+            job.force,
+            names_of(&job.store),
+            host_of(&job.host),
+            job.flag,
+        )),
         _ => None,
     }
 }
