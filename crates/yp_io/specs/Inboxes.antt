@@ -1,5 +1,6 @@
 -- What is told of an inbox: what came and what was sent, in one order.
-use Rattle.std.specs.Prelude.{◌≡◌, ℕ, ◌+◌, ◌≤◌, List, [], ◌∷◌, ◌++◌, length, take, min, Option, None, Some, Result, Ok, Err, ⊤}
+use Rattle.std.specs.Prelude.{◌≡◌, ℕ, ◌+◌, ◌≤◌, List, [], ◌∷◌, ◌++◌, length, take, min, Option, None, Some, Result}
+use Rattle.std.specs.Prelude.{Ok, Err, ⊤}
 use Rattle.yp_io.specs.Counts.{next_count}
 use Rattle.yp_io.specs.declared.stream.Peer.{Peer}
 use Rattle.yp_io.specs.declared.inbox.Mail.{Mail}

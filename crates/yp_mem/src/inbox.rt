@@ -1,6 +1,7 @@
 //! An inbox in memory.
 
-ghost use Rattle.std.specs.Prelude.{◌≡◌, ◌↔◌, [], ◌∷◌, ◌++◌, map, drop, Some, Contains, IsErr, IfSome, IfNone, IfOk, OnOk, OnErr};
+ghost use Rattle.std.specs.Prelude.{◌≡◌, ◌↔◌, [], ◌∷◌, ◌++◌, map, drop, Some, Contains, IsErr, IfSome, IfNone, IfOk};
+ghost use Rattle.std.specs.Prelude.{OnOk, OnErr};
 ghost use Rattle.yp_io.specs.Counts.{CountsFaults, next_count, faults_after};
 ghost use Rattle.yp_io.specs.Dials.{Gains};
 ghost use Rattle.yp_io.specs.Inboxes.{Arrived, Silent, Sent, GainsTurn, IsTurn, HoldsFront, MailIsWithin, turns_after, quiets_after};

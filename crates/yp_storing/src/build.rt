@@ -15,7 +15,8 @@ ghost use Rattle.yp_office.specs.Disks.{names_of, history_of, faults_of, only_hi
 ghost use Rattle.yp_office.specs.Seeing.{seeing, IsPassedOn};
 ghost use Rattle.yp_office.specs.Status.{IsTellable};
 ghost use Rattle.yp_storing.specs.Build.{job_view, last_view, build_line, plan_of, is_early, StopsInstall, IsAccepted};
-ghost use Rattle.yp_storing.specs.Build.{Stops, IsBuilt, IsPlanned, IsShownOrPlanned, LeavesFew, with_generation, BuildsOn};
+ghost use Rattle.yp_storing.specs.Build.{Stops, IsBuilt, IsPlanned, IsShownOrPlanned, LeavesFew, with_generation};
+ghost use Rattle.yp_storing.specs.Build.{BuildsOn};
 ghost use Rattle.yp_storing.specs.Build.{unread_status, fault_status, stop_of_open, stop_of_build, stop_of_after};
 ghost use Rattle.yp_storing.specs.Build.{IsStatusOfStop, TellsLine, IsEnd, IsShortStop, BuildDoes, build_may_end};
 

@@ -1,5 +1,5 @@
-//! Tests of `xfr` and `revnet` as `yp_tools` runs them: what memory alone can show, as calls that fail, and crashes. The
-//! rest is in examples/.
+//! Tests of `xfr` and `revnet` as `yp_tools` runs them: what memory alone can show, as calls that fail, and crashes.
+//! The rest is in examples/.
 #![tactic(auto)]
 
 #[cfg(test)]
