@@ -74,7 +74,7 @@ pub record IsMade (name : List ℕ) (field : Field) (now : ℕ) (last : Option M
   pub order : HasOrder name now last version.order
   pub is : version ≡ record (unmarked version.order name version.rows) { secure = was_secure last }
   pub reverse : IsReverse rows field version.rows
-  pub fits : first_refused (begun version.order name) version.rows ≡ None
+  pub fits : first_refused (empty_draft version.order name) version.rows ≡ None
 
 -- why none is made, the first reason that applies: the last version has another master, or the last order, or a row of
 -- the reverse passes a limit
