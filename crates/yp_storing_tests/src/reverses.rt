@@ -99,16 +99,29 @@ const CASES: [Case; 8] = [
     },
 ];
 
+/// Both files, where nothing fails.
+fn files<'a>(file: &'a [u8], netgroup: &'a [u8]) -> Scene<'a> {
+    Scene {
+        file,
+        netgroup,
+        ..FAIR
+    }
+}
+
+/// The file of the netgroups, and the calls of its disk that fail.
+fn failing<'a>(netgroup: &'a [u8], netgroup_disk: &'a [u64]) -> Scene<'a> {
+    Scene {
+        netgroup,
+        netgroup_disk,
+        ..FAIR
+    }
+}
+
 fn try_case<R: RandomSource + Abort>(rt: &R, alloc: Global, case: &Case) {
     let words = strings(rt, alloc, case.words);
     let file = bytes(rt, alloc, case.file);
     let netgroup = bytes(rt, alloc, case.netgroup);
-    let scene = Scene {
-        file: &file,
-        netgroup: &netgroup,
-        ..FAIR
-    };
-    let (status, outside) = play(rt, alloc, &words, &scene);
+    let (status, outside) = play(rt, alloc, &words, &files(&file, &netgroup));
     let file = Vec::from_slice(alloc, file_of(&outside.disks)).expect(rt, "memory");
     let (code, line, note, _) = told_of(&status, &outside);
     let came = (code, line, note, stands_of(rt, alloc, file));
@@ -174,11 +187,8 @@ fn each_netgroup_call_fails(rt: HostRuntime) {
     let stored = bytes(&rt, alloc, BY_USER_FILE);
     let fault = (10, "", "yp: disk fault in lab/netgroup\n");
     for call in 0..5 {
-        let scene = Scene {
-            netgroup: &netgroup,
-            netgroup_disk: &[call],
-            ..FAIR
-        };
+        let calls = [call];
+        let scene = failing(&netgroup, &calls);
         if call == 4 {
             try_scene(&rt, alloc, "no such call", &scene, (0, STORED, ""), &stored);
         } else {

@@ -2,6 +2,8 @@
 
 use crate::given::assert_same;
 use crate::words::{check_wrong, parsed};
+use std::alloc::Global;
+use std::process::Abort;
 use yp_bind::Policy;
 use yp_io::Peer;
 use yp_words::{Command, HostWord, port_of};
@@ -166,11 +168,44 @@ fn bound(command: &Command) -> Option<Bound<'_>> {
     }
 }
 
-/// Words of `bind` but the policy, and what they say.
-const POLICIES: [(&str, Policy); 3] = [
-    ("fixed", Policy::Fixed),
-    ("ypsetme", Policy::Ypsetme),
-    ("ypset", Policy::Ypset),
+/// Words of `bind`, and the policy that they say.
+const BINDS: [(&[&str], Policy); 3] = [
+    (
+        &[
+            "bind",
+            "7100",
+            "fixed",
+            "2",
+            "lab",
+            "z1@127.0.0.1:111",
+            "z1@127.0.0.1:112",
+        ],
+        Policy::Fixed,
+    ),
+    (
+        &[
+            "bind",
+            "7100",
+            "ypsetme",
+            "2",
+            "lab",
+            "z1@127.0.0.1:111",
+            "z1@127.0.0.1:112",
+        ],
+        Policy::Ypsetme,
+    ),
+    (
+        &[
+            "bind",
+            "7100",
+            "ypset",
+            "2",
+            "lab",
+            "z1@127.0.0.1:111",
+            "z1@127.0.0.1:112",
+        ],
+        Policy::Ypset,
+    ),
 ];
 
 const NEAR: Peer = Peer {
@@ -178,24 +213,24 @@ const NEAR: Peer = Peer {
     port: 112,
 };
 
+const HOSTS: [(&[u8], Peer); 2] = [(b"z1", MAPPER), (b"z1", NEAR)];
+
+fn check_bound(rt: &impl Abort, alloc: Global, words: &[&str], policy: Policy) {
+    let command = parsed(rt, alloc, words);
+    let domain: &[u8] = b"lab";
+    assert_same(rt, &port_of(&command), &Some(7_100), "the port");
+    assert_same(
+        rt,
+        &bound(&command),
+        &Some((policy, 2, domain, HOSTS)),
+        "bind",
+    );
+}
+
 #[test]
 fn bind_parsed(rt: HostRuntime) {
-    for (word, policy) in &POLICIES {
-        let words = [
-            "bind",
-            "7100",
-            *word,
-            "2",
-            "lab",
-            "z1@127.0.0.1:111",
-            "z1@127.0.0.1:112",
-        ];
-        let command = parsed(&rt, rt.alloc(), &words);
-        let hosts: [(&[u8], Peer); 2] = [(b"z1", MAPPER), (b"z1", NEAR)];
-        let domain: &[u8] = b"lab";
-        let came = (port_of(&command), bound(&command));
-        let wanted = (Some(7_100), Some((*policy, 2, domain, hosts)));
-        assert_same(&rt, &came, &wanted, word);
+    for (words, policy) in &BINDS {
+        check_bound(&rt, rt.alloc(), *words, *policy);
     }
 }
 

@@ -587,12 +587,13 @@ fn revnet_parsed(rt: HostRuntime) {
     let alloc = rt.alloc();
     let command = parsed(&rt, alloc, &words);
     let names = disk_names(alloc, &strings(&rt, alloc, &words)).expect(&rt, "memory");
-    let came = (reversed(&command), two_of(&names));
-    let store: Names = (b"lab", b"netgroup.byhost");
-    let name: &[u8] = b"m1";
-    let wanted = (Some((name, store)), Some([store, (b"lab", b"netgroup")]));
-    assert_same(&rt, &came, &wanted, "revnet");
+    assert_same(&rt, &reversed(&command), &REVERSED, "what is made");
+    assert_same(&rt, &two_of(&names), &READ, "the files");
 }
+
+const REVERSED: Option<(&[u8], Names)> = Some((b"m1", (b"lab", b"netgroup.byhost")));
+
+const READ: Option<(Names, Names)> = Some(((b"lab", b"netgroup.byhost"), (b"lab", b"netgroup")));
 
 fn reversed(command: &Command) -> Option<(&[u8], Names<'_>)> {
     match command {
@@ -601,9 +602,9 @@ fn reversed(command: &Command) -> Option<(&[u8], Names<'_>)> {
     }
 }
 
-fn two_of(names: &[MapName]) -> Option<[Names<'_>; 2]> {
+fn two_of(names: &[MapName]) -> Option<(Names<'_>, Names<'_>)> {
     match names {
-        [first, second] => Some([names_of(first), names_of(second)]),
+        [first, second] => Some((names_of(first), names_of(second))),
         _ => None,
     }
 }

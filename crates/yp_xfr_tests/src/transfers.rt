@@ -303,12 +303,7 @@ const TOLD_SKEW: &str = "00000009 00000000 00000002 40000000 00000001 00000001
 const CALLERS: [(&str, Asker, &str, Option<&str>); 5] = [
     ("stored", ASKER, SECOND_REPLY, Some(TOLD_SUCC)),
     ("skewed", ASKER, SKEWED_REPLY, Some(TOLD_SKEW)),
-    (
-        "no program",
-        Asker { prog: 0, ..ASKER },
-        SECOND_REPLY,
-        None,
-    ),
+    ("no program", Asker { prog: 0, ..ASKER }, SECOND_REPLY, None),
     ("port 0", Asker { port: 0, ..ASKER }, SECOND_REPLY, None),
     (
         "port 65536",
