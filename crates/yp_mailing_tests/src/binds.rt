@@ -96,7 +96,8 @@ const SILENT: Row = Row {
     ..OFFERED
 };
 
-const ROWS: [Row; 16] = [
+/// Rounds of pings, and what comes of them.
+const ROUNDS: [Row; 6] = [
     OFFERED,
     SILENT,
     Row {
@@ -136,6 +137,10 @@ const ROWS: [Row; 16] = [
         sends: &[PING],
         ..SILENT
     },
+];
+
+/// Calls to the binder, and turns that are quiet.
+const CALLS: [Row; 4] = [
     Row {
         name: "asked before the offer and behind it",
         words: &["bind", "7100", "fixed", "3", "lab", "z1@10.0.0.2:834"],
@@ -179,6 +184,10 @@ const ROWS: [Row; 16] = [
         turns: 4,
         ..SILENT
     },
+];
+
+/// Calls of the inbox, and of the output, that fail.
+const FAULTS: [Row; 6] = [
     Row {
         name: "a ping fails",
         failing: &[0],
@@ -242,7 +251,23 @@ const ROWS: [Row; 16] = [
 #[test]
 fn bind_over_memory(rt: HostRuntime) {
     let alloc = rt.alloc();
-    for row in &ROWS {
+    for row in &ROUNDS {
+        try_row(&rt, alloc, row);
+    }
+}
+
+#[test]
+fn a_binder_is_called(rt: HostRuntime) {
+    let alloc = rt.alloc();
+    for row in &CALLS {
+        try_row(&rt, alloc, row);
+    }
+}
+
+#[test]
+fn each_call_of_the_inbox_fails(rt: HostRuntime) {
+    let alloc = rt.alloc();
+    for row in &FAULTS {
         try_row(&rt, alloc, row);
     }
 }
