@@ -99,15 +99,6 @@ const CASES: [Case; 8] = [
     },
 ];
 
-/// Both files, where nothing fails.
-fn files<'a>(file: &'a [u8], netgroup: &'a [u8]) -> Scene<'a> {
-    Scene {
-        file,
-        netgroup,
-        ..FAIR
-    }
-}
-
 /// The file of the netgroups, and the calls of its disk that fail.
 fn failing<'a>(netgroup: &'a [u8], netgroup_disk: &'a [u64]) -> Scene<'a> {
     Scene {
@@ -118,10 +109,26 @@ fn failing<'a>(netgroup: &'a [u8], netgroup_disk: &'a [u64]) -> Scene<'a> {
 }
 
 fn try_case<R: RandomSource + Abort>(rt: &R, alloc: Global, case: &Case) {
-    let words = strings(rt, alloc, case.words);
     let file = bytes(rt, alloc, case.file);
     let netgroup = bytes(rt, alloc, case.netgroup);
-    let (status, outside) = play(rt, alloc, &words, &files(&file, &netgroup));
+    try_files(rt, alloc, case, &file, &netgroup);
+}
+
+/// Runs a case over both files, where nothing fails.
+fn try_files<'a, R: RandomSource + Abort>(
+    rt: &R,
+    alloc: Global,
+    case: &Case,
+    file: &'a [u8],
+    netgroup: &'a [u8],
+) {
+    let words = strings(rt, alloc, case.words);
+    let scene = Scene {
+        file,
+        netgroup,
+        ..FAIR
+    };
+    let (status, outside) = play(rt, alloc, &words, &scene);
     let file = Vec::from_slice(alloc, file_of(&outside.disks)).expect(rt, "memory");
     let (code, line, note, _) = told_of(&status, &outside);
     let came = (code, line, note, stands_of(rt, alloc, file));
