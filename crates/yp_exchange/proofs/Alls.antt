@@ -17,6 +17,7 @@ use Rattle.yp_version.specs.Laws.{RisingIsDistinct}
 use Rattle.yp_client.specs.declared.fault.ClientFault.{ClientFault}
 use Rattle.yp_client.specs.Limits.{all_max}
 use Rattle.yp_client.specs.All.{filled_by, all_said}
+use Rattle.yp_answer.specs.declared.procedure.Path.TheVariants.{Stream}
 use Rattle.yp_answer.specs.declared.procedure.Procedure.TheVariants.{All}
 use Rattle.yp_answer.specs.Maps.{row_check}
 use Rattle.yp_answer.specs.Results.{row_item, all_items}
@@ -68,7 +69,7 @@ all_tells law calls distinct maps peer xid domain served x d map m draft room =
     let sound = row_sound maps peer.port domain map served in
     record {
       bytes = success xid (ListOf key_val) (all_items held);
-      replied = replied_to law calls maps peer req_nokey xid all_procedure (domain, map) All
+      replied = replied_to law calls Stream maps peer req_nokey xid all_procedure (domain, map) All
           (λ asked. Bytes (success xid (ListOf key_val) (all_items (row_check maps peer.port asked.0 asked.1)))) x (omega arith) refl (map_fits domain map d m) refl;
       within = subst (λ n. n ≤ all_max) (sym (length-success xid (ListOf key_val) (all_items held))) (held_len held sound);
       says = all_is_said law distinct draft xid held x sound room;

@@ -23,9 +23,9 @@ use Rattle.yp_client.specs.Calls.{Calls}
 use Rattle.yp_query.specs.declared.fault.QueryFault.TheVariants.{Dial}
 use Rattle.yp_question.specs.declared.question.Question.TheVariants.{Cat, Catk, Match, Which, Poll, Maps as MapsOf}
 use Rattle.yp_question.specs.declared.question.Question.TheVariants.{Innetgr}
-use Rattle.yp_query.specs.Lines.{line, lines, rows_text, standing_text}
+use Rattle.yp_query.specs.Lines.{line, lines, standing_text}
 use Rattle.yp_query.specs.Faults.{query_fault, match_fault}
-use Rattle.yp_query.specs.Asked.{Outcome, told_by, meant_by, no_rows, TakesRows, MakesMaster, MakesCalls}
+use Rattle.yp_query.specs.Asked.{Outcome, told_by, no_rows, TakesRows, MakesMaster, MakesCalls}
 use Rattle.yp_query.specs.Asked.{rows_told, membership_told, netgroup}
 use Rattle.yp_question.specs.Questions.{ByteQuestion, QuestionIsWithin}
 use Rattle.yp_query.specs.Complete.{HasCome}

@@ -12,7 +12,7 @@ use Rattle.yp_rpc.specs.Call.{front_kind, procedure_kind}
 use Rattle.yp_rpc.specs.Called.{front, heading, called, call_of}
 use Rattle.yp_rpc.specs.Laws.{IsWord, CallIsHeardAgain}
 use Rattle.yp_msgs.specs.Numbers.{program, version}
-use Rattle.yp_answer.specs.declared.procedure.Path.TheVariants.{Stream}
+use Rattle.yp_answer.specs.declared.procedure.Path.{Path}
 use Rattle.yp_answer.specs.declared.procedure.Procedure.{Procedure}
 use Rattle.yp_answer.specs.declared.caller.Caller.{Caller}
 use Rattle.yp_answer.specs.Maps.{Maps}
@@ -22,9 +22,9 @@ use Rattle.yp_answer.specs.Reply.{arguments_of, procedure_reply, admitted, call_
 abbrev pub call_head : ℕ → ℕ → CallHead
 call_head xid procedure = record { xid = xid; prog = program; vers = version; procedure = procedure; flavor = 0; body = 40 }
 
--- a caller over a stream
-abbrev pub caller_of : ℕ → Peer → Caller
-caller_of xid peer = record { path = Stream; xid = xid; peer = peer }
+-- a caller
+abbrev pub caller_of : Path → ℕ → Peer → Caller
+caller_of path xid peer = record { path = path; xid = xid; peer = peer }
 
 -- the head of a call takes 40 bytes
 length-called : (xid prog vers procedure : ℕ) → length (called xid prog vers procedure) ≡ 40
@@ -45,13 +45,13 @@ arguments_again law kind arguments fits =
     ∙ ap (λ (n : ℕ). Ok (arguments, record { at = n; bytes = [] })) (omega arith)
 
 -- the reply to a call is that of its procedure to its arguments
-pub reply_to_call : CallIsHeardAgain → (maps : Maps) (peer : Peer) (kind : Kind) (xid number : ℕ) (arguments : Value kind) (procedure : Procedure) → IsWord xid → IsWord number
-    → admitted Stream (call_head xid number) ≡ Ok procedure
-    → reply Stream maps peer (call_of kind xid program version number arguments) ≡ procedure_reply maps (caller_of xid peer) procedure (spelling kind arguments)
-reply_to_call law maps peer kind xid number arguments procedure x n is =
+pub reply_to_call : CallIsHeardAgain → (path : Path) (maps : Maps) (peer : Peer) (kind : Kind) (xid number : ℕ) (arguments : Value kind) (procedure : Procedure) → IsWord xid → IsWord number
+    → admitted path (call_head xid number) ≡ Ok procedure
+    → reply path maps peer (call_of kind xid program version number arguments) ≡ procedure_reply maps (caller_of path xid peer) procedure (spelling kind arguments)
+reply_to_call law path maps peer kind xid number arguments procedure x n is =
     let head = called xid program version number in
     let bytes = spelling kind arguments in
-    ap (λ (message : List ℕ). reply Stream maps peer message) (call_is kind xid number arguments)
-    ∙ ap (λ (h : Heard). heard_reply Stream maps peer (head ++ bytes) h) (law xid program version number bytes x (omega arith) (omega arith) n)
-    ∙ ap (λ (a : Result Procedure ReplyHead). call_reply Stream maps peer (head ++ bytes) (call_head xid number) a) is
-    ∙ ap (λ (rest : List ℕ). procedure_reply maps (caller_of xid peer) procedure rest) (drop_at head bytes 40 (length-called xid program version number))
+    ap (λ (message : List ℕ). reply path maps peer message) (call_is kind xid number arguments)
+    ∙ ap (λ (h : Heard). heard_reply path maps peer (head ++ bytes) h) (law xid program version number bytes x (omega arith) (omega arith) n)
+    ∙ ap (λ (a : Result Procedure ReplyHead). call_reply path maps peer (head ++ bytes) (call_head xid number) a) is
+    ∙ ap (λ (rest : List ℕ). procedure_reply maps (caller_of path xid peer) procedure rest) (drop_at head bytes 40 (length-called xid program version number))

@@ -1,5 +1,5 @@
 -- Where the maps of a server tell a text, its replies answer the calls of a question.
-use Rattle.std.proofs.Common.{◌≡◌, ℕ, ◌≤◌, Bool, true, false, List, length, Result, Ok, Err, refl, sym, ap, ◌∙◌, subst, arith}
+use Rattle.std.proofs.Common.{◌≡◌, ℕ, ◌≤◌, true, false, List, length, Result, Ok, Err, refl, sym, ap, ◌∙◌, subst, arith}
 use Rattle.std.specs.Prelude.{⊤, IsOk}
 use Rattle.yp_io.specs.declared.stream.Peer.{Peer}
 use Rattle.yp_msgs.specs.declared.stat.YpStat.{YpStat}
@@ -15,7 +15,7 @@ use Rattle.yp_client.specs.All.{AllSaid, all_said}
 use Rattle.yp_client.specs.Asked.{all_call, match_call, master_call, order_call, maplist_call}
 use Rattle.yp_question.specs.declared.question.Question.TheVariants.{Cat, Catk, Match, Which, Poll, Maps as MapsOf}
 use Rattle.yp_question.specs.declared.question.Question.TheVariants.{Innetgr}
-use Rattle.yp_query.specs.Lines.{line, lines, rows_text, standing_text}
+use Rattle.yp_query.specs.Lines.{line, lines, standing_text}
 use Rattle.yp_query.specs.Faults.{query_fault, match_fault}
 use Rattle.yp_version.specs.Rows.{Row}
 use Rattle.yp_query.specs.Asked.{Outcome, told_by, meant_by, no_rows, rows_told, membership_told, netgroup}

@@ -42,11 +42,11 @@ value_short key (row ∷ rows) short = by (bytes_eq row.0 key) (value_short key 
     by true later = (All-head IsShortRow row rows short).1
     by false later = later
 
-first_short : (rows : List Row) → AreShort rows → IfSome (first_of rows) IsShortRow
+pub first_short : (rows : List Row) → AreShort rows → IfSome (first_of rows) IsShortRow
 first_short [] short = tt
 first_short (row ∷ rows) short = All-head IsShortRow row rows short
 
-next_short : (key : List ℕ) (rows : List Row) → AreShort rows → IfSome (following key rows) (λ next. IfSome next IsShortRow)
+pub next_short : (key : List ℕ) (rows : List Row) → AreShort rows → IfSome (following key rows) (λ next. IfSome next IsShortRow)
 next_short key [] short = tt
 next_short key (row ∷ rows) short = by (bytes_eq row.0 key) (next_short key rows (All-tail IsShortRow row rows short))
   where
@@ -73,7 +73,7 @@ row_found_said : WrittenIsReadAgain → (xid : ℕ) (found : Option Row) → IsW
 row_found_said law xid None x short = row_said law xid Nomore [] [] x (omega arith) (omega arith)
 row_found_said law xid (Some row) x short = row_said law xid True row.1 row.0 x short.1 short.0
 
-refused_row_said : WrittenIsReadAgain → (xid : ℕ) (stat : YpStat) → IsWord xid → IsRefusal stat → row_of xid (success xid key_val (no_row stat)) ≡ Err (Yp stat)
+pub refused_row_said : WrittenIsReadAgain → (xid : ℕ) (stat : YpStat) → IsWord xid → IsRefusal stat → row_of xid (success xid key_val (no_row stat)) ≡ Err (Yp stat)
 refused_row_said law xid True x is = absurd is
 refused_row_said law xid stat x is = row_said law xid stat [] [] x (omega arith) (omega arith)
 

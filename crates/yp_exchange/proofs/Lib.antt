@@ -6,6 +6,7 @@ pub mod Found
 pub mod Lengths
 pub mod Names
 pub mod LookUps
+pub mod Mailed
 pub mod Pushed
 pub mod Rows
 pub mod Alls

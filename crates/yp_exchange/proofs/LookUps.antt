@@ -15,6 +15,7 @@ use Rattle.yp_msgs.specs.Messages.{req_domain, req_nokey, req_key, resp_val, key
 use Rattle.yp_msgs.specs.MapLists.{map_list}
 use Rattle.yp_board.specs.Catalogues.{serves}
 use Rattle.yp_client.specs.Limits.{reply_max}
+use Rattle.yp_answer.specs.declared.procedure.Path.{Path}
 use Rattle.yp_answer.specs.declared.procedure.Path.TheVariants.{Stream}
 use Rattle.yp_answer.specs.declared.procedure.Procedure.{Procedure}
 use Rattle.yp_answer.specs.declared.procedure.Procedure.TheVariants.{Domain, Match, First, Next, Master, Order, Maplist}
@@ -35,23 +36,23 @@ domain_fits domain d = (d, omega (arith, d))
 pub map_fits : (domain map : List ℕ) → length domain ≤ name_max → length map ≤ name_max → Fits req_nokey (domain, map)
 map_fits domain map d m = (domain_fits domain d, domain_fits map m)
 
-key_fits : (domain map key : List ℕ) → length domain ≤ name_max → length map ≤ name_max → length key ≤ key_max → Fits req_key (domain, (map, key))
+pub key_fits : (domain map key : List ℕ) → length domain ≤ name_max → length map ≤ name_max → length key ≤ key_max → Fits req_key (domain, (map, key))
 key_fits domain map key d m k = (domain_fits domain d, (domain_fits map m, (k, omega (arith, k))))
 
 -- what a procedure makes of arguments that were written is the reply to the call
-pub replied_to : WrittenIsReadAgain → CallIsHeardAgain → (maps : Maps) (peer : Peer) (kind : Kind) (xid number : ℕ) (arguments : Value kind) (procedure : Procedure) (reply_to : Value kind → Response)
-    → IsWord xid → IsWord number → admitted Stream (call_head xid number) ≡ Ok procedure → Fits kind arguments
-    → procedure_reply maps (caller_of xid peer) procedure (spelling kind arguments) ≡ with_arguments xid (arguments_of kind (spelling kind arguments)) reply_to
-    → reply Stream maps peer (call_of kind xid program version number arguments) ≡ reply_to arguments
-replied_to law calls maps peer kind xid number arguments procedure reply_to x n is fits by =
-    reply_to_call calls maps peer kind xid number arguments procedure x n is
+pub replied_to : WrittenIsReadAgain → CallIsHeardAgain → (path : Path) (maps : Maps) (peer : Peer) (kind : Kind) (xid number : ℕ) (arguments : Value kind) (procedure : Procedure) (reply_to : Value kind → Response)
+    → IsWord xid → IsWord number → admitted path (call_head xid number) ≡ Ok procedure → Fits kind arguments
+    → procedure_reply maps (caller_of path xid peer) procedure (spelling kind arguments) ≡ with_arguments xid (arguments_of kind (spelling kind arguments)) reply_to
+    → reply path maps peer (call_of kind xid program version number arguments) ≡ reply_to arguments
+replied_to law calls path maps peer kind xid number arguments procedure reply_to x n is fits by =
+    reply_to_call calls path maps peer kind xid number arguments procedure x n is
     ∙ by
     ∙ ap (λ (read : Result (Value kind × Unread) XdrFault). with_arguments xid read reply_to) (arguments_again law kind arguments fits)
 
 pub domain_tells : WrittenIsReadAgain → CallIsHeardAgain → DomainTells
 domain_tells law calls maps peer xid domain served x d = record {
   bytes = success xid Boolean (serves domain maps.catalogue);
-  replied = replied_to law calls maps peer req_domain xid domain_procedure domain Domain (λ asked. Bytes (success xid Boolean (serves asked maps.catalogue))) x (omega arith) refl (domain_fits domain d) refl;
+  replied = replied_to law calls Stream maps peer req_domain xid domain_procedure domain Domain (λ asked. Bytes (success xid Boolean (serves asked maps.catalogue))) x (omega arith) refl (domain_fits domain d) refl;
   within = omega arith;
   says = served_said law xid (serves domain maps.catalogue) x;
 }
@@ -63,7 +64,7 @@ match_tells law calls maps peer xid domain served x d map m key k =
     let short = matched_short key held sound in
     record {
       bytes = success xid resp_val (matched key held);
-      replied = replied_to law calls maps peer req_key xid match_procedure (domain, (map, key)) Match
+      replied = replied_to law calls Stream maps peer req_key xid match_procedure (domain, (map, key)) Match
           (λ asked. Bytes (look_up Stream xid resp_val (matched asked.1.1 (row_check maps peer.port asked.0 asked.1.0)) (no_value Yperr))) x (omega arith) refl (key_fits domain map key d m k) refl;
       within = omega (arith, short, opaque_short (matched key held).1);
       says = matched_said law xid key held x sound;
@@ -79,7 +80,7 @@ first_tells law calls maps peer xid domain served x d map m =
     let sound = row_sound maps peer.port domain map served in
     record {
       bytes = success xid key_val (first_row held);
-      replied = replied_to law calls maps peer req_nokey xid first_procedure (domain, map) First
+      replied = replied_to law calls Stream maps peer req_nokey xid first_procedure (domain, map) First
           (λ asked. Bytes (look_up Stream xid key_val (first_row (row_check maps peer.port asked.0 asked.1)) (no_row Yperr))) x (omega arith) refl (map_fits domain map d m) refl;
       within = omega (arith, row_within (first_row held) (first_fits held sound));
       says = first_said law xid held x sound;
@@ -91,7 +92,7 @@ next_tells law calls maps peer xid domain served x d map m key k =
     let sound = row_sound maps peer.port domain map served in
     record {
       bytes = success xid key_val (next_row key held);
-      replied = replied_to law calls maps peer req_key xid next_procedure (domain, (map, key)) Next
+      replied = replied_to law calls Stream maps peer req_key xid next_procedure (domain, (map, key)) Next
           (λ asked. Bytes (look_up Stream xid key_val (next_row asked.1.1 (row_check maps peer.port asked.0 asked.1.0)) (no_row Yperr))) x (omega arith) refl (key_fits domain map key d m k) refl;
       within = omega (arith, row_within (next_row key held) (next_fits key held sound));
       says = next_said law xid key held x sound;
@@ -104,7 +105,7 @@ master_tells law calls maps peer xid domain served x d map m =
     let short = mastered_short held sound in
     record {
       bytes = success xid resp_master (mastered held);
-      replied = replied_to law calls maps peer req_nokey xid master_procedure (domain, map) Master
+      replied = replied_to law calls Stream maps peer req_nokey xid master_procedure (domain, map) Master
           (λ asked. Bytes (success xid resp_master (mastered (map_check maps asked.0 asked.1)))) x (omega arith) refl (map_fits domain map d m) refl;
       within = omega (arith, short, opaque_short (mastered held).1);
       says = master_said law xid held x sound;
@@ -115,7 +116,7 @@ order_tells law calls maps peer xid domain served x d map m =
     let held = map_check maps domain map in
     record {
       bytes = success xid resp_order (ordered held);
-      replied = replied_to law calls maps peer req_nokey xid order_procedure (domain, map) Order
+      replied = replied_to law calls Stream maps peer req_nokey xid order_procedure (domain, map) Order
           (λ asked. Bytes (success xid resp_order (ordered (map_check maps asked.0 asked.1)))) x (omega arith) refl (map_fits domain map d m) refl;
       within = omega arith;
       says = order_said law xid held x (map_sound maps domain map served);
@@ -124,7 +125,7 @@ order_tells law calls maps peer xid domain served x d map m =
 pub maplist_tells : WrittenIsReadAgain → CallIsHeardAgain → MaplistTells
 maplist_tells law calls maps peer xid domain served x d = record {
   bytes = success xid map_list (maps_listed maps domain);
-  replied = replied_to law calls maps peer req_domain xid maplist_procedure domain Maplist (λ asked. Bytes (success xid map_list (maps_listed maps asked))) x (omega arith) refl (domain_fits domain d) refl;
+  replied = replied_to law calls Stream maps peer req_domain xid maplist_procedure domain Maplist (λ asked. Bytes (success xid map_list (maps_listed maps asked))) x (omega arith) refl (domain_fits domain d) refl;
   within = subst (λ n. n ≤ reply_max) (sym (length-success xid map_list (maps_listed maps domain))) (names_within maps domain served);
   says = names_said law maps xid domain served x;
 }

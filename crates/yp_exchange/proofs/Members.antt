@@ -1,13 +1,12 @@
 -- The law of members.
-use Rattle.std.proofs.Common.{◌≡◌, Bool, true, false, Result, Ok, Err, refl, sym, subst, true≢false}
+use Rattle.std.proofs.Common.{Bool, true, false, Result, refl, sym, subst, true≢false}
 use Rattle.std.specs.Prelude.{IsTrue, ◌↔◌}
 use Rattle.yp_msgs.specs.declared.stat.YpStat.{YpStat}
 use Rattle.yp_version.specs.Versions.{MapVersion}
 use Rattle.yp_netgroup.specs.Reach.{IsMember}
 use Rattle.yp_netgroup.specs.Decided.{is_member, MembershipIsDecided}
-use Rattle.yp_query.specs.Asked.{Outcome, netgroup, membership_outcome, membership_told, told_by}
+use Rattle.yp_query.specs.Asked.{membership_outcome, membership_told, told_by}
 use Rattle.yp_query.specs.Faults.{query_fault}
-use Rattle.yp_answer.specs.Maps.{row_check}
 use Rattle.yp_exchange.specs.Told.{told, of_version, all_in}
 use Rattle.yp_exchange.specs.MemberLaws.{TellsWhether, MembershipIsTold}
 

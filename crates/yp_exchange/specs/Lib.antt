@@ -1,6 +1,7 @@
 pub mod Told
 pub mod Served
 pub mod Laws
+pub mod Mail
 pub mod Answered
 pub mod CallLaws
 pub mod Runs

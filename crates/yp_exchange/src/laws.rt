@@ -3,6 +3,7 @@
 
 ghost use Rattle.yp_exchange.specs.Laws.{DomainTells, MatchTells, FirstTells, NextTells, AllTells, RoomForVersion};
 ghost use Rattle.yp_exchange.specs.Laws.{MasterTells, OrderTells, MaplistTells};
+ghost use Rattle.yp_exchange.specs.Mail.{OrderMailTells, MasterMailTells, FirstMailTells, NextMailTells};
 ghost use Rattle.yp_exchange.specs.CallLaws.{NumberIsTold, TruthIsTold, BytesAreTold, RowIsTold, NamesAreTold};
 ghost use Rattle.yp_exchange.specs.CallLaws.{RowsAreTold};
 ghost use Rattle.yp_exchange.specs.QueryLaws.{CallsAreTold, QueryPrintsTold, RunIsPrinted, ToldIsAnswered};
@@ -86,6 +87,18 @@ pub fn all_tells()
 pub fn room_for_version()
     ensures { RoomForVersion }
 {}
+
+/// In datagrams the replies to ORDER, MASTER, FIRST and NEXT say the same, but that a row that a datagram can't carry is
+/// refused with YPERR. Each fits into a datagram, and begins with the number of its call.
+pub fn mail_tells()
+    ensures order { OrderMailTells }
+    ensures master { MasterMailTells }
+    ensures first { FirstMailTells }
+    ensures next { NextMailTells }
+{
+    written_is_read_again();
+    call_is_heard_again();
+}
 
 /// Over a wire that gives a server's reply, a call of a client answers what is told: a number, whether, bytes, a row,
 /// names, or the rows of a builder. Names and rows alone may want memory.

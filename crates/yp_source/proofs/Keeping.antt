@@ -1,8 +1,8 @@
 -- A map that is fetched while versions are shown: it is the one that was shown throughout.
-use Rattle.std.proofs.Common.{◌≡◌, ℕ, zero, suc, ◌+◌, ◌≤◌, ◌⊎◌, Bool, true, false, cond, List, length, Option, Some, None}
+use Rattle.std.proofs.Common.{◌≡◌, ℕ, zero, suc, ◌+◌, ◌≤◌, ◌⊎◌, Bool, true, false, cond, List, [], length, Option, Some, None}
 use Rattle.std.proofs.Common.{Result, Ok, Err, refl, sym, ap, ◌∙◌, subst, arith, inl, inr, eqb}
 use Rattle.std.specs.Prelude.{IfOk, is_some, ⊤}
-use Rattle.std.specs.Option.{option_and_then}
+use Rattle.std.proofs.lemmas.List.{append-nil}
 use Rattle.std.proofs.lemmas.Bool.Decides.{eqb_tells}
 use Rattle.yp_io.specs.declared.stream.Peer.{Peer}
 use Rattle.yp_xdr.specs.Reading.{Unread}
@@ -15,7 +15,7 @@ use Rattle.yp_version.specs.Limits.{body_max}
 use Rattle.yp_version.specs.Drafts.{Draft, draft_len, refused, with_row, empty_draft}
 use Rattle.yp_version.specs.Versions.{MapVersion, unmarked}
 use Rattle.yp_board.specs.Catalogues.{Catalogue}
-use Rattle.yp_board.specs.Logs.{Log, shown}
+use Rattle.yp_board.specs.Logs.{Log}
 use Rattle.yp_board.specs.Views.{IsFront}
 use Rattle.yp_answer.specs.Maps.{Maps, map_check, row_check}
 use Rattle.yp_answer.specs.Served.{AreServed, maps_on}
@@ -33,8 +33,8 @@ use Rattle.yp_xfr.specs.Fetched.{Place, place_of, Reads, draft_of, rows_of, by_b
 use Rattle.yp_source.specs.Replies.{next_xid, Moments, AtEach, GivesFetch}
 use Rattle.yp_source.specs.Replies.{unsecured, IsShown}
 use Rattle.yp_source.specs.Laws.{Fronts, moments_on}
-use Rattle.yp_source.proofs.Showing.{is_held, held_again, has_number, held_sound, rows_of_held, served_before, front_then}
-use Rattle.yp_source.proofs.Rising.{one_between}
+use Rattle.yp_source.proofs.Showing.{held_sound, rows_of_held, served_before, front_then}
+use Rattle.yp_source.proofs.Between.{shown_between}
 use Rattle.yp_source.proofs.Going.{goes_in_memory, unless_ok, asked_ok, passed, stepped}
 use Rattle.yp_source.proofs.Giving.{Replies, next_is_word, is_ok, rows_tell}
 
@@ -150,27 +150,17 @@ module _ (laws : Replies) (catalogue : Catalogue) (fronts : Fronts) (peer : Peer
       → map_check (maps_on catalogue fronts.fourth) wanted.domain wanted.map ≡ Ok other → source.order ≡ other.order
       → Throughout source
   throughout source other held1 held4 same =
-      let number = has_number catalogue wanted.domain wanted.map fronts.first source held1 in
-      let later = has_number catalogue wanted.domain wanted.map fronts.fourth other held4 in
-      let one : later.number ≡ number.number =
-      (let both : Some later.number ≡ Some number.number = sym later.found ∙ number.found in cc) in
-      let shows : shown number.number fronts.fourth ≡ Some other =
-      subst (λ (n : ℕ). shown n fronts.fourth ≡ Some other) one later.shows in
-      let at_second = one_between number.number fronts.first fronts.second fronts.fourth fronts.log source other
-      fronts.begins (front_then fronts.second fronts.third fronts.fourth fronts.grows fronts.goes_on) fronts.ends
-      fronts.rises number.shows shows same in
-      let at_third = one_between number.number fronts.first fronts.third fronts.fourth fronts.log source other
-      (front_then fronts.first fronts.second fronts.third fronts.begins fronts.grows) fronts.goes_on fronts.ends
-      fronts.rises number.shows shows same in
-      let again : (log : Log) → shown number.number log ≡ Some source
+      let here : (log : Log) → IsFront fronts.first log → IsFront log fronts.fourth
       → map_check (maps_on catalogue log) wanted.domain wanted.map ≡ Ok source =
-      λ log is. held_again catalogue fronts.first log wanted.domain wanted.map source held1
-      (ap (λ (found : Option ℕ). option_and_then (λ n. shown n log) found) number.found ∙ is
-      ∙ sym (is_held (maps_on catalogue fronts.first) wanted.domain wanted.map source held1).held) in
+      λ log begins ends. shown_between catalogue fronts.first log fronts.fourth fronts.log wanted.domain wanted.map source
+      other fronts.rises begins ends fronts.ends held1 held4 same in
+      let second_to_fourth = front_then fronts.second fronts.third fronts.fourth fronts.grows fronts.goes_on in
       record {
-        second = again fronts.second at_second.1;
-        third = again fronts.third at_third.1;
-        fourth = again fronts.fourth (shows ∙ ap (λ (v : MapVersion). Some v) at_second.0);
+        second = here fronts.second fronts.begins second_to_fourth;
+        third = here fronts.third (front_then fronts.first fronts.second fronts.third fronts.begins fronts.grows)
+            fronts.goes_on;
+        fourth = here fronts.fourth (front_then fronts.first fronts.second fronts.fourth fronts.begins second_to_fourth)
+            ([], sym (append-nil fronts.fourth));
       }
 
   -- where rows were read, they are shown to this caller

@@ -1,5 +1,6 @@
 pub mod Showing
 pub mod Rising
+pub mod Between
 pub mod Hearing
 pub mod Going
 pub mod Giving

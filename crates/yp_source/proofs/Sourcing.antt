@@ -10,7 +10,7 @@ use Rattle.yp_query.specs.Complete.{HasCome}
 use Rattle.yp_board.specs.Logs.{Log}
 use Rattle.yp_answer.specs.Served.{AreServed, maps_on}
 use Rattle.yp_exchange.specs.Runs.{RepliesInTurn, sent_all}
-use Rattle.yp_exchange.specs.LogRuns.{records_of, replies_of, IsRepliedTo}
+use Rattle.yp_exchange.specs.LogRuns.{replies_of, IsRepliedTo}
 use Rattle.yp_exchange.specs.RunLaws.{AllHasReply, MasterHasReply, OrderHasReply, RunIsInTurn}
 use Rattle.yp_io.specs.Counts.{HasRisen}
 use Rattle.yp_xfr.specs.declared.fault.XfrFault.{XfrFault}
@@ -18,10 +18,9 @@ use Rattle.yp_xfr.specs.declared.fault.XfrFault.TheVariants.{Rpc, NoMemory}
 use Rattle.yp_xfr.specs.Fetching.{Wanted, Outcome}
 use Rattle.yp_xfr.specs.Fetched.{place_of, Fetched}
 use Rattle.yp_xfr.specs.Dialing.{FetchesOnWire, ByAddress, sought}
-use Rattle.yp_source.specs.Replies.{next_xid, GivesFetch}
-use Rattle.yp_source.specs.Laws.{FetchedIsShown, moments_on}
+use Rattle.yp_source.specs.Laws.{FetchedIsShown}
 use Rattle.yp_source.specs.Turns.{fetch_calls, TurnsGiveFetch}
-use Rattle.yp_source.specs.Runs.{WireIsFetched, AnswersFetch, IsOfSource, RunIsFetched}
+use Rattle.yp_source.specs.Runs.{WireIsFetched, RunIsFetched}
 
 -- ---- the wire that came
 

@@ -1,4 +1,5 @@
 pub mod Replies
 pub mod Laws
+pub mod Shown
 pub mod Turns
 pub mod Runs

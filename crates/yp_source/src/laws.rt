@@ -1,6 +1,7 @@
 //! What joins the replies of a server with what is fetched from it. Each law is the contract of a function that does
 //! nothing.
 
+ghost use Rattle.yp_source.specs.Shown.{ShownBetween, FrontIsServed, ShownIsSound};
 ghost use Rattle.yp_source.specs.Laws.{FetchedIsShown, ShownIsFetched};
 ghost use Rattle.yp_source.specs.Turns.{TurnsGiveFetch};
 ghost use Rattle.yp_source.specs.Runs.{WireIsFetched, RunIsFetched};
@@ -11,6 +12,22 @@ use yp_exchange::laws::{
 };
 use yp_rpc::laws::{first_is_one, rest_is_not_whole};
 use yp_version::laws::rising_stays;
+
+/// Where the orders of each map rise, versions that are shown at two moments, and have one order, are one version, and
+/// that is shown at each moment between.
+pub fn shown_between()
+    ensures { ShownBetween }
+{}
+
+/// What is served at the end of a log was served at each of its fronts.
+pub fn front_is_served()
+    ensures { FrontIsServed }
+{}
+
+/// A version that is shown is within its limits, and its rows are shown, too, or refused to a caller since it is secure.
+pub fn shown_is_sound()
+    ensures { ShownIsSound }
+{}
 
 /// Where the orders of each map rise, a version that is fetched has the order, the master and the rows that the server
 /// showed at all four of its replies.

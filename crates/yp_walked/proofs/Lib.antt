@@ -1,0 +1,5 @@
+pub mod Telling
+pub mod Counting
+pub mod Turning
+pub mod Leading
+pub mod Showing

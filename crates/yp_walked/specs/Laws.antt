@@ -1,0 +1,106 @@
+-- What a walk gives is what its source showed, under any schedule.
+use Rattle.std.specs.Prelude.{◌≡◌, ◌≢◌, ◌⊎◌, ℕ, ◌+◌, ◌<◌, ◌≤◌, false, List, [], ◌∷◌, length, None, Ok, Err, All}
+use Rattle.yp_io.specs.declared.stream.Peer.{Peer}
+use Rattle.yp_msgs.specs.Numbers.{name_max}
+use Rattle.yp_version.specs.Versions.{MapVersion}
+use Rattle.yp_version.specs.Rows.{row_len}
+use Rattle.yp_version.specs.Drafts.{Draft}
+use Rattle.yp_board.specs.Catalogues.{Catalogue}
+use Rattle.yp_board.specs.Logs.{Log}
+use Rattle.yp_board.specs.Views.{IsFront}
+use Rattle.yp_publish.specs.Rising.{IsRisingLog}
+use Rattle.yp_answer.specs.Served.{AreServed, maps_on}
+use Rattle.yp_xfr.specs.declared.fault.XfrFault.TheVariants.{Skew}
+use Rattle.yp_xfr.specs.Fetching.{Wanted, against_order}
+use Rattle.yp_source.specs.Replies.{IsShown}
+use Rattle.yp_turns.specs.Turns.{mail_max}
+use Rattle.yp_enum.specs.Standings.{HasEnded, next_len}
+use Rattle.yp_enum.specs.Schedules.{Walking, begun}
+use Rattle.yp_enum.specs.Told.{draft_with}
+use Rattle.yp_walked.specs.Sources.{Event, Scene, first_scene, AllHappen}
+use Rattle.yp_walked.specs.Mails.{Made, last_front, GoesBy}
+
+-- A source whose log rises up to this one answered a walk.
+pub record IsSource (catalogue : Catalogue) (wanted : Wanted) (log : Log) : Type 0 where
+  pub served : AreServed (maps_on catalogue log)
+  pub rises : IsRisingLog log
+  pub domain : length wanted.domain ≤ name_max
+  pub map : length wanted.map ≤ name_max
+
+-- What was heard of a source, whatever its network did, is a reply to each call in turn, on fronts of its log that
+-- never go back.
+abbrev pub HeardIsInTurn : Type 0
+HeardIsInTurn =
+    (catalogue : Catalogue) (caller source : Peer) (wanted : Wanted) (log : Log) (events : List Event) (last : Scene)
+    → IsSource catalogue wanted last.front
+    → AllHappen catalogue caller events (first_scene source wanted log) last
+    → (mails : List Made) × GoesBy catalogue caller mails log (begun source wanted) last.walk
+    × IsFront (last_front log mails) last.front
+
+-- A source shows a version at each moment from the first of some mails to the last.
+pub record ShowsThroughout (catalogue : Catalogue) (wanted : Wanted) (version : MapVersion) (mails : List Made)
+    : Type 0 where
+  pub first : Made
+  pub others : List Made
+  pub all : mails ≡ first ∷ others
+  pub shown : (log : Log) → IsFront first.front log → IsFront log (last_front first.front others)
+      → IsShown wanted version (maps_on catalogue log)
+
+-- Where a walk is done, it has the order, the master and the rows of the one version that its source showed at each
+-- moment from the first awaited reply to the last.
+abbrev pub WalkedIsShown : Type 0
+WalkedIsShown =
+    (catalogue : Catalogue) (caller source : Peer) (wanted : Wanted) (before log : Log) (mails : List Made)
+    (walk : Walking) (draft : Draft)
+    → IsSource catalogue wanted log
+    → GoesBy catalogue caller mails before (begun source wanted) walk
+    → IsFront (last_front before mails) log
+    → walk.standing ≡ HasEnded (Ok draft)
+    → (version : MapVersion) × ShowsThroughout catalogue wanted version mails
+    × (draft ≡ draft_with version version.rows)
+
+-- Versions of two orders were shown at the first awaited reply and at the last.
+pub record ShowsTwo (catalogue : Catalogue) (wanted : Wanted) (first second : ℕ) (mails : List Made) : Type 0 where
+  pub made : Made
+  pub others : List Made
+  pub all : mails ≡ made ∷ others
+  pub one : MapVersion
+  pub other : MapVersion
+  pub before : IsShown wanted one (maps_on catalogue made.front)
+  pub after : IsShown wanted other (maps_on catalogue (last_front made.front others))
+  pub is_first : one.order ≡ first
+  pub is_second : other.order ≡ second
+  pub differ : first ≢ second
+
+-- A walk is refused for its order alone where its source showed another version meanwhile.
+abbrev pub SkewIsShown : Type 0
+SkewIsShown =
+    (catalogue : Catalogue) (caller source : Peer) (wanted : Wanted) (before log : Log) (mails : List Made)
+    (walk : Walking) (first second : ℕ)
+    → IsSource catalogue wanted log
+    → GoesBy catalogue caller mails before (begun source wanted) walk
+    → IsFront (last_front before mails) log
+    → walk.standing ≡ HasEnded (Err (Skew first second))
+    → ShowsTwo catalogue wanted first second mails
+
+-- Nothing of a version stands against a walk by this caller: its rows are shown to it, its master has a name, its order
+-- is wanted, and each call and each reply fits into a datagram.
+pub record IsWalkable (caller : Peer) (wanted : Wanted) (version : MapVersion) : Type 0 where
+  pub rows : (version.secure ≡ false) ⊎ (caller.port < 1024)
+  pub master : version.master ≢ []
+  pub order : against_order wanted version.order ≡ None
+  pub calls : All (λ row. next_len wanted row.0 ≤ mail_max) version.rows
+  pub replies : All (λ row. 28 + row_len row ≤ mail_max) version.rows
+
+-- A walk over such a version, which is shown throughout, is done behind one mail for each row and four more.
+abbrev pub ShownIsWalked : Type 0
+ShownIsWalked =
+    (catalogue : Catalogue) (caller source : Peer) (wanted : Wanted) (before log : Log) (mails : List Made)
+    (walk : Walking) (version : MapVersion)
+    → IsSource catalogue wanted log
+    → GoesBy catalogue caller mails before (begun source wanted) walk
+    → IsFront (last_front before mails) log
+    → IsWalkable caller wanted version
+    → ((front : Log) → IsFront before front → IsFront front log → IsShown wanted version (maps_on catalogue front))
+    → length mails ≡ length version.rows + 4
+    → walk.standing ≡ HasEnded (Ok (draft_with version version.rows))

@@ -1,0 +1,3 @@
+pub mod Sources
+pub mod Mails
+pub mod Laws

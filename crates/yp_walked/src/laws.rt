@@ -1,0 +1,48 @@
+//! What joins the replies of a server in datagrams with a walk over its map. Each law is the contract of a function
+//! that does nothing.
+
+ghost use Rattle.yp_walked.specs.Laws.{HeardIsInTurn, WalkedIsShown, SkewIsShown, ShownIsWalked};
+
+use yp_enum::laws::{told_is_walked, told_is_whole};
+use yp_exchange::laws::mail_tells;
+use yp_source::laws::{front_is_served, shown_between, shown_is_sound};
+
+/// Whatever was lost, repeated or reordered, what a walk has heard of its source is one reply to each of its calls in
+/// turn, on fronts of the source's log that never go back.
+pub fn heard_is_in_turn()
+    ensures { HeardIsInTurn }
+{
+    mail_tells();
+    front_is_served();
+}
+
+/// So a walk that is done has the order, the master and the rows of the one version that the source showed at each
+/// moment from the first awaited reply to the last, where the orders of each map rise.
+pub fn walked_is_shown()
+    ensures { WalkedIsShown }
+{
+    mail_tells();
+    front_is_served();
+    shown_is_sound();
+    shown_between();
+    told_is_walked();
+}
+
+/// And it is refused for two orders only where the source showed another version meanwhile.
+pub fn skew_is_shown()
+    ensures { SkewIsShown }
+{
+    mail_tells();
+    front_is_served();
+}
+
+/// Where the source shows one version throughout, against which nothing stands, a walk is done behind a reply for each
+/// row and four more, with that version.
+pub fn shown_is_walked()
+    ensures { ShownIsWalked }
+{
+    mail_tells();
+    front_is_served();
+    shown_is_sound();
+    told_is_whole();
+}

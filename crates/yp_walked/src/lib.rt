@@ -1,0 +1,7 @@
+//! What a walk gives is what its source shows, whatever the network loses, repeats or reorders.
+//!
+//! That what was heard is in turn stands on [`laws::heard_is_in_turn`], and what a walk then gives on
+//! [`laws::walked_is_shown`], [`laws::skew_is_shown`] and [`laws::shown_is_walked`].
+#![tactic(auto)]
+
+pub mod laws;
