@@ -1,0 +1,7 @@
+//! Tests of `yp_shared`.
+#![tactic(auto)]
+
+#[cfg(test)]
+mod given;
+#[cfg(test)]
+mod installs;

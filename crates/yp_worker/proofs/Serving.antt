@@ -1,0 +1,35 @@
+-- A connection that was served, from its session.
+use Rattle.std.proofs.Common.{◌≡◌, List, refl, ap, ◌∙◌}
+use Rattle.yp_io.specs.declared.stream.Peer.{Peer}
+use Rattle.yp_board.specs.Views.{Seen}
+use Rattle.yp_shared.specs.Shares.{Learns}
+use Rattle.yp_session.specs.declared.session.End.{End}
+use Rattle.yp_session.specs.Progress.{Progress, begun}
+use Rattle.yp_session.specs.Wires.{Wire, SeesMore}
+use Rattle.yp_session.specs.Hosts.{Conduct}
+use Rattle.yp_session.specs.Runs.{dialogue_at, Runs}
+use Rattle.yp_worker.specs.Working.{Working, Attends}
+use Rattle.yp_worker.proofs.Growing.{later}
+
+pub attended : {H : Type 0} (conduct : Conduct H) (peer : Peer) (end : End) (old : Working H) (start finish : H)
+    (progress : Progress) (before after : Wire) (seen now : List Wire)
+    → Learns (conduct.seen old.host) (conduct.seen start) → conduct.counts start ≡ conduct.counts old.host
+    → SeesMore seen now (Runs conduct peer old.most end (dialogue_at start before begun)
+    (dialogue_at finish after progress))
+    → SeesMore seen now (Attends conduct peer end old (record { host = finish; most = old.most; progress = progress })
+    before after)
+attended conduct peer end old start finish progress before after seen now learned counts runs =
+    let went = later conduct peer old.most end (dialogue_at start before begun) (dialogue_at finish after progress)
+    runs.more runs.done in record {
+      more = runs.more;
+      behind = runs.behind;
+      done = record {
+        start = start;
+        learned = learned;
+        uncounted = counts;
+        runs = runs.done;
+        grown = went.grown;
+        catalogue = went.catalogue ∙ ap (λ (s : Seen). s.catalogue) learned.same;
+        most = refl;
+      };
+    }

@@ -1,0 +1,70 @@
+//! Two workers of one listener, in threads of their own.
+
+ghost use Rattle.std.specs.Prelude.{◌≡◌, ◌+◌};
+ghost use Rattle.yp_session.specs.Hosts.{conduct_of};
+ghost use Rattle.yp_worker.specs.Receptions.{IsUnder, terms_of};
+
+use crate::catch_up::CatchUp;
+use crate::gate::Gate;
+use crate::listening::{Listening, Pass, Reception};
+use crate::tally::Tally;
+use crate::worker::Worker;
+use std::sync::ledger::Ledger;
+use std::sync::{Mutex, Wait};
+use std::thread::{Threads, join};
+use yp_listen::Listen;
+
+/// Runs two workers side by side, each in a thread of its own, until both have ended. Their passes come back with what
+/// each counted.
+pub fn run_beside<J, E, H, G, L, R: Threads + Wait + Sync>(
+    rt: &R,
+    listening: &Mutex<Listening<J, E, H, L>>,
+    first: (Worker<H, G>, Pass<J, E>),
+    second: (Worker<H, G>, Pass<J, E>),
+) -> ((Pass<J, E>, Tally), (Pass<J, E>, Tally))
+where
+    J: Reception + Send + Sync,
+    E: Ledger + Send + Sync,
+    H: CatchUp + Send + Drop,
+    G: Gate + Copy + Send + Drop,
+    L: Listen + Send,
+    L::In: Send,
+    L::Out: Send,
+    requires first { IsUnder (conduct_of H.seen H.told H.counts H.stepped H.made H.carried)
+        (terms_of J.catalogue J.starts J.most) first.0 }
+    requires second { IsUnder (conduct_of H.seen H.told H.counts H.stepped H.made H.carried)
+        (terms_of J.catalogue J.starts J.most) second.0 }
+    ensures first { result.0.0 ≡ record first.1 { ended = first.1.ended + 1 } }
+    ensures second { result.1.0 ≡ record second.1 { ended = second.1.ended + 1 } }
+{
+    let (worker, pass) = first;
+    let (other, its_pass) = second;
+    join(
+        rt,
+        move || -> (Pass<J, E>, Tally)
+            requires { IsUnder (conduct_of H.seen H.told H.counts H.stepped H.made H.carried)
+                (terms_of J.catalogue J.starts J.most) worker }
+            ensures { result.0 ≡ record pass { ended = pass.ended + 1 } }
+        { ran(rt, listening, worker, pass) },
+        move || -> (Pass<J, E>, Tally)
+            requires { IsUnder (conduct_of H.seen H.told H.counts H.stepped H.made H.carried)
+                (terms_of J.catalogue J.starts J.most) other }
+            ensures { result.0 ≡ record its_pass { ended = its_pass.ended + 1 } }
+        { ran(rt, listening, other, its_pass) },
+    )
+}
+
+/// Runs a worker, and hands its pass back.
+fn ran<J: Reception, E: Ledger, H: CatchUp + Drop, G: Gate + Copy + Drop, L: Listen, R: Wait>(
+    rt: &R,
+    listening: &Mutex<Listening<J, E, H, L>>,
+    mut worker: Worker<H, G>,
+    mut pass: Pass<J, E>,
+) -> (Pass<J, E>, Tally)
+    requires { IsUnder (conduct_of H.seen H.told H.counts H.stepped H.made H.carried)
+        (terms_of J.catalogue J.starts J.most) worker }
+    ensures { result.0 ≡ record pass { ended = pass.ended + 1 } }
+{
+    let tally = worker.run(rt, listening, &mut pass);
+    (pass, tally)
+}

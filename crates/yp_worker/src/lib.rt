@@ -1,0 +1,25 @@
+//! One worker of a server: a host, the memory of a session, and a gate that is told of its steps.
+//!
+//! A worker serves one connection after another, and what its host knows never goes back between them. What goes out
+//! on a connection for what comes in stands on [`Worker::one`]. Workers share a listener under one lock: that each
+//! connection which the listener got back was served so is a fact of the type [`Listening`], which lies under the lock,
+//! and stands on [`Listening::close`]; that a worker ends by an end of the listener alone stands on [`Worker::run`], and
+//! of two in threads on [`run_beside`].
+#![tactic(auto)]
+
+mod beside;
+mod catch_up;
+mod gate;
+mod gated;
+mod listening;
+mod run;
+mod tally;
+mod worker;
+
+pub use beside::run_beside;
+pub use catch_up::CatchUp;
+pub use gate::{Gate, OpenGate, Point};
+pub use gated::Gated;
+pub use listening::{Admission, Listening, Pass, Reception};
+pub use tally::Tally;
+pub use worker::Worker;

@@ -1,0 +1,231 @@
+//! What lies under the lock of a listener.
+
+ghost use Rattle.std.specs.Prelude.{◌≡◌, ◌<◌, ◌≤◌, ◌+◌, false, ℕ, true};
+ghost use Rattle.yp_io.specs.Counts.{HasRisen};
+ghost use Rattle.yp_io.specs.declared.stream.Peer.{Peer};
+ghost use Rattle.yp_listen.specs.Calls.{IsFreshCall, ended_by};
+ghost use Rattle.yp_session.specs.Hosts.{conduct_of};
+ghost use Rattle.yp_worker.specs.Receptions.{Admits, IsFair, IsKept, WasServed, stay_of};
+ghost use Rattle.yp_worker.specs.Receptions.{opening_of, terms_of};
+
+use crate::catch_up::CatchUp;
+use crate::tally::Tally;
+use std::marker::{Brand, Model, PhantomData};
+use std::sync::ledger::{Book, Ledger, Share};
+use yp_io::Failed;
+use yp_listen::{Arrival, Called, Listen};
+use yp_shared::Site;
+
+/// What every connection of a listener gets, and how the listener was before the first. Each call of a program that
+/// shares a listener picks it.
+pub trait Reception: Site + Ledger {
+    ghost use Rattle.std.specs.Prelude.{ℕ};
+    ghost use Rattle.yp_board.specs.Logs.{Log};
+    ghost use Rattle.yp_worker.specs.Receptions.{Opening};
+
+    /// What was shown before the first connection.
+    ghost starts: { Log };
+
+    /// The most records of one connection.
+    ghost most: { ℕ };
+
+    /// The listener before the first connection.
+    ghost opening: { Opening };
+}
+
+impl Reception for Brand {
+    ghost use Rattle.std.specs.Prelude.{[], None};
+
+    ghost starts = { [] };
+
+    ghost most = { 0 };
+
+    ghost opening = { record { past = None; most = 0; accepted = 0; faults = 0 } };
+}
+
+/// What a worker gets of a listener.
+#[derive(Drop)]
+pub enum Admission<S, K> {
+    /// A connection, with its number, from 1.
+    Came { call: Called<S, K>, connection: u64 },
+    /// None, since as many were accepted as are to be.
+    Closed,
+    /// None, since an accept has failed, this one or one before it.
+    Failed,
+}
+
+/// What a worker holds of a listener, for contracts alone: how many connections it has out, and how often it ended.
+#[derive(Drop)]
+pub struct Pass<J: Ledger, E: Ledger> {
+    out: Share<J>,
+    ended: Share<E>,
+}
+
+impl<J: Ledger, E: Ledger> Model for Pass<J, E> {
+    ghost use Rattle.std.specs.Prelude.{◌<◌};
+    ghost use Rattle.yp_worker.specs.Receptions.{Passed};
+
+    ghost Value = { Passed };
+
+    ghost view = { λ p. record { parts = p.out.parts; out = p.out.amount; ended = p.ended.amount } };
+
+    ghost invariant = { λ p. (0 < p.out.parts) × (0 < p.ended.parts) };
+}
+
+impl<J: Ledger, E: Ledger> Pass<J, E> {
+    /// A pass of these shares.
+    pub fn new(out: Share<J>, ended: Share<E>) -> Pass<J, E>
+        requires parts { (0 < out.parts) × (0 < ended.parts) }
+        ensures { result ≡ record { parts = out.parts; out = out.amount; ended = ended.amount } }
+    {
+        Pass { out, ended }
+    }
+
+    /// The shares.
+    pub fn into_shares(self) -> (Share<J>, Share<E>)
+        ensures parts { result.0.parts ≡ self.parts }
+        ensures out { result.0.amount ≡ self.out }
+        ensures ended { result.1.amount ≡ self.ended }
+    {
+        let Pass { out, ended } = self;
+        (out, ended)
+    }
+}
+
+/// A listener, and what came of its connections.
+#[derive(Drop)]
+pub struct Listening<J: Reception, E: Ledger, H: CatchUp, L: Listen> {
+    listen: L,
+    connections: u64,
+    calls: u64,
+    failed: bool,
+    out: Book<J>,
+    ended: Book<E>,
+    host: PhantomData<H>,
+}
+
+impl<J: Reception, E: Ledger, H: CatchUp, L: Listen> Model for Listening<J, E, H, L> {
+    ghost use Rattle.yp_session.specs.Hosts.{conduct_of};
+    ghost use Rattle.yp_worker.specs.Receptions.{Kept, IsFair, IsKept, opening_of, terms_of};
+
+    ghost Value = { Kept L };
+
+    ghost view = { λ l. record {
+      listen = l.listen;
+      connections = l.connections;
+      calls = l.calls;
+      failed = l.failed;
+      out = l.out.total;
+      ended = l.ended.total;
+    } };
+
+    ghost invariant = { λ l. IsFair J.opening.past
+        × IsKept (conduct_of H.seen H.told H.counts H.stepped H.made H.carried)
+        (terms_of J.catalogue J.starts J.most) J.opening (opening_of L.past L.most L.accepted L.faults l.listen)
+        l.connections l.calls l.failed l.out.total l.ended.total };
+}
+
+impl<J: Reception, E: Ledger, H: CatchUp, L: Listen> Listening<J, E, H, L> {
+    /// A listener before its first connection.
+    pub fn new(listen: L, out: Book<J>, ended: Book<E>) -> Listening<J, E, H, L>
+        requires opening { opening_of L.past L.most L.accepted L.faults listen ≡ J.opening }
+        requires fair { IsFair J.opening.past }
+        requires none_out { out.total ≡ 0 }
+        requires none_ended { ended.total ≡ 0 }
+        ensures { result ≡ record {
+          listen = listen;
+          connections = 0;
+          calls = 0;
+          failed = false;
+          out = 0;
+          ended = 0;
+        } }
+    {
+        Listening {
+            listen,
+            connections: 0,
+            calls: 0,
+            failed: false,
+            out,
+            ended,
+            host: PhantomData,
+        }
+    }
+
+    /// Accepts the next connection, where no accept has failed.
+    pub(crate) fn admit(&mut self, pass: &mut Pass<J, E>) -> Admission<L::In, L::Out>
+        ensures { Admits (IsFreshCall L.In.faults L.Out.faults L.Out.output) result pass.old pass.new }
+    {
+        if self.failed {
+            self.ended.add(&mut pass.ended, 1);
+            return Admission::Failed;
+        }
+        match self.listen.accept() {
+            Ok(Arrival::Came(call)) => {
+                self.out.add(&mut pass.out, 1);
+                self.connections = self.connections.saturating_add(1);
+                let connection = self.connections;
+                Admission::Came { call, connection }
+            }
+            Ok(Arrival::Closed) => {
+                self.ended.add(&mut pass.ended, 1);
+                Admission::Closed
+            }
+            Err(Failed) => {
+                self.ended.add(&mut pass.ended, 1);
+                self.failed = true;
+                Admission::Failed
+            }
+        }
+    }
+
+    /// Takes back a connection that was served, of which so many records were read.
+    pub(crate) fn take_back(
+        &mut self,
+        pass: &mut Pass<J, E>,
+        call: Called<L::In, L::Out>,
+        calls: u64,
+    )
+        requires out { 0 < pass.old.out }
+        requires served { WasServed (conduct_of H.seen H.told H.counts H.stepped H.made H.carried)
+            (terms_of J.catalogue J.starts J.most)
+            (stay_of (ended_by L.In.input L.Out.output L.Out.flushed call) calls) }
+        ensures out { pass.new.out + 1 ≡ pass.old.out }
+        ensures same { pass.new ≡ record pass.old { out = pass.new.out } }
+    {
+        self.out.sub(&mut pass.out, 1);
+        self.calls = self.calls.saturating_add(calls);
+        self.listen.back(call);
+    }
+
+    /// The listener, once all its workers have ended and been joined, with how many connections came, how many of
+    /// their records were read, and whether an accept has failed.
+    pub fn close(self, pass: &mut Pass<J, E>) -> (L, Tally)
+        requires all { pass.old.parts ≡ J.parts }
+        requires none_out { pass.old.out ≡ 0 }
+        requires ended { 0 < pass.old.ended }
+        ensures kept { IsKept (conduct_of H.seen H.told H.counts H.stepped H.made H.carried)
+            (terms_of J.catalogue J.starts J.most) J.opening
+            (opening_of L.past L.most L.accepted L.faults result.0)
+            result.1.connections result.1.calls result.1.listen_fault 0 1 }
+        ensures same { pass.new ≡ pass.old }
+    {
+        let Listening {
+            listen,
+            connections,
+            calls,
+            failed,
+            mut out,
+            mut ended,
+            host: _,
+        } = self;
+        out.audit(&mut pass.out);
+        ended.audit(&mut pass.ended);
+        let tally = Tally {
+            connections,
+            calls,
+            listen_fault: failed,
+        };
+        (listen, tally)
+    }
+}

@@ -1,0 +1,127 @@
+//! A host of one map, on which others show versions.
+
+ghost use Rattle.std.specs.Prelude.{◌≡◌, ◌<◌, None, length};
+ghost use Rattle.std.proofs.Common.{ap};
+ghost use Rattle.yp_io.specs.Counts.{next_count};
+
+use crate::given::assert_same;
+use std::alloc::Global;
+use std::process::Abort;
+use std::random::RandomSource;
+use std::sync::Arc;
+use yp_answer::{Errand, Job};
+use yp_board::{Catalog, MapName, PlainBoard, Show, View};
+use yp_io::{NoMemory, Peer};
+use yp_msgs::XfrStat;
+use yp_session::Host;
+use yp_version::{Version, VersionBuilder};
+use yp_worker::CatchUp;
+
+/// It makes no map: memory runs out. A transfer is counted.
+#[derive(Drop)]
+pub struct TestHost {
+    board: PlainBoard,
+    // What others show before it catches up, the next last. Where none is left, memory runs out.
+    waiting: Vec<Arc<Version>>,
+    transfers: u64,
+}
+
+impl View for TestHost {
+    ghost seen = { λ host. host.board };
+
+    ghost stepped = { λ old new. new ≡ record old { board = record old.board { asked = next_count old.board.asked } } };
+
+    fn catalog(&self) -> &Catalog {
+        self.board.catalog()
+    }
+
+    fn refresh(&mut self) {
+        self.board.refresh();
+    }
+
+    fn held(&self, map: u32) -> Option<&Version> {
+        self.board.held(map)
+    }
+}
+
+impl Host for TestHost {
+    ghost told = { λ host. record { text = λ file. None; moment = None } };
+
+    ghost counts = { λ host. record { files = 0; transfers = host.transfers } };
+
+    ghost made = { λ job stat old new. Unit {0} };
+
+    fn make(&mut self, _job: Job) -> XfrStat {
+        XfrStat::Rsrc
+    }
+
+    ghost carried = { λ taken peer old new. Unit {0} };
+
+    fn transfer(&mut self, _errand: &Errand<'_>, _peer: Peer) {
+        self.transfers = self.transfers.saturating_add(1);
+    }
+
+    ghost step_counts_nothing = { λ old new h. ap (λ host. record { files = 0; transfers = host.transfers }) h };
+}
+
+impl CatchUp for TestHost {
+    fn catch_up(&mut self) -> Result<(), NoMemory> {
+        if self.waiting.is_empty() || self.board.catalog().is_empty() {
+            return Err(NoMemory);
+        }
+        if let Some(version) = self.waiting.pop() {
+            let _ = self.board.show(0, version);
+        }
+        Ok(())
+    }
+}
+
+/// A version of this order, in which `alpha` has this value.
+fn version<R: RandomSource + Abort>(
+    rt: &R,
+    alloc: Global,
+    order: u32,
+    value: &[u8],
+) -> Arc<Version> {
+    let mut builder = VersionBuilder::new(alloc, rt, order, b"m1").expect(rt, "a builder");
+    let pushed = builder.push(b"alpha", value);
+    assert_same(rt, &pushed, &Ok(true), "the row of alpha");
+    let version = builder.finish().expect(rt, "a version");
+    Arc::new(alloc, version).expect(rt, "a shared version")
+}
+
+// As many things as a catalogue has maps.
+fn assert_fits(rt: &impl Abort, count: usize, catalog: &Catalog)
+    ensures { count ≡ length catalog.now.maps }
+{
+    assert_eq!(rt; count, catalog.len() as usize);
+}
+
+// A board of passwd.byname in the domain `d`, on which this version is shown.
+fn board(rt: &impl Abort, alloc: Global, version: Arc<Version>) -> PlainBoard {
+    let domain = Vec::from_slice(alloc, b"d").expect(rt, "a domain");
+    let map = Vec::from_slice(alloc, b"passwd.byname").expect(rt, "a map");
+    let own = Vec::from_slice(alloc, b"m1").expect(rt, "a name");
+    let maps = vec![in alloc; MapName { domain, map }].expect(rt, "maps");
+    let catalog = Catalog::new(alloc, own, maps).expect(rt, "a catalogue");
+    let start = vec![in alloc; Some(version)].expect(rt, "versions");
+    assert_fits(rt, start.len(), &catalog);
+    PlainBoard::new(alloc, catalog, start).expect(rt, "a board")
+}
+
+/// A host that knows the value `alpha:1`, and behind which others show each of these values.
+pub fn host_of<R: RandomSource + Abort>(rt: &R, alloc: Global, values: &[&[u8]]) -> TestHost {
+    let first = version(rt, alloc, 7, b"alpha:1");
+    let board = board(rt, alloc, first);
+    let mut waiting = Vec::new(alloc);
+    for value in values {
+        let next = version(rt, alloc, 8, *value);
+        waiting.push(next).expect(rt, "memory for a version");
+    }
+    waiting.reverse();
+    TestHost {
+        board,
+        waiting,
+        transfers: 0,
+    }
+}

@@ -1,0 +1,116 @@
+//! A worker that serves the connections of a listener in memory.
+
+ghost use Rattle.std.specs.Prelude.{◌≡◌, ◌<◌};
+ghost use Rattle.yp_board.specs.Views.{IsFront};
+ghost use Rattle.yp_listen.specs.MemListen.{Door, calls_of};
+ghost use Rattle.yp_worker.specs.Receptions.{IsFair, opening_of};
+
+use crate::given::{assert_same, bytes};
+use crate::host::{TestHost, host_of};
+use crate::listen::door;
+use std::alloc::Global;
+use std::marker::Brand;
+use std::process::Abort;
+use std::random::RandomSource;
+use std::sync::ledger::{Blank, Ledger};
+use std::sync::{Mutex, Wait};
+use yp_listen::MemListen;
+use yp_session::Session;
+use yp_worker::{Listening, OpenGate, Pass, Reception, Tally, Worker};
+
+// NULL of YP (RFC 5531 section 9, yp.x), and its reply.
+const NULL: &str = "80000028 00000001 00000000 00000002 000186a4 00000002 00000000
+    00000000 00000000 00000000 00000000";
+
+const NULL_REPLY: &str = "80000018 00000001 00000001 00000000 00000000 00000000 00000000";
+
+// What a run counted, what the lock kept, how many connections were accepted, and what each that went back had taken.
+type Came = (Tally, Tally, u32, Vec<u8>);
+
+// Runs a worker over a listener to the end.
+fn served<J: Reception, E: Ledger, R: Wait + RandomSource + Abort>(
+    rt: &R,
+    alloc: Global,
+    out: Blank,
+    ended: Blank,
+    listen: MemListen,
+    host: TestHost,
+) -> Came
+    requires out { (out.name ≡ J.name) × (out.parts ≡ J.parts) × (0 < out.parts) }
+    requires ended { (ended.name ≡ E.name) × (ended.parts ≡ E.parts) × (0 < ended.parts) }
+    requires opening { opening_of calls_of (λ (l : Door). l.most) (λ (l : Door). l.accepted)
+        (λ (l : Door). l.faults) listen ≡ J.opening }
+    requires fair { IsFair J.opening.past }
+    requires catalogue { host.board.catalogue ≡ J.catalogue }
+    requires knows { IsFront J.starts host.board.known }
+    requires most { 9 ≡ J.most }
+{
+    let (book, share) = out.open::<J>();
+    let (ends, mine) = ended.open::<E>();
+    let mut pass = Pass::new(share, mine);
+    let session = Session::new(alloc).expect(rt, "a session");
+    let mut worker = Worker::new(host, session, OpenGate, 9);
+    let listening = Mutex::new(Listening::<J, E, TestHost, MemListen>::new(listen, book, ends));
+    let own = worker.run(rt, &listening, &mut pass);
+    let (listen, all) = listening.into_inner().close(&mut pass);
+    (own, all, listen.accepted(), taken(rt, alloc, &listen))
+}
+
+// What the connections that went back had taken, one after the other.
+fn taken(rt: &impl Abort, alloc: Global, listen: &MemListen) -> Vec<u8> {
+    let mut all = Vec::new(alloc);
+    for call in listen.past() {
+        all.extend_from_slice(call.wire.sink.taken())
+            .expect(rt, "memory for bytes");
+    }
+    all
+}
+
+const SERVED: Tally = Tally {
+    connections: 2,
+    calls: 4,
+    listen_fault: false,
+};
+
+// The calls of the listener that fail, what was counted, how many connections were accepted, and what was written.
+const ROWS: &[(&[u64], Tally, u32, &[&str])] = &[
+    (
+        &[],
+        SERVED,
+        2,
+        &[NULL_REPLY, NULL_REPLY, NULL_REPLY, NULL_REPLY],
+    ),
+    (
+        &[0],
+        Tally {
+            connections: 0,
+            calls: 0,
+            listen_fault: true,
+        },
+        0,
+        &[],
+    ),
+    (
+        &[1],
+        Tally {
+            connections: 1,
+            calls: 2,
+            listen_fault: true,
+        },
+        1,
+        &[NULL_REPLY, NULL_REPLY],
+    ),
+];
+
+#[test]
+fn all_connections_of_a_listener(rt: HostRuntime) {
+    let alloc = rt.alloc();
+    for &(failing, tally, accepted, output) in ROWS {
+        let listen = door(&rt, alloc, &[NULL, NULL], 2, failing);
+        let host = host_of(&rt, alloc, &[]);
+        let (out, ended) = (Blank::new(1), Blank::new(1));
+        let came = served::<Brand, Brand, _>(&rt, alloc, out, ended, listen, host);
+        let wanted = (tally, tally, accepted, bytes(&rt, alloc, output));
+        assert_same(&rt, &came, &wanted, "the connections of a listener");
+    }
+}
