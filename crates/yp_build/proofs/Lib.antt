@@ -1,3 +1,4 @@
+mod Behind
 mod LineLists
 mod Places
 mod Pushing

@@ -25,7 +25,7 @@ abbrev fills : Draft → List LineRow → Option BuildFault → Result MapVersio
 fills draft rows fault = option_map_or (λ f. Err f) fault (Ok (finished (with_rows draft (plain rows))))
 
 -- the version of a draft has its order
-filled_order : (draft : Draft) (rows : List LineRow) (version : MapVersion) → filled draft rows ≡ Ok version
+pub filled_order : (draft : Draft) (rows : List LineRow) (version : MapVersion) → filled draft rows ≡ Ok version
     → draft.order ≡ version.order
 filled_order draft rows version h = finishes (first_fault draft rows) h where
   finishes : (fault : Option BuildFault) → fills draft rows fault ≡ Ok version → draft.order ≡ version.order

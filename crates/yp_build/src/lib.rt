@@ -7,6 +7,7 @@
 mod after;
 mod fault;
 mod kind;
+pub mod laws;
 mod lines;
 mod order;
 mod push;

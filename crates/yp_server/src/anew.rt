@@ -26,7 +26,7 @@ use yp_version::Version;
 ///
 /// A map with another master is REFUSED, a text that isn't read is FILE, an order that is spent AGE, and a row that
 /// passes a limit DBM. Want of memory is RSRC.
-pub(crate) fn build_anew<A: Dial, T: Texts, C: Clock>(
+pub fn build_anew<A: Dial, T: Texts, C: Clock>(
     alloc: Global,
     rt: &impl RandomSource,
     desk: &mut Desk<A, T, C>,

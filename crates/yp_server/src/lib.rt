@@ -15,6 +15,7 @@ mod desk;
 mod local;
 mod steps;
 
+pub use anew::build_anew;
 pub use connection::{Stock, serve_wire};
 pub use desk::Desk;
 pub use local::LocalHost;

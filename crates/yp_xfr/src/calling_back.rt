@@ -84,7 +84,7 @@ fn port_of(asker: &Asker) -> Option<u16>
 }
 
 /// Tells a caller the status of a transfer, where it wants to be told. A fault of that changes nothing.
-pub(crate) fn tell_back<A: Dial>(dial: &mut A, asker: &Asker, stat: XfrStat)
+pub fn tell_back<A: Dial>(dial: &mut A, asker: &Asker, stat: XfrStat)
     ensures { CallsBack (wants_call asker.now) asker.now stat
         (dial_tells A.past A.letters A.faults dial.old) (dial_tells A.past A.letters A.faults dial.new) }
 {

@@ -2,7 +2,8 @@
 //!
 //! That the version is the one that the source's replies say, or the first cause against it, stands on [`fetch`] and
 //! [`fetch_from`]; that it is installed and shown, and what a crash leaves meanwhile, on [`install_fetched`] and
-//! [`transfer`]; what is posted of the outcome on [`call_back`]; and both for a caller on [`transfer_for`].
+//! [`transfer`]; what is posted of the outcome on [`call_back`] and [`tell_back`]; and both for a caller on
+//! [`transfer_for`].
 #![tactic(auto)]
 
 mod calling_back;
@@ -14,7 +15,7 @@ mod install;
 pub mod laws;
 mod transferring;
 
-pub use calling_back::{Asker, call_back};
+pub use calling_back::{Asker, call_back, tell_back};
 pub use dialed::fetch_from;
 pub use fault::XfrFault;
 pub use fetching::{against_order, begin, fetch};

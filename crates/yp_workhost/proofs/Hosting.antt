@@ -1,0 +1,65 @@
+-- What a host of a worker does, as every host.
+use Rattle.std.proofs.Common.{◌≡◌, ℕ, List, Option, refl, sym, ◌∙◌, ap, subst}
+use Rattle.yp_io.specs.declared.texts.TextFile.{TextFile}
+use Rattle.yp_msgs.specs.declared.transfer.XfrStat.{XfrStat}
+use Rattle.yp_msgs.specs.declared.transfer.XfrStat.TheVariants.{Succ, Age, Nomap, Nodom, Rsrc, Rpc, Maddr, Yperr, Badargs, Dbm, File, Skew, Clear, Force, Xfrerr, Refused}
+use Rattle.yp_board.specs.Catalogues.{Catalogue}
+use Rattle.yp_board.specs.Views.{Seen}
+use Rattle.yp_answer.specs.declared.make.Job.{Job}
+use Rattle.yp_xfr.specs.HostTable.{HostList}
+use Rattle.yp_session.specs.Hosts.{Counts, Conduct, conduct_of, counts_after, Fulfils}
+use Rattle.yp_shared.specs.Shares.{Learns}
+use Rattle.yp_workhost.specs.Makings.{IsMadeSo}
+use Rattle.yp_workhost.specs.Desks.{texts_alone}
+use Rattle.yp_workhost.specs.Workers.{Worker, counts_of, files_after, Stepped, Made, Carried}
+use Rattle.yp_workhost.proofs.Causing.{is_caused}
+use Rattle.yp_workhost.proofs.Learning.{learns_maps}
+
+-- what a status counts
+counted : (counts : Counts) (stat : XfrStat)
+    → record { files = files_after counts.files stat; transfers = counts.transfers } ≡ counts_after counts stat
+counted counts Succ = refl
+counted counts Age = refl
+counted counts Nomap = refl
+counted counts Nodom = refl
+counted counts Rsrc = refl
+counted counts Rpc = refl
+counted counts Maddr = refl
+counted counts Yperr = refl
+counted counts Badargs = refl
+counted counts Dbm = refl
+counted counts File = refl
+counted counts Skew = refl
+counted counts Clear = refl
+counted counts Force = refl
+counted counts Xfrerr = refl
+counted counts Refused = refl
+
+module _ {V : Type 0} (seen : V → Seen) (stepped : V → V → Type 0) (text : TextFile → Option (List ℕ)) (hosts : HostList) where
+  abbrev conduct : Conduct (Worker V)
+  conduct = conduct_of (λ host. seen host.reader) (λ host. texts_alone text) counts_of (Stepped stepped) (Made seen text)
+      (λ taken peer. Carried seen hosts taken)
+
+  fulfilled : (job : Job) (stat : XfrStat) (old new : Worker V) → Made seen text job stat old new
+      → Fulfils conduct job stat old new
+  fulfilled job stat old new made = record {
+    made = made;
+    cause = is_caused (texts_alone text) (seen old.reader).catalogue.own job stat (seen old.reader).known (seen new.reader).known made.made;
+    catalogue = learns_maps (seen old.reader) (seen new.reader) (seen old.reader).catalogue made.learned refl;
+    grown = made.learned.grown;
+    counted = ap counts_of made.counted ∙ counted (counts_of old) stat;
+  }
+
+  -- the same from a host inside, whose reader learned and whose count rose
+  pub made_from : (job : Job) (stat : XfrStat) (inside old : Worker V) (catalogue : Catalogue) (reader : V) (files : ℕ)
+      → inside ≡ old → (seen inside.reader).catalogue ≡ catalogue
+      → IsMadeSo (texts_alone text) catalogue.own job stat (seen inside.reader).known (seen reader).known
+      → Learns (seen inside.reader) (seen reader) → files ≡ files_after inside.files stat
+      → Fulfils conduct job stat old (record inside { reader = reader; files = files })
+  made_from job stat inside old catalogue reader files is maps made learned counts =
+      subst (λ (o : Worker V). Fulfils conduct job stat o (record inside { reader = reader; files = files })) is
+      (fulfilled job stat inside (record inside { reader = reader; files = files }) record {
+        made = subst (λ (k : Catalogue). IsMadeSo (texts_alone text) k.own job stat (seen inside.reader).known (seen reader).known) (sym maps) made;
+        learned = learned;
+        counted = ap (λ (n : ℕ). record inside { reader = reader; files = n }) counts;
+      })

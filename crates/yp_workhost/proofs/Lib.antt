@@ -1,0 +1,4 @@
+mod Reasons
+mod Causing
+mod Learning
+mod Hosting

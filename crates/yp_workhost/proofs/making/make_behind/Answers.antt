@@ -1,0 +1,29 @@
+use Rattle.std.proofs.Common.{◌≤◌, arith, ◌∙◌, ap}
+use Rattle.yp_board.specs.Catalogues.{Catalogue}
+use Rattle.yp_build.specs.Builds.{order_max}
+use Rattle.yp_workhost.specs.Desks.{texts_alone}
+use Rattle.yp_server.specs.Locals.{telling_of}
+use Rattle.yp_workhost.proofs.Causing.{unmade, shown_last, unfit}
+use Rattle.yp_workhost.proofs.making.make_behind.Goals as goal
+
+pub returns-in-Err-clause-made : goal.returns-in-Err-clause-made
+returns-in-Err-clause-made g c =
+    let own = c.own-own.ensures.own ∙ ap (λ (k : Catalogue). k.own) (c.catalog.ensures ∙ c.requires.catalogue) in
+    unmade g.S.Supplies.text (telling_of g.T.Texts g.C.Clock g.A.Dial.past g.A.Dial.letters g.A.Dial.faults) _ c.args.job _ c.in-Err.stat _ _
+    (rw (own, c.held.ensures) at c.in-Err.ensures.unbuilt)
+
+pub returns-in-Ok-install_shared-clause-made : goal.returns-in-Ok-install_shared-clause-made
+returns-in-Ok-install_shared-clause-made g c =
+    let own = c.own-own.ensures.own ∙ ap (λ (k : Catalogue). k.own) (c.catalog.ensures ∙ c.requires.catalogue) in
+    let below = c.order-order.ensures.version.order in
+    let most : c.in-Ok.version.order ≤ order_max = omega (arith, below) in
+    shown_last c.built_is_built_behind.ensures g.S.Supplies.text g.S.Site.catalogue.own c.args.job c.in-Ok.version _ _
+    (rw (own, c.held.ensures) at c.in-Ok.ensures.anew) most c.in-Ok-install_shared.ensures.shown
+
+pub returns : goal.returns
+returns g c = record {
+  made = rw c.shared_stat.ensures (unfit (texts_alone g.S.Supplies.text) g.S.Site.catalogue.own c.args.job c.in-Ok.version
+      c.in-Err-install_shared.fault _ _ c.in-Err-install_shared.ensures.reason (λ e. c.in_default.not-Age (c.shared_stat.ensures ∙ e)));
+  overtaken = λ e. absurd (cc);
+  learned = c.install_shared.ensures.learned;
+}

@@ -1,0 +1,12 @@
+-- What holds after each round, and that the rounds end.
+use Rattle.std.proofs.Common.{◌+◌, ◌-◌}
+use Rattle.yp_build.specs.Builds.{order_max}
+use Rattle.yp_shared.specs.Shares.{Learns}
+use Rattle.yp_workhost.specs.Makings.{height}
+use Rattle.yp_workhost.proofs.making.make_shared.Given as goal
+
+abbrev pub invariant-rounds : goal.invariant-rounds
+invariant-rounds g l = Learns (g.B.Reader.View.seen l.fn.reader) (g.B.Reader.View.seen l.reader)
+
+abbrev pub decreases-rounds : goal.decreases-rounds
+decreases-rounds g l = order_max + 1 - height l.job.map (g.B.Reader.View.seen l.reader).known

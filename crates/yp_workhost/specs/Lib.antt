@@ -1,0 +1,4 @@
+pub mod Desks
+pub mod Outcomes
+pub mod Makings
+pub mod Workers

@@ -1,0 +1,80 @@
+-- A host of a worker, and what its calls do.
+use Rattle.std.specs.Prelude.{◌≡◌, ◌≢◌, ◌⊎◌, ℕ, List, Option, None, IsSome, ⊤}
+use Rattle.yp_io.specs.Counts.{next_count}
+use Rattle.yp_io.specs.declared.texts.TextFile.{TextFile}
+use Rattle.yp_msgs.specs.declared.transfer.XfrStat.{XfrStat}
+use Rattle.yp_msgs.specs.declared.transfer.XfrStat.TheVariants as stats
+use Rattle.yp_version.specs.Versions.{MapVersion}
+use Rattle.yp_board.specs.Logs.{Log, shown}
+use Rattle.yp_board.specs.Views.{Seen}
+use Rattle.yp_answer.specs.declared.make.Job.{Job}
+use Rattle.yp_answer.specs.Transfer.{Taken}
+use Rattle.yp_publish.specs.declared.install.Origin.TheVariants.{Fetched}
+use Rattle.yp_xfr.specs.HostTable.{HostList, find}
+use Rattle.yp_session.specs.Hosts.{Counts}
+use Rattle.yp_shared.specs.Shares.{IsShownBehind, Learns}
+use Rattle.yp_workhost.specs.declared.outcome.Group.{Group}
+use Rattle.yp_workhost.specs.declared.outcome.Group.TheVariants.{NoAddress, NoMemory, File, Source, Reached}
+use Rattle.yp_workhost.specs.declared.outcome.Outcomes.{Outcomes}
+use Rattle.yp_workhost.specs.Desks.{texts_alone}
+use Rattle.yp_workhost.specs.Outcomes.{counted_in}
+use Rattle.yp_workhost.specs.Makings.{IsMadeSo}
+
+-- a host of a worker: its reader, how often it answered FILE, how many transfers it carried out, and what they came to
+pub record Worker (V : Type 0) : Type 0 where
+  pub reader : V
+  pub files : ℕ
+  pub transfers : ℕ
+  pub outcomes : Outcomes
+
+abbrev pub counts_of : {V : Type 0} → Worker V → Counts
+counts_of worker = record { files = worker.files; transfers = worker.transfers }
+
+-- how often FILE was answered, once a map was made with a status
+abbrev pub files_after : ℕ → XfrStat → ℕ
+files_after files stats.File = next_count files
+files_after files _ = files
+
+-- A read step of the reader was made, and nothing else.
+abbrev pub Stepped : {V : Type 0} → (V → V → Type 0) → Worker V → Worker V → Type 0
+Stepped stepped old new = stepped old.reader new.reader × (new ≡ record old { reader = new.reader })
+
+-- A map was made, with this status. The reader knows all that it knew and what the status says, and FILE is counted.
+pub record Made {V : Type 0} (seen : V → Seen) (text : TextFile → Option (List ℕ)) (job : Job) (stat : XfrStat)
+    (old new : Worker V) : Type 0 where
+  pub made : IsMadeSo (texts_alone text) (seen old.reader).catalogue.own job stat
+      (seen old.reader).known (seen new.reader).known
+  pub learned : Learns (seen old.reader) (seen new.reader)
+  pub counted : new ≡ record old { reader = new.reader; files = files_after old.files stat }
+
+-- A version that was fetched was shown, last of all that is known, and behind all that was.
+pub record IsFetchedBehind (own : List ℕ) (number : ℕ) (old new : Log) : Type 0 where
+  pub version : MapVersion
+  pub shown : IsShownBehind own number version Fetched old new
+
+-- What the installing of a fetched version came to. Where it isn't shown though its order was told, something is.
+abbrev pub IsInstalledTo : List ℕ → ℕ → Group → Log → Log → Type 0
+IsInstalledTo own number Reached old new = IsFetchedBehind own number old new ⊎ IsSome (shown number new)
+IsInstalledTo own number NoMemory old new = ⊤
+IsInstalledTo own number File old new = ⊤
+IsInstalledTo own number _ old new = ⊥
+
+-- What a transfer came to.
+abbrev pub IsCarriedTo : List ℕ → HostList → Taken → Group → Log → Log → Type 0
+IsCarriedTo own hosts taken NoAddress old new = (find taken.source hosts ≡ None) × (new ≡ old)
+IsCarriedTo own hosts taken Source old new = (find taken.source hosts ≢ None) × (new ≡ old)
+IsCarriedTo own hosts taken group old new =
+    (find taken.source hosts ≢ None) × IsInstalledTo own taken.map group old new
+
+-- A transfer was carried out, and counted once, by what it came to.
+pub record Carried {V : Type 0} (seen : V → Seen) (hosts : HostList) (taken : Taken) (old new : Worker V)
+    : Type 0 where
+  pub group : Group
+  pub outcome : IsCarriedTo (seen old.reader).catalogue.own hosts taken group
+      (seen old.reader).known (seen new.reader).known
+  pub learned : Learns (seen old.reader) (seen new.reader)
+  pub counted : new ≡ record old {
+    reader = new.reader;
+    transfers = next_count old.transfers;
+    outcomes = counted_in group old.outcomes;
+  }

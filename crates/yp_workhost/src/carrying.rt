@@ -1,0 +1,135 @@
+//! A transfer that a worker carries out.
+
+ghost use Rattle.std.specs.Prelude.{◌≡◌, ◌≢◌, ◌<◌, length, option_map, IsSome};
+ghost use Rattle.yp_answer.specs.Transfer.{taken_view};
+ghost use Rattle.yp_shared.specs.Shares.{Learns};
+ghost use Rattle.yp_workhost.specs.Workers.{IsCarriedTo, IsInstalledTo};
+
+use crate::desk::{SharedDesk, Supplies};
+use crate::outcome::{Group, group_of, shared_stat};
+use std::alloc::Global;
+use std::random::RandomSource;
+use std::sync::{Mutex, Wait};
+use yp_answer::Errand;
+use yp_board::{Tell, View};
+use yp_io::{Clock, Dial, Disk, Peer, Texts};
+use yp_msgs::XfrStat;
+use yp_publish::Origin;
+use yp_shared::{Locked, Site, install_shared};
+use yp_version::Version;
+use yp_xfr::{Asker, XfrFault};
+
+/// Fetches the map of an errand and installs it, and tells the caller at `peer` what came of it, where it wants to be
+/// told. The desk's lock is held while it is fetched, and again for the call back.
+pub(crate) fn carry_out<S, D, B, A, T, C, R>(
+    alloc: Global,
+    rt: &R,
+    publisher: &Mutex<Locked<S, D, B>>,
+    desk: &Mutex<SharedDesk<S, A, T, C>>,
+    reader: &mut B::Reader,
+    errand: &Errand<'_>,
+    peer: Peer,
+) -> Group
+where
+    S: Site + Supplies,
+    D: Disk,
+    B: Tell,
+    A: Dial,
+    T: Texts,
+    C: Clock,
+    R: RandomSource + Wait,
+    requires map { errand.now.map < length S.catalogue.maps }
+    requires catalogue { (B.Reader.seen reader.old).catalogue ≡ S.catalogue }
+    ensures outcome { IsCarriedTo S.catalogue.own S.hosts (taken_view errand.now) result
+        (B.Reader.seen reader.old).known (B.Reader.seen reader.new).known }
+    ensures learned { Learns (B.Reader.seen reader.old) (B.Reader.seen reader.new) }
+{
+    let (group, stat) = fetch_and_install(alloc, rt, publisher, desk, reader, errand);
+    let addr = peer.addr;
+    let asker = Asker {
+        addr,
+        prog: errand.prog,
+        port: errand.port,
+        transid: errand.transid,
+    };
+    desk.lock(rt).tell_back(&asker, stat);
+    group
+}
+
+/// Fetches the map of an errand and installs it: what that came to, and the status that the caller is told.
+fn fetch_and_install<S, D, B, A, T, C, R>(
+    alloc: Global,
+    rt: &R,
+    publisher: &Mutex<Locked<S, D, B>>,
+    desk: &Mutex<SharedDesk<S, A, T, C>>,
+    reader: &mut B::Reader,
+    errand: &Errand<'_>,
+) -> (Group, XfrStat)
+where
+    S: Site + Supplies,
+    D: Disk,
+    B: Tell,
+    A: Dial,
+    T: Texts,
+    C: Clock,
+    R: RandomSource + Wait,
+    requires map { errand.now.map < length S.catalogue.maps }
+    requires catalogue { (B.Reader.seen reader.old).catalogue ≡ S.catalogue }
+    ensures outcome { IsCarriedTo S.catalogue.own S.hosts (taken_view errand.now) result.0
+        (B.Reader.seen reader.old).known (B.Reader.seen reader.new).known }
+    ensures learned { Learns (B.Reader.seen reader.old) (B.Reader.seen reader.new) }
+{
+    let name = reader.catalog().name(errand.map);
+    let shown = order_of(reader.held(errand.map));
+    let fetched = desk.lock(rt).fetch(alloc, rt, errand.source, name, shown);
+    match fetched {
+        None => (Group::NoAddress, XfrStat::Maddr),
+        Some(Err(fault)) => (failed_group(&fault, shown), fault.stat()),
+        Some(Ok(version)) => install_for(alloc, rt, publisher, reader, errand.map, version),
+    }
+}
+
+/// The order of the version that is held.
+fn order_of(held: Option<&Version>) -> Option<u32>
+    ensures { result ≡ option_map (λ version. version.order) (option_map (λ version. version.now) held.entry) }
+{
+    Some(held?.order())
+}
+
+/// The group of a transfer that gave no version. An order that isn't over the one that is shown was told by the source.
+fn failed_group(fault: &XfrFault, shown: Option<u32>) -> Group
+    ensures addressed { result ≢ Group.NoAddress }
+    ensures shown { result ≡ Group.Reached → IsSome shown }
+{
+    match fault {
+        XfrFault::NoMemory => Group::NoMemory,
+        XfrFault::Age { .. } if shown.is_some() => Group::Reached,
+        _ => Group::Source,
+    }
+}
+
+/// Installs a version that was fetched: what that came to, and its status.
+fn install_for<S, D, B, R>(
+    alloc: Global,
+    rt: &R,
+    publisher: &Mutex<Locked<S, D, B>>,
+    reader: &mut B::Reader,
+    map: u32,
+    version: Version,
+) -> (Group, XfrStat)
+where
+    S: Site,
+    D: Disk,
+    B: Tell,
+    R: RandomSource + Wait,
+    requires { map < length S.catalogue.maps }
+    ensures outcome { IsInstalledTo S.catalogue.own map result.0
+        (B.Reader.seen reader.old).known (B.Reader.seen reader.new).known }
+    ensures learned { Learns (B.Reader.seen reader.old) (B.Reader.seen reader.new) }
+{
+    let stat = match install_shared(alloc, rt, publisher, reader, map, version, Origin::Fetched) {
+        Ok(()) => XfrStat::Succ,
+        Err(fault) => shared_stat(&fault),
+    };
+    (group_of(stat), stat)
+}

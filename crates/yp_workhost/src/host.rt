@@ -1,0 +1,204 @@
+//! The host of a worker.
+
+ghost use Rattle.std.specs.Prelude.{◌≡◌, OnErr};
+ghost use Rattle.std.proofs.Common.{ap};
+ghost use Rattle.yp_shared.specs.Shares.{Learns};
+ghost use Rattle.yp_workhost.specs.Desks.{texts_alone};
+ghost use Rattle.yp_workhost.specs.Workers.{counts_of, Stepped, Made, Carried};
+
+use crate::carrying::carry_out;
+use crate::desk::{SharedDesk, Supplies};
+use crate::making::make_shared;
+use crate::outcome::{Outcomes, files_after};
+use std::alloc::Global;
+use std::marker::Model;
+use std::random::RandomSource;
+use std::sync::{Mutex, Wait};
+use yp_answer::{Errand, Job};
+use yp_board::{Catalog, Tell, View};
+use yp_io::{Clock, Dial, Disk, NoMemory, Peer, Texts};
+use yp_msgs::XfrStat;
+use yp_session::Host;
+use yp_shared::{Locked, Site, tell_shared};
+use yp_version::Version;
+
+/// The host of a worker. What it knows is what its reader knows.
+///
+/// It is seen as its reader, how often it answered FILE, how many transfers it carried out, and what they came to.
+#[derive(Drop)]
+pub struct WorkerHost<
+    'a,
+    S: Site + Supplies,
+    D: Disk,
+    B: Tell,
+    A: Dial,
+    T: Texts,
+    C: Clock,
+    R: RandomSource + Wait,
+> {
+    reader: B::Reader,
+    publisher: &'a Mutex<Locked<S, D, B>>,
+    desk: &'a Mutex<SharedDesk<S, A, T, C>>,
+    files: u64,
+    transfers: u64,
+    outcomes: Outcomes,
+    alloc: Global,
+    rt: R,
+}
+
+impl<
+    'a,
+    S: Site + Supplies,
+    D: Disk,
+    B: Tell,
+    A: Dial,
+    T: Texts,
+    C: Clock,
+    R: RandomSource + Wait,
+> Model for WorkerHost<'a, S, D, B, A, T, C, R> {
+    ghost use Rattle.std.specs.Prelude.{◌≡◌};
+    ghost use Rattle.yp_workhost.specs.Workers.{Worker};
+
+    ghost Value = { Worker B.Reader };
+
+    ghost view = { λ h. record {
+      reader = h.reader;
+      files = h.files;
+      transfers = h.transfers;
+      outcomes = h.outcomes;
+    } };
+
+    ghost invariant = { λ h. (B.Reader.seen h.reader).catalogue ≡ S.catalogue };
+}
+
+impl<
+    'a,
+    S: Site + Supplies,
+    D: Disk,
+    B: Tell,
+    A: Dial,
+    T: Texts,
+    C: Clock,
+    R: RandomSource + Wait,
+> WorkerHost<'a, S, D, B, A, T, C, R> {
+    /// A host with this reader of the maps of its site. Its memory is taken by `alloc`, the tables of its builds are
+    /// made with the randomness of `rt`, and it waits for the locks by that.
+    pub fn new(
+        alloc: Global,
+        rt: R,
+        reader: B::Reader,
+        publisher: &'a Mutex<Locked<S, D, B>>,
+        desk: &'a Mutex<SharedDesk<S, A, T, C>>,
+    ) -> WorkerHost<'a, S, D, B, A, T, C, R>
+        requires { (B.Reader.seen reader).catalogue ≡ S.catalogue }
+        ensures { result ≡ record {
+          reader = reader;
+          files = 0;
+          transfers = 0;
+          outcomes = record { no_address = 0; no_memory = 0; file = 0; source = 0; reached = 0 };
+        } }
+    {
+        WorkerHost {
+            reader,
+            publisher,
+            desk,
+            files: 0,
+            transfers: 0,
+            outcomes: Outcomes::none(),
+            alloc,
+            rt,
+        }
+    }
+
+    /// What its transfers came to, and how often.
+    pub fn outcomes(&self) -> Outcomes
+        ensures { result ≡ self.now.outcomes }
+    {
+        self.outcomes
+    }
+
+    /// Lets the reader know all that was shown. It waits for the publisher's lock. After a refusal nothing has changed.
+    pub fn catch_up(&mut self) -> Result<(), NoMemory>
+        ensures learned { Learns (B.Reader.seen self.old.reader) (B.Reader.seen self.new.reader) }
+        ensures same { self.new ≡ record self.old { reader = self.new.reader } }
+        ensures refused { OnErr result (self.new ≡ self.old) }
+    {
+        tell_shared(&self.rt, self.publisher, &mut self.reader)
+    }
+}
+
+impl<
+    'a,
+    S: Site + Supplies,
+    D: Disk,
+    B: Tell,
+    A: Dial,
+    T: Texts,
+    C: Clock,
+    R: RandomSource + Wait,
+> View for WorkerHost<'a, S, D, B, A, T, C, R> {
+    ghost seen = { λ host. B.Reader.seen host.reader };
+
+    ghost stepped = { Stepped B.Reader.stepped };
+
+    fn catalog(&self) -> &Catalog {
+        self.reader.catalog()
+    }
+
+    fn refresh(&mut self) {
+        self.reader.refresh();
+    }
+
+    fn held(&self, map: u32) -> Option<&Version> {
+        self.reader.held(map)
+    }
+}
+
+impl<
+    'a,
+    S: Site + Supplies,
+    D: Disk,
+    B: Tell,
+    A: Dial,
+    T: Texts,
+    C: Clock,
+    R: RandomSource + Wait,
+> Host for WorkerHost<'a, S, D, B, A, T, C, R> {
+    ghost told = { λ host. texts_alone S.text };
+
+    ghost counts = { counts_of };
+
+    ghost made = { Made B.Reader.seen S.text };
+
+    fn make(&mut self, job: Job) -> XfrStat {
+        let mut desk = self.desk.lock(&self.rt);
+        let stat = make_shared(
+            self.alloc,
+            &self.rt,
+            self.publisher,
+            &mut *desk,
+            &mut self.reader,
+            job,
+        );
+        self.files = files_after(self.files, stat);
+        stat
+    }
+
+    ghost carried = { λ taken peer. Carried B.Reader.seen S.hosts taken };
+
+    fn transfer(&mut self, errand: &Errand<'_>, peer: Peer) {
+        let group = carry_out(
+            self.alloc,
+            &self.rt,
+            self.publisher,
+            self.desk,
+            &mut self.reader,
+            errand,
+            peer,
+        );
+        self.transfers = self.transfers.saturating_add(1);
+        self.outcomes.count(group);
+    }
+
+    ghost step_counts_nothing = { λ old new h. ap (λ host. counts_of host) h.1 };
+}

@@ -1,0 +1,103 @@
+//! A map that a worker makes.
+
+ghost use Rattle.std.specs.Prelude.{◌≡◌, ◌<◌, None, length, IfSome};
+ghost use Rattle.yp_shared.specs.Shares.{Learns};
+ghost use Rattle.yp_workhost.specs.Desks.{texts_alone};
+ghost use Rattle.yp_workhost.specs.Makings.{IsMadeSo, IsOvertaken};
+
+use crate::desk::{SharedDesk, Supplies};
+use crate::outcome::shared_stat;
+use std::alloc::Global;
+use std::random::RandomSource;
+use std::sync::{Mutex, Wait};
+use yp_answer::Job;
+use yp_board::{Tell, View};
+use yp_build::laws::built_is_built_behind;
+use yp_io::{Clock, Dial, Disk, NoMemory, Texts};
+use yp_msgs::XfrStat;
+use yp_publish::Origin;
+use yp_shared::{Locked, Site, install_shared, tell_shared};
+
+/// Makes a map anew, behind all that was shown, and lets the reader know it. Where another version of the map is shown
+/// meanwhile, it is built again behind that, so the orders of the map rise with each round.
+pub(crate) fn make_shared<S, D, B, A, T, C, R>(
+    alloc: Global,
+    rt: &R,
+    publisher: &Mutex<Locked<S, D, B>>,
+    desk: &mut SharedDesk<S, A, T, C>,
+    reader: &mut B::Reader,
+    job: Job,
+) -> XfrStat
+where
+    S: Site + Supplies,
+    D: Disk,
+    B: Tell,
+    A: Dial,
+    T: Texts,
+    C: Clock,
+    R: RandomSource + Wait,
+    requires map { job.map < length S.catalogue.maps }
+    requires catalogue { (B.Reader.seen reader.old).catalogue ≡ S.catalogue }
+    ensures made { IsMadeSo (texts_alone S.text) S.catalogue.own job result
+        (B.Reader.seen reader.old).known (B.Reader.seen reader.new).known }
+    ensures learned { Learns (B.Reader.seen reader.old) (B.Reader.seen reader.new) }
+{
+    if let Err(NoMemory) = tell_shared(rt, publisher, reader) {
+        return XfrStat::Rsrc;
+    }
+    'rounds: loop {
+        if let Some(stat) = make_behind(alloc, rt, publisher, desk, reader, job) {
+            return stat;
+        }
+    }
+}
+
+/// Builds a map behind what the reader knows, and installs it. Where another version of the map was shown meanwhile,
+/// which isn't lower, there is no status, and the reader knows that version.
+fn make_behind<S, D, B, A, T, C, R>(
+    alloc: Global,
+    rt: &R,
+    publisher: &Mutex<Locked<S, D, B>>,
+    desk: &mut SharedDesk<S, A, T, C>,
+    reader: &mut B::Reader,
+    job: Job,
+) -> Option<XfrStat>
+where
+    S: Site + Supplies,
+    D: Disk,
+    B: Tell,
+    A: Dial,
+    T: Texts,
+    C: Clock,
+    R: RandomSource + Wait,
+    requires map { job.map < length S.catalogue.maps }
+    requires catalogue { (B.Reader.seen reader.old).catalogue ≡ S.catalogue }
+    ensures made { IfSome result (λ stat. IsMadeSo (texts_alone S.text) S.catalogue.own job stat
+        (B.Reader.seen reader.old).known (B.Reader.seen reader.new).known) }
+    ensures overtaken { result ≡ None → IsOvertaken job.map
+        (B.Reader.seen reader.old).known (B.Reader.seen reader.new).known }
+    ensures learned { Learns (B.Reader.seen reader.old) (B.Reader.seen reader.new) }
+{
+    let own = reader.catalog().own();
+    let version = match desk.build(alloc, rt, job.kind, own, reader.held(job.map)) {
+        Ok(version) => version,
+        Err(stat) => return Some(stat),
+    };
+    let _order = version.order();
+    built_is_built_behind();
+    match install_shared(
+        alloc,
+        rt,
+        publisher,
+        reader,
+        job.map,
+        version,
+        Origin::Built,
+    ) {
+        Ok(()) => Some(XfrStat::Succ),
+        Err(fault) => match shared_stat(&fault) {
+            XfrStat::Age => None,
+            stat => Some(stat),
+        },
+    }
+}

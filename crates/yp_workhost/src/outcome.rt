@@ -1,0 +1,100 @@
+//! What transfers came to, and how often.
+
+ghost use Rattle.std.specs.Prelude.{◌≡◌};
+ghost use Rattle.yp_workhost.specs.Outcomes.{counted_in, group_of, shared_stat};
+ghost use Rattle.yp_workhost.specs.Workers.{files_after};
+
+use yp_msgs::XfrStat;
+use yp_publish::InstallFault;
+use yp_shared::ShareFault;
+use yp_slot::SlotFault;
+
+/// What a transfer came to.
+#[derive(Clone, Copy, Debug, PartialEq, Eq)]
+pub enum Group {
+    /// The source has no address.
+    NoAddress,
+    /// Memory ran out.
+    NoMemory,
+    /// The map's file failed.
+    File,
+    /// The source failed, or gave no version.
+    Source,
+    /// The source told its order: the version was installed, or isn't newer, or the map is this host's own.
+    Reached,
+}
+
+/// How many transfers came to each group, each up to 2^64 - 1.
+#[derive(Clone, Copy, Debug, PartialEq, Eq)]
+pub struct Outcomes {
+    pub no_address: u64,
+    pub no_memory: u64,
+    pub file: u64,
+    pub source: u64,
+    pub reached: u64,
+}
+
+impl Outcomes {
+    /// No transfers.
+    pub(crate) fn none() -> Outcomes
+        ensures { result ≡ record { no_address = 0; no_memory = 0; file = 0; source = 0; reached = 0 } }
+    {
+        Outcomes {
+            no_address: 0,
+            no_memory: 0,
+            file: 0,
+            source: 0,
+            reached: 0,
+        }
+    }
+
+    /// Counts a transfer.
+    pub(crate) fn count(&mut self, group: Group)
+        ensures { self.new ≡ counted_in group self.old }
+    {
+        match group {
+            Group::NoAddress => self.no_address = self.no_address.saturating_add(1),
+            Group::NoMemory => self.no_memory = self.no_memory.saturating_add(1),
+            Group::File => self.file = self.file.saturating_add(1),
+            Group::Source => self.source = self.source.saturating_add(1),
+            Group::Reached => self.reached = self.reached.saturating_add(1),
+        }
+    }
+}
+
+/// The group of a transfer with this status, from a source that has an address.
+pub(crate) fn group_of(stat: XfrStat) -> Group
+    ensures { result ≡ group_of stat }
+{
+    match stat {
+        XfrStat::Succ | XfrStat::Age | XfrStat::Refused => Group::Reached,
+        XfrStat::Rsrc => Group::NoMemory,
+        XfrStat::File => Group::File,
+        _ => Group::Source,
+    }
+}
+
+/// The status of a version that isn't installed, or isn't known to the reader.
+pub(crate) fn shared_stat(fault: &ShareFault) -> XfrStat
+    ensures { result ≡ shared_stat fault.now }
+{
+    match fault {
+        ShareFault::Untold => XfrStat::Rsrc,
+        ShareFault::Shut(SlotFault::NoMemory) => XfrStat::Rsrc,
+        ShareFault::Shut(_) => XfrStat::File,
+        ShareFault::Unfit(InstallFault::NoMemory) => XfrStat::Rsrc,
+        ShareFault::Unfit(InstallFault::Refused { .. }) => XfrStat::Refused,
+        ShareFault::Unfit(InstallFault::Age { .. }) => XfrStat::Age,
+        ShareFault::Unfit(_) => XfrStat::File,
+    }
+}
+
+/// How often FILE was answered, once a map was made with this status, up to 2^64 - 1.
+pub(crate) fn files_after(files: u64, stat: XfrStat) -> u64
+    ensures { result ≡ files_after files stat }
+{
+    match stat {
+        XfrStat::File => files.saturating_add(1),
+        _ => files,
+    }
+}
