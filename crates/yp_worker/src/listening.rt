@@ -81,9 +81,23 @@ impl<J: Ledger, E: Ledger> Pass<J, E> {
         Pass { out, ended }
     }
 
+    /// Takes in what another worker holds, once that has ended.
+    pub fn merge(&mut self, other: Pass<J, E>)
+        ensures { self.new ≡ record {
+          parts = self.old.parts + other.parts;
+          out = self.old.out + other.out;
+          ended = self.old.ended + other.ended;
+        } }
+    {
+        let Pass { out, ended } = other;
+        self.out.merge(out);
+        self.ended.merge(ended);
+    }
+
     /// The shares.
     pub fn into_shares(self) -> (Share<J>, Share<E>)
         ensures parts { result.0.parts ≡ self.parts }
+        ensures some { (0 < result.0.parts) × (0 < result.1.parts) }
         ensures out { result.0.amount ≡ self.out }
         ensures ended { result.1.amount ≡ self.ended }
     {

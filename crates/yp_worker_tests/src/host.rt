@@ -97,31 +97,66 @@ fn assert_fits(rt: &impl Abort, count: usize, catalog: &Catalog)
     assert_eq!(rt; count, catalog.len() as usize);
 }
 
-// A board of passwd.byname in the domain `d`, on which this version is shown.
-fn board(rt: &impl Abort, alloc: Global, version: Arc<Version>) -> PlainBoard {
+/// The catalogue of the host `m1` with passwd.byname in the domain `d`.
+pub fn catalog(rt: &impl Abort, alloc: Global) -> Catalog {
     let domain = Vec::from_slice(alloc, b"d").expect(rt, "a domain");
     let map = Vec::from_slice(alloc, b"passwd.byname").expect(rt, "a map");
     let own = Vec::from_slice(alloc, b"m1").expect(rt, "a name");
     let maps = vec![in alloc; MapName { domain, map }].expect(rt, "maps");
-    let catalog = Catalog::new(alloc, own, maps).expect(rt, "a catalogue");
+    Catalog::new(alloc, own, maps).expect(rt, "a catalogue")
+}
+
+// A board of these maps, on which this version is shown.
+fn board(rt: &impl Abort, alloc: Global, catalog: Catalog, version: Arc<Version>) -> PlainBoard
+    ensures { result.catalogue ≡ catalog }
+{
     let start = vec![in alloc; Some(version)].expect(rt, "versions");
     assert_fits(rt, start.len(), &catalog);
     PlainBoard::new(alloc, catalog, start).expect(rt, "a board")
 }
 
-/// A host that knows the value `alpha:1`, and behind which others show each of these values.
-pub fn host_of<R: RandomSource + Abort>(rt: &R, alloc: Global, values: &[&[u8]]) -> TestHost {
-    let first = version(rt, alloc, 7, b"alpha:1");
-    let board = board(rt, alloc, first);
+// The versions that others show, the next last.
+fn waiting<R: RandomSource + Abort>(rt: &R, alloc: Global, values: &[&[u8]]) -> Vec<Arc<Version>> {
     let mut waiting = Vec::new(alloc);
     for value in values {
         let next = version(rt, alloc, 8, *value);
         waiting.push(next).expect(rt, "memory for a version");
     }
     waiting.reverse();
+    waiting
+}
+
+/// A host of these maps that knows the value `alpha:1`, and behind which others show each of these values.
+pub fn host_on<R: RandomSource + Abort>(
+    rt: &R,
+    alloc: Global,
+    catalog: Catalog,
+    values: &[&[u8]],
+) -> TestHost
+    ensures { result.board.catalogue ≡ catalog }
+{
+    let first = version(rt, alloc, 7, b"alpha:1");
+    let waiting = waiting(rt, alloc, values);
     TestHost {
-        board,
+        board: board(rt, alloc, catalog, first),
         waiting,
         transfers: 0,
     }
+}
+
+/// The same of passwd.byname.
+pub fn host_of<R: RandomSource + Abort>(rt: &R, alloc: Global, values: &[&[u8]]) -> TestHost {
+    host_on(rt, alloc, catalog(rt, alloc), values)
+}
+
+/// Two hosts of the same maps, behind which nothing is shown.
+pub fn two_hosts<R: RandomSource + Abort>(rt: &R, alloc: Global) -> (TestHost, TestHost)
+    ensures { result.1.board.catalogue ≡ result.0.board.catalogue }
+{
+    let first = catalog(rt, alloc);
+    let second = first.copy(alloc).expect(rt, "a catalogue");
+    (
+        host_on(rt, alloc, first, &[]),
+        host_on(rt, alloc, second, &[]),
+    )
 }
