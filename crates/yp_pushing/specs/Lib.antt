@@ -3,3 +3,4 @@ pub mod Sendings
 pub mod Pushers
 pub mod Kept
 pub mod Printed
+pub mod Slaves

@@ -1,4 +1,4 @@
-//! Tests of `yp_pushing`: pushes to three slaves over wires and an inbox in memory.
+//! Tests of `yp_pushing`: pushes to three slaves over wires and an inbox in memory, and who the slaves are.
 #![tactic(auto)]
 
 #[cfg(test)]
@@ -7,5 +7,7 @@ mod callbacks;
 mod given;
 #[cfg(test)]
 mod pushes;
+#[cfg(test)]
+mod slaves;
 #[cfg(test)]
 mod stage;
