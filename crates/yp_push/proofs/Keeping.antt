@@ -65,6 +65,12 @@ counted_by first n es in_order = ap (λ (xs : List ℕ). count_by (is_outstandin
 sent_tests : (slave sent : ℕ) → (ltb slave sent || eqb sent slave) ≡ ltb slave (sent + 1)
 sent_tests slave sent = grind (arith, nat_tests)
 
+-- it has no result yet
+pub sends_to : (outcomes : List Outcome) (first sent passed count : ℕ) (es : List Event)
+    → Keeps outcomes first sent passed count es → result_of first sent (es ++ Sent sent ∷ []) ≡ Unanswered
+sends_to outcomes first sent passed count es kept =
+    step_by first sent es (Sent sent) true (same_number sent) (kept.asked_below sent ∙ le-ltb sent sent (omega arith))
+
 pub sends : (outcomes : List Outcome) (first sent passed count : ℕ) (es : List Event)
     → Keeps outcomes first sent passed count es → sent < length outcomes
     → Keeps (set outcomes sent Unanswered) first (sent + 1) passed (count + 1) (es ++ Sent sent ∷ [])

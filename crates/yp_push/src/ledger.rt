@@ -1,6 +1,6 @@
 //! The ledger of a push.
 
-ghost use Rattle.std.specs.Prelude.{◌≡◌, ◌<◌, ◌≤◌, ◌↔◌, ℕ, [], IsTrue, IfOk};
+ghost use Rattle.std.specs.Prelude.{◌≡◌, ◌<◌, ◌≤◌, ◌↔◌, ℕ, [], IsTrue, IfOk, IfSome};
 ghost use Rattle.yp_push.specs.Ledgers.{slaves_max};
 ghost use Rattle.yp_push.specs.Ledgers.{outcome_at, with_event, next_sending, after_sending};
 ghost use Rattle.yp_push.specs.Ledgers.{IsUnanswered, Awaits, IsDone};
@@ -85,6 +85,7 @@ impl Push {
     pub fn next_send(&mut self) -> Option<Sending>
         ensures sending { result ≡ next_sending self.old }
         ensures ledger { self.new ≡ after_sending self.old result }
+        ensures unanswered { IfSome result (λ sending. IsUnanswered self.new sending.slave) }
     {
         if self.sent as usize == self.outcomes.len() || self.outstanding >= self.window {
             return None;

@@ -1,6 +1,8 @@
 use Rattle.std.proofs.Common.{◌⊎◌, ◌≤◌, length, ap, ◌∙◌, inl, inr, arith}
 use Rattle.yp_push.specs.Ledgers.{next_sending}
-use Rattle.yp_push.proofs.Keeping.{sends}
+use Rattle.std.proofs.lemmas.List.{length-set}
+use Rattle.yp_push.specs.declared.outcome.Outcome.TheVariants.{Unanswered}
+use Rattle.yp_push.proofs.Keeping.{sends, sends_to}
 use Rattle.yp_push.proofs.Settling.{sends_none, sends_one}
 use Rattle.yp_push.proofs.ledger.Push.next_send.Goals as goal
 use Rattle.yp_push.proofs.ledger.Push.next_send.Goals.{then-self-len-via-then-self-len}
@@ -22,3 +24,8 @@ invariant_of-self c = rw c.add.ensures (sends _ _ _ _ _ _ c.self.invariant (omeg
 pub returns-clause-sending : goal.returns-clause-sending
 returns-clause-sending c =
     sends_one _ _ _ _ _ _ _ c.self.invariant (omega arith) (omega arith) ∙ ap next_sending c.self.view_is
+
+pub returns-clause-unanswered : goal.returns-clause-unanswered
+returns-clause-unanswered c =
+    let same = length-set c.self.inside.outcomes.items c.self.inside.sent Unanswered in
+    rw c.add.ensures (record { within = omega (arith, same); unanswered = sends_to _ _ _ _ _ _ c.self.invariant })

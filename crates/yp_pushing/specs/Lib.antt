@@ -1,0 +1,6 @@
+pub mod Callbacks
+pub mod Sendings
+pub mod Pushers
+pub mod Kept
+pub mod Printed
+pub mod Slaves

@@ -1,0 +1,99 @@
+-- One request of a push: a slave is asked to fetch a map (yppush).
+use Rattle.std.specs.Prelude.{◌≡◌, ◌⊎◌, ℕ, ◌+◌, ◌≤◌, min, Bool, true, false, List, Option, Some, None, Result, Ok, Err}
+use Rattle.yp_io.specs.Counts.{HasRisen, last_count}
+use Rattle.yp_io.specs.declared.stream.Peer.{Peer}
+use Rattle.yp_io.specs.Dials.{Wires, DialTells, Comes, GoesBack}
+use Rattle.yp_xdr.specs.Kind.{Value}
+use Rattle.yp_msgs.specs.declared.push.PushStat.{PushStat}
+use Rattle.yp_msgs.specs.declared.transfer.XfrStat.{XfrStat}
+use Rattle.yp_msgs.specs.declared.transfer.XfrStat.TheVariants.{Succ}
+use Rattle.yp_msgs.specs.Pushes.{push_number}
+use Rattle.yp_msgs.specs.Transfers.{req_xfr, xfr_number}
+use Rattle.yp_board.specs.Catalogues.{Name}
+use Rattle.yp_client.specs.declared.fault.ClientFault.{ClientFault}
+use Rattle.yp_client.specs.declared.fault.ClientFault.TheVariants.{NoMemory}
+use Rattle.yp_client.specs.Asked.{xfr_call}
+use Rattle.yp_client.specs.Calls.{Calls}
+use Rattle.yp_client.specs.Limits.{reply_max}
+use Rattle.yp_client.specs.Results.{taken_of}
+use Rattle.yp_client.specs.Said.{SaysStat}
+use Rattle.yp_client.specs.States.{ClientState, IsFirst}
+use Rattle.yp_push.specs.declared.event.Event.TheVariants.{Failed, Refused}
+use Rattle.yp_push.specs.declared.outcome.Missed.TheVariants.{Rpc, Maddr}
+use Rattle.yp_push.specs.Ledgers.{Ledger, with_event}
+use Rattle.yp_pushing.specs.Callbacks.{program}
+
+-- what slaves are asked: the map, its order, the host that has it, and the port at which they tell how it went
+pub record Request : Type 0 where
+  pub store : Name
+  pub order : ℕ
+  pub name : List ℕ
+  pub port : ℕ
+
+-- the arguments of XFR with a transaction
+abbrev pub xfr_of : Request → ℕ → Value req_xfr
+xfr_of request transid =
+    (request.store.0, (request.store.1, (request.order, (request.name, (transid, (program, request.port))))))
+
+-- what a slave answered at once, or why it didn't
+abbrev pub Answer : Type 0
+Answer = Result XfrStat ClientFault
+
+-- memory ran out
+abbrev pub starves : Answer → Bool
+starves (Err NoMemory) = true
+starves answer = false
+
+-- No wire came.
+pub record IsNotDialed (old new : DialTells) : Type 0 where
+  pub none : new.past ≡ old.past
+  pub letters : new.letters ≡ old.letters
+  pub cause : HasRisen old.faults new.faults
+
+-- XFR was called on a wire, with the number 1; or memory ran out for a client, and the wire stays.
+abbrev pub IsCalled : Value req_xfr → Answer → ClientState → ClientState → Type 0
+IsCalled request answer first last =
+    Calls reply_max (xfr_call request) (SaysStat taken_of) answer first last
+    ⊎ ((answer ≡ Err NoMemory) × (last ≡ first))
+
+-- One wire to this peer came, XFR was called on it, and it went back: its faults are counted as those of the dial.
+pub record IsAsked (peer : Peer) (request : Value req_xfr) (answer : Answer) (old new : DialTells) : Type 0 where
+  pub first : ClientState
+  pub last : ClientState
+  pub middle : Option Wires
+  pub comes : Comes (peer, first.wire.input) old.past middle
+  pub begins : IsFirst first
+  pub calls : IsCalled request answer first last
+  pub goes_back : GoesBack last.wire middle new.past
+  pub letters : new.letters ≡ old.letters
+  pub counted : min (old.faults + (last.reads + last.writes)) last_count ≤ new.faults
+
+-- A ledger has an answer: where it is SUCC, or memory ran out, nothing, another status as the slave's own, and a fault
+-- as a failure.
+abbrev pub IsNoted : ℕ → Answer → Ledger → Ledger → Type 0
+IsNoted slave (Ok Succ) old new = new ≡ old
+IsNoted slave (Ok stat) old new =
+    (status : PushStat) × (push_number status ≡ xfr_number stat) × (new ≡ with_event old (Refused slave status))
+IsNoted slave (Err NoMemory) old new = new ≡ old
+IsNoted slave (Err fault) old new = new ≡ with_event old (Failed slave Rpc)
+
+-- A slave that has an address was asked: no wire came, or one did and has an answer.
+pub record IsAnswered (peer : Peer) (request : Value req_xfr) (slave : ℕ) (starved : Bool) (ledger ledger' : Ledger)
+    (old new : DialTells) : Type 0 where
+  pub answer : Answer
+  pub asked : IsAsked peer request answer old new
+  pub noted : IsNoted slave answer ledger ledger'
+  pub memory : starved ≡ starves answer
+
+pub record IsMissed (slave : ℕ) (starved : Bool) (ledger ledger' : Ledger) (old new : DialTells) : Type 0 where
+  pub not_dialed : IsNotDialed old new
+  pub noted : ledger' ≡ with_event ledger (Failed slave Rpc)
+  pub memory : starved ≡ false
+
+-- One without an address wasn't asked; the dial stays.
+abbrev pub Reaches : Option Peer → Value req_xfr → (slave : ℕ) → (starved : Bool) → (ledger ledger' : Ledger)
+    → (old new : DialTells) → Type 0
+Reaches None request slave starved ledger ledger' old new =
+    (new ≡ old) × (ledger' ≡ with_event ledger (Failed slave Maddr)) × (starved ≡ false)
+Reaches (Some peer) request slave starved ledger ledger' old new =
+    IsMissed slave starved ledger ledger' old new ⊎ IsAnswered peer request slave starved ledger ledger' old new
