@@ -1,4 +1,4 @@
-//! Tests of `yp_netgroup`.
+//! Tests of `yp_netgroup` and `yp_revnet`.
 #![tactic(auto)]
 
 #[cfg(test)]
@@ -7,5 +7,9 @@ mod given;
 mod large;
 #[cfg(test)]
 mod membership;
+#[cfg(test)]
+mod refused;
+#[cfg(test)]
+mod reversed;
 #[cfg(test)]
 mod texts;

@@ -4,7 +4,9 @@ ghost use Rattle.std.specs.Prelude.{◌≡◌, ◌⊎◌, List, IfOk, IfErr, OnO
 ghost use Rattle.yp_version.specs.Rows.{Row};
 ghost use Rattle.yp_revnet.specs.declared.field.Field.{Field};
 ghost use Rattle.yp_revnet.specs.declared.fault.RevFault.TheVariants.{NoMemory as WithoutMemory};
-ghost use Rattle.yp_revnet.specs.Groups.{IsKeptOf};
+ghost use Rattle.yp_revnet.specs.Links.{bytes_in};
+ghost use Rattle.yp_revnet.specs.Reverse.{IsReversed};
+ghost use Rattle.yp_revnet.specs.Groups.{IsGroups, IsKeptOf};
 ghost use Rattle.yp_revnet.specs.Refused.{IsPut, IsRefusal};
 
 use crate::fault::{RevFault, fault_of};
@@ -13,6 +15,39 @@ use crate::links::Links;
 use std::alloc::Global;
 use std::random::RandomSource;
 use yp_version::VersionBuilder;
+
+// Puts a row behind those of lower keys.
+fn push_row(key: &[u8], value: &[u8], builder: &mut VersionBuilder) -> Result<(), RevFault>
+    ensures ok { OnOk result ((rows : List Row) (field : Field) → IsReversed rows field (key.now, value.now)
+        → IsPut rows field key.now builder.old builder.new) }
+    ensures err { IfErr result (λ fault. (rows : List Row) (field : Field) → IsReversed rows field (key.now, value.now)
+        → (fault ≡ WithoutMemory) ⊎ IsRefusal rows field key.now builder.old fault) }
+{
+    match builder.push(key, value) {
+        Ok(_) => Ok(()),
+        Err(fault) => Err(fault_of(builder.len(), fault)),
+    }
+}
+
+// Puts the row of a key and its groups, where there are some.
+fn put_groups(
+    alloc: Global,
+    key: &[u8],
+    groups: &[&[u8]],
+    builder: &mut VersionBuilder,
+) -> Result<(), RevFault>
+    ensures ok { OnOk result ((rows : List Row) (field : Field) → IsGroups rows field key.now (bytes_in groups.now)
+        → IsPut rows field key.now builder.old builder.new) }
+    ensures err { IfErr result (λ fault. (rows : List Row) (field : Field)
+        → IsGroups rows field key.now (bytes_in groups.now)
+        → (fault ≡ WithoutMemory) ⊎ IsRefusal rows field key.now builder.old fault) }
+{
+    if groups.is_empty() {
+        return Ok(());
+    }
+    let value = commas(alloc, groups)?;
+    push_row(key, &value, builder)
+}
 
 // Puts the row of a key behind those of lower keys, where a group has it.
 pub(crate) fn put_row(
@@ -29,12 +64,5 @@ pub(crate) fn put_row(
         → (fault ≡ WithoutMemory) ⊎ IsRefusal rows field key.now builder.old fault) }
 {
     let groups = groups_of(alloc, rt, named, listed, key)?;
-    if groups.is_empty() {
-        return Ok(());
-    }
-    let value = commas(alloc, &groups)?;
-    match builder.push(key, &value) {
-        Ok(_) => Ok(()),
-        Err(fault) => Err(fault_of(builder.len(), fault)),
-    }
+    put_groups(alloc, key, &groups, builder)
 }
