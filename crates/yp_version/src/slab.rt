@@ -1,7 +1,8 @@
 //! Bytes that stand before rows, and behind them the rows, each spelled as in the body of a version.
 
 ghost use Rattle.std.specs.Prelude.{◌≡◌, ◌+◌, ◌<◌, ◌≤◌, ◌^◌, [], ◌∷◌, ◌++◌, length, replicate, drop, map, slice_get};
-ghost use Rattle.std.specs.Prelude.{ℕ, Some, true, false, option_map, IfOk, OnOk, OnErr, IsTrue, IsPermutation};
+ghost use Rattle.std.specs.Prelude.{ℕ, Some, true, false, option_map, MatchOption, IfOk, OnOk, OnErr, IsTrue};
+ghost use Rattle.std.specs.Prelude.{IsPermutation};
 ghost use Rattle.std.specs.List.{flat_map};
 ghost use Rattle.yp_xdr.specs.Kind.{U32};
 ghost use Rattle.yp_xdr.specs.Spelling.{spelling};
@@ -9,12 +10,14 @@ ghost use Rattle.yp_xdr.specs.Writing.{written};
 ghost use Rattle.yp_version.specs.Limits.{key_max, value_max, body_max};
 ghost use Rattle.yp_version.specs.Rows.{HasDistinctKeys, IsRising, is_over_last, key_cmp, row_len, rows_len};
 ghost use Rattle.yp_version.specs.Tables.{has_key};
+ghost use Rattle.yp_version.specs.Places.{StandsAt, IsAbsent};
 ghost use Rattle.yp_version.specs.Bodies.{row_bytes};
 ghost use Rattle.yp_version.specs.Slabs.{KeepsLimits, opaque_from, key_from, row_from};
 
 use crate::limits::{WORD, padded, row_len};
 use crate::ranks::sorted_places;
 use std::alloc::Global;
+use std::cmp::Ordering;
 use std::marker::Model;
 use yp_io::NoMemory;
 use yp_xdr::{set_opaque, set_u32};
@@ -107,6 +110,21 @@ impl Slab {
     {
         let place = self.places.get(i)?;
         Some(row_from(&self.bytes, *place))
+    }
+
+    /// The number of the row with this key among rising rows, by halving.
+    pub(crate) fn find(&self, key: &[u8]) -> Option<usize>
+        requires { IsRising self.now.rows }
+        ensures { MatchOption result (IsAbsent key.now self.now.rows) (StandsAt key.now self.now.rows) }
+    {
+        let bytes = self.bytes.as_slice();
+        self.places
+            .binary_search_by(
+                |place: &u32| -> Ordering
+                    ensures { result ≡ key_cmp (key_from bytes.entry.now place.now) key.entry.now }
+                { key_from(bytes, *place).cmp(key) },
+            )
+            .ok()
     }
 
     /// Whether a key is over that of the last row, if there is one.
