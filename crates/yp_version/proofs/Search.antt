@@ -1,5 +1,5 @@
 -- Where a key stands among rows.
-use Rattle.std.proofs.Common.{◌≡◌, ℕ, zero, suc, ◌+◌, ◌<◌, ◌≤◌, Bool, true, false, cond, List, [], ◌∷◌, map, take, length, get_or, slice_get, Option, Some, None, Result, Ok, Err, is_lt, Less, Greater, MatchOption, option_map, is_some, bytes_eq, nat_le, refl, sym, ap, ◌∙◌, subst, inl, inr, true≢false, arith, All, add-one}
+use Rattle.std.proofs.Common.{◌≡◌, ℕ, zero, suc, ◌+◌, ◌<◌, ◌≤◌, Bool, true, false, cond, List, [], ◌∷◌, map, take, length, get_or, slice_get, Option, Some, None, Result, Ok, Err, is_lt, Less, Greater, MatchOption, option_map, is_some, bytes_eq, nat_le, refl, sym, ap, ◌∙◌, subst, inl, inr, true≢false, arith, add-one}
 use Rattle.std.proofs.lemmas.Bool.{cases_Bool, cond-true, cond-false, leb-true, leb-false}
 use Rattle.std.proofs.lemmas.Cmp.{nat_list_cmp_total}
 use Rattle.std.proofs.lemmas.List.{get_or-map, length-map}
@@ -7,7 +7,7 @@ use Rattle.std.proofs.lemmas.List.Sorted.{searchable_from_sorted}
 use Rattle.std.proofs.lemmas.List.Sums.{sum_by-cons}
 use Rattle.std.proofs.lemmas.Map.Entries.{lookup_at_gap}
 use Rattle.std.proofs.lemmas.Map.Keys.{Less-from_sorted, IsDistinct-head, IsDistinct-tail}
-use Rattle.std.proofs.lemmas.Option.{slice_get_cases, slice_get-map, slice_get_within, same_Some, none-some, get_or_from_slice_get}
+use Rattle.std.proofs.lemmas.Option.{slice_get_cases, slice_get-map, slice_get_within, same_Some, none-some}
 use Rattle.std.specs.List.{AllByRecursion, AllWithin}
 use Rattle.std.specs.List.Sorted.{IsSortedBy, IsBinarySearchResult, IsSearchInRange, IsNonDecreasingBy}
 use Rattle.std.specs.Map.{keys_of, lookup}
@@ -91,17 +91,6 @@ found_at rows key None rising is =
     record { value = none; next = nothing_follows key rows none }
 found_at rows key (Some i) rising is =
     stands_at rows i key rising (has_it rows i key (last_passes (has_key key rows) (length rows) i (sym is)).1)
-
--- what holds of all rows holds of the one at a place
-pub holds_at : (P : Row → Type 0) (rows : List Row) (i : ℕ) (row : Row) → All P rows → slice_get rows i ≡ Some row → P row
-holds_at P rows i row all e = subst P (get_or_from_slice_get rows i row row e) (all i row (slice_get_within rows i row e))
-
--- what holds of all rows holds of the one that is made of the item at a place
-pub holds_of_item : {X : Type 0} (row_of : X → Row) (P : Row → Type 0) (items : List X) (i : ℕ) (x : X)
-    → All P (map row_of items) → i < length items → x ≡ get_or items i x → P (row_of x)
-holds_of_item row_of P items i x all within is =
-    let l = length-map items row_of in
-    subst P (get_or-map row_of items i x (row_of x) within ∙ ap row_of (sym is)) (all i (row_of x) (omega (arith, l, within)))
 
 -- there is room for each of the rows in turn
 pub room_left : {X : Type 0} (row_of : X → Row) (items : List X) (i : ℕ) (x : X) → i < length items → x ≡ get_or items i x
