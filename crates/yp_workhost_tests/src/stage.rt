@@ -1,0 +1,190 @@
+//! Two workers over one map.
+
+ghost use Rattle.std.specs.Prelude.{◌≡◌, All};
+ghost use Rattle.yp_workhost.specs.Desks.{IsSupplied};
+
+use crate::given::*;
+use std::alloc::Global;
+use std::process::Abort;
+use std::random::RandomSource;
+use std::sync::{Mutex, Wait};
+use yp_answer::{Errand, Job};
+use yp_board::{Catalog, View};
+use yp_build::Kind;
+use yp_io::{MemDial, MemDisk, Peer, SetClock, Texts};
+use yp_msgs::XfrStat;
+use yp_publish::laws::starts_are_shown;
+use yp_publish::{Publisher, load_all};
+use yp_readers::{Naming, Opened, Reader, Writer, board};
+use yp_server::Desk;
+use yp_session::Host;
+use yp_shared::{Locked, Site};
+use yp_workhost::{Outcomes, SharedDesk, Supplies, WorkerHost};
+
+/// The locks of a map and its desk.
+type Maps<S, J, R> = Mutex<Locked<S, MemDisk, Writer<J, R>>>;
+
+type Tools<S, T> = Mutex<SharedDesk<S, MemDial, T, SetClock>>;
+
+type Worker<'a, S, J, T, R> = WorkerHost<'a, S, MemDisk, Writer<J, R>, MemDial, T, SetClock, R>;
+
+/// What a worker does.
+#[derive(Clone, Copy, Debug)]
+pub enum Act {
+    Make,
+    Transfer,
+    CatchUp,
+    Refresh,
+}
+
+/// What came of it: the status of a making, and the order that the worker holds then.
+pub type Came = (Option<XfrStat>, Option<u32>);
+
+/// A publisher of the one map of a catalogue, with its file on a disk, and two readers of its board.
+fn open<'r, J: Naming, R: RandomSource + Wait + Abort>(
+    rt: &'r R,
+    alloc: Global,
+    opened: Opened,
+    catalog: &Catalog,
+    disk: MemDisk,
+) -> (Publisher<MemDisk, Writer<J, &'r R>>, Vec<Reader<J>>)
+    requires { opened ≡ J.book }
+    ensures publisher { result.0.catalogue ≡ catalog.now }
+    ensures readers { All (λ reader. reader.catalogue ≡ catalog.now) result.1.items }
+{
+    let disks = vec![in alloc; disk].expect(rt, "a disk");
+    assert_fits(rt, disks.len(), catalog);
+    let loaded = load_all(alloc, rt, disks).expect(rt, "loaded disks");
+    let shown = loaded.shown(alloc).expect(rt, "what is shown");
+    assert_fits(rt, shown.len(), catalog);
+    let seen = catalog.copy(alloc).expect(rt, "a catalogue");
+    let kept = catalog.copy(alloc).expect(rt, "a catalogue");
+    let (writer, readers) = board(alloc, rt, opened, seen, shown, 2).expect(rt, "a board");
+    starts_are_shown();
+    (Publisher::new(loaded, kept, writer), readers)
+}
+
+/// Does one thing.
+fn done_by<S: Site + Supplies, J: Naming, T: Texts + Drop, R: RandomSource + Wait + Drop>(
+    host: &mut Worker<'_, S, J, T, R>,
+    act: Act,
+    source: &[u8],
+) -> Came {
+    if host.catalog().len() == 0 || source.len() > 64 {
+        return (None, None);
+    }
+    let stat = match act {
+        Act::Make => Some(host.make(Job {
+            map: 0,
+            kind: Kind::HostsByname,
+        })),
+        Act::Transfer => {
+            let errand = Errand {
+                map: 0,
+                source,
+                transid: 9,
+                prog: 0x4000_0000,
+                port: 7_002,
+            };
+            host.transfer(&errand, CALLER);
+            None
+        }
+        Act::CatchUp => {
+            let _ = host.catch_up();
+            None
+        }
+        Act::Refresh => {
+            host.refresh();
+            None
+        }
+    };
+    (stat, host.held(0).map(|version| version.order()))
+}
+
+/// Who asks for a transfer.
+const CALLER: Peer = Peer {
+    addr: [127, 0, 0, 1],
+    port: 40_000,
+};
+
+/// What is done, by the first of two workers or by the second, and the host that transfers fetch from.
+#[derive(Clone, Copy, Debug)]
+pub struct Script<'a> {
+    pub acts: &'a [(bool, Act)],
+    pub source: &'a [u8],
+}
+
+/// What two workers do in turn.
+fn play<'r, S: Site + Supplies, J: Naming, T: Texts + Drop, R: RandomSource + Wait + Abort>(
+    rt: &'r R,
+    alloc: Global,
+    first: &mut Worker<'_, S, J, T, &'r R>,
+    second: &mut Worker<'_, S, J, T, &'r R>,
+    script: Script<'_>,
+) -> Vec<Came> {
+    let mut came = Vec::new(alloc);
+    for (by_first, what) in script.acts {
+        let one = if *by_first {
+            done_by(first, *what, script.source)
+        } else {
+            done_by(second, *what, script.source)
+        };
+        came.push(one).expect(rt, "what came");
+    }
+    came
+}
+
+/// Two workers, made of their readers and the locks, play.
+fn meet<'r, S: Site + Supplies, J: Naming, T: Texts + Drop, R: RandomSource + Wait + Abort>(
+    rt: &'r R,
+    alloc: Global,
+    maps: &Maps<S, J, &'r R>,
+    tools: &Tools<S, T>,
+    readers: (Reader<J>, Reader<J>),
+    script: Script<'_>,
+) -> (Vec<Came>, Outcomes)
+    requires first { readers.0.catalogue ≡ S.catalogue }
+    requires second { readers.1.catalogue ≡ S.catalogue }
+{
+    let mut first = WorkerHost::new(alloc, rt, readers.0, maps, tools);
+    let mut second = WorkerHost::new(alloc, rt, readers.1, maps, tools);
+    let came = play(rt, alloc, &mut first, &mut second, script);
+    (came, first.outcomes())
+}
+
+/// What came of a stage: of each act, of the transfers of the first worker, and what was posted.
+pub type Played = (Vec<Came>, Outcomes, Vec<(Peer, Vec<u8>)>);
+
+/// What came of a script over a map with its file on a disk.
+pub fn staged<S: Site + Supplies, J: Naming, T: Texts + Drop, R: RandomSource + Wait + Abort>(
+    rt: &R,
+    alloc: Global,
+    opened: Opened,
+    catalog: Catalog,
+    disk: MemDisk,
+    desk: Desk<MemDial, T, SetClock>,
+    script: Script<'_>,
+) -> Played
+    requires book { opened ≡ J.book }
+    requires catalogue { catalog ≡ S.catalogue }
+    requires supplied { IsSupplied T.Texts S.text S.hosts desk }
+{
+    let (publisher, mut readers) = open(rt, alloc, opened, &catalog, disk);
+    let second = readers.pop().expect(rt, "a reader");
+    let first = readers.pop().expect(rt, "a reader");
+    let maps: Maps<S, J, &R> = Mutex::new(Locked::new(publisher));
+    let tools: Tools<S, T> = Mutex::new(SharedDesk::new(desk));
+    let (came, outcomes) = meet(rt, alloc, &maps, &tools, (first, second), script);
+    let desk = tools.into_inner().into_desk();
+    (came, outcomes, posted_by(rt, alloc, &desk.dial))
+}
+
+// What was posted: to whom, and the bytes.
+fn posted_by(rt: &impl Abort, alloc: Global, dial: &MemDial) -> Vec<(Peer, Vec<u8>)> {
+    let mut posted = Vec::new(alloc);
+    for letter in dial.letters() {
+        let bytes = Vec::from_slice(alloc, &letter.bytes).expect(rt, "bytes");
+        posted.push((letter.peer, bytes)).expect(rt, "a letter");
+    }
+    posted
+}
