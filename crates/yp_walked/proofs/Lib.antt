@@ -3,3 +3,4 @@ pub mod Counting
 pub mod Turning
 pub mod Leading
 pub mod Showing
+pub mod Delivering

@@ -15,9 +15,9 @@ use Rattle.yp_xfr.specs.Fetching.{Wanted, against_order}
 use Rattle.yp_source.specs.Replies.{IsShown}
 use Rattle.yp_turns.specs.Turns.{mail_max}
 use Rattle.yp_enum.specs.Standings.{HasEnded, next_len}
-use Rattle.yp_enum.specs.Schedules.{Walking, begun}
+use Rattle.yp_enum.specs.Schedules.{Walking, Delivery, begun, walk_by}
 use Rattle.yp_enum.specs.Told.{draft_with}
-use Rattle.yp_walked.specs.Sources.{Event, Scene, first_scene, AllHappen}
+use Rattle.yp_walked.specs.Sources.{Event, Scene, first_scene, AllHappen, deliveries_of}
 use Rattle.yp_walked.specs.Mails.{Made, last_front, GoesBy}
 
 -- A source whose log rises up to this one answered a walk.
@@ -104,3 +104,35 @@ ShownIsWalked =
     → ((front : Log) → IsFront before front → IsFront front log → IsShown wanted version (maps_on catalogue front))
     → length mails ≡ length version.rows + 4
     → walk.standing ≡ HasEnded (Ok (draft_with version version.rows))
+
+-- A walk behind all that happened is the one by what was delivered.
+abbrev pub HappenedIsDelivered : Type 0
+HappenedIsDelivered =
+    (catalogue : Catalogue) (caller source : Peer) (wanted : Wanted) (log : Log) (events : List Event) (last : Scene)
+    → AllHappen catalogue caller events (first_scene source wanted log) last
+    → last.walk ≡ walk_by source wanted (deliveries_of events)
+
+-- These mails were delivered while a source whose log rises answered a walk.
+pub record AnswersWalk (catalogue : Catalogue) (caller source : Peer) (wanted : Wanted) (deliveries : List Delivery)
+    : Type 0 where
+  pub log : Log
+  pub events : List Event
+  pub last : Scene
+  pub is_source : IsSource catalogue wanted last.front
+  pub happen : AllHappen catalogue caller events (first_scene source wanted log) last
+  pub delivered : deliveries_of events ≡ deliveries
+
+-- The source showed the version of these rows from the first of the awaited mails to the last.
+pub record IsOfSource (catalogue : Catalogue) (wanted : Wanted) (draft : Draft) : Type 0 where
+  pub mails : List Made
+  pub version : MapVersion
+  pub throughout : ShowsThroughout catalogue wanted version mails
+  pub same : draft ≡ draft_with version version.rows
+
+-- So what a walk by these mails gives is what that source showed.
+abbrev pub DeliveredIsOfSource : Type 0
+DeliveredIsOfSource =
+    (catalogue : Catalogue) (caller source : Peer) (wanted : Wanted) (deliveries : List Delivery) (draft : Draft)
+    → AnswersWalk catalogue caller source wanted deliveries
+    → (walk_by source wanted deliveries).standing ≡ HasEnded (Ok draft)
+    → IsOfSource catalogue wanted draft

@@ -19,6 +19,13 @@ pub data Event : Type 0 where
   Delivers : (delivered : Delivery) → Event
   Rests : Event
 
+-- the mails that were delivered
+abbrev pub deliveries_of : List Event → List Delivery
+deliveries_of [] = []
+deliveries_of (Delivers delivered ∷ events) = delivered ∷ deliveries_of events
+deliveries_of (Handles call front ∷ events) = deliveries_of events
+deliveries_of (Rests ∷ events) = deliveries_of events
+
 -- the walk, the calls that it has asked so far, what its source knows, and the mails that this has sent
 pub record Scene : Type 0 where
   pub walk : Walking

@@ -2,6 +2,7 @@
 //! that does nothing.
 
 ghost use Rattle.yp_walked.specs.Laws.{HeardIsInTurn, WalkedIsShown, SkewIsShown, ShownIsWalked};
+ghost use Rattle.yp_walked.specs.Laws.{HappenedIsDelivered, DeliveredIsOfSource};
 
 use yp_enum::laws::{told_is_walked, told_is_whole};
 use yp_exchange::laws::mail_tells;
@@ -45,4 +46,19 @@ pub fn shown_is_walked()
     front_is_served();
     shown_is_sound();
     told_is_whole();
+}
+
+/// A walk behind all that happened is the one by what was delivered.
+pub fn happened_is_delivered()
+    ensures { HappenedIsDelivered }
+{}
+
+/// So where mails were delivered while a source whose log rises answered, a walk by these mails that is done has the
+/// order, the master and the rows of the one version that the source showed throughout.
+pub fn delivered_is_of_source()
+    ensures { DeliveredIsOfSource }
+{
+    heard_is_in_turn();
+    walked_is_shown();
+    happened_is_delivered();
 }
