@@ -27,6 +27,7 @@ fn locking_of(command: &Command, name: &MapName) -> Locking {
     match command {
         Command::Build { .. } => Locking::AtOnce,
         Command::Xfr(_) => Locking::AtOnce,
+        Command::Walk(_) => Locking::AtOnce,
         Command::Revnet { store, .. } if store.map == name.map => Locking::AtOnce,
         _ => Locking::AtFirstWrite,
     }

@@ -5,7 +5,7 @@ ghost use Rattle.yp_msgs.specs.Numbers.{name_max};
 ghost use Rattle.yp_turns.specs.Turns.{mail_max};
 ghost use Rattle.yp_xfr.specs.Fetching.{wanted_of};
 ghost use Rattle.yp_enum.specs.Standings.{IsAsking};
-ghost use Rattle.yp_enum.specs.Schedules.{outstanding, Hears, AddsDelivery, answers, is_awaited};
+ghost use Rattle.yp_enum.specs.Schedules.{outstanding, Hears, AddsDelivery, answers, is_awaited, told};
 ghost use Rattle.yp_enum.specs.Walks.{IsBegun, map_call, IsDone, GoesOn, GivesVersion};
 
 use crate::behind::behind;
@@ -105,6 +105,21 @@ impl Walk {
             xid: 1,
             stage: Stage::Order,
         })
+    }
+
+    /// Its source.
+    pub fn source(&self) -> Peer
+        ensures { result ≡ self.now.source }
+    {
+        self.source
+    }
+
+    /// How it stands: `Onward` while a call is outstanding, `Done` once the version is whole, or the refusal.
+    pub fn told(&self) -> Result<Walked, XfrFault>
+        ensures told { result ≡ told self.now.standing }
+        ensures goes_on { GoesOn result self.now.standing }
+    {
+        self.stage.told()
     }
 
     /// Puts the outstanding call at the front of the buffer, and answers its length, which is 0 where the walk has

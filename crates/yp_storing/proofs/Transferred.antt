@@ -62,6 +62,17 @@ stopped_no_write store (stop.Fault why) status before after ends e = fault_no_wr
 stopped_no_write store (stop.Unloaded why) status before after ends e =
     not_loaded_no_write store why status ends.0 e
 
+-- a fault of the disk is told where its file isn't loaded, and nowhere else
+pub end_disk : (store : Name) (done : Result Installed XfrStop) (status : Status) (before after : Option (List ℕ))
+    (map : MapName) → IsEnd store done status before after → status ≡ DiskFault map
+    → done ≡ Err (stop.Unloaded slot.DiskFault)
+end_disk store (Ok installed) status before after map ends e =
+    absurd (line_no_disk (xfr_line store installed.order installed.generation) status before after map ends e)
+end_disk store (Err (stop.Fault why)) status before after map ends e =
+    absurd (fault_no_disk store why status before after map ends e)
+end_disk store (Err (stop.Unloaded why)) status before after map ends e =
+    ap (λ (w : SlotFault). Err (stop.Unloaded w)) (was_disk store why status map ends.0 e)
+
 module _ {S K D C A I T : Type 0} (seen : Seeing S K D C A I T) (order : Order) (old new : Office S K D C A I T) where
   -- what was moved and told
   pub record Told (result : Result Installed XfrStop) (status : Status) : Type 0 where
@@ -73,6 +84,7 @@ module _ {S K D C A I T : Type 0} (seen : Seeing S K D C A I T) (order : Order) 
     pub letters : seen.dial.letters new.dial ≡ seen.dial.letters old.dial
     pub ends : IsEnd order.store result status (output seen old) (output seen new)
     pub write_fault : status ≡ WriteFault → WriteFails seen old new
+    pub disk : (map : MapName) → status ≡ DiskFault map → result ≡ Err (stop.Unloaded slot.DiskFault)
     pub names : names_of new.disks.items ≡ names_of old.disks.items
     pub stays : new ≡ record old {
       wire = record old.wire { sink = new.wire.sink };
@@ -101,12 +113,10 @@ module _ {S K D C A I T : Type 0} (seen : Seeing S K D C A I T) (order : Order) 
 
   disk_fault : (result : Result Installed XfrStop) (status : Status) (map : MapName) → Told result status
       → status ≡ DiskFault map → DiskFails seen old new
-  disk_fault (Ok installed) status map told e =
-      absurd (line_no_disk (xfr_line order.store installed.order installed.generation) status _ _ map told.ends e)
-  disk_fault (Err (stop.Fault why)) status map told e =
-      absurd (fault_no_disk order.store why status _ _ map told.ends e)
-  disk_fault (Err (stop.Unloaded why)) status map told e =
-      told.moves.disk_fault (was_disk order.store why status map told.ends.0 e)
+  disk_fault result status map told e =
+      let is = told.disk map e in
+      (subst (λ (r : Result Installed XfrStop). Moves order r (dialing seen old) (dialing seen new) (history seen old)
+      (history seen new) (disk_faults seen old) (disk_faults seen new)) is told.moves).disk_fault refl
 
   pub xfr_does : (result : Result Installed XfrStop) (status : Status) → Told result status
       → XfrDoes seen order status old new

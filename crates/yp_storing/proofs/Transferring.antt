@@ -41,7 +41,8 @@ use Rattle.yp_office.specs.Disks.{only_history, total_faults}
 use Rattle.yp_storing.specs.declared.xfr.XfrStop.TheVariants as stop
 use Rattle.yp_storing.specs.Build.{LeavesFew}
 use Rattle.yp_storing.specs.Xfr.{Order, Held, IsHeld, wanted, marked, against, IsFetchedIn, IsBeforeOrFetched, IsUnwanted}
-use Rattle.yp_storing.specs.Xfr.{IsNotStored, Comes, TransfersOn, IsNotLoaded, Moves, stop_of_open}
+use Rattle.yp_storing.specs.Xfr.{IsNotStored, Comes, StoresOn, StoresFetched, TransfersOn, IsNotLoaded, Moves}
+use Rattle.yp_storing.specs.Xfr.{catalogue_of, why_of_open, KeepsLoaded, LeavesUnloaded}
 use Rattle.yp_storing.proofs.OnDisk.{then, nothing_left, all_told, by_front}
 
 -- ---- one map
@@ -309,25 +310,12 @@ module _ {D : Type 0} (history : D → Option History) (faults : D → ℕ) (ord
     put (Err why) result h =
         subst (λ (r : Result Installed XfrFault). Puts (Err why) r before after) (sym h.0) (nothing_put why h.1)
 
-    fetched : (outcome : Outcome) (from to : Dialing)
-        → FetchesFrom (order.host ∷ []) order.host.0
-        (wanted_at keeping (request_of 0 order.host.0 order.force order.flag) order.store old) outcome from to
-        → FetchesFrom (order.host ∷ []) order.host.0 (wanted order (held_of before)) outcome from to
-    fetched outcome from to h =
-        subst (λ (v : Option MapVersion). FetchesFrom (order.host ∷ []) order.host.0
-        (wanted_of order.store.0 order.store.1 (option_map (λ version. version.order) v) order.force) outcome from to)
-        one.shows h
-
     -- what the disk shows of it
-    on_one : (outcome : Outcome) (result : Result Installed XfrFault) (from to : Dialing)
-        → FetchesFrom (order.host ∷ []) order.host.0 (wanted order (held_of before)) outcome from to
-        → Puts outcome result before after
-        → TransfersOn order result from to (history disk) (history after.disk) (faults disk + 0) (faults after.disk + 0)
-    on_one outcome result from to fetches puts = record {
-      held = held_of before;
+    on_one : (outcome : Outcome) (result : Result Installed XfrFault) → Puts outcome result before after
+        → StoresOn order (held_of before) outcome result (history disk) (history after.disk) (faults disk + 0)
+        (faults after.disk + 0)
+    on_one outcome result puts = record {
       is_held = record { version = one.opened.stood.version; generation = one.opened.stood.generation };
-      outcome = outcome;
-      fetches = fetches;
       comes = comes_more order (held_of before) (HasRisen (faults before.disk) (faults after.disk)) _ outcome result
           (λ risen. omega (arith, one.opened.never_falls, risen)) puts.comes;
       stored = puts.stored;
@@ -351,48 +339,45 @@ module _ {D : Type 0} (history : D → Option History) (faults : D → ℕ) (ord
 
   -- ---- the only disk
 
-  -- what was done to it
-  pub record Did (result : Result Installed XfrFault) (from to : Dialing) (disks news : List D) : Type 0 where
-    pub moves : TransfersOn order result from to (only_history history disks) (only_history history news)
+  -- what was installed on it
+  pub record Installs (outcome : Outcome) (result : Result Installed XfrFault) (shows : Option MapVersion)
+      (disks news : List D) : Type 0 where
+    pub stores : StoresFetched order shows outcome result (only_history history disks) (only_history history news)
         (total_faults faults disks) (total_faults faults news)
-    pub few : LeavesFew (only_history history disks) (only_history history news)
     pub count : length news ≡ 1
 
-  did_one : (disk : D) (before : Kept D) (afters : List (Kept D)) (news : List D) (old new : Published D Seen)
-      (served : Catalogue) (result : Result Installed XfrFault) (from to : Dialing)
-      → served ≡ record { own = order.name; maps = order.store ∷ [] } → BeginsLevel history faults served (disk ∷ []) old
+  installed_one : (disk : D) (before : Kept D) (afters : List (Kept D)) (news : List D) (old new : Published D Seen)
+      (outcome : Outcome) (result : Result Installed XfrFault) → BeginsLevel history faults (catalogue_of order) (disk ∷ []) old
       → old.maps ≡ before ∷ [] → IsOpened history faults disk before → new.maps ≡ afters → length afters ≡ 1
       → news ≡ map (λ (kept : Kept D). kept.disk) afters
-      → transfers.Transfers keeping (order.host ∷ []) (request_of 0 order.host.0 order.force order.flag) result from to
-      old new → Did result from to (disk ∷ []) news
-  did_one disk before [] news old new served result from to named begins olds opened news_are count disks did =
+      → InstallsOutcome keeping (request_of 0 order.host.0 order.force order.flag) outcome result old new
+      → Installs outcome result (shown 0 old.board.known) (disk ∷ []) news
+  installed_one disk before [] news old new outcome result begins olds opened news_are count disks did =
       absurd (omega (arith, count))
-  did_one disk before (after ∷ another ∷ more) news old new served result from to named begins olds opened news_are count
-      disks did = absurd (omega (arith, count))
-  did_one disk before (after ∷ []) news old new served result from to named begins olds opened news_are count disks did =
-      let catalogue = begins.catalogue ∙ named in
-      let maps = ap (λ (c : Catalogue). c.maps) catalogue in
+  installed_one disk before (after ∷ another ∷ more) news old new outcome result begins olds opened news_are count disks
+      did = absurd (omega (arith, count))
+  installed_one disk before (after ∷ []) news old new outcome result begins olds opened news_are count disks did =
       let log : old.board.known ≡ starts 0 (before.version ∷ []) =
       ap (λ (b : Seen). b.known) begins.board
       ∙ ap (λ (l : List (Kept D)). starts 0 (versions l)) olds in
       let one : One disk before after old new = record {
         olds = olds;
         news = news_are;
-        own = ap (λ (c : Catalogue). c.own) catalogue;
-        maps = maps;
+        own = ap (λ (c : Catalogue). c.own) begins.catalogue;
+        maps = ap (λ (c : Catalogue). c.maps) begins.catalogue;
         shows = ap (λ (l : Log). shown 0 l) log ∙ shown_first before.version;
         opened = opened;
       } in
-      let puts = put disk before after old new one did.outcome result did.installs in
-      let named_fetch = subst (λ (names : List Name). IfSome (slice_get names 0) (λ name.
-      FetchesFrom (order.host ∷ []) order.host.0
-      (wanted_at keeping (request_of 0 order.host.0 order.force order.flag) name old) did.outcome from to)) maps
-      did.fetches in
-      let fetches = fetched disk before after old new one did.outcome from to named_fetch in
-      let moves = on_one disk before after old new one did.outcome result from to fetches puts in
-      let few = few_on_one disk before after old new one did.outcome result puts in
-      subst (λ (l : List D). Did result from to (disk ∷ []) l) (sym disks)
-      (record { moves = moves; few = few; count = refl })
+      let puts = put disk before after old new one outcome result did in
+      subst (λ (l : List D). Installs outcome result (shown 0 old.board.known) (disk ∷ []) l) (sym disks) (record {
+        stores = record {
+          held = held_of before;
+          shown = sym one.shows;
+          stores = on_one disk before after old new one outcome result puts;
+          few = few_on_one disk before after old new one outcome result puts;
+        };
+        count = refl;
+      })
 
   -- as many maps after as before
   count_kept : (old new : Published D Seen) (outcome : Outcome) (result : Result Installed XfrFault)
@@ -405,41 +390,95 @@ module _ {D : Type 0} (history : D → Option History) (faults : D → ℕ) (ord
   count_kept old new (Ok version) (Err why) (inr h) =
       h.offers.refuses.upheld.elsewhere.count ∙ h.opens.upheld.elsewhere.count
 
-  by_maps : (disks : List D) (befores : List (Kept D)) (news : List D) (old new : Published D Seen) (served : Catalogue)
-      (result : Result Installed XfrFault) (from to : Dialing) → length disks ≡ 1
-      → served ≡ record { own = order.name; maps = order.store ∷ [] } → BeginsLevel history faults served disks old
+  by_maps : (disks : List D) (befores : List (Kept D)) (news : List D) (old new : Published D Seen) (outcome : Outcome)
+      (result : Result Installed XfrFault) → length disks ≡ 1
+      → BeginsLevel history faults (catalogue_of order) disks old
       → old.maps ≡ befores → AllZip (IsOpened history faults) disks befores
       → news ≡ map (λ (kept : Kept D). kept.disk) new.maps
-      → transfers.Transfers keeping (order.host ∷ []) (request_of 0 order.host.0 order.force order.flag) result from to
-      old new → Did result from to disks news
-  by_maps [] befores news old new served result from to one named begins olds opened disks did = absurd (omega (arith, one))
-  by_maps (disk ∷ another ∷ more) befores news old new served result from to one named begins olds opened disks did =
+      → InstallsOutcome keeping (request_of 0 order.host.0 order.force order.flag) outcome result old new
+      → Installs outcome result (shown 0 old.board.known) disks news
+  by_maps [] befores news old new outcome result one begins olds opened disks did = absurd (omega (arith, one))
+  by_maps (disk ∷ another ∷ more) befores news old new outcome result one begins olds opened disks did =
       absurd (omega (arith, one))
-  by_maps (disk ∷ []) [] news old new served result from to one named begins olds opened disks did = absurd opened
-  by_maps (disk ∷ []) (before ∷ other ∷ more) news old new served result from to one named begins olds opened disks did =
+  by_maps (disk ∷ []) [] news old new outcome result one begins olds opened disks did = absurd opened
+  by_maps (disk ∷ []) (before ∷ other ∷ more) news old new outcome result one begins olds opened disks did =
       absurd opened.1
-  by_maps (disk ∷ []) (before ∷ []) news old new served result from to one named begins olds opened disks did =
-      did_one disk before new.maps news old new served result from to named begins olds opened.0 refl
-      (count_kept old new did.outcome result did.installs ∙ ap (λ (l : List (Kept D)). length l) olds) disks did
+  by_maps (disk ∷ []) (before ∷ []) news old new outcome result one begins olds opened disks did =
+      installed_one disk before new.maps news old new outcome result begins olds opened.0 refl
+      (count_kept old new outcome result did ∙ ap (λ (l : List (Kept D)). length l) olds) disks did
 
-  pub did_only : (disks news : List D) (old new : Published D Seen) (served : Catalogue)
+  pub installed_only : (disks news : List D) (old new : Published D Seen) (outcome : Outcome)
+      (result : Result Installed XfrFault) → length disks ≡ 1
+      → BeginsLevel history faults (catalogue_of order) disks old
+      → news ≡ map (λ (kept : Kept D). kept.disk) new.maps
+      → InstallsOutcome keeping (request_of 0 order.host.0 order.force order.flag) outcome result old new
+      → Installs outcome result (shown 0 old.board.known) disks news
+  installed_only disks news old new outcome result one begins given did =
+      by_maps disks old.maps news old new outcome result one begins refl begins.opened given did
+
+  -- the same where nothing was fetched
+  pub kept_only : (disks news : List D) (old : Published D Seen) → length disks ≡ 1
+      → BeginsLevel history faults (catalogue_of order) disks old
+      → news ≡ map (λ (kept : Kept D). kept.disk) old.maps
+      → KeepsLoaded (shown 0 old.board.known) (only_history history disks) (only_history history news)
+      (total_faults faults disks) (total_faults faults news) × (length news ≡ 1)
+  kept_only disks news old one begins given =
+      let nothing : Outcome = Err fault.NoMemory in
+      let installs = installed_only disks news old old nothing (Err fault.NoMemory) one begins given (refl, refl) in (
+        record {
+          held = installs.stores.held;
+          shown = installs.stores.shown;
+          is_held = installs.stores.stores.is_held;
+          unwritten = installs.stores.stores.unwritten tt;
+          few = installs.stores.few;
+        },
+        installs.count,
+      )
+
+  -- what was done to it
+  pub record Did (result : Result Installed XfrFault) (from to : Dialing) (disks news : List D) : Type 0 where
+    pub moves : TransfersOn order result from to (only_history history disks) (only_history history news)
+        (total_faults faults disks) (total_faults faults news)
+    pub few : LeavesFew (only_history history disks) (only_history history news)
+    pub count : length news ≡ 1
+
+  did_only : (disks news : List D) (old new : Published D Seen)
       (result : Result Installed XfrFault) (from to : Dialing) → length disks ≡ 1
-      → served ≡ record { own = order.name; maps = order.store ∷ [] } → BeginsLevel history faults served disks old
+      → BeginsLevel history faults (catalogue_of order) disks old
       → news ≡ map (λ (kept : Kept D). kept.disk) new.maps
       → transfers.Transfers keeping (order.host ∷ []) (request_of 0 order.host.0 order.force order.flag) result from to
       old new → Did result from to disks news
-  did_only disks news old new served result from to one named begins given did =
-      by_maps disks old.maps news old new served result from to one named begins refl begins.opened given did
+  did_only disks news old new result from to one begins given did =
+      let installs = installed_only disks news old new did.outcome result one begins given did.installs in
+      let maps = ap (λ (c : Catalogue). c.maps) begins.catalogue in
+      let named = subst (λ (names : List Name). IfSome (slice_get names 0) (λ name.
+      FetchesFrom (order.host ∷ []) order.host.0
+      (wanted_at keeping (request_of 0 order.host.0 order.force order.flag) name old) did.outcome from to)) maps
+      did.fetches in
+      let fetches = subst (λ (v : Option MapVersion). FetchesFrom (order.host ∷ []) order.host.0
+      (wanted_of order.store.0 order.store.1 (option_map (λ version. version.order) v) order.force) did.outcome from to)
+      (sym installs.stores.shown) named in
+      record {
+        moves = record {
+          held = installs.stores.held;
+          outcome = did.outcome;
+          fetches = fetches;
+          stores = installs.stores.stores;
+        };
+        few = installs.stores.few;
+        count = installs.count;
+      }
 
   -- the same of equal hosts and sources
   pub did_named : (disks news : List D) (old new : Published D Seen) (served : Catalogue)
       (result : Result Installed XfrFault) (from to : Dialing) (hosts : HostList) (source : List ℕ) → length disks ≡ 1
-      → served ≡ record { own = order.name; maps = order.store ∷ [] } → BeginsLevel history faults served disks old
+      → served ≡ catalogue_of order → BeginsLevel history faults served disks old
       → news ≡ map (λ (kept : Kept D). kept.disk) new.maps → hosts ≡ order.host ∷ [] → source ≡ order.host.0
       → transfers.Transfers keeping hosts (request_of 0 source order.force order.flag) result from to old new
       → Did result from to disks news
   did_named disks news old new served result from to hosts source one named begins given table name did =
-      did_only disks news old new served result from to one named begins given
+      did_only disks news old new result from to one
+      (subst (λ (c : Catalogue). BeginsLevel history faults c disks old) named begins) given
       (subst (λ (h : HostList). transfers.Transfers keeping h (request_of 0 order.host.0 order.force order.flag) result from
       to old new) table
       (subst (λ (s : List ℕ). transfers.Transfers keeping hosts (request_of 0 s order.force order.flag) result from to old
@@ -449,9 +488,8 @@ module _ {D : Type 0} (history : D → Option History) (faults : D → ℕ) (ord
 
   -- what was done to the disk then
   pub record Left (why : SlotFault) (disks news : List D) : Type 0 where
-    pub moves : IsNotLoaded why (only_history history disks) (only_history history news) (total_faults faults disks)
+    pub moves : LeavesUnloaded why (only_history history disks) (only_history history news) (total_faults faults disks)
         (total_faults faults news)
-    pub few : LeavesFew (only_history history disks) (only_history history news)
     pub count : length news ≡ 1
 
   left_by : (why : SlotFault) (before after : D) → IsUnwritten history faults before after
@@ -459,21 +497,19 @@ module _ {D : Type 0} (history : D → Option History) (faults : D → ℕ) (ord
       → (why ≡ slot.DiskFault → HasRisen (faults before) (faults after)) → Left why (before ∷ []) (after ∷ [])
   left_by why before after kept cause risen = record {
     moves = record {
-      cause = cause;
-      disk_fault = λ e. omega (arith, risen e);
-      unwritten = kept.moments;
+      unloaded = record {
+        cause = cause;
+        disk_fault = λ e. omega (arith, risen e);
+        unwritten = kept.moments;
+      };
+      few = leaves_more (history before) (history after) (MayLeave (history before)) _ (λ image left. inl left)
+          kept.moments;
     };
-    few = leaves_more (history before) (history after) (MayLeave (history before)) _ (λ image left. inl left) kept.moments;
     count = refl;
   }
 
-  -- why nothing was loaded
-  abbrev why_of : OpenFault → SlotFault
-  why_of (opening.Refused number why) = why
-  why_of opening.NoMemory = slot.NoMemory
-
   left_one : (fault : OpenFault) (before after : D) → IsUnwritten history faults before after
-      → IsUnopened history faults fault (before ∷ []) (after ∷ []) → Left (why_of fault) (before ∷ []) (after ∷ [])
+      → IsUnopened history faults fault (before ∷ []) (after ∷ []) → Left (why_of_open fault) (before ∷ []) (after ∷ [])
   left_one (opening.Refused number why) before after kept is =
       let stopped = is.1 in
       let refused = by_front history faults stopped.front stopped.opened stopped.before stopped.after stopped.rest before
@@ -484,19 +520,12 @@ module _ {D : Type 0} (history : D → Option History) (faults : D → ℕ) (ord
 
   pub left_only : (fault : OpenFault) (disks news : List D) → length disks ≡ 1
       → AllZip (IsUnwritten history faults) disks news → IsUnopened history faults fault disks news
-      → Left (why_of fault) disks news
+      → Left (why_of_open fault) disks news
   left_only fault [] news one all is = absurd (omega (arith, one))
   left_only fault (disk ∷ another ∷ more) news one all is = absurd (omega (arith, one))
   left_only fault (disk ∷ []) [] one all is = absurd all
   left_only fault (disk ∷ []) (after ∷ other ∷ more) one all is = absurd all.1
   left_only fault (disk ∷ []) (after ∷ []) one all is = left_one fault disk after all.0 is
-
-  -- what stops a transfer then
-  pub unopened_moves : (fault : OpenFault) (from : Dialing) (disks news : List D) → Left (why_of fault) disks news
-      → Moves order (Err (stop_of_open fault)) from from (only_history history disks) (only_history history news)
-      (total_faults faults disks) (total_faults faults news)
-  unopened_moves (opening.Refused number why) from disks news left = left.moves
-  unopened_moves opening.NoMemory from disks news left = left.moves
 
   -- where memory ran out before
   pub forgone_moves : (from : Dialing) (old : Option History) (count : ℕ)

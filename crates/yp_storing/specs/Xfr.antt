@@ -10,7 +10,7 @@ use Rattle.yp_slot.specs.declared.fault.SlotFault.TheVariants as slot
 use Rattle.yp_slot.specs.Loads.{Loads}
 use Rattle.yp_slot.specs.Slots.{HasGeneration}
 use Rattle.yp_slot.specs.Stands.{Stored, stands}
-use Rattle.yp_board.specs.Catalogues.{Name, name_view, catalog_fault}
+use Rattle.yp_board.specs.Catalogues.{Catalogue, Name, name_view, catalog_fault}
 use Rattle.yp_board.specs.declared.catalog.MapName.{MapName}
 use Rattle.yp_publish.specs.declared.install.Installed.{Installed}
 use Rattle.yp_publish.specs.declared.install.Origin.TheVariants.{Fetched}
@@ -51,6 +51,10 @@ pub record Order : Type 0 where
 abbrev pub order_of : List ℕ → Bool → Name → Host → Option Bool → Order
 order_of name force store host flag =
     record { name = name; force = force; store = store; host = host; flag = flag }
+
+-- the catalogue of the map alone
+abbrev pub catalogue_of : Order → Catalogue
+catalogue_of order = record { own = order.name; maps = order.store ∷ [] }
 
 -- A catalogue may have the map alone, a file may have its name, and its disk is the only one.
 pub record IsReady (order : Order) (disks : List Name) : Type 0 where
@@ -118,25 +122,51 @@ Comes order held DiskFailed (Ok version) (Err why) = IsNotStored (against order 
 
 -- ---- the dial, and the disk of the map
 
--- What a transfer does to its dial and to the disk of its map, whose file is told or not and was loaded, and how often
--- the disk has failed, before and after: the four calls, or those up to the refusal, were made on one wire to the host,
--- what came of them is stored or refused, and a crash leaves what stood or what was fetched.
-pub record TransfersOn (order : Order) (result : Result Installed XfrFault) (before after : Dialing)
+-- What came of a fetch was stored on the disk of a map whose file had this, or wasn't, with what the disk told before and
+-- after, and how often it has failed. A crash leaves what stood or what was fetched.
+pub record StoresOn (order : Order) (held : Held) (outcome : Outcome) (result : Result Installed XfrFault)
     (old new : Option History) (faults faults' : ℕ) : Type 0 where
-  pub held : Held
   pub is_held : IsHeld old held
-  pub outcome : Outcome
-  pub fetches : FetchesFrom (order.host ∷ []) order.host.0 (wanted order held) outcome before after
   pub comes : Comes order held (HasRisen faults faults') outcome result
   pub stored : OnOk result ((image : List ℕ) → MayLeave new image → IsFetchedIn order held outcome image)
   pub any_moment : LeavesOnly old new (IsBeforeOrFetched order held outcome old)
   pub unwritten : IsUnwanted order held outcome → LeavesOnly old new (MayLeave old)
+
+-- The same of the only map of a publisher, which shows this version.
+pub record StoresFetched (order : Order) (shows : Option MapVersion) (outcome : Outcome)
+    (result : Result Installed XfrFault) (old new : Option History) (faults faults' : ℕ) : Type 0 where
+  pub held : Held
+  pub shown : held.version ≡ shows
+  pub stores : StoresOn order held outcome result old new faults faults'
+  pub few : LeavesFew old new
+
+-- What a transfer does to its dial and to the disk of its map: the four calls, or those up to the refusal, were made on
+-- one wire to the host, and what came of them is stored or refused.
+pub record TransfersOn (order : Order) (result : Result Installed XfrFault) (before after : Dialing)
+    (old new : Option History) (faults faults' : ℕ) : Type 0 where
+  pub held : Held
+  pub outcome : Outcome
+  pub fetches : FetchesFrom (order.host ∷ []) order.host.0 (wanted order held) outcome before after
+  pub stores : StoresOn order held outcome result old new faults faults'
 
 -- The file of the map wasn't loaded, and nothing was written to it.
 pub record IsNotLoaded (why : SlotFault) (old new : Option History) (faults faults' : ℕ) : Type 0 where
   pub cause : IfSome old (λ h. Loads (stands h.state.reads) (Err why))
   pub disk_fault : why ≡ slot.DiskFault → HasRisen faults faults'
   pub unwritten : LeavesOnly old new (MayLeave old)
+
+-- The same, and what a crash may leave stays short.
+pub record LeavesUnloaded (why : SlotFault) (old new : Option History) (faults faults' : ℕ) : Type 0 where
+  pub unloaded : IsNotLoaded why old new faults faults'
+  pub few : LeavesFew old new
+
+-- The file of the map was loaded, a publisher showed this version of it, and nothing was written to it.
+pub record KeepsLoaded (shows : Option MapVersion) (old new : Option History) (faults faults' : ℕ) : Type 0 where
+  pub held : Held
+  pub shown : held.version ≡ shows
+  pub is_held : IsHeld old held
+  pub unwritten : LeavesOnly old new (MayLeave old)
+  pub few : LeavesFew old new
 
 -- ---- what the code has
 
@@ -149,10 +179,10 @@ order_view job = record {
   flag = job.flag;
 }
 
--- what stops a transfer where no publisher is opened
-abbrev pub stop_of_open : OpenFault → XfrStop
-stop_of_open (opening.Refused map why) = stop.Unloaded why
-stop_of_open opening.NoMemory = stop.Unloaded slot.NoMemory
+-- why the file of a map isn't loaded where no publisher is opened
+abbrev pub why_of_open : OpenFault → SlotFault
+why_of_open (opening.Refused map why) = why
+why_of_open opening.NoMemory = slot.NoMemory
 
 abbrev pub Moves : Order → Result Installed XfrStop → (before after : Dialing) → (old new : Option History)
     → (faults faults' : ℕ) → Type 0

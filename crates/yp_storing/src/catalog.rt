@@ -8,7 +8,7 @@ use yp_board::{Catalog, CatalogFault, MapName};
 use yp_io::NoMemory;
 
 /// The catalogue of one map, of the host `own`.
-pub(crate) fn catalog_of(alloc: Global, own: &[u8], store: &MapName) -> Result<Catalog, NoMemory>
+pub fn catalog_of(alloc: Global, own: &[u8], store: &MapName) -> Result<Catalog, NoMemory>
     requires { catalog_fault own.now (name_view store.now ∷ []) ≡ None }
     ensures { IfOk result (λ catalog. catalog ≡ record { own = own.now; maps = name_view store.now ∷ [] }) }
 {

@@ -9,10 +9,13 @@
 mod build;
 mod catalog;
 mod check;
+mod fetched;
 mod revnet;
 mod xfr;
 
 pub use build::build_map;
+pub use catalog::catalog_of;
 pub use check::check_map;
+pub use fetched::{NotLoaded, hand_back, open_only, shown_order, store_fetched};
 pub use revnet::reverse_map;
-pub use xfr::transfer_map;
+pub use xfr::{XfrStop, tell_transfer, transfer_map};

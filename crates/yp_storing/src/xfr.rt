@@ -9,10 +9,11 @@ ghost use Rattle.yp_office.specs.Disks.{names_of, history_of, faults_of, only_hi
 ghost use Rattle.yp_office.specs.Seeing.{seeing, IsPassedOn};
 ghost use Rattle.yp_office.specs.Status.{IsTellable};
 ghost use Rattle.yp_storing.specs.Build.{LeavesFew, TellsLine};
-ghost use Rattle.yp_storing.specs.Xfr.{order_view, IsReady, xfr_line, stop_of_open, Moves, is_undialed, IsEnd};
+ghost use Rattle.yp_storing.specs.Xfr.{order_view, catalogue_of, IsReady, xfr_line, Moves, is_undialed, IsEnd};
 ghost use Rattle.yp_storing.specs.Xfr.{XfrDoes, xfr_may_end};
 
 use crate::catalog::catalog_of;
+use crate::fetched::open_only;
 use std::alloc::Global;
 use std::random::RandomSource;
 use yp_board::{Catalog, MapName};
@@ -21,14 +22,14 @@ use yp_office::{
     Apart, Line, NamedDisk, Office, Status, add, add_map, add_number, put_together, status_of_file,
     take_apart,
 };
-use yp_publish::{Installed, OpenFault, open_publisher};
+use yp_publish::Installed;
 use yp_slot::SlotFault;
 use yp_words::{HostWord, XfrJob};
 use yp_xfr::{Hosts, XfrFault, transfer};
 
 /// Why a map isn't transferred.
 #[derive(Clone, Copy, Debug)]
-pub(crate) enum XfrStop {
+pub enum XfrStop {
     /// Its file isn't loaded.
     Unloaded(SlotFault),
     /// It isn't fetched or stored.
@@ -44,16 +45,6 @@ impl From<NoMemory> for XfrStop {
 
     fn from(_fault: NoMemory) -> Self {
         XfrStop::Unloaded(SlotFault::NoMemory)
-    }
-}
-
-/// What stops a transfer where no publisher is opened.
-fn stop_of_open(fault: OpenFault) -> XfrStop
-    ensures { result ≡ stop_of_open fault }
-{
-    match fault {
-        OpenFault::Refused { fault, .. } => XfrStop::Unloaded(fault),
-        OpenFault::NoMemory => XfrStop::Unloaded(SlotFault::NoMemory),
     }
 }
 
@@ -94,7 +85,7 @@ fn transfer_over<D: Disk, A: Dial>(
     disks: Vec<D>,
     dial: &mut A,
 ) -> (Result<Installed, XfrStop>, Vec<D>)
-    requires catalogue { catalog ≡ record { own = job.now.name.items; maps = name_view job.now.store ∷ [] } }
+    requires catalogue { catalog ≡ catalogue_of (order_view job.now) }
     requires hosts { hosts.now ≡ host_view job.now.host ∷ [] }
     requires only { length disks.items ≡ 1 }
     ensures moves { Moves (order_view job.now) result.0
@@ -106,8 +97,8 @@ fn transfer_over<D: Disk, A: Dial>(
     ensures letters { A.letters dial.new ≡ A.letters dial.old }
     ensures only { length result.1.items ≡ 1 }
 {
-    match open_publisher(alloc, rt, catalog, disks) {
-        Err(refused) => (Err(stop_of_open(refused.fault)), refused.disks),
+    match open_only(alloc, rt, catalog, disks) {
+        Err(refused) => (Err(XfrStop::Unloaded(refused.why)), refused.disks),
         Ok(mut publisher) => {
             let done = transfer(
                 alloc,
@@ -194,13 +185,19 @@ fn tell_stored<K: Sink>(sink: &mut K, store: &MapName, installed: &Installed) ->
 }
 
 /// Tells what was stored, or what stopped the transfer.
-fn tell_end<K: Sink>(sink: &mut K, store: MapName, done: Result<Installed, XfrStop>) -> Status
+pub fn tell_transfer<K: Sink>(
+    sink: &mut K,
+    store: MapName,
+    done: Result<Installed, XfrStop>,
+) -> Status
     requires { IsNamed (name_view store) }
     ensures ends { IsEnd (name_view store) done result (K.output sink.old) (K.output sink.new) }
     ensures may_end { IsTrue (xfr_may_end result) }
     ensures tellable { IsTellable result }
     ensures flushed { result ≢ Status.WriteFault → IsTrue (K.flushed sink.old) → IsTrue (K.flushed sink.new) }
     ensures write_fault { result ≡ Status.WriteFault → HasRisen (K.faults sink.old) (K.faults sink.new) }
+    ensures disk_fault { (map : MapName) → result ≡ Status.DiskFault map
+        → done ≡ Err (XfrStop.Unloaded SlotFault.DiskFault) }
     ensures silent { OnErr done (sink.new ≡ sink.old) }
 {
     match done {
@@ -226,5 +223,5 @@ pub fn transfer_map<S: Source, K: Sink, D: Disk, C: Clock, A: Dial, I: Inbox, T:
     ensures tellable { IsTellable result }
 {
     let done = transfer_on(alloc, rt, &job, &mut office.disks, &mut office.dial);
-    tell_end(&mut office.wire.sink, job.store, done)
+    tell_transfer(&mut office.wire.sink, job.store, done)
 }

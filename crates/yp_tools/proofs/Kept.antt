@@ -1,7 +1,7 @@
 -- What every command keeps: the names of the disks, and the moment that the clock tells.
 use Rattle.std.proofs.Common.{◌≡◌, List, refl, ap, ◌∙◌}
 use Rattle.yp_session.specs.Wires.{Wire}
-use Rattle.yp_words.specs.Words.{Meaning, Once, Session, Check, Build, Xfr, Sample, Bind, Portmap, Getport, Ask, Revnet}
+use Rattle.yp_words.specs.Words.{Meaning, Once, Session, Check, Build, Xfr, Walk, Sample, Bind, Portmap, Getport, Ask, Revnet}
 use Rattle.yp_office.specs.declared.office.Office.{Office}
 use Rattle.yp_office.specs.declared.status.Status.{Status}
 use Rattle.yp_office.specs.Disks.{names_of}
@@ -29,6 +29,10 @@ module _ {S K D C A I T : Type 0} (seen : Seeing S K D C A I T) (status : Status
   command_keeps (Xfr name force store host flag) h = record {
     names = h.0.does.names;
     told = ap (λ (o : Office S K D C A I T). seen.clock.moment o.clock) h.0.does.stays;
+  }
+  command_keeps (Walk name force store host port turns flag) h = record {
+    names = h.0.names;
+    told = ap (λ (o : Office S K D C A I T). seen.clock.moment o.clock) h.0.stays;
   }
   command_keeps (Revnet name store) h = record { names = h.0.names; told = h.0.told }
   command_keeps (Sample start count) h = by_stays (record old { wire = record old.wire { sink = new.wire.sink } }) h.0.stays refl refl

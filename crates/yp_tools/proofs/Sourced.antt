@@ -126,7 +126,7 @@ module _ {S K D C A I T : Type 0} (seen : Seeing S K D C A I T) (order : Order) 
         after version (dialing seen old) (dialing seen new) domain map answers came
         (subst (λ (o : Outcome). FetchesFrom (order.host ∷ []) order.host.0 (wanted order did.did.held) o
         (dialing seen old) (dialing seen new)) is did.did.fetches))
-        did.did.is_held did.did.comes did.did.stored did.tells told)
+        did.did.stores.is_held did.did.stores.comes did.did.stores.stored did.tells told)
         (λ did. absurd (not_loaded order.store did.why status did.tells told)) does.does
 
   module _ (held : Held) (version : MapVersion) (told : IsToldHeld (history seen old) held)
@@ -171,7 +171,7 @@ module _ {S K D C A I T : Type 0} (seen : Seeing S K D C A I T) (order : Order) 
         → Fetched (wanted order held) (place_of 1 0 stream) (Ok version) → Transfers seen order status old new
         → (status ≡ Done) ⊎ (status ≡ NoMemory)
     transferred stream wire one came fetched did =
-        let same = held_same (history seen old) did.did.held held did.did.is_held told in
+        let same = held_same (history seen old) did.did.held held did.did.stores.is_held told in
         let asked = subst (λ (h : Held). FetchesFrom (order.host ∷ []) order.host.0 (wanted order h) did.did.outcome
         (dialing seen old) (dialing seen new)) same did.did.fetches in
         let said = wire order.host.1 stream (order.host ∷ []) order.host.0 (wanted order held) did.did.outcome
@@ -179,7 +179,7 @@ module _ {S K D C A I T : Type 0} (seen : Seeing S K D C A I T) (order : Order) 
         let is : (did.did.outcome ≡ Ok version) ⊎ (did.did.outcome ≡ Err fault.NoMemory) =
         ⊎_elim (λ here. inl (one (wanted order held) (place_of 1 0 stream) did.did.outcome (Ok version) here fetched))
         (λ failed. ⊎_elim (λ risen. absurd (dials risen.1)) (λ memory. inr memory) failed) said in
-        by_outcome did.did.outcome did.did.outcome did.did.held did.result same refl is did.did.comes did.tells
+        by_outcome did.did.outcome did.did.outcome did.did.held did.result same refl is did.did.stores.comes did.tells
 
     unloaded : (why : SlotFault) (shown : Status) → shown ≡ status → Fails order.store why shown
         → IfSome (history seen old) (λ h. Loads (stands h.state.reads) (Err why))

@@ -1,7 +1,7 @@
 -- What the program does, by its command: one line each.
 use Rattle.std.specs.Prelude.{◌≡◌, ◌⊎◌, ℕ, Bool, IsTrue, List, Result, Ok, Err}
 use Rattle.yp_session.specs.Wires.{Wire}
-use Rattle.yp_words.specs.Words.{Meaning, Once, Session, Check, Build, Xfr}
+use Rattle.yp_words.specs.Words.{Meaning, Once, Session, Check, Build, Xfr, Walk}
 use Rattle.yp_words.specs.Words.{Sample, Bind, Portmap, Getport, Ask, TakesMemory, Revnet}
 use Rattle.yp_words.specs.declared.words.ParseFault.{ParseFault}
 use Rattle.yp_words.specs.declared.words.ParseFault.TheVariants as fault
@@ -19,6 +19,7 @@ use Rattle.yp_storing.specs.Xfr.{order_of, xfr_may_end}
 use Rattle.yp_mailing.specs.Bind.{BindDoes, bind_may_end, servers_of}
 use Rattle.yp_mailing.specs.Getport.{GetportDoes, getport_may_end, begun}
 use Rattle.yp_mailing.specs.Portmap.{PortmapDoes, portmap_may_end}
+use Rattle.yp_walking.specs.Walk.{WalkDoes, walk_may_end}
 use Rattle.yp_tools.specs.Asking.{AskDoes, ask_may_end}
 use Rattle.yp_tools.specs.Transferring.{TransferDoes}
 use Rattle.yp_tools.specs.declared.program.Outside.{Outside}
@@ -34,6 +35,8 @@ CommandDoes seen (Build name store flag) status old new before after =
     BuildDoes seen name store flag status old new × (after ≡ before)
 CommandDoes seen (Xfr name force store host flag) status old new before after =
     TransferDoes seen (order_of name force store host flag) status old new × (after ≡ before)
+CommandDoes seen (Walk name force store host port turns flag) status old new before after =
+    WalkDoes seen (order_of name force store host flag) turns status old new × (after ≡ before)
 CommandDoes seen (Revnet name store) status old new before after =
     RevnetDoes seen name store status old new × (after ≡ before)
 CommandDoes seen (Sample start count) status old new before after =
@@ -69,6 +72,7 @@ may_end (Session own peer stores hosts) status = session_may_end status
 may_end (Check store) status = check_may_end status
 may_end (Build name store flag) status = build_may_end status
 may_end (Xfr name force store host flag) status = xfr_may_end status
+may_end (Walk name force store host port turns flag) status = walk_may_end status
 may_end (Revnet name store) status = revnet_may_end status
 may_end (Sample start count) status = sample_may_end status
 may_end (Bind port policy turns domain hosts) status = bind_may_end status

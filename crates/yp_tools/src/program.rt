@@ -20,6 +20,7 @@ use yp_office::{NamedDisk, Office, Status};
 use yp_serving::{serve_once, serve_session, tell_sample};
 use yp_session::{Trail, Witness};
 use yp_storing::{build_map, check_map, reverse_map};
+use yp_walking::walk_map;
 use yp_words::{Command, ParseFault, parse};
 
 /// What the program reaches outside itself.
@@ -74,6 +75,7 @@ fn obey<S: Source, K: Sink, D: Disk, C: Clock, A: Dial, I: Inbox, T: Texts, W: W
             &mut office,
         ),
         Command::Xfr(job) => transfer(alloc, rt, job, &mut office),
+        Command::Walk(job) => walk_map(alloc, rt, job, &mut office),
         Command::Revnet { name, store } => reverse_map(alloc, rt, name, store, &mut office),
         Command::Bind {
             policy,

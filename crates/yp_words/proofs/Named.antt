@@ -17,6 +17,7 @@ use Rattle.yp_words.specs.Forms.{Form, has_form, before, after, is_name, is_stor
 use Rattle.yp_words.specs.Forms.{is_host, is_reverse}
 use Rattle.yp_words.specs.Words.{Meaning, Further, Sentence, once, session, check, build, build_flagged, xfr}
 use Rattle.yp_words.specs.Words.{xfr_flagged, sample, bind, portmap, getport, cat, catk, which, poll, IsOneMap, revnet}
+use Rattle.yp_words.specs.Words.{walk, walk_flagged}
 use Rattle.yp_words.specs.Words.{match_key, maps, innetgr, asking, sentences, further_fitting}
 use Rattle.yp_words.specs.Words.{serving_fitting, joins, is_new_store, served, fitting, is_whole, asked, name_of}
 use Rattle.yp_words.specs.Words.{kind_of, joins_servers, servers_fitting, peer_word, host_of, IsNamed, HasNames}
@@ -306,6 +307,22 @@ xfr_flagged_named (first ∷ name ∷ []) h = absurd h.forms.1.1
 xfr_flagged_named (first ∷ name ∷ mode ∷ []) h = absurd h.forms.1.1.1
 xfr_flagged_named (first ∷ name ∷ mode ∷ store ∷ more) h = one_map name store h.forms.1.0 h.forms.1.1.1.0
 
+walk_named : (words : List (List ℕ)) → Fit walk words → HasNames (walk.asks words)
+unfolding HaveForms
+walk_named [] h = absurd h.forms
+walk_named (first ∷ []) h = absurd h.forms.1
+walk_named (first ∷ name ∷ []) h = absurd h.forms.1.1
+walk_named (first ∷ name ∷ mode ∷ []) h = absurd h.forms.1.1.1
+walk_named (first ∷ name ∷ mode ∷ store ∷ more) h = one_map name store h.forms.1.0 h.forms.1.1.1.0
+
+walk_flagged_named : (words : List (List ℕ)) → Fit walk_flagged words → HasNames (walk_flagged.asks words)
+unfolding HaveForms
+walk_flagged_named [] h = absurd h.forms
+walk_flagged_named (first ∷ []) h = absurd h.forms.1
+walk_flagged_named (first ∷ name ∷ []) h = absurd h.forms.1.1
+walk_flagged_named (first ∷ name ∷ mode ∷ []) h = absurd h.forms.1.1.1
+walk_flagged_named (first ∷ name ∷ mode ∷ store ∷ more) h = one_map name store h.forms.1.0 h.forms.1.1.1.0
+
 revnet_named : (words : List (List ℕ)) → Fit revnet words → HasNames (revnet.asks words)
 unfolding HaveForms
 revnet_named [] h = absurd h.forms
@@ -441,7 +458,16 @@ asked_named words meaning e =
               flagged_named,
               (
                 xfr_named,
-                (xfr_flagged_named, (revnet_named, (sample_named, (bind_named, (portmap_named, (getport_named, questions)))))),
+                (
+                  xfr_flagged_named,
+                  (
+                    walk_named,
+                    (
+                      walk_flagged_named,
+                      (revnet_named, (sample_named, (bind_named, (portmap_named, (getport_named, questions))))),
+                    ),
+                  ),
+                ),
               ),
             ),
           ),

@@ -49,6 +49,8 @@ pub data Meaning : Type 0 where
   Build : (name : List ℕ) (store : Name) (flag : Option Bool) → Meaning
   -- the own name, whether the order doesn't count, the map, the host that has it, and the flag
   Xfr : (name : List ℕ) (force : Bool) (store : Name) (host : Host) (flag : Option Bool) → Meaning
+  -- the same, and between the host and the flag the port and the most turns
+  Walk : (name : List ℕ) (force : Bool) (store : Name) (host : Host) (port turns : ℕ) (flag : Option Bool) → Meaning
   -- the own name, and the map of netgroups by users or by hosts
   Revnet : (name : List ℕ) (store : Name) → Meaning
   Sample : (start count : ℕ) → Meaning
@@ -169,6 +171,26 @@ xfr_flagged = record {
       (host_of (word_at 4 words)) (Some (is_secure (word_at 5 words)));
 }
 
+abbrev pub walk : Sentence
+walk = record {
+  forms =
+      form.Exactly (codes "walk") ∷ form.Name ∷ form.Mode ∷ form.Store ∷ form.Host ∷ form.Port ∷ form.Number ∷ [];
+  further = NoMore;
+  asks = λ words. Walk (word_at 1 words) (is_force (word_at 2 words)) (name_of (word_at 3 words))
+      (host_of (word_at 4 words)) (port_value (word_at 5 words)) (value_of (word_at 6 words)) None;
+}
+
+abbrev pub walk_flagged : Sentence
+walk_flagged = record {
+  forms =
+      form.Exactly (codes "walk") ∷ form.Name ∷ form.Mode ∷ form.Store ∷ form.Host ∷ form.Port ∷ form.Number
+      ∷ form.Flag ∷ [];
+  further = NoMore;
+  asks = λ words. Walk (word_at 1 words) (is_force (word_at 2 words)) (name_of (word_at 3 words))
+      (host_of (word_at 4 words)) (port_value (word_at 5 words)) (value_of (word_at 6 words))
+      (Some (is_secure (word_at 7 words)));
+}
+
 abbrev pub revnet : Sentence
 revnet = record {
   forms = form.Exactly (codes "revnet") ∷ form.Name ∷ form.ReverseStore ∷ [];
@@ -262,8 +284,8 @@ innetgr = record {
 
 unfoldable pub sentences : List Sentence
 sentences =
-    once ∷ session ∷ check ∷ build ∷ build_flagged ∷ xfr ∷ xfr_flagged ∷ revnet ∷ sample ∷ bind ∷ portmap ∷ getport
-    ∷ cat ∷ catk ∷ which ∷ poll ∷ match_key ∷ maps ∷ innetgr ∷ []
+    once ∷ session ∷ check ∷ build ∷ build_flagged ∷ xfr ∷ xfr_flagged ∷ walk ∷ walk_flagged ∷ revnet ∷ sample
+    ∷ bind ∷ portmap ∷ getport ∷ cat ∷ catk ∷ which ∷ poll ∷ match_key ∷ maps ∷ innetgr ∷ []
 
 -- how many words at the front are of a form
 abbrev pub each_fitting : Form → List (List ℕ) → ℕ
@@ -354,6 +376,7 @@ stores_of (Session own peer stores hosts) = stores
 stores_of (Check store) = store ∷ []
 stores_of (Build name store flag) = store ∷ []
 stores_of (Xfr name force store host flag) = store ∷ []
+stores_of (Walk name force store host port turns flag) = store ∷ []
 stores_of (Revnet name store) = store ∷ netgroup_of store ∷ []
 stores_of (Sample start count) = []
 stores_of (Bind port policy turns domain hosts) = []
@@ -376,6 +399,7 @@ port_of (Session own peer stores hosts) = None
 port_of (Check store) = None
 port_of (Build name store flag) = None
 port_of (Xfr name force store host flag) = None
+port_of (Walk name force store host port turns flag) = Some port
 port_of (Revnet name store) = None
 port_of (Sample start count) = None
 port_of (Bind port policy turns domain hosts) = Some port
@@ -398,6 +422,9 @@ meaning (command.Session name addr stores hosts) =
 meaning (command.Check store) = Check (name_view store)
 meaning (command.Build name store flag) = Build name.items (name_view store) flag
 meaning (command.Xfr job) = Xfr job.name.items job.force (name_view job.store) (host_view job.host) job.flag
+meaning (command.Walk job) =
+    Walk job.xfr.name.items job.xfr.force (name_view job.xfr.store) (host_view job.xfr.host) job.port job.turns
+    job.xfr.flag
 meaning (command.Revnet name store) = Revnet name.items (name_view store)
 meaning (command.Sample start count) = Sample start count
 meaning (command.Bind port policy turns domain hosts) =
@@ -430,6 +457,8 @@ asks_of task.Build = build.asks
 asks_of task.BuildFlagged = build_flagged.asks
 asks_of task.Xfr = xfr.asks
 asks_of task.XfrFlagged = xfr_flagged.asks
+asks_of task.Walk = walk.asks
+asks_of task.WalkFlagged = walk_flagged.asks
 asks_of task.Revnet = revnet.asks
 asks_of task.Sample = sample.asks
 asks_of task.Bind = bind.asks
@@ -471,6 +500,7 @@ HasNames (Session own peer stores hosts) =
 HasNames (Check store) = IsNamed store
 HasNames (Build name store flag) = IsOneMap name store × IsSome (kind_of store)
 HasNames (Xfr name force store host flag) = IsOneMap name store
+HasNames (Walk name force store host port turns flag) = IsOneMap name store
 HasNames (Revnet name store) = (length name ≤ name_max) × IsNamed store × (is_reverse store.1 ≡ true)
 HasNames (Sample start count) = ⊤
 HasNames (Bind port policy turns domain hosts) = (length domain ≤ name_max) × (length hosts ≤ servers_max)
@@ -487,6 +517,7 @@ TakesMemory (Session own peer stores hosts) = Unit {0}
 TakesMemory (Check store) = Unit {0}
 TakesMemory (Build name store flag) = Unit {0}
 TakesMemory (Xfr name force store host flag) = Unit {0}
+TakesMemory (Walk name force store host port turns flag) = Unit {0}
 TakesMemory (Revnet name store) = Unit {0}
 TakesMemory (Sample start count) = ⊥
 TakesMemory (Bind port policy turns domain hosts) = Unit {0}

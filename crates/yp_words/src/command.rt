@@ -34,6 +34,17 @@ pub struct XfrJob {
     pub flag: Option<bool>,
 }
 
+/// A map that is to be fetched in datagrams and stored.
+#[derive(Debug, Drop)]
+pub struct WalkJob {
+    /// What is fetched of which host, and how it is stored.
+    pub xfr: XfrJob,
+    /// The port at which datagrams are received.
+    pub port: u16,
+    /// The most turns.
+    pub turns: u32,
+}
+
 /// What the words of the command line ask for.
 #[derive(Debug, Drop)]
 pub enum Command {
@@ -63,6 +74,8 @@ pub enum Command {
     },
     /// Fetches a map, and installs it where its order is over the one that is shown, or in any case.
     Xfr(XfrJob),
+    /// Fetches a map row by row in datagrams, and installs it as `Xfr` does.
+    Walk(WalkJob),
     /// Makes this map, of netgroups by users or by hosts, of the domain's netgroups, and installs it. `name` is its
     /// master.
     Revnet {

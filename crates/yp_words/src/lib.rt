@@ -10,6 +10,6 @@ mod sentence;
 mod serving;
 mod words;
 
-pub use command::{Command, HostWord, KeyValue, XfrJob};
+pub use command::{Command, HostWord, KeyValue, WalkJob, XfrJob};
 pub use form::BY_USER;
 pub use words::{ParseFault, disk_names, netgroup_of, parse, port_of, stores_of};

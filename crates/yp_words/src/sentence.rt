@@ -21,6 +21,8 @@ pub enum Task {
     BuildFlagged,
     Xfr,
     XfrFlagged,
+    Walk,
+    WalkFlagged,
     Revnet,
     Sample,
     Bind,
@@ -55,7 +57,7 @@ struct Sentence {
 }
 
 /// All sentences.
-const SENTENCES: [Sentence; 19] = [
+const SENTENCES: [Sentence; 21] = [
     Sentence {
         task: Task::Once,
         forms: &[Form::Exactly("once"), Form::Store],
@@ -105,6 +107,33 @@ const SENTENCES: [Sentence; 19] = [
             Form::Mode,
             Form::Store,
             Form::Host,
+            Form::Flag,
+        ],
+        further: Further::NoMore,
+    },
+    Sentence {
+        task: Task::Walk,
+        forms: &[
+            Form::Exactly("walk"),
+            Form::Name,
+            Form::Mode,
+            Form::Store,
+            Form::Host,
+            Form::Port,
+            Form::Number,
+        ],
+        further: Further::NoMore,
+    },
+    Sentence {
+        task: Task::WalkFlagged,
+        forms: &[
+            Form::Exactly("walk"),
+            Form::Name,
+            Form::Mode,
+            Form::Store,
+            Form::Host,
+            Form::Port,
+            Form::Number,
             Form::Flag,
         ],
         further: Further::NoMore,

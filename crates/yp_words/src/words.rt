@@ -8,11 +8,11 @@ ghost use Rattle.yp_words.specs.Words.{given_at, question_of};
 ghost use Rattle.yp_words.specs.Words.{command_of, disk_names, stores_of, port_of, row_view, host_view, meaning, texts};
 ghost use Rattle.yp_words.specs.Words.{asks_of, once, session, check, sample, portmap, getport, Build};
 ghost use Rattle.yp_words.specs.Words.{Xfr, bind, port_value, policy_of, TakesMemory, IsSentenceOfWords, revnet};
-ghost use Rattle.yp_words.specs.Words.{netgroup_of};
+ghost use Rattle.yp_words.specs.Words.{netgroup_of, Walk};
 ghost use Rattle.yp_words.specs.Forms.{is_force};
 ghost use Rattle.yp_words.specs.Words.{IsUsage, HasNames};
 
-use crate::command::{Command, HostWord, KeyValue, XfrJob};
+use crate::command::{Command, HostWord, KeyValue, WalkJob, XfrJob};
 use crate::form::{
     ANY, FORCE, SECURE, YPSET, YPSETME, address_of, cut_at, is_host, is_store, number_of,
     port_of as port_in,
@@ -185,17 +185,39 @@ fn build_of(alloc: Global, words: &[String], flag: Option<bool>) -> Result<Comma
     })
 }
 
-fn xfr_of(alloc: Global, words: &[String], flag: Option<bool>) -> Result<Command, AllocError>
-    ensures { IfOk result (λ command. meaning command
+/// The job of a transfer, of the words behind the first.
+fn job_of(alloc: Global, words: &[String], flag: Option<bool>) -> Result<XfrJob, AllocError>
+    ensures { IfOk result (λ job. meaning (Command.Xfr job)
         ≡ Xfr (word_at 1 (texts words.now)) (is_force (word_at 2 (texts words.now)))
         (name_of (word_at 3 (texts words.now))) (host_of (word_at 4 (texts words.now))) flag) }
 {
-    Ok(Command::Xfr(XfrJob {
+    Ok(XfrJob {
         name: Vec::from_slice(alloc, word_at(words, 1).as_bytes())?,
         force: word_at(words, 2) == FORCE,
         store: store_of(alloc, word_at(words, 3))?,
         host: host_of(alloc, word_at(words, 4))?,
         flag,
+    })
+}
+
+fn xfr_of(alloc: Global, words: &[String], flag: Option<bool>) -> Result<Command, AllocError>
+    ensures { IfOk result (λ command. meaning command
+        ≡ Xfr (word_at 1 (texts words.now)) (is_force (word_at 2 (texts words.now)))
+        (name_of (word_at 3 (texts words.now))) (host_of (word_at 4 (texts words.now))) flag) }
+{
+    Ok(Command::Xfr(job_of(alloc, words, flag)?))
+}
+
+fn walk_of(alloc: Global, words: &[String], flag: Option<bool>) -> Result<Command, AllocError>
+    ensures { IfOk result (λ command. meaning command
+        ≡ Walk (word_at 1 (texts words.now)) (is_force (word_at 2 (texts words.now)))
+        (name_of (word_at 3 (texts words.now))) (host_of (word_at 4 (texts words.now)))
+        (port_value (word_at 5 (texts words.now))) (value_of (word_at 6 (texts words.now))) flag) }
+{
+    Ok(Command::Walk(WalkJob {
+        xfr: job_of(alloc, words, flag)?,
+        port: port_value(word_at(words, 5)),
+        turns: value_of(word_at(words, 6)),
     }))
 }
 
@@ -369,6 +391,8 @@ fn command_for(alloc: Global, task: Task, words: &[String]) -> Result<Command, A
         Task::BuildFlagged => build_of(alloc, words, Some(word_at(words, 3) == SECURE)),
         Task::Xfr => xfr_of(alloc, words, None),
         Task::XfrFlagged => xfr_of(alloc, words, Some(word_at(words, 5) == SECURE)),
+        Task::Walk => walk_of(alloc, words, None),
+        Task::WalkFlagged => walk_of(alloc, words, Some(word_at(words, 7) == SECURE)),
         Task::Revnet => revnet_of(alloc, words),
         Task::Sample => Ok(sample_of(words)),
         Task::Bind => bind_of(alloc, words),
@@ -404,6 +428,7 @@ pub fn stores_of(alloc: Global, command: &Command) -> Result<Vec<MapName>, NoMem
         Command::Check { store } => only_name(alloc, store),
         Command::Build { store, .. } => only_name(alloc, store),
         Command::Xfr(job) => only_name(alloc, &job.store),
+        Command::Walk(job) => only_name(alloc, &job.xfr.store),
         Command::Revnet { store, .. } => with_netgroup(alloc, store),
         Command::Session { stores, .. } => copy_names(alloc, stores),
         Command::Once { .. } => return Ok(Vec::new(alloc)),
@@ -429,6 +454,7 @@ pub fn port_of(command: &Command) -> Option<u16>
         Command::Check { .. } => None,
         Command::Build { .. } => None,
         Command::Xfr(_) => None,
+        Command::Walk(job) => Some(job.port),
         Command::Revnet { .. } => None,
         Command::Sample { .. } => None,
         Command::Bind { port, .. } => Some(*port),

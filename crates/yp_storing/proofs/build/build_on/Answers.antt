@@ -1,6 +1,5 @@
 use Rattle.std.proofs.Common.{◌∙◌, sym}
-use Rattle.yp_office.specs.Disks.{history_of, faults_of, only_history, total_faults}
-use Rattle.yp_storing.specs.Build.{job_view, BuildsOn}
+use Rattle.yp_storing.specs.Build.{job_view}
 use Rattle.yp_storing.proofs.Checking.{named_one}
 use Rattle.yp_storing.proofs.OnDisk.{same_disks}
 use Rattle.yp_storing.proofs.build.build_on.Goals as goal

@@ -1,6 +1,5 @@
-use Rattle.std.proofs.Common.{◌≡◌, ◌∙◌, ◌+◌, ℕ, length, Option, Some, None, Ok, Err, refl, sym, ap, rules}
+use Rattle.std.proofs.Common.{◌≡◌, ◌∙◌, ◌+◌, length, Some, None, Ok, refl, ap, rules}
 use Rattle.std.specs.Prelude.{IfSome}
-use Rattle.yp_io.specs.Disk.{MayLeave}
 use Rattle.yp_version.specs.Versions.{MapVersion}
 use Rattle.yp_slot.specs.Loads.{Loads}
 use Rattle.yp_slot.specs.Stands.{stands}
@@ -8,7 +7,7 @@ use Rattle.yp_slot.specs.Slots.{Held}
 use Rattle.yp_board.specs.Catalogues.{name_view}
 use Rattle.yp_storing.specs.Build.{last_view}
 use Rattle.yp_storing.specs.Check.{IsOnlyRead}
-use Rattle.yp_storing.specs.Revnet.{job_of, field_of, IsOf}
+use Rattle.yp_storing.specs.Revnet.{job_of, field_of}
 use Rattle.yp_storing.proofs.Reversing.{renews_err, fails, built_is, risen_first, risen_second, risen_later, made_as, unmade_as}
 use Rattle.yp_storing.proofs.Reversing.{store_unloaded, netgroup_unloaded, none_stands, unmade, unstored, renewed}
 use Rattle.yp_storing.proofs.revnet.renew.Goals as goal

@@ -16,18 +16,19 @@ returns-clause-does g c =
     let order = order_view c.args.job in
     let old = c.args.office.now in
     let new = record old {
-      wire = record old.wire { sink = c.tell_end.new.sink };
+      wire = record old.wire { sink = c.tell_transfer.new.sink };
       disks = c.transfer_on-done.new.disks;
       dial = c.transfer_on-done.new.dial;
     } in
-    xfr_does seen order old new c.transfer_on-done.result c.tell_end.result (record {
+    xfr_does seen order old new c.transfer_on-done.result c.tell_transfer.result (record {
       moves = c.transfer_on-done.ensures.moves;
       few = c.transfer_on-done.ensures.few;
       undialed = c.transfer_on-done.ensures.undialed;
-      silent = c.tell_end.ensures.silent;
+      silent = c.tell_transfer.ensures.silent;
       letters = c.transfer_on-done.ensures.letters;
-      ends = c.tell_end.ensures.ends;
-      write_fault = c.tell_end.ensures.write_fault;
+      ends = c.tell_transfer.ensures.ends;
+      write_fault = c.tell_transfer.ensures.write_fault;
+      disk = c.tell_transfer.ensures.disk_fault;
       names = c.transfer_on-done.ensures.names;
       stays = refl;
     })

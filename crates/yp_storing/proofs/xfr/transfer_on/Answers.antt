@@ -1,4 +1,4 @@
-use Rattle.std.proofs.Common.{◌≡◌, ◌∙◌, length, sym, arith}
+use Rattle.std.proofs.Common.{◌∙◌, sym, arith}
 use Rattle.yp_storing.proofs.Checking.{named_one}
 use Rattle.yp_storing.proofs.xfr.transfer_on.Goals as goal
 

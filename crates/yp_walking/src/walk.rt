@@ -1,0 +1,212 @@
+//! The command `walk`: a map is fetched row by row in datagrams, stored behind the version that stands, and told.
+
+ghost use Rattle.std.specs.Prelude.{◌≡◌, ◌≢◌, true, false, [], ◌∷◌, Err, OnErr, List, None, length, option_map};
+ghost use Rattle.std.specs.Prelude.{IsTrue};
+ghost use Rattle.yp_io.specs.Counts.{HasRisen};
+ghost use Rattle.yp_board.specs.Catalogues.{catalog_fault, name_view};
+ghost use Rattle.yp_board.specs.Logs.{shown};
+ghost use Rattle.yp_words.specs.Words.{IsNamed};
+ghost use Rattle.yp_turns.specs.Turns.{Box, box_of};
+ghost use Rattle.yp_publish.specs.Begins.{BeginsLevel};
+ghost use Rattle.yp_xfr.specs.Fetching.{wanted_of};
+ghost use Rattle.yp_office.specs.Disks.{names_of, history_of, faults_of, only_history, total_faults};
+ghost use Rattle.yp_office.specs.Seeing.{seeing, IsPassedOn};
+ghost use Rattle.yp_office.specs.Status.{IsTellable};
+ghost use Rattle.yp_storing.specs.Xfr.{order_view, catalogue_of, IsReady};
+ghost use Rattle.yp_walking.specs.declared.walker.Came.TheVariants.{Failed as HasFailed};
+ghost use Rattle.yp_walking.specs.declared.walk.WalkStop.TheVariants.{InboxFault as NoInbox};
+ghost use Rattle.yp_walking.specs.Turns.{WalksTo};
+ghost use Rattle.yp_walking.specs.Walk.{Moved, is_unmailed, IsEnd, walk_may_end};
+ghost use Rattle.yp_walking.specs.Walk.{WalkDoes};
+
+use crate::walker::{Came, walk_inbox};
+use std::alloc::Global;
+use std::random::RandomSource;
+use yp_board::{Catalog, MapName, PlainBoard};
+use yp_io::{Clock, Dial, Disk, Inbox, NoMemory, Sink, Source, Texts};
+use yp_office::{Apart, NamedDisk, Office, Status, put_together, take_apart};
+use yp_publish::{Installed, Publisher};
+use yp_slot::SlotFault;
+use yp_storing::{
+    XfrStop, catalog_of, hand_back, open_only, shown_order, store_fetched, tell_transfer,
+};
+use yp_turns::Room;
+use yp_words::WalkJob;
+
+/// Why a map isn't fetched and stored.
+#[derive(Clone, Copy, Debug)]
+pub enum WalkStop {
+    /// What stops a transfer.
+    Transfer(XfrStop),
+    /// All turns were taken before.
+    Unanswered,
+    /// The inbox failed.
+    InboxFault,
+}
+
+impl From<NoMemory> for WalkStop {
+    ghost use Rattle.std.specs.Prelude.{◌≡◌};
+    ghost use Rattle.yp_slot.specs.declared.fault.SlotFault.TheVariants.{NoMemory as WithoutMemory};
+    ghost use Rattle.yp_storing.specs.declared.xfr.XfrStop.TheVariants.{Unloaded};
+    ghost use Rattle.yp_walking.specs.declared.walk.WalkStop.TheVariants.{Transfer};
+
+    ghost from_gives = { λ fault stop. stop ≡ Transfer (Unloaded WithoutMemory) };
+
+    fn from(_fault: NoMemory) -> Self {
+        WalkStop::Transfer(XfrStop::Unloaded(SlotFault::NoMemory))
+    }
+}
+
+/// Stores what came of a walk over the only map of a publisher, and hands back its disk.
+fn store_came<D: Disk>(
+    alloc: Global,
+    rt: &impl RandomSource,
+    job: &WalkJob,
+    publisher: Publisher<D, PlainBoard>,
+    came: Came,
+) -> (Result<Installed, WalkStop>, Vec<D>)
+    requires { length publisher.maps ≡ 1 }
+    ensures moves { (disks : List D) (before after : Box) → length disks ≡ 1
+        → BeginsLevel D.history D.faults (catalogue_of (order_view job.now.xfr)) disks publisher
+        → WalksTo job.now.xfr.host.peer
+        (wanted_of job.now.xfr.store.domain.items job.now.xfr.store.map.items
+        (option_map (λ version. version.order) (shown 0 publisher.board.known)) job.now.xfr.force)
+        job.now.turns came before after
+        → Moved (order_view job.now.xfr) job.now.turns result.0 before after
+        (only_history D.history disks) (only_history D.history result.1.items)
+        (total_faults D.faults disks) (total_faults D.faults result.1.items) × (length result.1.items ≡ 1) }
+    ensures mailed { is_unmailed result.0 ≡ false }
+    ensures failed { result.0 ≡ Err NoInbox → came ≡ HasFailed }
+{
+    match came {
+        Came::Outcome(outcome) => {
+            let (done, disks) = store_fetched(alloc, rt, publisher, &job.xfr, outcome);
+            match done {
+                Ok(installed) => (Ok(installed), disks),
+                Err(fault) => (Err(WalkStop::Transfer(XfrStop::Fault(fault))), disks),
+            }
+        }
+        Came::Spent => (Err(WalkStop::Unanswered), hand_back(publisher)),
+        Came::Failed => (Err(WalkStop::InboxFault), hand_back(publisher)),
+    }
+}
+
+/// Walks over the only map of a catalogue, whose file lies on the only disk.
+fn walk_over<D: Disk, I: Inbox, R: RandomSource>(
+    alloc: Global,
+    rt: &R,
+    job: &WalkJob,
+    room: &mut Room,
+    catalog: Catalog,
+    disks: Vec<D>,
+    inbox: &mut I,
+) -> (Result<Installed, WalkStop>, Vec<D>)
+    requires catalogue { catalog ≡ catalogue_of (order_view job.now.xfr) }
+    requires named { IsNamed (name_view job.now.xfr.store) }
+    requires only { length disks.items ≡ 1 }
+    ensures moves { Moved (order_view job.now.xfr) job.now.turns result.0
+        (box_of I.past I.turns I.quiets inbox.old) (box_of I.past I.turns I.quiets inbox.new)
+        (only_history D.history disks.items) (only_history D.history result.1.items)
+        (total_faults D.faults disks.items) (total_faults D.faults result.1.items) }
+    ensures unmailed { is_unmailed result.0 ≡ true → inbox.new ≡ inbox.old }
+    ensures failed { result.0 ≡ Err NoInbox → HasRisen (I.faults inbox.old) (I.faults inbox.new) }
+    ensures only { length result.1.items ≡ 1 }
+{
+    match open_only(alloc, rt, catalog, disks) {
+        Err(refused) => (
+            Err(WalkStop::Transfer(XfrStop::Unloaded(refused.why))),
+            refused.disks,
+        ),
+        Ok(publisher) => {
+            let shown = shown_order(&publisher);
+            match walk_inbox(alloc, rt, job, shown, room, inbox) {
+                Ok(came) => store_came(alloc, rt, job, publisher, came),
+                Err(fault) => (Err(fault.into()), hand_back(publisher)),
+            }
+        }
+    }
+}
+
+/// The same under the name of its map.
+fn walk_on<D: Disk, I: Inbox, R: RandomSource>(
+    alloc: Global,
+    rt: &R,
+    job: &WalkJob,
+    disks: &mut Vec<NamedDisk<D>>,
+    inbox: &mut I,
+) -> Result<Installed, WalkStop>
+    requires catalogue { catalog_fault job.now.xfr.name.items (name_view job.now.xfr.store ∷ []) ≡ None }
+    requires named { IsNamed (name_view job.now.xfr.store) }
+    requires only { length disks.old.items ≡ 1 }
+    ensures moves { Moved (order_view job.now.xfr) job.now.turns result
+        (box_of I.past I.turns I.quiets inbox.old) (box_of I.past I.turns I.quiets inbox.new)
+        (history_of D.history disks.old.items) (history_of D.history disks.new.items)
+        (faults_of D.faults disks.old.items) (faults_of D.faults disks.new.items) }
+    ensures unmailed { is_unmailed result ≡ true → inbox.new ≡ inbox.old }
+    ensures failed { result ≡ Err NoInbox → HasRisen (I.faults inbox.old) (I.faults inbox.new) }
+    ensures names { names_of disks.new.items ≡ names_of disks.old.items }
+{
+    let mut room = Room::new(alloc)?;
+    let catalog = catalog_of(alloc, &job.xfr.name, &job.xfr.store)?;
+    let Apart {
+        names,
+        disks: apart,
+    } = take_apart(alloc, disks)?;
+    let (done, apart) = walk_over(alloc, rt, job, &mut room, catalog, apart, inbox);
+    let apart = Apart {
+        names,
+        disks: apart,
+    };
+    put_together(disks, apart);
+    done
+}
+
+/// Tells what was stored, or what stopped the walk.
+fn tell_walk<K: Sink>(
+    sink: &mut K,
+    turns: u32,
+    store: MapName,
+    done: Result<Installed, WalkStop>,
+) -> Status
+    requires { IsNamed (name_view store) }
+    ensures ends { IsEnd (name_view store) turns done result (K.output sink.old) (K.output sink.new) }
+    ensures may_end { IsTrue (walk_may_end result) }
+    ensures tellable { IsTellable result }
+    ensures flushed { result ≢ Status.WriteFault → IsTrue (K.flushed sink.old) → IsTrue (K.flushed sink.new) }
+    ensures write_fault { result ≡ Status.WriteFault → HasRisen (K.faults sink.old) (K.faults sink.new) }
+    ensures silent { OnErr done (sink.new ≡ sink.old) }
+    ensures disk_fault { (map : MapName) → result ≡ Status.DiskFault map
+        → done ≡ Err (WalkStop.Transfer (XfrStop.Unloaded SlotFault.DiskFault)) }
+    ensures inbox_fault { result ≡ Status.InboxFault → done ≡ Err NoInbox }
+{
+    match done {
+        Ok(installed) => tell_transfer(sink, store, Ok(installed)),
+        Err(WalkStop::Transfer(stop)) => tell_transfer(sink, store, Err(stop)),
+        Err(WalkStop::Unanswered) => Status::Unanswered { turns },
+        Err(WalkStop::InboxFault) => Status::InboxFault,
+    }
+}
+
+/// Asks a host for the only map row by row, in turns of the inbox, stores it on the only disk, and tells what was
+/// stored. The version goes in where its order is over the one that stands, or, where it is forced, in any case.
+pub fn walk_map<
+    S: Source,
+    K: Sink,
+    D: Disk,
+    C: Clock,
+    A: Dial,
+    I: Inbox,
+    T: Texts,
+    R: RandomSource,
+>(alloc: Global, rt: &R, job: WalkJob, office: &mut Office<S, K, D, C, A, I, T>) -> Status
+    requires { IsReady (order_view job.xfr) (names_of office.old.disks.items) }
+    ensures does { WalkDoes (seeing S.Source K.Sink D.Disk C.Clock A.Dial I.Inbox T.Texts)
+        (order_view job.xfr) job.turns result office.old office.new }
+    ensures may_end { IsTrue (walk_may_end result) }
+    ensures passed_on { IsPassedOn (seeing S.Source K.Sink D.Disk C.Clock A.Dial I.Inbox T.Texts)
+        result office.old office.new }
+    ensures tellable { IsTellable result }
+{
+    let done = walk_on(alloc, rt, &job, &mut office.disks, &mut office.inbox);
+    tell_walk(&mut office.wire.sink, job.turns, job.xfr.store, done)
+}
