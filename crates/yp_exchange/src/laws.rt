@@ -88,8 +88,8 @@ pub fn room_for_version()
     ensures { RoomForVersion }
 {}
 
-/// In datagrams the replies to ORDER, MASTER, FIRST and NEXT say the same, but that a row that a datagram can't carry is
-/// refused with YPERR. Each fits into a datagram, and begins with the number of its call.
+/// In datagrams the replies to ORDER, MASTER, FIRST and NEXT say the same, but that a row that a datagram can't carry
+/// is refused with YPERR. Each fits into a datagram, and begins with the number of its call.
 pub fn mail_tells()
     ensures order { OrderMailTells }
     ensures master { MasterMailTells }

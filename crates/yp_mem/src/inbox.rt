@@ -4,7 +4,8 @@ ghost use Rattle.std.specs.Prelude.{◌≡◌, ◌↔◌, [], ◌∷◌, ◌++�
 ghost use Rattle.std.specs.Prelude.{OnOk, OnErr};
 ghost use Rattle.yp_io.specs.Counts.{CountsFaults, next_count, faults_after};
 ghost use Rattle.yp_io.specs.Dials.{Gains};
-ghost use Rattle.yp_io.specs.Inboxes.{Arrived, Silent, Sent, GainsTurn, IsTurn, HoldsFront, MailIsWithin, turns_after, quiets_after};
+ghost use Rattle.yp_io.specs.Inboxes.{Arrived, Silent, Sent, GainsTurn, IsTurn, HoldsFront, MailIsWithin};
+ghost use Rattle.yp_io.specs.Inboxes.{turns_after, quiets_after};
 ghost use Rattle.yp_mem.specs.MemInbox.{first_turn, turns_behind, letter_of, turn_of};
 
 use std::alloc::Global;

@@ -24,7 +24,8 @@ pub fn front_is_served()
     ensures { FrontIsServed }
 {}
 
-/// A version that is shown is within its limits, and its rows are shown, too, or refused to a caller since it is secure.
+/// A version that is shown is within its limits, and its rows are shown, too, or refused to a caller since it is
+/// secure.
 pub fn shown_is_sound()
     ensures { ShownIsSound }
 {}

@@ -122,8 +122,8 @@ Comes order held DiskFailed (Ok version) (Err why) = IsNotStored (against order 
 
 -- ---- the dial, and the disk of the map
 
--- What came of a fetch was stored on the disk of a map whose file had this, or wasn't, with what the disk told before and
--- after, and how often it has failed. A crash leaves what stood or what was fetched.
+-- What came of a fetch was stored on the disk of a map whose file had this, or wasn't, with what the disk told before
+-- and after, and how often it has failed. A crash leaves what stood or what was fetched.
 pub record StoresOn (order : Order) (held : Held) (outcome : Outcome) (result : Result Installed XfrFault)
     (old new : Option History) (faults faults' : ℕ) : Type 0 where
   pub is_held : IsHeld old held

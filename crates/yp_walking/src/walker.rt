@@ -117,8 +117,8 @@ pub fn walk_inbox<R: RandomSource, I: Inbox>(
 ) -> Result<Came, NoMemory>
     requires { IsNamed (name_view job.now.xfr.store) }
     ensures walks { IfOk result (λ came. WalksTo job.now.xfr.host.peer
-        (wanted_of job.now.xfr.store.domain.items job.now.xfr.store.map.items shown job.now.xfr.force) job.now.turns came
-        (box_of I.past I.turns I.quiets inbox.old) (box_of I.past I.turns I.quiets inbox.new)) }
+        (wanted_of job.now.xfr.store.domain.items job.now.xfr.store.map.items shown job.now.xfr.force) job.now.turns
+        came (box_of I.past I.turns I.quiets inbox.old) (box_of I.past I.turns I.quiets inbox.new)) }
     ensures cause { IfOk result (λ came. came ≡ HasFailed → HasRisen (I.faults inbox.old) (I.faults inbox.new)) }
     ensures unmailed { OnErr result (inbox.new ≡ inbox.old) }
 {
