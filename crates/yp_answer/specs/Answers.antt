@@ -1,5 +1,5 @@
 -- What an answer says of a record, and what it does with the view.
-use Rattle.std.specs.Prelude.{◌≡◌, ◌≢◌, ℕ, ◌<◌, ◌≤◌, Bool, true, false, List, [], length, take, Ok, Err, Result}
+use Rattle.std.specs.Prelude.{◌≡◌, ◌≢◌, ℕ, ◌<◌, ◌≤◌, Bool, true, false, List, [], length, take, Ok, Err, Result, ⊤}
 use Rattle.yp_io.specs.declared.stream.Peer.{Peer}
 use Rattle.yp_msgs.specs.declared.stat.YpStat.{YpStat}
 use Rattle.yp_msgs.specs.Numbers.{name_max}
@@ -55,6 +55,11 @@ HasReply maps expected (answers.Reply len) buf = Replies expected len buf
 HasReply maps expected (answers.Stream stream) buf = Streams maps expected stream
 HasReply maps expected (answers.Transfer len errand) buf = TakesTransfer maps expected len errand buf
 HasReply maps expected (answers.Make xid job) buf = Waits maps expected xid job
+
+-- An answer is no stream.
+abbrev pub IsNoStream : Answered → Type 0
+IsNoStream (answers.Stream stream) = ⊥
+IsNoStream _ = ⊤
 
 -- the answer has the reply of a procedure
 abbrev pub IsProcedureAnswer : Maps → Caller → Procedure → List ℕ → Answered → List ℕ → Type 0

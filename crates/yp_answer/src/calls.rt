@@ -1,11 +1,11 @@
 //! The reply to one call.
 
-ghost use Rattle.std.specs.Prelude.{◌≡◌, ◌≤◌, length, take, drop, option_map, IfSome};
+ghost use Rattle.std.specs.Prelude.{◌≡◌, ◌≢◌, ◌≤◌, length, take, drop, option_map, IfSome};
 ghost use Rattle.yp_answer.specs.declared.procedure.Path.TheVariants as paths;
 ghost use Rattle.yp_answer.specs.Numbers.{record_max, datagram_max, room_of};
 ghost use Rattle.yp_answer.specs.Maps.{maps_of};
 ghost use Rattle.yp_answer.specs.Reply.{admitted, asks, asks_for};
-ghost use Rattle.yp_answer.specs.Answers.{IsAnswer, IsProcedureAnswer, StepsWhere};
+ghost use Rattle.yp_answer.specs.Answers.{IsAnswer, IsNoStream, IsProcedureAnswer, StepsWhere};
 
 use crate::caller::{Caller, put_head};
 use crate::check::row_check;
@@ -100,7 +100,9 @@ fn answer_make<'a, V: View>(
     buf: &mut [u8],
 ) -> Answered<'a>
     requires { room_of caller.now.path ≤ length buf.old }
-    ensures { IsProcedureAnswer (maps_of (V.seen view.now)) caller.now Procedure.Make arguments.now result buf.new }
+    ensures reply { IsProcedureAnswer (maps_of (V.seen view.now)) caller.now Procedure.Make arguments.now
+        result buf.new }
+    ensures no_stream { IsNoStream result }
 {
     let Ok(request) = ReqMake::read(&mut Cursor::new(arguments)) else {
         return Answered::Reply {
@@ -129,6 +131,7 @@ fn answer_procedure<'a, V: View>(
     requires { room_of caller.now.path ≤ length buf.old }
     ensures reply { IsProcedureAnswer (maps_of (V.seen view.new)) caller.now procedure arguments.now result buf.new }
     ensures step { StepsWhere (asks_for procedure arguments.now) V.stepped V.seen view.old view.new }
+    ensures no_stream { procedure ≢ Procedure.All → IsNoStream result }
 {
     let len = match procedure {
         Procedure::Null | Procedure::Clear => put_head(buf, caller.xid, &ReplyHead::Success),
@@ -163,6 +166,7 @@ fn answer_on<'a, V: View>(
     requires { room_of path ≤ length buf.old }
     ensures reply { IsAnswer path (maps_of (V.seen view.new)) peer record.now result buf.new }
     ensures step { StepsWhere (asks path record.now) V.stepped V.seen view.old view.new }
+    ensures no_stream { path ≡ Path.Datagram → IsNoStream result }
 {
     match read_call(record) {
         Heard::Noise => Answered::Silent,
@@ -217,6 +221,7 @@ pub fn answer_datagram<'a, V: View>(
     requires { datagram_max ≤ length buf.old }
     ensures reply { IsAnswer paths.Datagram (maps_of (V.seen view.new)) peer call.now result buf.new }
     ensures step { StepsWhere (asks paths.Datagram call.now) V.stepped V.seen view.old view.new }
+    ensures no_stream { IsNoStream result }
 {
     answer_on(Path::Datagram, view, call, peer, buf)
 }

@@ -7,7 +7,7 @@ ghost use Rattle.yp_answer.specs.Numbers.{datagram_max, room_of};
 ghost use Rattle.yp_answer.specs.Maps.{maps_of};
 ghost use Rattle.yp_answer.specs.Transfer.{xfr_check};
 ghost use Rattle.yp_answer.specs.Reply.{xfr_reply, asks_for};
-ghost use Rattle.yp_answer.specs.Answers.{IsProcedureAnswer, StepsWhere};
+ghost use Rattle.yp_answer.specs.Answers.{IsNoStream, IsProcedureAnswer, StepsWhere};
 
 use crate::caller::{Caller, put_head};
 use crate::calls::Answered;
@@ -73,6 +73,7 @@ pub fn answer_xfr<'a, V: View>(
     ensures reply { IsProcedureAnswer (maps_of (V.seen view.new)) caller.now procedures.Xfr arguments.now
         result buf.new }
     ensures step { StepsWhere (asks_for procedures.Xfr arguments.now) V.stepped V.seen view.old view.new }
+    ensures no_stream { IsNoStream result }
 {
     let Ok(asked) = ReqXfr::read(&mut Cursor::new(arguments)) else {
         return Answered::Reply {

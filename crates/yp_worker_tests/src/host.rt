@@ -1,4 +1,4 @@
-//! A host of one map, on which others show versions.
+//! A host of two maps, on which others show versions of the first.
 
 ghost use Rattle.std.specs.Prelude.{◌≡◌, ◌<◌, None, length};
 ghost use Rattle.std.proofs.Common.{ap};
@@ -76,6 +76,13 @@ impl CatchUp for TestHost {
     }
 }
 
+impl TestHost {
+    /// How many transfers were carried out.
+    pub fn transfers(&self) -> u64 {
+        self.transfers
+    }
+}
+
 /// A version of this order, in which `alpha` has this value.
 fn version<R: RandomSource + Abort>(
     rt: &R,
@@ -97,20 +104,30 @@ fn assert_fits(rt: &impl Abort, count: usize, catalog: &Catalog)
     assert_eq!(rt; count, catalog.len() as usize);
 }
 
-/// The catalogue of the host `m1` with passwd.byname in the domain `d`.
+// A map of the domain `d`.
+fn map_name(rt: &impl Abort, alloc: Global, map: &[u8]) -> MapName {
+    MapName {
+        domain: Vec::from_slice(alloc, b"d").expect(rt, "a domain"),
+        map: Vec::from_slice(alloc, map).expect(rt, "a map"),
+    }
+}
+
+/// The catalogue of the host `m1` with passwd.byname and hosts.byname in the domain `d`.
 pub fn catalog(rt: &impl Abort, alloc: Global) -> Catalog {
-    let domain = Vec::from_slice(alloc, b"d").expect(rt, "a domain");
-    let map = Vec::from_slice(alloc, b"passwd.byname").expect(rt, "a map");
     let own = Vec::from_slice(alloc, b"m1").expect(rt, "a name");
-    let maps = vec![in alloc; MapName { domain, map }].expect(rt, "maps");
+    let (passwd, hosts) = (
+        map_name(rt, alloc, b"passwd.byname"),
+        map_name(rt, alloc, b"hosts.byname"),
+    );
+    let maps = vec![in alloc; passwd, hosts].expect(rt, "maps");
     Catalog::new(alloc, own, maps).expect(rt, "a catalogue")
 }
 
-// A board of these maps, on which this version is shown.
+// A board of these maps, on which this version is shown of the first.
 fn board(rt: &impl Abort, alloc: Global, catalog: Catalog, version: Arc<Version>) -> PlainBoard
     ensures { result.catalogue ≡ catalog }
 {
-    let start = vec![in alloc; Some(version)].expect(rt, "versions");
+    let start = vec![in alloc; Some(version), None].expect(rt, "versions");
     assert_fits(rt, start.len(), &catalog);
     PlainBoard::new(alloc, catalog, start).expect(rt, "a board")
 }

@@ -1,4 +1,4 @@
-//! Tests of `yp_worker`.
+//! Tests of `yp_worker` and `yp_mailserve`.
 #![tactic(auto)]
 
 #[cfg(test)]
@@ -9,6 +9,8 @@ mod given;
 mod host;
 #[cfg(test)]
 mod listen;
+#[cfg(test)]
+mod mail;
 #[cfg(test)]
 mod one;
 #[cfg(test)]

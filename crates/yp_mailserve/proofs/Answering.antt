@@ -1,0 +1,202 @@
+-- What a host did for a datagram, before and behind its reply.
+use Rattle.std.proofs.Common.{◌≡◌, ◌<◌, zero, suc, take, Bool, true, false, ℕ, List, [], ◌++◌, Option, Some, None, refl, sym, ap, subst, ◌∙◌, append_assoc, arith}
+use Rattle.std.specs.Prelude.{option_map}
+use Rattle.std.proofs.lemmas.List.{append-nil}
+use Rattle.yp_io.specs.declared.stream.Peer.{Peer}
+use Rattle.yp_msgs.specs.declared.transfer.XfrStat.{XfrStat}
+use Rattle.yp_board.specs.Logs.{Log}
+use Rattle.yp_board.specs.Views.{Seen, IsFront}
+use Rattle.yp_shared.specs.Shares.{Learns}
+use Rattle.yp_answer.specs.declared.make.Job.{Job}
+use Rattle.yp_answer.specs.declared.procedure.Path.TheVariants.{Datagram}
+use Rattle.yp_answer.specs.Maps.{maps_of}
+use Rattle.yp_answer.specs.Transfer.{Taken}
+use Rattle.yp_answer.specs.Reply.{Response, Silence, Bytes, Takes, Open, reply, asks, make_reply}
+use Rattle.yp_answer.specs.Answers.{StepsWhere}
+use Rattle.yp_session.specs.Hosts.{Counts, Conduct, Fulfils, CarriesOut, Turn, CarriesWhere, Carries, Link, counts_where, counts_behind}
+use Rattle.yp_turns.specs.Turns.{reply_of}
+use Rattle.yp_mailserve.specs.Mailing.{CarriesAwaited, AnswersMail}
+
+-- a reply of some bytes at the front of a buffer
+pub reply_is : (len : ℕ) (buf : List ℕ) → 0 < len → reply_of len buf ≡ Some (take len buf)
+reply_is zero buf some = absurd (omega (arith, some))
+reply_is (suc len) buf some = refl
+
+-- the same catalogue, and nothing less is known
+record Later (old new : Seen) : Type 0 where
+  pub grown : IsFront old.known new.known
+  pub catalogue : new.catalogue ≡ old.catalogue
+
+later_then : (a b c : Seen) → Later a b → Later b c → Later a c
+later_then a b c first second = record {
+  grown = (
+    first.grown.0 ++ second.grown.0,
+    second.grown.1 ∙ ap (λ (l : Log). l ++ second.grown.0) first.grown.1 ∙ append_assoc a.known first.grown.0 second.grown.0,
+  );
+  catalogue = second.catalogue ∙ first.catalogue;
+}
+
+-- a read step of this host counts nothing
+abbrev pub CountsNothing : {H : Type 0} → Conduct H → Type 0
+CountsNothing {H} conduct = (old new : H) → conduct.stepped old new → conduct.counts new ≡ conduct.counts old
+
+abbrev pub turn_of : List ℕ → Option (List ℕ) → Option XfrStat → Option Taken → Turn
+turn_of message answer made taken = record { message = message; answer = answer; made = made; taken = taken; flushed = false }
+
+module _ {H : Type 0} (conduct : Conduct H) (peer : Peer) where
+  same : (old new : H) → new ≡ old → Later (conduct.seen old) (conduct.seen new)
+  same old new e = record {
+    grown = ([], ap (λ (h : H). (conduct.seen h).known) e ∙ sym (append-nil (conduct.seen old).known));
+    catalogue = ap (λ (h : H). (conduct.seen h).catalogue) e;
+  }
+
+  stepped : (asked : Bool) (old mid : H) → StepsWhere asked conduct.stepped conduct.seen old mid
+      → Later (conduct.seen old) (conduct.seen mid)
+  stepped true old mid h = record { grown = h.1.grown; catalogue = h.1.catalogue }
+  stepped false old mid h = same old mid h
+
+  transferred : (flushed : Bool) (taken : Taken) (mid new : H) → CarriesWhere flushed conduct taken peer mid new
+      → Later (conduct.seen mid) (conduct.seen new)
+  transferred true taken mid new h = record { grown = h.grown; catalogue = h.catalogue }
+  transferred false taken mid new h = same mid new h
+
+  carried : (response : Response) (turn : Turn) (mid new : H) → Carries conduct peer response turn mid new
+      → Later (conduct.seen mid) (conduct.seen new)
+  carried Silence turn mid new h = same mid new h.3
+  carried (Bytes bytes) turn mid new h = same mid new h.3
+  carried (Takes bytes taken) turn mid new h = transferred turn.flushed taken mid new h.3
+  carried (Open xid job) turn mid new h = record { grown = h.4.grown; catalogue = h.4.catalogue }
+
+  where_counts : (flushed : Bool) (taken : Taken) (old new : H) → CarriesWhere flushed conduct taken peer old new
+      → conduct.counts new ≡ counts_where flushed (conduct.counts old)
+  where_counts true taken old new h = h.counted
+  where_counts false taken old new h = ap conduct.counts h
+
+  carried_counts : (response : Response) (turn : Turn) (old new : H) → Carries conduct peer response turn old new
+      → conduct.counts new ≡ counts_behind (conduct.counts old) turn
+  carried_counts Silence turn old new h = rw (h.1, h.2) (ap conduct.counts h.3)
+  carried_counts (Bytes bytes) turn old new h = rw (h.1, h.2) (ap conduct.counts h.3)
+  carried_counts (Takes bytes taken) turn old new h = rw (h.1, h.2) (where_counts turn.flushed taken old new h.3)
+  carried_counts (Open xid job) turn old new h = rw (h.2, h.3) h.4.counted
+
+  -- a datagram's turn, from its link
+  pub answered : (turn : Turn) (old start new : H) → Learns (conduct.seen old) (conduct.seen start)
+      → conduct.counts start ≡ conduct.counts old → Link conduct Datagram peer turn start new → AnswersMail conduct peer turn old new
+  answered turn old start new learned uncounted link =
+      let response = reply Datagram (maps_of (conduct.seen link.mid)) peer turn.message in
+      let learns : Later (conduct.seen old) (conduct.seen start) =
+      record { grown = learned.grown; catalogue = ap (λ (s : Seen). s.catalogue) learned.same } in
+      let went = later_then (conduct.seen old) (conduct.seen start) (conduct.seen new) learns
+      (later_then (conduct.seen start) (conduct.seen link.mid) (conduct.seen new)
+      (stepped (asks Datagram turn.message) start link.mid link.step) (carried response turn link.mid new link.carried)) in
+      record {
+        start = start;
+        learned = learned;
+        uncounted = uncounted;
+        link = link;
+        grown = went.grown;
+        catalogue = went.catalogue;
+        counted = carried_counts response turn link.mid new link.carried
+            ∙ ap (λ (counts : Counts). counts_behind counts turn) (link.uncounted ∙ uncounted);
+      }
+
+  -- ---- behind the reply
+
+  abbrev pub sent : Turn → Turn
+  sent turn = record turn { flushed = true }
+
+  none_waits : (taken : Option Taken) (old new : H) → taken ≡ None
+      → CarriesAwaited conduct (option_map (λ taken. (taken, peer)) taken) old new → new ≡ old
+  none_waits None old new is carries = carries
+  none_waits (Some taken) old new is carries = absurd cc
+
+  one_waits : (found : Option Taken) (taken : Taken) (old new : H) → found ≡ Some taken
+      → CarriesAwaited conduct (option_map (λ taken. (taken, peer)) found) old new → CarriesOut conduct taken peer old new
+  one_waits None taken old new is carries = absurd cc
+  one_waits (Some found) taken old new is carries =
+      let one : found ≡ taken = cc in
+      subst (λ (t : Taken). CarriesOut conduct t peer old new) one carries
+
+  unmoved : (flushed : Bool) (taken : Taken) (mid new : H) → flushed ≡ false → CarriesWhere flushed conduct taken peer mid new
+      → new ≡ mid
+  unmoved true taken mid new is h = absurd cc
+  unmoved false taken mid new is h = h
+
+  carried_behind : (response : Response) (turn : Turn) (mid new ready : H) → turn.flushed ≡ false
+      → Carries conduct peer response turn mid new
+      → CarriesAwaited conduct (option_map (λ taken. (taken, peer)) turn.taken) new ready
+      → Carries conduct peer response (sent turn) mid ready
+  carried_behind Silence turn mid new ready is h behind =
+      (h.0, h.1, h.2, none_waits turn.taken new ready h.2 behind ∙ h.3)
+  carried_behind (Bytes bytes) turn mid new ready is h behind =
+      (h.0, h.1, h.2, none_waits turn.taken new ready h.2 behind ∙ h.3)
+  carried_behind (Takes bytes taken) turn mid new ready is h behind =
+      let out = one_waits turn.taken taken new ready h.2 behind in (
+        h.0,
+        h.1,
+        h.2,
+        subst (λ (m : H). CarriesOut conduct taken peer m ready) (unmoved turn.flushed taken mid new is h.3) out,
+      )
+  carried_behind (Open xid job) turn mid new ready is h behind = (
+    h.0,
+    h.1,
+    h.2,
+    h.3,
+    subst (λ (n : H). Fulfils conduct job h.0 mid n) (sym (none_waits turn.taken new ready h.3 behind)) h.4,
+  )
+
+  -- a datagram's turn once its reply is out, and what waited is carried out
+  pub answers_sent : (turn : Turn) (old new ready : H) → turn.flushed ≡ false → AnswersMail conduct peer turn old new
+      → CarriesAwaited conduct (option_map (λ taken. (taken, peer)) turn.taken) new ready
+      → AnswersMail conduct peer (sent turn) old ready
+  answers_sent turn old new ready is answers behind =
+      let link = answers.link in
+      let response = reply Datagram (maps_of (conduct.seen link.mid)) peer turn.message in
+      answered (sent turn) old answers.start ready answers.learned answers.uncounted record {
+        mid = link.mid;
+        step = link.step;
+        uncounted = link.uncounted;
+        carried = carried_behind response turn link.mid new ready is link.carried behind;
+      }
+
+  -- ---- before the reply
+
+  module _ (message : List ℕ) (law : CountsNothing conduct) where
+    uncounted_step : (asked : Bool) (old mid : H) → StepsWhere asked conduct.stepped conduct.seen old mid
+        → conduct.counts mid ≡ conduct.counts old
+    uncounted_step true old mid h = law old mid h.0
+    uncounted_step false old mid h = ap conduct.counts h
+
+    linked : (answer : Option (List ℕ)) (made : Option XfrStat) (taken : Option Taken) (response : Response) (old mid new : H)
+        → StepsWhere (asks Datagram message) conduct.stepped conduct.seen old mid
+        → reply Datagram (maps_of (conduct.seen mid)) peer message ≡ response
+        → Carries conduct peer response (turn_of message answer made taken) mid new
+        → Link conduct Datagram peer (turn_of message answer made taken) old new
+    linked answer made taken response old mid new step is carries = record {
+      mid = mid;
+      step = step;
+      uncounted = uncounted_step (asks Datagram message) old mid step;
+      carried = let P : Response → Type 0 = λ r. Carries conduct peer r (turn_of message answer made taken) mid new in subst P (sym is) carries;
+    }
+
+    pub link_silent : (old mid : H) → StepsWhere (asks Datagram message) conduct.stepped conduct.seen old mid
+        → reply Datagram (maps_of (conduct.seen mid)) peer message ≡ Silence
+        → Link conduct Datagram peer (turn_of message None None None) old mid
+    link_silent old mid step is = linked None None None Silence old mid mid step is (refl, refl, refl, refl)
+
+    pub link_bytes : (bytes : List ℕ) (old mid : H) → StepsWhere (asks Datagram message) conduct.stepped conduct.seen old mid
+        → reply Datagram (maps_of (conduct.seen mid)) peer message ≡ Bytes bytes
+        → Link conduct Datagram peer (turn_of message (Some bytes) None None) old mid
+    link_bytes bytes old mid step is = linked (Some bytes) None None (Bytes bytes) old mid mid step is (refl, refl, refl, refl)
+
+    pub link_takes : (bytes : List ℕ) (taken : Taken) (old mid : H) → StepsWhere (asks Datagram message) conduct.stepped conduct.seen old mid
+        → reply Datagram (maps_of (conduct.seen mid)) peer message ≡ Takes bytes taken
+        → Link conduct Datagram peer (turn_of message (Some bytes) None (Some taken)) old mid
+    link_takes bytes taken old mid step is =
+        linked (Some bytes) None (Some taken) (Takes bytes taken) old mid mid step is (refl, refl, refl, refl)
+
+    pub link_open : (xid : ℕ) (job : Job) (stat : XfrStat) (old mid new : H) → StepsWhere (asks Datagram message) conduct.stepped conduct.seen old mid
+        → reply Datagram (maps_of (conduct.seen mid)) peer message ≡ Open xid job → Fulfils conduct job stat mid new
+        → Link conduct Datagram peer (turn_of message (Some (make_reply xid stat)) (Some stat) None) old new
+    link_open xid job stat old mid new step is made =
+        linked (Some (make_reply xid stat)) (Some stat) None (Open xid job) old mid new step is (stat, refl, refl, refl, made)

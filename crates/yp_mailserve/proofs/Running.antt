@@ -1,0 +1,177 @@
+-- A run of an errand, as turns that a server made.
+use Rattle.std.proofs.Common.{◌≡◌, ◌≤◌, ℕ, suc, List, [], ◌∷◌, ◌++◌, length, Option, Some, None, Result, Ok, Err, inl, inr, refl, sym, ap, subst, ◌∙◌, arith}
+use Rattle.std.specs.Prelude.{IsSome}
+use Rattle.yp_io.specs.declared.stream.Peer.{Peer}
+use Rattle.yp_io.specs.declared.stream.Failed.{Failed}
+use Rattle.yp_io.specs.Inboxes.{Post, Arrived, Silent, Sent}
+use Rattle.yp_session.specs.Hosts.{Counts, Conduct, counts_over}
+use Rattle.yp_turns.specs.Turns.{Meets, drops, listens, replies, is_quiet, Runs, is_spent, is_done, sends, loses_letter, takes, loses_turn, loses_reply, Box, mail_max}
+use Rattle.yp_turns.specs.declared.turns.Ended.{Ended}
+use Rattle.yp_turns.specs.declared.turns.Ended.TheVariants.{Done, Spent}
+use Rattle.yp_mailserve.specs.Mailing.{Mailing, AnswersMail, CarriesAwaited, Clears, Hears, Closes, mail_ways, ServesTurns}
+use Rattle.yp_mailserve.specs.Serving.{MailTurn, Dropped, Rested, Answered, reply_posts, posts_in, posts_over, answered_turns, DoesTurn, EndsTurns, ServesPosts, ServesMail}
+use Rattle.yp_mailserve.proofs.Answering.{sent, answers_sent}
+
+module _ {H : Type 0} (conduct : Conduct H) where
+  ends_later : (most count : ℕ) (end : Result Ended Failed) (posts : List Post) (old new : H)
+      → EndsTurns conduct most count end posts old new → EndsTurns conduct (suc most) (suc count) end posts old new
+  ends_later most count (Ok Spent) posts old new ends = (ap suc ends.0, ends.1, ends.2)
+  ends_later most count (Ok Done) posts old new ends = absurd ends
+  ends_later most count (Err why) posts old new ends = let less = ends.0 in (omega (arith, less), ends.1)
+
+  -- where none waits the host is ready as it is
+  ready_is : (waiting : Option _) (old ready : H) → waiting ≡ None → CarriesAwaited conduct waiting old ready → ready ≡ old
+  ready_is None old ready is carried = carried
+  ready_is (Some awaited) old ready is carried = absurd cc
+
+  -- one turn before others
+  before : (most : ℕ) (posts : List Post) (end : Result Ended Failed) (waiting old : Mailing H) (next : Mailing H) (new : H) (one : MailTurn)
+      → Clears conduct old waiting → (later : ServesPosts conduct most end posts next new) → DoesTurn conduct one waiting.host later.ready
+      → conduct.counts later.ready ≡ counts_over (conduct.counts waiting.host) (answered_turns (one ∷ []))
+      → ServesPosts conduct (suc most) end (posts_in one ++ posts) old new
+  before most posts end waiting old next new (Dropped from bytes) clears later does counted = record {
+    ready = waiting.host;
+    carried = clears.carried;
+    served = Dropped from bytes ∷ later.served;
+    last = later.last;
+    does = (later.ready, does, later.does);
+    counted = later.counted ∙ ap (λ (c : Counts). counts_over c (answered_turns later.served)) counted;
+    rest = later.rest;
+    ends = ends_later most (length later.served) end later.rest later.last new later.ends;
+    all = ap (λ (l : List Post). Arrived from bytes ∷ l) later.all;
+  }
+  before most posts end waiting old next new Rested clears later does counted = record {
+    ready = waiting.host;
+    carried = clears.carried;
+    served = Rested ∷ later.served;
+    last = later.last;
+    does = (later.ready, does, later.does);
+    counted = later.counted ∙ ap (λ (c : Counts). counts_over c (answered_turns later.served)) counted;
+    rest = later.rest;
+    ends = ends_later most (length later.served) end later.rest later.last new later.ends;
+    all = ap (λ (l : List Post). Silent ∷ l) later.all;
+  }
+  before most posts end waiting old next new (Answered from turn) clears later does counted = record {
+    ready = waiting.host;
+    carried = clears.carried;
+    served = Answered from turn ∷ later.served;
+    last = later.last;
+    does = (later.ready, does, later.does);
+    counted = later.counted ∙ ap (λ (c : Counts). counts_over c (answered_turns later.served)) counted;
+    rest = later.rest;
+    ends = ends_later most (length later.served) end later.rest later.last new later.ends;
+    all = joined turn.answer;
+  }
+    where
+      joined : (answer : Option (List ℕ)) → (Arrived from turn.message ∷ reply_posts from answer) ++ posts
+          ≡ (Arrived from turn.message ∷ reply_posts from answer ++ posts_over later.served) ++ later.rest
+      joined None = ap (λ (l : List Post). Arrived from turn.message ∷ l) later.all
+      joined (Some reply) = ap (λ (l : List Post). Arrived from turn.message ∷ Sent from reply ∷ l) later.all
+
+  -- a datagram that was heard, before others
+  heard_before : (most : ℕ) (posts : List Post) (end : Result Ended Failed) (old waiting next : Mailing H) (new : H)
+      (from : Peer) (bytes : List ℕ) (answer : Option (List ℕ))
+      → Clears conduct old waiting → length bytes ≤ mail_max → Hears conduct from bytes answer waiting next
+      → ServesPosts conduct most end posts next new
+      → ServesPosts conduct (suc most) end (Arrived from bytes ∷ reply_posts from answer ++ posts) old new
+  heard_before most posts end old waiting next new from bytes answer clears short heard later =
+      let turn = heard.turn in
+      let answers = answers_sent conduct from turn waiting.host next.host later.ready heard.unsent heard.answers
+      (subst (λ w. CarriesAwaited conduct w next.host later.ready) heard.waits later.carried) in
+      let whole = before most posts end waiting old next new (Answered from (sent conduct from turn)) clears later
+      (subst (λ (l : List ℕ). length l ≤ mail_max) (sym heard.message_is) short, refl, answers) answers.counted in
+      subst (λ (l : List ℕ). ServesPosts conduct (suc most) end (Arrived from l ∷ reply_posts from answer ++ posts) old new) heard.message_is
+      (subst (λ (a : Option (List ℕ)). ServesPosts conduct (suc most) end (Arrived from turn.message ∷ reply_posts from a ++ posts) old new)
+      heard.answer_is whole)
+
+  met_before : (most : ℕ) (turn : Post) (answers posts : List Post) (end : Result Ended Failed) (old waiting next : Mailing H) (new : H)
+      → Clears conduct old waiting → Meets (mail_ways conduct) turn answers waiting next
+      → ServesPosts conduct most end posts next new → ServesPosts conduct (suc most) end (turn ∷ answers ++ posts) old new
+  met_before most turn answers posts end old waiting next new clears (drops from bytes errand long) later =
+      let ready = ready_is waiting.waiting waiting.host later.ready clears.cleared later.carried in
+      before most posts end waiting old waiting new (Dropped from bytes) clears later (long, ready) (ap conduct.counts ready)
+  met_before most turn answers posts end old waiting next new clears (listens from bytes a b short heard) later =
+      heard_before most posts end old waiting next new from bytes None clears short heard later
+  met_before most turn answers posts end old waiting next new clears (replies from bytes reply a b short heard) later =
+      heard_before most posts end old waiting next new from bytes (Some reply) clears short heard later
+  met_before most turn answers posts end old waiting next new clears (is_quiet a b rests) later =
+      let carried = subst (λ (m : Mailing H). CarriesAwaited conduct m.waiting m.host later.ready) rests later.carried in
+      let ready = ready_is waiting.waiting waiting.host later.ready clears.cleared carried in
+      before most posts end waiting old next new Rested clears later ready (ap conduct.counts ready)
+
+  -- ---- the ends
+
+  none_lost : (left : ℕ) (why : Failed) (old last new : Mailing H) → Clears conduct old last → Closes conduct (Err why) last new
+      → ServesPosts conduct (suc left) (Err why) [] old new.host
+  none_lost left why old last new clears closes = record {
+    ready = last.host;
+    carried = clears.carried;
+    served = [];
+    last = last.host;
+    does = refl;
+    counted = refl;
+    rest = [];
+    ends = (omega arith, inl (refl, ap (λ (m : Mailing H). m.host) closes));
+    all = refl;
+  }
+
+  reply_lost : (left : ℕ) (turn reply : Post) (why : Failed) (old waiting last new : Mailing H) → Clears conduct old waiting
+      → Meets (mail_ways conduct) turn (reply ∷ []) waiting last → Closes conduct (Err why) last new
+      → ServesPosts conduct (suc left) (Err why) (turn ∷ []) old new.host
+  reply_lost left turn reply why old waiting last new clears (replies from bytes answer a b short heard) closes = record {
+    ready = waiting.host;
+    carried = clears.carried;
+    served = [];
+    last = waiting.host;
+    does = refl;
+    counted = refl;
+    rest = Arrived from bytes ∷ [];
+    ends = (
+      omega arith,
+      inr (record {
+        from = from;
+        turn = heard.turn;
+        came = ap (λ (l : List ℕ). Arrived from l ∷ []) (sym heard.message_is);
+        short = subst (λ (l : List ℕ). length l ≤ mail_max) (sym heard.message_is) short;
+        reply = subst IsSome (sym heard.answer_is) refl;
+        unsent = heard.unsent;
+        answers = subst (λ (h : H). AnswersMail conduct from heard.turn waiting.host h) (sym (ap (λ (m : Mailing H). m.host) closes)) heard.answers;
+      }),
+    );
+    all = refl;
+  }
+
+  pub served_in : (most : ℕ) (posts : List Post) (end : Result Ended Failed) (old last new : Mailing H)
+      → Runs (mail_ways conduct) most posts end old last → Closes conduct end last new → ServesPosts conduct most end posts old new.host
+  served_in most posts end old last new (is_spent errand) closes = record {
+    ready = new.host;
+    carried = closes.carried;
+    served = [];
+    last = new.host;
+    does = refl;
+    counted = refl;
+    rest = [];
+    ends = (refl, refl, refl);
+    all = refl;
+  }
+  served_in most posts end old last new (is_done left a b goes) closes = absurd goes
+  served_in most posts end old last new (sends left to bytes more w a b c goes runs) closes = absurd goes
+  served_in most posts end old last new (loses_letter left to bytes why a b goes) closes = absurd goes
+  served_in most posts end old last new (takes left turn answers more w a waiting b c goes meets runs) closes =
+      met_before left turn answers more end old waiting b new.host goes meets (served_in left more end b last new runs closes)
+  served_in most posts end old last new (loses_turn left why a b goes) closes = none_lost left why old last new goes closes
+  served_in most posts end old last new (loses_reply left turn reply why a waiting c goes meets) closes =
+      reply_lost left turn reply why old waiting last new goes meets closes
+
+  none_waits : (end : Result Ended Failed) (last new : Mailing H) → Closes conduct end last new → new.waiting ≡ None
+  none_waits (Ok ended) last new closes = closes.cleared
+  none_waits (Err why) last new closes = ap (λ (m : Mailing H). m.waiting) closes
+
+  pub serves_mail : (most : ℕ) (end : Result Ended Failed) (old new : Mailing H) (a b : Box)
+      → ServesTurns conduct most end old new a b → ServesMail conduct most end old new a b
+  serves_mail most end old new a b turns = record {
+    posts = turns.takes.posts;
+    serves = served_in most turns.takes.posts end old turns.last new turns.takes.runs turns.closes;
+    sees = turns.takes.sees;
+    cleared = none_waits end turns.last new turns.closes;
+  }

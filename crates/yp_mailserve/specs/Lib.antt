@@ -1,0 +1,2 @@
+pub mod Mailing
+pub mod Serving

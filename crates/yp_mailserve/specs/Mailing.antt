@@ -1,0 +1,96 @@
+-- A server of datagrams: what it does at each moment of its turns.
+use Rattle.std.specs.Prelude.{◌≡◌, ◌≤◌, ◌<◌, ℕ, false, List, length, Option, None, Some, Result, Ok, Err, option_map}
+use Rattle.yp_io.specs.declared.stream.Peer.{Peer}
+use Rattle.yp_io.specs.declared.stream.Failed.{Failed}
+use Rattle.yp_msgs.specs.Numbers.{name_max}
+use Rattle.yp_board.specs.Views.{IsFront}
+use Rattle.yp_answer.specs.declared.procedure.Path.TheVariants.{Datagram}
+use Rattle.yp_answer.specs.Transfer.{Taken}
+use Rattle.yp_shared.specs.Shares.{Learns}
+use Rattle.yp_session.specs.Hosts.{Conduct, Turn, Link, CarriesOut, counts_behind}
+use Rattle.yp_turns.specs.Turns.{Want, Turn as Taking, Ways, ways_of, Box, TakesTurns}
+use Rattle.yp_turns.specs.declared.turns.Ended.{Ended}
+use Rattle.yp_mailserve.specs.declared.server.Waiting.{Waiting}
+
+-- a transfer that was taken and isn't yet carried out, and its caller
+abbrev pub Awaited : Type 0
+Awaited = Taken × Peer
+
+abbrev pub awaited_of : Waiting → Awaited
+awaited_of waiting = (
+  record {
+    map = waiting.map;
+    source = waiting.source.items;
+    transid = waiting.transid;
+    prog = waiting.prog;
+    port = waiting.port;
+  },
+  waiting.peer,
+)
+
+-- a server: its host, and the transfer that waits until its reply is out
+pub record Mailing (H : Type 0) : Type 0 where
+  pub host : H
+  pub waiting : Option Awaited
+
+-- A transfer that waits is of one of so many maps, and its source has a name that can be asked.
+pub record IsDue (maps : ℕ) (awaited : Awaited) : Type 0 where
+  pub inside : awaited.0.map < maps
+  pub source_len : length awaited.0.source ≤ name_max
+
+module _ {H : Type 0} (conduct : Conduct H) where
+  -- The transfer that waits is carried out for its caller, where there is one.
+  abbrev pub CarriesAwaited : Option Awaited → H → H → Type 0
+  CarriesAwaited None old new = new ≡ old
+  CarriesAwaited (Some awaited) old new = CarriesOut conduct awaited.0 awaited.1 old new
+
+  -- It is, and none waits any more.
+  pub record Clears (old new : Mailing H) : Type 0 where
+    pub carried : CarriesAwaited old.waiting old.host new.host
+    pub cleared : new.waiting ≡ None
+
+  -- A datagram of a peer had its turn with the host. The host was told what others showed, or not, and from there on
+  -- the reply is that on what it then knows, and a map that the datagram asks for was made. A transfer that it asks for
+  -- was carried out exactly where the reply went out. What was known before is a front of what is known.
+  pub record AnswersMail (peer : Peer) (turn : Turn) (old new : H) : Type 0 where
+    pub start : H
+    pub learned : Learns (conduct.seen old) (conduct.seen start)
+    pub uncounted : conduct.counts start ≡ conduct.counts old
+    pub link : Link conduct Datagram peer turn start new
+    pub grown : IsFront (conduct.seen old).known (conduct.seen new).known
+    pub catalogue : (conduct.seen new).catalogue ≡ (conduct.seen old).catalogue
+    pub counted : conduct.counts new ≡ counts_behind (conduct.counts old) turn
+
+  -- A server wants turns alone. Before each, the transfer whose reply went out is carried out.
+  abbrev pub Goes : Mailing H → Want → Mailing H → Type 0
+  Goes old Taking new = Clears old new
+  Goes old want new = ⊥
+
+  -- A datagram of a peer is heard, with this reply or silence, which isn't out yet. A transfer that it takes waits.
+  pub record Hears (peer : Peer) (message : List ℕ) (answer : Option (List ℕ)) (old new : Mailing H) : Type 0 where
+    pub turn : Turn
+    pub message_is : turn.message ≡ message
+    pub answer_is : turn.answer ≡ answer
+    pub unsent : turn.flushed ≡ false
+    pub answers : AnswersMail peer turn old.host new.host
+    pub waits : new.waiting ≡ option_map (λ taken. (taken, peer)) turn.taken
+
+  -- A quiet turn changes nothing.
+  abbrev pub Rests : Mailing H → Mailing H → Type 0
+  Rests old new = new ≡ old
+
+  abbrev pub mail_ways : Ways (Mailing H)
+  mail_ways = ways_of Goes Hears Rests
+
+  -- What is left behind the last turn: a transfer whose reply went out is carried out. Where the inbox has failed no
+  -- such reply is left, and what waits is dropped.
+  abbrev pub Closes : Result Ended Failed → Mailing H → Mailing H → Type 0
+  Closes (Ok ended) old new = Clears old new
+  Closes (Err why) old new = new ≡ record old { waiting = None }
+
+  -- A server had so many turns of an inbox at most, with this end, and nothing waits behind them.
+  pub record ServesTurns (most : ℕ) (end : Result Ended Failed) (old new : Mailing H) (before after : Box)
+      : Type 0 where
+    pub last : Mailing H
+    pub takes : TakesTurns mail_ways most end old last before after
+    pub closes : Closes end last new

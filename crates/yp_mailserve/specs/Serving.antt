@@ -1,0 +1,92 @@
+-- What a server makes of the turns of an inbox, and what goes out for what comes in.
+use Rattle.std.specs.Prelude.{◌≡◌, ◌⊎◌, ◌<◌, ◌≤◌, ℕ, true, false, List, [], ◌∷◌, ◌++◌, length, Option, None, Some}
+use Rattle.std.specs.Prelude.{IsSome, Result, Ok, Err}
+use Rattle.yp_io.specs.declared.stream.Peer.{Peer}
+use Rattle.yp_io.specs.declared.stream.Failed.{Failed}
+use Rattle.yp_io.specs.Inboxes.{Post, Arrived, Silent, Sent}
+use Rattle.yp_session.specs.Hosts.{Conduct, Turn, counts_over}
+use Rattle.yp_turns.specs.Turns.{Box, Sees, mail_max}
+use Rattle.yp_turns.specs.declared.turns.Ended.{Ended}
+use Rattle.yp_turns.specs.declared.turns.Ended.TheVariants.{Done, Spent}
+use Rattle.yp_mailserve.specs.Mailing.{Mailing, AnswersMail, CarriesAwaited}
+
+-- what a server makes of a turn: a datagram that is too long is dropped, any other is answered, and a quiet turn is
+-- nothing
+pub data MailTurn : Type 0 where
+  Dropped : Peer → List ℕ → MailTurn
+  Rested : MailTurn
+  Answered : Peer → Turn → MailTurn
+
+-- a reply that goes out to a peer, and nothing for silence
+abbrev pub reply_posts : Peer → Option (List ℕ) → List Post
+reply_posts peer None = []
+reply_posts peer (Some reply) = Sent peer reply ∷ []
+
+-- what happens at the inbox in a turn: what comes, and behind it the reply to its sender
+abbrev pub posts_in : MailTurn → List Post
+posts_in (Dropped from bytes) = Arrived from bytes ∷ []
+posts_in Rested = Silent ∷ []
+posts_in (Answered from turn) = Arrived from turn.message ∷ reply_posts from turn.answer
+
+-- the same in turns, one after the other
+abbrev pub posts_over : List MailTurn → List Post
+posts_over [] = []
+posts_over (one ∷ more) = posts_in one ++ posts_over more
+
+-- what came of the datagrams that were answered
+abbrev pub answered_turns : List MailTurn → List Turn
+answered_turns [] = []
+answered_turns (Dropped from bytes ∷ more) = answered_turns more
+answered_turns (Rested ∷ more) = answered_turns more
+answered_turns (Answered from turn ∷ more) = turn ∷ answered_turns more
+
+module _ {H : Type 0} (conduct : Conduct H) where
+  -- what a turn does to the host, where its reply goes out
+  abbrev pub DoesTurn : MailTurn → H → H → Type 0
+  DoesTurn (Dropped from bytes) old new = (mail_max < length bytes) × (new ≡ old)
+  DoesTurn Rested old new = new ≡ old
+  DoesTurn (Answered from turn) old new =
+      (length turn.message ≤ mail_max) × (turn.flushed ≡ true) × AnswersMail conduct from turn old new
+
+  -- turns, one after the other
+  abbrev pub DoesTurns : List MailTurn → H → H → Type 0
+  DoesTurns [] old new = new ≡ old
+  DoesTurns (one ∷ more) old new = (next : H) × DoesTurn one old next × DoesTurns more next new
+
+  -- A datagram came, and its reply didn't go out.
+  pub record LosesAnswer (posts : List Post) (old new : H) : Type 0 where
+    pub from : Peer
+    pub turn : Turn
+    pub came : posts ≡ Arrived from turn.message ∷ []
+    pub short : length turn.message ≤ mail_max
+    pub reply : IsSome turn.answer
+    pub unsent : turn.flushed ≡ false
+    pub answers : AnswersMail conduct from turn old new
+
+  -- What ends a run of at most so many turns behind so many: nothing behind the most, or the inbox fails, at a turn or
+  -- at a reply.
+  abbrev pub EndsTurns : ℕ → ℕ → Result Ended Failed → List Post → H → H → Type 0
+  EndsTurns most count (Ok Spent) posts old new = (count ≡ most) × (posts ≡ []) × (new ≡ old)
+  EndsTurns most count (Ok Done) posts old new = ⊥
+  EndsTurns most count (Err why) posts old new =
+      (count < most) × (((posts ≡ []) × (new ≡ old)) ⊎ LosesAnswer posts old new)
+
+  -- These posts are turns that a server made, each with its reply to its sender before the next turn, and the end.
+  pub record ServesPosts (most : ℕ) (end : Result Ended Failed) (posts : List Post) (old : Mailing H) (new : H)
+      : Type 0 where
+    pub ready : H
+    pub carried : CarriesAwaited conduct old.waiting old.host ready
+    pub served : List MailTurn
+    pub last : H
+    pub does : DoesTurns served ready last
+    pub counted : conduct.counts last ≡ counts_over (conduct.counts ready) (answered_turns served)
+    pub rest : List Post
+    pub ends : EndsTurns most (length served) end rest last new
+    pub all : posts ≡ posts_over served ++ rest
+
+  -- They happened at an inbox, and no transfer waits behind them.
+  pub record ServesMail (most : ℕ) (end : Result Ended Failed) (old new : Mailing H) (before after : Box) : Type 0 where
+    pub posts : List Post
+    pub serves : ServesPosts most end posts old new.host
+    pub sees : Sees posts before after
+    pub cleared : new.waiting ≡ None

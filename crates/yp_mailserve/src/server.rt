@@ -1,0 +1,170 @@
+//! A server of datagrams, as what its turns change.
+
+ghost use Rattle.std.specs.Prelude.{◌≡◌, ℕ, ◌≤◌, false, None, length, option_map, IfSome};
+ghost use Rattle.yp_answer.specs.Numbers.{datagram_max};
+ghost use Rattle.yp_answer.specs.declared.procedure.Path.TheVariants as paths;
+ghost use Rattle.yp_answer.specs.Transfer.{taken_view};
+ghost use Rattle.yp_session.specs.Hosts.{Turn, Link, conduct_of};
+ghost use Rattle.yp_turns.specs.Turns.{reply_of};
+ghost use Rattle.yp_mailserve.specs.Mailing.{awaited_of, IsDue, Clears, Goes, Hears, Rests};
+
+use arrayvec::ArrayVec;
+use std::marker::Model;
+use yp_answer::{Answered, Errand as Transfer, answer_datagram, make_reply};
+use yp_io::Peer;
+use yp_msgs::protocol::NAME_MAX;
+use yp_session::Host;
+use yp_turns::{Errand, Wish};
+use yp_worker::CatchUp;
+
+/// The most bytes of the name of a host that a map is fetched from.
+const SOURCE_MAX: usize = NAME_MAX as usize;
+
+/// A transfer that waits until its reply is out, and its caller.
+#[derive(Drop)]
+pub(crate) struct Waiting {
+    map: u32,
+    source: ArrayVec<u8, SOURCE_MAX>,
+    transid: u32,
+    prog: u32,
+    port: u32,
+    peer: Peer,
+}
+
+impl Waiting {
+    /// Takes no memory.
+    fn new(transfer: &Transfer<'_>, peer: Peer) -> Waiting
+        requires { length transfer.now.source.now ≤ SOURCE_MAX }
+        ensures { awaited_of result ≡ (taken_view transfer.now, peer) }
+    {
+        let mut source = ArrayVec::new();
+        let _ = source.try_extend_from_slice(transfer.source);
+        Waiting {
+            map: transfer.map,
+            source,
+            transid: transfer.transid,
+            prog: transfer.prog,
+            port: transfer.port,
+            peer,
+        }
+    }
+}
+
+/// A host that answers datagrams. It takes no memory for that. A transfer that it took waits until the next turn is
+/// wanted, when the reply is out; what still waits where a datagram is heard is dropped.
+///
+/// It is seen as its host and the transfer that waits.
+#[derive(Drop)]
+pub struct MailServer<H: CatchUp> {
+    host: H,
+    waiting: Option<Waiting>,
+}
+
+impl<H: CatchUp> Model for MailServer<H> {
+    ghost use Rattle.std.specs.Prelude.{length, option_map, IfSome};
+    ghost use Rattle.yp_mailserve.specs.Mailing.{Mailing, awaited_of, IsDue};
+
+    ghost Value = { Mailing H };
+
+    ghost view = { λ s. record { host = s.host; waiting = option_map awaited_of s.waiting } };
+
+    ghost invariant = { λ s. IfSome s.waiting
+        (λ waiting. IsDue (length (H.seen s.host).catalogue.maps) (awaited_of waiting)) };
+}
+
+impl<H: CatchUp> MailServer<H> {
+    /// A server with this host, for which no transfer waits.
+    pub fn new(host: H) -> MailServer<H>
+        ensures { result ≡ record { host = host; waiting = None } }
+    {
+        MailServer {
+            host,
+            waiting: None,
+        }
+    }
+
+    /// The host.
+    pub fn into_host(self) -> H
+        ensures { result ≡ self.host }
+    {
+        let MailServer { host, waiting: _ } = self;
+        host
+    }
+
+    /// Carries out the transfer that waits.
+    pub(crate) fn carry_out(&mut self)
+        ensures { Clears (conduct_of H.seen H.told H.counts H.stepped H.made H.carried) self.old self.new }
+    {
+        if let Some(waiting) = self.waiting.take() {
+            let transfer = Transfer {
+                map: waiting.map,
+                source: &waiting.source,
+                transid: waiting.transid,
+                prog: waiting.prog,
+                port: waiting.port,
+            };
+            self.host.transfer(&transfer, waiting.peer);
+        }
+    }
+
+    /// Drops what waits.
+    pub(crate) fn forget(&mut self)
+        ensures { self.new ≡ record self.old { waiting = None } }
+    {
+        self.waiting = None;
+    }
+}
+
+/// Puts the reply to a datagram at the front of the buffer. It answers its length, or 0 for silence, and the transfer
+/// that it took.
+fn reply_to<H: Host>(
+    host: &mut H,
+    mail: &[u8],
+    peer: Peer,
+    buf: &mut [u8],
+) -> (usize, Option<Waiting>)
+    requires { datagram_max ≤ length buf.old }
+    ensures replied { (turn : Turn) × (turn.message ≡ mail.now) × (turn.answer ≡ reply_of result.0 buf.new)
+        × (turn.flushed ≡ false)
+        × (option_map awaited_of result.1 ≡ option_map (λ taken. (taken, peer)) turn.taken)
+        × Link (conduct_of H.seen H.told H.counts H.stepped H.made H.carried) paths.Datagram peer turn
+        host.old host.new }
+    ensures within { result.0 ≤ length buf.new }
+    ensures due { IfSome result.1 (λ waiting. IsDue (length (H.seen host.new).catalogue.maps) (awaited_of waiting)) }
+{
+    match answer_datagram(host, mail, peer, buf) {
+        Answered::Silent => (0, None),
+        Answered::Reply { len } => (len, None),
+        Answered::Transfer { len, errand } => (len, Some(Waiting::new(&errand, peer))),
+        Answered::Make { xid, job } => {
+            let stat = host.make(job);
+            (make_reply(buf, xid, stat), None)
+        }
+        Answered::Stream(_) => unreachable!(),
+    }
+}
+
+impl<H: CatchUp> Errand for MailServer<H> {
+    ghost goes = { Goes (conduct_of H.seen H.told H.counts H.stepped H.made H.carried) };
+
+    ghost hears = { Hears (conduct_of H.seen H.told H.counts H.stepped H.made H.carried) };
+
+    ghost rests = { Rests (conduct_of H.seen H.told H.counts H.stepped H.made H.carried) };
+
+    ghost letters = { λ _. 0 };
+
+    fn next(&mut self, _buf: &mut [u8]) -> Wish {
+        self.carry_out();
+        Wish::Wait
+    }
+
+    fn hear(&mut self, from: Peer, mail: &[u8], buf: &mut [u8]) -> usize {
+        // Where there is no memory for that, it goes on with what the host knew.
+        let _ = self.host.catch_up();
+        let (len, waiting) = reply_to(&mut self.host, mail, from, buf);
+        self.waiting = waiting;
+        len
+    }
+
+    fn rest(&mut self) {}
+}
