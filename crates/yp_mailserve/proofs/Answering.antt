@@ -23,11 +23,11 @@ reply_is zero buf some = absurd (omega (arith, some))
 reply_is (suc len) buf some = refl
 
 -- the same catalogue, and nothing less is known
-record Later (old new : Seen) : Type 0 where
+pub record Later (old new : Seen) : Type 0 where
   pub grown : IsFront old.known new.known
   pub catalogue : new.catalogue ≡ old.catalogue
 
-later_then : (a b c : Seen) → Later a b → Later b c → Later a c
+pub later_then : (a b c : Seen) → Later a b → Later b c → Later a c
 later_then a b c first second = record {
   grown = (
     first.grown.0 ++ second.grown.0,
@@ -35,6 +35,14 @@ later_then a b c first second = record {
   );
   catalogue = second.catalogue ∙ first.catalogue;
 }
+
+-- nothing happened
+module _ {H : Type 0} (conduct : Conduct H) where
+  pub same : (old new : H) → new ≡ old → Later (conduct.seen old) (conduct.seen new)
+  same old new e = record {
+    grown = ([], ap (λ (h : H). (conduct.seen h).known) e ∙ sym (append-nil (conduct.seen old).known));
+    catalogue = ap (λ (h : H). (conduct.seen h).catalogue) e;
+  }
 
 -- a read step of this host counts nothing
 abbrev pub CountsNothing : {H : Type 0} → Conduct H → Type 0
@@ -44,26 +52,20 @@ abbrev pub turn_of : List ℕ → Option (List ℕ) → Option XfrStat → Optio
 turn_of message answer made taken = record { message = message; answer = answer; made = made; taken = taken; flushed = false }
 
 module _ {H : Type 0} (conduct : Conduct H) (peer : Peer) where
-  same : (old new : H) → new ≡ old → Later (conduct.seen old) (conduct.seen new)
-  same old new e = record {
-    grown = ([], ap (λ (h : H). (conduct.seen h).known) e ∙ sym (append-nil (conduct.seen old).known));
-    catalogue = ap (λ (h : H). (conduct.seen h).catalogue) e;
-  }
-
   stepped : (asked : Bool) (old mid : H) → StepsWhere asked conduct.stepped conduct.seen old mid
       → Later (conduct.seen old) (conduct.seen mid)
   stepped true old mid h = record { grown = h.1.grown; catalogue = h.1.catalogue }
-  stepped false old mid h = same old mid h
+  stepped false old mid h = same conduct old mid h
 
   transferred : (flushed : Bool) (taken : Taken) (mid new : H) → CarriesWhere flushed conduct taken peer mid new
       → Later (conduct.seen mid) (conduct.seen new)
   transferred true taken mid new h = record { grown = h.grown; catalogue = h.catalogue }
-  transferred false taken mid new h = same mid new h
+  transferred false taken mid new h = same conduct mid new h
 
   carried : (response : Response) (turn : Turn) (mid new : H) → Carries conduct peer response turn mid new
       → Later (conduct.seen mid) (conduct.seen new)
-  carried Silence turn mid new h = same mid new h.3
-  carried (Bytes bytes) turn mid new h = same mid new h.3
+  carried Silence turn mid new h = same conduct mid new h.3
+  carried (Bytes bytes) turn mid new h = same conduct mid new h.3
   carried (Takes bytes taken) turn mid new h = transferred turn.flushed taken mid new h.3
   carried (Open xid job) turn mid new h = record { grown = h.4.grown; catalogue = h.4.catalogue }
 

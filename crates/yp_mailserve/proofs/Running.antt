@@ -1,16 +1,16 @@
 -- A run of an errand, as turns that a server made.
-use Rattle.std.proofs.Common.{◌≡◌, ◌≤◌, ℕ, suc, List, [], ◌∷◌, ◌++◌, length, Option, Some, None, Result, Ok, Err, inl, inr, refl, sym, ap, subst, ◌∙◌, arith}
+use Rattle.std.proofs.Common.{◌⊎◌, ◌≡◌, ◌≤◌, ℕ, suc, List, [], ◌∷◌, ◌++◌, length, Option, Some, None, Result, Ok, Err, inl, inr, refl, sym, ap, subst, ◌∙◌, arith}
 use Rattle.std.specs.Prelude.{IsSome}
 use Rattle.yp_io.specs.declared.stream.Peer.{Peer}
 use Rattle.yp_io.specs.declared.stream.Failed.{Failed}
 use Rattle.yp_io.specs.Inboxes.{Post, Arrived, Silent, Sent}
 use Rattle.yp_session.specs.Hosts.{Counts, Conduct, counts_over}
-use Rattle.yp_turns.specs.Turns.{Meets, drops, listens, replies, is_quiet, Runs, is_spent, is_done, sends, loses_letter, takes, loses_turn, loses_reply, Box, mail_max}
+use Rattle.yp_turns.specs.Turns.{Meets, drops, listens, replies, is_quiet, Runs, is_spent, is_done, sends, loses_letter, takes, loses_turn, loses_reply, Box, mail_max, TakesTurns}
 use Rattle.yp_turns.specs.declared.turns.Ended.{Ended}
 use Rattle.yp_turns.specs.declared.turns.Ended.TheVariants.{Done, Spent}
-use Rattle.yp_mailserve.specs.Mailing.{Mailing, AnswersMail, CarriesAwaited, Clears, Hears, Closes, mail_ways, ServesTurns}
-use Rattle.yp_mailserve.specs.Serving.{MailTurn, Dropped, Rested, Answered, reply_posts, posts_in, posts_over, answered_turns, DoesTurn, EndsTurns, ServesPosts, ServesMail}
-use Rattle.yp_mailserve.proofs.Answering.{sent, answers_sent}
+use Rattle.yp_mailserve.specs.Mailing.{Awaited, Mailing, AnswersMail, CarriesAwaited, Clears, Hears, Closes, mail_ways}
+use Rattle.yp_mailserve.specs.Serving.{MailTurn, Dropped, Rested, Answered, reply_posts, posts_in, posts_over, answered_turns, DoesTurn, DoesTurns, LosesAnswer, EndsTurns, ServesPosts, ServesMail}
+use Rattle.yp_mailserve.proofs.Answering.{Later, later_then, same, sent, answers_sent}
 
 module _ {H : Type 0} (conduct : Conduct H) where
   ends_later : (most count : ℕ) (end : Result Ended Failed) (posts : List Post) (old new : H)
@@ -167,11 +167,58 @@ module _ {H : Type 0} (conduct : Conduct H) where
   none_waits (Ok ended) last new closes = closes.cleared
   none_waits (Err why) last new closes = ap (λ (m : Mailing H). m.waiting) closes
 
-  pub serves_mail : (most : ℕ) (end : Result Ended Failed) (old new : Mailing H) (a b : Box)
-      → ServesTurns conduct most end old new a b → ServesMail conduct most end old new a b
-  serves_mail most end old new a b turns = record {
-    posts = turns.takes.posts;
-    serves = served_in most turns.takes.posts end old turns.last new turns.takes.runs turns.closes;
-    sees = turns.takes.sees;
-    cleared = none_waits end turns.last new turns.closes;
-  }
+  -- ---- what is known
+
+  awaited_later : (waiting : Option Awaited) (old new : H) → CarriesAwaited conduct waiting old new
+      → Later (conduct.seen old) (conduct.seen new)
+  awaited_later None old new carried = same conduct old new carried
+  awaited_later (Some awaited) old new carried = record { grown = carried.grown; catalogue = carried.catalogue }
+
+  turn_later : (one : MailTurn) (old new : H) → DoesTurn conduct one old new → Later (conduct.seen old) (conduct.seen new)
+  turn_later (Dropped from bytes) old new does = same conduct old new does.1
+  turn_later Rested old new does = same conduct old new does
+  turn_later (Answered from turn) old new does = record { grown = does.2.grown; catalogue = does.2.catalogue }
+
+  turns_later : (turns : List MailTurn) (old new : H) → DoesTurns conduct turns old new
+      → Later (conduct.seen old) (conduct.seen new)
+  turns_later [] old new does = same conduct old new does
+  turns_later (one ∷ more) old new does =
+      later_then (conduct.seen old) (conduct.seen does.0) (conduct.seen new) (turn_later one old does.0 does.1)
+      (turns_later more does.0 new does.2)
+
+  lost_later : (posts : List Post) (old new : H) → ((posts ≡ []) × (new ≡ old)) ⊎ LosesAnswer conduct posts old new
+      → Later (conduct.seen old) (conduct.seen new)
+  lost_later posts old new (inl none) = same conduct old new none.1
+  lost_later posts old new (inr lost) = record { grown = lost.answers.grown; catalogue = lost.answers.catalogue }
+
+  end_later : (most count : ℕ) (end : Result Ended Failed) (posts : List Post) (old new : H)
+      → EndsTurns conduct most count end posts old new → Later (conduct.seen old) (conduct.seen new)
+  end_later most count (Ok Spent) posts old new ends = same conduct old new ends.2
+  end_later most count (Ok Done) posts old new ends = absurd ends
+  end_later most count (Err why) posts old new ends = lost_later posts old new ends.1
+
+  whole_later : (most : ℕ) (end : Result Ended Failed) (posts : List Post) (old : Mailing H) (new : H)
+      → ServesPosts conduct most end posts old new → Later (conduct.seen old.host) (conduct.seen new)
+  whole_later most end posts old new serves =
+      later_then (conduct.seen old.host) (conduct.seen serves.ready) (conduct.seen new)
+      (awaited_later old.waiting old.host serves.ready serves.carried)
+      (later_then (conduct.seen serves.ready) (conduct.seen serves.last) (conduct.seen new)
+      (turns_later serves.served serves.ready serves.last serves.does)
+      (end_later most (length serves.served) end serves.rest serves.last new serves.ends))
+
+  pub serves_mail : (most : ℕ) (end : Result Ended Failed) (old last new : Mailing H) (a b : Box)
+      → TakesTurns (mail_ways conduct) most end old last a b → Closes conduct end last new → ServesMail conduct most end old new a b
+  serves_mail most end old last new a b took closes =
+      let serves = served_in most took.posts end old last new took.runs closes in
+      let went = whole_later most end took.posts old new.host serves in
+      record {
+        posts = took.posts;
+        last = last;
+        runs = took.runs;
+        closes = closes;
+        sees = took.sees;
+        serves = serves;
+        cleared = none_waits end last new closes;
+        grown = went.grown;
+        catalogue = went.catalogue;
+      }

@@ -8,7 +8,7 @@ use Rattle.yp_answer.specs.declared.procedure.Path.TheVariants.{Datagram}
 use Rattle.yp_answer.specs.Transfer.{Taken}
 use Rattle.yp_shared.specs.Shares.{Learns}
 use Rattle.yp_session.specs.Hosts.{Conduct, Turn, Link, CarriesOut, counts_behind}
-use Rattle.yp_turns.specs.Turns.{Want, Turn as Taking, Ways, ways_of, Box, TakesTurns}
+use Rattle.yp_turns.specs.Turns.{Want, Turn as Taking, Ways, ways_of}
 use Rattle.yp_turns.specs.declared.turns.Ended.{Ended}
 use Rattle.yp_mailserve.specs.declared.server.Waiting.{Waiting}
 
@@ -87,10 +87,3 @@ module _ {H : Type 0} (conduct : Conduct H) where
   abbrev pub Closes : Result Ended Failed → Mailing H → Mailing H → Type 0
   Closes (Ok ended) old new = Clears old new
   Closes (Err why) old new = new ≡ record old { waiting = None }
-
-  -- A server had so many turns of an inbox at most, with this end, and nothing waits behind them.
-  pub record ServesTurns (most : ℕ) (end : Result Ended Failed) (old new : Mailing H) (before after : Box)
-      : Type 0 where
-    pub last : Mailing H
-    pub takes : TakesTurns mail_ways most end old last before after
-    pub closes : Closes end last new

@@ -4,11 +4,12 @@ use Rattle.std.specs.Prelude.{IsSome, Result, Ok, Err}
 use Rattle.yp_io.specs.declared.stream.Peer.{Peer}
 use Rattle.yp_io.specs.declared.stream.Failed.{Failed}
 use Rattle.yp_io.specs.Inboxes.{Post, Arrived, Silent, Sent}
+use Rattle.yp_board.specs.Views.{IsFront}
 use Rattle.yp_session.specs.Hosts.{Conduct, Turn, counts_over}
-use Rattle.yp_turns.specs.Turns.{Box, Sees, mail_max}
+use Rattle.yp_turns.specs.Turns.{Box, Runs, Sees, mail_max}
 use Rattle.yp_turns.specs.declared.turns.Ended.{Ended}
 use Rattle.yp_turns.specs.declared.turns.Ended.TheVariants.{Done, Spent}
-use Rattle.yp_mailserve.specs.Mailing.{Mailing, AnswersMail, CarriesAwaited}
+use Rattle.yp_mailserve.specs.Mailing.{Mailing, AnswersMail, CarriesAwaited, Closes, mail_ways}
 
 -- what a server makes of a turn: a datagram that is too long is dropped, any other is answered, and a quiet turn is
 -- nothing
@@ -84,9 +85,16 @@ module _ {H : Type 0} (conduct : Conduct H) where
     pub ends : EndsTurns most (length served) end rest last new
     pub all : posts ≡ posts_over served ++ rest
 
-  -- They happened at an inbox, and no transfer waits behind them.
+  -- A server had so many turns of an inbox at most, with this end: such posts happened there. In them a transfer was
+  -- carried out behind its reply, before the next turn, and none waits any more. What the host knew before is a front of
+  -- what it knows, and its catalogue stays.
   pub record ServesMail (most : ℕ) (end : Result Ended Failed) (old new : Mailing H) (before after : Box) : Type 0 where
     pub posts : List Post
-    pub serves : ServesPosts most end posts old new.host
+    pub last : Mailing H
+    pub runs : Runs (mail_ways conduct) most posts end old last
+    pub closes : Closes conduct end last new
     pub sees : Sees posts before after
+    pub serves : ServesPosts most end posts old new.host
     pub cleared : new.waiting ≡ None
+    pub grown : IsFront (conduct.seen old.host).known (conduct.seen new.host).known
+    pub catalogue : (conduct.seen new.host).catalogue ≡ (conduct.seen old.host).catalogue

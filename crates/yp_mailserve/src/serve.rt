@@ -3,7 +3,6 @@
 ghost use Rattle.yp_io.specs.Counts.{CountsFaults};
 ghost use Rattle.yp_session.specs.Hosts.{conduct_of};
 ghost use Rattle.yp_turns.specs.Turns.{box_of};
-ghost use Rattle.yp_mailserve.specs.Mailing.{ServesTurns};
 ghost use Rattle.yp_mailserve.specs.Serving.{ServesMail};
 
 use crate::server::MailServer;
@@ -19,9 +18,6 @@ pub fn serve_mail<I: Inbox, H: CatchUp>(
     room: &mut Room,
     turns: u32,
 ) -> Result<Ended, Failed>
-    ensures turns { ServesTurns (conduct_of H.seen H.told H.counts H.stepped H.made H.carried)
-        turns result server.old server.new
-        (box_of I.past I.turns I.quiets inbox.old) (box_of I.past I.turns I.quiets inbox.new) }
     ensures serves { ServesMail (conduct_of H.seen H.told H.counts H.stepped H.made H.carried)
         turns result server.old server.new
         (box_of I.past I.turns I.quiets inbox.old) (box_of I.past I.turns I.quiets inbox.new) }
