@@ -21,6 +21,7 @@ use yp_msgs::XfrStat;
 use yp_session::Host;
 use yp_shared::{Locked, Site, tell_shared};
 use yp_version::Version;
+use yp_worker::CatchUp;
 
 /// The host of a worker. What it knows is what its reader knows.
 ///
@@ -117,8 +118,8 @@ impl<
         self.outcomes
     }
 
-    /// Lets the reader know all that was shown. It waits for the publisher's lock. After a refusal nothing has changed.
-    pub fn catch_up(&mut self) -> Result<(), NoMemory>
+    // Lets the reader know all that was shown.
+    fn learn(&mut self) -> Result<(), NoMemory>
         ensures learned { Learns (B.Reader.seen self.old.reader) (B.Reader.seen self.new.reader) }
         ensures same { self.new ≡ record self.old { reader = self.new.reader } }
         ensures refused { OnErr result (self.new ≡ self.old) }
@@ -201,4 +202,20 @@ impl<
     }
 
     ghost step_counts_nothing = { λ old new h. ap (λ host. counts_of host) h.1 };
+}
+
+impl<
+    'a,
+    S: Site + Supplies,
+    D: Disk,
+    B: Tell,
+    A: Dial,
+    T: Texts,
+    C: Clock,
+    R: RandomSource + Wait,
+> CatchUp for WorkerHost<'a, S, D, B, A, T, C, R> {
+    // It waits for the publisher's lock.
+    fn catch_up(&mut self) -> Result<(), NoMemory> {
+        self.learn()
+    }
 }
