@@ -1,0 +1,13 @@
+use Rattle.yp_serve.specs.Serving.{IsAtStart}
+use Rattle.yp_serve.proofs.Rows.{all_before, all_last}
+use Rattle.yp_serve.proofs.serve.serve_connections.Goals as goal
+
+pub under_locks-requires-clause-know : goal.under_locks-requires-clause-know
+under_locks-requires-clause-know g c κs within =
+    all_before (λ reader. IsAtStart c.args.publisher.catalogue (g.B.Show.log c.args.publisher.board)
+    (g.B.Reader.View.seen reader)) _ _ _ c.in-Ok.ensures.all c.requires.starts
+
+pub under_locks-requires-clause-spare : goal.under_locks-requires-clause-spare
+under_locks-requires-clause-spare g c κs within =
+    all_last (λ reader. IsAtStart c.args.publisher.catalogue (g.B.Show.log c.args.publisher.board)
+    (g.B.Reader.View.seen reader)) _ _ _ c.in-Ok.ensures.all c.requires.starts

@@ -1,0 +1,22 @@
+use Rattle.yp_worker.specs.Receptions.{opening_of}
+use Rattle.yp_serve.proofs.serve.serve_connections.Given as goal
+
+-- what is lent, as it is before the first connection
+abbrev pub ghosts-under_locks-J-Reception : goal.ghosts-under_locks-J-Reception
+ghosts-under_locks-J-Reception g a = record {
+  starts = g.B.Show.log a.lent.publisher.board;
+  most = a.most;
+  opening = opening_of g.L.Listen.past g.L.Listen.most g.L.Listen.accepted g.L.Listen.faults a.lent.listen;
+}
+
+abbrev pub ghosts-under_locks-J-Site : goal.ghosts-under_locks-J-Site
+ghosts-under_locks-J-Site g a = record { catalogue = a.lent.publisher.catalogue }
+
+abbrev pub ghosts-under_locks-J-Supplies : goal.ghosts-under_locks-J-Supplies
+ghosts-under_locks-J-Supplies g a = record { text = g.T.Texts.text a.lent.desk.texts; hosts = a.lent.desk.hosts }
+
+abbrev pub ghosts-under_locks-J-Ledger : goal.ghosts-under_locks-J-Ledger
+ghosts-under_locks-J-Ledger g a = record { name = a.out.name; parts = a.out.parts }
+
+abbrev pub ghosts-under_locks-E-Ledger : goal.ghosts-under_locks-E-Ledger
+ghosts-under_locks-E-Ledger g a = record { name = a.ended.name; parts = a.ended.parts }

@@ -1,0 +1,106 @@
+//! What workers are lent, and how it comes back.
+
+ghost use Rattle.std.specs.Prelude.{◌≡◌, ◌+◌, [], ◌∷◌, ◌++◌, length, vec_len, IfOk};
+ghost use Rattle.yp_board.specs.Views.{IsFront};
+ghost use Rattle.yp_serve.specs.Serving.{Leaves};
+
+use crate::spec::ServeRefused;
+use std::alloc::Global;
+use yp_board::{Show, Tell};
+use yp_io::{Disk, NoMemory};
+use yp_publish::Publisher;
+use yp_server::Desk;
+use yp_session::Session;
+use yp_shared::{Locked, Site};
+
+/// What all workers share.
+#[derive(Drop)]
+pub(crate) struct Lent<D: Disk, B: Show, A, T, C, L> {
+    pub(crate) publisher: Publisher<D, B>,
+    pub(crate) desk: Desk<A, T, C>,
+    pub(crate) listen: L,
+}
+
+/// What is handed back where memory has run out.
+pub(crate) fn refuse<D: Disk, B: Show + Drop, A, T, C, L>(
+    lent: Lent<D, B, A, T, C, L>,
+) -> ServeRefused<D, A, T, C, L>
+    ensures desk { result.desk ≡ lent.desk }
+    ensures listen { result.listen ≡ lent.listen }
+    ensures stand { Leaves D.history lent.publisher.catalogue (B.log lent.publisher.board) result.disks.items }
+{
+    let Lent {
+        publisher,
+        desk,
+        listen,
+    } = lent;
+    let (disks, _) = disassemble(publisher);
+    ServeRefused {
+        disks,
+        desk,
+        listen,
+    }
+}
+
+/// The disks of the maps and the board.
+fn disassemble<D: Disk, B: Show>(publisher: Publisher<D, B>) -> (Vec<D>, B)
+    ensures board { result.1 ≡ publisher.board }
+    ensures stand { Leaves D.history publisher.catalogue (B.log publisher.board) result.0.items }
+{
+    let _catalog = publisher.catalog();
+    publisher.into_parts()
+}
+
+/// The disks of the maps and the writer, of which the reader knows nothing that wasn't shown.
+pub(crate) fn take_apart<S: Site, D: Disk, B: Tell>(
+    mut locked: Locked<S, D, B>,
+    mut reader: B::Reader,
+) -> (Vec<D>, B)
+where
+    B::Reader: Drop,
+    ensures stand { Leaves D.history S.catalogue (B.log result.1) result.0.items }
+    ensures grown { IsFront (B.Reader.seen reader).known (B.log result.1) }
+{
+    // That what it knew is a front of what was shown holds whether or not it can be told more.
+    let _ = locked.tell_to(&mut reader);
+    disassemble(locked.into_publisher())
+}
+
+/// What workers work with: the memory of a session and a reader for each, and a reader that stays behind.
+#[derive(Drop)]
+pub(crate) struct Staff<V> {
+    pub(crate) sessions: Vec<Session>,
+    pub(crate) readers: Vec<V>,
+    pub(crate) spare: V,
+}
+
+impl<V: Drop> Staff<V> {
+    /// So many workers, with one reader more.
+    pub(crate) fn of(alloc: Global, mut readers: Vec<V>, workers: u32) -> Result<Staff<V>, NoMemory>
+        requires { vec_len readers ≡ workers + 1 }
+        ensures sessions { IfOk result (λ staff. length staff.sessions.items ≡ workers) }
+        ensures readers { IfOk result (λ staff. length staff.readers.items ≡ workers) }
+        ensures all { IfOk result (λ staff. readers.items ≡ staff.readers.items ++ staff.spare ∷ []) }
+    {
+        let Some(spare) = readers.pop() else {
+            unreachable!();
+        };
+        let sessions = sessions_of(alloc, workers)?;
+        Ok(Staff {
+            sessions,
+            readers,
+            spare,
+        })
+    }
+}
+
+/// The memory of so many sessions.
+fn sessions_of(alloc: Global, count: u32) -> Result<Vec<Session>, NoMemory>
+    ensures { IfOk result (λ sessions. length sessions.items ≡ count) }
+{
+    let mut sessions = Vec::with_capacity(alloc, count as usize).map_err(|_| NoMemory)?;
+    for _ in 0..count {
+        sessions.push_reserved(Session::new(alloc)?);
+    }
+    Ok(sessions)
+}
