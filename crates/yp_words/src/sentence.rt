@@ -23,6 +23,7 @@ pub enum Task {
     XfrFlagged,
     Revnet,
     Sample,
+    Push,
     Bind,
     Portmap,
     Getport,
@@ -55,7 +56,7 @@ struct Sentence {
 }
 
 /// All sentences.
-const SENTENCES: [Sentence; 19] = [
+const SENTENCES: [Sentence; 20] = [
     Sentence {
         task: Task::Once,
         forms: &[Form::Exactly("once"), Form::Store],
@@ -118,6 +119,18 @@ const SENTENCES: [Sentence; 19] = [
         task: Task::Sample,
         forms: &[Form::Exactly("sample"), Form::Number, Form::Number],
         further: Further::NoMore,
+    },
+    Sentence {
+        task: Task::Push,
+        forms: &[
+            Form::Exactly("push"),
+            Form::Name,
+            Form::Port,
+            Form::Window,
+            Form::Number,
+            Form::Store,
+        ],
+        further: Further::Each(Form::Host),
     },
     Sentence {
         task: Task::Bind,
