@@ -1,18 +1,16 @@
 -- What a datagram asks of the binder (ypbind of yp.x), by the order of refusals of RFC 5531 section 9.
-use Rattle.std.specs.Prelude.{ℕ, List, drop, Result, Ok, Err, not, ◌&&◌, ◌==◌, if◌then◌else◌}
+use Rattle.std.specs.Prelude.{ℕ, List, drop, Result, Ok, Err, ◌==◌, if◌then◌else◌}
 use Rattle.std.specs.Int.{w16, from_be_bytes}
 use Rattle.yp_io.specs.declared.stream.Peer.{Peer}
 use Rattle.yp_xdr.specs.declared.fault.XdrFault.{XdrFault}
 use Rattle.yp_xdr.specs.Kind.{Value}
 use Rattle.yp_xdr.specs.Reading.{Unread, reading}
 use Rattle.yp_rpc.specs.declared.call.CallHead.{CallHead}
-use Rattle.yp_rpc.specs.declared.call.Heard.{Heard}
-use Rattle.yp_rpc.specs.declared.call.Heard.TheVariants.{Call, WrongRpc, Noise}
+use Rattle.yp_judge.specs.declared.judging.Judged.{Judged}
+use Rattle.yp_judge.specs.declared.judging.Judged.TheVariants.{Ignored, Refused, Admitted}
 use Rattle.yp_rpc.specs.declared.reply.ReplyHead.{ReplyHead}
-use Rattle.yp_rpc.specs.declared.reply.ReplyHead.TheVariants.{Success, ProgUnavail, ProgMismatch, ProcUnavail}
-use Rattle.yp_rpc.specs.declared.reply.ReplyHead.TheVariants.{GarbageArgs, RpcMismatch, AuthError}
-use Rattle.yp_rpc.specs.Numbers.{auth_none, auth_sys, auth_rejectedcred, rpc_version}
-use Rattle.yp_rpc.specs.Call.{heard}
+use Rattle.yp_rpc.specs.declared.reply.ReplyHead.TheVariants.{Success, ProcUnavail, GarbageArgs}
+use Rattle.yp_judge.specs.Judging.{judged}
 use Rattle.yp_msgs.specs.Numbers.{bind_program, bind_version, bind_null_procedure, bind_domain_procedure}
 use Rattle.yp_msgs.specs.Numbers.{setdom_procedure}
 use Rattle.yp_msgs.specs.Messages.{req_domain, req_domain_view}
@@ -57,20 +55,11 @@ procedure_asked call bytes =
     then setdom_asked call.xid (reading set_dom (record { at = 0; bytes = bytes }))
     else AsksHead call.xid ProcUnavail))
 
--- the first reason why a call isn't let to a procedure, or what the procedure is asked
-abbrev pub call_asked : CallHead → List ℕ → Asked
-call_asked call bytes =
-    if not (call.flavor == auth_none) && not (call.flavor == auth_sys)
-    then AsksHead call.xid (AuthError auth_rejectedcred)
-    else (if not (call.prog == bind_program) then AsksHead call.xid ProgUnavail
-    else (if not (call.vers == bind_version) then AsksHead call.xid (ProgMismatch bind_version bind_version)
-    else procedure_asked call bytes))
-
-abbrev pub heard_asked : List ℕ → Heard → Asked
-heard_asked message Noise = AsksNothing
-heard_asked message (WrongRpc xid) = AsksHead xid (RpcMismatch rpc_version rpc_version)
-heard_asked message (Call call) = call_asked call (drop call.body message)
+abbrev pub judged_asked : List ℕ → Judged → Asked
+judged_asked message Ignored = AsksNothing
+judged_asked message (Refused xid head) = AsksHead xid head
+judged_asked message (Admitted call) = procedure_asked call (drop call.body message)
 
 -- what a datagram asks
 abbrev pub asked_by : List ℕ → Asked
-asked_by message = heard_asked message (heard message)
+asked_by message = judged_asked message (judged bind_program bind_version message)

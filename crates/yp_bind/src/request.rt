@@ -3,13 +3,13 @@
 ghost use Rattle.std.specs.Prelude.{◌≡◌, ◌≤◌, length};
 ghost use Rattle.yp_msgs.specs.Bindings.{set_dom_view, SetDomIsWithin};
 ghost use Rattle.yp_bind.specs.Requests.{server_of};
-ghost use Rattle.yp_bind.specs.Requests.{asked_view, asked_by, call_asked, procedure_asked};
+ghost use Rattle.yp_bind.specs.Requests.{asked_view, asked_by, procedure_asked};
 
 use yp_io::Peer;
+use yp_judge::{Judged, judge};
 use yp_msgs::protocol::{BIND_DOMAIN, BIND_NULL, BINDPROG, BINDVERS, SETDOM};
 use yp_msgs::{ReadMessage, ReqDomain, SetDom};
-use yp_rpc::protocol::{AUTH_NONE, AUTH_REJECTEDCRED, AUTH_SYS, RPC_VERSION};
-use yp_rpc::{CallHead, Heard, ReplyHead, read_call};
+use yp_rpc::{CallHead, ReplyHead};
 use yp_xdr::Cursor;
 
 /// What a datagram asks of the binder.
@@ -85,44 +85,13 @@ fn ask_procedure<'a>(call: &CallHead, arguments: &'a [u8]) -> Request<'a>
     }
 }
 
-/// What a call asks, or the first reason why it isn't let to a procedure.
-fn ask_call<'a>(call: &CallHead, arguments: &'a [u8]) -> Request<'a>
-    ensures { asked_view result ≡ call_asked call.now arguments.now }
-{
-    let xid = call.xid;
-    if call.flavor != AUTH_NONE && call.flavor != AUTH_SYS {
-        let head = ReplyHead::AuthError {
-            stat: AUTH_REJECTEDCRED,
-        };
-        return Request::Answer { xid, head };
-    }
-    if call.prog != BINDPROG {
-        let head = ReplyHead::ProgUnavail;
-        return Request::Answer { xid, head };
-    }
-    if call.vers != BINDVERS {
-        let head = ReplyHead::ProgMismatch {
-            low: BINDVERS,
-            high: BINDVERS,
-        };
-        return Request::Answer { xid, head };
-    }
-    ask_procedure(call, arguments)
-}
-
 /// What a datagram asks.
 pub(crate) fn read_request(datagram: &[u8]) -> Request<'_>
     ensures { asked_view result ≡ asked_by datagram.now }
 {
-    match read_call(datagram) {
-        Heard::Noise => Request::Nothing,
-        Heard::WrongRpc { xid } => Request::Answer {
-            xid,
-            head: ReplyHead::RpcMismatch {
-                low: RPC_VERSION,
-                high: RPC_VERSION,
-            },
-        },
-        Heard::Call(call) => ask_call(&call, &datagram[call.body..]),
+    match judge(datagram, BINDPROG, BINDVERS) {
+        Judged::Ignored => Request::Nothing,
+        Judged::Refused { xid, head } => Request::Answer { xid, head },
+        Judged::Admitted(call) => ask_procedure(&call, &datagram[call.body..]),
     }
 }

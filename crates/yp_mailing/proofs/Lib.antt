@@ -4,3 +4,4 @@ pub mod Calling
 pub mod Going
 pub mod Lines
 pub mod Doing
+pub mod Pushed

@@ -2,3 +2,5 @@ pub mod Telling
 pub mod Getport
 pub mod Portmap
 pub mod Bind
+pub mod Finding
+pub mod Push

@@ -6,10 +6,13 @@
 #![tactic(auto)]
 
 mod binding;
+mod finding;
 mod getport;
 mod portmap;
+mod push;
 mod text;
 
 pub use binding::bind_domain;
 pub use getport::ask_mapper;
 pub use portmap::serve_ports;
+pub use push::push_map;

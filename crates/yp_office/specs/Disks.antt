@@ -1,6 +1,7 @@
 -- The disks of maps, as a run has them.
-use Rattle.std.specs.Prelude.{◌≡◌, ℕ, ◌+◌, List, [], ◌∷◌, map, Option, None, Some}
-use Rattle.yp_io.specs.Disk.{History}
+use Rattle.std.specs.Prelude.{◌≡◌, ◌⊎◌, ℕ, ◌+◌, List, [], ◌∷◌, map, Option, None, Some, slice_get}
+use Rattle.std.specs.Option.{option_and_then, option_map}
+use Rattle.yp_io.specs.Disk.{History, LeavesOnly, MayLeave, after_sync}
 use Rattle.yp_board.specs.Catalogues.{Name, name_view}
 use Rattle.yp_office.specs.declared.disks.NamedDisk.{NamedDisk}
 
@@ -20,6 +21,15 @@ only_history history (disk ∷ another ∷ more) = None
 
 abbrev pub history_of : {D : Type 0} → (D → Option History) → List (NamedDisk D) → Option History
 history_of history disks = only_history history (disks_of disks)
+
+-- what a disk tells, of those in their order
+abbrev pub told_at : {D : Type 0} → (D → Option History) → ℕ → List (NamedDisk D) → Option History
+told_at history place disks = option_and_then history (slice_get (disks_of disks) place)
+
+-- Nothing was written to a disk: it stays, or was synced, and no crash left what one might not have left before.
+pub record IsOnlyRead (old new : Option History) : Type 0 where
+  pub same : (new ≡ old) ⊎ (new ≡ option_map after_sync old)
+  pub any_moment : LeavesOnly old new (MayLeave old)
 
 -- how often disks have failed, together
 abbrev pub total_faults : {D : Type 0} → (D → ℕ) → List D → ℕ

@@ -6,6 +6,7 @@
 
 mod disks;
 mod file;
+mod hosts;
 mod lines;
 mod office;
 mod row;
@@ -13,6 +14,7 @@ mod status;
 
 pub use disks::{Apart, NamedDisk, named_disks, put_together, take_apart};
 pub use file::status_of_file;
+pub use hosts::table_of;
 pub use lines::{LINE_MAX, Line, add, add_map, add_number};
 pub use office::Office;
 pub use row::{BYTES_RULE, KEY_RULE, ROWS_RULE, VALUE_RULE, status_of_row};

@@ -1,20 +1,18 @@
 -- What a datagram asks of the port mapper, by the order of refusals of RFC 5531 section 9.
-use Rattle.std.specs.Prelude.{ℕ, List, drop, Result, Ok, Err, not, ◌&&◌, ◌==◌, if◌then◌else◌}
+use Rattle.std.specs.Prelude.{ℕ, List, drop, Result, Ok, Err, ◌==◌, if◌then◌else◌}
 use Rattle.yp_xdr.specs.declared.fault.XdrFault.{XdrFault}
 use Rattle.yp_xdr.specs.Kind.{Value}
 use Rattle.yp_xdr.specs.Reading.{Unread, reading}
 use Rattle.yp_rpc.specs.declared.call.CallHead.{CallHead}
-use Rattle.yp_rpc.specs.declared.call.Heard.{Heard}
-use Rattle.yp_rpc.specs.declared.call.Heard.TheVariants.{Call, WrongRpc, Noise}
-use Rattle.yp_rpc.specs.declared.reply.ReplyHead.TheVariants.{Success, ProgUnavail, ProgMismatch, ProcUnavail}
-use Rattle.yp_rpc.specs.declared.reply.ReplyHead.TheVariants.{GarbageArgs, RpcMismatch, AuthError}
-use Rattle.yp_rpc.specs.Call.{heard}
+use Rattle.yp_judge.specs.declared.judging.Judged.{Judged}
+use Rattle.yp_judge.specs.declared.judging.Judged.TheVariants.{Ignored, Refused, Admitted}
+use Rattle.yp_rpc.specs.declared.reply.ReplyHead.TheVariants.{Success, ProcUnavail, GarbageArgs}
+use Rattle.yp_judge.specs.Judging.{judged}
 use Rattle.yp_portmap.specs.declared.mapping.Mapping.{Mapping}
 use Rattle.yp_portmap.specs.declared.request.Request.{Request}
 use Rattle.yp_portmap.specs.declared.request.Request.TheVariants.{Nothing, Answer, Set, Unset, GetPort, Dump}
 use Rattle.yp_portmap.specs.Numbers.{program, version, null_procedure, set_procedure, unset_procedure}
 use Rattle.yp_portmap.specs.Numbers.{getport_procedure, dump_procedure}
-use Rattle.yp_rpc.specs.Numbers.{auth_none, auth_sys, auth_rejectedcred, rpc_version}
 use Rattle.yp_portmap.specs.Registry.{mapping_kind, mapping_of}
 
 -- what is asked with a mapping, or the refusal of arguments that no front of the bytes spells
@@ -33,20 +31,11 @@ procedure_asked call bytes =
     else (if call.procedure == dump_procedure then Dump call.xid
     else Answer call.xid ProcUnavail))))
 
--- the first reason why a call isn't let to a procedure, or what the procedure is asked
-abbrev pub call_asked : CallHead → List ℕ → Request
-call_asked call bytes =
-    if not (call.flavor == auth_none) && not (call.flavor == auth_sys)
-    then Answer call.xid (AuthError auth_rejectedcred)
-    else (if not (call.prog == program) then Answer call.xid ProgUnavail
-    else (if not (call.vers == version) then Answer call.xid (ProgMismatch version version)
-    else procedure_asked call bytes))
-
-abbrev pub heard_asked : List ℕ → Heard → Request
-heard_asked message Noise = Nothing
-heard_asked message (WrongRpc xid) = Answer xid (RpcMismatch rpc_version rpc_version)
-heard_asked message (Call call) = call_asked call (drop call.body message)
+abbrev pub judged_asked : List ℕ → Judged → Request
+judged_asked message Ignored = Nothing
+judged_asked message (Refused xid head) = Answer xid head
+judged_asked message (Admitted call) = procedure_asked call (drop call.body message)
 
 -- what a datagram asks
 abbrev pub asked_by : List ℕ → Request
-asked_by message = heard_asked message (heard message)
+asked_by message = judged_asked message (judged program version message)

@@ -1,13 +1,13 @@
 //! What a datagram asks of the port mapper.
 
 ghost use Rattle.std.specs.Prelude.{◌≡◌};
-ghost use Rattle.yp_portmap.specs.Requests.{asked_by, call_asked, procedure_asked};
+ghost use Rattle.yp_portmap.specs.Requests.{asked_by, procedure_asked};
 
 use crate::mapping::Mapping;
 use crate::protocol::{DUMP, GETPORT, NULL, PROGRAM, SET, UNSET, VERSION};
+use yp_judge::{Judged, judge};
 use yp_msgs::ReadMessage;
-use yp_rpc::protocol::{AUTH_NONE, AUTH_REJECTEDCRED, AUTH_SYS, RPC_VERSION};
-use yp_rpc::{CallHead, Heard, ReplyHead, read_call};
+use yp_rpc::{CallHead, ReplyHead};
 use yp_xdr::Cursor;
 
 /// What a datagram asks of the port mapper.
@@ -61,44 +61,13 @@ fn ask_procedure(call: &CallHead, arguments: &[u8]) -> Request
     }
 }
 
-/// What a call asks, or the first reason why it isn't let to a procedure.
-fn ask_call(call: &CallHead, arguments: &[u8]) -> Request
-    ensures { result ≡ call_asked call.now arguments.now }
-{
-    let xid = call.xid;
-    if call.flavor != AUTH_NONE && call.flavor != AUTH_SYS {
-        let head = ReplyHead::AuthError {
-            stat: AUTH_REJECTEDCRED,
-        };
-        return Request::Answer { xid, head };
-    }
-    if call.prog != PROGRAM {
-        let head = ReplyHead::ProgUnavail;
-        return Request::Answer { xid, head };
-    }
-    if call.vers != VERSION {
-        let head = ReplyHead::ProgMismatch {
-            low: VERSION,
-            high: VERSION,
-        };
-        return Request::Answer { xid, head };
-    }
-    ask_procedure(call, arguments)
-}
-
 /// What a datagram asks.
 pub fn read_request(datagram: &[u8]) -> Request
     ensures { result ≡ asked_by datagram.now }
 {
-    match read_call(datagram) {
-        Heard::Noise => Request::Nothing,
-        Heard::WrongRpc { xid } => Request::Answer {
-            xid,
-            head: ReplyHead::RpcMismatch {
-                low: RPC_VERSION,
-                high: RPC_VERSION,
-            },
-        },
-        Heard::Call(call) => ask_call(&call, &datagram[call.body..]),
+    match judge(datagram, PROGRAM, VERSION) {
+        Judged::Ignored => Request::Nothing,
+        Judged::Refused { xid, head } => Request::Answer { xid, head },
+        Judged::Admitted(call) => ask_procedure(&call, &datagram[call.body..]),
     }
 }

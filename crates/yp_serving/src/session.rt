@@ -1,6 +1,6 @@
 //! The command `session`: one connection over stored maps.
 
-ghost use Rattle.std.specs.Prelude.{◌≡◌, ◌≢◌, ℕ, ◌≤◌, ◌<◌, None, IsTrue, IfOk, All, map, length};
+ghost use Rattle.std.specs.Prelude.{◌≡◌, ◌≢◌, ℕ, ◌≤◌, ◌<◌, None, IsTrue, All, map, length};
 ghost use Rattle.yp_io.specs.Counts.{HasRisen};
 ghost use Rattle.yp_slot.specs.Stands.{file_max};
 ghost use Rattle.yp_board.specs.Catalogues.{name_view, maps_max, catalog_fault};
@@ -22,7 +22,9 @@ use std::alloc::{AllocError, Global};
 use std::random::RandomSource;
 use yp_board::{Catalog, CatalogFault, MapName};
 use yp_io::{Clock, Dial, Disk, Inbox, NoMemory, Pair, Peer, Sink, Source, Texts};
-use yp_office::{Apart, NamedDisk, Office, Status, put_together, status_of_file, take_apart};
+use yp_office::{
+    Apart, NamedDisk, Office, Status, put_together, status_of_file, table_of, take_apart,
+};
 use yp_publish::OpenFault;
 use yp_rpc::laws;
 use yp_server::{Desk, Stock, serve_wire};
@@ -120,17 +122,6 @@ fn session_on<S: Source, K: Sink, D: Disk, A: Dial, T: Texts, C: Clock, W: Witne
     };
     put_together(disks, apart);
     (status, desk)
-}
-
-/// A table of the hosts that words name.
-fn table_of(alloc: Global, words: Vec<HostWord>) -> Result<Hosts, NoMemory>
-    ensures { IfOk result (λ hosts. hosts ≡ map host_view words.items) }
-{
-    let mut hosts = Hosts::new(alloc);
-    for word in words {
-        hosts.add(word.name, word.peer)?;
-    }
-    Ok(hosts)
 }
 
 /// Serves the input as one connection over the stored versions of these maps, by the host `own`, to a caller at `peer`.

@@ -12,9 +12,9 @@ use Rattle.yp_office.specs.declared.status.Status.{Status}
 use Rattle.yp_office.specs.declared.status.Status.TheVariants.{Done, Usage, ReadFault, WriteFault, Torn, TooLong, NoMemory, Damaged, NoVersion, DiskFault, Rows, OrderSpent, Refused, GenerationsSpent, Enough}
 use Rattle.yp_office.specs.declared.disks.NamedDisk.{NamedDisk}
 use Rattle.yp_office.specs.declared.office.Office.{Office}
-use Rattle.yp_office.specs.Disks.{names_of, history_of}
+use Rattle.yp_office.specs.Disks.{names_of, history_of, IsOnlyRead}
 use Rattle.yp_office.specs.Seeing.{Seeing, output, DiskFails, WriteFails}
-use Rattle.yp_storing.specs.Check.{Checks, IsOnlyRead, CheckDoes, check_may_end}
+use Rattle.yp_storing.specs.Check.{Checks, CheckDoes, check_may_end}
 
 -- a version that stands is told, but for faults and want of memory
 pub checked_whole : (store : Name) (file : List ℕ) (version : MapVersion) (status : Status) (before after : Option (List ℕ)) → Checks store file status before after → stands file ≡ Stored version

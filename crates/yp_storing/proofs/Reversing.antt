@@ -25,7 +25,7 @@ use Rattle.yp_office.specs.declared.status.Status.TheVariants.{NoMemory, Damaged
 use Rattle.yp_office.specs.declared.status.Status.TheVariants.{Rows, OrderSpent, Refused, GenerationsSpent}
 use Rattle.yp_storing.specs.declared.build.Built.{Built}
 use Rattle.yp_storing.specs.Build.{LeavesFew, may_have_written}
-use Rattle.yp_storing.specs.Check.{IsOnlyRead}
+use Rattle.yp_office.specs.Disks.{IsOnlyRead}
 use Rattle.yp_storing.specs.Revnet.{Job, Site, site_of, IsMade, IsUnmade, Held, IsHeld, IsPlanned, IsHindered, IsSound}
 use Rattle.yp_storing.specs.Revnet.{IsSpent, Stops, StopsCommit, AtFiles, IsOf, IsBeforeOrMade, Ends, Renews}
 use Rattle.yp_io.specs.DiskLaws.{counts_now}

@@ -1,10 +1,8 @@
 -- What `check` tells: what the bytes of a stored file stand for.
 use Rattle.std.specs.Prelude.{◌≡◌, ◌⊎◌, ℕ, Bool, true, false, List, [], ◌++◌, length, Option, if◌then◌else◌}
 use Rattle.std.specs.Prelude.{codes, decimal, IfSome}
-use Rattle.std.specs.Option.{option_map}
 use Rattle.std.specs.Io.KnownBytes.{Appends}
 use Rattle.yp_io.specs.Streams.{AppendsFront}
-use Rattle.yp_io.specs.Disk.{History, LeavesOnly, MayLeave, after_sync}
 use Rattle.yp_version.specs.Versions.{MapVersion}
 use Rattle.yp_slot.specs.Commits.{generation_of, winning}
 use Rattle.yp_slot.specs.Stands.{Stands, stands}
@@ -15,7 +13,7 @@ use Rattle.yp_office.specs.declared.status.Status.{Status}
 use Rattle.yp_office.specs.declared.status.Status.TheVariants.{Done, WriteFault, NoMemory, Damaged, NoVersion}
 use Rattle.yp_office.specs.declared.status.Status.TheVariants.{DiskFault}
 use Rattle.yp_office.specs.declared.office.Office.{Office}
-use Rattle.yp_office.specs.Disks.{names_of}
+use Rattle.yp_office.specs.Disks.{names_of, IsOnlyRead}
 use Rattle.yp_office.specs.Seeing.{Seeing, history, output, DiskFails, WriteFails, HasCauses}
 
 -- what stands behind the generation of a secure version
@@ -47,11 +45,6 @@ Checks store file (Damaged map at rule) before after =
 Checks store file (DiskFault map) before after = (name_view map ≡ store) × (after ≡ before)
 Checks store file NoMemory before after = after ≡ before
 Checks store file _ before after = ⊥
-
--- Nothing was written to a disk: it stays, or was synced, and no crash left what one might not have left before.
-pub record IsOnlyRead (old new : Option History) : Type 0 where
-  pub same : (new ≡ old) ⊎ (new ≡ option_map after_sync old)
-  pub any_moment : LeavesOnly old new (MayLeave old)
 
 -- the statuses with which `check` may end
 abbrev pub check_may_end : Status → Bool

@@ -1,7 +1,6 @@
 -- What `revnet` stores and tells: the reverse of the domain's netgroups, behind the version that stands.
 use Rattle.std.specs.Prelude.{◌≡◌, ◌⊎◌, ◌<◌, ℕ, ◌+◌, Bool, true, false, List, length, Option, Some, None, option_map}
-use Rattle.std.specs.Prelude.{bytes_eq, if◌then◌else◌, slice_get, Result, Ok, Err, IfSome, IfErr, OnOk, IsTrue, ⊤}
-use Rattle.std.specs.Option.{option_and_then}
+use Rattle.std.specs.Prelude.{bytes_eq, if◌then◌else◌, Result, Ok, Err, IfSome, IfErr, OnOk, IsTrue, ⊤}
 use Rattle.std.specs.Io.KnownBytes.{Appends}
 use Rattle.yp_io.specs.Counts.{HasRisen}
 use Rattle.yp_io.specs.Streams.{AppendsFront}
@@ -24,16 +23,14 @@ use Rattle.yp_build.specs.After.{other_master, last_order, was_secure}
 use Rattle.yp_publish.specs.Standing.{stands_for}
 use Rattle.yp_words.specs.Forms.{by_user}
 use Rattle.yp_words.specs.Words.{netgroup_of}
-use Rattle.yp_office.specs.declared.disks.NamedDisk.{NamedDisk}
 use Rattle.yp_office.specs.declared.office.Office.{Office}
 use Rattle.yp_office.specs.declared.status.Status.{Status}
 use Rattle.yp_office.specs.declared.status.Status.TheVariants.{Done, WriteFault, NoMemory, Damaged, NoVersion}
 use Rattle.yp_office.specs.declared.status.Status.TheVariants.{DiskFault, Rows, OrderSpent, Refused, GenerationsSpent}
-use Rattle.yp_office.specs.Disks.{names_of, disks_of}
+use Rattle.yp_office.specs.Disks.{names_of, told_at, IsOnlyRead}
 use Rattle.yp_office.specs.Seeing.{Seeing, output, moment, WriteFails, DiskFails, HasCauses}
 use Rattle.yp_storing.specs.declared.build.Built.{Built}
 use Rattle.yp_storing.specs.Build.{build_line, TellsLine, LeavesFew, tells_stored, may_have_written}
-use Rattle.yp_storing.specs.Check.{IsOnlyRead}
 
 -- ---- what is to be made
 
@@ -179,10 +176,6 @@ Reverses job site made WriteFault before after =
 Reverses job site made status before after = Stops job site status × (after ≡ before)
 
 -- ---- the disks
-
--- what a disk tells, of those in their order
-abbrev pub told_at : {D : Type 0} → (D → Option History) → ℕ → List (NamedDisk D) → Option History
-told_at history place disks = option_and_then history (slice_get (disks_of disks) place)
 
 -- P holds of what two files hold, where that is told
 abbrev pub AtFiles : Option History → Option History → ℕ → (Site → Type 0) → Type 0

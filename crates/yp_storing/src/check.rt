@@ -3,8 +3,8 @@
 ghost use Rattle.std.specs.Prelude.{◌≡◌, ◌≢◌, [], ◌∷◌, IsTrue, IfSome};
 ghost use Rattle.yp_io.specs.Counts.{HasRisen};
 ghost use Rattle.yp_board.specs.Catalogues.{name_view};
-ghost use Rattle.yp_storing.specs.Check.{check_line, Checks, IsOnlyRead, CheckDoes, check_may_end};
-ghost use Rattle.yp_office.specs.Disks.{names_of};
+ghost use Rattle.yp_storing.specs.Check.{check_line, Checks, CheckDoes, check_may_end};
+ghost use Rattle.yp_office.specs.Disks.{names_of, IsOnlyRead};
 ghost use Rattle.yp_office.specs.Seeing.{seeing, IsPassedOn};
 ghost use Rattle.yp_office.specs.Status.{IsTellable};
 ghost use Rattle.yp_words.specs.Words.{IsNamed};

@@ -12,12 +12,12 @@ ghost use Rattle.yp_slot.specs.Slots.{is_ready};
 ghost use Rattle.yp_board.specs.Catalogues.{name_view};
 ghost use Rattle.yp_build.specs.After.{was_secure};
 ghost use Rattle.yp_words.specs.Words.{IsNamed, netgroup_of};
-ghost use Rattle.yp_office.specs.Disks.{names_of, faults_of};
+ghost use Rattle.yp_office.specs.Disks.{names_of, faults_of, told_at};
 ghost use Rattle.yp_office.specs.Seeing.{seeing, IsPassedOn};
 ghost use Rattle.yp_office.specs.Status.{IsTellable};
 ghost use Rattle.yp_storing.specs.Build.{last_view, may_have_written, LeavesFew};
 ghost use Rattle.yp_storing.specs.Revnet.{job_of, field_of, HasOrder, IsMade, IsUnmade, is_stop};
-ghost use Rattle.yp_storing.specs.Revnet.{StopsCommit, IsOf, IsBeforeOrMade, told_at, Renews};
+ghost use Rattle.yp_storing.specs.Revnet.{StopsCommit, IsOf, IsBeforeOrMade, Renews};
 ghost use Rattle.yp_storing.specs.Revnet.{IsToldEnd, RevnetDoes, revnet_may_end};
 
 use crate::build::{Built, tell_built};

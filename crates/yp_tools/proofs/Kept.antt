@@ -1,7 +1,7 @@
 -- What every command keeps: the names of the disks, and the moment that the clock tells.
 use Rattle.std.proofs.Common.{◌≡◌, List, refl, ap, ◌∙◌}
 use Rattle.yp_session.specs.Wires.{Wire}
-use Rattle.yp_words.specs.Words.{Meaning, Once, Session, Check, Build, Xfr, Walk, Sample, Bind, Portmap, Getport, Ask, Revnet}
+use Rattle.yp_words.specs.Words.{Meaning, Once, Session, Check, Build, Xfr, Walk, Sample, Push, Bind, Portmap, Getport, Ask, Revnet}
 use Rattle.yp_office.specs.declared.office.Office.{Office}
 use Rattle.yp_office.specs.declared.status.Status.{Status}
 use Rattle.yp_office.specs.Disks.{names_of}
@@ -36,6 +36,7 @@ module _ {S K D C A I T : Type 0} (seen : Seeing S K D C A I T) (status : Status
   }
   command_keeps (Revnet name store) h = record { names = h.0.names; told = h.0.told }
   command_keeps (Sample start count) h = by_stays (record old { wire = record old.wire { sink = new.wire.sink } }) h.0.stays refl refl
+  command_keeps (Push name port window turns store hosts) h = record { names = h.0.loads.names; told = h.0.told }
   command_keeps (Bind port policy turns domain hosts) h = by_stays (record old { wire = record old.wire { sink = new.wire.sink }; inbox = new.inbox }) h.0.stays refl refl
   command_keeps (Portmap port turns) h = by_stays (record old { wire = record old.wire { sink = new.wire.sink }; inbox = new.inbox }) h.0.stays refl refl
   command_keeps (Getport port turns peer prog vers prot) h = by_stays (record old { wire = record old.wire { sink = new.wire.sink }; inbox = new.inbox }) h.0.stays refl refl

@@ -1,7 +1,7 @@
 -- What is done for words that weren't parsed.
 use Rattle.std.proofs.Common.{◌≡◌, ℕ, List, Result, Ok, Err, refl, inr, true}
 use Rattle.yp_session.specs.Wires.{Wire}
-use Rattle.yp_words.specs.Words.{Meaning, Once, Session, Check, Build, Xfr, Walk, Sample}
+use Rattle.yp_words.specs.Words.{Meaning, Once, Session, Check, Build, Xfr, Walk, Sample, Push}
 use Rattle.yp_words.specs.Words.{Bind, Portmap, Getport, Ask, TakesMemory, IsSentenceOfWords, IsUsage, Revnet}
 use Rattle.yp_words.specs.declared.words.ParseFault.{ParseFault}
 use Rattle.yp_words.specs.declared.words.ParseFault.TheVariants as fault
@@ -24,6 +24,7 @@ command_may (Xfr name force store host flag) = refl
 command_may (Walk name force store host port turns flag) = refl
 command_may (Revnet name store) = refl
 command_may (Sample start count) = refl
+command_may (Push name port window turns store hosts) = refl
 command_may (Bind port policy turns domain hosts) = refl
 command_may (Portmap port turns) = refl
 command_may (Getport port turns peer prog vers prot) = refl

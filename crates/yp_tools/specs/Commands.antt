@@ -2,7 +2,7 @@
 use Rattle.std.specs.Prelude.{◌≡◌, ◌⊎◌, ℕ, Bool, IsTrue, List, Result, Ok, Err}
 use Rattle.yp_session.specs.Wires.{Wire}
 use Rattle.yp_words.specs.Words.{Meaning, Once, Session, Check, Build, Xfr, Walk}
-use Rattle.yp_words.specs.Words.{Sample, Bind, Portmap, Getport, Ask, TakesMemory, Revnet}
+use Rattle.yp_words.specs.Words.{Sample, Push, Bind, Portmap, Getport, Ask, TakesMemory, Revnet}
 use Rattle.yp_words.specs.declared.words.ParseFault.{ParseFault}
 use Rattle.yp_words.specs.declared.words.ParseFault.TheVariants as fault
 use Rattle.yp_office.specs.declared.office.Office.{Office}
@@ -20,6 +20,7 @@ use Rattle.yp_mailing.specs.Bind.{BindDoes, bind_may_end, servers_of}
 use Rattle.yp_mailing.specs.Getport.{GetportDoes, getport_may_end, begun}
 use Rattle.yp_mailing.specs.Portmap.{PortmapDoes, portmap_may_end}
 use Rattle.yp_walking.specs.Walk.{WalkDoes, walk_may_end}
+use Rattle.yp_mailing.specs.Push.{PushDoes, job_of, push_may_end}
 use Rattle.yp_tools.specs.Asking.{AskDoes, ask_may_end}
 use Rattle.yp_tools.specs.Transferring.{TransferDoes}
 use Rattle.yp_tools.specs.declared.program.Outside.{Outside}
@@ -41,6 +42,8 @@ CommandDoes seen (Revnet name store) status old new before after =
     RevnetDoes seen name store status old new × (after ≡ before)
 CommandDoes seen (Sample start count) status old new before after =
     SampleDoes seen start count status old new × (after ≡ before)
+CommandDoes seen (Push name port window turns store hosts) status old new before after =
+    PushDoes seen (job_of name port window turns store hosts) status old new × (after ≡ before)
 CommandDoes seen (Bind port policy turns domain hosts) status old new before after =
     BindDoes seen turns domain (servers_of hosts) policy status old new × (after ≡ before)
 CommandDoes seen (Portmap port turns) status old new before after =
@@ -75,6 +78,7 @@ may_end (Xfr name force store host flag) status = xfr_may_end status
 may_end (Walk name force store host port turns flag) status = walk_may_end status
 may_end (Revnet name store) status = revnet_may_end status
 may_end (Sample start count) status = sample_may_end status
+may_end (Push name port window turns store hosts) status = push_may_end status
 may_end (Bind port policy turns domain hosts) status = bind_may_end status
 may_end (Portmap port turns) status = portmap_may_end status
 may_end (Getport port turns peer prog vers prot) status = getport_may_end status

@@ -15,7 +15,7 @@ use crate::transferring::transfer;
 use std::alloc::Global;
 use std::random::RandomSource;
 use yp_io::{Clock, Dial, Disk, Inbox, Pair, Sink, Source, Texts, write_all};
-use yp_mailing::{ask_mapper, bind_domain, serve_ports};
+use yp_mailing::{ask_mapper, bind_domain, push_map, serve_ports};
 use yp_office::{NamedDisk, Office, Status};
 use yp_serving::{serve_once, serve_session, tell_sample};
 use yp_session::{Trail, Witness};
@@ -100,6 +100,7 @@ fn obey<S: Source, K: Sink, D: Disk, C: Clock, A: Dial, I: Inbox, T: Texts, W: W
             stores,
             hosts,
         } => return serve_session(alloc, rt, name, addr, stores, hosts, office, witness),
+        Command::Push(job) => return push_map(alloc, rt, job, office),
     };
     (status, office)
 }

@@ -2,7 +2,7 @@
 use Rattle.std.proofs.Common.{◌≡◌, ℕ, zero, suc, ◌+◌, ◌<◌, ◌≤◌, Bool, true, false, cond, not, ◌&&◌, List}
 use Rattle.std.proofs.Common.{[], ◌∷◌, ◌++◌, length, map, drop, Option, Some, None, refl, sym, ap, ◌∙◌, subst}
 use Rattle.std.proofs.Common.{arith, length-append, append_assoc}
-use Rattle.std.specs.Prelude.{nat_le, nat_lt, ◌==◌, is_some, IsSome, All, filter}
+use Rattle.std.specs.Prelude.{nat_le, nat_lt, ◌==◌, is_some, IsSome, All, filter, unwrap_or}
 use Rattle.std.specs.List.{find, list_any, prefix_len}
 use Rattle.std.specs.Option.{option_map}
 use Rattle.std.proofs.lemmas.Bool.Decides.{nat_tests}
@@ -14,10 +14,11 @@ use Rattle.yp_bind.specs.Rounds.{is_same_peer}
 use Rattle.yp_board.specs.Catalogues.{Name, name_max, maps_max, is_same, is_map_name, is_name as is_short_name}
 use Rattle.yp_board.specs.Catalogues.{again_from, with_numbers, bad_name, twice, catalog_fault}
 use Rattle.yp_words.specs.Forms.{Form, has_form, before, after, is_name, is_store, is_kind_store, is_text, is_key}
-use Rattle.yp_words.specs.Forms.{is_host, is_reverse}
+use Rattle.yp_words.specs.Forms.{is_host, is_reverse, is_number, window_of, window_max}
+use Rattle.std.specs.Str.Parse.{digits_value}
 use Rattle.yp_words.specs.Words.{Meaning, Further, Sentence, once, session, check, build, build_flagged, xfr}
-use Rattle.yp_words.specs.Words.{xfr_flagged, sample, bind, portmap, getport, cat, catk, which, poll, IsOneMap, revnet}
-use Rattle.yp_words.specs.Words.{walk, walk_flagged}
+use Rattle.yp_words.specs.Words.{xfr_flagged, sample, push, bind, portmap, getport, cat, catk, which, poll, IsOneMap}
+use Rattle.yp_words.specs.Words.{walk, walk_flagged, revnet}
 use Rattle.yp_words.specs.Words.{match_key, maps, innetgr, asking, sentences, further_fitting}
 use Rattle.yp_words.specs.Words.{serving_fitting, joins, is_new_store, served, fitting, is_whole, asked, name_of}
 use Rattle.yp_words.specs.Words.{kind_of, joins_servers, servers_fitting, peer_word, host_of, IsNamed, HasNames}
@@ -335,6 +336,34 @@ revnet_named (first ∷ name ∷ store ∷ more) h =
 sample_named : (words : List (List ℕ)) → Fit sample words → HasNames (sample.asks words)
 sample_named words h = tt
 
+-- a window is one
+window_some : (word : List ℕ) → is_some (window_of word) ≡ true → 0 < unwrap_or (window_of word) 0
+window_some word h = at (is_number word && nat_le 1 (digits_value 10 word) && nat_le (digits_value 10 word) window_max)
+    refl
+  where
+    at : (b : Bool)
+        → (is_number word && nat_le 1 (digits_value 10 word) && nat_le (digits_value 10 word) window_max) ≡ b
+        → 0 < unwrap_or (window_of word) 0
+    at true e =
+        let parts = both (is_number word && nat_le 1 (digits_value 10 word)) (nat_le (digits_value 10 word) window_max) e in
+        let one = (both (is_number word) (nat_le 1 (digits_value 10 word)) parts.0).1 in
+        rw e (grind (arith, nat_tests))
+    at false e = let none = rw e at h in absurd cc
+
+push_named : (words : List (List ℕ)) → Fit push words → HasNames (push.asks words)
+unfolding HaveForms
+push_named [] h = absurd h.forms
+push_named (first ∷ []) h = absurd h.forms.1
+push_named (first ∷ name ∷ []) h = absurd h.forms.1.1
+push_named (first ∷ name ∷ port ∷ []) h = absurd h.forms.1.1.1
+push_named (first ∷ name ∷ port ∷ window ∷ []) h = absurd h.forms.1.1.1.1
+push_named (first ∷ name ∷ port ∷ window ∷ turns ∷ []) h = absurd h.forms.1.1.1.1.1
+push_named (first ∷ name ∷ port ∷ window ∷ turns ∷ store ∷ more) h = (
+  name_short name h.forms.1.0,
+  window_some window h.forms.1.1.1.0,
+  store_named store h.forms.1.1.1.1.1.0,
+)
+
 -- as many servers as a binder may have
 servers_few : (earlier words : List (List ℕ)) → length earlier ≤ servers_max
     → servers_fitting earlier words ≡ length words → length earlier + length words ≤ servers_max
@@ -464,7 +493,7 @@ asked_named words meaning e =
                     walk_named,
                     (
                       walk_flagged_named,
-                      (revnet_named, (sample_named, (bind_named, (portmap_named, (getport_named, questions))))),
+                      (revnet_named, (sample_named, (push_named, (bind_named, (portmap_named, (getport_named, questions)))))),
                     ),
                   ),
                 ),

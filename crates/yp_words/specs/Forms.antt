@@ -74,6 +74,14 @@ abbrev pub port_of : List ℕ → Option ℕ
 port_of word = if is_number word && nat_le 1 (digits_value 10 word)
     && nat_le (digits_value 10 word) 65535 then Some (digits_value 10 word) else None
 
+-- how many slaves of a push may be outstanding: 1 to 4096
+abbrev pub window_max : ℕ
+window_max = 4096
+
+abbrev pub window_of : List ℕ → Option ℕ
+window_of word = if is_number word && nat_le 1 (digits_value 10 word)
+    && nat_le (digits_value 10 word) window_max then Some (digits_value 10 word) else None
+
 -- an address: four numbers of a byte with dots between, a colon and a port
 abbrev pub address_of : List ℕ → Option Peer
 address_of word = do
@@ -137,6 +145,7 @@ pub data Form : Type 0 where
   Pair : Form
   Number : Form
   Port : Form
+  Window : Form
   Policy : Form
   Address : Form
   Text : Form
@@ -154,6 +163,7 @@ has_form ReverseStore word = is_reverse_store word
 has_form Pair word = is_row word
 has_form Number word = is_number word
 has_form Port word = is_some (port_of word)
+has_form Window word = is_some (window_of word)
 has_form Policy word = is_fixed word || is_ypsetme word || is_ypset word
 has_form Address word = is_some (address_of word)
 has_form Text word = is_text word
@@ -172,6 +182,7 @@ form_view code.ReverseStore = ReverseStore
 form_view code.Pair = Pair
 form_view code.Number = Number
 form_view code.Port = Port
+form_view code.Window = Window
 form_view code.Policy = Policy
 form_view code.Address = Address
 form_view code.Text = Text

@@ -1,5 +1,6 @@
 -- The command line: sentences made of words.
-use Rattle.std.specs.Prelude.{◌≡◌, ℕ, ◌+◌, ◌≤◌, Bool, true, not, nat_le, nat_lt, bytes_eq, IsSome, ⊤, ◌&&◌, ◌==◌, max}
+use Rattle.std.specs.Prelude.{◌≡◌, ℕ, ◌+◌, ◌≤◌, ◌<◌, Bool, true, not, nat_le, nat_lt, bytes_eq, IsSome, ⊤, ◌&&◌}
+use Rattle.std.specs.Prelude.{◌==◌, max}
 use Rattle.std.specs.Prelude.{if◌then◌else◌, List, [], ◌∷◌, ◌++◌, All, length, drop, map, filter, fold}
 use Rattle.std.specs.Prelude.{slice_index_or, Option, Some, None, unwrap_or, Result, Ok, Err, codes, string_bytes}
 use Rattle.std.specs.List.{find, list_any}
@@ -54,6 +55,9 @@ pub data Meaning : Type 0 where
   -- the own name, and the map of netgroups by users or by hosts
   Revnet : (name : List ℕ) (store : Name) → Meaning
   Sample : (start count : ℕ) → Meaning
+  -- the own name, the port, how many slaves may be outstanding, how many turns there are, the map, and the hosts that
+  -- are known
+  Push : (name : List ℕ) (port window turns : ℕ) (store : Name) (hosts : List Host) → Meaning
   -- the port, who may bind the domain, how many turns there are, the domain, and the servers
   Bind : (port : ℕ) (policy : Policy) (turns : ℕ) (domain : List ℕ) (hosts : List Host) → Meaning
   -- the port, and how many turns there are
@@ -82,6 +86,10 @@ value_of word = unwrap_or (number_of word) 0
 -- the port that a word says, and 0 where it says none
 abbrev pub port_value : List ℕ → ℕ
 port_value word = unwrap_or (form.port_of word) 0
+
+-- how many slaves may be outstanding, as a word says it, and 0 where it says nothing
+abbrev pub window_value : List ℕ → ℕ
+window_value word = unwrap_or (form.window_of word) 0
 
 -- the address that a word says, and that of nobody where it says none
 abbrev pub nobody : Peer
@@ -205,6 +213,15 @@ sample = record {
   asks = λ words. Sample (value_of (word_at 1 words)) (value_of (word_at 2 words));
 }
 
+abbrev pub push : Sentence
+push = record {
+  forms =
+      form.Exactly (codes "push") ∷ form.Name ∷ form.Port ∷ form.Window ∷ form.Number ∷ form.Store ∷ [];
+  further = Each form.Host;
+  asks = λ words. Push (word_at 1 words) (port_value (word_at 2 words)) (window_value (word_at 3 words))
+      (value_of (word_at 4 words)) (name_of (word_at 5 words)) (map host_of (drop 6 words));
+}
+
 -- the policy that a word says, and `fixed` where it says none
 abbrev pub policy_of : List ℕ → Policy
 policy_of word = if is_ypset word then Ypset else (if is_ypsetme word then Ypsetme else Fixed)
@@ -285,7 +302,7 @@ innetgr = record {
 unfoldable pub sentences : List Sentence
 sentences =
     once ∷ session ∷ check ∷ build ∷ build_flagged ∷ xfr ∷ xfr_flagged ∷ walk ∷ walk_flagged ∷ revnet ∷ sample
-    ∷ bind ∷ portmap ∷ getport ∷ cat ∷ catk ∷ which ∷ poll ∷ match_key ∷ maps ∷ innetgr ∷ []
+    ∷ push ∷ bind ∷ portmap ∷ getport ∷ cat ∷ catk ∷ which ∷ poll ∷ match_key ∷ maps ∷ innetgr ∷ []
 
 -- how many words at the front are of a form
 abbrev pub each_fitting : Form → List (List ℕ) → ℕ
@@ -369,6 +386,17 @@ command_of words = ok_or (asked sentences words) (wrong_word sentences words)
 abbrev pub netgroup_of : Name → Name
 netgroup_of store = (store.0, codes "netgroup")
 
+-- the map of servers in the domain of a map
+abbrev pub ypservers_of : Name → Name
+ypservers_of store = (store.0, codes "ypservers")
+
+abbrev pub is_ypservers : Name → Bool
+is_ypservers store = bytes_eq store.1 (codes "ypservers")
+
+-- a map and that of the servers in its domain, unless it is that one itself
+abbrev pub with_ypservers : Name → List Name
+with_ypservers store = if is_ypservers store then store ∷ [] else store ∷ ypservers_of store ∷ []
+
 -- the maps whose files a command reads or writes, in the order of its words
 abbrev pub stores_of : Meaning → List Name
 stores_of (Once store rows) = []
@@ -379,6 +407,7 @@ stores_of (Xfr name force store host flag) = store ∷ []
 stores_of (Walk name force store host port turns flag) = store ∷ []
 stores_of (Revnet name store) = store ∷ netgroup_of store ∷ []
 stores_of (Sample start count) = []
+stores_of (Push name port window turns store hosts) = with_ypservers store
 stores_of (Bind port policy turns domain hosts) = []
 stores_of (Portmap port turns) = []
 stores_of (Getport port turns peer prog vers prot) = []
@@ -402,6 +431,7 @@ port_of (Xfr name force store host flag) = None
 port_of (Walk name force store host port turns flag) = Some port
 port_of (Revnet name store) = None
 port_of (Sample start count) = None
+port_of (Push name port window turns store hosts) = Some port
 port_of (Bind port policy turns domain hosts) = Some port
 port_of (Portmap port turns) = Some port
 port_of (Getport port turns peer prog vers prot) = Some port
@@ -427,6 +457,8 @@ meaning (command.Walk job) =
     job.xfr.flag
 meaning (command.Revnet name store) = Revnet name.items (name_view store)
 meaning (command.Sample start count) = Sample start count
+meaning (command.Push job) =
+    Push job.name.items job.port job.window job.turns (name_view job.store) (map host_view job.hosts.items)
 meaning (command.Bind port policy turns domain hosts) =
     Bind port policy turns domain.items (map host_view hosts.items)
 meaning (command.Portmap port turns) = Portmap port turns
@@ -461,6 +493,7 @@ asks_of task.Walk = walk.asks
 asks_of task.WalkFlagged = walk_flagged.asks
 asks_of task.Revnet = revnet.asks
 asks_of task.Sample = sample.asks
+asks_of task.Push = push.asks
 asks_of task.Bind = bind.asks
 asks_of task.Portmap = portmap.asks
 asks_of task.Getport = getport.asks
@@ -503,6 +536,7 @@ HasNames (Xfr name force store host flag) = IsOneMap name store
 HasNames (Walk name force store host port turns flag) = IsOneMap name store
 HasNames (Revnet name store) = (length name ≤ name_max) × IsNamed store × (is_reverse store.1 ≡ true)
 HasNames (Sample start count) = ⊤
+HasNames (Push name port window turns store hosts) = (length name ≤ name_max) × (0 < window) × IsNamed store
 HasNames (Bind port policy turns domain hosts) = (length domain ≤ name_max) × (length hosts ≤ servers_max)
 HasNames (Portmap port turns) = ⊤
 HasNames (Getport port turns peer prog vers prot) = ⊤
@@ -520,6 +554,7 @@ TakesMemory (Xfr name force store host flag) = Unit {0}
 TakesMemory (Walk name force store host port turns flag) = Unit {0}
 TakesMemory (Revnet name store) = Unit {0}
 TakesMemory (Sample start count) = ⊥
+TakesMemory (Push name port window turns store hosts) = Unit {0}
 TakesMemory (Bind port policy turns domain hosts) = Unit {0}
 TakesMemory (Portmap port turns) = ⊥
 TakesMemory (Getport port turns peer prog vers prot) = ⊥

@@ -45,6 +45,23 @@ pub struct WalkJob {
     pub turns: u32,
 }
 
+/// A map that slaves are to fetch.
+#[derive(Debug, Drop)]
+pub struct PushJob {
+    /// The own name, which is no slave's, and from which the slaves fetch.
+    pub name: Vec<u8>,
+    /// The port at which the slaves tell how it went.
+    pub port: u16,
+    /// How many slaves may be outstanding.
+    pub window: u32,
+    /// How many turns are taken at most.
+    pub turns: u32,
+    /// The map.
+    pub store: MapName,
+    /// The addresses of slaves.
+    pub hosts: Vec<HostWord>,
+}
+
 /// What the words of the command line ask for.
 #[derive(Debug, Drop)]
 pub enum Command {
@@ -87,6 +104,8 @@ pub enum Command {
         start: u32,
         count: u32,
     },
+    /// Asks the slaves of a map's domain to fetch it.
+    Push(PushJob),
     /// Asks these hosts for a domain from `port`, and answers there which one it is bound to, in so many turns.
     /// `policy` says who may bind it by a call.
     Bind {

@@ -4,7 +4,7 @@ ghost use Rattle.std.specs.Prelude.{◌≡◌, ◌<◌, ◌≤◌};
 ghost use Rattle.std.specs.List.{list_all};
 ghost use Rattle.yp_words.specs.Forms.{is_name_byte, is_name, is_store, is_kind_store, is_row, number_of, octet_of};
 ghost use Rattle.yp_words.specs.Forms.{port_of, address_of, is_host, is_text, is_key, before, after, has_form};
-ghost use Rattle.yp_words.specs.Forms.{is_reverse_store, form_view};
+ghost use Rattle.yp_words.specs.Forms.{is_reverse_store, window_of, form_view};
 
 use yp_board::NAME_MAX;
 use yp_build::Kind;
@@ -25,6 +25,9 @@ const BY_HOST: &str = "netgroup.byhost";
 pub const FORCE: &str = "force";
 
 const NEWER: &str = "newer";
+
+/// The most slaves of a push that may be outstanding.
+const WINDOW_MAX: u32 = 4_096;
 
 /// The policies of a binder: nobody binds a domain by a call, a caller on its own host does, or anybody.
 const FIXED: &str = "fixed";
@@ -55,6 +58,8 @@ pub enum Form {
     Number,
     /// A port: a number from 1 to 65535.
     Port,
+    /// How many slaves of a push may be outstanding: a number from 1 to 4096.
+    Window,
     /// Who may bind a domain: `fixed`, `ypsetme` or `ypset`.
     Policy,
     /// Four numbers of a byte with dots between, a colon, and a port from 1 on.
@@ -85,6 +90,7 @@ impl Form {
             Form::Pair => is_row(word),
             Form::Number => number_of(word).is_some(),
             Form::Port => port_of(word).is_some(),
+            Form::Window => window_of(word).is_some(),
             Form::Policy => word == FIXED || word == YPSETME || word == YPSET,
             Form::Address => address_of(word).is_some(),
             Form::Text => is_text(word),
@@ -166,6 +172,16 @@ pub fn port_of(word: &str) -> Option<u16>
 {
     match u16::try_from(number_of(word)?) {
         Ok(port) if port > 0 => Some(port),
+        _ => None,
+    }
+}
+
+/// How many slaves of a push may be outstanding, which isn't 0.
+pub fn window_of(word: &str) -> Option<u32>
+    ensures { result ≡ window_of word.now }
+{
+    match number_of(word)? {
+        window if window > 0 && window <= WINDOW_MAX => Some(window),
         _ => None,
     }
 }

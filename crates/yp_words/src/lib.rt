@@ -10,6 +10,8 @@ mod sentence;
 mod serving;
 mod words;
 
-pub use command::{Command, HostWord, KeyValue, WalkJob, XfrJob};
+pub use command::{Command, HostWord, KeyValue, PushJob, WalkJob, XfrJob};
 pub use form::BY_USER;
-pub use words::{ParseFault, disk_names, netgroup_of, parse, port_of, stores_of};
+pub use words::{
+    ParseFault, disk_names, is_ypservers, netgroup_of, parse, port_of, stores_of, ypservers_of,
+};

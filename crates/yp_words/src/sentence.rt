@@ -25,6 +25,7 @@ pub enum Task {
     WalkFlagged,
     Revnet,
     Sample,
+    Push,
     Bind,
     Portmap,
     Getport,
@@ -57,7 +58,7 @@ struct Sentence {
 }
 
 /// All sentences.
-const SENTENCES: [Sentence; 21] = [
+const SENTENCES: [Sentence; 22] = [
     Sentence {
         task: Task::Once,
         forms: &[Form::Exactly("once"), Form::Store],
@@ -147,6 +148,18 @@ const SENTENCES: [Sentence; 21] = [
         task: Task::Sample,
         forms: &[Form::Exactly("sample"), Form::Number, Form::Number],
         further: Further::NoMore,
+    },
+    Sentence {
+        task: Task::Push,
+        forms: &[
+            Form::Exactly("push"),
+            Form::Name,
+            Form::Port,
+            Form::Window,
+            Form::Number,
+            Form::Store,
+        ],
+        further: Further::Each(Form::Host),
     },
     Sentence {
         task: Task::Bind,

@@ -8,14 +8,15 @@ ghost use Rattle.yp_words.specs.Words.{given_at, question_of};
 ghost use Rattle.yp_words.specs.Words.{command_of, disk_names, stores_of, port_of, row_view, host_view, meaning, texts};
 ghost use Rattle.yp_words.specs.Words.{asks_of, once, session, check, sample, portmap, getport, Build};
 ghost use Rattle.yp_words.specs.Words.{Xfr, bind, port_value, policy_of, TakesMemory, IsSentenceOfWords, revnet};
-ghost use Rattle.yp_words.specs.Words.{netgroup_of, Walk};
+ghost use Rattle.yp_words.specs.Words.{netgroup_of, push, window_value, ypservers_of, is_ypservers, Walk};
+ghost use Rattle.yp_words.specs.Words.{with_ypservers};
 ghost use Rattle.yp_words.specs.Forms.{is_force};
 ghost use Rattle.yp_words.specs.Words.{IsUsage, HasNames};
 
-use crate::command::{Command, HostWord, KeyValue, WalkJob, XfrJob};
+use crate::command::{Command, HostWord, KeyValue, PushJob, WalkJob, XfrJob};
 use crate::form::{
     ANY, FORCE, SECURE, YPSET, YPSETME, address_of, cut_at, is_host, is_store, number_of,
-    port_of as port_in,
+    port_of as port_in, window_of,
 };
 use crate::sentence::{Task, task_of, wrong_word};
 use std::alloc::{AllocError, Global};
@@ -24,6 +25,9 @@ use yp_board::{MapName, copy_names};
 use yp_build::Kind;
 use yp_io::{NoMemory, Peer};
 use yp_question::Question;
+
+/// The map of the servers of a domain.
+const YPSERVERS: &[u8] = b"ypservers";
 
 /// Why the words are no command.
 #[derive(Clone, Copy, Debug, PartialEq, Eq)]
@@ -65,6 +69,13 @@ fn port_value(word: &str) -> u16
     ensures { result ≡ port_value word.now }
 {
     port_in(word).unwrap_or(0)
+}
+
+/// How many slaves may be outstanding, as a word says it, and 0 where it says nothing.
+fn window_value(word: &str) -> u32
+    ensures { result ≡ window_value word.now }
+{
+    window_of(word).unwrap_or(0)
 }
 
 fn store_of(alloc: Global, word: &str) -> Result<MapName, AllocError>
@@ -239,6 +250,19 @@ fn sample_of(words: &[String]) -> Command
     }
 }
 
+fn push_of(alloc: Global, words: &[String]) -> Result<Command, AllocError>
+    ensures { IfOk result (λ command. meaning command ≡ push.asks (texts words.now)) }
+{
+    Ok(Command::Push(PushJob {
+        name: text_at(alloc, words, 1)?,
+        port: port_value(word_at(words, 2)),
+        window: window_value(word_at(words, 3)),
+        turns: value_of(word_at(words, 4)),
+        store: store_of(alloc, word_at(words, 5))?,
+        hosts: hosts_of(alloc, words_from(words, 6))?,
+    }))
+}
+
 /// The policy that a word says, and `fixed` where it says none.
 fn policy_of(word: &str) -> Policy
     ensures { result ≡ policy_of word.now }
@@ -395,6 +419,7 @@ fn command_for(alloc: Global, task: Task, words: &[String]) -> Result<Command, A
         Task::WalkFlagged => walk_of(alloc, words, Some(word_at(words, 7) == SECURE)),
         Task::Revnet => revnet_of(alloc, words),
         Task::Sample => Ok(sample_of(words)),
+        Task::Push => push_of(alloc, words),
         Task::Bind => bind_of(alloc, words),
         Task::Portmap => Ok(portmap_of(words)),
         Task::Getport => Ok(getport_of(words)),
@@ -430,6 +455,7 @@ pub fn stores_of(alloc: Global, command: &Command) -> Result<Vec<MapName>, NoMem
         Command::Xfr(job) => only_name(alloc, &job.store),
         Command::Walk(job) => only_name(alloc, &job.xfr.store),
         Command::Revnet { store, .. } => with_netgroup(alloc, store),
+        Command::Push(job) => with_ypservers(alloc, &job.store),
         Command::Session { stores, .. } => copy_names(alloc, stores),
         Command::Once { .. } => return Ok(Vec::new(alloc)),
         Command::Sample { .. } => return Ok(Vec::new(alloc)),
@@ -457,6 +483,7 @@ pub fn port_of(command: &Command) -> Option<u16>
         Command::Walk(job) => Some(job.port),
         Command::Revnet { .. } => None,
         Command::Sample { .. } => None,
+        Command::Push(job) => Some(job.port),
         Command::Bind { port, .. } => Some(*port),
         Command::Portmap { port, .. } => Some(*port),
         Command::Getport { port, .. } => Some(*port),
@@ -490,6 +517,35 @@ fn with_netgroup(alloc: Global, store: &MapName) -> Result<Vec<MapName>, AllocEr
     let netgroup = netgroup_of(alloc, store)?;
     let store = store.copy(alloc)?;
     Ok(vec![in alloc; store, netgroup]?)
+}
+
+/// The map of servers in the domain of a map.
+pub fn ypservers_of(alloc: Global, store: &MapName) -> Result<MapName, AllocError>
+    ensures { IfOk result (λ servers. name_view servers ≡ ypservers_of (name_view store.now)) }
+{
+    Ok(MapName {
+        domain: Vec::from_slice(alloc, &store.domain)?,
+        map: Vec::from_slice(alloc, YPSERVERS)?,
+    })
+}
+
+/// Whether a map is that of the servers in its domain.
+pub fn is_ypservers(store: &MapName) -> bool
+    ensures { result ≡ is_ypservers (name_view store.now) }
+{
+    store.map.as_slice() == YPSERVERS
+}
+
+/// A list of a name, and of that of the servers in its domain, unless it is that one itself.
+fn with_ypservers(alloc: Global, store: &MapName) -> Result<Vec<MapName>, AllocError>
+    ensures { IfOk result (λ names. map name_view names.items ≡ with_ypservers (name_view store.now)) }
+{
+    if is_ypservers(store) {
+        return only_name(alloc, store);
+    }
+    let servers = ypservers_of(alloc, store)?;
+    let store = store.copy(alloc)?;
+    Ok(vec![in alloc; store, servers]?)
 }
 
 /// The maps whose files the command of these words reads or writes, in the order of the words. There are none where

@@ -234,6 +234,98 @@ fn bind_parsed(rt: HostRuntime) {
     }
 }
 
+/// Words of `push` that are no sentence, and the word that is wrong.
+const WRONG_PUSHES: [(&[&str], usize); 10] = [
+    (&["push"], 1),
+    (&["push", ".m1", "7001"], 1),
+    (&["push", "m1", "0", "3", "5", "lab/hosts.byname"], 2),
+    (&["push", "m1", "7001", "0", "5", "lab/hosts.byname"], 3),
+    (&["push", "m1", "7001", "4097", "5", "lab/hosts.byname"], 3),
+    (&["push", "m1", "7001", "03", "5", "lab/hosts.byname"], 3),
+    (&["push", "m1", "7001", "3", "-1", "lab/hosts.byname"], 4),
+    (&["push", "m1", "7001", "3", "5"], 5),
+    (&["push", "m1", "7001", "3", "5", "hosts.byname"], 5),
+    (
+        &[
+            "push",
+            "m1",
+            "7001",
+            "3",
+            "5",
+            "lab/hosts.byname",
+            "s1@127.0.0.1:7011",
+            "s2",
+        ],
+        7,
+    ),
+];
+
+#[test]
+fn wrong_push_words(rt: HostRuntime) {
+    for (words, word) in &WRONG_PUSHES {
+        check_wrong(&rt, rt.alloc(), *words, *word);
+    }
+}
+
+/// The own name, the window, the turns, the domain, the map, and the first host.
+type Pushed<'a> = (
+    &'a [u8],
+    u32,
+    u32,
+    (&'a [u8], &'a [u8]),
+    Option<(&'a [u8], Peer)>,
+);
+
+fn pushed(command: &Command) -> Option<Pushed<'_>> {
+    match command {
+        Command::Push(job) => Some((
+            &job.name,
+            job.window,
+            job.turns,
+            (&job.store.domain, &job.store.map),
+            match job.hosts.first() {
+                Some(host) => Some(host_of(host)),
+                None => None,
+            },
+        )),
+        _ => None,
+    }
+}
+
+fn check_pushed(rt: &impl Abort, alloc: Global, words: &[&str], wanted: Option<Pushed<'_>>) {
+    let command = parsed(rt, alloc, words);
+    assert_same(rt, &port_of(&command), &Some(7_001), "the port");
+    assert_same(rt, &pushed(&command), &wanted, "push");
+}
+
+#[test]
+fn push_parsed(rt: HostRuntime) {
+    let name: &[u8] = b"m1";
+    let domain: &[u8] = b"lab";
+    let map: &[u8] = b"hosts.byname";
+    let slave: &[u8] = b"s1";
+    check_pushed(
+        &rt,
+        rt.alloc(),
+        &["push", "m1", "7001", "1", "0", "lab/hosts.byname"],
+        Some((name, 1, 0, (domain, map), None)),
+    );
+    check_pushed(
+        &rt,
+        rt.alloc(),
+        &[
+            "push",
+            "m1",
+            "7001",
+            "4096",
+            "5",
+            "lab/hosts.byname",
+            "s1@127.0.0.1:111",
+        ],
+        Some((name, 4_096, 5, (domain, map), Some((slave, MAPPER)))),
+    );
+}
+
 #[test]
 fn a_command_without_a_port(rt: HostRuntime) {
     let command = parsed(&rt, rt.alloc(), &["sample", "0", "3"]);

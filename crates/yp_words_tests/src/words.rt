@@ -591,6 +591,28 @@ fn revnet_parsed(rt: HostRuntime) {
     assert_same(&rt, &two_of(&names), &READ, "the files");
 }
 
+/// The maps whose files `push` reads, in their order, and that it reads one alone where they are the same.
+#[test]
+fn push_files(rt: HostRuntime) {
+    let alloc = rt.alloc();
+    let words = strings(
+        &rt,
+        alloc,
+        &["push", "m1", "7001", "3", "5", "lab/hosts.byname"],
+    );
+    let names = disk_names(alloc, &words).expect(&rt, "memory");
+    assert_same(&rt, &two_of(&names), &PUSHED, "two files");
+    let words = strings(
+        &rt,
+        alloc,
+        &["push", "m1", "7001", "3", "5", "lab/ypservers"],
+    );
+    let names = disk_names(alloc, &words).expect(&rt, "memory");
+    assert_same(&rt, &names.len(), &1, "one file");
+}
+
+const PUSHED: Option<(Names, Names)> = Some(((b"lab", b"hosts.byname"), (b"lab", b"ypservers")));
+
 const REVERSED: Option<(&[u8], Names)> = Some((b"m1", (b"lab", b"netgroup.byhost")));
 
 const READ: Option<(Names, Names)> = Some(((b"lab", b"netgroup.byhost"), (b"lab", b"netgroup")));

@@ -6,7 +6,7 @@ use Rattle.yp_slot.specs.Stands.{stands}
 use Rattle.yp_slot.specs.Slots.{Held}
 use Rattle.yp_board.specs.Catalogues.{name_view}
 use Rattle.yp_storing.specs.Build.{last_view}
-use Rattle.yp_storing.specs.Check.{IsOnlyRead}
+use Rattle.yp_office.specs.Disks.{IsOnlyRead}
 use Rattle.yp_storing.specs.Revnet.{job_of, field_of}
 use Rattle.yp_storing.proofs.Reversing.{renews_err, fails, built_is, risen_first, risen_second, risen_later, made_as, unmade_as}
 use Rattle.yp_storing.proofs.Reversing.{store_unloaded, netgroup_unloaded, none_stands, unmade, unstored, renewed}

@@ -2,7 +2,7 @@ use Rattle.std.proofs.Common.{◌≡◌, ◌∙◌, List, map, ap, sym, refl}
 use Rattle.yp_board.specs.Catalogues.{name_view}
 use Rattle.yp_question.specs.Questions.{bytes_of}
 use Rattle.yp_words.specs.declared.command.KeyValue.{KeyValue}
-use Rattle.yp_words.specs.Words.{Once, Session, Check, Build, Xfr, Walk, Sample, Bind}
+use Rattle.yp_words.specs.Words.{Once, Session, Check, Build, Xfr, Walk, Sample, Push, Bind}
 use Rattle.yp_words.specs.Words.{Portmap, Getport, Ask, meaning, row_view, host_view, Revnet}
 use Rattle.yp_office.specs.Seeing.{Seeing, seeing}
 use Rattle.yp_tools.specs.Commands.{CommandDoes, may_end}
@@ -26,6 +26,24 @@ returns-in-Session-clause-may_end g c =
     same_end (meaning c.args.command)
     (Session c.in-Session.name.items c.in-Session.addr (map name_view c.in-Session.stores.items) (map host_view c.in-Session.hosts.items))
     c.serve_session.result.0 c.serve_session.result.0 (ap meaning c.in-Session.is) refl c.serve_session.ensures.may_end
+
+pub returns-in-Push-clause-does : goal.returns-in-Push-clause-does
+unfolding CommandDoes
+returns-in-Push-clause-does g c =
+    let wires = g.W.Witness.wires in
+    let job = c.in-Push.job in
+    same_does (seeing g.S.Source g.K.Sink g.D.Disk g.C.Clock g.A.Dial g.I.Inbox g.T.Texts) c.args.office (wires c.args.witness.now) (meaning c.args.command)
+    (Push job.name.items job.port job.window job.turns (name_view job.store) (map host_view job.hosts.items))
+    c.push_map.result.0 c.push_map.result.0 c.push_map.result.1 c.push_map.result.1 (wires c.args.witness.now) (wires c.args.witness.now)
+    (ap meaning c.in-Push.is) refl refl refl (c.push_map.ensures.does, refl)
+
+pub returns-in-Push-clause-may_end : goal.returns-in-Push-clause-may_end
+unfolding may_end
+returns-in-Push-clause-may_end g c =
+    let job = c.in-Push.job in
+    same_end (meaning c.args.command)
+    (Push job.name.items job.port job.window job.turns (name_view job.store) (map host_view job.hosts.items))
+    c.push_map.result.0 c.push_map.result.0 (ap meaning c.in-Push.is) refl c.push_map.ensures.may_end
 
 pub returns-clause-does : goal.returns-clause-does
 unfolding CommandDoes
