@@ -2,4 +2,5 @@ pub mod Kept
 pub mod Dispatch
 pub mod Unparsed
 pub mod Sourced
+pub mod Walked
 pub mod Sending

@@ -22,7 +22,7 @@ use Rattle.yp_exchange.specs.Runs.{sent_all}
 use Rattle.yp_exchange.specs.LogRuns.{replies_of}
 use Rattle.yp_xfr.specs.declared.fault.XfrFault.{XfrFault}
 use Rattle.yp_xfr.specs.declared.fault.XfrFault.TheVariants as fault
-use Rattle.yp_xfr.specs.Fetching.{Outcome}
+use Rattle.yp_xfr.specs.Fetching.{Wanted, Outcome}
 use Rattle.yp_xfr.specs.Fetched.{place_of, Fetched}
 use Rattle.yp_xfr.specs.Dialing.{FetchesFrom}
 use Rattle.yp_xfr.specs.Laws.{FetchedIsOne}
@@ -35,7 +35,7 @@ use Rattle.yp_office.specs.Seeing.{Seeing, output, history, WriteFails, DiskFail
 use Rattle.yp_storing.specs.Build.{TellsLine, tells_stored}
 use Rattle.yp_storing.specs.Xfr.{Order, Held, IsHeld, wanted, against, IsFetchedIn, IsNotStored, Comes, Tells, xfr_line}
 use Rattle.yp_storing.specs.Xfr.{Transfers, Declines, XfrDoes, dialing}
-use Rattle.yp_tools.specs.Transferring.{IsStoredOf, IsToldHeld}
+use Rattle.yp_tools.specs.Transferring.{IsStored, IsToldHeld}
 
 -- ---- statuses
 
@@ -46,7 +46,7 @@ not_told store fault.NoMemory status before after tells told =
 not_told store why status before after tells told =
     let wrong : IsTrue (tells_stored (Xfr why)) = subst (λ (s : Status). IsTrue (tells_stored s)) tells.0 told in cc
 
-not_loaded : (store : Name) (why : SlotFault) (status : Status) → Fails store why status → IsTrue (tells_stored status)
+pub not_loaded : (store : Name) (why : SlotFault) (status : Status) → Fails store why status → IsTrue (tells_stored status)
     → ⊥
 not_loaded store (slot.Damaged at rule) (Damaged map a r) fails told = cc
 not_loaded store slot.DiskFault (DiskFault map) fails told = cc
@@ -68,7 +68,7 @@ never_damaged (Some v) at rule e = cc
 abbrev held_with : Option MapVersion → ℕ → Held
 held_with version generation = record { version = version; generation = generation }
 
-held_same : (old : Option History) (held other : Held) → IsHeld old held → IsToldHeld old other → held ≡ other
+pub held_same : (old : Option History) (held other : Held) → IsHeld old held → IsToldHeld old other → held ≡ other
 held_same old held other is told =
     let here = subst (λ (h : Option History). IsHeld h held) told.tells is in
     let version : held.version ≡ other.version =
@@ -96,32 +96,34 @@ line_done text _ before after tells fine = absurd tells
 
 module _ {S K D C A I T : Type 0} (seen : Seeing S K D C A I T) (order : Order) (status : Status)
     (old new : Office S K D C A I T) where
-  module _ (catalogue : Catalogue) (after : Log) where
-    -- what was fetched is the source's
-    stored_of : (held : Held) (outcome : Outcome) (result : Result Installed XfrFault) (Failed : Type 0)
-        → ((version : MapVersion) → outcome ≡ Ok version → IsOfSource catalogue (wanted order held) after version)
-        → IsHeld (history seen old) held → Comes order held Failed outcome result
-        → OnOk result ((image : List ℕ) → MayLeave (history seen new) image → IsFetchedIn order held outcome image)
-        → Tells order.store result status (output seen old) (output seen new) → IsTrue (tells_stored status)
-        → IsStoredOf catalogue order after (history seen old) (history seen new)
-    stored_of held (Ok version) (Ok installed) Failed of_source is comes stored tells told = record {
-      held = held;
-      is_held = is;
-      version = version;
-      of_source = of_source version refl;
-      stored = stored;
-    }
-    stored_of held (Err why) (Ok installed) Failed of_source is comes stored tells told = absurd cc
-    stored_of held outcome (Err why) Failed of_source is comes stored tells told =
-        absurd (not_told order.store why status _ _ tells told)
+  -- what was fetched is stored, and is what P says of it
+  pub stored_of : (P : Wanted → MapVersion → Type 0) (held : Held) (outcome : Outcome)
+      (result : Result Installed XfrFault) (Failed : Type 0)
+      → ((version : MapVersion) → outcome ≡ Ok version → P (wanted order held) version)
+      → IsHeld (history seen old) held → Comes order held Failed outcome result
+      → OnOk result ((image : List ℕ) → MayLeave (history seen new) image → IsFetchedIn order held outcome image)
+      → Tells order.store result status (output seen old) (output seen new) → IsTrue (tells_stored status)
+      → IsStored P order (history seen old) (history seen new)
+  stored_of P held (Ok version) (Ok installed) Failed of_source is comes stored tells told = record {
+    held = held;
+    is_held = is;
+    version = version;
+    of_source = of_source version refl;
+    stored = stored;
+  }
+  stored_of P held (Err why) (Ok installed) Failed of_source is comes stored tells told = absurd cc
+  stored_of P held outcome (Err why) Failed of_source is comes stored tells told =
+      absurd (not_told order.store why status _ _ tells told)
 
+  module _ (catalogue : Catalogue) (after : Log) where
     pub of_run : (caller : Peer) (turns : List Turn) (rest : List ℕ) (before : Log) → RunIsFetched
         → length order.store.0 ≤ 64 → length order.store.1 ≤ 64 → XfrDoes seen order status old new
         → AnswersFetch catalogue caller order.store.0 order.store.1 turns before after
         → HasCome order.host.1 (sent_all (replies_of turns) ++ rest) (seen.dial.past old.dial) (seen.dial.past new.dial)
-        → IsTrue (tells_stored status) → IsStoredOf catalogue order after (history seen old) (history seen new)
+        → IsTrue (tells_stored status)
+        → IsStored (λ asked version. IsOfSource catalogue asked after version) order (history seen old) (history seen new)
     of_run caller turns rest before law domain map does answers came told =
-        ⊎_elim (λ did. stored_of did.did.held did.did.outcome did.result _ (λ version is.
+        ⊎_elim (λ did. stored_of (λ asked version. IsOfSource catalogue asked after version) did.did.held did.did.outcome did.result _ (λ version is.
         law catalogue order.host.1 caller (order.host ∷ []) order.host.0 (wanted order did.did.held) turns rest before
         after version (dialing seen old) (dialing seen new) domain map answers came
         (subst (λ (o : Outcome). FetchesFrom (order.host ∷ []) order.host.0 (wanted order did.did.held) o
@@ -155,7 +157,7 @@ module _ {S K D C A I T : Type 0} (seen : Seeing S K D C A I T) (order : Order) 
         (output seen new)) memory tells in
         inr here.0
 
-    by_outcome : (outcome said : Outcome) (other : Held) (result : Result Installed XfrFault) → other ≡ held
+    pub by_outcome : (outcome said : Outcome) (other : Held) (result : Result Installed XfrFault) → other ≡ held
         → outcome ≡ said → (said ≡ Ok version) ⊎ (said ≡ Err fault.NoMemory)
         → Comes order other (DiskFails seen old new) outcome result
         → Tells order.store result status (output seen old) (output seen new) → (status ≡ Done) ⊎ (status ≡ NoMemory)
@@ -181,7 +183,7 @@ module _ {S K D C A I T : Type 0} (seen : Seeing S K D C A I T) (order : Order) 
         (λ failed. ⊎_elim (λ risen. absurd (dials risen.1)) (λ memory. inr memory) failed) said in
         by_outcome did.did.outcome did.did.outcome did.did.held did.result same refl is did.did.stores.comes did.tells
 
-    unloaded : (why : SlotFault) (shown : Status) → shown ≡ status → Fails order.store why shown
+    pub unloaded : (why : SlotFault) (shown : Status) → shown ≡ status → Fails order.store why shown
         → IfSome (history seen old) (λ h. Loads (stands h.state.reads) (Err why))
         → (why ≡ slot.DiskFault → DiskFails seen old new) → (status ≡ Done) ⊎ (status ≡ NoMemory)
     unloaded (slot.Damaged at rule) shown is fails cause risen =

@@ -19,10 +19,11 @@ use Rattle.yp_storing.specs.Xfr.{order_of, xfr_may_end}
 use Rattle.yp_mailing.specs.Bind.{BindDoes, bind_may_end, servers_of}
 use Rattle.yp_mailing.specs.Getport.{GetportDoes, getport_may_end, begun}
 use Rattle.yp_mailing.specs.Portmap.{PortmapDoes, portmap_may_end}
-use Rattle.yp_walking.specs.Walk.{WalkDoes, walk_may_end}
+use Rattle.yp_walking.specs.Walk.{walk_may_end}
 use Rattle.yp_mailing.specs.Push.{PushDoes, job_of, push_may_end}
 use Rattle.yp_tools.specs.Asking.{AskDoes, ask_may_end}
 use Rattle.yp_tools.specs.Transferring.{TransferDoes}
+use Rattle.yp_tools.specs.Walking.{WalkingDoes}
 use Rattle.yp_tools.specs.declared.program.Outside.{Outside}
 
 -- what a command does to the office and to a witness's wires, with this status
@@ -37,7 +38,7 @@ CommandDoes seen (Build name store flag) status old new before after =
 CommandDoes seen (Xfr name force store host flag) status old new before after =
     TransferDoes seen (order_of name force store host flag) status old new × (after ≡ before)
 CommandDoes seen (Walk name force store host port turns flag) status old new before after =
-    WalkDoes seen (order_of name force store host flag) turns status old new × (after ≡ before)
+    WalkingDoes seen (order_of name force store host flag) turns status old new × (after ≡ before)
 CommandDoes seen (Revnet name store) status old new before after =
     RevnetDoes seen name store status old new × (after ≡ before)
 CommandDoes seen (Sample start count) status old new before after =

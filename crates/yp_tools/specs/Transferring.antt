@@ -12,6 +12,7 @@ use Rattle.yp_session.specs.Hosts.{Turn}
 use Rattle.yp_query.specs.Complete.{HasCome}
 use Rattle.yp_exchange.specs.Runs.{sent_all}
 use Rattle.yp_exchange.specs.LogRuns.{replies_of}
+use Rattle.yp_xfr.specs.Fetching.{Wanted}
 use Rattle.yp_xfr.specs.Fetched.{place_of, Fetched}
 use Rattle.yp_source.specs.Runs.{AnswersFetch, IsOfSource}
 use Rattle.yp_office.specs.declared.office.Office.{Office}
@@ -21,13 +22,13 @@ use Rattle.yp_office.specs.Seeing.{Seeing, history, WriteFails, DiskFails, DialF
 use Rattle.yp_storing.specs.Build.{tells_stored}
 use Rattle.yp_storing.specs.Xfr.{Order, Held, IsHeld, wanted, marked, against, XfrDoes}
 
--- The version that a source showed at all four of its replies is stored, marked as the order says, behind what the file
--- of the map had: a crash leaves that version now, and nothing else.
-pub record IsStoredOf (catalogue : Catalogue) (order : Order) (log : Log) (old new : Option History) : Type 0 where
+-- A version of which P holds, for what was wanted, is stored, marked as the order says, behind what the file of the map
+-- had: a crash leaves that version now, and nothing else.
+pub record IsStored (P : Wanted → MapVersion → Type 0) (order : Order) (old new : Option History) : Type 0 where
   pub held : Held
   pub is_held : IsHeld old held
   pub version : MapVersion
-  pub of_source : IsOfSource catalogue (wanted order held) log version
+  pub of_source : P (wanted order held) version
   pub stored : (image : List ℕ) → MayLeave new image → stands image ≡ Stored (marked order held version)
 
 -- This is what the file of the map had, as its disk tells.
@@ -47,7 +48,8 @@ pub record TransferDoes {S K D C A I T : Type 0} (seen : Seeing S K D C A I T) (
   pub of_source : (catalogue : Catalogue) (caller : Peer) (turns : List Turn) (rest : List ℕ) (before after : Log)
       → AnswersFetch catalogue caller order.store.0 order.store.1 turns before after
       → HasCome order.host.1 (sent_all (replies_of turns) ++ rest) (seen.dial.past old.dial) (seen.dial.past new.dial)
-      → IsTrue (tells_stored status) → IsStoredOf catalogue order after (history seen old) (history seen new)
+      → IsTrue (tells_stored status)
+      → IsStored (λ asked version. IsOfSource catalogue asked after version) order (history seen old) (history seen new)
   pub complete : (held : Held) (stream : List ℕ) (version : MapVersion) → IsToldHeld (history seen old) held
       → HasCome order.host.1 stream (seen.dial.past old.dial) (seen.dial.past new.dial)
       → Fetched (wanted order held) (place_of 1 0 stream) (Ok version) → against order held version ≡ None

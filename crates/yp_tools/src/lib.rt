@@ -9,6 +9,7 @@ mod ask;
 pub mod laws;
 mod program;
 mod transferring;
+mod walking;
 
 pub use program::{Outside, run, run_command, run_watched, tell};
 pub use yp_office::{NamedDisk, Status, named_disks};

@@ -12,6 +12,7 @@ ghost use Rattle.yp_tools.specs.Commands.{CommandDoes, Does, MayEnd, may_end, of
 
 use crate::ask::ask;
 use crate::transferring::transfer;
+use crate::walking::walk;
 use std::alloc::Global;
 use std::random::RandomSource;
 use yp_io::{Clock, Dial, Disk, Inbox, Pair, Sink, Source, Texts, write_all};
@@ -20,7 +21,6 @@ use yp_office::{NamedDisk, Office, Status};
 use yp_serving::{serve_once, serve_session, tell_sample};
 use yp_session::{Trail, Witness};
 use yp_storing::{build_map, check_map, reverse_map};
-use yp_walking::walk_map;
 use yp_words::{Command, ParseFault, parse};
 
 /// What the program reaches outside itself.
@@ -75,7 +75,7 @@ fn obey<S: Source, K: Sink, D: Disk, C: Clock, A: Dial, I: Inbox, T: Texts, W: W
             &mut office,
         ),
         Command::Xfr(job) => transfer(alloc, rt, job, &mut office),
-        Command::Walk(job) => walk_map(alloc, rt, job, &mut office),
+        Command::Walk(job) => walk(alloc, rt, job, &mut office),
         Command::Revnet { name, store } => reverse_map(alloc, rt, name, store, &mut office),
         Command::Bind {
             policy,

@@ -1,11 +1,15 @@
 -- A walk behind all that happened is the one by what was delivered.
 use Rattle.std.proofs.Common.{◌≡◌, Bool, true, false, cond, List, [], ◌∷◌, Ok, refl, sym, ap, subst, ◌∙◌}
 use Rattle.yp_io.specs.declared.stream.Peer.{Peer}
+use Rattle.yp_version.specs.Rows.{listed}
+use Rattle.yp_version.specs.Versions.{unmarked}
+use Rattle.yp_version.specs.Drafts.{Draft}
+use Rattle.yp_version.specs.Laws.{RisingStays}
 use Rattle.yp_board.specs.Catalogues.{Catalogue}
 use Rattle.yp_enum.specs.Standings.{Standing, HasEnded}
 use Rattle.yp_enum.specs.Schedules.{Walking, Delivery, is_awaited, next_xid, gone_on, heard, awaited, came_of, begun}
 use Rattle.yp_walked.specs.Sources.{Event, Handles, Delivers, Rests, Scene, first_scene, deliveries_of, AllHappen}
-use Rattle.yp_walked.specs.Laws.{HeardIsInTurn, WalkedIsShown, HappenedIsDelivered, AnswersWalk, IsOfSource}
+use Rattle.yp_walked.specs.Laws.{HeardIsInTurn, WalkedIsShown, HappenedIsDelivered, AnswersWalk}
 use Rattle.yp_walked.specs.Laws.{DeliveredIsOfSource}
 
 -- the walk by some mails
@@ -47,9 +51,9 @@ unfolding by_mails
 happened_is_delivered catalogue caller source wanted log events last happen =
     walk_is catalogue caller events (first_scene source wanted log) last happen
 
-pub delivered_is_of_source : HeardIsInTurn → WalkedIsShown → HappenedIsDelivered → DeliveredIsOfSource
+pub delivered_is_of_source : HeardIsInTurn → WalkedIsShown → HappenedIsDelivered → RisingStays → DeliveredIsOfSource
 unfolding by_mails
-delivered_is_of_source in_turn shown is_delivered catalogue caller source wanted deliveries draft answers done =
+delivered_is_of_source in_turn shown is_delivered rising catalogue caller source wanted deliveries draft answers done =
     let turns = in_turn catalogue caller source wanted answers.log answers.events answers.last answers.is_source
     answers.happen in
     let walk = is_delivered catalogue caller source wanted answers.log answers.events answers.last answers.happen in
@@ -58,4 +62,11 @@ delivered_is_of_source in_turn shown is_delivered catalogue caller source wanted
     ∙ ap (λ (ds : List Delivery). (by_mails (begun source wanted) ds).standing) answers.delivered ∙ done in
     let is = shown catalogue caller source wanted answers.log answers.last.front turns.0 answers.last.walk draft
     answers.is_source turns.1 turns.2 ended in
-    record { mails = turns.0; version = is.0; throughout = is.1; same = is.2 }
+    let source = is.0 in
+    record {
+      mails = turns.0;
+      source = source;
+      throughout = is.2;
+      same = ap (λ (d : Draft). unmarked d.order d.master (listed d.rows)) is.3
+          ∙ ap (λ rows. unmarked source.order source.master rows) (rising source.rows is.1.rising);
+    }

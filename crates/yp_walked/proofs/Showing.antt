@@ -203,6 +203,7 @@ walked_is_shown laws serves sound between walked catalogue caller source wanted 
           ap (λ (w : Walking). w.standing)
           (came laws serves sound catalogue caller log (made ∷ others) made.front (begun source wanted) walk again) ∙ done in (
             version,
+            is,
             record { first = made; others = others; all = refl; shown = shown },
             subst (λ (s : Standing). IsAlong wanted version s) at_end along,
           )

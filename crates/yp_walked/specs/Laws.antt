@@ -2,8 +2,8 @@
 use Rattle.std.specs.Prelude.{◌≡◌, ◌≢◌, ◌⊎◌, ℕ, ◌+◌, ◌<◌, ◌≤◌, false, List, [], ◌∷◌, length, None, Ok, Err, All}
 use Rattle.yp_io.specs.declared.stream.Peer.{Peer}
 use Rattle.yp_msgs.specs.Numbers.{name_max}
-use Rattle.yp_version.specs.Versions.{MapVersion}
-use Rattle.yp_version.specs.Rows.{row_len}
+use Rattle.yp_version.specs.Versions.{MapVersion, IsVersion, unmarked}
+use Rattle.yp_version.specs.Rows.{listed, row_len}
 use Rattle.yp_version.specs.Drafts.{Draft}
 use Rattle.yp_board.specs.Catalogues.{Catalogue}
 use Rattle.yp_board.specs.Logs.{Log}
@@ -12,7 +12,7 @@ use Rattle.yp_publish.specs.Rising.{IsRisingLog}
 use Rattle.yp_answer.specs.Served.{AreServed, maps_on}
 use Rattle.yp_xfr.specs.declared.fault.XfrFault.TheVariants.{Skew}
 use Rattle.yp_xfr.specs.Fetching.{Wanted, against_order}
-use Rattle.yp_source.specs.Replies.{IsShown}
+use Rattle.yp_source.specs.Replies.{IsShown, unsecured}
 use Rattle.yp_turns.specs.Turns.{mail_max}
 use Rattle.yp_enum.specs.Standings.{HasEnded, next_len}
 use Rattle.yp_enum.specs.Schedules.{Walking, Delivery, begun, walk_by}
@@ -56,7 +56,7 @@ WalkedIsShown =
     → GoesBy catalogue caller mails before (begun source wanted) walk
     → IsFront (last_front before mails) log
     → walk.standing ≡ HasEnded (Ok draft)
-    → (version : MapVersion) × ShowsThroughout catalogue wanted version mails
+    → (version : MapVersion) × IsVersion version × ShowsThroughout catalogue wanted version mails
     × (draft ≡ draft_with version version.rows)
 
 -- Versions of two orders were shown at the first awaited reply and at the last.
@@ -122,12 +122,12 @@ pub record AnswersWalk (catalogue : Catalogue) (caller source : Peer) (wanted : 
   pub happen : AllHappen catalogue caller events (first_scene source wanted log) last
   pub delivered : deliveries_of events ≡ deliveries
 
--- The source showed the version of these rows from the first of the awaited mails to the last.
-pub record IsOfSource (catalogue : Catalogue) (wanted : Wanted) (draft : Draft) : Type 0 where
+-- The source showed a version from the first of the awaited mails to the last, and this is it, but for its mark.
+pub record IsWalkedOf (catalogue : Catalogue) (wanted : Wanted) (version : MapVersion) : Type 0 where
   pub mails : List Made
-  pub version : MapVersion
-  pub throughout : ShowsThroughout catalogue wanted version mails
-  pub same : draft ≡ draft_with version version.rows
+  pub source : MapVersion
+  pub throughout : ShowsThroughout catalogue wanted source mails
+  pub same : version ≡ unsecured source
 
 -- So what a walk by these mails gives is what that source showed.
 abbrev pub DeliveredIsOfSource : Type 0
@@ -135,4 +135,4 @@ DeliveredIsOfSource =
     (catalogue : Catalogue) (caller source : Peer) (wanted : Wanted) (deliveries : List Delivery) (draft : Draft)
     → AnswersWalk catalogue caller source wanted deliveries
     → (walk_by source wanted deliveries).standing ≡ HasEnded (Ok draft)
-    → IsOfSource catalogue wanted draft
+    → IsWalkedOf catalogue wanted (unmarked draft.order draft.master (listed draft.rows))

@@ -7,6 +7,7 @@ ghost use Rattle.yp_walked.specs.Laws.{HappenedIsDelivered, DeliveredIsOfSource}
 use yp_enum::laws::{told_is_walked, told_is_whole};
 use yp_exchange::laws::mail_tells;
 use yp_source::laws::{front_is_served, shown_between, shown_is_sound};
+use yp_version::laws::rising_stays;
 
 /// Whatever was lost, repeated or reordered, what a walk has heard of its source is one reply to each of its calls in
 /// turn, on fronts of the source's log that never go back.
@@ -61,4 +62,5 @@ pub fn delivered_is_of_source()
     heard_is_in_turn();
     walked_is_shown();
     happened_is_delivered();
+    rising_stays();
 }

@@ -67,8 +67,8 @@ returns-clause-does g c =
           by (Xfr w.in-Xfr.job.name.items w.in-Xfr.job.force (name_view w.in-Xfr.job.store) (host_view w.in-Xfr.job.host) w.in-Xfr.job.flag) c.match-command.status w.transfer-status.result c.match-command.office w.transfer-status.new.office (wires c.match-command.witness) (wires c.args.witness.now)
           (ap meaning w.in-Xfr.is) w.status-is w.office-is (ap wires w.witness-is) (w.transfer-status.ensures.does, refl)
       | in-Walk w ↦
-          by (Walk w.in-Walk.job.xfr.name.items w.in-Walk.job.xfr.force (name_view w.in-Walk.job.xfr.store) (host_view w.in-Walk.job.xfr.host) w.in-Walk.job.port w.in-Walk.job.turns w.in-Walk.job.xfr.flag) c.match-command.status w.walk_map-status.result c.match-command.office w.walk_map-status.new.office (wires c.match-command.witness) (wires c.args.witness.now)
-          (ap meaning w.in-Walk.is) w.status-is w.office-is (ap wires w.witness-is) (w.walk_map-status.ensures.does, refl)
+          by (Walk w.in-Walk.job.xfr.name.items w.in-Walk.job.xfr.force (name_view w.in-Walk.job.xfr.store) (host_view w.in-Walk.job.xfr.host) w.in-Walk.job.port w.in-Walk.job.turns w.in-Walk.job.xfr.flag) c.match-command.status w.walk-status.result c.match-command.office w.walk-status.new.office (wires c.match-command.witness) (wires c.args.witness.now)
+          (ap meaning w.in-Walk.is) w.status-is w.office-is (ap wires w.witness-is) (w.walk-status.ensures.does, refl)
       | in-Revnet w ↦
           by (Revnet w.in-Revnet.name.items (name_view w.in-Revnet.store)) c.match-command.status w.reverse_map-status.result c.match-command.office w.reverse_map-status.new.office (wires c.match-command.witness) (wires c.args.witness.now)
           (ap meaning w.in-Revnet.is) w.status-is w.office-is (ap wires w.witness-is) (w.reverse_map-status.ensures.does, refl)
@@ -95,7 +95,7 @@ returns-clause-may_end g c =
       | in-Check w ↦ same_end (meaning c.args.command) (Check (name_view w.in-Check.store)) c.match-command.status w.check_map-status.result (ap meaning w.in-Check.is) w.status-is w.check_map-status.ensures.may_end
       | in-Build w ↦ same_end (meaning c.args.command) (Build w.in-Build.name.items (name_view w.in-Build.store) w.in-Build.flag) c.match-command.status w.build_map-status.result (ap meaning w.in-Build.is) w.status-is w.build_map-status.ensures.may_end
       | in-Xfr w ↦ same_end (meaning c.args.command) (Xfr w.in-Xfr.job.name.items w.in-Xfr.job.force (name_view w.in-Xfr.job.store) (host_view w.in-Xfr.job.host) w.in-Xfr.job.flag) c.match-command.status w.transfer-status.result (ap meaning w.in-Xfr.is) w.status-is w.transfer-status.ensures.may_end
-      | in-Walk w ↦ same_end (meaning c.args.command) (Walk w.in-Walk.job.xfr.name.items w.in-Walk.job.xfr.force (name_view w.in-Walk.job.xfr.store) (host_view w.in-Walk.job.xfr.host) w.in-Walk.job.port w.in-Walk.job.turns w.in-Walk.job.xfr.flag) c.match-command.status w.walk_map-status.result (ap meaning w.in-Walk.is) w.status-is w.walk_map-status.ensures.may_end
+      | in-Walk w ↦ same_end (meaning c.args.command) (Walk w.in-Walk.job.xfr.name.items w.in-Walk.job.xfr.force (name_view w.in-Walk.job.xfr.store) (host_view w.in-Walk.job.xfr.host) w.in-Walk.job.port w.in-Walk.job.turns w.in-Walk.job.xfr.flag) c.match-command.status w.walk-status.result (ap meaning w.in-Walk.is) w.status-is w.walk-status.ensures.may_end
       | in-Revnet w ↦ same_end (meaning c.args.command) (Revnet w.in-Revnet.name.items (name_view w.in-Revnet.store)) c.match-command.status w.reverse_map-status.result (ap meaning w.in-Revnet.is) w.status-is w.reverse_map-status.ensures.may_end
       | in-Bind w ↦ same_end (meaning c.args.command) (Bind w.in-Bind.port w.in-Bind.policy w.in-Bind.turns w.in-Bind.domain.items (map host_view w.in-Bind.hosts.items)) c.match-command.status w.bind_domain-status.result (ap meaning w.in-Bind.is) w.status-is w.bind_domain-status.ensures.may_end
       | in-Portmap w ↦ same_end (meaning c.args.command) (Portmap w.in-Portmap.port w.in-Portmap.turns) c.match-command.status w.serve_ports-status.result (ap meaning w.in-Portmap.is) w.status-is w.serve_ports-status.ensures.may_end
@@ -112,7 +112,7 @@ returns-clause-passed_on g c =
       | in-Check w ↦ by c.match-command.status w.check_map-status.result c.match-command.office w.check_map-status.new.office w.status-is w.office-is w.check_map-status.ensures.passed_on
       | in-Build w ↦ by c.match-command.status w.build_map-status.result c.match-command.office w.build_map-status.new.office w.status-is w.office-is w.build_map-status.ensures.passed_on
       | in-Xfr w ↦ by c.match-command.status w.transfer-status.result c.match-command.office w.transfer-status.new.office w.status-is w.office-is w.transfer-status.ensures.passed_on
-      | in-Walk w ↦ by c.match-command.status w.walk_map-status.result c.match-command.office w.walk_map-status.new.office w.status-is w.office-is w.walk_map-status.ensures.passed_on
+      | in-Walk w ↦ by c.match-command.status w.walk-status.result c.match-command.office w.walk-status.new.office w.status-is w.office-is w.walk-status.ensures.passed_on
       | in-Revnet w ↦ by c.match-command.status w.reverse_map-status.result c.match-command.office w.reverse_map-status.new.office w.status-is w.office-is w.reverse_map-status.ensures.passed_on
       | in-Bind w ↦ by c.match-command.status w.bind_domain-status.result c.match-command.office w.bind_domain-status.new.office w.status-is w.office-is w.bind_domain-status.ensures.passed_on
       | in-Portmap w ↦ by c.match-command.status w.serve_ports-status.result c.match-command.office w.serve_ports-status.new.office w.status-is w.office-is w.serve_ports-status.ensures.passed_on

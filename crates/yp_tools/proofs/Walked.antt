@@ -1,0 +1,179 @@
+-- A walk whose source is a server of this product, and one that has all it needs.
+use Rattle.std.proofs.Common.{◌≡◌, ◌⊎◌, inl, inr, ⊎_elim, ℕ, List, ◌++◌, Option, Some, None, Result, Ok, Err}
+use Rattle.std.proofs.Common.{refl, sym, ap, ◌∙◌, subst}
+use Rattle.std.specs.Prelude.{IsTrue}
+use Rattle.std.proofs.lemmas.List.{append_cancel_left}
+use Rattle.yp_io.specs.declared.stream.Peer.{Peer}
+use Rattle.yp_io.specs.declared.stream.Failed.{Failed}
+use Rattle.yp_io.specs.Inboxes.{Post}
+use Rattle.yp_version.specs.Rows.{listed}
+use Rattle.yp_version.specs.Versions.{MapVersion, unmarked}
+use Rattle.yp_version.specs.Drafts.{Draft}
+use Rattle.yp_board.specs.Catalogues.{Catalogue}
+use Rattle.yp_turns.specs.declared.turns.Ended.{Ended}
+use Rattle.yp_turns.specs.Turns.{GainsAll}
+use Rattle.yp_publish.specs.declared.install.Installed.{Installed}
+use Rattle.yp_xfr.specs.declared.fault.XfrFault.{XfrFault}
+use Rattle.yp_xfr.specs.declared.fault.XfrFault.TheVariants as fault
+use Rattle.yp_xfr.specs.Fetching.{Wanted, Outcome}
+use Rattle.yp_enum.specs.Standings.{Standing, HasEnded, IsAsking, refusal}
+use Rattle.yp_enum.specs.Schedules.{walk_by}
+use Rattle.yp_enum.specs.Walks.{IsOf}
+use Rattle.yp_walked.specs.Laws.{AnswersWalk, IsWalkedOf, DeliveredIsOfSource}
+use Rattle.yp_office.specs.declared.office.Office.{Office}
+use Rattle.yp_office.specs.declared.status.Status.{Status}
+use Rattle.yp_office.specs.declared.status.Status.TheVariants.{Done, WriteFault, NoMemory, InboxFault, Unanswered}
+use Rattle.yp_office.specs.Seeing.{Seeing, output, history, WriteFails, DiskFails, InboxFails}
+use Rattle.yp_storing.specs.Build.{tells_stored}
+use Rattle.yp_storing.specs.Xfr.{Order, Held, wanted, against}
+use Rattle.yp_mailing.specs.Telling.{box}
+use Rattle.yp_walking.specs.declared.walker.Came.{Came}
+use Rattle.yp_walking.specs.declared.walker.Came.TheVariants.{Outcome as HasOutcome, Spent, Failed as HasFailed}
+use Rattle.yp_walking.specs.Turns.{heard_of, Gave, IsCame, WalksTo}
+use Rattle.yp_walking.specs.Walk.{WalkDoes, Walks, WalksForNothing, IsVain}
+use Rattle.yp_tools.specs.Transferring.{IsStored, IsToldHeld}
+use Rattle.yp_tools.specs.Walking.{Happened}
+use Rattle.yp_tools.proofs.Sourced.{held_same, not_loaded, stored_of, by_outcome, unloaded}
+
+-- ---- how a walk ended
+
+-- a walk that gave a version ended with its rows
+with_rows : (end : Result Ended Failed) (standing : Standing) (version : MapVersion)
+    → IsCame end standing (HasOutcome (Ok version))
+    → (draft : Draft) × (standing ≡ HasEnded (Ok draft))
+    × (version ≡ unmarked draft.order draft.master (listed draft.rows))
+with_rows (Ok end) (HasEnded (Ok draft)) version came = (draft, refl, came)
+with_rows (Ok end) (HasEnded (Err why)) version came = absurd cc
+with_rows (Ok end) _ version came = absurd came
+with_rows (Err why) standing version came = absurd came
+
+-- where its rows came, it gave their version, or memory ran out
+gave_rows : (end : Result Ended Failed) (standing : Standing) (draft : Draft) (outcome : Outcome)
+    → standing ≡ HasEnded (Ok draft) → IsCame end standing (HasOutcome outcome)
+    → (outcome ≡ Ok (unmarked draft.order draft.master (listed draft.rows))) ⊎ (outcome ≡ Err fault.NoMemory)
+gave_rows end standing draft outcome is came = by end outcome (subst (λ (s : Standing). IsCame end s (HasOutcome outcome)) is came)
+  where
+    by : (end : Result Ended Failed) (outcome : Outcome) → IsCame end (HasEnded (Ok draft)) (HasOutcome outcome)
+        → (outcome ≡ Ok (unmarked draft.order draft.master (listed draft.rows))) ⊎ (outcome ≡ Err fault.NoMemory)
+    by (Ok e) (Ok version) c = inl (ap (λ (v : MapVersion). Ok v) c)
+    by (Ok e) (Err why) c = inr (ap (λ (w : XfrFault). Err w) c)
+    by (Err why) o c = absurd c
+
+gave_no_memory : (end : Result Ended Failed) (standing : Standing) (outcome : Outcome)
+    → standing ≡ refusal fault.NoMemory → IsCame end standing (HasOutcome outcome) → outcome ≡ Err fault.NoMemory
+gave_no_memory end standing outcome is came = by end (subst (λ (s : Standing). IsCame end s (HasOutcome outcome)) is came)
+  where
+    by : (end : Result Ended Failed) → IsCame end (refusal fault.NoMemory) (HasOutcome outcome) → outcome ≡ Err fault.NoMemory
+    by (Ok e) c = c
+    by (Err why) c = absurd c
+
+-- it isn't outstanding then
+not_spent : (end : Result Ended Failed) (standing : Standing) (outcome : Result Draft XfrFault)
+    → standing ≡ HasEnded outcome → IsCame end standing Spent → ⊥
+not_spent end standing outcome is came = by end (subst (λ (s : Standing). IsCame end s Spent) is came)
+  where
+    by : (end : Result Ended Failed) → IsCame end (HasEnded outcome) Spent → ⊥
+    by (Ok e) c = c.0
+    by (Err why) c = c
+
+not_vain : (turns : ℕ) (came : Came) → IsVain turns came Done → ⊥
+not_vain turns Spent is = cc
+not_vain turns HasFailed is = cc
+not_vain turns (HasOutcome outcome) is = is
+
+vain_told : (turns : ℕ) (came : Came) (status : Status) → IsVain turns came status → IsTrue (tells_stored status) → ⊥
+vain_told turns Spent status is told =
+    let wrong : IsTrue (tells_stored (Unanswered turns)) = subst (λ (s : Status). IsTrue (tells_stored s)) is told in cc
+vain_told turns HasFailed status is told =
+    let wrong : IsTrue (tells_stored InboxFault) = subst (λ (s : Status). IsTrue (tells_stored s)) is told in cc
+vain_told turns (HasOutcome outcome) status is told = is
+
+module _ {S K D C A I T : Type 0} (seen : Seeing S K D C A I T) (order : Order) (turns : ℕ) (status : Status)
+    (old new : Office S K D C A I T) (posts : List Post) (held : Held) (told : IsToldHeld (history seen old) held)
+    (happened : Happened seen posts old new) where
+  -- what happened is what the walk met
+  same_posts : (others : List Post) → GainsAll others (box seen old).past (box seen new).past → others ≡ posts
+  same_posts others gains =
+      let both = subst (λ (p : Option (List Post)). GainsAll others (box seen old).past p) happened.after gains in
+      let all : happened.told ++ posts ≡ happened.told ++ others =
+      subst (λ (p : Option (List Post)). GainsAll others p (Some (happened.told ++ posts))) happened.before both in
+      append_cancel_left happened.told others posts (sym all)
+
+  -- the walk that these mails lead to, unless memory ran out
+  stood : (other : Held) (came : Came) → other ≡ held
+      → (walks : WalksTo order.host.1 (wanted order other) turns came (box seen old) (box seen new))
+      → (walks.last.walk ≡ walk_by order.host.1 (wanted order held) (heard_of posts))
+      ⊎ (walks.last.walk.standing ≡ refusal fault.NoMemory)
+  stood other came same walks =
+      ⊎_elim
+      (λ is. inl (is
+      ∙ ap (λ (h : Held). walk_by order.host.1 (wanted order h) (heard_of walks.takes.posts)) same
+      ∙ ap (λ (ps : List Post). walk_by order.host.1 (wanted order held) (heard_of ps))
+      (same_posts walks.takes.posts walks.takes.sees.past)))
+      (λ out. inr out) walks.stands
+
+  pub of_walk : (catalogue : Catalogue) (caller : Peer) → DeliveredIsOfSource → WalkDoes seen order turns status old new
+      → AnswersWalk catalogue caller order.host.1 (wanted order held) (heard_of posts)
+      → IsTrue (tells_stored status) → IsStored (IsWalkedOf catalogue) order (history seen old) (history seen new)
+  of_walk catalogue caller law does answers tells =
+      ⊎_elim
+      (λ (did : Walks seen order turns status old new).
+      let same = held_same (history seen old) did.did.held held did.did.stores.is_held told in
+      stored_of seen order status old new (IsWalkedOf catalogue) did.did.held did.did.outcome did.result _
+      (λ version is.
+      let walks = did.did.walks in
+      let ended = with_rows walks.end walks.last.walk.standing version
+      (subst (λ (o : Outcome). IsCame walks.end walks.last.walk.standing (HasOutcome o)) is walks.comes) in
+      let here : (walk_by order.host.1 (wanted order held) (heard_of posts)).standing ≡ HasEnded (Ok ended.0) =
+      ⊎_elim (λ at. ap (λ walk. walk.standing) (sym at) ∙ ended.1)
+      (λ out. absurd (let wrong : refusal fault.NoMemory ≡ HasEnded (Ok ended.0) = sym out ∙ ended.1 in cc))
+      (stood did.did.held (HasOutcome did.did.outcome) same walks) in
+      let one = law catalogue caller order.host.1 (wanted order held) (heard_of posts) ended.0 answers here in
+      subst (λ (h : Held). IsWalkedOf catalogue (wanted order h) version) (sym same)
+      (subst (λ (v : MapVersion). IsWalkedOf catalogue (wanted order held) v) (sym ended.2) one))
+      did.did.stores.is_held did.did.stores.comes did.did.stores.stored did.tells tells)
+      (λ others. ⊎_elim
+      (λ (vain : WalksForNothing seen order turns status old new). absurd (vain_told turns vain.came status vain.tells tells))
+      (λ declined. absurd (not_loaded order.store declined.why status declined.tells tells)) others)
+      does.does
+
+  pub whole : (draft : Draft) → WalkDoes seen order turns status old new
+      → (walk_by order.host.1 (wanted order held) (heard_of posts)).standing ≡ HasEnded (Ok draft)
+      → against order held (unmarked draft.order draft.master (listed draft.rows)) ≡ None
+      → (InboxFails seen old new → ⊥) → (DiskFails seen old new → ⊥) → (WriteFails seen old new → ⊥)
+      → (status ≡ Done) ⊎ (status ≡ NoMemory)
+  whole draft does is unopposed inboxes disks writes =
+      let version = unmarked draft.order draft.master (listed draft.rows) in
+      let no_write : (status ≡ WriteFault → ⊥) = λ fault. writes (does.write_fault fault) in
+      ⊎_elim
+      (λ (did : Walks seen order turns status old new).
+      let same = held_same (history seen old) did.did.held held did.did.stores.is_held told in
+      let walks = did.did.walks in
+      let gave : (did.did.outcome ≡ Ok version) ⊎ (did.did.outcome ≡ Err fault.NoMemory) =
+      ⊎_elim
+      (λ at. gave_rows walks.end walks.last.walk.standing draft did.did.outcome (ap (λ walk. walk.standing) at ∙ is) walks.comes)
+      (λ out. inr (gave_no_memory walks.end walks.last.walk.standing did.did.outcome out walks.comes))
+      (stood did.did.held (HasOutcome did.did.outcome) same walks) in
+      by_outcome seen order status old new held version told unopposed (λ dials. dials) disks no_write did.did.outcome
+      did.did.outcome did.did.held did.result same refl gave did.did.stores.comes did.tells)
+      (λ others. ⊎_elim
+      (λ (vain : WalksForNothing seen order turns status old new). absurd (in_vain vain))
+      (λ declined. unloaded seen order status old new held version told unopposed (λ dials. dials) disks no_write
+      declined.why status refl declined.tells declined.did.cause declined.did.disk_fault) others)
+      does.does
+    where
+      in_vain : WalksForNothing seen order turns status old new → ⊥
+      in_vain vain =
+          let same = held_same (history seen old) vain.did.held held vain.did.is_held told in
+          by vain.came vain.tells vain.did.walks (stood vain.did.held vain.came same vain.did.walks)
+        where
+          by : (came : Came) → IsVain turns came status
+              → (walks : WalksTo order.host.1 (wanted order vain.did.held) turns came (box seen old) (box seen new))
+              → (walks.last.walk ≡ walk_by order.host.1 (wanted order held) (heard_of posts))
+              ⊎ (walks.last.walk.standing ≡ refusal fault.NoMemory) → ⊥
+          by Spent vain_is walks at =
+              ⊎_elim
+              (λ here. not_spent walks.end walks.last.walk.standing (Ok draft) (ap (λ walk. walk.standing) here ∙ is) walks.comes)
+              (λ out. not_spent walks.end walks.last.walk.standing (Err fault.NoMemory) out walks.comes) at
+          by HasFailed vain_is walks at = inboxes (does.inbox_fault vain_is)
+          by (HasOutcome outcome) vain_is walks at = vain_is

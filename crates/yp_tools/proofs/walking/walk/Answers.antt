@@ -1,0 +1,22 @@
+use Rattle.yp_office.specs.Seeing.{seeing}
+use Rattle.yp_storing.specs.Xfr.{order_view}
+use Rattle.yp_tools.proofs.Walked.{of_walk, whole}
+use Rattle.yp_tools.proofs.walking.walk.Goals as goal
+
+pub returns-clause-does : goal.returns-clause-does
+returns-clause-does g c =
+    let seen = seeing g.S.Source g.K.Sink g.D.Disk g.C.Clock g.A.Dial g.I.Inbox g.T.Texts in
+    let order = order_view c.args.job.xfr in
+    let turns = c.args.job.turns in
+    let old = c.args.office.now in
+    let new = c.walk_map.new.office in
+    let status = c.walk_map.result in
+    let does = c.walk_map.ensures.does in
+    record {
+      does = does;
+      of_source = λ catalogue caller posts held told happened answers tells.
+          of_walk seen order turns status old new posts held told happened catalogue caller
+          c.delivered_is_of_source.ensures does answers tells;
+      complete = λ posts held draft told happened is unopposed inboxes disks writes.
+          whole seen order turns status old new posts held told happened draft does is unopposed inboxes disks writes;
+    }

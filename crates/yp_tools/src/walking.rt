@@ -1,0 +1,36 @@
+//! The command `walk`, and what its source showed.
+
+ghost use Rattle.std.specs.Prelude.{IsTrue};
+ghost use Rattle.yp_office.specs.Disks.{names_of};
+ghost use Rattle.yp_office.specs.Seeing.{seeing, IsPassedOn};
+ghost use Rattle.yp_office.specs.Status.{IsTellable};
+ghost use Rattle.yp_storing.specs.Xfr.{order_view, IsReady};
+ghost use Rattle.yp_walking.specs.Walk.{walk_may_end};
+ghost use Rattle.yp_tools.specs.Walking.{WalkingDoes};
+
+use std::alloc::Global;
+use std::random::RandomSource;
+use yp_io::{Clock, Dial, Disk, Inbox, Sink, Source, Texts};
+use yp_office::{Office, Status};
+use yp_walked::laws::delivered_is_of_source;
+use yp_walking::walk_map;
+use yp_words::WalkJob;
+
+/// Fetches the only map from a host row by row in datagrams, stores it on the only disk, and tells what was stored.
+pub fn walk<S: Source, K: Sink, D: Disk, C: Clock, A: Dial, I: Inbox, T: Texts, R: RandomSource>(
+    alloc: Global,
+    rt: &R,
+    job: WalkJob,
+    office: &mut Office<S, K, D, C, A, I, T>,
+) -> Status
+    requires { IsReady (order_view job.xfr) (names_of office.old.disks.items) }
+    ensures does { WalkingDoes (seeing S.Source K.Sink D.Disk C.Clock A.Dial I.Inbox T.Texts)
+        (order_view job.xfr) job.turns result office.old office.new }
+    ensures may_end { IsTrue (walk_may_end result) }
+    ensures passed_on { IsPassedOn (seeing S.Source K.Sink D.Disk C.Clock A.Dial I.Inbox T.Texts)
+        result office.old office.new }
+    ensures tellable { IsTellable result }
+{
+    delivered_is_of_source();
+    walk_map(alloc, rt, job, office)
+}
