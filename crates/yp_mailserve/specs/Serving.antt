@@ -86,8 +86,8 @@ module _ {H : Type 0} (conduct : Conduct H) where
     pub all : posts ≡ posts_over served ++ rest
 
   -- A server had so many turns of an inbox at most, with this end: such posts happened there. In them a transfer was
-  -- carried out behind its reply, before the next turn, and none waits any more. What the host knew before is a front of
-  -- what it knows, and its catalogue stays.
+  -- carried out behind its reply, before the next turn, and none waits any more. What the host knew before is a front
+  -- of what it knows, and its catalogue stays.
   pub record ServesMail (most : ℕ) (end : Result Ended Failed) (old new : Mailing H) (before after : Box) : Type 0 where
     pub posts : List Post
     pub last : Mailing H

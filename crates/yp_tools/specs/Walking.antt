@@ -27,9 +27,9 @@ pub record Happened {S K D C A I T : Type 0} (seen : Seeing S K D C A I T) (post
   pub before : (box seen old).past ≡ Some told
   pub after : (box seen new).past ≡ Some (told ++ posts)
 
--- What `walk` does. Where the mails that arrived were delivered in any schedule while a source whose log rises answered,
--- and a version is told as stored, it is the one that the source showed from the first awaited mail to the last. Where
--- they say a version against which nothing stands, and nothing fails, it is stored and told.
+-- What `walk` does. Where the mails that arrived were delivered in any schedule while a source whose log rises
+-- answered, and a version is told as stored, it is the one that the source showed from the first awaited mail to the
+-- last. Where they say a version against which nothing stands, and nothing fails, it is stored and told.
 pub record WalkingDoes {S K D C A I T : Type 0} (seen : Seeing S K D C A I T) (order : Order) (turns : ℕ)
     (status : Status) (old new : Office S K D C A I T) : Type 0 where
   pub does : WalkDoes seen order turns status old new
