@@ -26,3 +26,7 @@ whole_again count new old all same =
     let none = drop_of_length-le old {i = length new} (omega (arith, same)) in
     ap (λ l. take count (new ++ l)) none ∙ ap (take count) (append-nil new)
     ∙ take_all count new (omega (arith, all, same))
+
+pub count_again : {X : Type 0} (count : ℕ) (new old : List X) → length old ≡ count → length new ≡ length old
+    → length (take count (new ++ drop (length new) old)) ≡ length new
+count_again count new old all same = ap length (whole_again count new old all same)

@@ -1,0 +1,187 @@
+//! Calls, replies and files, written out by hand from RFC 5531 sections 9 and 11, yp.x and docs/FORMATS.md, and what
+//! is served.
+
+ghost use Rattle.std.specs.Prelude.{◌≡◌, ◌≤◌, length, map, option_map};
+ghost use Rattle.std.specs.List.{All};
+ghost use Rattle.std.specs.Arc.{arc_value};
+ghost use Rattle.yp_listen.specs.MemListen.{IsNew, calls_of};
+ghost use Rattle.yp_publish.specs.Standing.{versions};
+ghost use Rattle.yp_serve.specs.Serving.{IsAtStart};
+ghost use Rattle.yp_worker.specs.Receptions.{IsFair};
+
+use crate::given::bytes;
+use std::alloc::Global;
+use std::process::Abort;
+use std::random::RandomSource;
+use std::sync::{Arc, Wait};
+use yp_board::{Catalog, MapName};
+use yp_io::{MemDial, MemDisk, MemSink, MemSource, MemTexts, Pair, Peer, SetClock, TextFile};
+use yp_listen::{Called, MemCall, MemListen};
+use yp_publish::laws::starts_are_shown;
+use yp_publish::{Loaded, Publisher, load_all};
+use yp_readers::{Naming, Opened, Reader, Writer, board};
+use yp_server::Desk;
+use yp_version::Version;
+use yp_xfr::Hosts;
+
+// MATCH of `alpha` in hosts.byname of `lab`, and the replies to it.
+pub const MATCH: &str = "8000004c 00000001
+    00000000 00000002 000186a4 00000002 00000003 00000000 00000000 00000000
+    00000000 00000003 6c616200 0000000c 686f7374 732e6279 6e616d65 00000005 616c7068 61000000";
+
+pub const NO_MAP: &str = "80000020 00000001
+    00000001 00000000 00000000 00000000 00000000 ffffffff 00000000";
+
+// `10.0.0.1 alpha`, as the file has it.
+pub const OLD: &str = "80000030 00000001
+    00000001 00000000 00000000 00000000 00000000 00000001 0000000e 31302e30
+    2e302e31 20616c70 68610000";
+
+// `10.0.0.2 alpha`, as the text has it.
+pub const NEW: &str = "80000030 00000001
+    00000001 00000000 00000000 00000000 00000000 00000001 0000000e 31302e30
+    2e302e32 20616c70 68610000";
+
+// ALL of hosts.byname of `lab`, and the reply to it of the version in the file.
+pub const ALL: &str = "80000040 00000002
+    00000000 00000002 000186a4 00000002 00000008 00000000 00000000 00000000
+    00000000 00000003 6c616200 0000000c 686f7374 732e6279 6e616d65";
+
+pub const OLD_ALL: &str = "80000044 00000002
+    00000001 00000000 00000000 00000000 00000000
+    00000001 00000001 0000000e 31302e30 2e302e31 20616c70 68610000 00000005 616c7068 61000000
+    00000000";
+
+// MAKE of hosts.byname in `lab`, and the reply to it.
+pub const MAKE: &str = "80000034 00000003
+    00000000 00000002 20004e49 00000001 00000001 00000000 00000000 00000000
+    00000000 00000003 6c616200 00000005";
+
+pub const MADE: &str = "8000001c 00000003
+    00000001 00000000 00000000 00000000 00000000 00000001";
+
+// A file of order 100, master `m1` and the row `alpha`, `10.0.0.1 alpha`.
+pub const FILE: &[&str] = &[
+    "01000000 00000000 00000000 00000001 00000000 00000040 00000000 00000034",
+    "00000000 00000000 00000000 00000000 00000000 00000000 00000000 00000000",
+    "00000001 00000064 00000002 6d310000 00000001 00000005 616c7068 61000000",
+    "0000000e 31302e30 2e302e31 20616c70 68610000",
+];
+
+// The text that maps are made of.
+const TEXT: &[u8] = b"10.0.0.2 alpha\n";
+
+/// A publisher of one map.
+pub type Maps<'r, J, R> = Publisher<MemDisk, Writer<J, &'r R>>;
+
+/// What maps are made of.
+pub type MemDesk = Desk<MemDial, MemTexts, SetClock>;
+
+/// A desk with a text of hosts, at the moment 200.
+pub fn desk(rt: &impl Abort, alloc: Global) -> MemDesk {
+    let text = Vec::from_slice(alloc, TEXT).expect(rt, "a text");
+    let texts = vec![in alloc; (TextFile::Hosts, text)].expect(rt, "memory for a text");
+    Desk {
+        dial: MemDial::new(alloc, Vec::new(alloc), Vec::new(alloc)),
+        hosts: Hosts::new(alloc),
+        texts: MemTexts::new(texts, Vec::new(alloc)),
+        clock: SetClock { moment: 200 },
+    }
+}
+
+// A connection from this port of the own host with this input, whose sink takes at most 30 bytes in a write.
+fn call(rt: &impl Abort, alloc: Global, port: u16, input: &[&str]) -> MemCall
+    ensures { IsNew result }
+{
+    Called {
+        peer: Peer {
+            addr: [127, 0, 0, 1],
+            port,
+        },
+        wire: Pair {
+            source: MemSource::new(bytes(rt, alloc, input), 1000, Vec::new(alloc)),
+            sink: MemSink::new(alloc, 30, Vec::new(alloc)),
+        },
+    }
+}
+
+/// A listener to which connections with these inputs call in turn, the first from port 1, the next from port 2, and so
+/// on. It is to accept all of them. These calls of it fail.
+pub fn listener(rt: &impl Abort, alloc: Global, inputs: &[&[&str]], failing: &[u64]) -> MemListen
+    ensures { IsFair (calls_of result) }
+{
+    let mut arrivals = Vec::new(alloc);
+    let mut port: u16 = 0;
+    for input in inputs {
+        port = port.saturating_add(1);
+        arrivals
+            .push(call(rt, alloc, port, *input))
+            .expect(rt, "memory for a connection");
+    }
+    let most = u32::from(port);
+    let failing = failing.to_vec(alloc).expect(rt, "memory for numbers");
+    MemListen::new(alloc, arrivals, most, failing)
+}
+
+// The catalogue of the host `m1`, with one map.
+fn catalog(rt: &impl Abort, alloc: Global) -> Catalog
+    ensures { length result.maps ≡ 1 }
+{
+    let own = Vec::from_slice(alloc, b"m1").expect(rt, "a name");
+    let name = MapName {
+        domain: Vec::from_slice(alloc, b"lab").expect(rt, "a domain"),
+        map: Vec::from_slice(alloc, b"hosts.byname").expect(rt, "a map"),
+    };
+    let maps = vec![in alloc; name].expect(rt, "maps");
+    let catalog = Catalog::new(alloc, own, maps).expect(rt, "a catalogue");
+    assert!(rt; catalog.len() == 1);
+    catalog
+}
+
+// Another catalogue of the same map.
+fn copied(rt: &impl Abort, alloc: Global, catalog: &Catalog) -> Catalog
+    ensures { result ≡ catalog.now }
+{
+    catalog.copy(alloc).expect(rt, "a catalogue")
+}
+
+// What a disk with this file stands for.
+fn loaded<R: RandomSource + Abort>(rt: &R, alloc: Global, file: &[&str]) -> Loaded<MemDisk>
+    ensures { length result ≡ 1 }
+{
+    let disk = MemDisk::new(alloc, bytes(rt, alloc, file), None, Vec::new(alloc));
+    let disks = vec![in alloc; disk].expect(rt, "memory for a disk");
+    load_all(alloc, rt, disks).expect(rt, "a loaded disk")
+}
+
+// The versions of a loaded map.
+fn shown<R: Abort>(rt: &R, alloc: Global, loaded: &Loaded<MemDisk>) -> Vec<Option<Arc<Version>>>
+    ensures versions { map (option_map arc_value) result.items ≡ versions loaded.now }
+    ensures count { length result.items ≡ 1 }
+{
+    let shown = loaded.shown(alloc).expect(rt, "memory for versions");
+    assert!(rt; shown.len() == 1);
+    shown
+}
+
+/// A publisher of hosts.byname of `lab` with this file, and so many readers of its board, 1 to 9.
+pub fn publisher<'r, J: Naming, R: Wait + RandomSource + Abort>(
+    rt: &'r R,
+    alloc: Global,
+    opened: Opened,
+    file: &[&str],
+    readers: u32,
+) -> (Maps<'r, J, R>, Vec<Reader<J>>)
+    requires opened { opened ≡ J.book }
+    requires readers { (1 ≤ readers) × (readers ≤ 9) }
+    ensures count { length result.1.items ≡ readers }
+    ensures known { All (λ reader. IsAtStart result.0.catalogue result.0.board.log reader) result.1.items }
+{
+    let catalog = catalog(rt, alloc);
+    let copy = copied(rt, alloc, &catalog);
+    let loaded = loaded(rt, alloc, file);
+    let shown = shown(rt, alloc, &loaded);
+    let (writer, readers) = board(alloc, rt, opened, copy, shown, readers).expect(rt, "a board");
+    starts_are_shown();
+    (Publisher::new(loaded, catalog, writer), readers)
+}

@@ -1,0 +1,233 @@
+//! Connections that workers in threads serve.
+
+ghost use Rattle.std.specs.Prelude.{◌≡◌, ◌≤◌};
+
+use crate::gate::{Hold, Holding, Kind};
+use crate::given::{assert_same, bytes};
+use crate::sample::*;
+use std::alloc::Global;
+use std::marker::Brand;
+use std::process::Abort;
+use std::random::RandomSource;
+use std::sync::Wait;
+use std::thread::Threads;
+use yp_listen::MemListen;
+use yp_readers::{Naming, Opened};
+use yp_serve::{ServeSpec, serve_connections};
+use yp_worker::Tally;
+
+// What is served: the file of the map, the inputs of connections, how many workers there are, and how these are held.
+// These calls of the listener fail.
+#[derive(Clone, Copy)]
+struct Case<'c> {
+    file: &'c [&'c str],
+    inputs: &'c [&'c [&'c str]],
+    workers: u32,
+    holds: &'c [Hold],
+    failing: &'c [u64],
+}
+
+// What came of it: the tally, and what the connections had taken that went back, one after the other; or memory ran
+// out. And how often a worker was held for too long.
+type Came = (Option<(Tally, Vec<u8>)>, u64);
+
+// Adds what the connection from this port had taken, where it went back.
+fn add_taken(rt: &impl Abort, listen: &MemListen, port: u16, all: &mut Vec<u8>) {
+    for call in listen.past() {
+        if call.peer.port == port {
+            all.extend_from_slice(call.wire.sink.taken())
+                .expect(rt, "memory for bytes");
+        }
+    }
+}
+
+// What the connections that went back had taken, in the order in which they came.
+fn taken(rt: &impl Abort, alloc: Global, listen: &MemListen) -> Vec<u8> {
+    let mut all = Vec::new(alloc);
+    for port in 1..10 {
+        add_taken(rt, listen, port, &mut all);
+    }
+    all
+}
+
+// Serves a case, from the opening of a board on.
+fn served<J: Naming + Send + Sync, R: Threads + Wait + RandomSource + Abort + Sync>(
+    rt: &R,
+    alloc: Global,
+    opened: Opened,
+    case: &Case<'_>,
+) -> Came
+    requires opened { opened ≡ J.book }
+    requires workers { (1 ≤ case.now.workers) × (case.now.workers ≤ 8) }
+{
+    let gate = Holding::new(rt, alloc, case.holds);
+    let listen = listener(rt, alloc, case.inputs, case.failing);
+    let (publisher, readers) = publisher::<J, R>(rt, alloc, opened, case.file, case.workers + 1);
+    let spec = ServeSpec {
+        workers: case.workers,
+        most: 9,
+    };
+    let desk = desk(rt, alloc);
+    let came = match serve_connections(alloc, rt, publisher, readers, desk, listen, &spec, &gate) {
+        Ok(served) => Some((served.tally, taken(rt, alloc, &served.listen))),
+        Err(_) => None,
+    };
+    (came, gate.gave_up())
+}
+
+// What is wanted: how many connections came, how many records were read, whether an accept failed, and the replies.
+type Wanted<'w> = (u64, u64, bool, &'w [&'w str]);
+
+// Serves a case, and compares what came. No worker is held for too long.
+fn assert_serves<R: Threads + Wait + RandomSource + Abort + Sync>(
+    rt: &R,
+    alloc: Global,
+    case: &Case<'_>,
+    wanted: Wanted<'_>,
+    row: &str,
+)
+    requires { (1 ≤ case.now.workers) × (case.now.workers ≤ 8) }
+{
+    let (connections, calls, listen_fault, output) = wanted;
+    let tally = Tally {
+        connections,
+        calls,
+        listen_fault,
+    };
+    let wanted = (Some((tally, bytes(rt, alloc, output))), 0);
+    let came = served::<Brand, R>(rt, alloc, Opened::new(), case);
+    assert_same(rt, &came, &wanted, row);
+}
+
+#[test]
+fn two_workers(rt: HostRuntime) {
+    let case = Case {
+        file: FILE,
+        inputs: &[&[MATCH, MATCH], &[MATCH]],
+        workers: 2,
+        holds: &[],
+        failing: &[],
+    };
+    let wanted: Wanted<'_> = (2, 3, false, &[OLD, OLD, OLD]);
+    assert_serves(&rt, rt.alloc(), &case, wanted, "two workers");
+}
+
+#[test]
+fn later_connection_sees_build(rt: HostRuntime) {
+    // The first worker is held until the other one has made the map. That is held in its turn until the first worker
+    // has served the third connection.
+    let case = Case {
+        file: &[],
+        inputs: &[&[], &[MAKE], &[MATCH]],
+        workers: 2,
+        holds: &[
+            ((Kind::Accepted, 1, 1), (Kind::Replied, 2, 1)),
+            ((Kind::Replied, 2, 1), (Kind::Replied, 3, 1)),
+        ],
+        failing: &[],
+    };
+    let wanted: Wanted<'_> = (3, 2, false, &[MADE, NEW]);
+    assert_serves(&rt, rt.alloc(), &case, wanted, "a later connection");
+}
+
+#[test]
+fn idle_connection_sees_newer(rt: HostRuntime) {
+    let case = Case {
+        file: FILE,
+        inputs: &[&[MATCH, MATCH], &[MAKE]],
+        workers: 2,
+        holds: &[
+            ((Kind::Accepted, 2, 1), (Kind::Replied, 1, 1)),
+            ((Kind::Replied, 1, 1), (Kind::Replied, 2, 1)),
+        ],
+        failing: &[],
+    };
+    let wanted: Wanted<'_> = (2, 3, false, &[OLD, NEW, MADE]);
+    assert_serves(&rt, rt.alloc(), &case, wanted, "an idle connection");
+}
+
+#[test]
+fn listen_fault(rt: HostRuntime) {
+    let case = Case {
+        file: &[],
+        inputs: &[&[MATCH], &[MATCH]],
+        workers: 1,
+        holds: &[],
+        failing: &[0],
+    };
+    let alloc = rt.alloc();
+    let first: Wanted<'_> = (0, 0, true, &[]);
+    assert_serves(&rt, alloc, &case, first, "the first accept fails");
+    let two = Case {
+        workers: 2,
+        failing: &[1],
+        ..case
+    };
+    let second: Wanted<'_> = (1, 1, true, &[NO_MAP]);
+    assert_serves(&rt, alloc, &two, second, "the second accept fails");
+}
+
+#[test]
+fn held_stream(rt: HostRuntime) {
+    // The first connection is held before the second write of ALL.
+    let case = Case {
+        file: FILE,
+        inputs: &[&[ALL, MATCH], &[MATCH, MAKE]],
+        workers: 2,
+        holds: &[
+            ((Kind::Accepted, 2, 1), (Kind::Piece, 1, 1)),
+            ((Kind::Piece, 1, 2), (Kind::Replied, 2, 2)),
+        ],
+        failing: &[],
+    };
+    let wanted: Wanted<'_> = (2, 4, false, &[OLD_ALL, NEW, OLD, MADE]);
+    assert_serves(&rt, rt.alloc(), &case, wanted, "a held stream");
+}
+
+// Seven connections are held before the second write of ALL, until the eighth has been served, which begins once each
+// of them has come to its first write.
+const HELD: &[Hold] = &[
+    ((Kind::Accepted, 8, 1), (Kind::Piece, 1, 1)),
+    ((Kind::Accepted, 8, 1), (Kind::Piece, 2, 1)),
+    ((Kind::Accepted, 8, 1), (Kind::Piece, 3, 1)),
+    ((Kind::Accepted, 8, 1), (Kind::Piece, 4, 1)),
+    ((Kind::Accepted, 8, 1), (Kind::Piece, 5, 1)),
+    ((Kind::Accepted, 8, 1), (Kind::Piece, 6, 1)),
+    ((Kind::Accepted, 8, 1), (Kind::Piece, 7, 1)),
+    ((Kind::Piece, 1, 2), (Kind::Replied, 8, 2)),
+    ((Kind::Piece, 2, 2), (Kind::Replied, 8, 2)),
+    ((Kind::Piece, 3, 2), (Kind::Replied, 8, 2)),
+    ((Kind::Piece, 4, 2), (Kind::Replied, 8, 2)),
+    ((Kind::Piece, 5, 2), (Kind::Replied, 8, 2)),
+    ((Kind::Piece, 6, 2), (Kind::Replied, 8, 2)),
+    ((Kind::Piece, 7, 2), (Kind::Replied, 8, 2)),
+];
+
+#[test]
+fn held_streams_of_seven(rt: HostRuntime) {
+    let case = Case {
+        file: FILE,
+        inputs: &[
+            &[ALL],
+            &[ALL],
+            &[ALL],
+            &[ALL],
+            &[ALL],
+            &[ALL],
+            &[ALL],
+            &[MATCH, MAKE],
+        ],
+        workers: 8,
+        holds: HELD,
+        failing: &[],
+    };
+    let wanted: Wanted<'_> = (
+        8,
+        9,
+        false,
+        &[
+            OLD_ALL, OLD_ALL, OLD_ALL, OLD_ALL, OLD_ALL, OLD_ALL, OLD_ALL, OLD, MADE,
+        ],
+    );
+    assert_serves(&rt, rt.alloc(), &case, wanted, "seven held streams");
+}
