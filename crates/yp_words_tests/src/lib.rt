@@ -6,4 +6,6 @@ mod given;
 #[cfg(test)]
 mod mailing;
 #[cfg(test)]
+mod walking;
+#[cfg(test)]
 mod words;

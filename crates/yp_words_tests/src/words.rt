@@ -8,7 +8,7 @@ use std::process::Abort;
 use yp_board::MapName;
 use yp_io::Peer;
 use yp_question::Question;
-use yp_words::{Command, HostWord, KeyValue, ParseFault, disk_names, parse};
+use yp_words::{Command, HostWord, KeyValue, ParseFault, XfrJob, disk_names, parse};
 
 fn strings(rt: &impl Abort, alloc: Global, words: &[&str]) -> Vec<String> {
     let mut owned = Vec::new(alloc);
@@ -352,7 +352,7 @@ fn session_parsed(rt: HostRuntime) {
 }
 
 /// The own name, whether it is forced, the map, its host, and the mark of a transfer.
-type Transfer<'a> = (&'a [u8], bool, Names<'a>, (&'a [u8], Peer), Option<bool>);
+pub type Transfer<'a> = (&'a [u8], bool, Names<'a>, (&'a [u8], Peer), Option<bool>);
 
 const TRANSFERS: [(&[&str], Transfer); 3] = [
     (
@@ -389,15 +389,19 @@ const TRANSFERS: [(&[&str], Transfer); 3] = [
     ),
 ];
 
+pub fn transfer_of(job: &XfrJob) -> Transfer<'_> {
+    (
+        &job.name,
+        job.force,
+        names_of(&job.store),
+        host_of(&job.host),
+        job.flag,
+    )
+}
+
 fn transferred(command: &Command) -> Option<Transfer<'_>> {
     match command {
-        Command::Xfr(job) => Some((
-            &job.name,
-            job.force,
-            names_of(&job.store),
-            host_of(&job.host),
-            job.flag,
-        )),
+        Command::Xfr(job) => Some(transfer_of(job)),
         _ => None,
     }
 }
@@ -666,7 +670,7 @@ fn first_of(names: &[MapName]) -> Option<Names<'_>> {
     }
 }
 
-fn check_names(rt: &impl Abort, alloc: Global, words: &[&str], named: Option<Names>) {
+pub fn check_names(rt: &impl Abort, alloc: Global, words: &[&str], named: Option<Names>) {
     let owned = strings(rt, alloc, words);
     let names = disk_names(alloc, &owned).expect(rt, "memory for names");
     let came = (words, names.len(), first_of(&names));
