@@ -75,8 +75,12 @@ fn main(rt: HostRuntime) -> ExitCode {
     let Ok(disks) = disks(alloc, rt, &command) else {
         return end(&mut notes, &Status::NoMemory);
     };
-    // A command without a port never opens it.
-    let port = port_of(&command).unwrap_or(0);
+    // A command without a port opens none. Any other has it open before it asks anybody, who may answer at once.
+    let port = port_of(&command);
+    let mut inbox = UdpInbox::new(rt, port.unwrap_or(0));
+    if port.is_some() {
+        inbox.open();
+    }
     let outside = Outside {
         input,
         output: DirectWriter::new(Patient::new(StandardStream::Output(rt.stdout()), rt)),
@@ -84,7 +88,7 @@ fn main(rt: HostRuntime) -> ExitCode {
         disks,
         clock: SystemClock::new(&rt),
         dial: TcpDial::new(alloc, rt),
-        inbox: UdpInbox::new(rt, port),
+        inbox,
         texts: TextFolder::new(rt),
     };
     let (status, _outside) = run_command(alloc, &rt, command, outside, &mut Trail::new());

@@ -15,7 +15,7 @@ use yp_io::{Failed, Inbox, Mail, Peer, count_fault};
 /// How long a turn waits for a datagram, in seconds: a turn without one is quiet.
 pub const TURN_SECONDS: u64 = 1;
 
-/// A port of UDP over IPv4, on every address of this machine. It is opened at the first call, so that a command that
+/// A port of UDP over IPv4, on every address of this machine. It is opened at the first call, or by `open`, so that a command that
 /// has no use for it opens nothing, and a port that can't be opened is a fault of that call. It tells nothing of its
 /// datagrams.
 #[derive(Drop)]
@@ -41,6 +41,14 @@ impl<R: Net> UdpInbox<R> {
             quiets: 0,
             faults: 0,
         }
+    }
+
+    /// Opens the port ahead of the first call, so that what comes before that isn't lost. Where it can't be opened, the
+    /// first call tries again, and fails.
+    pub fn open(&mut self)
+        ensures { ⟦<UdpInbox<R> as Inbox>⟧.faults self.new ≡ ⟦<UdpInbox<R> as Inbox>⟧.faults self.old }
+    {
+        let _ = opened(&self.net, self.port, &mut self.socket);
     }
 }
 
