@@ -1,5 +1,5 @@
-//! Tests of `bind`, `portmap` and `getport`, as `yp_tools` runs them: what comes to an inbox and goes out from there,
-//! and calls of it that fail.
+//! Tests of `bind`, `portmap`, `getport` and `push`, as `yp_tools` runs them: what comes to an inbox and goes out from
+//! there, and calls of it that fail.
 #![tactic(auto)]
 
 #[cfg(test)]
@@ -10,5 +10,7 @@ mod getports;
 mod given;
 #[cfg(test)]
 mod portmaps;
+#[cfg(test)]
+mod pushes;
 #[cfg(test)]
 mod stage;

@@ -37,7 +37,7 @@ pub struct Row {
     pub turns: u64,
 }
 
-fn strings<R: Abort>(rt: &R, alloc: Global, words: &[&str]) -> Vec<String> {
+pub fn strings<R: Abort>(rt: &R, alloc: Global, words: &[&str]) -> Vec<String> {
     let mut owned = Vec::new(alloc);
     for word in words {
         let word = String::from_str(alloc, word).expect(rt, "memory");
@@ -47,7 +47,7 @@ fn strings<R: Abort>(rt: &R, alloc: Global, words: &[&str]) -> Vec<String> {
 }
 
 /// The numbers of calls.
-fn copied<R: Abort>(rt: &R, alloc: Global, calls: &[u64]) -> Vec<u64> {
+pub fn copied<R: Abort>(rt: &R, alloc: Global, calls: &[u64]) -> Vec<u64> {
     Vec::from_slice(alloc, calls).expect(rt, "memory")
 }
 
@@ -58,7 +58,11 @@ fn letter_of<R: Abort>(rt: &R, alloc: Global, datagram: &Datagram) -> Letter {
     }
 }
 
-fn mail_of<R: Abort>(rt: &R, alloc: Global, brings: &[Option<Datagram>]) -> Vec<Option<Letter>> {
+pub fn mail_of<R: Abort>(
+    rt: &R,
+    alloc: Global,
+    brings: &[Option<Datagram>],
+) -> Vec<Option<Letter>> {
     let mut mail = Vec::new(alloc);
     for turn in brings {
         let came = match turn {
