@@ -31,8 +31,8 @@ module _ {S K D C A I T : Type 0} (seen : Seeing S K D C A I T) (status : Status
     told = ap (λ (o : Office S K D C A I T). seen.clock.moment o.clock) h.0.does.stays;
   }
   command_keeps (Walk name force store host port turns flag) h = record {
-    names = h.0.names;
-    told = ap (λ (o : Office S K D C A I T). seen.clock.moment o.clock) h.0.stays;
+    names = h.0.does.names;
+    told = ap (λ (o : Office S K D C A I T). seen.clock.moment o.clock) h.0.does.stays;
   }
   command_keeps (Revnet name store) h = record { names = h.0.names; told = h.0.told }
   command_keeps (Sample start count) h = by_stays (record old { wire = record old.wire { sink = new.wire.sink } }) h.0.stays refl refl

@@ -132,8 +132,8 @@ module _ {S K D C A I T : Type 0} (seen : Seeing S K D C A I T) (order : Order) 
         (λ did. absurd (not_loaded order.store did.why status did.tells told)) does.does
 
   module _ (held : Held) (version : MapVersion) (told : IsToldHeld (history seen old) held)
-      (unopposed_is : against order held version ≡ None) (dials : DialFails seen old new → ⊥)
-      (disks : DiskFails seen old new → ⊥) (writes : status ≡ WriteFault → ⊥) where
+      (unopposed_is : against order held version ≡ None) (disks : DiskFails seen old new → ⊥)
+      (writes : status ≡ WriteFault → ⊥) where
     -- one that came is stored and told
     came_whole : (other : Held) (result : Result Installed XfrFault) → other ≡ held
         → Comes order other (DiskFails seen old new) (Ok version) result
@@ -168,11 +168,11 @@ module _ {S K D C A I T : Type 0} (seen : Seeing S K D C A I T) (order : Order) 
         none_came_whole fault.NoMemory other result refl
         (subst (λ (o : Outcome). Comes order other (DiskFails seen old new) o result) (is ∙ memory) comes) tells
 
-    transferred : (stream : List ℕ) → WireIsFetched → FetchedIsOne
+    transferred : (DialFails seen old new → ⊥) → (stream : List ℕ) → WireIsFetched → FetchedIsOne
         → HasCome order.host.1 stream (seen.dial.past old.dial) (seen.dial.past new.dial)
         → Fetched (wanted order held) (place_of 1 0 stream) (Ok version) → Transfers seen order status old new
         → (status ≡ Done) ⊎ (status ≡ NoMemory)
-    transferred stream wire one came fetched did =
+    transferred dials stream wire one came fetched did =
         let same = held_same (history seen old) did.did.held held did.did.stores.is_held told in
         let asked = subst (λ (h : Held). FetchesFrom (order.host ∷ []) order.host.0 (wanted order h) did.did.outcome
         (dialing seen old) (dialing seen new)) same did.did.fetches in
@@ -194,10 +194,10 @@ module _ {S K D C A I T : Type 0} (seen : Seeing S K D C A I T) (order : Order) 
     unloaded slot.NoMemory NoMemory is fails cause risen = inr (sym is)
     unloaded slot.NoMemory _ is fails cause risen = absurd fails
 
-    pub whole : (stream : List ℕ) → WireIsFetched → FetchedIsOne
+    pub whole : (DialFails seen old new → ⊥) → (stream : List ℕ) → WireIsFetched → FetchedIsOne
         → HasCome order.host.1 stream (seen.dial.past old.dial) (seen.dial.past new.dial)
         → Fetched (wanted order held) (place_of 1 0 stream) (Ok version) → XfrDoes seen order status old new
         → (status ≡ Done) ⊎ (status ≡ NoMemory)
-    whole stream wire one came fetched does =
-        ⊎_elim (λ did. transferred stream wire one came fetched did)
+    whole dials stream wire one came fetched does =
+        ⊎_elim (λ did. transferred dials stream wire one came fetched did)
         (λ did. unloaded did.why status refl did.tells did.did.cause did.did.disk_fault) does.does

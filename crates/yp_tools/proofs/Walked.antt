@@ -154,11 +154,11 @@ module _ {S K D C A I T : Type 0} (seen : Seeing S K D C A I T) (order : Order) 
       (λ at. gave_rows walks.end walks.last.walk.standing draft did.did.outcome (ap (λ walk. walk.standing) at ∙ is) walks.comes)
       (λ out. inr (gave_no_memory walks.end walks.last.walk.standing did.did.outcome out walks.comes))
       (stood did.did.held (HasOutcome did.did.outcome) same walks) in
-      by_outcome seen order status old new held version told unopposed (λ dials. dials) disks no_write did.did.outcome
+      by_outcome seen order status old new held version told unopposed disks no_write did.did.outcome
       did.did.outcome did.did.held did.result same refl gave did.did.stores.comes did.tells)
       (λ others. ⊎_elim
       (λ (vain : WalksForNothing seen order turns status old new). absurd (in_vain vain))
-      (λ declined. unloaded seen order status old new held version told unopposed (λ dials. dials) disks no_write
+      (λ declined. unloaded seen order status old new held version told unopposed disks no_write
       declined.why status refl declined.tells declined.did.cause declined.did.disk_fault) others)
       does.does
     where

@@ -19,6 +19,7 @@ use yp_readers::{Naming, Opened, Reader, Writer, board};
 use yp_server::Desk;
 use yp_session::Host;
 use yp_shared::{Locked, Site};
+use yp_worker::CatchUp;
 use yp_workhost::{Outcomes, SharedDesk, Supplies, WorkerHost};
 
 /// The locks of a map and its desk.

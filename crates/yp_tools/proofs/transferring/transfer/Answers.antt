@@ -17,7 +17,7 @@ returns-clause-does g c =
           of_run seen order status old new catalogue after caller turns rest before c.run_is_fetched.ensures
           c.requires.named.0 c.requires.named.1 does answers came told;
       complete = λ held stream version told came fetched unopposed dials disks writes.
-          whole seen order status old new held version told unopposed dials disks
-          (λ fault. writes (does.write_fault fault)) stream c.wire_is_fetched.ensures c.fetched_is_one.ensures came
+          whole seen order status old new held version told unopposed disks
+          (λ fault. writes (does.write_fault fault)) dials stream c.wire_is_fetched.ensures c.fetched_is_one.ensures came
           fetched does;
     }
