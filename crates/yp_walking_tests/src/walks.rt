@@ -294,7 +294,7 @@ const NO_INBOX: Row = Row {
 };
 
 /// Each call of the inbox fails in turn: a letter, a turn, a letter and so on.
-const FAILING: [Row; 10] = [
+const FAILING: [Row; 5] = [
     NO_INBOX,
     Row {
         name: "call 1 fails",
@@ -323,6 +323,10 @@ const FAILING: [Row; 10] = [
         turns: 2,
         ..NO_INBOX
     },
+];
+
+/// The same of the later calls.
+const FAILING_LATE: [Row; 5] = [
     Row {
         name: "call 5 fails",
         failing: &[5],
@@ -361,8 +365,13 @@ const FAILING: [Row; 10] = [
 ];
 
 #[test]
-fn each_inbox_call_fails(rt: HostRuntime) {
+fn each_early_inbox_call_fails(rt: HostRuntime) {
     try_rows(&rt, rt.alloc(), &FAILING);
+}
+
+#[test]
+fn each_later_inbox_call_fails(rt: HostRuntime) {
+    try_rows(&rt, rt.alloc(), &FAILING_LATE);
 }
 
 /// The load of the file fails, or the first call behind it, or the write of the line.
