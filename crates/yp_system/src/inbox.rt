@@ -15,9 +15,9 @@ use yp_io::{Failed, Inbox, Mail, Peer, count_fault};
 /// How long a turn waits for a datagram, in seconds: a turn without one is quiet.
 pub const TURN_SECONDS: u64 = 1;
 
-/// A port of UDP over IPv4, on every address of this machine. It is opened at the first call, or by `open`, so that a command that
-/// has no use for it opens nothing, and a port that can't be opened is a fault of that call. It tells nothing of its
-/// datagrams.
+/// A port of UDP over IPv4, on every address of this machine. It is opened at the first call, or by `open`, so that a
+/// command that has no use for it opens nothing, and a port that can't be opened is a fault of that call. It tells
+/// nothing of its datagrams.
 #[derive(Drop)]
 pub struct UdpInbox<R> {
     net: R,
