@@ -78,7 +78,7 @@ fn push_sample(
     push_row(i + 1, &sample_key(x), value.as_slice(), into)
 }
 
-/// A version of `n` rows after the number `start`, with order 1 and master `sample`.
+/// A version of `n` rows after the number `start`, with order 1 and master `sample`, with a table of its keys.
 ///
 /// Row `i`, from 0, has the key `k` with the next number in eight hexadecimal digits, and the value `v` with `i` in
 /// decimal. Above 262,144 rows it is refused at the first row over the limit, counted from 1.
@@ -105,5 +105,5 @@ pub fn sample(
         x = number_after(x);
         push_sample(i, x, &mut value, &mut builder)?;
     }
-    Ok(builder.finish()?)
+    Ok(builder.finish()?.indexed(alloc))
 }

@@ -21,7 +21,7 @@ impl Spelled {
         ensures stored { IfOk result (λ spelled. arc_value spelled.stored ≡ version) }
         ensures shown { IfOk result (λ spelled. arc_value spelled.shown ≡ version) }
     {
-        let Ok(stored) = Arc::new(alloc, version) else {
+        let Ok(stored) = Arc::new(alloc, version.indexed(alloc)) else {
             return Err(NoMemory);
         };
         let Ok(shown) = Arc::try_clone(&stored) else {

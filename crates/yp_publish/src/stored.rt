@@ -276,7 +276,7 @@ fn load_shared<D: Disk>(
 {
     match slot.load(alloc, rt)? {
         None => Ok(None),
-        Some(version) => match Arc::new(alloc, version) {
+        Some(version) => match Arc::new(alloc, version.indexed(alloc)) {
             Ok(shared) => Ok(Some(shared)),
             Err(_) => Err(SlotFault::NoMemory),
         },

@@ -28,10 +28,6 @@ finished draft sorted is moved same = record {
   body = subst (λ n. n ≤ body_max) (sym (finished_len draft sorted moved)) is.body;
 }
 
--- it has no more rows
-pub sorted_count : (draft : Draft) (sorted : List Row) → IsDraft draft → IsPermutation draft.rows sorted → length sorted ≤ rows_max
-sorted_count draft sorted is moved = subst (λ n. n ≤ rows_max) (sym (length_permutation draft.rows sorted moved)) is.count
-
 -- another first word
 other_format : (number other order : ℕ) (master : List ℕ) (count : ℕ)
     → spelling U32 other ++ drop 4 (front_bytes number order master count) ≡ front_bytes other order master count
@@ -57,5 +53,4 @@ marked_kept inside secure slab kept is =
       head = ap (λ l. spelling U32 (format secure) ++ drop 4 l) kept.head
           ∙ other_format (format v.secure) (format secure) v.order v.master (length v.rows);
       table = kept.table;
-      all = kept.all;
     })

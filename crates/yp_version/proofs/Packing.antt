@@ -1,20 +1,19 @@
 -- Rows that are spelled behind one another are read again at their places.
-use Rattle.std.proofs.Common.{◌≡◌, ℕ, ◌+◌, ◌^◌, ◌<◌, ◌≤◌, List, [], ◌∷◌, ◌++◌, length, take, drop, map, replicate, Vec, Global, Result, Ok, Err, IfOk, refl, sym, ap, ◌∙◌, subst, append_assoc, arith, IsPermutation}
+use Rattle.std.proofs.Common.{◌≡◌, ℕ, ◌+◌, ◌^◌, ◌<◌, ◌≤◌, List, [], ◌∷◌, ◌++◌, length, take, drop, map, replicate, All, Vec, Global, Result, Ok, Err, IfOk, refl, sym, ap, ◌∙◌, subst, append_assoc, arith}
 use Rattle.std.specs.List.{flat_map, AllByRecursion}
 use Rattle.std.proofs.Math.ListN.{drop_of_length-le}
 use Rattle.std.proofs.Math.Seq.{drop-append_seam, take-append_seam}
 use Rattle.std.proofs.lemmas.List.Sums.{sum_by-cons}
 use Rattle.std.proofs.lemmas.Nat.{from_be_bytes-to_be_bytes_4}
-use Rattle.std.proofs.lemmas.List.{length-append, length-drop, length-replicate, append-nil, drop-append-le, flat_map_more}
-use Rattle.std.proofs.lemmas.List.Elements.{recursion_from_All, All-push}
-use Rattle.std.proofs.lemmas.List.Sorted.{All-permutation}
+use Rattle.std.proofs.lemmas.List.{length-append, length-drop, length-take, length-replicate, append-nil, drop-append-le, flat_map_more}
+use Rattle.std.proofs.lemmas.List.Elements.{recursion_from_All, All-from_recursion, All-push}
 use Rattle.yp_xdr.specs.Kind.{U32, Opaque}
 use Rattle.yp_xdr.specs.Spelling.{spelling, opaque, fixed, padding}
 use Rattle.yp_xdr.specs.Writing.{written}
 use Rattle.yp_version.specs.Limits.{key_max, value_max, body_max}
 use Rattle.yp_version.specs.Rows.{Row, padded, row_len, rows_len}
 use Rattle.yp_version.specs.Bodies.{row_bytes}
-use Rattle.yp_version.specs.Slabs.{Packed, KeepsLimits, Lies, counted, opaque_from, key_from, value_from, row_from, places_from}
+use Rattle.yp_version.specs.Slabs.{Packed, KeepsLimits, IsRowAt, Lies, counted, opaque_from, key_from, value_from, row_from, places_from}
 use Rattle.yp_version.specs.Slab.{packed_of, IsPacked}
 use Rattle.yp_version.specs.declared.slab.Slab.TheInside.{Inside}
 use Rattle.yp_version.proofs.Lengths.{length_opaque, length_row, length_rows}
@@ -67,13 +66,6 @@ pub if_gathered : {E : Type 0} (P : Packed → Type 0) (result : Result Packed E
 if_gathered P (Ok made) slab is holds = subst P (sym is) holds
 if_gathered P (Err e) slab is holds = tt
 
--- rows in another order keep the limits
-pub within_moved : (rows moved : List Row) → IsPermutation rows moved → KeepsLimits rows → KeepsLimits moved
-within_moved rows moved is within = record {
-  keys = All-permutation (λ row. length row.0 ≤ key_max) rows moved is within.keys;
-  values = All-permutation (λ row. length row.1 ≤ value_max) rows moved is within.values;
-}
-
 pub bytes_len : (inside : Inside) → IsPacked inside
     → length inside.bytes.items ≡ length (packed_of inside).head + rows_len (packed_of inside).rows
 bytes_len inside kept =
@@ -125,6 +117,53 @@ rows_read front (row ∷ rows) fits =
     let others : map (row_from whole) (places_from (length front + row_len row) rows) ≡ rows =
     (λ i. map (row_from (split i)) (places_from (place i) rows)) ∙ rows_read (front ++ row_bytes row) rows fits.1 in
     λ i. first i ∷ others i
+
+-- a row that is spelled behind bytes stands there
+row_at : (front : List ℕ) (row : Row) (rest : List ℕ) → FitsRow row → IsRowAt (front ++ (row_bytes row ++ rest)) (length front)
+row_at front row rest fits =
+    let whole = front ++ (row_bytes row ++ rest) in
+    let read : row ≡ row_from whole (length front) = sym (row_read front row rest fits) in
+    let behind : take (row_len row) (drop (length front) whole) ≡ row_bytes row =
+    ap (take (row_len row)) (drop-append_seam front (row_bytes row ++ rest))
+    ∙ ap (λ n. take n (row_bytes row ++ rest)) (sym (length_row row))
+    ∙ take-append_seam (row_bytes row) rest in
+    record {
+      key = subst (λ (r : Row). length r.0 ≤ key_max) read fits.0;
+      value = subst (λ (r : Row). length r.1 ≤ value_max) read fits.1;
+      spelled = subst (λ (r : Row). take (row_len r) (drop (length front) whole) ≡ row_bytes r) read behind;
+    }
+
+rows_at : (front : List ℕ) (rows : List Row) → AllByRecursion FitsRow rows
+    → AllByRecursion (IsRowAt (front ++ flat_map row_bytes rows)) (places_from (length front) rows)
+rows_at front [] fits = tt
+rows_at front (row ∷ rows) fits =
+    let split : (front ++ row_bytes row) ++ flat_map row_bytes rows ≡ front ++ (row_bytes row ++ flat_map row_bytes rows) =
+    append_assoc front (row_bytes row) (flat_map row_bytes rows) in
+    let place : length (front ++ row_bytes row) ≡ length front + row_len row =
+    omega (arith, length-append front (row_bytes row), length_row row) in
+    let others = rows_at (front ++ row_bytes row) rows fits.1 in (
+      row_at front row (flat_map row_bytes rows) fits.0,
+      subst (λ (n : ℕ). AllByRecursion (IsRowAt (front ++ (row_bytes row ++ flat_map row_bytes rows))) (places_from n rows)) place
+          (subst (λ (l : List ℕ). AllByRecursion (IsRowAt l) (places_from (length (front ++ row_bytes row)) rows)) split others),
+    )
+
+-- the rows of a slab stand at their places
+pub slab_rows_at : (inside : Inside) → IsPacked inside → All (IsRowAt inside.bytes.items) inside.places.items
+slab_rows_at inside kept =
+    let head = (packed_of inside).head in
+    let rows = (packed_of inside).rows in
+    let there = All-from_recursion (IsRowAt (head ++ flat_map row_bytes rows)) (places_from (length head) rows) (rows_at head rows (fits_all rows kept.lies.within)) in
+    subst (λ (l : List ℕ). All (IsRowAt l) inside.places.items) (sym kept.lies.bytes)
+    (subst (λ (l : List ℕ). All (IsRowAt (head ++ flat_map row_bytes rows)) l) (sym kept.lies.places) there)
+
+-- a row that stands at a place has its bytes within those that it stands in
+pub row_within : (bytes : List ℕ) (place : ℕ) → IsRowAt bytes place → place + row_len (row_from bytes place) ≤ length bytes
+row_within bytes place at =
+    let row = row_from bytes place in
+    let size = ap length at.spelled ∙ length_row row in
+    let taken = length-take (row_len row) (drop place bytes) in
+    let left = length-drop place bytes in
+    omega arith
 
 -- the fields hold these rows behind this head
 pub packed_view : (inside : Inside) (head : List ℕ) (rows : List Row) → KeepsLimits rows

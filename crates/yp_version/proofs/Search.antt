@@ -1,18 +1,25 @@
 -- Where a key stands among rows.
-use Rattle.std.proofs.Common.{◌≡◌, ℕ, zero, suc, ◌+◌, ◌<◌, ◌≤◌, Bool, true, false, cond, List, [], ◌∷◌, map, take, length, get_or, slice_get, Option, Some, None, MatchOption, option_map, is_some, bytes_eq, nat_le, refl, sym, ap, ◌∙◌, subst, inl, inr, true≢false, arith, All, add-one}
+use Rattle.std.proofs.Common.{◌≡◌, ℕ, zero, suc, ◌+◌, ◌<◌, ◌≤◌, Bool, true, false, cond, List, [], ◌∷◌, map, take, length, get_or, slice_get, Option, Some, None, Result, Ok, Err, is_lt, Less, Greater, MatchOption, option_map, is_some, bytes_eq, nat_le, refl, sym, ap, ◌∙◌, subst, inl, inr, true≢false, arith, add-one}
 use Rattle.std.proofs.lemmas.Bool.{cases_Bool, cond-true, cond-false, leb-true, leb-false}
+use Rattle.std.proofs.lemmas.Cmp.{nat_list_cmp_total}
 use Rattle.std.proofs.lemmas.List.{get_or-map, length-map}
+use Rattle.std.proofs.lemmas.List.Sorted.{searchable_from_sorted}
 use Rattle.std.proofs.lemmas.List.Sums.{sum_by-cons}
-use Rattle.std.proofs.lemmas.Map.Keys.{IsDistinct-head, IsDistinct-tail}
-use Rattle.std.proofs.lemmas.Option.{slice_get-map, slice_get_within, same_Some, none-some, get_or_from_slice_get}
-use Rattle.std.specs.List.{AllByRecursion}
-use Rattle.std.specs.Map.{keys_of}
+use Rattle.std.proofs.lemmas.Map.Entries.{lookup_at_gap}
+use Rattle.std.proofs.lemmas.Map.Keys.{Less-from_sorted, IsDistinct-head, IsDistinct-tail}
+use Rattle.std.proofs.lemmas.Option.{slice_get_cases, slice_get-map, slice_get_within, same_Some, none-some}
+use Rattle.std.specs.List.{AllByRecursion, AllWithin}
+use Rattle.std.specs.List.Sorted.{IsSortedBy, IsBinarySearchResult, IsSearchInRange, IsNonDecreasingBy}
+use Rattle.std.specs.Map.{keys_of, lookup}
 use Rattle.std.specs.Option.{option_map_or}
+use Rattle.std.specs.Ordering.{ordering_index}
+use Rattle.std.specs.Result.{result_ok}
 use Rattle.yp_version.specs.Places.{StandsAt, IsAbsent}
-use Rattle.yp_version.specs.Rows.{Row, IsRising, HasDistinctKeys, value_of, following, first_of, row_len, rows_len}
+use Rattle.yp_version.specs.Rows.{Row, key_cmp, IsRising, HasDistinctKeys, value_of, following, first_of, row_len, rows_len}
 use Rattle.yp_version.specs.Tables.{last_below, has_key}
 use Rattle.yp_version.proofs.Chains.{last_passes, all_fail}
-use Rattle.yp_version.proofs.Keys.{same_key, key_itself}
+use Rattle.yp_version.proofs.Keys.{same_key, key_itself, cmp_back, cmp_flip, cmp_same, eq_flip, eq_is_cmp}
+use Rattle.yp_version.proofs.Sorted.{keys-views}
 use Rattle.yp_version.proofs.Unique.{rising_is_distinct}
 
 first_is_get : (rows : List Row) → first_of rows ≡ slice_get rows 0
@@ -85,17 +92,6 @@ found_at rows key None rising is =
 found_at rows key (Some i) rising is =
     stands_at rows i key rising (has_it rows i key (last_passes (has_key key rows) (length rows) i (sym is)).1)
 
--- what holds of all rows holds of the one at a place
-pub holds_at : (P : Row → Type 0) (rows : List Row) (i : ℕ) (row : Row) → All P rows → slice_get rows i ≡ Some row → P row
-holds_at P rows i row all e = subst P (get_or_from_slice_get rows i row row e) (all i row (slice_get_within rows i row e))
-
--- what holds of all rows holds of the one that is made of the item at a place
-pub holds_of_item : {X : Type 0} (row_of : X → Row) (P : Row → Type 0) (items : List X) (i : ℕ) (x : X)
-    → All P (map row_of items) → i < length items → x ≡ get_or items i x → P (row_of x)
-holds_of_item row_of P items i x all within is =
-    let l = length-map items row_of in
-    subst P (get_or-map row_of items i x (row_of x) within ∙ ap row_of (sym is)) (all i (row_of x) (omega (arith, l, within)))
-
 -- there is room for each of the rows in turn
 pub room_left : {X : Type 0} (row_of : X → Row) (items : List X) (i : ℕ) (x : X) → i < length items → x ≡ get_or items i x
     → rows_len (map row_of (take i items)) + row_len (row_of x) ≤ rows_len (map row_of items)
@@ -136,3 +132,53 @@ pub found_some : (key : List ℕ) (rows : List Row) (n : ℕ) (found : Option �
     → is_some (value_of key rows) ≡ true
 found_some key rows n None is some = absurd (true≢false (sym some))
 found_some key rows n (Some i) is some = some_has key rows i (last_passes (has_key key rows) n i (sym is)).1
+
+-- Rows that are made of items may be searched by their keys, and a search among them finds where a key stands.
+module _ {X : Type 0} (row_of : X → Row) where
+  -- items whose rows rise may be searched
+  searchable : (items : List X) (key : List ℕ) → IsRising (map row_of items) → IsNonDecreasingBy (λ x. ordering_index (key_cmp (row_of x).0 key)) items
+  searchable items key rising = searchable_from_sorted nat_list_cmp_total (λ x. (row_of x).0) items key sorted
+    where
+      sorted : IsSortedBy (λ a b. is_lt (key_cmp (row_of a).0 (row_of b).0)) items
+      sorted k d low high =
+          let l = length-map items (λ x. (row_of x).0) in
+          let a = get_or-map (λ x. (row_of x).0) items k d [] (omega (arith, high)) in
+          let b = get_or-map (λ x. (row_of x).0) items (k + 1) d [] high in
+          let keys = subst (λ keys. key_cmp (get_or keys k []) (get_or keys (k + 1) []) ≡ Less) (keys-views row_of items)
+          (Less-from_sorted key_cmp (keys_of (map row_of items)) k (k + 1) [] rising (omega arith) (subst (λ keys. k + 1 < length keys) (sym (keys-views row_of items)) (omega (arith, l, high)))) in
+          ap is_lt (cmp_back (row_of (get_or items k d)).0 (row_of (get_or items (k + 1) d)).0 ((λ i. key_cmp (sym a i) (sym b i)) ∙ keys))
+
+  -- the item whose row is at a place
+  item_at : (items : List X) (j : ℕ) (row : Row) → slice_get (map row_of items) j ≡ Some row
+      → (x : X) × (j < length items) × (get_or items j x ≡ x) × (row_of x ≡ row)
+  item_at items j row e = elim (slice_get_cases items j).1 [
+    | inl (x, here, s, r) ↦ (x, here, r, same_Some (row_of x) row (sym (slice_get-map row_of items j ∙ ap (option_map row_of) s) ∙ e))
+    | inr (past, none) ↦ absurd (none-some row (sym (slice_get-map row_of items j ∙ ap (option_map row_of) none) ∙ e))
+  ]
+
+  -- where a search ends
+  pub searched : (items : List X) (key : List ℕ) (r : Result ℕ ℕ) → IsRising (map row_of items) → IsSearchInRange r (length items)
+      → IsBinarySearchResult (λ x. key_cmp (row_of x).0 key) items r
+      → MatchOption (result_ok r) (IsAbsent key (map row_of items)) (StandsAt key (map row_of items))
+  searched items key (Ok i) rising bound found = stands_at (map row_of items) i key rising
+      (ap (λ keys. slice_get keys i) (keys-views row_of items) ∙ slice_get-map (λ x. (row_of x).0) items i ∙ elim (slice_get_cases items i).1 [
+        | inl (x, here, e, r) ↦ ap (option_map (λ x. (row_of x).0)) e ∙ ap Some (cmp_same (row_of x).0 key (ap (λ p. key_cmp (row_of p).0 key) (sym r) ∙ found x))
+        | inr (past, none) ↦ absurd (omega (arith, past, bound))
+      ])
+  searched items key (Err i) rising bound split = record { value = none; next = nothing_follows key (map row_of items) none }
+    where
+      parts : AllWithin (λ x. key_cmp (row_of x).0 key ≡ Less) items 0 i × AllWithin (λ x. key_cmp (row_of x).0 key ≡ Greater) items i (length items)
+      parts = split (searchable items key rising)
+
+      below : (j : ℕ) (row : Row) → j < i → slice_get (map row_of items) j ≡ Some row → key_cmp key row.0 ≡ Greater
+      below j row low e = let (x, here, r, same) = item_at items j row e in
+          ap (λ row. key_cmp key row.0) (sym same) ∙ cmp_back (row_of x).0 key (ap (λ p. key_cmp (row_of p).0 key) (sym r) ∙ parts.0 j x (omega arith) low)
+
+      above : (row : Row) → slice_get (map row_of items) i ≡ Some row → key_cmp key row.0 ≡ Less
+      above row e = let (x, here, r, same) = item_at items i row e in
+          ap (λ row. key_cmp key row.0) (sym same) ∙ cmp_flip (row_of x).0 key (ap (λ p. key_cmp (row_of p).0 key) (sym r) ∙ parts.1 i x (omega arith) here)
+
+      none : value_of key (map row_of items) ≡ None
+      none =
+          ap (λ test. lookup test (map row_of items)) (eq_flip key ∙ ap (λ e. e key) eq_is_cmp)
+          ∙ lookup_at_gap nat_list_cmp_total key (map row_of items) i rising below above

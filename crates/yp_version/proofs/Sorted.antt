@@ -25,7 +25,7 @@ module _ {X : Type 0} (row_of : X → Row) where
   abbrev key_at : X → List ℕ
   key_at x = (row_of x).0
 
-  keys-views : (items : List X) → keys_of (map row_of items) ≡ map key_at items
+  pub keys-views : (items : List X) → keys_of (map row_of items) ≡ map key_at items
   keys-views [] = refl
   keys-views (x ∷ items) = ap (λ keys. key_at x ∷ keys) (keys-views items)
 

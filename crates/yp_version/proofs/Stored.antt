@@ -1,12 +1,13 @@
 -- A body whose rows are found is a slab.
-use Rattle.std.proofs.Common.{◌≡◌, ℕ, ◌+◌, List, length, sym, ap, ◌∙◌, subst, arith}
+use Rattle.std.proofs.Common.{◌≡◌, ℕ, ◌+◌, List, Option, Some, None, IfSome, length, sym, ap, ◌∙◌, subst, arith}
 use Rattle.yp_version.specs.Bodies.{format, head_bytes}
-use Rattle.yp_version.specs.Rows.{padded}
+use Rattle.yp_version.specs.Rows.{Row, padded}
 use Rattle.yp_version.specs.Slabs.{Packed, Lies, places_from}
 use Rattle.yp_version.specs.Stored.{IsStored}
 use Rattle.yp_version.specs.Table.{IsTable, HasAll}
 use Rattle.yp_version.specs.Version.{version_of, IsKept}
 use Rattle.yp_version.specs.Versions.{MapVersion, IsVersion}
+use Rattle.yp_version.specs.declared.table.Table.{Table}
 use Rattle.yp_version.specs.declared.version.Version.TheInside.{Inside}
 use Rattle.yp_version.proofs.Lengths.{length_front, length_body}
 
@@ -29,14 +30,18 @@ stored_lies bytes starts version stored =
       small = let most = is.body in omega arith;
     }
 
+-- where there is no table, nothing is said of it
+none_holds : (rows : List Row) (table : Option Table) → table ≡ None → IfSome table (λ table. IsTable table rows × HasAll table rows)
+none_holds rows None none = tt
+none_holds rows (Some table) none = absurd cc
+
 -- a version over such a slab
 pub stored_kept : (inside : Inside) (version : MapVersion) → IsVersion version → version_of inside ≡ version
-    → inside.slab ≡ stored_slab version → IsTable inside.table inside.slab.rows → HasAll inside.table inside.slab.rows → IsKept inside
-stored_kept inside version within is slab table all = record {
+    → inside.slab ≡ stored_slab version → inside.table ≡ None → IsKept inside
+stored_kept inside version within is slab none = record {
   version = subst IsVersion (sym is) within;
   head = ap (λ (p : Packed). p.head) slab ∙ ap head_bytes (sym is);
-  table = table;
-  all = all;
+  table = none_holds inside.slab.rows inside.table none;
 }
 
 -- which is the version

@@ -31,6 +31,12 @@ value_from bytes place = opaque_from bytes (place + (4 + padded (length (key_fro
 abbrev pub row_from : List ℕ → ℕ → Row
 row_from bytes place = (key_from bytes place, value_from bytes place)
 
+-- a row stands at a place as it is spelled in the body of a version
+pub record IsRowAt (bytes : List ℕ) (place : ℕ) : Type 0 where
+  pub key : length (key_from bytes place) ≤ key_max
+  pub value : length (value_from bytes place) ≤ value_max
+  pub spelled : take (row_len (row_from bytes place)) (drop place bytes) ≡ row_bytes (row_from bytes place)
+
 -- the places of rows, of which the first stands here
 abbrev pub places_from : ℕ → List Row → List ℕ
 places_from at [] = []

@@ -260,8 +260,7 @@ impl VersionBuilder {
         drop(table);
         let head = head_of(alloc, order, &master, slab.len(), slab.bytes().len())?;
         let slab = slab.finished(alloc, head, rising)?;
-        let table = Table::of(alloc, hasher, &slab)?;
-        Ok(Version::new(order, master, slab, table))
+        Ok(Version::new(order, master, slab, hasher))
     }
 }
 

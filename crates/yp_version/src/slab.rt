@@ -1,7 +1,8 @@
 //! Bytes that stand before rows, and behind them the rows, each spelled as in the body of a version.
 
 ghost use Rattle.std.specs.Prelude.{◌≡◌, ◌+◌, ◌<◌, ◌≤◌, ◌^◌, [], ◌∷◌, ◌++◌, length, replicate, drop, map, slice_get};
-ghost use Rattle.std.specs.Prelude.{ℕ, Some, true, false, option_map, IfOk, OnOk, OnErr, IsTrue, IsPermutation};
+ghost use Rattle.std.specs.Prelude.{ℕ, Some, true, false, option_map, MatchOption, IfOk, OnOk, OnErr, IsTrue};
+ghost use Rattle.std.specs.Prelude.{All, IsPermutation};
 ghost use Rattle.std.specs.List.{flat_map};
 ghost use Rattle.yp_xdr.specs.Kind.{U32};
 ghost use Rattle.yp_xdr.specs.Spelling.{spelling};
@@ -9,12 +10,14 @@ ghost use Rattle.yp_xdr.specs.Writing.{written};
 ghost use Rattle.yp_version.specs.Limits.{key_max, value_max, body_max};
 ghost use Rattle.yp_version.specs.Rows.{HasDistinctKeys, IsRising, is_over_last, key_cmp, row_len, rows_len};
 ghost use Rattle.yp_version.specs.Tables.{has_key};
+ghost use Rattle.yp_version.specs.Places.{StandsAt, IsAbsent};
 ghost use Rattle.yp_version.specs.Bodies.{row_bytes};
-ghost use Rattle.yp_version.specs.Slabs.{KeepsLimits, opaque_from, key_from, row_from};
+ghost use Rattle.yp_version.specs.Slabs.{IsRowAt, opaque_from, key_from, row_from};
 
 use crate::limits::{WORD, padded, row_len};
 use crate::ranks::sorted_places;
 use std::alloc::Global;
+use std::cmp::Ordering;
 use std::marker::Model;
 use yp_io::NoMemory;
 use yp_xdr::{set_opaque, set_u32};
@@ -86,6 +89,22 @@ impl Slab {
         Ok(())
     }
 
+    // Puts a copy of a row that stands in other bytes behind the others. After a refusal nothing has changed.
+    fn push_copy(&mut self, bytes: &[u8], from: u32) -> Result<(), NoMemory>
+        requires row { IsRowAt bytes.now from }
+        requires room { length self.old.head + rows_len self.old.rows + row_len (row_from bytes.now from) ≤ body_max }
+        ensures ok { OnOk result (self.new ≡ record self.old { rows = self.old.rows ++ row_from bytes.now from ∷ [] }) }
+        ensures err { OnErr result (self.new ≡ self.old) }
+    {
+        let place = self.bytes.len() as u32;
+        copy_row(&mut self.bytes, bytes, from)?;
+        if self.places.push(place).is_err() {
+            self.bytes.truncate(place as usize);
+            return Err(NoMemory);
+        }
+        Ok(())
+    }
+
     /// The number of rows.
     pub(crate) fn len(&self) -> usize
         ensures { result ≡ length self.now.rows }
@@ -107,6 +126,21 @@ impl Slab {
     {
         let place = self.places.get(i)?;
         Some(row_from(&self.bytes, *place))
+    }
+
+    /// The number of the row with this key among rising rows, by halving.
+    pub(crate) fn find(&self, key: &[u8]) -> Option<usize>
+        requires { IsRising self.now.rows }
+        ensures { MatchOption result (IsAbsent key.now self.now.rows) (StandsAt key.now self.now.rows) }
+    {
+        let bytes = self.bytes.as_slice();
+        self.places
+            .binary_search_by(
+                |place: &u32| -> Ordering
+                    ensures { result ≡ key_cmp (key_from bytes.entry.now place.now) key.entry.now }
+                { key_from(bytes, *place).cmp(key) },
+            )
+            .ok()
     }
 
     /// Whether a key is over that of the last row, if there is one.
@@ -199,16 +233,15 @@ impl Slab {
     }
 }
 
-// The rows at these places, behind a head.
+// The rows at these places, behind a head. The bytes of each are copied as they stand.
 fn gathered(alloc: Global, head: Vec<u8>, bytes: &[u8], places: &[u32]) -> Result<Slab, NoMemory>
-    requires within { KeepsLimits (map (row_from bytes.now) places.now) }
+    requires rows { All (IsRowAt bytes.now) places.now }
     requires room { length head.items + rows_len (map (row_from bytes.now) places.now) ≤ body_max }
     ensures { IfOk result (λ slab. slab ≡ record { head = head.items; rows = map (row_from bytes.now) places.now }) }
 {
     let mut slab = Slab::new(alloc, head, places.len())?;
     for place in places {
-        let (key, value) = row_from(bytes, *place);
-        slab.push(key, value)?;
+        slab.push_copy(bytes, *place)?;
     }
     Ok(slab)
 }
@@ -233,6 +266,18 @@ fn add_row(bytes: &mut Vec<u8>, key: &[u8], value: &[u8]) -> Result<(), NoMemory
     grow(bytes, row_len(key, value))?;
     set_row(bytes, start, key, value);
     Ok(())
+}
+
+// Copies a row that stands in other bytes behind bytes. After a refusal they are as before.
+fn copy_row(bytes: &mut Vec<u8>, others: &[u8], from: u32) -> Result<(), NoMemory>
+    requires { IsRowAt others.now from }
+    ensures ok { OnOk result (bytes.new.items ≡ bytes.old.items ++ row_bytes (row_from others.now from)) }
+    ensures err { OnErr result (bytes.new.items ≡ bytes.old.items) }
+{
+    let (key, value) = row_from(others, from);
+    let start = from as usize;
+    let row = &others[start..start + row_len(key, value)];
+    bytes.extend_from_slice(row).map_err(|_| NoMemory)
 }
 
 // Puts zeros behind bytes. After a refusal they are as before.

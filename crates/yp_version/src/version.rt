@@ -7,7 +7,6 @@ ghost use Rattle.yp_version.specs.Rows.{Row, value_of, first_of, following};
 ghost use Rattle.yp_version.specs.Versions.{IsVersion, body_len, unmarked};
 ghost use Rattle.yp_version.specs.Bodies.{IsBody, head_bytes};
 ghost use Rattle.yp_version.specs.Stored.{IsStored};
-ghost use Rattle.yp_version.specs.Table.{IsTable, HasAll};
 ghost use Rattle.yp_version.specs.Places.{StandsAt, IsAbsent};
 ghost use Rattle.yp_version.specs.Next.{next_row, IsWithin};
 
@@ -36,15 +35,18 @@ pub enum Next<'a> {
 
 /// A version of a map: an order, a master, whether it is secure, and rows in rising byte order of their keys.
 ///
-/// Rows are numbered from 0. No call on a version takes memory. It keeps its stored body, in which the rows stand, and
-/// a table of their numbers by a hash of the key.
+/// Rows are numbered from 0. It keeps its stored body, in which the rows stand. A key is looked up by halving, or by a
+/// table of the rows' numbers by a hash of the key, once [`Version::indexed`] made one. No other call on a version
+/// takes memory.
 #[derive(Debug, Drop)]
 pub struct Version {
     order: u32,
     master: Vec<u8>,
     secure: bool,
     slab: Slab,
-    table: Table,
+    hasher: RandomState,
+    // All rows by their keys, where it was made.
+    table: Option<Table>,
 }
 
 impl Model for Version {
@@ -61,11 +63,9 @@ impl Model for Version {
 
 impl Version {
     // A version that isn't secure, of rows that stand in their order behind its head.
-    pub(crate) fn new(order: u32, master: Vec<u8>, slab: Slab, table: Table) -> Version
+    pub(crate) fn new(order: u32, master: Vec<u8>, slab: Slab, hasher: RandomState) -> Version
         requires version { IsVersion (unmarked order master.items slab.rows) }
         requires head { slab.head ≡ head_bytes (unmarked order master.items slab.rows) }
-        requires table { IsTable table slab.rows }
-        requires all { HasAll table slab.rows }
         ensures { result ≡ unmarked order master.items slab.rows }
     {
         Version {
@@ -73,13 +73,14 @@ impl Version {
             master,
             secure: false,
             slab,
-            table,
+            hasher,
+            table: None,
         }
     }
 
-    /// The version that a body spells, whose rows stand at these places. The body stays where it is.
+    /// The version that a body spells, whose rows stand at these places. The body stays where it is. A random state
+    /// that the runtime refuses is want of memory, too.
     pub fn of_body(
-        alloc: Global,
         rt: &impl RandomSource,
         order: u32,
         master: Vec<u8>,
@@ -99,14 +100,26 @@ impl Version {
         };
         let head_len = HEAD_LEN + padded(master.len());
         let slab = Slab::of_parts(body, head_len, places);
-        let table = Table::of(alloc, hasher, &slab)?;
         Ok(Version {
             order,
             master,
             secure,
             slab,
-            table,
+            hasher,
+            table: None,
         })
+    }
+
+    /// The same version, in which keys are looked up by a table. Want of memory for it costs only time: they are looked
+    /// up by halving then.
+    pub fn indexed(self, alloc: Global) -> Version
+        ensures { result ≡ self }
+    {
+        let mut version = self;
+        if version.table.is_none() {
+            version.table = Table::of(alloc, version.hasher, &version.slab).ok();
+        }
+        version
     }
 
     /// The order: the moment of its making, in seconds, or one more than the order before.
@@ -179,7 +192,10 @@ impl Version {
         ensures found { MatchOption result (IsAbsent key.now self.now.rows) (StandsAt key.now self.now.rows) }
         ensures version { IsVersion self.now }
     {
-        self.table.find(&self.slab, key)
+        match &self.table {
+            Some(table) => table.find(&self.slab, key),
+            None => self.slab.find(key),
+        }
     }
 
     /// The value of the row with this key.

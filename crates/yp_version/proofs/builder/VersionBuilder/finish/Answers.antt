@@ -5,7 +5,7 @@ use Rattle.yp_version.specs.Rows.{Row, listed}
 use Rattle.yp_version.specs.VersionBuilder.{draft_of}
 use Rattle.std.proofs.lemmas.List.Sorted.{length_permutation}
 use Rattle.yp_version.proofs.Lengths.{length_front}
-use Rattle.yp_version.proofs.Finished.{finished, sorted_count}
+use Rattle.yp_version.proofs.Finished.{finished}
 use Rattle.yp_version.proofs.Unique.{rising_is_listed}
 use Rattle.yp_version.proofs.builder.VersionBuilder.finish.Goals as goal
 
@@ -15,9 +15,6 @@ finished-requires-clause-head c =
     let len = length_front 1 c.self.inside.order c.self.inside.master.items c.len.result in
     let kept = c.self.invariant.head in
     omega arith
-
-pub of-requires : goal.of-requires
-of-requires c = sorted_count (draft_of c.self.inside) c.in_ok-slab.slab.rows c.self.invariant.draft c.in_ok-slab.ensures.moved
 
 pub new-requires-clause-version : goal.new-requires-clause-version
 new-requires-clause-version c =

@@ -1,19 +1,19 @@
-use Rattle.std.proofs.Common.{◌≡◌, ℕ, List, length, map, ap, ◌∙◌, sym, subst, arith, IsPermutation}
-use Rattle.std.proofs.lemmas.List.Sorted.{IsPermutation-map, sum_by-IsPermutation}
+use Rattle.std.proofs.Common.{◌≡◌, ℕ, List, length, map, ap, ◌∙◌, sym, subst, arith, All, IsPermutation}
+use Rattle.std.proofs.lemmas.List.Sorted.{All-permutation, IsPermutation-map, sum_by-IsPermutation}
 use Rattle.yp_version.specs.Rows.{Row, IsRising, HasDistinctKeys, row_len, rows_len}
-use Rattle.yp_version.specs.Slabs.{Packed, KeepsLimits, row_from}
+use Rattle.yp_version.specs.Slabs.{Packed, IsRowAt, row_from}
 use Rattle.yp_version.specs.Slab.{packed_of}
-use Rattle.yp_version.proofs.Packing.{within_moved, bytes_len, if_gathered}
+use Rattle.yp_version.proofs.Packing.{slab_rows_at, bytes_len, if_gathered}
 use Rattle.yp_version.proofs.Sorted.{sorted_rises}
 use Rattle.yp_version.proofs.slab.Slab.sorted.Goals as goal
 
-pub gathered-requires-clause-within : goal.gathered-requires-clause-within
-gathered-requires-clause-within c =
+pub gathered-requires-clause-rows : goal.gathered-requires-clause-rows
+gathered-requires-clause-rows c =
+    let bytes = c.self.inside.bytes.items in
     let places = subst (λ (l : List ℕ). IsPermutation l c.in_ok-sorted.sorted.items) c.deref.ensures.value c.in_ok-sorted.ensures.moved in
-    let moved = IsPermutation-map (row_from c.self.inside.bytes.items) c.self.inside.places.items c.in_ok-sorted.sorted.items places in
-    let within = within_moved (packed_of c.self.inside).rows (map (row_from c.self.inside.bytes.items) c.in_ok-sorted.sorted.items) moved c.self.invariant.lies.within in
-    subst (λ (l : List ℕ). KeepsLimits (map (row_from l) c.deref-2.result.now)) (sym c.as_slice-all.ensures.value)
-    (subst (λ (l : List ℕ). KeepsLimits (map (row_from c.self.inside.bytes.items) l)) (sym c.deref-2.ensures.value) within)
+    let there = All-permutation (IsRowAt bytes) c.self.inside.places.items c.in_ok-sorted.sorted.items places (slab_rows_at c.self.inside c.self.invariant) in
+    subst (λ (l : List ℕ). All (IsRowAt l) c.deref-2.result.now) (sym c.as_slice-all.ensures.value)
+    (subst (λ (l : List ℕ). All (IsRowAt bytes) l) (sym c.deref-2.ensures.value) there)
 
 pub gathered-requires-clause-room : goal.gathered-requires-clause-room
 gathered-requires-clause-room c =

@@ -1,7 +1,5 @@
-use Rattle.std.proofs.Common.{◌≡◌, ◌+◌, ◌≤◌, ap, sym, subst, refl, ◌∙◌, length}
-use Rattle.yp_version.specs.Limits.{rows_max}
+use Rattle.std.proofs.Common.{◌≡◌, ◌+◌, None, ap, sym, refl, ◌∙◌, length}
 use Rattle.yp_version.specs.Rows.{padded}
-use Rattle.yp_version.specs.Slabs.{Packed}
 use Rattle.yp_version.specs.Versions.{MapVersion}
 use Rattle.yp_version.specs.declared.version.Version.TheInside.{Inside}
 use Rattle.yp_version.proofs.Stored.{stored_slab, stored_head, stored_lies, stored_kept, stored_view, slab_is}
@@ -14,22 +12,14 @@ of_parts-slab-requires g c =
     ap (λ n. 16 + n) (c.padded-head_len.ensures.value ∙ ap padded (c.len.ensures ∙ c.args.master.ok.0)) in
     (stored_slab version, stored_lies c.args.body.items c.args.places.items version c.requires.1, len ∙ sym (stored_head version))
 
-pub of-requires : goal.of-requires
-of-requires g c =
-    let version : MapVersion = record { order = c.args.order; master = c.args.master.items; secure = c.args.secure; rows = c.requires.0 } in
-    let len : 16 + c.padded-head_len.result ≡ 16 + padded (length version.master) =
-    ap (λ n. 16 + n) (c.padded-head_len.ensures.value ∙ ap padded (c.len.ensures ∙ c.args.master.ok.0)) in
-    let slab = slab_is c.args.body.items c.args.places.items (16 + c.padded-head_len.result) c.of_parts-slab.result version c.of_parts-slab.ensures len c.requires.1 in
-    subst (λ (p : Packed). length p.rows ≤ rows_max) (sym slab) c.requires.1.body.within.count
-
 pub invariant_of-result : goal.invariant_of-result
 invariant_of-result g c =
     let version : MapVersion = record { order = c.args.order; master = c.args.master.items; secure = c.args.secure; rows = c.requires.0 } in
     let len : 16 + c.padded-head_len.result ≡ 16 + padded (length version.master) =
     ap (λ n. 16 + n) (c.padded-head_len.ensures.value ∙ ap padded (c.len.ensures ∙ c.args.master.ok.0)) in
     let slab = slab_is c.args.body.items c.args.places.items (16 + c.padded-head_len.result) c.of_parts-slab.result version c.of_parts-slab.ensures len c.requires.1 in
-    let inside : Inside = record { order = c.args.order; master = c.args.master; secure = c.args.secure; slab = c.of_parts-slab.result; table = c.in_ok-table.table } in
-    stored_kept inside version c.requires.1.body.within (stored_view inside version refl slab) slab c.in_ok-table.ensures.table c.in_ok-table.ensures.all
+    let inside : Inside = record { order = c.args.order; master = c.args.master; secure = c.args.secure; slab = c.of_parts-slab.result; hasher = c.in-Ok.hasher; table = None } in
+    stored_kept inside version c.requires.1.body.within (stored_view inside version refl slab) slab refl
 
 pub returns : goal.returns
 returns g c = λ rows stored.
@@ -37,5 +27,5 @@ returns g c = λ rows stored.
     let len : 16 + c.padded-head_len.result ≡ 16 + padded (length version.master) =
     ap (λ n. 16 + n) (c.padded-head_len.ensures.value ∙ ap padded (c.len.ensures ∙ c.args.master.ok.0)) in
     let slab = slab_is c.args.body.items c.args.places.items (16 + c.padded-head_len.result) c.of_parts-slab.result version c.of_parts-slab.ensures len stored in
-    stored_view (record { order = c.args.order; master = c.args.master; secure = c.args.secure; slab = c.of_parts-slab.result; table = c.in_ok-table.table })
+    stored_view (record { order = c.args.order; master = c.args.master; secure = c.args.secure; slab = c.of_parts-slab.result; hasher = c.in-Ok.hasher; table = None })
     version refl slab
