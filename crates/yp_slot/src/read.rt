@@ -161,5 +161,5 @@ pub(crate) fn read_version(
         master,
         places,
     } = find(alloc, &body)?;
-    Ok(Version::of_body(rt, order, master, secure, body, places)?)
+    Ok(Version::of_body(alloc, rt, order, master, secure, body, places)?)
 }

@@ -1,13 +1,12 @@
 -- A body whose rows are found is a slab.
-use Rattle.std.proofs.Common.{◌≡◌, ℕ, ◌+◌, List, Option, Some, None, IfSome, length, sym, ap, ◌∙◌, subst, arith}
+use Rattle.std.proofs.Common.{◌≡◌, ℕ, ◌+◌, List, length, sym, ap, ◌∙◌, subst, arith}
 use Rattle.yp_version.specs.Bodies.{format, head_bytes}
 use Rattle.yp_version.specs.Rows.{Row, padded}
 use Rattle.yp_version.specs.Slabs.{Packed, Lies, places_from}
 use Rattle.yp_version.specs.Stored.{IsStored}
-use Rattle.yp_version.specs.Table.{IsTable, HasAll}
+use Rattle.yp_version.specs.Table.{IsWhole}
 use Rattle.yp_version.specs.Version.{version_of, IsKept}
 use Rattle.yp_version.specs.Versions.{MapVersion, IsVersion}
-use Rattle.yp_version.specs.declared.table.Table.{Table}
 use Rattle.yp_version.specs.declared.version.Version.TheInside.{Inside}
 use Rattle.yp_version.proofs.Lengths.{length_front, length_body}
 
@@ -30,18 +29,13 @@ stored_lies bytes starts version stored =
       small = let most = is.body in omega arith;
     }
 
--- where there is no table, nothing is said of it
-none_holds : (rows : List Row) (table : Option Table) → table ≡ None → IfSome table (λ table. IsTable table rows × HasAll table rows)
-none_holds rows None none = tt
-none_holds rows (Some table) none = absurd cc
-
 -- a version over such a slab
 pub stored_kept : (inside : Inside) (version : MapVersion) → IsVersion version → version_of inside ≡ version
-    → inside.slab ≡ stored_slab version → inside.table ≡ None → IsKept inside
-stored_kept inside version within is slab none = record {
+    → inside.slab ≡ stored_slab version → IsWhole inside.table inside.slab.rows → IsKept inside
+stored_kept inside version within is slab whole = record {
   version = subst IsVersion (sym is) within;
   head = ap (λ (p : Packed). p.head) slab ∙ ap head_bytes (sym is);
-  table = none_holds inside.slab.rows inside.table none;
+  table = whole;
 }
 
 -- which is the version

@@ -1,7 +1,7 @@
 -- What the code keeps of a version.
-use Rattle.std.specs.Prelude.{◌≡◌, IfSome}
+use Rattle.std.specs.Prelude.{◌≡◌}
 use Rattle.yp_version.specs.Bodies.{head_bytes}
-use Rattle.yp_version.specs.Table.{IsTable, HasAll}
+use Rattle.yp_version.specs.Table.{IsWhole}
 use Rattle.yp_version.specs.Versions.{MapVersion, IsVersion}
 use Rattle.yp_version.specs.declared.version.Version.TheInside.{Inside}
 
@@ -14,8 +14,8 @@ version_of inside = record {
   rows = inside.slab.rows;
 }
 
--- the slab is the body of a version, and the table, where it was made, is that of all its rows
+-- the slab is the body of a version, and the table, where it has buckets, is that of all its rows
 pub record IsKept (inside : Inside) : Type 0 where
   pub version : IsVersion (version_of inside)
   pub head : inside.slab.head ≡ head_bytes (version_of inside)
-  pub table : IfSome inside.table (λ table. IsTable table inside.slab.rows × HasAll table inside.slab.rows)
+  pub table : IsWhole inside.table inside.slab.rows

@@ -260,7 +260,8 @@ impl VersionBuilder {
         drop(table);
         let head = head_of(alloc, order, &master, slab.len(), slab.bytes().len())?;
         let slab = slab.finished(alloc, head, rising)?;
-        Ok(Version::new(order, master, slab, hasher))
+        let table = Table::without_buckets(alloc, hasher);
+        Ok(Version::new(order, master, slab, table))
     }
 }
 

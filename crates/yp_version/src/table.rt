@@ -3,7 +3,7 @@
 ghost use Rattle.std.specs.Prelude.{◌≡◌, ◌+◌, ◌<◌, ◌≤◌, ◌^◌, ℕ, List, length, Some, None, IfOk, OnOk};
 ghost use Rattle.yp_version.specs.Limits.{rows_max};
 ghost use Rattle.yp_version.specs.Rows.{Row};
-ghost use Rattle.yp_version.specs.Table.{IsTable, HasAll};
+ghost use Rattle.yp_version.specs.Table.{IsTable, HasAll, IsWhole};
 ghost use Rattle.yp_version.specs.Tables.{linked, bucket_of, last_below, has_key};
 
 use crate::slab::Slab;
@@ -49,7 +49,7 @@ impl Link {
 }
 
 /// Chains of the numbers of the first rows of a slab, one for each bucket. Keys may come from others, so they are
-/// hashed with random keys.
+/// hashed with random keys. Without buckets it is not yet made.
 #[derive(Debug, Drop)]
 pub(crate) struct Table {
     hasher: RandomState,
@@ -71,6 +71,32 @@ impl Table {
             heads,
             before,
         })
+    }
+
+    /// A table without buckets, which has no rows of any slab.
+    pub(crate) fn without_buckets(alloc: Global, hasher: RandomState) -> Table
+        ensures { (rows : List Row) → IsWhole result rows }
+    {
+        Table {
+            hasher,
+            heads: Vec::new(alloc),
+            before: Vec::new(alloc),
+        }
+    }
+
+    /// The table of all rows of a slab, this one where it has buckets. For want of memory it stays without.
+    pub(crate) fn whole(self, alloc: Global, slab: &Slab) -> Table
+        requires table { IsWhole self slab.now.rows }
+        requires count { length slab.now.rows ≤ rows_max }
+        ensures { IsWhole result slab.now.rows }
+    {
+        if self.buckets() != 0 {
+            return self;
+        }
+        match Table::of(alloc, self.hasher, slab) {
+            Ok(table) => table,
+            Err(NoMemory) => self,
+        }
     }
 
     /// The table of all rows of a slab.

@@ -7,6 +7,7 @@ ghost use Rattle.yp_version.specs.Rows.{Row, value_of, first_of, following};
 ghost use Rattle.yp_version.specs.Versions.{IsVersion, body_len, unmarked};
 ghost use Rattle.yp_version.specs.Bodies.{IsBody, head_bytes};
 ghost use Rattle.yp_version.specs.Stored.{IsStored};
+ghost use Rattle.yp_version.specs.Table.{IsWhole};
 ghost use Rattle.yp_version.specs.Places.{StandsAt, IsAbsent};
 ghost use Rattle.yp_version.specs.Next.{next_row, IsWithin};
 
@@ -44,9 +45,8 @@ pub struct Version {
     master: Vec<u8>,
     secure: bool,
     slab: Slab,
-    hasher: RandomState,
-    // All rows by their keys, where it was made.
-    table: Option<Table>,
+    // All rows by their keys, or without buckets.
+    table: Table,
 }
 
 impl Model for Version {
@@ -63,9 +63,10 @@ impl Model for Version {
 
 impl Version {
     // A version that isn't secure, of rows that stand in their order behind its head.
-    pub(crate) fn new(order: u32, master: Vec<u8>, slab: Slab, hasher: RandomState) -> Version
+    pub(crate) fn new(order: u32, master: Vec<u8>, slab: Slab, table: Table) -> Version
         requires version { IsVersion (unmarked order master.items slab.rows) }
         requires head { slab.head ≡ head_bytes (unmarked order master.items slab.rows) }
+        requires table { IsWhole table slab.rows }
         ensures { result ≡ unmarked order master.items slab.rows }
     {
         Version {
@@ -73,14 +74,14 @@ impl Version {
             master,
             secure: false,
             slab,
-            hasher,
-            table: None,
+            table,
         }
     }
 
     /// The version that a body spells, whose rows stand at these places. The body stays where it is. A random state
     /// that the runtime refuses is want of memory, too.
     pub fn of_body(
+        alloc: Global,
         rt: &impl RandomSource,
         order: u32,
         master: Vec<u8>,
@@ -105,8 +106,7 @@ impl Version {
             master,
             secure,
             slab,
-            hasher,
-            table: None,
+            table: Table::without_buckets(alloc, hasher),
         })
     }
 
@@ -115,11 +115,21 @@ impl Version {
     pub fn indexed(self, alloc: Global) -> Version
         ensures { result ≡ self }
     {
-        let mut version = self;
-        if version.table.is_none() {
-            version.table = Table::of(alloc, version.hasher, &version.slab).ok();
+        let Version {
+            order,
+            master,
+            secure,
+            slab,
+            table,
+        } = self;
+        let table = table.whole(alloc, &slab);
+        Version {
+            order,
+            master,
+            secure,
+            slab,
+            table,
         }
-        version
     }
 
     /// The order: the moment of its making, in seconds, or one more than the order before.
@@ -192,9 +202,10 @@ impl Version {
         ensures found { MatchOption result (IsAbsent key.now self.now.rows) (StandsAt key.now self.now.rows) }
         ensures version { IsVersion self.now }
     {
-        match &self.table {
-            Some(table) => table.find(&self.slab, key),
-            None => self.slab.find(key),
+        if self.table.buckets() == 0 {
+            self.slab.find(key)
+        } else {
+            self.table.find(&self.slab, key)
         }
     }
 

@@ -28,6 +28,9 @@ new-requires-clause-head c =
     c.in_ok-slab.ensures.head ∙ c.in_ok-head.ensures
     ∙ (λ i. front_bytes 1 c.self.inside.order (c.deref.ensures.value i) (count i))
 
+pub new-requires-clause-table : goal.new-requires-clause-table
+new-requires-clause-table c = c.without_buckets-table.ensures c.in_ok-slab.slab.rows
+
 pub returns : goal.returns
 returns c =
     let rows = rising_is_listed c.self.inside.slab.rows c.in_ok-slab.slab.rows c.in_ok-slab.ensures.moved c.in_ok-slab.ensures.rising in

@@ -1,4 +1,4 @@
-use Rattle.std.proofs.Common.{◌≡◌, ◌+◌, None, ap, sym, refl, ◌∙◌, length}
+use Rattle.std.proofs.Common.{◌≡◌, ◌+◌, ap, sym, refl, ◌∙◌, length}
 use Rattle.yp_version.specs.Rows.{padded}
 use Rattle.yp_version.specs.Versions.{MapVersion}
 use Rattle.yp_version.specs.declared.version.Version.TheInside.{Inside}
@@ -18,8 +18,8 @@ invariant_of-result g c =
     let len : 16 + c.padded-head_len.result ≡ 16 + padded (length version.master) =
     ap (λ n. 16 + n) (c.padded-head_len.ensures.value ∙ ap padded (c.len.ensures ∙ c.args.master.ok.0)) in
     let slab = slab_is c.args.body.items c.args.places.items (16 + c.padded-head_len.result) c.of_parts-slab.result version c.of_parts-slab.ensures len c.requires.1 in
-    let inside : Inside = record { order = c.args.order; master = c.args.master; secure = c.args.secure; slab = c.of_parts-slab.result; hasher = c.in-Ok.hasher; table = None } in
-    stored_kept inside version c.requires.1.body.within (stored_view inside version refl slab) slab refl
+    let inside : Inside = record { order = c.args.order; master = c.args.master; secure = c.args.secure; slab = c.of_parts-slab.result; table = c.without_buckets.result } in
+    stored_kept inside version c.requires.1.body.within (stored_view inside version refl slab) slab (c.without_buckets.ensures c.of_parts-slab.result.rows)
 
 pub returns : goal.returns
 returns g c = λ rows stored.
@@ -27,5 +27,5 @@ returns g c = λ rows stored.
     let len : 16 + c.padded-head_len.result ≡ 16 + padded (length version.master) =
     ap (λ n. 16 + n) (c.padded-head_len.ensures.value ∙ ap padded (c.len.ensures ∙ c.args.master.ok.0)) in
     let slab = slab_is c.args.body.items c.args.places.items (16 + c.padded-head_len.result) c.of_parts-slab.result version c.of_parts-slab.ensures len stored in
-    stored_view (record { order = c.args.order; master = c.args.master; secure = c.args.secure; slab = c.of_parts-slab.result; hasher = c.in-Ok.hasher; table = None })
+    stored_view (record { order = c.args.order; master = c.args.master; secure = c.args.secure; slab = c.of_parts-slab.result; table = c.without_buckets.result })
     version refl slab
