@@ -1,18 +1,18 @@
 -- Rows that are spelled behind one another are read again at their places.
-use Rattle.std.proofs.Common.{◌≡◌, ℕ, ◌+◌, ◌^◌, ◌<◌, ◌≤◌, List, [], ◌∷◌, ◌++◌, length, take, drop, map, replicate, All, Vec, Global, Result, Ok, Err, IfOk, refl, sym, ap, ◌∙◌, subst, append_assoc, arith}
+use Rattle.std.proofs.Common.{◌≡◌, ℕ, ◌+◌, ◌^◌, ◌<◌, ◌≤◌, List, [], ◌∷◌, ◌++◌, length, take, drop, map, replicate, get_or, All, Vec, Global, Result, Ok, Err, IfOk, refl, sym, ap, ◌∙◌, subst, append_assoc, arith}
 use Rattle.std.specs.List.{flat_map, AllByRecursion}
 use Rattle.std.proofs.Math.ListN.{drop_of_length-le}
 use Rattle.std.proofs.Math.Seq.{drop-append_seam, take-append_seam}
 use Rattle.std.proofs.lemmas.List.Sums.{sum_by-cons}
 use Rattle.std.proofs.lemmas.Nat.{from_be_bytes-to_be_bytes_4}
-use Rattle.std.proofs.lemmas.List.{length-append, length-drop, length-take, length-replicate, append-nil, drop-append-le, flat_map_more}
+use Rattle.std.proofs.lemmas.List.{length-append, length-drop, length-take, length-replicate, append-nil, drop-append-le, drop-drop, take-append-drop, flat_map_more}
 use Rattle.std.proofs.lemmas.List.Elements.{recursion_from_All, All-from_recursion, All-push}
 use Rattle.yp_xdr.specs.Kind.{U32, Opaque}
 use Rattle.yp_xdr.specs.Spelling.{spelling, opaque, fixed, padding}
 use Rattle.yp_xdr.specs.Writing.{written}
 use Rattle.yp_version.specs.Limits.{key_max, value_max, body_max}
 use Rattle.yp_version.specs.Rows.{Row, padded, row_len, rows_len}
-use Rattle.yp_version.specs.Bodies.{row_bytes}
+use Rattle.yp_version.specs.Bodies.{row_bytes, spelled_row}
 use Rattle.yp_version.specs.Slabs.{Packed, KeepsLimits, IsRowAt, Lies, counted, opaque_from, key_from, value_from, row_from, places_from}
 use Rattle.yp_version.specs.Slab.{packed_of, IsPacked}
 use Rattle.yp_version.specs.declared.slab.Slab.TheInside.{Inside}
@@ -155,6 +155,33 @@ slab_rows_at inside kept =
     let there = All-from_recursion (IsRowAt (head ++ flat_map row_bytes rows)) (places_from (length head) rows) (rows_at head rows (fits_all rows kept.lies.within)) in
     subst (λ (l : List ℕ). All (IsRowAt l) inside.places.items) (sym kept.lies.bytes)
     (subst (λ (l : List ℕ). All (IsRowAt (head ++ flat_map row_bytes rows)) l) (sym kept.lies.places) there)
+
+-- the row with a number stands at its place
+pub slab_row_at : (inside : Inside) → IsPacked inside → (i place : ℕ) → i < length inside.places.items
+    → place ≡ get_or inside.places.items i place → IsRowAt inside.bytes.items place
+slab_row_at inside kept i place within is =
+    subst (IsRowAt inside.bytes.items) (sym is) (slab_rows_at inside kept i place within)
+
+-- a row that stands at a place is its key and its value, each as it is spelled
+pub spelled_at : (bytes : List ℕ) (place k v : ℕ) → IsRowAt bytes place
+    → k ≡ 4 + padded (length (key_from bytes place)) → v ≡ 4 + padded (length (value_from bytes place))
+    → (take k (drop place bytes), take v (drop (place + k) bytes)) ≡ spelled_row (row_from bytes place)
+unfolding row_bytes
+spelled_at bytes place k v at key value =
+    let row = row_from bytes place in
+    let a = spelling (Opaque key_max) row.0 in
+    let b = spelling (Opaque value_max) row.1 in
+    let all = drop place bytes in
+    let rest = drop (row_len row) all in
+    let split : all ≡ a ++ (b ++ rest) =
+    sym (take-append-drop (row_len row) all) ∙ ap (λ l. l ++ rest) at.spelled ∙ append_assoc a b rest in
+    let first : k ≡ length a = key ∙ sym (length_opaque key_max row.0) in
+    let second : v ≡ length b = value ∙ sym (length_opaque value_max row.1) in
+    let key_is : take k all ≡ a = (λ i. take (first i) (split i)) ∙ take-append_seam a (b ++ rest) in
+    let behind : drop (place + k) bytes ≡ b ++ rest =
+    sym (drop-drop k place bytes) ∙ (λ i. drop (first i) (split i)) ∙ drop-append_seam a (b ++ rest) in
+    let value_is : take v (drop (place + k) bytes) ≡ b = (λ i. take (second i) (behind i)) ∙ take-append_seam b rest in
+    λ i. (key_is i, value_is i)
 
 -- a row that stands at a place has its bytes within those that it stands in
 pub row_within : (bytes : List ℕ) (place : ℕ) → IsRowAt bytes place → place + row_len (row_from bytes place) ≤ length bytes

@@ -1,7 +1,7 @@
 -- A body whose rows are found is a slab.
 use Rattle.std.proofs.Common.{◌≡◌, ℕ, ◌+◌, List, length, sym, ap, ◌∙◌, subst, arith}
 use Rattle.yp_version.specs.Bodies.{format, head_bytes}
-use Rattle.yp_version.specs.Rows.{Row, padded}
+use Rattle.yp_version.specs.Rows.{padded}
 use Rattle.yp_version.specs.Slabs.{Packed, Lies, places_from}
 use Rattle.yp_version.specs.Stored.{IsStored}
 use Rattle.yp_version.specs.Table.{IsWhole}

@@ -11,6 +11,10 @@ use Rattle.yp_version.specs.Versions.{MapVersion, IsVersion}
 abbrev pub format : Bool → ℕ
 format secure = if secure then 2 else 1
 
+-- a row's key and its value, each for itself
+abbrev pub spelled_row : Row → List ℕ × List ℕ
+spelled_row row = (spelling (Opaque key_max) row.0, spelling (Opaque value_max) row.1)
+
 -- a row: its key and then its value
 unfoldable pub row_bytes : Row → List ℕ
 row_bytes row = spelling (Opaque key_max) row.0 ++ spelling (Opaque value_max) row.1

@@ -1,7 +1,7 @@
 //! Bytes that stand before rows, and behind them the rows, each spelled as in the body of a version.
 
 ghost use Rattle.std.specs.Prelude.{◌≡◌, ◌+◌, ◌<◌, ◌≤◌, ◌^◌, [], ◌∷◌, ◌++◌, length, replicate, drop, map, slice_get};
-ghost use Rattle.std.specs.Prelude.{ℕ, Some, true, false, option_map, MatchOption, IfOk, OnOk, OnErr, IsTrue};
+ghost use Rattle.std.specs.Prelude.{ℕ, Some, true, false, option_map, MatchOption, IfSome, IfOk, OnOk, OnErr, IsTrue};
 ghost use Rattle.std.specs.Prelude.{All, IsPermutation};
 ghost use Rattle.std.specs.List.{flat_map};
 ghost use Rattle.yp_xdr.specs.Kind.{U32};
@@ -11,7 +11,7 @@ ghost use Rattle.yp_version.specs.Limits.{key_max, value_max, body_max};
 ghost use Rattle.yp_version.specs.Rows.{HasDistinctKeys, IsRising, is_over_last, key_cmp, row_len, rows_len};
 ghost use Rattle.yp_version.specs.Tables.{has_key};
 ghost use Rattle.yp_version.specs.Places.{StandsAt, IsAbsent};
-ghost use Rattle.yp_version.specs.Bodies.{row_bytes};
+ghost use Rattle.yp_version.specs.Bodies.{row_bytes, spelled_row};
 ghost use Rattle.yp_version.specs.Slabs.{IsRowAt, opaque_from, key_from, row_from};
 
 use crate::limits::{WORD, padded, row_len};
@@ -126,6 +126,17 @@ impl Slab {
     {
         let place = self.places.get(i)?;
         Some(row_from(&self.bytes, *place))
+    }
+
+    /// The row with this number as it stands: its key and its value, each behind its length and padded.
+    pub(crate) fn spelled(&self, i: usize) -> Option<(&[u8], &[u8])>
+        ensures row { option_map (λ row. (row.0.now, row.1.now)) result
+            ≡ option_map spelled_row (slice_get self.now.rows i) }
+        ensures key_len { IfSome result (λ row. length row.0.now ≤ 4 + key_max) }
+        ensures value_len { IfSome result (λ row. length row.1.now ≤ 4 + value_max) }
+    {
+        let place = self.places.get(i)?;
+        Some(spelled_from(&self.bytes, *place))
     }
 
     /// The number of the row with this key among rising rows, by halving.
@@ -330,4 +341,18 @@ fn row_from(bytes: &[u8], place: u32) -> (&[u8], &[u8])
     let key = key_from(bytes, place);
     let behind = place as usize + (WORD + padded(key.len()));
     (key, opaque_from(bytes, behind))
+}
+
+// The row that stands at a place, as it is spelled there.
+fn spelled_from(bytes: &[u8], place: u32) -> (&[u8], &[u8])
+    requires { IsRowAt bytes.now place }
+    ensures row { (result.0.now, result.1.now) ≡ spelled_row (row_from bytes.now place) }
+    ensures key_len { length result.0.now ≤ 4 + key_max }
+    ensures value_len { length result.1.now ≤ 4 + value_max }
+{
+    let (key, value) = row_from(bytes, place);
+    let start = place as usize;
+    let behind = start + (WORD + padded(key.len()));
+    let end = behind + (WORD + padded(value.len()));
+    (&bytes[start..behind], &bytes[behind..end])
 }

@@ -1,11 +1,13 @@
 //! A version of a map, which never changes.
 
-ghost use Rattle.std.specs.Prelude.{◌≡◌, ◌≤◌, ◌↔◌, List, [], length, slice_get, option_map, MatchOption, IsTrue};
+ghost use Rattle.std.specs.Prelude.{◌≡◌, ◌+◌, ◌≤◌, ◌↔◌, List, [], length, slice_get, option_map, MatchOption, IsTrue};
 ghost use Rattle.std.specs.Prelude.{IfSome, IfOk};
 ghost use Rattle.yp_version.specs.Limits.{key_max, value_max};
 ghost use Rattle.yp_version.specs.Rows.{Row, value_of, first_of, following};
 ghost use Rattle.yp_version.specs.Versions.{IsVersion, body_len, unmarked};
-ghost use Rattle.yp_version.specs.Bodies.{IsBody, head_bytes};
+ghost use Rattle.yp_xdr.specs.Kind.{Opaque};
+ghost use Rattle.yp_xdr.specs.Spelling.{spelling};
+ghost use Rattle.yp_version.specs.Bodies.{IsBody, head_bytes, spelled_row};
 ghost use Rattle.yp_version.specs.Stored.{IsStored};
 ghost use Rattle.yp_version.specs.Table.{IsWhole};
 ghost use Rattle.yp_version.specs.Places.{StandsAt, IsAbsent};
@@ -218,6 +220,29 @@ impl Version {
         let i = self.find(key)?;
         let (_, value) = self.row(i)?;
         Some(value)
+    }
+
+    /// The value of the row with this key as it stands in the body: behind its length and padded.
+    pub fn get_spelled(&self, key: &[u8]) -> Option<&[u8]>
+        ensures value { option_map (λ value. value.now) result
+            ≡ option_map (spelling (Opaque value_max)) (value_of key.now self.now.rows) }
+        ensures len { IfSome result (λ value. length value.now ≤ 4 + value_max) }
+        ensures version { IsVersion self.now }
+    {
+        let i = self.find(key)?;
+        let (_, value) = self.slab.spelled(i)?;
+        Some(value)
+    }
+
+    /// The row with this number as it stands in the body: its key and its value, each behind its length and padded.
+    pub fn row_spelled(&self, i: usize) -> Option<(&[u8], &[u8])>
+        ensures row { option_map (λ row. (row.0.now, row.1.now)) result
+            ≡ option_map spelled_row (slice_get self.now.rows i) }
+        ensures key_len { IfSome result (λ row. length row.0.now ≤ 4 + key_max) }
+        ensures value_len { IfSome result (λ row. length row.1.now ≤ 4 + value_max) }
+        ensures version { IsVersion self.now }
+    {
+        self.slab.spelled(i)
     }
 
     /// The row with this number.
