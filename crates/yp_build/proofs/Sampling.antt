@@ -113,3 +113,9 @@ pub samples-left : (all draft now : Draft) (i x next n : ℕ) → i < n → next
     → now ≡ with_row draft (sample_key next, sample_value i) → all ≡ with_rows draft (samples i x (n - i))
     → all ≡ with_rows now (samples (i + 1) next (n - (i + 1)))
 samples-left all draft now i x next n h e row left = rw (row, e) (left ∙ ap (with_rows draft) (samples-cut i x n h))
+
+-- all rows were pushed
+pub samples-none : (all draft : Draft) (i x n : ℕ) → n ≤ i → all ≡ with_rows draft (samples i x (n - i))
+    → all ≡ draft
+samples-none all draft i x n h left =
+    let none : n - i ≡ 0 = omega (arith, h) in left ∙ ap (λ (k : ℕ). with_rows draft (samples i x k)) none
