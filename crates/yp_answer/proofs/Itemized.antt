@@ -1,10 +1,11 @@
 -- The parts of ALL's reply by their numbers.
-use Rattle.std.proofs.Common.{◌≡◌, ℕ, zero, suc, ◌+◌, ◌<◌, ◌≤◌, List, [], ◌∷◌, ◌++◌, length, map, slice_get, Some, None, refl, ap, ◌∙◌, arith}
-use Rattle.std.proofs.lemmas.Option.{slice_get_within, slice_get_past}
+use Rattle.std.proofs.Common.{◌≡◌, ℕ, zero, suc, ◌+◌, ◌<◌, ◌≤◌, List, [], ◌∷◌, ◌++◌, length, map, slice_get, Option, Some, None, option_map, refl, sym, ap, ◌∙◌, arith}
+use Rattle.std.proofs.lemmas.Option.{slice_get_within, slice_get_past, same_Some, none-some}
 use Rattle.std.proofs.lemmas.List.{length-map}
 use Rattle.yp_xdr.specs.Kind.{Value}
 use Rattle.yp_xdr.specs.Spelling.{spelling}
 use Rattle.yp_msgs.specs.Messages.{key_val, all_item}
+use Rattle.yp_version.specs.Bodies.{spelled_row}
 use Rattle.yp_version.specs.Rows.{Row}
 use Rattle.yp_answer.specs.Results.{row_item}
 
@@ -36,6 +37,30 @@ length-parts_of (item ∷ items) = omega (arith, length-parts_of items)
 -- nothing behind the end
 pub past_part : (rows : List Row) (i : ℕ) → length rows < i → slice_get (parts_of (map row_item rows)) i ≡ None
 past_part rows i past = slice_get_past (parts_of (map row_item rows)) i (omega (arith, length-parts_of (map row_item rows), length-map rows row_item))
+
+-- a row that is spelled, by its number
+pub spelled_part : (rows : List Row) (i : ℕ) (key val : List ℕ) → Some (key, val) ≡ option_map spelled_row (slice_get rows i)
+    → Some (0 ∷ 0 ∷ 0 ∷ 1 ∷ 0 ∷ 0 ∷ 0 ∷ 1 ∷ (val ++ key)) ≡ slice_get (parts_of (map row_item rows)) i
+spelled_part rows i key val there = by (slice_get rows i) refl
+  where
+    by : (row : Option Row) → slice_get rows i ≡ row → Some (0 ∷ 0 ∷ 0 ∷ 1 ∷ 0 ∷ 0 ∷ 0 ∷ 1 ∷ (val ++ key)) ≡ slice_get (parts_of (map row_item rows)) i
+    by None e = absurd (none-some (key, val) (sym (there ∙ ap (option_map spelled_row) e)))
+    by (Some row) e =
+        let same : (key, val) ≡ spelled_row row = same_Some (key, val) (spelled_row row) (there ∙ ap (option_map spelled_row) e) in
+        ap (λ (p : List ℕ × List ℕ). Some (0 ∷ 0 ∷ 0 ∷ 1 ∷ 0 ∷ 0 ∷ 0 ∷ 1 ∷ (p.1 ++ p.0))) same
+        ∙ sym (row_part rows i row e)
+
+-- it is one of the rows
+pub spelled_within : (rows : List Row) (i : ℕ) (row : List ℕ × List ℕ) → Some row ≡ option_map spelled_row (slice_get rows i) → i < length rows
+spelled_within [] i row there = absurd (none-some row (sym there))
+spelled_within (r ∷ rows) zero row there = omega arith
+spelled_within (r ∷ rows) (suc i) row there = omega (arith, spelled_within rows i row there)
+
+-- where no row is spelled, the rows have ended
+pub no_row_spelled : (rows : List Row) (i : ℕ) → None ≡ option_map spelled_row (slice_get rows i) → length rows ≤ i
+no_row_spelled [] i none = omega arith
+no_row_spelled (r ∷ rows) zero none = absurd (none-some (spelled_row r) none)
+no_row_spelled (r ∷ rows) (suc i) none = omega (arith, no_row_spelled rows i none)
 
 -- where there is no row, the rows have ended
 pub no_row_there : (rows : List Row) (i : ℕ) → slice_get rows i ≡ None → length rows ≤ i

@@ -1,5 +1,5 @@
 -- A MAKE that is left open.
-use Rattle.std.proofs.Common.{◌≡◌, ℕ, Bool, true, false, not, cond, List, drop, Result, Ok, Err, ap, subst, refl, inl, inr}
+use Rattle.std.proofs.Common.{◌≡◌, ℕ, not, cond, List, drop, Result, Ok, Err, subst, refl, inl, inr}
 use Rattle.std.specs.Prelude.{bytes_eq}
 use Rattle.std.proofs.lemmas.Bool.{cases_Bool}
 use Rattle.std.proofs.lemmas.Slice.Eq.{bytes_eq-Decides}
@@ -22,7 +22,7 @@ use Rattle.yp_answer.specs.declared.make.Job.{Job}
 use Rattle.yp_io.specs.Peers.{own_host}
 use Rattle.yp_answer.specs.Make.{MakeRequest, make_check}
 use Rattle.yp_answer.specs.Transfer.{XfrRequest, Taken, taken_for, xfr_check}
-use Rattle.yp_answer.specs.Reply.{Response, Bytes, Takes, Open, arguments_of, xfr_response, make_response, procedure_reply, admitted, call_reply, heard_reply}
+use Rattle.yp_answer.specs.Reply.{Response, Takes, Open, arguments_of, xfr_response, make_response, procedure_reply, admitted, call_reply, heard_reply}
 use Rattle.yp_answer.proofs.Targets.{IsSpecial, not_of_bytes, of_arguments, not_of_either}
 
 -- ---- which replies are special: those of XFR and MAKE

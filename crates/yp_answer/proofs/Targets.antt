@@ -1,5 +1,5 @@
 -- Replies that are neither bytes nor silence.
-use Rattle.std.proofs.Common.{◌≡◌, ℕ, Bool, true, false, cond, List, Result, Ok, Err, sym, ◌∙◌}
+use Rattle.std.proofs.Common.{◌≡◌, ℕ, Bool, true, false, cond, List, Result, Ok, Err}
 use Rattle.yp_xdr.specs.declared.fault.XdrFault.{XdrFault}
 use Rattle.yp_xdr.specs.Reading.{Unread}
 use Rattle.yp_answer.specs.Reply.{Response, Silence, Bytes, with_arguments}

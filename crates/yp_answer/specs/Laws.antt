@@ -1,5 +1,5 @@
 -- What a server can rely on where a MAKE is left open, and where a transfer is taken.
-use Rattle.std.specs.Prelude.{◌≡◌, ◌≢◌, ℕ, List, Option, Some}
+use Rattle.std.specs.Prelude.{◌≡◌, ◌≢◌, ℕ, List, Some}
 use Rattle.yp_io.specs.declared.stream.Peer.{Peer}
 use Rattle.yp_answer.specs.declared.procedure.Path.{Path}
 use Rattle.yp_answer.specs.declared.make.Job.{Job}

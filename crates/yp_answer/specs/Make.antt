@@ -1,5 +1,5 @@
 -- Which calls of MAKE are refused, and which map the others ask for. The make program is this project's own.
-use Rattle.std.specs.Prelude.{ℕ, not, ◌==◌, if◌then◌else◌, List, [], ◌∷◌, length, Option, option_map, Result, Err}
+use Rattle.std.specs.Prelude.{ℕ, not, ◌==◌, if◌then◌else◌, length, Option, option_map, Result, Err}
 use Rattle.std.specs.Prelude.{bytes_eq}
 use Rattle.std.specs.List as lists
 use Rattle.std.specs.Option.{option_and_then, ok_or}

@@ -1,7 +1,9 @@
 //! The procedures that look a key or a row up: MATCH, FIRST and NEXT (yp.x).
 
-ghost use Rattle.std.specs.Prelude.{◌≡◌, ◌≤◌, length, take};
-ghost use Rattle.yp_msgs.specs.Messages.{resp_val, resp_val_view, key_val, key_val_view};
+ghost use Rattle.std.specs.Prelude.{◌≡◌, ◌+◌, ◌≤◌, length, take};
+ghost use Rattle.yp_xdr.specs.Kind.{Value};
+ghost use Rattle.yp_xdr.specs.Writing.{Sets};
+ghost use Rattle.yp_msgs.specs.Messages.{resp_val, key_val, key_val_view};
 ghost use Rattle.yp_version.specs.Limits.{key_max, value_max};
 ghost use Rattle.yp_msgs.specs.declared.stat.YpStat.TheVariants.{Yperr};
 ghost use Rattle.yp_answer.specs.declared.procedure.Procedure.TheVariants as procedures;
@@ -11,22 +13,54 @@ ghost use Rattle.yp_answer.specs.Results.{no_value, no_row, row_item, matched, f
 ghost use Rattle.yp_answer.specs.Held.{checked};
 ghost use Rattle.yp_answer.specs.Reply.{Bytes, look_up, procedure_reply, asks_for};
 ghost use Rattle.yp_answer.specs.Answers.{StepsWhere};
+ghost use Rattle.yp_answer.specs.Items.{valued_bytes, Tells};
 
-use crate::caller::{Caller, put_head};
+use crate::caller::{Caller, copy, put_head};
 use crate::check::{Held, row_check};
 use crate::limits::exceeds;
 use yp_board::View;
-use yp_msgs::{KeyVal, Message, ReadMessage, ReqKey, ReqNokey, RespVal, YpStat};
+use yp_msgs::{KeyVal, Message, ReadMessage, ReqKey, ReqNokey, YpStat};
 use yp_rpc::ReplyHead;
 use yp_version::Next;
 use yp_xdr::Cursor;
 
+/// No value, behind its length.
+const NO_VALUE: [u8; 4] = [0; 4];
+
+/// What MATCH answers: a status, and a value as it stands in a version, behind its length and padded.
+#[derive(Drop)]
+struct Valued<'a> {
+    stat: YpStat,
+    val: &'a [u8],
+}
+
 /// A status without a value.
-fn no_value(stat: YpStat) -> RespVal<'static>
-    ensures view { resp_val_view result ≡ no_value stat }
-    ensures len { length result.val.now ≤ value_max }
+fn no_value(stat: YpStat) -> Valued<'static>
+    ensures tells { Tells result (no_value stat) }
+    ensures len { length result.val.now ≤ 4 }
 {
-    RespVal { stat, val: &[] }
+    Valued {
+        stat,
+        val: &NO_VALUE,
+    }
+}
+
+impl Valued<'_> {
+    /// How many bytes it has.
+    fn len(&self) -> usize
+        ensures { result ≡ length (valued_bytes self.now) }
+    {
+        self.stat.len() + self.val.len()
+    }
+
+    /// Puts it at a place, and answers the place behind it.
+    fn set(&self, buf: &mut [u8], at: usize) -> usize
+        requires { at + length (valued_bytes self.now) ≤ length buf.old }
+        ensures { Sets (valued_bytes self.now) at result buf.old buf.new }
+    {
+        let at = self.stat.set(buf, at);
+        copy(buf, at, self.val)
+    }
 }
 
 /// A status without a row.
@@ -54,15 +88,15 @@ pub fn row<'a>(key: &'a [u8], val: &'a [u8]) -> KeyVal<'a>
 }
 
 /// The value of a key.
-fn matched<'a>(found: &Result<Held<'a>, YpStat>, key: &[u8]) -> RespVal<'a>
-    ensures view { resp_val_view result ≡ matched key.now (checked found.now) }
-    ensures len { length result.val.now ≤ value_max }
+fn matched<'a>(found: &Result<Held<'a>, YpStat>, key: &[u8]) -> Valued<'a>
+    ensures tells { Tells result (matched key.now (checked found.now)) }
+    ensures len { length result.val.now ≤ 4 + value_max }
 {
     match found {
         Err(stat) => no_value(*stat),
-        Ok(held) => match held.version.get(key) {
+        Ok(held) => match held.version.get_spelled(key) {
             None => no_value(YpStat::Nokey),
-            Some(val) => RespVal {
+            Some(val) => Valued {
                 stat: YpStat::True,
                 val,
             },
@@ -102,11 +136,11 @@ fn next_row<'a>(found: &Result<Held<'a>, YpStat>, key: &[u8]) -> KeyVal<'a>
 }
 
 /// Puts a reply with a value, or YPERR where a datagram can't carry it, and answers its length.
-fn put_value(caller: &Caller, found: &RespVal<'_>, buf: &mut [u8]) -> usize
+fn put_value(caller: &Caller, found: &Valued<'_>, buf: &mut [u8]) -> usize
     requires room { room_of caller.now.path ≤ length buf.old }
-    requires len { length found.now.val.now ≤ value_max }
-    ensures reply { take result buf.new ≡ look_up caller.now.path caller.now.xid resp_val (resp_val_view found.now)
-        (no_value Yperr) }
+    requires len { length found.now.val.now ≤ 4 + value_max }
+    ensures reply { (told : Value resp_val) → Tells found.now told → take result buf.new
+        ≡ look_up caller.now.path caller.now.xid resp_val told (no_value Yperr) }
     ensures within { result ≤ length buf.new }
 {
     let at = put_head(buf, caller.xid, &ReplyHead::Success);

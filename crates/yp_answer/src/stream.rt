@@ -2,27 +2,30 @@
 
 ghost use Rattle.std.specs.Prelude.{◌≡◌, ◌+◌, ◌<◌, ◌≤◌, ◌↔◌, ◌++◌, [], length, take, slice_get, option_map, IfSome};
 ghost use Rattle.yp_version.specs.Limits.{rows_max};
-ghost use Rattle.yp_msgs.specs.Messages.{all_item, all_item_view, AllItemIsWithin};
-ghost use Rattle.yp_xdr.specs.Spelling.{spelling};
+ghost use Rattle.yp_xdr.specs.Writing.{Sets};
 ghost use Rattle.yp_answer.specs.Numbers.{record_max};
 ghost use Rattle.yp_answer.specs.Maps.{maps_of};
 ghost use Rattle.yp_rpc.specs.Records.{joined};
 ghost use Rattle.yp_answer.specs.Streams.{Gives, item_parts, parts_left, source_of, between};
 ghost use Rattle.yp_answer.specs.declared.stream.TheConstants.{ITEM_MAX};
 ghost use Rattle.yp_answer.specs.Answers.{IsInside};
-ghost use Rattle.yp_answer.specs.Items.{items_view};
+ghost use Rattle.yp_answer.specs.Items.{items_view, item_bytes, IsWithin};
 
-use crate::caller::put_head;
-use crate::look_up::{no_row, row};
+use crate::caller::{copy, put_head};
+use crate::look_up::no_row;
 use std::marker::Model;
 use yp_board::View;
 use yp_msgs::{AllItem, Message, YpStat};
 use yp_rpc::ReplyHead;
 use yp_version::{KEY_MAX, VALUE_MAX, Version};
+use yp_xdr::laws::sets_join;
 
 /// The bytes that are enough for one item: its two first words, and its value and key, each behind its length and
 /// padded.
 const ITEM_MAX: usize = 8 + (8 + VALUE_MAX) + (8 + KEY_MAX);
+
+/// What stands before each row: that an item follows, and its status.
+const ROW_HEAD: [u8; 8] = [0, 0, 0, 1, 0, 0, 0, 1];
 
 /// The reply of ALL, which goes out in pieces of whole items. It is the reply on the one version that was shown when
 /// the call was answered, as long as the view that it is taken from makes no read step.
@@ -48,25 +51,64 @@ enum Items<'a> {
     Refused(YpStat),
 }
 
+/// An item as it goes out.
+#[derive(Drop)]
+enum Item<'a> {
+    /// A row, whose value and key stand in the version as they are spelled.
+    Row { val: &'a [u8], key: &'a [u8] },
+
+    /// A status without a row, or the end.
+    Plain(AllItem<'a>),
+}
+
 impl<'a> Items<'a> {
     /// The item with this number, or the end behind the last one.
-    fn item(&self, i: usize) -> Option<AllItem<'a>>
-        ensures item { option_map (λ item. spelling all_item (all_item_view item)) result ≡ slice_get
-            (item_parts (items_view self.now)) i }
-        ensures within { IfSome result AllItemIsWithin }
+    fn item(&self, i: usize) -> Option<Item<'a>>
+        ensures item { option_map item_bytes result ≡ slice_get (item_parts (items_view self.now)) i }
+        ensures within { IfSome result IsWithin }
         ensures few { IfSome result (λ item. i ≤ rows_max) }
     {
         match self {
-            Items::Rows(version) => match version.row(i) {
-                Some((key, val)) => Some(AllItem::More(row(key, val))),
-                None if i == version.len() => Some(AllItem::End),
+            Items::Rows(version) => match version.row_spelled(i) {
+                Some((key, val)) => Some(Item::Row { val, key }),
+                None if i == version.len() => Some(Item::Plain(AllItem::End)),
                 None => None,
             },
             Items::Refused(stat) => match i {
-                0 => Some(AllItem::More(no_row(*stat))),
-                1 => Some(AllItem::End),
+                0 => Some(Item::Plain(AllItem::More(no_row(*stat)))),
+                1 => Some(Item::Plain(AllItem::End)),
                 _ => None,
             },
+        }
+    }
+}
+
+impl<'a> Item<'a> {
+    /// How many bytes it has.
+    fn len(&self) -> usize
+        requires { IsWithin self.now }
+        ensures { result ≡ length (item_bytes self.now) }
+    {
+        match self {
+            Item::Row { val, key } => ROW_HEAD.len() + val.len() + key.len(),
+            Item::Plain(item) => item.len(),
+        }
+    }
+
+    /// Puts it at a place, and answers the place behind it.
+    fn set(&self, buf: &mut [u8], at: usize) -> usize
+        requires within { IsWithin self.now }
+        requires room { at + length (item_bytes self.now) ≤ length buf.old }
+        ensures { Sets (item_bytes self.now) at result buf.old buf.new }
+    {
+        match self {
+            Item::Row { val, key } => {
+                sets_join();
+                let at = copy(buf, at, &ROW_HEAD);
+                let at = copy(buf, at, val);
+                copy(buf, at, key)
+            }
+            Item::Plain(item) => item.set(buf, at),
         }
     }
 }

@@ -1,26 +1,23 @@
-use Rattle.std.proofs.Common.{◌≡◌, ◌<◌, length, slice_get, Some, None, sym, ap, subst, ◌∙◌, arith}
-use Rattle.std.proofs.lemmas.Option.{slice_get_within}
-use Rattle.yp_xdr.specs.Kind.{Value}
+use Rattle.std.proofs.Common.{◌≡◌, ◌<◌, ◌∷◌, ◌++◌, length, slice_get, Some, None, sym, subst, ◌∙◌, arith}
 use Rattle.yp_xdr.specs.Spelling.{spelling}
-use Rattle.yp_msgs.specs.Messages.{key_val, all_item, key_val_view}
+use Rattle.yp_msgs.specs.Messages.{all_item}
 use Rattle.yp_answer.specs.declared.stream.Items.{Items}
 use Rattle.yp_answer.specs.Streams.{item_parts}
 use Rattle.yp_answer.specs.Items.{items_view}
-use Rattle.yp_answer.proofs.Itemized.{row_part, end_part, past_part, no_row_there}
+use Rattle.yp_answer.proofs.Itemized.{spelled_part, spelled_within, end_part, past_part, no_row_spelled}
 use Rattle.yp_answer.proofs.stream.Items.item.Goals as goal
 
 pub returns-in-Some-clause-item : goal.returns-in-Some-clause-item
 returns-in-Some-clause-item c =
     let rows = c.in-Rows.version.now.rows in
-    let P : Items → Type 0 = λ items. Some (spelling all_item (Some (key_val_view c.row-in-Some.result))) ≡ slice_get (item_parts (items_view items)) c.args.i in
+    let P : Items → Type 0 = λ items. Some (0 ∷ 0 ∷ 0 ∷ 1 ∷ 0 ∷ 0 ∷ 0 ∷ 1 ∷ (c.in-Some.val.now ++ c.in-Some.key.now)) ≡ slice_get (item_parts (items_view items)) c.args.i in
     subst P (sym c.in-Rows.is)
-    (ap (λ (v : Value key_val). Some (spelling all_item (Some v))) c.row-in-Some.ensures
-    ∙ sym (row_part rows c.args.i (c.in-Some.key.now, c.in-Some.val.now) (sym c.in-Some.ensures.row)))
+    (spelled_part rows c.args.i c.in-Some.key.now c.in-Some.val.now c.in-Some.ensures.row)
 
 pub returns-in-Some-clause-few : goal.returns-in-Some-clause-few
 returns-in-Some-clause-few c =
     let rows = c.in-Rows.version.now.rows in
-    omega (arith, slice_get_within rows c.args.i (c.in-Some.key.now, c.in-Some.val.now) (sym c.in-Some.ensures.row), c.row.ensures.version.count)
+    omega (arith, spelled_within rows c.args.i (c.in-Some.key.now, c.in-Some.val.now) c.in-Some.ensures.row, c.row_spelled.ensures.version.count)
 
 pub returns-in-None-clause-item : goal.returns-in-None-clause-item
 returns-in-None-clause-item c =
@@ -32,5 +29,5 @@ pub returns-in-None-2-clause-item : goal.returns-in-None-2-clause-item
 returns-in-None-2-clause-item c =
     let rows = c.in-Rows.version.now.rows in
     let P : Items → Type 0 = λ items. None ≡ slice_get (item_parts (items_view items)) c.args.i in
-    let ended : length rows < c.args.i = omega (arith, no_row_there rows c.args.i (sym c.in-None.ensures.row), c.if-i-len.false, c.len.ensures.len) in
+    let ended : length rows < c.args.i = omega (arith, no_row_spelled rows c.args.i c.in-None.ensures.row, c.if-i-len.false, c.len.ensures.len) in
     subst P (sym c.in-Rows.is) (sym (past_part rows c.args.i ended))
