@@ -38,25 +38,34 @@ def record(message):
     return word(LAST | len(message)) + message
 
 
+def read_fragment(stream):
+    """The next fragment of a stream as it came, with the word in front of it, or no bytes at its end."""
+    head = stream.read(4)
+    return head + stream.read(int.from_bytes(head, "big") & ~LAST)
+
+
 def read_record(stream):
-    """The next record of a stream as it came, with the words of its fragments, or no bytes at its end."""
-    came = b""
-    while head := stream.read(4):
-        size = int.from_bytes(head, "big")
-        came += head + stream.read(size & ~LAST)
-        if size & LAST:
+    """The next record of a stream as it came, or what is left of it, with the words of its fragments."""
+    parts = []
+    while fragment := read_fragment(stream):
+        parts.append(fragment)
+        if fragment[0] & 0x80:
             break
-    return came
-
-
-def message_of(came):
-    """The message of a whole record."""
-    parts, at = [], 0
-    while at < len(came):
-        size = int.from_bytes(came[at : at + 4], "big") & ~LAST
-        parts.append(came[at + 4 : at + 4 + size])
-        at += 4 + size
     return b"".join(parts)
+
+
+def read_message(stream):
+    """The message of the next record of a stream, or nothing where the stream ends before it is whole."""
+    parts = []
+    while len(head := stream.read(4)) == 4:
+        size = int.from_bytes(head, "big")
+        part = stream.read(size & ~LAST)
+        parts.append(part)
+        if len(part) < size & ~LAST:
+            return None
+        if size & LAST:
+            return b"".join(parts)
+    return None
 
 
 def results(reply, xid):
