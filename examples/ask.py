@@ -10,28 +10,19 @@ REPLIES. It ends with status 1 where a reply doesn't come within 10 seconds.
 import socket
 import sys
 
+sys.dont_write_bytecode = True
+import rpc
+
 SECONDS = 10
-LAST = 0x80000000
-
-
-def record(stream):
-    """The next record with the heads of its fragments, or nothing at the end."""
-    came = b""
-    while head := stream.read(4):
-        word = int.from_bytes(head, "big")
-        came += head + stream.read(word & ~LAST)
-        if word & LAST:
-            break
-    return came
 
 
 def main(port):
     with socket.create_connection(("127.0.0.1", int(port)), SECONDS) as connection:
         replies = connection.makefile("rb")
-        while call := record(sys.stdin.buffer):
+        while call := rpc.read_record(sys.stdin.buffer):
             connection.sendall(call)
             try:
-                reply = record(replies)
+                reply = rpc.read_record(replies)
             except TimeoutError:
                 reply = b""
             if not reply:

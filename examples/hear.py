@@ -9,13 +9,10 @@ import os
 import socket
 import sys
 
+sys.dont_write_bytecode = True
+import rpc
+
 SECONDS = 20
-
-
-def words(data):
-    """The bytes as words of eight digits."""
-    digits = data.hex()
-    return " ".join(digits[at : at + 8] for at in range(0, len(digits), 8))
 
 
 def main(file):
@@ -32,7 +29,7 @@ def main(file):
         except TimeoutError:
             sys.exit("hear.py: nothing came")
         with open(f"{file}.part", "w", encoding="ascii") as out:
-            out.write(words(data) + "\n")
+            out.write(rpc.words(data) + "\n")
         os.rename(f"{file}.part", file)
 
 

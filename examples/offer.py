@@ -11,14 +11,11 @@ import socket
 import sys
 import time
 
+sys.dont_write_bytecode = True
+import rpc
+
 SECONDS = 30
 TRUE = bytes.fromhex("00000001 00000000 00000000 00000000 00000000 00000001")
-
-
-def words(data):
-    """The bytes as words of eight digits."""
-    digits = data.hex()
-    return " ".join(digits[at : at + 8] for at in range(0, len(digits), 8))
 
 
 def serve(server, file):
@@ -30,7 +27,7 @@ def serve(server, file):
         server.sendto(call[:4] + TRUE, caller)
         if not os.path.exists(file):
             with open(f"{file}.part", "w", encoding="ascii") as out:
-                out.write(words(call) + "\n")
+                out.write(rpc.words(call) + "\n")
             os.rename(f"{file}.part", file)
 
 
