@@ -1,5 +1,5 @@
-/* pieces send FILE COUNT: writes the bytes of a file from memory so often, in writes of eight fragments, as `yp session`
-   does.
+/* pieces send FILE COUNT: writes the bytes of a file from memory so often, in writes of eight fragments, as
+   `yp session` does.
 
    pieces read: reads standard input to its end in blocks of 65536 bytes, and prints how many bytes it had. */
 

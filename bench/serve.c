@@ -4,13 +4,13 @@
    LARGE where the map is hosts.byaddr, with the call's number, in writes of up to eight fragments. It ends when it is
    killed.
 
-   serve load PORT PORT ROUNDS ROWS: calls the servers at both ports of this machine, in turn and in so many rounds, and
-   prints how many calls of each kind the first and the second answered in a second, by their best rounds, and the ratio.
-   The maps are lab/hosts.byname, of ROWS names hostNNNNNN, and lab/hosts.byaddr. It ends with status 1 where a reply
-   isn't one with YP_TRUE.
+   serve load PORT PORT ROUNDS ROWS: calls the servers at both ports of this machine, in turn and in so many rounds,
+   and prints how many calls of each kind the first and the second answered in a second, by their best rounds, and the
+   ratio. The maps are lab/hosts.byname, of ROWS names hostNNNNNN, and lab/hosts.byaddr. It ends with status 1 where a
+   reply isn't one with YP_TRUE.
 
-   serve match PORT CALLS: only calls of MATCH, over one connection. serve all PORT CALLS: only calls of ALL of the larger
-   map. */
+   serve match PORT CALLS: only calls of MATCH, over one connection. serve all PORT CALLS: only calls of ALL of the
+   larger map. */
 
 #include <arpa/inet.h>
 #include <errno.h>

@@ -70,7 +70,7 @@ counted() {
     "$room/serve" "$3" "$traced" "$2"
     wait $!
     echo "system calls over $2 calls of $1"
-    awk -v "least=$2" '$4 >= least && $NF != "total" { print "   ", $NF, $4 }' counts
+    awk -v "least=$2" '$4 + 0 >= least && $NF != "total" { print "   ", $NF, $4 }' counts
 }
 kill "$server" && wait "$server" || true
 if command -v strace >/dev/null; then

@@ -180,25 +180,26 @@ def is_running():
         return False
 
 
-for given in calls, first:
-    while True:
-        try:
-            connection = socket.create_connection(("127.0.0.1", int(port)), 20)
-            break
-        except ConnectionRefusedError:
-            if not is_running():
-                sys.exit(0)
-            time.sleep(0.01)
-    with connection:
-        came = b""
-        try:
-            connection.sendall(given)
-            connection.shutdown(socket.SHUT_WR)
-            while some := connection.recv(65536):
-                came += some
-        except (ConnectionResetError, BrokenPipeError):
-            pass
-        print(came.hex())
+# Both connect at first, since a worker that is done waits for the next connection before it closes its own.
+connections = []
+while len(connections) < 2:
+    try:
+        connections.append(socket.create_connection(("127.0.0.1", int(port)), 20))
+    except ConnectionRefusedError:
+        if not is_running():
+            sys.exit(0)
+        time.sleep(0.01)
+for connection, given in zip(connections, (calls, first)):
+    came = b""
+    try:
+        connection.sendall(given)
+        connection.shutdown(socket.SHUT_WR)
+        while some := connection.recv(65536):
+            came += some
+    except (ConnectionResetError, BrokenPipeError):
+        pass
+    connection.close()
+    print(came.hex())
 PYTHON
 }
 
@@ -220,8 +221,9 @@ serve_row() {
         case "$status ${found##* } ${#replies[@]}" in
         '7 1 0') refused=$((refused + 1)) ;;
         '0 2 2')
-            [[ ${replies[0]} == "$made_hex" ]] && [ "${replies[1]:56}" = "${made_hex:(-64)}" ] && break
-            dropped=$((dropped + 1))
+            # Behind its head and number, the reply on the other connection is the last one of the first.
+            [ "${replies[0]}" = "$made_hex" ] && [ "${replies[1]:16}" = "${made_hex:(-96)}" ] && break
+            [[ $made_hex == "${replies[0]}"* ]] && dropped=$((dropped + 1)) || wrong $name "$limit"
             ;;
         '0 1 2')
             if [[ ${replies[0]} == "$unmade_hex" ]]; then
