@@ -1,13 +1,15 @@
 #!/usr/bin/env bash
 # Compares `yp session` over a stored map of 20000 rows, on 200000 match calls and 50
 # calls of ALL, with a C program that answers the same calls from an array that is
-# sorted by key: bench/session.sh [ROUNDS]
+# sorted by key. Then compares the sending of a whole map of 262144 rows with a C program
+# that writes the same bytes from memory: bench/session.sh [ROUNDS]
 . "$(dirname -- "$(readlink -f -- "$0")")/room.sh"
 rounds=${1:-7}
 words=(session m1 127.0.0.1:1023 lab/hosts.byname)
 
 "$top/yp" once lab/hosts.byname </dev/null # builds it
 compiled session
+compiled pieces
 cd "$room"
 hosts 20000 >hosts
 "$yp" build m1 lab/hosts.byname <hosts
@@ -61,3 +63,22 @@ if command -v strace >/dev/null; then
 else
     echo "strace isn't here, so no system calls are counted"
 fi
+
+# The bytes of a map of 262144 rows, again and again, from memory in the same pieces, into a reader behind a pipe.
+alls=50
+mkdir large
+cd large
+hosts 262144 | "$yp" build m1 lab/hosts.byname
+# all COUNT: so many calls of ALL.
+all() {
+    for ((i = 0; i < $1; i++)); do
+        echo "80000040 00000001 00000000 00000002 000186a4 00000002 00000008 00000000 00000000 00000000 00000000
+            00000003 6c616200 0000000c 686f7374 732e6279 6e616d65"
+    done | xxd -r -p
+}
+all 1 | "$yp" "${words[@]}" >reply
+all "$alls" >alls
+echo "$alls calls of ALL over 262144 rows, $(stat -c %s reply) bytes each, into a pipe"
+python3 "$top/bench/measure.py" "$room" "$rounds" alls \
+    yp bash -c "'$yp' ${words[*]} | '$room/pieces' read" ";" \
+    "+pieces" bash -c "'$room/pieces' send reply $alls | '$room/pieces' read"

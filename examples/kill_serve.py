@@ -1,12 +1,12 @@
 #!/usr/bin/env python3
 """Kills `yp serve` under load at random moments, and starts it again: kill_serve.py [KILLS [SEED]]
 
-The server has two maps of 4,000 hosts. Until it is killed by signal 9, within half a second, four callers look up names
-over connections, two take whole maps, and one has the maps made anew by datagrams, of two texts in turn. After each kill
-each file must stand for the version whose making was answered last, or for the one that was being made, and the server
-that is started then must give the rows of that text, whole. It kills 100 times where KILLS isn't given, takes a few
-minutes at most, prints how often it found which, and ends with status 1 at the first that may not be. It isn't part of
-the gate.
+The server has two maps of 4,000 hosts. Until it is killed by signal 9, within half a second, four callers look up
+names over connections, two take whole maps, and one has the maps made anew by datagrams, of two texts in turn. After
+each kill each file must stand for the version whose making was answered last, or for the one that was being made, and
+the server that is started then must give the rows of that text, whole. It kills 100 times where KILLS isn't given,
+takes a few minutes at most, prints how often it found which, and ends with status 1 at the first that may not be. It
+isn't part of the gate.
 """
 
 import os

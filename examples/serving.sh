@@ -7,8 +7,8 @@
 #                       answered, and leaves its process in `server`; what it writes goes to the file NAME.tally
 #     ended NAME PORT   takes the turns that are left by datagrams, waits for the end of `server`, and prints its status
 #                       and what it wrote
-#     post PORT [AGAIN] sends calls in datagrams, each a line of words, again after AGAIN seconds, and prints the replies
-#     match XID KEY     prints the message of MATCH of a key in lab/hosts.byname, and `make XID` that of MAKE of that map
+#     post PORT [AGAIN] sends calls in datagrams, each a line of words, again after AGAIN seconds, and prints replies
+#     match XID KEY     prints the message of MATCH of a key in lab/hosts.byname, and `make XID` that of MAKE of it
 TURNS=500
 NULL='00000001 00000000 00000002 000186a4 00000002 00000000 00000000 00000000 00000000 00000000'
 here=$(readlink -f -- "${BASH_SOURCE[0]%/*}")

@@ -6,6 +6,7 @@
 //! wire that is dialed or accepted has a limit of time.
 #![tactic(auto)]
 
+mod caller;
 mod clock;
 mod dial;
 mod disk;
@@ -17,6 +18,7 @@ mod streams;
 mod texts;
 mod words;
 
+pub use caller::Caller;
 pub use clock::SystemClock;
 pub use dial::{TcpDial, TcpWire};
 pub use disk::FileDisk;

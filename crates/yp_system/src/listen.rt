@@ -7,7 +7,7 @@ ghost use Rattle.yp_io.specs.Dials.{IsFresh};
 ghost use Rattle.yp_io.specs.Counts.{next_count};
 ghost use Rattle.yp_listen.specs.Calls.{IsFreshCall, Returns, ended_by};
 
-use crate::dial::TcpWire;
+use crate::caller::Caller;
 use crate::inbox::peer_of;
 use crate::streams::{BlockReader, DirectWriter};
 use std::alloc::Global;
@@ -29,7 +29,10 @@ const TRIES: u32 = 100;
 const PAUSE_MILLIS: u64 = 100;
 
 /// A connection that was accepted by TCP, and its caller.
-pub type TcpCall = Called<BlockReader<TcpStream>, DirectWriter<TcpStream>>;
+pub type TcpCall = Called<BlockReader<Caller>, DirectWriter<TcpStream>>;
+
+// Its two halves.
+type CallerWire = Pair<BlockReader<Caller>, DirectWriter<TcpStream>>;
 
 /// A port of TCP over IPv4, on every address of this machine. It is opened at the first call, so that a command that
 /// has no use for it opens nothing, and a port that can't be opened is a fault of that call. A port that another
@@ -104,16 +107,16 @@ fn opened<'a, R: Net<Stream = TcpStream, Listener = TcpListener>>(
 }
 
 // The wire of a connection. What is written goes out at once, since each reply is awaited.
-fn wire_of(alloc: Global, stream: TcpStream, silence: Duration) -> io::Result<TcpWire>
+fn wire_of(alloc: Global, stream: TcpStream, silence: Duration) -> io::Result<CallerWire>
     ensures { IfOk result (λ wire. IsFresh
-        (⟦<BlockReader<TcpStream> as Source>⟧.faults wire.source)
+        (⟦<BlockReader<Caller> as Source>⟧.faults wire.source)
         (⟦<DirectWriter<TcpStream> as Sink>⟧.faults wire.sink)
         (⟦<DirectWriter<TcpStream> as Sink>⟧.output wire.sink)) }
 {
     stream.set_nodelay(true)?;
     stream.set_read_timeout(Some(silence))?;
     stream.set_write_timeout(Some(silence))?;
-    let Ok(source) = BlockReader::new(alloc, stream.try_clone()?) else {
+    let Ok(source) = BlockReader::new(alloc, Caller::new(stream.try_clone()?)) else {
         return Err(ErrorKind::OutOfMemory.into());
     };
     Ok(Pair {
@@ -125,7 +128,7 @@ fn wire_of(alloc: Global, stream: TcpStream, silence: Duration) -> io::Result<Tc
 // Accepts one connection. A caller of which no wire can be made is let go.
 fn accept_one(alloc: Global, listener: &TcpListener, silence: Duration) -> io::Result<TcpCall>
     ensures { IfOk result (IsFreshCall
-        (⟦<BlockReader<TcpStream> as Source>⟧.faults)
+        (⟦<BlockReader<Caller> as Source>⟧.faults)
         (⟦<DirectWriter<TcpStream> as Sink>⟧.faults)
         (⟦<DirectWriter<TcpStream> as Sink>⟧.output)) }
 {
@@ -147,7 +150,7 @@ fn accept_next<R: rt::Clock>(
     silence: Duration,
 ) -> Option<TcpCall>
     ensures { IfSome result (IsFreshCall
-        (⟦<BlockReader<TcpStream> as Source>⟧.faults)
+        (⟦<BlockReader<Caller> as Source>⟧.faults)
         (⟦<DirectWriter<TcpStream> as Sink>⟧.faults)
         (⟦<DirectWriter<TcpStream> as Sink>⟧.output)) }
 {
@@ -161,7 +164,7 @@ fn accept_next<R: rt::Clock>(
 }
 
 impl<R: Net<Stream = TcpStream, Listener = TcpListener> + rt::Clock> Listen for TcpListen<R> {
-    type In = BlockReader<TcpStream>;
+    type In = BlockReader<Caller>;
 
     type Out = DirectWriter<TcpStream>;
 
@@ -175,9 +178,7 @@ impl<R: Net<Stream = TcpStream, Listener = TcpListener> + rt::Clock> Listen for 
 
     ghost faults = { λ l. l.faults };
 
-    fn accept(
-        &mut self,
-    ) -> Result<Arrival<BlockReader<TcpStream>, DirectWriter<TcpStream>>, Failed> {
+    fn accept(&mut self) -> Result<Arrival<BlockReader<Caller>, DirectWriter<TcpStream>>, Failed> {
         if self.accepted == self.most {
             return Ok(Arrival::Closed);
         }
@@ -197,7 +198,7 @@ impl<R: Net<Stream = TcpStream, Listener = TcpListener> + rt::Clock> Listen for 
     fn back(&mut self, call: TcpCall)
         ensures past { Returns
             (ended_by
-            (⟦<BlockReader<TcpStream> as Source>⟧.input)
+            (⟦<BlockReader<Caller> as Source>⟧.input)
             (⟦<DirectWriter<TcpStream> as Sink>⟧.output)
             (⟦<DirectWriter<TcpStream> as Sink>⟧.flushed)
             call)
