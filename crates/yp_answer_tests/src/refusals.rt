@@ -6,8 +6,10 @@ use std::alloc::Global;
 use std::process::Abort;
 use yp_board::PlainBoard;
 
-// Records, and the whole replies to them.
-const REFUSED: &[(&str, &str, &str)] = &[
+// A record, and the whole reply to it.
+type Row = (&'static str, &'static str, &'static str);
+
+const REFUSED: &[Row] = &[
     ("under 12 bytes", "00000002 00000000", ""),
     ("a reply", "00000002 00000001 00000003", ""),
     (
@@ -67,6 +69,28 @@ const REFUSED: &[(&str, &str, &str)] = &[
     ),
 ];
 
+// MATCH of `alpha` in hosts.byname of `lab`, with a wrong byte or two.
+const HOSTILE: &[Row] = &[
+    (
+        "a domain of 4,294,967,295 bytes",
+        "00000001 00000000 00000002 000186a4 00000002 00000003 00000000 00000000 00000000 00000000 \
+        ffffffff 6c616200 0000000c 686f7374 732e6279 6e616d65 00000005 616c7068 61000000",
+        "00000001 00000001 00000000 00000000 00000000 00000004",
+    ),
+    (
+        "padding of the domain that isn't zero",
+        "00000001 00000000 00000002 000186a4 00000002 00000003 00000000 00000000 00000000 00000000 \
+        00000003 6c616201 0000000c 686f7374 732e6279 6e616d65 00000005 616c7068 61000000",
+        "00000001 00000001 00000000 00000000 00000000 00000004",
+    ),
+    (
+        "a credential of 401 bytes",
+        "00000001 00000000 00000002 000186a4 00000002 00000003 00000000 00000191 00000000 00000000 \
+        00000003 6c616200 0000000c 686f7374 732e6279 6e616d65 00000005 616c7068 61000000",
+        "",
+    ),
+];
+
 // Compares what a record is answered by itself, and in a datagram.
 fn assert_refused(
     rt: &impl Abort,
@@ -87,6 +111,9 @@ fn refusal_heads(rt: HostRuntime) {
     let alloc = rt.alloc();
     let mut board = board_of(&rt, alloc, version(&rt, alloc, &[HOST]));
     for &(row, record, reply) in REFUSED {
+        assert_refused(&rt, alloc, &mut board, row, record, reply);
+    }
+    for &(row, record, reply) in HOSTILE {
         assert_refused(&rt, alloc, &mut board, row, record, reply);
     }
 }

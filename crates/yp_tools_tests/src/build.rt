@@ -1,13 +1,10 @@
 //! `build` over files in memory, laid out by hand.
 
 use crate::given::{assert_same, bytes};
-use crate::stage::{FAIR, Scene, play, strings, told_of, try_words};
+use crate::stage::{Crashed, FAIR, Scene, Stands, stands_of, strings, try_crash, try_words};
 use std::alloc::Global;
 use std::process::Abort;
 use std::random::RandomSource;
-use yp_io::MemDisk;
-use yp_slot::Slot;
-use yp_tools::NamedDisk;
 
 const BUILD: [&str; 3] = ["build", "m1", "lab/hosts.byname"];
 
@@ -18,9 +15,6 @@ const PLAIN: [&str; 4] = ["build", "m1", "lab/hosts.byname", "plain"];
 const HOSTS: &[u8] = b"10.0.0.1 alpha\n";
 
 const MAP: &[u8] = b"hosts.byname";
-
-/// A crash may keep each of the last three writes, or drop it.
-const CRASHES: u64 = 8;
 
 const DISK_FAULT: &str = "yp: disk fault in lab/hosts.byname\n";
 
@@ -43,17 +37,6 @@ const ORDER: &str = "00000064";
 /// Master `m1`, and the row of `alpha`, behind the order.
 const REST: &str = "00000002 6d310000 00000001
     00000005 616c7068 61000000 0000000e 31302e30 2e302e31 20616c70 68610000";
-
-/// The order of the version that a file stands for, and whether it is secure.
-type Stands = Option<(u32, bool)>;
-
-fn stands_of<R: RandomSource + Abort>(rt: &R, alloc: Global, file: Vec<u8>) -> Stands {
-    let disk = MemDisk::new(alloc, file, None, Vec::new(alloc));
-    match Slot::new(disk).load(alloc, rt).expect(rt, "a sound file") {
-        Some(version) => Some((version.order(), version.secure())),
-        None => None,
-    }
-}
 
 /// The words of a build, and the format that comes.
 #[derive(Clone, Copy)]
@@ -199,68 +182,47 @@ fn built_behind_a_version(rt: HostRuntime) {
     }
 }
 
-/// A file, the last of the calls of its disk when a version is stored on it, and the line and the version that come.
+/// A file, the last of the calls of its disk when a version is stored on it, what it stands for, and the new version;
+/// and the lines that come of a build over the one and over the other.
 #[derive(Clone, Copy)]
 struct Site<'a> {
     file: &'a [u8],
     last: u64,
-    line: &'a str,
-    new: (u32, bool),
-}
-
-/// The call that fails, and once more where each one behind it fails, too.
-type Place = (u64, Option<u64>);
-
-/// Compares what the files that a crash may leave stand for.
-fn try_crashes<R: RandomSource + Abort>(
-    rt: &R,
-    alloc: Global,
-    disks: &[NamedDisk<MemDisk>],
-    place: Place,
-    allowed: [Stands; 2],
-) {
-    for named in disks {
-        for kept in 0..CRASHES {
-            let image = named.disk.crashed(kept).expect(rt, "memory");
-            let is_allowed = allowed.contains(&stands_of(rt, alloc, image));
-            assert_same(
-                rt,
-                &(place, kept, is_allowed),
-                &(place, kept, true),
-                "a crash that keeps some writes",
-            );
-        }
-    }
+    stands: [Stands; 2],
+    lines: [&'a str; 2],
 }
 
 /// A build whose disk fails at a call, or from it on. It is told, and each file that a crash may leave stands for what
-/// stood or for the new version; once the last call was done, for that alone.
+/// stood or for the new version; once the last call was done, for that alone. Behind a crash the same build goes on
+/// from there.
 fn try_fault<R: RandomSource + Abort>(
     rt: &R,
     alloc: Global,
     words: &[String],
     site: &Site<'_>,
-    before: Stands,
     call: u64,
     scene: &Scene<'_>,
 ) {
-    let new = Some(site.new);
-    let (told, allowed) = if call == site.last {
-        ((0, site.line.as_bytes(), [].as_slice()), [new, new])
+    let [first, second] = site.lines;
+    let [before, new] = site.stands;
+    let (told, before) = if call == site.last {
+        ((0, first.as_bytes(), [].as_slice()), new)
     } else {
-        ((10, [].as_slice(), DISK_FAULT.as_bytes()), [before, new])
+        ((10, [].as_slice(), DISK_FAULT.as_bytes()), before)
     };
-    let place = (call, scene.stop);
-    let (status, outside) = play(rt, alloc, words, scene);
-    let came = (place, told_of(&status, &outside), outside.disks.len());
-    assert_same(rt, &came, &(place, told, 1), "a call fails");
-    try_crashes(rt, alloc, &outside.disks, place, allowed);
+    let crashed = Crashed {
+        allowed: [before, new],
+        again: Scene {
+            input: HOSTS,
+            ..FAIR
+        },
+        outputs: [first.as_bytes(), second.as_bytes()],
+    };
+    try_crash(rt, alloc, words, scene, told, &crashed, "a call fails");
 }
 
 /// The same for each call up to the last.
 fn try_faults<R: RandomSource + Abort>(rt: &R, alloc: Global, words: &[String], site: &Site<'_>) {
-    let file = Vec::from_slice(alloc, site.file).expect(rt, "memory");
-    let before = stands_of(rt, alloc, file);
     for call in 0..=site.last {
         let from = Scene {
             input: HOSTS,
@@ -273,8 +235,8 @@ fn try_faults<R: RandomSource + Abort>(rt: &R, alloc: Global, words: &[String], 
             disk: &[call],
             ..from
         };
-        try_fault(rt, alloc, words, site, before, call, &from);
-        try_fault(rt, alloc, words, site, before, call, &only);
+        try_fault(rt, alloc, words, site, call, &from);
+        try_fault(rt, alloc, words, site, call, &only);
     }
 }
 
@@ -286,8 +248,8 @@ fn each_disk_call_fails(rt: HostRuntime) {
     let empty = Site {
         file: &[],
         last: 11,
-        line: "lab/hosts.byname order 100 rows 1 generation 1\n",
-        new: (100, false),
+        stands: [None, Some((100, false))],
+        lines: ["lab/hosts.byname order 100 rows 1 generation 1\n", LINE_101],
     };
     try_faults(&rt, alloc, &words, &empty);
     // Four calls load this one, and five store a version on it.
@@ -295,8 +257,92 @@ fn each_disk_call_fails(rt: HostRuntime) {
     let stored = Site {
         file: &file,
         last: 9,
-        line: LINE_101,
-        new: (101, false),
+        stands: [Some((100, false)), Some((101, false))],
+        lines: [LINE_101, "lab/hosts.byname order 102 rows 1 generation 3\n"],
     };
     try_faults(&rt, alloc, &words, &stored);
+}
+
+/// Reads of the text and writes of the output that fail, what comes, and whether the version is stored.
+#[derive(Clone, Copy)]
+struct Fault<'a> {
+    row: &'a str,
+    reads: &'a [u64],
+    writes: &'a [u64],
+    told: (u8, &'a str, &'a str),
+    stored: bool,
+}
+
+const FIRST_LINE: &str = "lab/hosts.byname order 100 rows 1 generation 1\n";
+
+/// The text takes a read, and one more that finds its end; the line takes a write and a flush.
+const FAULTS: [Fault<'static>; 6] = [
+    Fault {
+        row: "the text isn't read",
+        reads: &[0],
+        writes: &[],
+        told: (3, "", "yp: read fault\n"),
+        stored: false,
+    },
+    Fault {
+        row: "the end of the text isn't read",
+        reads: &[1],
+        writes: &[],
+        told: (3, "", "yp: read fault\n"),
+        stored: false,
+    },
+    Fault {
+        row: "no third read",
+        reads: &[2],
+        writes: &[],
+        told: (0, FIRST_LINE, ""),
+        stored: true,
+    },
+    Fault {
+        row: "the line isn't written",
+        reads: &[],
+        writes: &[0],
+        told: (4, "", "yp: write fault\n"),
+        stored: true,
+    },
+    Fault {
+        row: "the line isn't flushed",
+        reads: &[],
+        writes: &[1],
+        told: (4, FIRST_LINE, "yp: write fault\n"),
+        stored: true,
+    },
+    Fault {
+        row: "no third call of the output",
+        reads: &[],
+        writes: &[2],
+        told: (0, FIRST_LINE, ""),
+        stored: true,
+    },
+];
+
+#[test]
+fn text_and_output_fail(rt: HostRuntime) {
+    let alloc = rt.alloc();
+    let file = bytes(&rt, alloc, &[CELLS, OPEN, ORDER, REST]);
+    for fault in &FAULTS {
+        let scene = Scene {
+            input: HOSTS,
+            reads: fault.reads,
+            writes: fault.writes,
+            ..FAIR
+        };
+        let (code, output, note) = fault.told;
+        let told = (code, output.as_bytes(), note.as_bytes());
+        let left: &[u8] = if fault.stored { &file } else { &[] };
+        try_words(
+            &rt,
+            alloc,
+            &BUILD,
+            &scene,
+            told,
+            Some((MAP, left)),
+            fault.row,
+        );
+    }
 }

@@ -103,18 +103,17 @@ fn no_wires(alloc: Global) -> Vec<MemWire>
     Vec::new(alloc)
 }
 
-/// The outside of a row.
-fn memory_of<R: Abort>(rt: &R, alloc: Global, words: &[String], row: &Row) -> Memory
+/// The outside of a row, with this file.
+fn memory_of<R: Abort>(rt: &R, alloc: Global, words: &[String], file: &[u8], row: &Row) -> Memory
     ensures { names_of result.disks.items ≡ disk_names (texts words.now) }
 {
     let mail = mail_of(rt, alloc, row.brings);
     let failing = copied(rt, alloc, row.failing);
-    let file = bytes(rt, alloc, row.file);
     Outside {
         input: MemSource::new(Vec::new(alloc), 64, Vec::new(alloc)),
         output: MemSink::new(alloc, 4096, copied(rt, alloc, row.writes)),
         notes: MemSink::new(alloc, 4096, Vec::new(alloc)),
-        disks: disks_of(alloc, words, &file, row.disk).expect(rt, "disks"),
+        disks: disks_of(alloc, words, file, row.disk).expect(rt, "disks"),
         clock: SetClock { moment: 500 },
         dial: MemDial::new(alloc, no_wires(alloc), Vec::new(alloc)),
         inbox: MemInbox::new(alloc, mail, failing),
@@ -122,10 +121,15 @@ fn memory_of<R: Abort>(rt: &R, alloc: Global, words: &[String], row: &Row) -> Me
     }
 }
 
-/// Runs these words.
-fn play<R: RandomSource + Abort>(rt: &R, alloc: Global, row: &Row) -> (Status, Memory) {
+/// Runs the words of a row over this file.
+fn play<R: RandomSource + Abort>(
+    rt: &R,
+    alloc: Global,
+    file: &[u8],
+    row: &Row,
+) -> (Status, Memory) {
     let words = strings(rt, alloc, row.words);
-    let outside = memory_of(rt, alloc, &words, row);
+    let outside = memory_of(rt, alloc, &words, file, row);
     run(alloc, rt, &words, outside)
 }
 
@@ -161,33 +165,107 @@ fn file_of(disks: &[NamedDisk<MemDisk>]) -> &[u8] {
     }
 }
 
-/// What came of a run, as a row has it.
-type Told<'a> = (u8, &'a [u8], &'a [u8], bool, u64, &'a [u8]);
+/// What came of a run, as a row has it, and the calls of the disk that fail.
+type Told<'a> = (u8, &'a [u8], &'a [u8], bool, u64, &'a [u64]);
 
-fn told_of<'a>(status: &Status, outside: &'a Memory, letters: &[Letter]) -> Told<'a> {
+fn told_of<'a>(
+    status: &Status,
+    outside: &'a Memory,
+    letters: &[Letter],
+    disk: &'a [u64],
+) -> Told<'a> {
     (
         status.code(),
         outside.output.taken(),
         outside.notes.taken(),
         are_letters(outside.inbox.letters(), letters),
         outside.inbox.turns(),
-        file_of(&outside.disks),
+        disk,
     )
 }
 
-/// Runs a row, and compares what came of it.
-pub fn try_row<R: RandomSource + Abort>(rt: &R, alloc: Global, row: &Row) {
+/// Compares what came of a run, but for its file.
+fn compare<R: Abort>(rt: &R, alloc: Global, status: &Status, outside: &Memory, row: &Row) {
     let letters = letters_of(rt, alloc, row);
-    let left = bytes(rt, alloc, row.left);
-    let (status, outside) = play(rt, alloc, row);
-    let came = told_of(&status, &outside, &letters);
+    let came = told_of(status, outside, &letters, row.disk);
     let wanted: Told<'_> = (
         row.code,
         row.output.as_bytes(),
         row.note.as_bytes(),
         true,
         row.turns,
-        &left,
+        row.disk,
     );
     assert_same(rt, &came, &wanted, row.name);
+}
+
+/// A crash may keep each of the last three writes, or drop it.
+const CRASHES: u64 = 8;
+
+/// The code of a run of a row over this file, and whether it told what the row has.
+fn ended_over<R: RandomSource + Abort>(
+    rt: &R,
+    alloc: Global,
+    file: &[u8],
+    row: &Row,
+) -> (u8, bool) {
+    let (status, outside) = play(rt, alloc, file, row);
+    let told = (outside.output.taken(), outside.notes.taken());
+    let wanted = (row.output.as_bytes(), row.note.as_bytes());
+    (status.code(), told == wanted)
+}
+
+/// Runs these rows over each file that a crash may leave: one of them has to tell what came.
+fn try_images<R: RandomSource + Abort>(
+    rt: &R,
+    alloc: Global,
+    disks: &[NamedDisk<MemDisk>],
+    again: &[&Row],
+    row: &Row,
+) {
+    for named in disks {
+        for kept in 0..CRASHES {
+            let image = named.disk.crashed(kept).expect(rt, "memory");
+            let mut is_told = false;
+            for other in again {
+                let (code, told) = ended_over(rt, alloc, &image, *other);
+                is_told = is_told || (code == other.code && told);
+            }
+            assert_same(
+                rt,
+                &(row.disk, kept, is_told),
+                &(row.disk, kept, true),
+                row.name,
+            );
+        }
+    }
+}
+
+/// Compares the file that is left, or runs these rows again.
+fn compare_left<R: RandomSource + Abort>(
+    rt: &R,
+    alloc: Global,
+    disks: &[NamedDisk<MemDisk>],
+    again: &[&Row],
+    row: &Row,
+) {
+    if !again.is_empty() {
+        return try_images(rt, alloc, disks, again, row);
+    }
+    let left = bytes(rt, alloc, row.left);
+    assert_same(rt, &file_of(disks), &left.as_slice(), row.name);
+}
+
+/// Runs a row, and compares what came of it, and where none is to be run again, the file that is left. Else these rows
+/// are run over each file that a crash may leave, where nothing fails: what is told then is that of one of them.
+pub fn try_crash<R: RandomSource + Abort>(rt: &R, alloc: Global, row: &Row, again: &[&Row]) {
+    let file = bytes(rt, alloc, row.file);
+    let (status, outside) = play(rt, alloc, &file, row);
+    compare(rt, alloc, &status, &outside, row);
+    compare_left(rt, alloc, &outside.disks, again, row);
+}
+
+/// Runs a row, and compares what came of it.
+pub fn try_row<R: RandomSource + Abort>(rt: &R, alloc: Global, row: &Row) {
+    try_crash(rt, alloc, row, &[]);
 }

@@ -4,7 +4,7 @@ use crate::source::{
     BROKEN_FILE, CALL_1, CALL_2, CALL_3, CALL_4, CALL_5, FOREIGN_1, HOSTS_FILE, LATER_5, NOMAP_1,
     REPLY_1, REPLY_2, REPLY_3, REPLY_4, REPLY_5, SECURE_FILE, TWICE_FILE,
 };
-use crate::stage::{Datagram, Row, try_row};
+use crate::stage::{Datagram, Row, try_crash, try_row};
 use std::alloc::Global;
 use std::process::Abort;
 use std::random::RandomSource;
@@ -374,39 +374,86 @@ fn each_later_inbox_call_fails(rt: HostRuntime) {
     try_rows(&rt, rt.alloc(), &FAILING_LATE);
 }
 
-/// The load of the file fails, or the first call behind it, or the write of the line.
-const FAULTS: [Row; 3] = [
+/// The line takes a write and a flush; the version is stored before.
+const FAULTS: [Row; 2] = [
     Row {
-        name: "the file can't be read",
-        disk: &[0],
-        code: 10,
-        output: "",
-        note: "yp: disk fault in lab/hosts.byname\n",
-        sends: &[],
-        turns: 0,
-        left: &[],
-        ..AT_ONCE
-    },
-    Row {
-        name: "the version can't be stored",
-        disk: &[2],
-        code: 16,
-        output: "",
-        note: "yp: transfer -9\n",
-        left: &[],
-        ..AT_ONCE
-    },
-    Row {
-        name: "the line can't be written",
+        name: "the line isn't written",
         writes: &[0],
         code: 4,
         output: "",
         note: "yp: write fault\n",
         ..AT_ONCE
     },
+    Row {
+        name: "the line isn't flushed",
+        writes: &[1],
+        code: 4,
+        note: "yp: write fault\n",
+        ..AT_ONCE
+    },
 ];
 
 #[test]
-fn disk_and_output_fail(rt: HostRuntime) {
+fn output_fails(rt: HostRuntime) {
     try_rows(&rt, rt.alloc(), &FAULTS);
+}
+
+/// Calls of the disk that load the empty file, those that store the version on it but the last, and that.
+const LOADS: [&[u64]; 2] = [&[0], &[1]];
+
+const STORES: [&[u64]; 8] = [&[2], &[3], &[4], &[5], &[6], &[7], &[8], &[9]];
+
+const NOT_LOADED: Row = Row {
+    name: "the file isn't loaded",
+    code: 10,
+    output: "",
+    note: "yp: disk fault in lab/hosts.byname\n",
+    sends: &[],
+    turns: 0,
+    ..AT_ONCE
+};
+
+const NOT_STORED: Row = Row {
+    name: "the version isn't stored",
+    code: 16,
+    output: "",
+    note: "yp: transfer -9\n",
+    ..AT_ONCE
+};
+
+/// The version is stored already.
+const SAME: Row = Row {
+    code: 16,
+    output: "",
+    note: "yp: transfer 2 100 100\n",
+    ..AT_ONCE
+};
+
+#[test]
+fn each_call_of_the_disk_fails(rt: HostRuntime) {
+    let alloc = rt.alloc();
+    for disk in &LOADS {
+        let row = Row {
+            disk: *disk,
+            ..NOT_LOADED
+        };
+        try_crash(&rt, alloc, &row, &[&AT_ONCE]);
+    }
+    for disk in &STORES {
+        let row = Row {
+            disk: *disk,
+            ..NOT_STORED
+        };
+        try_crash(&rt, alloc, &row, &[&AT_ONCE]);
+    }
+    let last = Row {
+        disk: &[10],
+        ..NOT_STORED
+    };
+    try_crash(&rt, alloc, &last, &[&AT_ONCE, &SAME]);
+    let none = Row {
+        disk: &[11],
+        ..AT_ONCE
+    };
+    try_crash(&rt, alloc, &none, &[&SAME]);
 }
