@@ -1,6 +1,6 @@
 //! `bind`: the pings of its rounds, offers, questions, and what is told at the end.
 
-use crate::stage::{Datagram, FAIR, Row, try_row};
+use crate::stage::{Datagram, Row, try_row};
 use yp_io::Peer;
 
 const WORDS: &[&str] = &["bind", "7100", "fixed", "2", "lab", "z1@10.0.0.2:834"];
@@ -79,10 +79,13 @@ const OFFERED: Row = Row {
     name: "offered, and quiet",
     words: WORDS,
     brings: &[Some(OFFER)],
+    failing: &[],
+    writes: &[],
+    code: 0,
     output: "lab 10.0.0.2:834\n",
+    note: "",
     sends: &[PING],
     turns: 2,
-    ..FAIR
 };
 
 const SILENT: Row = Row {
@@ -184,7 +187,7 @@ const CALLS: [Row; 4] = [
 ];
 
 /// Calls of the inbox, and of the output, that fail.
-const FAULTS: [Row; 7] = [
+const FAULTS: [Row; 6] = [
     Row {
         name: "a ping fails",
         failing: &[0],
@@ -240,13 +243,6 @@ const FAULTS: [Row; 7] = [
         writes: &[0],
         code: 4,
         output: "",
-        note: "yp: write fault\n",
-        ..OFFERED
-    },
-    Row {
-        name: "the output isn't flushed",
-        writes: &[1],
-        code: 4,
         note: "yp: write fault\n",
         ..OFFERED
     },

@@ -1,6 +1,6 @@
 //! `getport`: the calls, the answer, and what isn't one.
 
-use crate::stage::{Datagram, FAIR, Row, try_row};
+use crate::stage::{Datagram, Row, try_row};
 use yp_io::Peer;
 
 const WORDS: &[&str] = &["getport", "7112", "2", "127.0.0.1:7111", "100004", "2", "6"];
@@ -35,11 +35,14 @@ const ANOTHER_CALL: &[&str] = &["00000001 00000000 00000000 00000000 00000000 00
 const QUIET: Row = Row {
     name: "two quiet turns",
     words: WORDS,
+    brings: &[],
+    failing: &[],
+    writes: &[],
     code: 24,
+    output: "",
     note: "yp: unanswered after 2 turns\n",
     sends: &[CALL, CALL],
     turns: 2,
-    ..FAIR
 };
 
 const FOUND: Row = Row {
@@ -53,7 +56,7 @@ const FOUND: Row = Row {
     ..QUIET
 };
 
-const ROWS: [Row; 10] = [
+const ROWS: [Row; 15] = [
     QUIET,
     FOUND,
     Row {
@@ -126,10 +129,6 @@ const ROWS: [Row; 10] = [
         note: "yp: refused by rpc\n",
         ..FOUND
     },
-];
-
-/// Calls of the inbox, and of the output, that fail.
-const FAULTS: [Row; 6] = [
     Row {
         name: "the call fails",
         failing: &[0],
@@ -173,27 +172,12 @@ const FAULTS: [Row; 6] = [
         note: "yp: write fault\n",
         ..FOUND
     },
-    Row {
-        name: "the output isn't flushed",
-        writes: &[1],
-        code: 4,
-        note: "yp: write fault\n",
-        ..FOUND
-    },
 ];
 
 #[test]
 fn getport_over_memory(rt: HostRuntime) {
     let alloc = rt.alloc();
     for row in &ROWS {
-        try_row(&rt, alloc, row);
-    }
-}
-
-#[test]
-fn each_call_fails(rt: HostRuntime) {
-    let alloc = rt.alloc();
-    for row in &FAULTS {
         try_row(&rt, alloc, row);
     }
 }

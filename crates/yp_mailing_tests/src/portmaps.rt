@@ -1,6 +1,6 @@
 //! `portmap`: calls and their replies, and what is told at the end.
 
-use crate::stage::{Datagram, FAIR, Row, try_row};
+use crate::stage::{Datagram, Row, try_row};
 use yp_io::Peer;
 
 const WORDS: &[&str] = &["portmap", "7111", "3"];
@@ -43,13 +43,16 @@ const SET_TWICE: Row = Row {
     name: "set twice, and dumped",
     words: WORDS,
     brings: SETS,
+    failing: &[],
+    writes: &[],
+    code: 0,
     output: "100004 2 6 834\n",
+    note: "",
     sends: &[(HERE, TRUE), (HERE, FALSE), (HERE, LIST)],
     turns: 3,
-    ..FAIR
 };
 
-const ROWS: [Row; 4] = [
+const ROWS: [Row; 12] = [
     SET_TWICE,
     Row {
         name: "no turn",
@@ -96,10 +99,6 @@ const ROWS: [Row; 4] = [
         ],
         ..SET_TWICE
     },
-];
-
-/// Calls of the inbox, and of the output, that fail.
-const FAULTS: [Row; 9] = [
     Row {
         name: "the first turn fails",
         failing: &[0],
@@ -169,13 +168,6 @@ const FAULTS: [Row; 9] = [
         ..SET_TWICE
     },
     Row {
-        name: "the output isn't flushed",
-        writes: &[1],
-        code: 4,
-        note: "yp: write fault\n",
-        ..SET_TWICE
-    },
-    Row {
         name: "an output that fails isn't written without a mapping",
         brings: &[],
         writes: &[0],
@@ -189,14 +181,6 @@ const FAULTS: [Row; 9] = [
 fn portmap_over_memory(rt: HostRuntime) {
     let alloc = rt.alloc();
     for row in &ROWS {
-        try_row(&rt, alloc, row);
-    }
-}
-
-#[test]
-fn each_call_fails(rt: HostRuntime) {
-    let alloc = rt.alloc();
-    for row in &FAULTS {
         try_row(&rt, alloc, row);
     }
 }

@@ -10,9 +10,7 @@ use std::alloc::{AllocError, Global};
 use std::process::Abort;
 use std::random::RandomSource;
 use yp_board::MapName;
-use yp_io::{
-    Letter, MemDial, MemDisk, MemSink, MemSource, MemTexts, MemWire, Pair, Peer, SetClock,
-};
+use yp_io::{Letter, MemDial, MemDisk, MemSink, MemSource, MemTexts, MemWire, Peer, SetClock};
 use yp_mem::MemInbox;
 use yp_tools::{NamedDisk, Outside, Status, disk_names, named_disks, run};
 
@@ -22,12 +20,8 @@ pub type Memory = Outside<MemSource, MemSink, MemDisk, SetClock, MemDial, MemInb
 /// A datagram in hexadecimal words, and who sent it or whom it is for.
 pub type Datagram = (Peer, &'static [&'static str]);
 
-/// Bytes in hexadecimal words.
-pub type Words = &'static [&'static str];
-
-/// What a run finds: at its inbox, in the files of a map and of `ypservers`, and on the two wires that its dial has;
-/// the calls that fail, of the inbox, of both disks, of the dial, of the first wire, and of the output. What comes of
-/// it: the code, the output, the note, the letters, and how many turns were taken and wires came.
+/// What a run finds at its inbox, the calls of the inbox and the writes of the output that fail; and what comes of it:
+/// the code, the output, the note, the letters and how many turns were taken.
 #[derive(Clone, Copy)]
 pub struct Row {
     pub name: &'static str,
@@ -35,47 +29,15 @@ pub struct Row {
     /// What each turn brings; none is a quiet turn.
     pub brings: &'static [Option<Datagram>],
     pub failing: &'static [u64],
-    pub file: Words,
-    pub disk: &'static [u64],
-    pub servers: Words,
-    pub servers_disk: &'static [u64],
-    pub wires: (Words, Words),
-    pub dials: &'static [u64],
-    pub reads: &'static [u64],
-    pub calls: &'static [u64],
     pub writes: &'static [u64],
     pub code: u8,
     pub output: &'static str,
     pub note: &'static str,
     pub sends: &'static [Datagram],
     pub turns: u64,
-    pub came: usize,
 }
 
-/// Nothing is there and nothing fails; nothing comes of it.
-pub const FAIR: Row = Row {
-    name: "",
-    words: &[],
-    brings: &[],
-    failing: &[],
-    file: &[],
-    disk: &[],
-    servers: &[],
-    servers_disk: &[],
-    wires: (&[], &[]),
-    dials: &[],
-    reads: &[],
-    calls: &[],
-    writes: &[],
-    code: 0,
-    output: "",
-    note: "",
-    sends: &[],
-    turns: 0,
-    came: 0,
-};
-
-fn strings<R: Abort>(rt: &R, alloc: Global, words: &[&str]) -> Vec<String> {
+pub fn strings<R: Abort>(rt: &R, alloc: Global, words: &[&str]) -> Vec<String> {
     let mut owned = Vec::new(alloc);
     for word in words {
         let word = String::from_str(alloc, word).expect(rt, "memory");
@@ -85,7 +47,7 @@ fn strings<R: Abort>(rt: &R, alloc: Global, words: &[&str]) -> Vec<String> {
 }
 
 /// The numbers of calls.
-fn copied<R: Abort>(rt: &R, alloc: Global, calls: &[u64]) -> Vec<u64> {
+pub fn copied<R: Abort>(rt: &R, alloc: Global, calls: &[u64]) -> Vec<u64> {
     Vec::from_slice(alloc, calls).expect(rt, "memory")
 }
 
@@ -96,7 +58,11 @@ fn letter_of<R: Abort>(rt: &R, alloc: Global, datagram: &Datagram) -> Letter {
     }
 }
 
-fn mail_of<R: Abort>(rt: &R, alloc: Global, brings: &[Option<Datagram>]) -> Vec<Option<Letter>> {
+pub fn mail_of<R: Abort>(
+    rt: &R,
+    alloc: Global,
+    brings: &[Option<Datagram>],
+) -> Vec<Option<Letter>> {
     let mut mail = Vec::new(alloc);
     for turn in brings {
         let came = match turn {
@@ -108,55 +74,22 @@ fn mail_of<R: Abort>(rt: &R, alloc: Global, brings: &[Option<Datagram>]) -> Vec<
     mail
 }
 
-fn disk_of(alloc: Global, map: &[u8], row: &Row) -> Result<MemDisk, AllocError> {
-    let (words, failing) = if map == b"hosts.byname".as_slice() {
-        (row.file, row.disk)
-    } else {
-        (row.servers, row.servers_disk)
-    };
-    let Some(bytes) = yp_for_tests::bytes(alloc, words) else {
-        return Err(AllocError);
-    };
-    Ok(MemDisk::new(alloc, bytes, None, Vec::from_slice(alloc, failing)?))
-}
-
-/// The disks that the words name.
-fn disks_of(
-    alloc: Global,
-    words: &[String],
-    row: &Row,
-) -> Result<Vec<NamedDisk<MemDisk>>, AllocError>
+/// The disks that the words name: these commands have none.
+fn disks_of(alloc: Global, words: &[String]) -> Result<Vec<NamedDisk<MemDisk>>, AllocError>
     ensures { IfOk result (λ disks. names_of disks.items ≡ disk_names (texts words.now)) }
 {
     let Ok(names) = disk_names(alloc, words) else {
         return Err(AllocError);
     };
-    let make = |name: &MapName| disk_of(alloc, &name.map, row);
+    let make = |_: &MapName| Ok(MemDisk::new(alloc, Vec::new(alloc), None, Vec::new(alloc)));
     named_disks(alloc, names, make)
 }
 
-fn wire_of<R: Abort>(rt: &R, alloc: Global, words: Words, reads: &[u64], calls: &[u64]) -> MemWire
-    ensures { IsNew result }
-{
-    let input = bytes(rt, alloc, words);
-    let reads = copied(rt, alloc, reads);
-    let calls = copied(rt, alloc, calls);
-    Pair {
-        source: MemSource::new(input, 64, reads),
-        sink: MemSink::new(alloc, 4096, calls),
-    }
-}
-
-/// The wires of a row.
-fn wires_of<R: Abort>(rt: &R, alloc: Global, row: &Row) -> Vec<MemWire>
+/// No wire comes.
+fn no_wires(alloc: Global) -> Vec<MemWire>
     ensures { All IsNew result.items }
 {
-    let first = wire_of(rt, alloc, row.wires.0, row.reads, row.calls);
-    let second = wire_of(rt, alloc, row.wires.1, &[], &[]);
-    let mut wires = Vec::new(alloc);
-    wires.push(first).expect(rt, "memory");
-    wires.push(second).expect(rt, "memory");
-    wires
+    Vec::new(alloc)
 }
 
 /// The outside of a row.
@@ -165,15 +98,13 @@ fn memory_of<R: Abort>(rt: &R, alloc: Global, words: &[String], row: &Row) -> Me
 {
     let mail = mail_of(rt, alloc, row.brings);
     let failing = copied(rt, alloc, row.failing);
-    let wires = wires_of(rt, alloc, row);
-    let dials = copied(rt, alloc, row.dials);
     Outside {
         input: MemSource::new(Vec::new(alloc), 64, Vec::new(alloc)),
         output: MemSink::new(alloc, 4096, copied(rt, alloc, row.writes)),
         notes: MemSink::new(alloc, 4096, Vec::new(alloc)),
-        disks: disks_of(alloc, words, row).expect(rt, "disks"),
+        disks: disks_of(alloc, words).expect(rt, "disks"),
         clock: SetClock { moment: 500 },
-        dial: MemDial::new(alloc, wires, dials),
+        dial: MemDial::new(alloc, no_wires(alloc), Vec::new(alloc)),
         inbox: MemInbox::new(alloc, mail, failing),
         texts: MemTexts::new(Vec::new(alloc), Vec::new(alloc)),
     }
@@ -211,7 +142,7 @@ fn letters_of<R: Abort>(rt: &R, alloc: Global, row: &Row) -> Vec<Letter> {
 }
 
 /// What came of a run, as a row has it.
-type Told<'a> = (u8, &'a [u8], &'a [u8], bool, u64, usize);
+type Told<'a> = (u8, &'a [u8], &'a [u8], bool, u64);
 
 fn told_of<'a>(status: &Status, outside: &'a Memory, letters: &[Letter]) -> Told<'a> {
     (
@@ -220,7 +151,6 @@ fn told_of<'a>(status: &Status, outside: &'a Memory, letters: &[Letter]) -> Told
         outside.notes.taken(),
         are_letters(outside.inbox.letters(), letters),
         outside.inbox.turns(),
-        outside.dial.came().len(),
     )
 }
 
@@ -235,7 +165,6 @@ pub fn try_row<R: RandomSource + Abort>(rt: &R, alloc: Global, row: &Row) {
         row.note.as_bytes(),
         true,
         row.turns,
-        row.came,
     );
     assert_same(rt, &came, &wanted, row.name);
 }

@@ -1,11 +1,13 @@
 //! Each call outside fails in turn, and the program stops at each call of the disk.
 
-use crate::given::bytes;
-use crate::source::{HOSTS_FILE, OLDER_FILE, REPLIES};
-use crate::stage::{Crashed, FAIR, Left, Scene, Stands, Told, strings, try_run};
+use crate::given::{assert_same, bytes};
+use crate::source::{OLDER_FILE, REPLIES};
+use crate::stage::{FAIR, Scene, Stands, file_of, play, stands_of, strings, told_of};
 use std::alloc::Global;
 use std::process::Abort;
 use std::random::RandomSource;
+use yp_io::MemDisk;
+use yp_tools::NamedDisk;
 
 const WORDS: &[&str] = &[
     "xfr",
@@ -14,6 +16,9 @@ const WORDS: &[&str] = &[
     "lab/hosts.byname",
     "m1@127.0.0.1:7001",
 ];
+
+/// A crash may keep each of the last three writes, or drop it.
+const CRASHES: u64 = 8;
 
 const DISK_FAULT: &str = "yp: disk fault in lab/hosts.byname\n";
 
@@ -24,68 +29,99 @@ const RPC: &str = "yp: transfer -4\n";
 /// What is fetched.
 const NEW: Stands = Some((100, 1, false));
 
-/// The dials, and the calls of the output that fail; what is told; and the file that is left.
+/// The calls of the dial, of the wire and of the output that fail; the code and the note; and what the file stands for.
 #[derive(Clone, Copy)]
 struct Fault {
     row: &'static str,
     dials: &'static [u64],
+    reads: &'static [u64],
+    writes: &'static [u64],
     output: &'static [u64],
-    told: Told,
-    left: &'static [&'static str],
+    code: u8,
+    note: &'static str,
+    stands: Stands,
 }
 
-const FIRST_LINE: &str = "lab/hosts.byname order 100 generation 1\n";
+const NO_WIRE: Fault = Fault {
+    row: "no wire",
+    dials: &[0],
+    reads: &[],
+    writes: &[],
+    output: &[],
+    code: 16,
+    note: RPC,
+    stands: None,
+};
 
-/// The line takes a write and a flush. Where one of them fails the map is stored.
-const FAULTS: [Fault; 4] = [
-    Fault {
-        row: "no wire",
-        dials: &[0],
-        output: &[],
-        told: (16, "", RPC),
-        left: &[],
-    },
-    Fault {
-        row: "no line",
-        dials: &[],
-        output: &[0],
-        told: (4, "", "yp: write fault\n"),
-        left: HOSTS_FILE,
-    },
-    Fault {
-        row: "no flush",
-        dials: &[],
-        output: &[1],
-        told: (4, FIRST_LINE, "yp: write fault\n"),
-        left: HOSTS_FILE,
-    },
-    Fault {
-        row: "no third call of the output",
-        dials: &[],
-        output: &[2],
-        told: (0, FIRST_LINE, ""),
-        left: HOSTS_FILE,
-    },
-];
+/// The line isn't written, and the map is stored.
+const NO_LINE: Fault = Fault {
+    row: "no line",
+    dials: &[],
+    output: &[0],
+    code: 4,
+    note: "yp: write fault\n",
+    stands: NEW,
+    ..NO_WIRE
+};
+
+fn try_fault<R: RandomSource + Abort>(
+    rt: &R,
+    alloc: Global,
+    words: &[String],
+    wire: &[u8],
+    fault: &Fault,
+) {
+    let scene = Scene {
+        wire,
+        dials: fault.dials,
+        reads: fault.reads,
+        writes: fault.writes,
+        output: fault.output,
+        ..FAIR
+    };
+    let (status, outside) = play(rt, alloc, words, &scene);
+    let file = Vec::from_slice(alloc, file_of(&outside.disks)).expect(rt, "memory");
+    let (code, line, note, _) = told_of(&status, &outside);
+    let came = (code, line, note, stands_of(rt, alloc, file));
+    let wanted = (
+        fault.code,
+        [].as_slice(),
+        fault.note.as_bytes(),
+        fault.stands,
+    );
+    assert_same(rt, &came, &wanted, fault.row);
+}
 
 #[test]
-fn dial_and_output_fail(rt: HostRuntime) {
+fn wire_and_output_fail(rt: HostRuntime) {
     let alloc = rt.alloc();
     let words = strings(&rt, alloc, WORDS);
     let wire = bytes(&rt, alloc, REPLIES);
-    for fault in &FAULTS {
-        let left = bytes(&rt, alloc, fault.left);
-        let scene = Scene {
-            wire: &wire,
-            dials: fault.dials,
-            output: fault.output,
-            ..FAIR
-        };
-        let left = Left::Bytes(&left);
-        try_run(
-            &rt, alloc, &words, &scene, fault.told, None, &left, fault.row,
-        );
-    }
+    try_fault(&rt, alloc, &words, &wire, &NO_WIRE);
+    try_fault(&rt, alloc, &words, &wire, &NO_LINE);
+}
+
+/// A read or a write of the wire fails: there is no transfer.
+fn try_wire<'a, R: RandomSource + Abort>(
+    rt: &R,
+    alloc: Global,
+    words: &[String],
+    wire: &'a [u8],
+    reads: &'a [u64],
+    writes: &'a [u64],
+) {
+    let scene = Scene {
+        wire,
+        reads,
+        writes,
+        ..FAIR
+    };
+    let (status, outside) = play(rt, alloc, words, &scene);
+    let (code, line, note, _) = told_of(&status, &outside);
+    let came = (reads, writes, code, line, note, file_of(&outside.disks));
+    let empty: &[u8] = &[];
+    let wanted = (reads, writes, 16, empty, RPC.as_bytes(), empty);
+    assert_same(rt, &came, &wanted, "a call of the wire fails");
 }
 
 #[test]
@@ -93,43 +129,12 @@ fn each_wire_call_fails(rt: HostRuntime) {
     let alloc = rt.alloc();
     let words = strings(&rt, alloc, WORDS);
     let wire = bytes(&rt, alloc, REPLIES);
-    let fair = Scene {
-        wire: &wire,
-        ..FAIR
-    };
-    let left = Left::Bytes(&[]);
     // Four replies of 184 bytes take at least four reads, and four calls of 68 bytes two writes and a flush each.
     for call in 0..4 {
-        let scene = Scene {
-            reads: &[call],
-            ..fair
-        };
-        try_run(
-            &rt,
-            alloc,
-            &words,
-            &scene,
-            (16, "", RPC),
-            None,
-            &left,
-            "a read",
-        );
+        try_wire(&rt, alloc, &words, &wire, &[call], &[]);
     }
     for call in 0..12 {
-        let scene = Scene {
-            writes: &[call],
-            ..fair
-        };
-        try_run(
-            &rt,
-            alloc,
-            &words,
-            &scene,
-            (16, "", RPC),
-            None,
-            &left,
-            "a write",
-        );
+        try_wire(&rt, alloc, &words, &wire, &[], &[call]);
     }
 }
 
@@ -149,7 +154,7 @@ const SITES: [Site; 2] = [
         before: None,
         loads: 2,
         last: 11,
-        line: FIRST_LINE,
+        line: "lab/hosts.byname order 100 generation 1\n",
     },
     Site {
         file: OLDER_FILE,
@@ -160,12 +165,30 @@ const SITES: [Site; 2] = [
     },
 ];
 
-/// The version that is fetched is no newer than itself.
-const SAME: Told = (16, "", "yp: transfer 2 100 100\n");
+/// Compares what the files that a crash may leave stand for.
+fn try_crashes<R: RandomSource + Abort>(
+    rt: &R,
+    alloc: Global,
+    disks: &[NamedDisk<MemDisk>],
+    call: u64,
+    allowed: [Stands; 2],
+) {
+    for named in disks {
+        for kept in 0..CRASHES {
+            let image = named.disk.crashed(kept).expect(rt, "memory");
+            let is_allowed = allowed.contains(&stands_of(rt, alloc, image));
+            assert_same(
+                rt,
+                &(call, kept, is_allowed),
+                &(call, kept, true),
+                "a crash that keeps some writes",
+            );
+        }
+    }
+}
 
 /// What is told where this call of the disk fails, and what a crash may leave then: before a call that stores, what
-/// stood; at the last, what stood or the new version; and once all were done, that alone. The transfer is done behind
-/// a crash, where it wasn't.
+/// stood; at the last, what stood or the new version; and once all were done, that alone.
 fn try_disk<R: RandomSource + Abort>(
     rt: &R,
     alloc: Global,
@@ -174,58 +197,57 @@ fn try_disk<R: RandomSource + Abort>(
     call: u64,
     scene: &Scene<'_>,
 ) {
-    let done = (0, site.line, "");
     let (told, allowed) = if call == site.last {
-        (done, [NEW, NEW])
+        ((0, site.line.as_bytes(), [].as_slice()), [NEW, NEW])
     } else if call < site.loads {
-        ((10, "", DISK_FAULT), [site.before, site.before])
+        let note = DISK_FAULT.as_bytes();
+        ((10, [].as_slice(), note), [site.before, site.before])
     } else {
-        ((16, "", FILE), [site.before, NEW])
+        ((16, [].as_slice(), FILE.as_bytes()), [site.before, NEW])
     };
-    let second = if call < site.loads { done } else { SAME };
-    let crashed = Crashed {
-        allowed,
-        again: Scene {
-            wire: scene.wire,
-            ..FAIR
-        },
-        told: [done, second],
-    };
-    let left = Left::Any(crashed);
-    try_run(
+    let (status, outside) = play(rt, alloc, words, scene);
+    let (code, line, note, _) = told_of(&status, &outside);
+    assert_same(
         rt,
-        alloc,
-        words,
-        scene,
-        told,
-        None,
-        &left,
+        &(call, scene.stop, (code, line, note)),
+        &(call, scene.stop, told),
         "a call of the disk fails",
     );
+    try_crashes(rt, alloc, &outside.disks, call, allowed);
 }
 
-fn try_site<R: RandomSource + Abort>(
+/// A call of the disk fails in each way: from it on, and then it alone.
+fn try_call<'a, R: RandomSource + Abort>(
     rt: &R,
     alloc: Global,
     words: &[String],
-    wire: &[u8],
     site: &Site,
+    call: u64,
+    alone: &'a [u64],
+    file: &'a [u8],
+    wire: &'a [u8],
 ) {
+    let from = Scene {
+        file,
+        wire,
+        stop: Some(call),
+        ..FAIR
+    };
+    try_disk(rt, alloc, words, site, call, &from);
+    let only = Scene {
+        file,
+        wire,
+        disk: alone,
+        ..FAIR
+    };
+    try_disk(rt, alloc, words, site, call, &only);
+}
+
+fn try_site<R: RandomSource + Abort>(rt: &R, alloc: Global, words: &[String], site: &Site) {
     let file = bytes(rt, alloc, site.file);
+    let wire = bytes(rt, alloc, REPLIES);
     for call in 0..=site.last {
-        let from = Scene {
-            file: &file,
-            wire,
-            stop: Some(call),
-            ..FAIR
-        };
-        try_disk(rt, alloc, words, site, call, &from);
-        let only = Scene {
-            stop: None,
-            disk: &[call],
-            ..from
-        };
-        try_disk(rt, alloc, words, site, call, &only);
+        try_call(rt, alloc, words, site, call, &[call], &file, &wire);
     }
 }
 
@@ -233,8 +255,7 @@ fn try_site<R: RandomSource + Abort>(
 fn each_disk_call_fails(rt: HostRuntime) {
     let alloc = rt.alloc();
     let words = strings(&rt, alloc, WORDS);
-    let wire = bytes(&rt, alloc, REPLIES);
     for site in &SITES {
-        try_site(&rt, alloc, &words, &wire, site);
+        try_site(&rt, alloc, &words, site);
     }
 }

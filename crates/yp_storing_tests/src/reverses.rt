@@ -1,17 +1,22 @@
 //! Netgroups that are reversed: what is stored and told, each refusal, and each call of a disk that fails in turn.
 
-use crate::given::bytes;
+use crate::given::{assert_same, bytes};
 use crate::source::{
     BROKEN_FILE, BY_USER_FILE, LAST_GENERATION_FILE, LAST_ORDER_FILE, NETGROUP_FILE, SECURE_FILE,
 };
-use crate::stage::{Crashed, FAIR, Left, Scene, Stands, Told, strings, try_run};
+use crate::stage::{FAIR, Scene, Stands, file_of, play, stands_of, strings, told_of};
 use std::alloc::Global;
 use std::process::Abort;
 use std::random::RandomSource;
+use yp_io::MemDisk;
+use yp_tools::NamedDisk;
 
 const BY_USER: &[&str] = &["revnet", "m1", "lab/netgroup.byuser"];
 
 const BY_HOST: &[&str] = &["revnet", "m1", "lab/netgroup.byhost"];
+
+/// A crash may keep each of the last three writes, or drop it.
+const CRASHES: u64 = 8;
 
 const STORED: &str = "lab/netgroup.byuser order 500 rows 1 generation 1\n";
 
@@ -25,7 +30,7 @@ struct Case {
     words: &'static [&'static str],
     file: &'static [&'static str],
     netgroup: &'static [&'static str],
-    told: Told,
+    told: (u8, &'static str, &'static str),
     stands: Stands,
 }
 
@@ -94,17 +99,42 @@ const CASES: [Case; 8] = [
     },
 ];
 
+/// The file of the netgroups, and the calls of its disk that fail.
+fn failing<'a>(netgroup: &'a [u8], netgroup_disk: &'a [u64]) -> Scene<'a> {
+    Scene {
+        netgroup,
+        netgroup_disk,
+        ..FAIR
+    }
+}
+
 fn try_case<R: RandomSource + Abort>(rt: &R, alloc: Global, case: &Case) {
-    let words = strings(rt, alloc, case.words);
     let file = bytes(rt, alloc, case.file);
     let netgroup = bytes(rt, alloc, case.netgroup);
+    try_files(rt, alloc, case, &file, &netgroup);
+}
+
+/// Runs a case over both files, where nothing fails.
+fn try_files<'a, R: RandomSource + Abort>(
+    rt: &R,
+    alloc: Global,
+    case: &Case,
+    file: &'a [u8],
+    netgroup: &'a [u8],
+) {
+    let words = strings(rt, alloc, case.words);
     let scene = Scene {
-        file: &file,
-        netgroup: &netgroup,
+        file,
+        netgroup,
         ..FAIR
     };
-    let left = Left::Standing(case.stands);
-    try_run(rt, alloc, &words, &scene, case.told, None, &left, case.row);
+    let (status, outside) = play(rt, alloc, &words, &scene);
+    let file = Vec::from_slice(alloc, file_of(&outside.disks)).expect(rt, "memory");
+    let (code, line, note, _) = told_of(&status, &outside);
+    let came = (code, line, note, stands_of(rt, alloc, file));
+    let (code, line, note) = case.told;
+    let wanted = (code, line.as_bytes(), note.as_bytes(), case.stands);
+    assert_same(rt, &came, &wanted, case.row);
 }
 
 #[test]
@@ -115,12 +145,28 @@ fn reverses_and_refusals(rt: HostRuntime) {
     }
 }
 
-/// A damaged file of the map is told before damaged netgroups, and is left as it is. Where the line isn't written or
-/// flushed, the map is stored, byte for byte.
+/// What is told, and the bytes of the first file.
+fn try_scene<R: RandomSource + Abort>(
+    rt: &R,
+    alloc: Global,
+    row: &str,
+    scene: &Scene<'_>,
+    told: (u8, &str, &str),
+    file: &[u8],
+) {
+    let words = strings(rt, alloc, BY_USER);
+    let (status, outside) = play(rt, alloc, &words, scene);
+    let (code, line, note, _) = told_of(&status, &outside);
+    let came = (code, line, note, file_of(&outside.disks));
+    let wanted = (told.0, told.1.as_bytes(), told.2.as_bytes(), file);
+    assert_same(rt, &came, &wanted, row);
+}
+
+/// A damaged file of the map is told before damaged netgroups, and is left as it is. Where the line isn't written, the
+/// map is stored, byte for byte.
 #[test]
 fn first_file_and_output(rt: HostRuntime) {
     let alloc = rt.alloc();
-    let words = strings(&rt, alloc, BY_USER);
     let broken = bytes(&rt, alloc, BROKEN_FILE);
     let netgroup = bytes(&rt, alloc, NETGROUP_FILE);
     let stored = bytes(&rt, alloc, BY_USER_FILE);
@@ -130,66 +176,53 @@ fn first_file_and_output(rt: HostRuntime) {
         ..FAIR
     };
     let damaged = (8, "", "yp: damaged lab/netgroup.byuser at 79 rule 5\n");
-    let left = Left::Bytes(&broken);
-    try_run(
-        &rt,
-        alloc,
-        &words,
-        &both,
-        damaged,
-        None,
-        &left,
-        "both are damaged",
-    );
-    let left = Left::Bytes(&stored);
+    try_scene(&rt, alloc, "both are damaged", &both, damaged, &broken);
     let unwritten = Scene {
         netgroup: &netgroup,
         output: &[0],
         ..FAIR
     };
     let fault = (4, "", "yp: write fault\n");
-    try_run(
-        &rt, alloc, &words, &unwritten, fault, None, &left, "no line",
-    );
-    let unflushed = Scene {
-        output: &[1],
-        ..unwritten
-    };
-    let fault = (4, STORED, "yp: write fault\n");
-    try_run(
-        &rt, alloc, &words, &unflushed, fault, None, &left, "no flush",
-    );
+    try_scene(&rt, alloc, "no line", &unwritten, fault, &stored);
 }
 
 /// Each of the four calls that load the netgroups fails in turn: nothing is stored. There is no fifth.
 #[test]
 fn each_netgroup_call_fails(rt: HostRuntime) {
     let alloc = rt.alloc();
-    let words = strings(&rt, alloc, BY_USER);
     let netgroup = bytes(&rt, alloc, NETGROUP_FILE);
     let stored = bytes(&rt, alloc, BY_USER_FILE);
     let fault = (10, "", "yp: disk fault in lab/netgroup\n");
     for call in 0..5 {
-        let scene = Scene {
-            netgroup: &netgroup,
-            netgroup_disk: &[call],
-            ..FAIR
-        };
-        let (told, left): (Told, &[u8]) = if call == 4 {
-            ((0, STORED, ""), &stored)
+        let calls = [call];
+        let scene = failing(&netgroup, &calls);
+        if call == 4 {
+            try_scene(&rt, alloc, "no such call", &scene, (0, STORED, ""), &stored);
         } else {
-            (fault, &[])
-        };
-        let left = Left::Bytes(left);
-        try_run(
-            &rt,
-            alloc,
-            &words,
-            &scene,
-            told,
-            None,
-            &left,
-            "the netgroups",
+            try_scene(&rt, alloc, "a call of the netgroups", &scene, fault, &[]);
+        }
+    }
+}
+
+/// Compares what the files that a crash may leave of the first disk stand for.
+fn try_crashes<R: RandomSource + Abort>(
+    rt: &R,
+    alloc: Global,
+    disks: &[NamedDisk<MemDisk>],
+    call: u64,
+    allowed: [Stands; 2],
+) {
+    let Some((first, _)) = disks.split_first() else {
+        return;
+    };
+    for kept in 0..CRASHES {
+        let image = first.disk.crashed(kept).expect(rt, "memory");
+        let is_allowed = allowed.contains(&stands_of(rt, alloc, image));
+        assert_same(
+            rt,
+            &(call, kept, is_allowed),
+            &(call, kept, true),
+            "a crash that keeps some writes",
         );
     }
 }
@@ -197,11 +230,7 @@ fn each_netgroup_call_fails(rt: HostRuntime) {
 /// Two calls load an empty file, and nine store a version on it.
 const LAST: u64 = 11;
 
-/// Behind the version of order 500, at the same moment.
-const NEXT: Told = (0, "lab/netgroup.byuser order 501 rows 1 generation 2\n", "");
-
-/// What is told where this call of the map's disk fails, and what a crash may leave then. The same words are done
-/// behind a crash.
+/// What is told where this call of the map's disk fails, and what a crash may leave then.
 fn try_disk<R: RandomSource + Abort>(
     rt: &R,
     alloc: Global,
@@ -209,35 +238,23 @@ fn try_disk<R: RandomSource + Abort>(
     call: u64,
     scene: &Scene<'_>,
 ) {
-    let done = (0, STORED, "");
-    let fault = (10, "", "yp: disk fault in lab/netgroup.byuser\n");
+    let note = "yp: disk fault in lab/netgroup.byuser\n";
     let (told, allowed) = if call == LAST {
-        (done, [NEW, NEW])
+        ((0, STORED.as_bytes(), [].as_slice()), [NEW, NEW])
     } else if call < 2 {
-        (fault, [None, None])
+        ((10, [].as_slice(), note.as_bytes()), [None, None])
     } else {
-        (fault, [None, NEW])
+        ((10, [].as_slice(), note.as_bytes()), [None, NEW])
     };
-    let second = if call < 2 { done } else { NEXT };
-    let crashed = Crashed {
-        allowed,
-        again: Scene {
-            netgroup: scene.netgroup,
-            ..FAIR
-        },
-        told: [done, second],
-    };
-    let left = Left::Any(crashed);
-    try_run(
+    let (status, outside) = play(rt, alloc, words, scene);
+    let (code, line, note, _) = told_of(&status, &outside);
+    assert_same(
         rt,
-        alloc,
-        words,
-        scene,
-        told,
-        None,
-        &left,
+        &(call, scene.stop, (code, line, note)),
+        &(call, scene.stop, told),
         "a call of the disk fails",
     );
+    try_crashes(rt, alloc, &outside.disks, call, allowed);
 }
 
 #[test]
@@ -253,9 +270,9 @@ fn each_call_of_the_map_fails(rt: HostRuntime) {
         };
         try_disk(&rt, alloc, &words, call, &from);
         let alone = Scene {
-            stop: None,
+            netgroup: &netgroup,
             disk: &[call],
-            ..from
+            ..FAIR
         };
         try_disk(&rt, alloc, &words, call, &alone);
     }

@@ -5,7 +5,6 @@ ghost use Rattle.yp_io.specs.MemDial.{IsNew};
 ghost use Rattle.yp_words.specs.Words.{disk_names, texts};
 ghost use Rattle.yp_office.specs.Disks.{names_of};
 
-use crate::given::assert_same;
 use std::alloc::{AllocError, Global};
 use std::process::Abort;
 use std::random::RandomSource;
@@ -52,31 +51,11 @@ pub const FAIR: Scene<'static> = Scene {
     output: &[],
 };
 
-/// The code, the output and the note of a run.
-pub type Told = (u8, &'static str, &'static str);
+/// The code, the output and the note of a run, and how many bytes its wire took.
+pub type Told<'a> = (u8, &'a [u8], &'a [u8], usize);
 
 /// The order and the rows of the version that a file stands for, and whether it is secure.
 pub type Stands = Option<(u32, usize, bool)>;
-
-/// What files that a crash may leave stand for: what stood before, or the new version. The same words are run again
-/// over each, where nothing fails, and tell this.
-#[derive(Clone, Copy)]
-pub struct Crashed<'a> {
-    pub allowed: [Stands; 2],
-    pub again: Scene<'a>,
-    pub told: [Told; 2],
-}
-
-/// What is left of the first file.
-#[derive(Clone, Copy)]
-pub enum Left<'a> {
-    /// These bytes.
-    Bytes(&'a [u8]),
-    /// A file that stands for this.
-    Standing(Stands),
-    /// What a crash may leave.
-    Any(Crashed<'a>),
-}
 
 pub fn strings<R: Abort>(rt: &R, alloc: Global, words: &[&str]) -> Vec<String> {
     let mut owned = Vec::new(alloc);
@@ -153,7 +132,7 @@ fn memory_of<R: Abort>(rt: &R, alloc: Global, words: &[String], scene: &Scene<'_
 }
 
 /// Runs these words.
-fn play<R: RandomSource + Abort>(
+pub fn play<R: RandomSource + Abort>(
     rt: &R,
     alloc: Global,
     words: &[String],
@@ -171,123 +150,27 @@ fn sent_of(dial: &MemDial) -> usize {
     }
 }
 
+pub fn told_of<'a>(status: &Status, outside: &'a Memory) -> Told<'a> {
+    (
+        status.code(),
+        outside.output.taken(),
+        outside.notes.taken(),
+        sent_of(&outside.dial),
+    )
+}
+
 /// The bytes of the first disk.
-fn file_of(disks: &[NamedDisk<MemDisk>]) -> &[u8] {
+pub fn file_of(disks: &[NamedDisk<MemDisk>]) -> &[u8] {
     match disks {
         [first, ..] => first.disk.bytes(),
         _ => &[],
     }
 }
 
-fn stands_of<R: RandomSource + Abort>(rt: &R, alloc: Global, file: &[u8]) -> Stands {
-    let disk = MemDisk::new(alloc, copied(rt, alloc, file), None, Vec::new(alloc));
+pub fn stands_of<R: RandomSource + Abort>(rt: &R, alloc: Global, file: Vec<u8>) -> Stands {
+    let disk = MemDisk::new(alloc, file, None, Vec::new(alloc));
     match Slot::new(disk).load(alloc, rt).expect(rt, "a sound file") {
         Some(version) => Some((version.order(), version.len(), version.secure())),
         None => None,
     }
-}
-
-/// Compares what is told; the row names the calls of the disk that fail, too.
-fn compare_told<R: Abort>(
-    rt: &R,
-    status: &Status,
-    outside: &Memory,
-    scene: &Scene<'_>,
-    told: Told,
-    row: &str,
-) {
-    let place = (scene.stop, scene.disk);
-    let came = (
-        place,
-        status.code(),
-        outside.output.taken(),
-        outside.notes.taken(),
-    );
-    let (code, line, note) = told;
-    let wanted = (place, code, line.as_bytes(), note.as_bytes());
-    assert_same(rt, &came, &wanted, row);
-}
-
-/// A crash may keep each of the last three writes, or drop it.
-const CRASHES: u64 = 8;
-
-/// Runs the words again over a file that stands for this.
-fn try_again<R: RandomSource + Abort>(
-    rt: &R,
-    alloc: Global,
-    words: &[String],
-    image: &[u8],
-    stands: Stands,
-    crashed: &Crashed<'_>,
-    row: &str,
-) {
-    let [_, stored] = crashed.allowed;
-    let [before, behind] = crashed.told;
-    let told = if stands == stored { behind } else { before };
-    let scene = Scene {
-        file: image,
-        ..crashed.again
-    };
-    let (status, outside) = play(rt, alloc, words, &scene);
-    compare_told(rt, &status, &outside, &scene, told, row);
-}
-
-/// Looks at each file that a crash may leave of the first disk, and goes on from that with no write and from that with
-/// all.
-fn try_images<R: RandomSource + Abort>(
-    rt: &R,
-    alloc: Global,
-    words: &[String],
-    disks: &[NamedDisk<MemDisk>],
-    crashed: &Crashed<'_>,
-    row: &str,
-) {
-    let Some((first, _)) = disks.split_first() else {
-        return;
-    };
-    for kept in 0..CRASHES {
-        let image = first.disk.crashed(kept).expect(rt, "memory");
-        let stands = stands_of(rt, alloc, &image);
-        assert_same(rt, &crashed.allowed.contains(&stands), &true, row);
-        if kept == 0 || kept == CRASHES - 1 {
-            try_again(rt, alloc, words, &image, stands, crashed, row);
-        }
-    }
-}
-
-/// Compares what is left of the first file.
-fn compare_left<R: RandomSource + Abort>(
-    rt: &R,
-    alloc: Global,
-    words: &[String],
-    disks: &[NamedDisk<MemDisk>],
-    left: &Left<'_>,
-    row: &str,
-) {
-    match left {
-        Left::Bytes(bytes) => assert_same(rt, &file_of(disks), bytes, row),
-        Left::Standing(stands) => {
-            let came = stands_of(rt, alloc, file_of(disks));
-            assert_same(rt, &came, stands, row);
-        }
-        Left::Any(crashed) => try_images(rt, alloc, words, disks, crashed, row),
-    }
-}
-
-/// Runs words, and compares what is told, how many bytes the wire took, and what is left.
-pub fn try_run<R: RandomSource + Abort>(
-    rt: &R,
-    alloc: Global,
-    words: &[String],
-    scene: &Scene<'_>,
-    told: Told,
-    sent: Option<usize>,
-    left: &Left<'_>,
-    row: &str,
-) {
-    let (status, outside) = play(rt, alloc, words, scene);
-    compare_told(rt, &status, &outside, scene, told, row);
-    let came = sent.map(|_| sent_of(&outside.dial));
-    assert_same(rt, &came, &sent, row);
-    compare_left(rt, alloc, words, &outside.disks, left, row);
 }

@@ -1,11 +1,11 @@
 //! Transfers, by their mode, their flag and what stood.
 
-use crate::given::bytes;
+use crate::given::{assert_same, bytes};
 use crate::source::{
     BODY, BOTH_CELLS, BROKEN_BODY, CELLS, HOSTS_FILE, REFUSED, REPLIES, SECURE_BODY, SECURE_FILE,
     SKEWED,
 };
-use crate::stage::{FAIR, Left, Scene, strings, try_run};
+use crate::stage::{FAIR, Scene, file_of, play, strings, told_of};
 use std::alloc::Global;
 use std::process::Abort;
 use std::random::RandomSource;
@@ -203,20 +203,33 @@ const CASES: [Case; 11] = [
     },
 ];
 
-fn try_case<R: RandomSource + Abort>(rt: &R, alloc: Global, case: &Case) {
+/// Compares what is told over a file and a wire, and the file that is left.
+fn try_scene<'a, R: RandomSource + Abort>(
+    rt: &R,
+    alloc: Global,
+    case: &Case,
+    file: &'a [u8],
+    wire: &'a [u8],
+    left: &[u8],
+) {
     let words = strings(rt, alloc, case.words);
+    let scene = Scene { file, wire, ..FAIR };
+    let (status, outside) = play(rt, alloc, &words, &scene);
+    let came = (told_of(&status, &outside), file_of(&outside.disks));
+    let told = (
+        case.code,
+        case.line.as_bytes(),
+        case.note.as_bytes(),
+        case.calls as usize * CALL_LEN,
+    );
+    assert_same(rt, &came, &(told, left), case.row);
+}
+
+fn try_case<R: RandomSource + Abort>(rt: &R, alloc: Global, case: &Case) {
     let file = bytes(rt, alloc, case.file);
     let wire = bytes(rt, alloc, case.replies);
     let left = bytes(rt, alloc, case.left);
-    let scene = Scene {
-        file: &file,
-        wire: &wire,
-        ..FAIR
-    };
-    let told = (case.code, case.line, case.note);
-    let sent = Some(case.calls as usize * CALL_LEN);
-    let left = Left::Bytes(&left);
-    try_run(rt, alloc, &words, &scene, told, sent, &left, case.row);
+    try_scene(rt, alloc, case, &file, &wire, &left);
 }
 
 #[test]

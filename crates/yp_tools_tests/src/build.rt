@@ -1,10 +1,13 @@
 //! `build` over files in memory, laid out by hand.
 
 use crate::given::{assert_same, bytes};
-use crate::stage::{Crashed, FAIR, Scene, Stands, stands_of, strings, try_crash, try_words};
+use crate::stage::{FAIR, Scene, play, strings, told_of, try_words};
 use std::alloc::Global;
 use std::process::Abort;
 use std::random::RandomSource;
+use yp_io::MemDisk;
+use yp_slot::Slot;
+use yp_tools::NamedDisk;
 
 const BUILD: [&str; 3] = ["build", "m1", "lab/hosts.byname"];
 
@@ -15,6 +18,9 @@ const PLAIN: [&str; 4] = ["build", "m1", "lab/hosts.byname", "plain"];
 const HOSTS: &[u8] = b"10.0.0.1 alpha\n";
 
 const MAP: &[u8] = b"hosts.byname";
+
+/// A crash may keep each of the last three writes, or drop it.
+const CRASHES: u64 = 8;
 
 const DISK_FAULT: &str = "yp: disk fault in lab/hosts.byname\n";
 
@@ -37,6 +43,17 @@ const ORDER: &str = "00000064";
 /// Master `m1`, and the row of `alpha`, behind the order.
 const REST: &str = "00000002 6d310000 00000001
     00000005 616c7068 61000000 0000000e 31302e30 2e302e31 20616c70 68610000";
+
+/// The order of the version that a file stands for, and whether it is secure.
+type Stands = Option<(u32, bool)>;
+
+fn stands_of<R: RandomSource + Abort>(rt: &R, alloc: Global, file: Vec<u8>) -> Stands {
+    let disk = MemDisk::new(alloc, file, None, Vec::new(alloc));
+    match Slot::new(disk).load(alloc, rt).expect(rt, "a sound file") {
+        Some(version) => Some((version.order(), version.secure())),
+        None => None,
+    }
+}
 
 /// The words of a build, and the format that comes.
 #[derive(Clone, Copy)]
@@ -182,47 +199,68 @@ fn built_behind_a_version(rt: HostRuntime) {
     }
 }
 
-/// A file, the last of the calls of its disk when a version is stored on it, what it stands for, and the new version;
-/// and the lines that come of a build over the one and over the other.
+/// A file, the last of the calls of its disk when a version is stored on it, and the line and the version that come.
 #[derive(Clone, Copy)]
 struct Site<'a> {
     file: &'a [u8],
     last: u64,
-    stands: [Stands; 2],
-    lines: [&'a str; 2],
+    line: &'a str,
+    new: (u32, bool),
+}
+
+/// The call that fails, and once more where each one behind it fails, too.
+type Place = (u64, Option<u64>);
+
+/// Compares what the files that a crash may leave stand for.
+fn try_crashes<R: RandomSource + Abort>(
+    rt: &R,
+    alloc: Global,
+    disks: &[NamedDisk<MemDisk>],
+    place: Place,
+    allowed: [Stands; 2],
+) {
+    for named in disks {
+        for kept in 0..CRASHES {
+            let image = named.disk.crashed(kept).expect(rt, "memory");
+            let is_allowed = allowed.contains(&stands_of(rt, alloc, image));
+            assert_same(
+                rt,
+                &(place, kept, is_allowed),
+                &(place, kept, true),
+                "a crash that keeps some writes",
+            );
+        }
+    }
 }
 
 /// A build whose disk fails at a call, or from it on. It is told, and each file that a crash may leave stands for what
-/// stood or for the new version; once the last call was done, for that alone. Behind a crash the same build goes on
-/// from there.
+/// stood or for the new version; once the last call was done, for that alone.
 fn try_fault<R: RandomSource + Abort>(
     rt: &R,
     alloc: Global,
     words: &[String],
     site: &Site<'_>,
+    before: Stands,
     call: u64,
     scene: &Scene<'_>,
 ) {
-    let [first, second] = site.lines;
-    let [before, new] = site.stands;
-    let (told, before) = if call == site.last {
-        ((0, first.as_bytes(), [].as_slice()), new)
+    let new = Some(site.new);
+    let (told, allowed) = if call == site.last {
+        ((0, site.line.as_bytes(), [].as_slice()), [new, new])
     } else {
-        ((10, [].as_slice(), DISK_FAULT.as_bytes()), before)
+        ((10, [].as_slice(), DISK_FAULT.as_bytes()), [before, new])
     };
-    let crashed = Crashed {
-        allowed: [before, new],
-        again: Scene {
-            input: HOSTS,
-            ..FAIR
-        },
-        outputs: [first.as_bytes(), second.as_bytes()],
-    };
-    try_crash(rt, alloc, words, scene, told, &crashed, "a call fails");
+    let place = (call, scene.stop);
+    let (status, outside) = play(rt, alloc, words, scene);
+    let came = (place, told_of(&status, &outside), outside.disks.len());
+    assert_same(rt, &came, &(place, told, 1), "a call fails");
+    try_crashes(rt, alloc, &outside.disks, place, allowed);
 }
 
 /// The same for each call up to the last.
 fn try_faults<R: RandomSource + Abort>(rt: &R, alloc: Global, words: &[String], site: &Site<'_>) {
+    let file = Vec::from_slice(alloc, site.file).expect(rt, "memory");
+    let before = stands_of(rt, alloc, file);
     for call in 0..=site.last {
         let from = Scene {
             input: HOSTS,
@@ -235,8 +273,8 @@ fn try_faults<R: RandomSource + Abort>(rt: &R, alloc: Global, words: &[String], 
             disk: &[call],
             ..from
         };
-        try_fault(rt, alloc, words, site, call, &from);
-        try_fault(rt, alloc, words, site, call, &only);
+        try_fault(rt, alloc, words, site, before, call, &from);
+        try_fault(rt, alloc, words, site, before, call, &only);
     }
 }
 
@@ -248,8 +286,8 @@ fn each_disk_call_fails(rt: HostRuntime) {
     let empty = Site {
         file: &[],
         last: 11,
-        stands: [None, Some((100, false))],
-        lines: ["lab/hosts.byname order 100 rows 1 generation 1\n", LINE_101],
+        line: "lab/hosts.byname order 100 rows 1 generation 1\n",
+        new: (100, false),
     };
     try_faults(&rt, alloc, &words, &empty);
     // Four calls load this one, and five store a version on it.
@@ -257,92 +295,8 @@ fn each_disk_call_fails(rt: HostRuntime) {
     let stored = Site {
         file: &file,
         last: 9,
-        stands: [Some((100, false)), Some((101, false))],
-        lines: [LINE_101, "lab/hosts.byname order 102 rows 1 generation 3\n"],
+        line: LINE_101,
+        new: (101, false),
     };
     try_faults(&rt, alloc, &words, &stored);
-}
-
-/// Reads of the text and writes of the output that fail, what comes, and whether the version is stored.
-#[derive(Clone, Copy)]
-struct Fault<'a> {
-    row: &'a str,
-    reads: &'a [u64],
-    writes: &'a [u64],
-    told: (u8, &'a str, &'a str),
-    stored: bool,
-}
-
-const FIRST_LINE: &str = "lab/hosts.byname order 100 rows 1 generation 1\n";
-
-/// The text takes a read, and one more that finds its end; the line takes a write and a flush.
-const FAULTS: [Fault<'static>; 6] = [
-    Fault {
-        row: "the text isn't read",
-        reads: &[0],
-        writes: &[],
-        told: (3, "", "yp: read fault\n"),
-        stored: false,
-    },
-    Fault {
-        row: "the end of the text isn't read",
-        reads: &[1],
-        writes: &[],
-        told: (3, "", "yp: read fault\n"),
-        stored: false,
-    },
-    Fault {
-        row: "no third read",
-        reads: &[2],
-        writes: &[],
-        told: (0, FIRST_LINE, ""),
-        stored: true,
-    },
-    Fault {
-        row: "the line isn't written",
-        reads: &[],
-        writes: &[0],
-        told: (4, "", "yp: write fault\n"),
-        stored: true,
-    },
-    Fault {
-        row: "the line isn't flushed",
-        reads: &[],
-        writes: &[1],
-        told: (4, FIRST_LINE, "yp: write fault\n"),
-        stored: true,
-    },
-    Fault {
-        row: "no third call of the output",
-        reads: &[],
-        writes: &[2],
-        told: (0, FIRST_LINE, ""),
-        stored: true,
-    },
-];
-
-#[test]
-fn text_and_output_fail(rt: HostRuntime) {
-    let alloc = rt.alloc();
-    let file = bytes(&rt, alloc, &[CELLS, OPEN, ORDER, REST]);
-    for fault in &FAULTS {
-        let scene = Scene {
-            input: HOSTS,
-            reads: fault.reads,
-            writes: fault.writes,
-            ..FAIR
-        };
-        let (code, output, note) = fault.told;
-        let told = (code, output.as_bytes(), note.as_bytes());
-        let left: &[u8] = if fault.stored { &file } else { &[] };
-        try_words(
-            &rt,
-            alloc,
-            &BUILD,
-            &scene,
-            told,
-            Some((MAP, left)),
-            fault.row,
-        );
-    }
 }

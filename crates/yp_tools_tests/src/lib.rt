@@ -8,8 +8,6 @@ mod check;
 #[cfg(test)]
 mod given;
 #[cfg(test)]
-mod notes;
-#[cfg(test)]
 mod once;
 #[cfg(test)]
 mod question;

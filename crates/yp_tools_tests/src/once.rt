@@ -1,7 +1,7 @@
 //! `once` over memory: its calls and replies written out by hand, from RFC 5531 and yp.x.
 
 use crate::given::{assert_same, bytes};
-use crate::stage::{FAIR, Scene, front, strings, try_strings, try_words};
+use crate::stage::{FAIR, Scene, strings, try_strings, try_words};
 use std::alloc::Global;
 use std::process::Abort;
 
@@ -82,16 +82,16 @@ fn many_fragments(rt: HostRuntime) {
     }
 }
 
-/// The longest value.
-const LONGEST: &[u8] = &[b'x'; VALUE_MAX];
-
-/// A row with that value.
-fn long_row<R: Abort>(rt: &R, alloc: Global, key: &[u8]) -> String {
-    let key = str::from_utf8(key).expect(rt, "a text");
-    let value = str::from_utf8(LONGEST).expect(rt, "a text");
-    let mut row = String::from_str(alloc, key).expect(rt, "memory");
+/// A row whose value is so many bytes `x`.
+fn long_row<R: Abort>(rt: &R, alloc: Global, key: &[u8], len: usize) -> String {
+    let mut row = String::new(alloc);
+    for byte in key {
+        row.push(char::from(*byte)).expect(rt, "memory");
+    }
     row.push('=').expect(rt, "memory");
-    row.push_str(value).expect(rt, "memory");
+    for _ in 0..len {
+        row.push('x').expect(rt, "memory");
+    }
     row
 }
 
@@ -124,7 +124,7 @@ fn reply_of_nine_fragments<R: Abort>(rt: &R, alloc: Global) -> Vec<u8> {
 fn value_in_nine_fragments(rt: HostRuntime) {
     let alloc = rt.alloc();
     let mut words = strings(&rt, alloc, &["once", "lab/hosts.byname"]);
-    let row = long_row(&rt, alloc, b"alpha");
+    let row = long_row(&rt, alloc, b"alpha", VALUE_MAX);
     words.push(row).expect(&rt, "memory");
     let call = bytes(&rt, alloc, &[MATCH]);
     let reply = reply_of_nine_fragments(&rt, alloc);
@@ -143,7 +143,7 @@ fn longest_rows<R: Abort>(rt: &R, alloc: Global) -> Vec<String> {
     let mut words = strings(rt, alloc, &["once", "lab/hosts.byname"]);
     for first in b'A'..=b'P' {
         for second in b'A'..=b'P' {
-            let row = long_row(rt, alloc, &[first, second]);
+            let row = long_row(rt, alloc, &[first, second], VALUE_MAX);
             words.push(row).expect(rt, "memory");
         }
     }
@@ -169,55 +169,81 @@ fn rows_past_a_limit(rt: HostRuntime) {
     try_strings(&rt, alloc, &words, &scene, absent, None, "257 words");
 }
 
-/// A call that fails, and how many bytes of the replies, of 52 bytes each, are written by then.
-type Fault = (u64, usize);
-
-/// Each record takes a read for its head and one for its body, and the end of the input one.
-const READS: [Fault; 5] = [(0, 0), (1, 0), (2, 52), (3, 52), (4, 104)];
-
-/// Each reply takes a write and a flush.
-const WRITES: [Fault; 4] = [(0, 0), (1, 52), (2, 52), (3, 104)];
-
-#[test]
-fn each_read_fails(rt: HostRuntime) {
-    let alloc = rt.alloc();
-    let calls = bytes(&rt, alloc, &[MATCH, MATCH]);
-    let replies = bytes(&rt, alloc, &[MATCH_REPLY, MATCH_REPLY]);
-    for (call, written) in &READS {
-        let scene = Scene {
-            input: &calls,
-            read: 80,
-            reads: &[*call],
-            ..FAIR
-        };
-        let output = front(&replies, *written);
-        let told = (3, output, b"yp: read fault\n".as_slice());
-        try_words(&rt, alloc, &SERVED, &scene, told, None, "a read fails");
-    }
+/// Reads and writes that fail, and whether the first reply is written.
+#[derive(Clone, Copy)]
+struct Fault<'a> {
+    row: &'a str,
+    reads: &'a [u64],
+    writes: &'a [u64],
+    replied: bool,
 }
 
+/// Each record takes a read for its head and one for its body, each reply a write and a flush.
+const FAULTS: [Fault<'static>; 7] = [
+    Fault {
+        row: "the first head isn't read",
+        reads: &[0],
+        writes: &[],
+        replied: false,
+    },
+    Fault {
+        row: "the first body isn't read",
+        reads: &[1],
+        writes: &[],
+        replied: false,
+    },
+    Fault {
+        row: "the second head isn't read",
+        reads: &[2],
+        writes: &[],
+        replied: true,
+    },
+    Fault {
+        row: "the second body isn't read",
+        reads: &[3],
+        writes: &[],
+        replied: true,
+    },
+    Fault {
+        row: "the first reply isn't written",
+        reads: &[],
+        writes: &[0],
+        replied: false,
+    },
+    Fault {
+        row: "the first reply isn't flushed",
+        reads: &[],
+        writes: &[1],
+        replied: true,
+    },
+    Fault {
+        row: "the second reply isn't written",
+        reads: &[],
+        writes: &[2],
+        replied: true,
+    },
+];
+
 #[test]
-fn each_call_of_the_output_fails(rt: HostRuntime) {
+fn one_failing_call(rt: HostRuntime) {
     let alloc = rt.alloc();
     let calls = bytes(&rt, alloc, &[MATCH, MATCH]);
-    let replies = bytes(&rt, alloc, &[MATCH_REPLY, MATCH_REPLY]);
-    for (call, written) in &WRITES {
+    let reply = bytes(&rt, alloc, &[MATCH_REPLY]);
+    for fault in &FAULTS {
+        let (code, note) = if fault.writes.is_empty() {
+            (3, b"yp: read fault\n".as_slice())
+        } else {
+            (4, b"yp: write fault\n".as_slice())
+        };
+        let output: &[u8] = if fault.replied { &reply } else { &[] };
         let scene = Scene {
             input: &calls,
             read: 80,
-            writes: &[*call],
+            reads: fault.reads,
+            writes: fault.writes,
             ..FAIR
         };
-        let output = front(&replies, *written);
-        let told = (4, output, b"yp: write fault\n".as_slice());
-        try_words(
-            &rt,
-            alloc,
-            &SERVED,
-            &scene,
-            told,
-            None,
-            "a write or a flush fails",
-        );
+        let told = (code, output, note);
+        try_words(&rt, alloc, &SERVED, &scene, told, None, fault.row);
     }
 }
