@@ -1,19 +1,23 @@
 //! Where workers work.
 
-ghost use Rattle.std.specs.Prelude.{◌≡◌, ◌≤◌, ◌<◌, ◌+◌, [], length, vec_capacity};
+ghost use Rattle.std.specs.Prelude.{◌≡◌, ◌≤◌, ◌<◌, ◌+◌, [], length, true, vec_capacity};
 ghost use Rattle.std.specs.List.{All};
+ghost use Rattle.yp_io.specs.Counts.{HasRisen};
 ghost use Rattle.yp_session.specs.Hosts.{conduct_of};
 ghost use Rattle.yp_worker.specs.Receptions.{IsFair, IsKept, IsUnder, opening_of, terms_of};
-ghost use Rattle.yp_serve.specs.Serving.{at_work, conduct_at, IsAtStart};
+ghost use Rattle.yp_turns.specs.Turns.{box_of};
+ghost use Rattle.yp_serve.specs.Serving.{at_work, conduct_at, IsAtStart, ServesDatagrams};
+ghost use Rattle.yp_serve.specs.Posts.{IsSeated};
 
-use crate::crew::{Seat, gather, run_all};
+use crate::crew::{Post, Seat, gather, run_all};
+use crate::mail::{Mailbag, Mailed, Mailman};
 use std::alloc::Global;
 use std::random::RandomSource;
 use std::sync::ledger::{Blank, Ledger, Share};
 use std::sync::{Mutex, Wait};
 use std::thread::Threads;
 use yp_board::Tell;
-use yp_io::{Clock, Dial, Disk, Texts};
+use yp_io::{Clock, Dial, Disk, Inbox, Texts};
 use yp_listen::Listen;
 use yp_session::{CALLS_MAX, Session};
 use yp_shared::Locked;
@@ -91,10 +95,10 @@ impl<
         )
     }
 
-    /// Makes a worker of each reader.
-    fn seat_all<E: Ledger>(
+    /// Makes a worker of each reader, behind that of the datagrams.
+    fn seat_all<E: Ledger, I>(
         &self,
-        seats: &mut Vec<Seat<J, E, WorkerHost<'a, J, D, B, A, T, C, &'a R>, &'a G>>,
+        posts: &mut Vec<Post<J, E, WorkerHost<'a, J, D, B, A, T, C, &'a R>, &'a G, I>>,
         mut sessions: Vec<Session>,
         mut readers: Vec<B::Reader>,
         out: &mut Share<J>,
@@ -105,12 +109,12 @@ impl<
         requires most { (self.now.most ≡ J.most) × (self.now.most ≤ CALLS_MAX) }
         requires readers { length readers.items ≡ length sessions.items }
         requires knows { All (λ reader. IsAtStart J.catalogue J.starts (B.Reader.seen reader)) readers.items }
-        requires none { seats.old.items ≡ [] }
-        requires room { length sessions.items ≤ vec_capacity seats.old }
+        requires one { length posts.old.items ≡ 1 }
+        requires room { length sessions.items + 1 ≤ vec_capacity posts.old }
         requires out { (out.old.parts ≡ length sessions.items + 1) × (out.old.amount ≡ 0) }
         requires ended { (ended.old.parts ≡ length sessions.items + 1) × (ended.old.amount ≡ 0) }
-        ensures seats { All (λ seat. seat ≡ at_work) seats.new.items }
-        ensures count { length seats.new.items ≡ length sessions.items }
+        ensures posts { IsSeated at_work posts.old.items posts.new.items }
+        ensures count { length posts.new.items ≡ length sessions.items + 1 }
         ensures out { (out.new.parts ≡ 1) × (out.new.amount ≡ 0) }
         ensures ended { (ended.new.parts ≡ 1) × (ended.new.amount ≡ 0) }
     {
@@ -118,7 +122,7 @@ impl<
             let Some(reader) = readers.pop() else {
                 unreachable!();
             };
-            seats.push_reserved(self.seat(reader, session, out, ended));
+            posts.push_reserved(Post::Connections(self.seat(reader, session, out, ended)));
         }
     }
 }
@@ -134,16 +138,18 @@ impl<
     G: Gate + Sync,
     R: Threads + Wait + RandomSource + Sync,
 > Workplace<'a, J, D, B, A, T, C, G, R> {
-    /// Serves the connections of a listener by workers in threads, one for each session, which have room in `seats`.
-    pub(crate) fn serve<E: Ledger + Send + Sync, L: Listen + Send>(
+    /// Serves the connections of a listener by workers in threads, one for each session, which have room in `posts`,
+    /// and the datagrams of an inbox beside them.
+    pub(crate) fn serve<E: Ledger + Send + Sync, L: Listen + Send, I: Inbox + Send + Drop>(
         &self,
-        mut seats: Vec<Seat<J, E, WorkerHost<'a, J, D, B, A, T, C, &'a R>, &'a G>>,
+        mut posts: Vec<Post<J, E, WorkerHost<'a, J, D, B, A, T, C, &'a R>, &'a G, I>>,
         sessions: Vec<Session>,
         readers: Vec<B::Reader>,
         listen: L,
         out: Blank,
         ended: Blank,
-    ) -> (L, Tally)
+        bag: Mailbag<I, B::Reader>,
+    ) -> (L, Tally, Mailed<I, B::Reader>)
     where
         B::Reader: Send + Drop,
         L::In: Send,
@@ -153,18 +159,23 @@ impl<
         requires most { (self.now.most ≡ J.most) × (self.now.most ≤ CALLS_MAX) }
         requires readers { length readers.items ≡ length sessions.items }
         requires knows { All (λ reader. IsAtStart J.catalogue J.starts (B.Reader.seen reader)) readers.items }
-        requires none { seats.items ≡ [] }
+        requires none { posts.items ≡ [] }
         requires some { 0 < length sessions.items }
-        requires room { length sessions.items ≤ vec_capacity seats }
+        requires room { length sessions.items + 1 ≤ vec_capacity posts }
         requires opening { opening_of L.past L.most L.accepted L.faults listen ≡ J.opening }
         requires fair { IsFair J.opening.past }
         requires out { (out.name ≡ J.name) × (out.parts ≡ J.parts) × (out.parts ≡ length sessions.items + 1) }
         requires ended { (ended.name ≡ E.name) × (ended.parts ≡ E.parts)
             × (ended.parts ≡ length sessions.items + 1) }
-        ensures { IsKept (conduct_at B.Reader.seen B.Reader.stepped J.text J.hosts)
+        requires bag { IsAtStart J.catalogue J.starts (B.Reader.seen bag.reader) }
+        ensures kept { IsKept (conduct_at B.Reader.seen B.Reader.stepped J.text J.hosts)
             (terms_of J.catalogue J.starts J.most) J.opening
             (opening_of L.past L.most L.accepted L.faults result.0)
             result.1.connections result.1.calls result.1.listen_fault 0 1 }
+        ensures mail { ServesDatagrams (conduct_at B.Reader.seen B.Reader.stepped J.text J.hosts)
+            J.catalogue J.starts (B.Reader.seen result.2.reader).known bag.turns result.2.fault
+            (box_of I.past I.turns I.quiets bag.inbox) (box_of I.past I.turns I.quiets result.2.inbox) }
+        ensures cause { result.2.fault ≡ true → HasRisen (I.faults bag.inbox) (I.faults result.2.inbox) }
     {
         let (book, mut share) = out.open::<J>();
         let (ends, mut mine) = ended.open::<E>();
@@ -174,10 +185,19 @@ impl<
             WorkerHost<'a, J, D, B, A, T, C, &'a R>,
             L,
         >::new(listen, book, ends));
-        self.seat_all(&mut seats, sessions, readers, &mut share, &mut mine);
-        run_all(self.rt, &listening, &mut seats);
+        let host = WorkerHost::new(self.alloc, self.rt, bag.reader, self.publisher, self.desk);
+        let mailman = Mailman::new(bag.inbox, host, bag.room, bag.turns);
+        posts.push_reserved(Post::Datagrams(mailman));
+        self.seat_all(&mut posts, sessions, readers, &mut share, &mut mine);
+        let posts = run_all(self.rt, &listening, posts);
         let mut pass = Pass::new(share, mine);
-        gather(&mut pass, seats);
-        listening.into_inner().close(&mut pass)
+        let (inbox, host, fault) = gather(&mut pass, posts).into_parts();
+        let mailed = Mailed {
+            inbox,
+            reader: host.into_reader(),
+            fault,
+        };
+        let (listen, tally) = listening.into_inner().close(&mut pass);
+        (listen, tally, mailed)
     }
 }

@@ -15,6 +15,8 @@ pub enum Kind {
     Accepted,
     Piece,
     Replied,
+    /// The inbox was asked to send a datagram. It is of no connection, and has the number 0.
+    Asked,
 }
 
 /// A worker that comes to the first point waits there for the second.
@@ -54,6 +56,13 @@ impl<'h> Holding<'h> {
         self.gave_up.load(Ordering::SeqCst)
     }
 
+    /// Counts a datagram that the inbox was asked to send.
+    pub fn ask(&self) {
+        if let Some(count) = self.count(Kind::Asked, 0) {
+            count.fetch_add(1, Ordering::SeqCst);
+        }
+    }
+
     fn count(&self, kind: Kind, connection: u64) -> Option<&AtomicU64> {
         if connection > CONNECTIONS {
             return None;
@@ -62,6 +71,7 @@ impl<'h> Holding<'h> {
             Kind::Accepted => connection * 3,
             Kind::Piece => connection * 3 + 1,
             Kind::Replied => connection * 3 + 2,
+            Kind::Asked => 0,
         };
         self.counts.get(place as usize)
     }
@@ -74,7 +84,8 @@ impl<'h> Holding<'h> {
         }
     }
 
-    fn wait_for(&self, mark: Mark) {
+    /// Waits until a mark is reached, or all turns are over.
+    pub fn wait_for(&self, mark: Mark) {
         for _ in 0..TURNS {
             if self.is_reached(mark) {
                 return;

@@ -6,6 +6,8 @@ mod gate;
 #[cfg(test)]
 mod given;
 #[cfg(test)]
+mod inbox;
+#[cfg(test)]
 mod sample;
 #[cfg(test)]
 mod serve;

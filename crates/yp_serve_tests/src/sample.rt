@@ -15,8 +15,11 @@ use std::process::Abort;
 use std::random::RandomSource;
 use std::sync::{Arc, Wait};
 use yp_board::{Catalog, MapName};
-use yp_io::{MemDial, MemDisk, MemSink, MemSource, MemTexts, Pair, Peer, SetClock, TextFile};
+use yp_io::{
+    Letter, MemDial, MemDisk, MemSink, MemSource, MemTexts, Pair, Peer, SetClock, TextFile,
+};
 use yp_listen::{Called, MemCall, MemListen};
+use yp_mem::MemInbox;
 use yp_publish::laws::starts_are_shown;
 use yp_publish::{Loaded, Publisher, load_all};
 use yp_readers::{Naming, Opened, Reader, Writer, board};
@@ -41,6 +44,12 @@ pub const OLD: &str = "80000030 00000001
 pub const NEW: &str = "80000030 00000001
     00000001 00000000 00000000 00000000 00000000 00000001 0000000e 31302e30
     2e302e32 20616c70 68610000";
+
+// A call of NULL in a datagram, and the reply to it.
+pub const NULL: &str =
+    "00000007 00000000 00000002 000186a4 00000002 00000000 00000000 00000000 00000000 00000000";
+
+pub const NULL_DONE: &str = "00000007 00000001 00000000 00000000 00000000 00000000";
 
 // ALL of hosts.byname of `lab`, and the reply to it of the version in the file.
 pub const ALL: &str = "80000040 00000002
@@ -70,6 +79,12 @@ pub const FILE: &[&str] = &[
 
 // The text that maps are made of.
 const TEXT: &[u8] = b"10.0.0.2 alpha\n";
+
+/// The sender of datagrams.
+pub const SENDER: Peer = Peer {
+    addr: [127, 0, 0, 1],
+    port: 9,
+};
 
 /// A publisher of one map.
 pub type Maps<'r, J, R> = Publisher<MemDisk, Writer<J, &'r R>>;
@@ -121,6 +136,21 @@ pub fn listener(rt: &impl Abort, alloc: Global, inputs: &[&[&str]], failing: &[u
     let most = u32::from(port);
     let failing = failing.to_vec(alloc).expect(rt, "memory for numbers");
     MemListen::new(alloc, arrivals, most, failing)
+}
+
+/// An inbox to which these datagrams come in turn, from port 9 of the own host. These calls of it fail.
+pub fn inbox(rt: &impl Abort, alloc: Global, mail: &[&[&str]], failing: &[u64]) -> MemInbox {
+    let mut letters = Vec::new(alloc);
+    for letter in mail {
+        letters
+            .push(Some(Letter {
+                peer: SENDER,
+                bytes: bytes(rt, alloc, *letter),
+            }))
+            .expect(rt, "memory for a letter");
+    }
+    let failing = failing.to_vec(alloc).expect(rt, "memory for numbers");
+    MemInbox::new(alloc, letters, failing)
 }
 
 // The catalogue of the host `m1`, with one map.

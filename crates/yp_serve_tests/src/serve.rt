@@ -2,8 +2,9 @@
 
 ghost use Rattle.std.specs.Prelude.{◌≡◌, ◌≤◌};
 
-use crate::gate::{Hold, Holding, Kind};
+use crate::gate::{Hold, Holding, Kind, Mark};
 use crate::given::{assert_same, bytes};
+use crate::inbox::Behind;
 use crate::sample::*;
 use std::alloc::Global;
 use std::marker::Brand;
@@ -12,8 +13,9 @@ use std::random::RandomSource;
 use std::sync::Wait;
 use std::thread::Threads;
 use yp_listen::MemListen;
+use yp_mem::MemInbox;
 use yp_readers::{Naming, Opened};
-use yp_serve::{ServeSpec, serve_connections};
+use yp_serve::{ServeSpec, serve};
 use yp_worker::Tally;
 
 // What is served: the file of the map, the inputs of connections, how many workers there are, and how these are held.
@@ -25,11 +27,34 @@ struct Case<'c> {
     workers: u32,
     holds: &'c [Hold],
     failing: &'c [u64],
+    post: Post<'c>,
 }
 
-// What came of it: the tally, and what the connections had taken that went back, one after the other; or memory ran
-// out. And how often a worker was held for too long.
-type Came = (Option<(Tally, Vec<u8>)>, u64);
+// The datagrams that come in turn, the most turns, and a mark before which no turn is taken. These calls of the inbox
+// fail.
+#[derive(Clone, Copy)]
+struct Post<'c> {
+    mail: &'c [&'c [&'c str]],
+    turns: u32,
+    until: Option<Mark>,
+    failing: &'c [u64],
+}
+
+// No turn of an inbox.
+const NO_POST: Post<'static> = Post {
+    mail: &[],
+    turns: 0,
+    until: None,
+    failing: &[],
+};
+
+// What came of it: the tally, what the connections had taken that went back, one after the other, and what came of the
+// inbox; or memory ran out. And how often a worker was held for too long.
+type Came = (Option<(Tally, Vec<u8>, Mailed)>, u64);
+
+// What came of an inbox: how many turns there were, what it sent to the sender, one after the other, and whether it is
+// said to have failed.
+type Mailed = (u64, Vec<u8>, bool);
 
 // Adds what the connection from this port had taken, where it went back.
 fn add_taken(rt: &impl Abort, listen: &MemListen, port: u16, all: &mut Vec<u8>) {
@@ -50,6 +75,18 @@ fn taken(rt: &impl Abort, alloc: Global, listen: &MemListen) -> Vec<u8> {
     all
 }
 
+// What came of an inbox.
+fn mailed(rt: &impl Abort, alloc: Global, inbox: &MemInbox, fault: bool) -> Mailed {
+    let mut sent = Vec::new(alloc);
+    for letter in inbox.letters() {
+        if letter.peer == SENDER {
+            sent.extend_from_slice(&letter.bytes)
+                .expect(rt, "memory for bytes");
+        }
+    }
+    (inbox.turns(), sent, fault)
+}
+
 // Serves a case, from the opening of a board on.
 fn served<J: Naming + Send + Sync, R: Threads + Wait + RandomSource + Abort + Sync>(
     rt: &R,
@@ -66,10 +103,22 @@ fn served<J: Naming + Send + Sync, R: Threads + Wait + RandomSource + Abort + Sy
     let spec = ServeSpec {
         workers: case.workers,
         most: 9,
+        turns: case.post.turns,
     };
     let desk = desk(rt, alloc);
-    let came = match serve_connections(alloc, rt, publisher, readers, desk, listen, &spec, &gate) {
-        Ok(served) => Some((served.tally, taken(rt, alloc, &served.listen))),
+    let inbox = Behind::new(
+        inbox(rt, alloc, case.post.mail, case.post.failing),
+        &gate,
+        case.post.until,
+    );
+    let came = match serve(
+        alloc, rt, publisher, readers, desk, listen, inbox, &spec, &gate,
+    ) {
+        Ok(served) => Some((
+            served.tally,
+            taken(rt, alloc, &served.listen),
+            mailed(rt, alloc, served.inbox.inside(), served.inbox_fault),
+        )),
         Err(_) => None,
     };
     (came, gate.gave_up())
@@ -78,12 +127,19 @@ fn served<J: Naming + Send + Sync, R: Threads + Wait + RandomSource + Abort + Sy
 // What is wanted: how many connections came, how many records were read, whether an accept failed, and the replies.
 type Wanted<'w> = (u64, u64, bool, &'w [&'w str]);
 
+// What is wanted of the inbox: how many turns, the replies, and whether it fails.
+type WantedMail<'w> = (u64, &'w [&'w str], bool);
+
+// Of an inbox without turns.
+const NO_MAIL: WantedMail<'static> = (0, &[], false);
+
 // Serves a case, and compares what came. No worker is held for too long.
 fn assert_serves<R: Threads + Wait + RandomSource + Abort + Sync>(
     rt: &R,
     alloc: Global,
     case: &Case<'_>,
     wanted: Wanted<'_>,
+    mail: WantedMail<'_>,
     row: &str,
 )
     requires { (1 ≤ case.now.workers) × (case.now.workers ≤ 8) }
@@ -94,7 +150,9 @@ fn assert_serves<R: Threads + Wait + RandomSource + Abort + Sync>(
         calls,
         listen_fault,
     };
-    let wanted = (Some((tally, bytes(rt, alloc, output))), 0);
+    let (turns, replies, fault) = mail;
+    let mailed = (turns, bytes(rt, alloc, replies), fault);
+    let wanted = (Some((tally, bytes(rt, alloc, output), mailed)), 0);
     let came = served::<Brand, R>(rt, alloc, Opened::new(), case);
     assert_same(rt, &came, &wanted, row);
 }
@@ -107,9 +165,10 @@ fn two_workers(rt: HostRuntime) {
         workers: 2,
         holds: &[],
         failing: &[],
+        post: NO_POST,
     };
     let wanted: Wanted<'_> = (2, 3, false, &[OLD, OLD, OLD]);
-    assert_serves(&rt, rt.alloc(), &case, wanted, "two workers");
+    assert_serves(&rt, rt.alloc(), &case, wanted, NO_MAIL, "two workers");
 }
 
 #[test]
@@ -125,9 +184,17 @@ fn later_connection_sees_build(rt: HostRuntime) {
             ((Kind::Replied, 2, 1), (Kind::Replied, 3, 1)),
         ],
         failing: &[],
+        post: NO_POST,
     };
     let wanted: Wanted<'_> = (3, 2, false, &[MADE, NEW]);
-    assert_serves(&rt, rt.alloc(), &case, wanted, "a later connection");
+    assert_serves(
+        &rt,
+        rt.alloc(),
+        &case,
+        wanted,
+        NO_MAIL,
+        "a later connection",
+    );
 }
 
 #[test]
@@ -141,9 +208,17 @@ fn idle_connection_sees_newer(rt: HostRuntime) {
             ((Kind::Replied, 1, 1), (Kind::Replied, 2, 1)),
         ],
         failing: &[],
+        post: NO_POST,
     };
     let wanted: Wanted<'_> = (2, 3, false, &[OLD, NEW, MADE]);
-    assert_serves(&rt, rt.alloc(), &case, wanted, "an idle connection");
+    assert_serves(
+        &rt,
+        rt.alloc(),
+        &case,
+        wanted,
+        NO_MAIL,
+        "an idle connection",
+    );
 }
 
 #[test]
@@ -154,17 +229,18 @@ fn listen_fault(rt: HostRuntime) {
         workers: 1,
         holds: &[],
         failing: &[0],
+        post: NO_POST,
     };
     let alloc = rt.alloc();
     let first: Wanted<'_> = (0, 0, true, &[]);
-    assert_serves(&rt, alloc, &case, first, "the first accept fails");
+    assert_serves(&rt, alloc, &case, first, NO_MAIL, "the first accept fails");
     let two = Case {
         workers: 2,
         failing: &[1],
         ..case
     };
     let second: Wanted<'_> = (1, 1, true, &[NO_MAP]);
-    assert_serves(&rt, alloc, &two, second, "the second accept fails");
+    assert_serves(&rt, alloc, &two, second, NO_MAIL, "the second accept fails");
 }
 
 #[test]
@@ -179,9 +255,10 @@ fn held_stream(rt: HostRuntime) {
             ((Kind::Piece, 1, 2), (Kind::Replied, 2, 2)),
         ],
         failing: &[],
+        post: NO_POST,
     };
     let wanted: Wanted<'_> = (2, 4, false, &[OLD_ALL, NEW, OLD, MADE]);
-    assert_serves(&rt, rt.alloc(), &case, wanted, "a held stream");
+    assert_serves(&rt, rt.alloc(), &case, wanted, NO_MAIL, "a held stream");
 }
 
 // Seven connections are held before the second write of ALL, until the eighth has been served, which begins once each
@@ -220,6 +297,7 @@ fn held_streams_of_seven(rt: HostRuntime) {
         workers: 8,
         holds: HELD,
         failing: &[],
+        post: NO_POST,
     };
     let wanted: Wanted<'_> = (
         8,
@@ -229,5 +307,55 @@ fn held_streams_of_seven(rt: HostRuntime) {
             OLD_ALL, OLD_ALL, OLD_ALL, OLD_ALL, OLD_ALL, OLD_ALL, OLD_ALL, OLD, MADE,
         ],
     );
-    assert_serves(&rt, rt.alloc(), &case, wanted, "seven held streams");
+    assert_serves(
+        &rt,
+        rt.alloc(),
+        &case,
+        wanted,
+        NO_MAIL,
+        "seven held streams",
+    );
+}
+
+#[test]
+fn datagram_beside(rt: HostRuntime) {
+    // The connection is held before its first write until the inbox was asked to send a reply, and the datagram comes
+    // once the connection is held.
+    let case = Case {
+        file: FILE,
+        inputs: &[&[MATCH]],
+        workers: 1,
+        holds: &[((Kind::Piece, 1, 1), (Kind::Asked, 0, 1))],
+        failing: &[],
+        post: Post {
+            mail: &[&[NULL]],
+            turns: 1,
+            until: Some((Kind::Piece, 1, 1)),
+            failing: &[],
+        },
+    };
+    let wanted: Wanted<'_> = (1, 1, false, &[OLD]);
+    let mail: WantedMail<'_> = (1, &[NULL_DONE], false);
+    assert_serves(&rt, rt.alloc(), &case, wanted, mail, "a datagram");
+}
+
+#[test]
+fn inbox_fault(rt: HostRuntime) {
+    // The second turn fails. The connection is served all the same.
+    let case = Case {
+        file: FILE,
+        inputs: &[&[MATCH]],
+        workers: 1,
+        holds: &[],
+        failing: &[],
+        post: Post {
+            mail: &[&[NULL], &[NULL]],
+            turns: 3,
+            until: None,
+            failing: &[2],
+        },
+    };
+    let wanted: Wanted<'_> = (1, 1, false, &[OLD]);
+    let mail: WantedMail<'_> = (1, &[NULL_DONE], true);
+    assert_serves(&rt, rt.alloc(), &case, wanted, mail, "an inbox that fails");
 }

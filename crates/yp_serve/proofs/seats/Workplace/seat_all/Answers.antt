@@ -1,8 +1,9 @@
-use Rattle.std.proofs.Common.{◌≡◌, arith}
+use Rattle.std.proofs.Common.{arith}
 use Rattle.std.proofs.lemmas.List.{length_push}
-use Rattle.std.proofs.lemmas.List.Elements.{All-push}
 use Rattle.yp_serve.specs.Serving.{at_work, IsAtStart}
-use Rattle.yp_serve.proofs.Rows.{all_before}
+use Rattle.yp_serve.specs.declared.crew.Post.TheVariants.{Connections}
+use Rattle.yp_serve.proofs.Posted.{none_seated, one_seated}
+use Rattle.yp_serve.proofs.Rows.{all_before, all_last}
 use Rattle.yp_serve.proofs.seats.Workplace.seat_all.Goals as goal
 
 pub loop-session-preserved : goal.loop-session-preserved
@@ -10,13 +11,12 @@ loop-session-preserved g c =
     let before = c.loop-session.invariant in
     let one = c.in-Some.ensures.len in
     let reader = c.in-Some-pop.ensures.len in
-    let seats = c.push_reserved.ensures.items in
-    let longer = length_push c.loop-session.seats.items c.seat.result in
+    let posts = c.push_reserved.ensures.items in
+    let longer = length_push c.loop-session.posts.items (Connections c.seat.result) in
     record {
-      seats = rw seats (All-push (λ seat. seat ≡ at_work) c.loop-session.seats.items c.seat.result before.seats
-          c.seat.ensures.seat);
-      count = rw seats (omega (arith, longer, before.count, one));
-      room = rw (seats, c.push_reserved.ensures.capacity) (omega (arith, longer, before.room, one));
+      posts = one_seated at_work _ c.loop-session.posts.items _ c.seat.result before.posts posts c.seat.ensures.seat;
+      count = rw posts (omega (arith, longer, before.count, one));
+      room = rw (posts, c.push_reserved.ensures.capacity) (omega (arith, longer, before.room, one));
       readers = omega (arith, before.readers, one, reader);
       knows = all_before (λ reader. IsAtStart g.J.Site.catalogue g.J.Reception.starts (g.B.Reader.View.seen reader)) _ _ _
           c.in-Some-pop.ensures.items before.knows;
@@ -29,3 +29,19 @@ loop-session-preserved g c =
         c.seat.ensures.ended.1,
       );
     }
+
+pub loop-session-init : goal.loop-session-init
+loop-session-init g c = record {
+  posts = none_seated at_work c.args.posts.now.items;
+  count = omega (arith, c.requires.one);
+  room = omega (arith, c.requires.one, c.requires.room);
+  readers = c.requires.readers;
+  knows = c.requires.knows;
+  out = c.requires.out;
+  ended = c.requires.ended;
+}
+
+pub seat-requires-clause-knows : goal.seat-requires-clause-knows
+seat-requires-clause-knows g c =
+    all_last (λ reader. IsAtStart g.J.Site.catalogue g.J.Reception.starts (g.B.Reader.View.seen reader)) _ _ _
+    c.in-Some-pop.ensures.items c.loop-session.invariant.knows

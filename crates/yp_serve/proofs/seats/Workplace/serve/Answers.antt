@@ -1,32 +1,63 @@
-use Rattle.std.proofs.Common.{◌≡◌, length, ap, sym, subst, rules, arith}
-use Rattle.std.specs.List.{All}
+use Rattle.std.proofs.Common.{[], ◌∷◌, ◌++◌, ap, ◌∙◌, arith}
+use Rattle.yp_turns.specs.Turns.{box_of}
 use Rattle.yp_worker.specs.Receptions.{Passed}
-use Rattle.yp_serve.specs.Serving.{gone_home}
-use Rattle.yp_serve.proofs.Rows.{count_again, whole_again}
+use Rattle.yp_workhost.specs.Workers.{counts_of}
+use Rattle.yp_serve.specs.declared.crew.Post.TheVariants.{Datagrams}
+use Rattle.yp_serve.specs.Serving.{at_work, conduct_at}
+use Rattle.yp_serve.proofs.Fronts.{mailed, mail_fails}
+use Rattle.yp_serve.proofs.Posted.{manned, worked}
 use Rattle.yp_serve.proofs.seats.Workplace.serve.Goals as goal
 
 pub gather-requires : goal.gather-requires
 gather-requires g c =
-    let seats = c.seat_all.new.seats in
-    let all = whole_again seats.len c.run_all.new.seats seats.items (search rules) (search rules) in
-    subst (All (λ seat. seat ≡ gone_home)) (sym all) c.run_all.ensures.ended
+    let mailman = c.new-mailman.result in
+    let first = manned mailman at_work c.push_reserved.new.self.items c.seat_all.new.posts.items
+    (c.push_reserved.ensures.items ∙ ap (λ l. l ++ Datagrams mailman ∷ []) c.requires.none) c.seat_all.ensures.posts in
+    let all = worked _ mailman c.seat_all.new.posts.items c.run_all-posts.result.items first c.run_all-posts.ensures.count
+    c.run_all-posts.ensures.works in
+    (all.0, all.2)
 
-pub close-requires-clause-all : goal.close-requires-clause-all
-close-requires-clause-all g c =
-    let seats = c.seat_all.new.seats in
-    let many = count_again seats.len c.run_all.new.seats seats.items (search rules) (search rules) in
-    let gathered = ap (λ (p : Passed). p.parts) c.gather.ensures in
+pub close-listen-requires-clause-all : goal.close-listen-requires-clause-all
+close-listen-requires-clause-all g c =
     let begun = ap (λ (p : Passed). p.parts) c.new-pass.ensures in
-    let same : length c.run_all.new.seats ≡ length seats.items = search rules in
     let one = c.seat_all.ensures.out.0 in
     let named = c.requires.out.1 in
     let parts = c.requires.out.2 in
-    omega (arith, gathered, begun, many, same, one, c.seat_all.ensures.count, named, parts)
+    omega (arith, c.gather.ensures.parts, begun, c.run_all-posts.ensures.count, one, c.seat_all.ensures.count, named, parts)
 
-pub close-requires-clause-ended : goal.close-requires-clause-ended
-close-requires-clause-ended g c =
-    let seats = c.seat_all.new.seats in
-    let many = count_again seats.len c.run_all.new.seats seats.items (search rules) (search rules) in
-    let gathered = ap (λ (p : Passed). p.ended) c.gather.ensures in
-    let same : length c.run_all.new.seats ≡ length seats.items = search rules in
-    omega (arith, gathered, many, same, c.seat_all.ensures.count, c.requires.some)
+pub close-listen-requires-clause-ended : goal.close-listen-requires-clause-ended
+close-listen-requires-clause-ended g c =
+    omega (arith, c.gather.ensures.ended, c.run_all-posts.ensures.count, c.seat_all.ensures.count, c.requires.some)
+
+pub returns-clause-mail : goal.returns-clause-mail
+returns-clause-mail g c =
+    let mailman = c.new-mailman.result in
+    let first = manned mailman at_work c.push_reserved.new.self.items c.seat_all.new.posts.items
+    (c.push_reserved.ensures.items ∙ ap (λ l. l ++ Datagrams mailman ∷ []) c.requires.none) c.seat_all.ensures.posts in
+    let all = worked _ mailman c.seat_all.new.posts.items c.run_all-posts.result.items first c.run_all-posts.ensures.count
+    c.run_all-posts.ensures.works in
+    let seen = g.B.Reader.View.seen in
+    mailed (conduct_at seen g.B.Reader.View.stepped g.J.Supplies.text g.J.Supplies.hosts)
+    (box_of g.I.Inbox.past g.I.Inbox.turns g.I.Inbox.quiets) g.I.Inbox.faults g.J.Site.catalogue g.J.Reception.starts
+    (seen c.into_reader.result).known c.args.bag.turns c.into_parts-inbox.result.2 mailman all.0 c.gather.result
+    c.new-host.result c.into_parts-inbox.result.1 c.args.bag.inbox c.into_parts-inbox.result.0 all.1
+    (c.gather.ensures.mailman all.0 all.2) c.new-mailman.ensures.inbox c.new-mailman.ensures.server
+    c.new-mailman.ensures.turns c.into_parts-inbox.ensures.inbox c.into_parts-inbox.ensures.host
+    c.into_parts-inbox.ensures.fault (rw c.new-host.ensures c.requires.bag) (ap counts_of c.new-host.ensures)
+    (ap (λ v. (seen v).known) c.into_reader.ensures)
+
+pub returns-clause-cause : goal.returns-clause-cause
+returns-clause-cause g c =
+    let mailman = c.new-mailman.result in
+    let first = manned mailman at_work c.push_reserved.new.self.items c.seat_all.new.posts.items
+    (c.push_reserved.ensures.items ∙ ap (λ l. l ++ Datagrams mailman ∷ []) c.requires.none) c.seat_all.ensures.posts in
+    let all = worked _ mailman c.seat_all.new.posts.items c.run_all-posts.result.items first c.run_all-posts.ensures.count
+    c.run_all-posts.ensures.works in
+    let seen = g.B.Reader.View.seen in
+    mail_fails (conduct_at seen g.B.Reader.View.stepped g.J.Supplies.text g.J.Supplies.hosts)
+    (box_of g.I.Inbox.past g.I.Inbox.turns g.I.Inbox.quiets) g.I.Inbox.faults g.J.Site.catalogue g.J.Reception.starts
+    (seen c.into_reader.result).known c.args.bag.turns c.into_parts-inbox.result.2 mailman all.0 c.gather.result
+    c.new-host.result c.into_parts-inbox.result.1 c.args.bag.inbox c.into_parts-inbox.result.0 all.1
+    (c.gather.ensures.mailman all.0 all.2) c.new-mailman.ensures.inbox c.new-mailman.ensures.server
+    c.new-mailman.ensures.turns c.into_parts-inbox.ensures.inbox c.into_parts-inbox.ensures.host
+    c.into_parts-inbox.ensures.fault

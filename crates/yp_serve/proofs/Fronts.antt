@@ -1,0 +1,92 @@
+-- What a worker of datagrams knew, in the log of the writer.
+use Rattle.std.proofs.Common.{◌≡◌, Bool, true, ℕ, [], ◌++◌, Option, Result, sym, ap, ◌∙◌, subst, append_assoc}
+use Rattle.std.specs.Prelude.{is_err}
+use Rattle.std.proofs.lemmas.List.{append-nil}
+use Rattle.yp_io.specs.Counts.{HasRisen}
+use Rattle.yp_io.specs.declared.stream.Failed.{Failed}
+use Rattle.yp_board.specs.Catalogues.{Catalogue}
+use Rattle.yp_board.specs.Logs.{Log}
+use Rattle.yp_board.specs.Views.{IsFront}
+use Rattle.yp_session.specs.Hosts.{Conduct}
+use Rattle.yp_turns.specs.Turns.{Box}
+use Rattle.yp_turns.specs.declared.turns.Ended.{Ended}
+use Rattle.yp_mailserve.specs.Mailing.{Mailing, Awaited}
+use Rattle.yp_mailserve.specs.Serving.{ServesMail}
+use Rattle.yp_serve.specs.declared.mail.Mailman.{Mailman}
+use Rattle.yp_serve.specs.Posts.{Mails}
+use Rattle.yp_serve.specs.Serving.{at_rest, no_counts, IsAtStart, ServesDatagrams}
+
+front_then : (a b c : Log) → IsFront a b → IsFront b c → IsFront a c
+front_then a b c first second =
+    (first.0 ++ second.0, second.1 ∙ ap (λ (l : Log). l ++ second.0) first.1 ∙ append_assoc a first.0 second.0)
+
+-- a server that ended so, and what its reader knows
+pub answered : {H : Type 0} (conduct : Conduct H) (catalogue : Catalogue) (starts known : Log) (turns : ℕ)
+    (fault : Bool) (end : Result Ended Failed) (old new : H) (first last : Mailing H) (before after : Box)
+    → first ≡ at_rest old → IsAtStart catalogue starts (conduct.seen old) → conduct.counts old ≡ no_counts
+    → fault ≡ is_err end → ServesMail conduct turns end first last before after → new ≡ last.host
+    → known ≡ (conduct.seen new).known → ServesDatagrams conduct catalogue starts known turns fault before after
+answered {H} conduct catalogue starts known turns fault end old new first last before after first_is start fresh
+    fault_is serves new_is known_is =
+    let last_is : last ≡ at_rest new = ap (λ (h : H). record { host = h; waiting = last.waiting }) (sym new_is)
+    ∙ ap (λ (w : Option Awaited). record { host = new; waiting = w }) serves.cleared in record {
+      old = old;
+      new = new;
+      start = start;
+      fresh = fresh;
+      end = end;
+      fault_is = fault_is;
+      serves = subst (λ (m : Mailing H). ServesMail conduct turns end m (at_rest new) before after) first_is
+          (subst (λ (m : Mailing H). ServesMail conduct turns end first m before after) last_is serves);
+      shown = ([], known_is ∙ sym (append-nil (conduct.seen new).known));
+    }
+
+module _ {H : Type 0} (conduct : Conduct H) (catalogue : Catalogue) (starts known log : Log) (turns : ℕ) (fault : Bool)
+    (before after : Box) (mail : ServesDatagrams conduct catalogue starts known turns fault before after)
+    (front : IsFront known log) where
+  -- a longer log
+  pub shown_in : ServesDatagrams conduct catalogue starts log turns fault before after
+  shown_in = record {
+    old = mail.old;
+    new = mail.new;
+    start = mail.start;
+    fresh = mail.fresh;
+    end = mail.end;
+    fault_is = mail.fault_is;
+    serves = mail.serves;
+    shown = front_then (conduct.seen mail.new).known known log mail.shown front;
+  }
+
+  -- it begins with what was shown at the start
+  pub starts_in : IsFront starts log
+  starts_in =
+      let begun = subst (λ (l : Log). IsFront l (conduct.seen mail.new).known) mail.start.known mail.serves.grown in
+      front_then starts (conduct.seen mail.new).known log begun
+      (front_then (conduct.seen mail.new).known known log mail.shown front)
+
+-- what a worker of datagrams made of its turns, from a host that knew the start
+module _ {I H : Type 0} (conduct : Conduct H) (box : I → Box) (faults : I → ℕ) (catalogue : Catalogue)
+    (starts known : Log) (turns : ℕ) (fault : Bool) (first last found : Mailman I H) (host left : H) (inbox given : I)
+    (mails : Mails conduct box faults first last) (found_is : found ≡ last) (inbox_is : first.inbox ≡ inbox)
+    (host_is : first.server ≡ at_rest host) (turns_is : first.turns ≡ turns) (given_is : given ≡ found.inbox)
+    (left_is : left ≡ found.server.host) (fault_is : fault ≡ found.fault) where
+  back : last.inbox ≡ given
+  back = sym (given_is ∙ ap (λ (m : Mailman I H). m.inbox) found_is)
+
+  pub mailed : IsAtStart catalogue starts (conduct.seen host) → conduct.counts host ≡ no_counts
+      → known ≡ (conduct.seen left).known
+      → ServesDatagrams conduct catalogue starts known turns fault (box inbox) (box given)
+  mailed start fresh known_is =
+      answered conduct catalogue starts known turns fault mails.end host left first.server last.server (box inbox)
+      (box given) host_is start fresh (fault_is ∙ ap (λ (m : Mailman I H). m.fault) found_is ∙ mails.fault_is)
+      (subst (λ (i : I). ServesMail conduct turns mails.end first.server last.server (box inbox) (box i)) back
+      (subst (λ (i : I). ServesMail conduct turns mails.end first.server last.server (box i) (box last.inbox)) inbox_is
+      (subst (λ (n : ℕ). ServesMail conduct n mails.end first.server last.server (box first.inbox) (box last.inbox)) turns_is
+      mails.serves)))
+      (left_is ∙ ap (λ (m : Mailman I H). m.server.host) found_is) known_is
+
+  pub mail_fails : fault ≡ true → HasRisen (faults inbox) (faults given)
+  mail_fails fails =
+      subst (λ (i : I). HasRisen (faults inbox) (faults i)) back
+      (subst (λ (i : I). HasRisen (faults i) (faults last.inbox)) inbox_is
+      (mails.cause (sym (ap (λ (m : Mailman I H). m.fault) found_is) ∙ sym fault_is ∙ fails)))

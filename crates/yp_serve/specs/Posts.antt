@@ -1,0 +1,47 @@
+-- The places at which a server works, side by side.
+use Rattle.std.specs.Prelude.{◌≡◌, ℕ, ◌+◌, ◌<◌, List, ◌∷◌, ◌++◌, length, slice_index_or, Result, is_err, true}
+use Rattle.std.specs.List.{All}
+use Rattle.yp_io.specs.Counts.{HasRisen}
+use Rattle.yp_io.specs.declared.stream.Failed.{Failed}
+use Rattle.yp_session.specs.Hosts.{Conduct}
+use Rattle.yp_turns.specs.Turns.{Box}
+use Rattle.yp_turns.specs.declared.turns.Ended.{Ended}
+use Rattle.yp_mailserve.specs.Serving.{ServesMail}
+use Rattle.yp_worker.specs.Receptions.{Passed}
+use Rattle.yp_serve.specs.declared.mail.Mailman.{Mailman}
+use Rattle.yp_serve.specs.declared.crew.Post.{Post}
+use Rattle.yp_serve.specs.declared.crew.Post.TheVariants.{Connections, Datagrams}
+
+-- what a worker of datagrams made of its turns
+pub record Mails {I H : Type 0} (conduct : Conduct H) (box : I → Box) (faults : I → ℕ) (old new : Mailman I H)
+    : Type 0 where
+  pub end : Result Ended Failed
+  pub fault_is : new.fault ≡ is_err end
+  pub serves : ServesMail conduct old.turns end old.server new.server (box old.inbox) (box new.inbox)
+  pub cause : new.fault ≡ true → HasRisen (faults old.inbox) (faults new.inbox)
+
+-- what work leaves of a post: a worker of connections has ended, and a worker of datagrams has made this of them
+abbrev pub Works : {J E H G I : Type 0} → (Mailman I H → Mailman I H → Type 0) → Post J E H G I → Post J E H G I
+    → Type 0
+Works mails (Connections old) (Connections new) = new ≡ record old { ended = old.ended + 1 }
+Works mails (Datagrams old) (Datagrams new) = mails old new
+Works mails old new = ⊥
+
+-- so they worked at each of these posts
+abbrev pub AllWork : {J E H G I : Type 0} → (Mailman I H → Mailman I H → Type 0) → List (Post J E H G I)
+    → List (Post J E H G I) → Type 0
+AllWork {J} {E} {H} {G} {I} mails old new = (i : ℕ) (d : Post J E H G I) → i < length old
+    → Works mails (slice_index_or old i d) (slice_index_or new i d)
+
+-- The first post is that of this worker of datagrams, and at all others workers of connections hold this.
+pub record IsManned {J E H G I : Type 0} (mailman : Mailman I H) (held : Passed) (posts : List (Post J E H G I))
+    : Type 0 where
+  pub others : List (Post J E H G I)
+  pub posts_are : posts ≡ Datagrams mailman ∷ others
+  pub all : All (λ post. post ≡ Connections held) others
+
+-- Behind what was there came posts of workers of connections, who hold this.
+pub record IsSeated {J E H G I : Type 0} (held : Passed) (old new : List (Post J E H G I)) : Type 0 where
+  pub more : List (Post J E H G I)
+  pub posts_are : new ≡ old ++ more
+  pub all : All (λ post. post ≡ Connections held) more

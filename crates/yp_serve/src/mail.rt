@@ -1,0 +1,87 @@
+//! The datagrams of an inbox, answered beside the connections.
+
+ghost use Rattle.std.specs.Prelude.{◌≡◌, false};
+ghost use Rattle.yp_session.specs.Hosts.{conduct_of};
+ghost use Rattle.yp_turns.specs.Turns.{box_of};
+ghost use Rattle.yp_serve.specs.Serving.{at_rest};
+ghost use Rattle.yp_serve.specs.Posts.{Mails};
+
+use yp_io::Inbox;
+use yp_mailserve::{MailServer, serve_mail};
+use yp_turns::Room;
+use yp_worker::CatchUp;
+
+/// What the worker of datagrams works with: an inbox, the most turns of it, a reader of the maps, and the memory of a
+/// datagram and of its reply.
+#[derive(Drop)]
+pub(crate) struct Mailbag<I, V> {
+    pub(crate) inbox: I,
+    pub(crate) turns: u32,
+    pub(crate) reader: V,
+    pub(crate) room: Room,
+}
+
+/// What comes back of it, and whether the inbox has failed.
+#[derive(Drop)]
+pub(crate) struct Mailed<I, V> {
+    pub(crate) inbox: I,
+    pub(crate) reader: V,
+    pub(crate) fault: bool,
+}
+
+/// A worker that answers the datagrams of an inbox, and whether that has failed.
+#[derive(Drop)]
+pub(crate) struct Mailman<I, H: CatchUp> {
+    inbox: I,
+    server: MailServer<H>,
+    room: Room,
+    turns: u32,
+    fault: bool,
+}
+
+impl<I: Inbox, H: CatchUp> Mailman<I, H> {
+    /// A worker with this host, which has taken no turn yet.
+    pub(crate) fn new(inbox: I, host: H, room: Room, turns: u32) -> Mailman<I, H>
+        ensures inbox { result.inbox ≡ inbox }
+        ensures server { result.server ≡ at_rest host }
+        ensures turns { result.turns ≡ turns }
+    {
+        Mailman {
+            inbox,
+            server: MailServer::new(host),
+            room,
+            turns,
+            fault: false,
+        }
+    }
+
+    /// Answers datagrams until all turns are taken or the inbox has failed. It takes no lock of a listener.
+    pub(crate) fn work(&mut self)
+        ensures { Mails (conduct_of H.seen H.told H.counts H.stepped H.made H.carried)
+            (box_of I.past I.turns I.quiets) I.faults self.old self.new }
+    {
+        let ended = serve_mail(
+            &mut self.inbox,
+            &mut self.server,
+            &mut self.room,
+            self.turns,
+        );
+        self.fault = ended.is_err();
+    }
+
+    /// The inbox, the host, and whether the inbox has failed.
+    pub(crate) fn into_parts(self) -> (I, H, bool)
+        ensures inbox { result.0 ≡ self.inbox }
+        ensures host { result.1 ≡ self.server.host }
+        ensures fault { result.2 ≡ self.fault }
+    {
+        let Mailman {
+            inbox,
+            server,
+            room: _,
+            turns: _,
+            fault,
+        } = self;
+        (inbox, server.into_host(), fault)
+    }
+}
