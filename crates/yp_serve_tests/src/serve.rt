@@ -40,6 +40,9 @@ struct Post<'c> {
     failing: &'c [u64],
 }
 
+// A file that isn't there.
+const NO_FILE: &[&str] = &[];
+
 // No turn of an inbox.
 const NO_POST: Post<'static> = Post {
     mail: &[],
@@ -171,18 +174,22 @@ fn two_workers(rt: HostRuntime) {
     assert_serves(&rt, rt.alloc(), &case, wanted, NO_MAIL, "two workers");
 }
 
+// The first worker is held until the other one has made the map. That is held in its turn until the first worker has
+// served the third connection.
+const BUILD_HOLDS: &[Hold] = &[
+    ((Kind::Accepted, 1, 1), (Kind::Replied, 2, 1)),
+    ((Kind::Replied, 2, 1), (Kind::Replied, 3, 1)),
+];
+
+const BUILD_INPUTS: &[&[&str]] = &[&[], &[MAKE], &[MATCH]];
+
 #[test]
 fn later_connection_sees_build(rt: HostRuntime) {
-    // The first worker is held until the other one has made the map. That is held in its turn until the first worker
-    // has served the third connection.
     let case = Case {
-        file: &[],
-        inputs: &[&[], &[MAKE], &[MATCH]],
+        file: NO_FILE,
+        inputs: BUILD_INPUTS,
         workers: 2,
-        holds: &[
-            ((Kind::Accepted, 1, 1), (Kind::Replied, 2, 1)),
-            ((Kind::Replied, 2, 1), (Kind::Replied, 3, 1)),
-        ],
+        holds: BUILD_HOLDS,
         failing: &[],
         post: NO_POST,
     };
@@ -224,23 +231,43 @@ fn idle_connection_sees_newer(rt: HostRuntime) {
 #[test]
 fn listen_fault(rt: HostRuntime) {
     let case = Case {
-        file: &[],
+        file: NO_FILE,
         inputs: &[&[MATCH], &[MATCH]],
         workers: 1,
         holds: &[],
         failing: &[0],
         post: NO_POST,
     };
-    let alloc = rt.alloc();
-    let first: Wanted<'_> = (0, 0, true, &[]);
-    assert_serves(&rt, alloc, &case, first, NO_MAIL, "the first accept fails");
-    let two = Case {
+    let wanted: Wanted<'_> = (0, 0, true, &[]);
+    assert_serves(
+        &rt,
+        rt.alloc(),
+        &case,
+        wanted,
+        NO_MAIL,
+        "the first accept fails",
+    );
+}
+
+#[test]
+fn later_listen_fault(rt: HostRuntime) {
+    let case = Case {
+        file: NO_FILE,
+        inputs: &[&[MATCH], &[MATCH]],
         workers: 2,
+        holds: &[],
         failing: &[1],
-        ..case
+        post: NO_POST,
     };
-    let second: Wanted<'_> = (1, 1, true, &[NO_MAP]);
-    assert_serves(&rt, alloc, &two, second, NO_MAIL, "the second accept fails");
+    let wanted: Wanted<'_> = (1, 1, true, &[NO_MAP]);
+    assert_serves(
+        &rt,
+        rt.alloc(),
+        &case,
+        wanted,
+        NO_MAIL,
+        "the second accept fails",
+    );
 }
 
 #[test]
