@@ -1,13 +1,18 @@
 -- What is served, and how the maps stand then.
-use Rattle.std.specs.Prelude.{◌≡◌, ℕ, List, map, length, Option}
+use Rattle.std.specs.Prelude.{◌≡◌, ℕ, Bool, List, map, length, Option, None, Result, is_err}
 use Rattle.yp_io.specs.Disk.{History}
+use Rattle.yp_io.specs.declared.stream.Failed.{Failed}
 use Rattle.yp_io.specs.declared.texts.TextFile.{TextFile}
 use Rattle.yp_board.specs.Catalogues.{Catalogue}
 use Rattle.yp_board.specs.Logs.{Log}
-use Rattle.yp_board.specs.Views.{Seen}
+use Rattle.yp_board.specs.Views.{Seen, IsFront}
 use Rattle.yp_publish.specs.Standing.{Kept, OfMap, IsStanding, Shows, versions}
 use Rattle.yp_xfr.specs.HostTable.{HostList}
-use Rattle.yp_session.specs.Hosts.{Conduct, conduct_of}
+use Rattle.yp_session.specs.Hosts.{Counts, Conduct, conduct_of}
+use Rattle.yp_turns.specs.Turns.{Box}
+use Rattle.yp_turns.specs.declared.turns.Ended.{Ended}
+use Rattle.yp_mailserve.specs.Mailing.{Mailing}
+use Rattle.yp_mailserve.specs.Serving.{ServesMail}
 use Rattle.yp_workhost.specs.Desks.{texts_alone}
 use Rattle.yp_workhost.specs.Workers.{Worker, counts_of, Stepped, Made, Carried}
 use Rattle.yp_worker.specs.Receptions.{Passed}
@@ -30,6 +35,28 @@ conduct_at seen stepped text hosts =
 pub record IsAtStart (catalogue : Catalogue) (starts : Log) (seen : Seen) : Type 0 where
   pub catalogue_is : seen.catalogue ≡ catalogue
   pub known : seen.known ≡ starts
+
+-- a server of datagrams for which no transfer waits
+abbrev pub at_rest : {H : Type 0} → H → Mailing H
+at_rest host = record { host = host; waiting = None }
+
+-- nothing was counted yet
+abbrev pub no_counts : Counts
+no_counts = record { files = 0; transfers = 0 }
+
+-- A host that knew these maps at the start, and had counted nothing, had so many turns of an inbox at most: each
+-- datagram of at most 8,192 bytes got its reply, or silence, on what the host then knew, before the next turn. All turns
+-- were taken, or the inbox has failed, exactly where that is said. What the host knew then is a front of this log.
+pub record ServesDatagrams {H : Type 0} (conduct : Conduct H) (catalogue : Catalogue) (starts log : Log) (turns : ℕ)
+    (fault : Bool) (before after : Box) : Type 0 where
+  pub old : H
+  pub new : H
+  pub start : IsAtStart catalogue starts (conduct.seen old)
+  pub fresh : conduct.counts old ≡ no_counts
+  pub end : Result Ended Failed
+  pub fault_is : fault ≡ is_err end
+  pub serves : ServesMail conduct turns end (at_rest old) (at_rest new) before after
+  pub shown : IsFront (conduct.seen new).known log
 
 -- Disks of maps, in their order. Whatever a crash may leave of one stands for what the log shows of its map, or, where
 -- that is behind, for that or for the version whose install failed.

@@ -66,6 +66,28 @@ impl<J: Reception, E: Ledger, H: CatchUp + Drop, G: Gate + Copy + Drop> Seat<J, 
 pub(crate) fn run_all<J, E, H, G, L, R: Threads + Wait + Sync>(
     rt: &R,
     listening: &Mutex<Listening<J, E, H, L>>,
+    mut seats: Vec<Seat<J, E, H, G>>,
+) -> Vec<Seat<J, E, H, G>>
+where
+    J: Reception + Send + Sync,
+    E: Ledger + Send + Sync,
+    H: CatchUp + Send + Drop,
+    G: Gate + Copy + Send + Drop,
+    L: Listen + Send,
+    L::In: Send,
+    L::Out: Send,
+    requires { All (λ seat. seat ≡ at_work) seats.items }
+    ensures count { length result.items ≡ length seats.items }
+    ensures ended { All (λ seat. seat ≡ gone_home) result.items }
+{
+    work_all(rt, listening, &mut seats);
+    seats
+}
+
+/// Lets each work in a thread of its own.
+fn work_all<J, E, H, G, L, R: Threads + Wait + Sync>(
+    rt: &R,
+    listening: &Mutex<Listening<J, E, H, L>>,
     seats: &mut [Seat<J, E, H, G>],
 )
 where

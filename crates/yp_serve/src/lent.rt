@@ -12,33 +12,38 @@ use yp_publish::Publisher;
 use yp_server::Desk;
 use yp_session::Session;
 use yp_shared::{Locked, Site};
+use yp_turns::Room;
 
 /// What all workers share.
 #[derive(Drop)]
-pub(crate) struct Lent<D: Disk, B: Show, A, T, C, L> {
+pub(crate) struct Lent<D: Disk, B: Show, A, T, C, L, I> {
     pub(crate) publisher: Publisher<D, B>,
     pub(crate) desk: Desk<A, T, C>,
     pub(crate) listen: L,
+    pub(crate) inbox: I,
 }
 
 /// What is handed back where memory has run out.
-pub(crate) fn refuse<D: Disk, B: Show + Drop, A, T, C, L>(
-    lent: Lent<D, B, A, T, C, L>,
-) -> ServeRefused<D, A, T, C, L>
+pub(crate) fn refuse<D: Disk, B: Show + Drop, A, T, C, L, I>(
+    lent: Lent<D, B, A, T, C, L, I>,
+) -> ServeRefused<D, A, T, C, L, I>
     ensures desk { result.desk ≡ lent.desk }
     ensures listen { result.listen ≡ lent.listen }
+    ensures inbox { result.inbox ≡ lent.inbox }
     ensures stand { Leaves D.history lent.publisher.catalogue (B.log lent.publisher.board) result.disks.items }
 {
     let Lent {
         publisher,
         desk,
         listen,
+        inbox,
     } = lent;
     let (disks, _) = disassemble(publisher);
     ServeRefused {
         disks,
         desk,
         listen,
+        inbox,
     }
 }
 
@@ -66,12 +71,13 @@ where
     disassemble(locked.into_publisher())
 }
 
-/// What workers work with: the memory of a session and a reader for each, and a reader that stays behind.
+/// What workers work with: the memory of a session and a reader for each, and what the worker of datagrams works with.
 #[derive(Drop)]
 pub(crate) struct Staff<V> {
     pub(crate) sessions: Vec<Session>,
     pub(crate) readers: Vec<V>,
     pub(crate) spare: V,
+    pub(crate) room: Room,
 }
 
 impl<V: Drop> Staff<V> {
@@ -86,10 +92,12 @@ impl<V: Drop> Staff<V> {
             unreachable!();
         };
         let sessions = sessions_of(alloc, workers)?;
+        let room = Room::new(alloc)?;
         Ok(Staff {
             sessions,
             readers,
             spare,
+            room,
         })
     }
 }

@@ -1,15 +1,18 @@
-//! Serving: the connections of a listener, by workers in threads of their own, over maps that they share.
+//! Serving: the connections of a listener and the datagrams of an inbox, by workers in threads of their own, over maps
+//! that they share.
 //!
-//! [`serve_connections`] lends a publisher, a desk and a listener to its workers, each under a lock, and takes them
-//! apart again once all workers have ended. That each connection which the listener got back was served, that all went
-//! back, what was counted, and how each map stands then are its clauses.
+//! [`serve`] lends a publisher, a desk and a listener to its workers, each under a lock, and takes them apart again
+//! once all workers have ended. Beside them one worker answers the datagrams of the inbox, which it has for itself.
+//! That each connection which the listener got back was served, that all went back, what was counted, what went out for
+//! each datagram, and how each map stands then are its clauses.
 #![tactic(auto)]
 
 mod crew;
 mod lent;
+mod mail;
 mod seats;
-mod serve;
+mod serving;
 mod spec;
 
-pub use serve::serve_connections;
+pub use serving::serve;
 pub use spec::{ServeRefused, ServeSpec, Served, WORKERS_MAX};

@@ -1,19 +1,22 @@
 //! Where workers work.
 
-ghost use Rattle.std.specs.Prelude.{◌≡◌, ◌≤◌, ◌<◌, ◌+◌, [], length, vec_capacity};
+ghost use Rattle.std.specs.Prelude.{◌≡◌, ◌≤◌, ◌<◌, ◌+◌, [], length, true, vec_capacity};
 ghost use Rattle.std.specs.List.{All};
+ghost use Rattle.yp_io.specs.Counts.{HasRisen};
 ghost use Rattle.yp_session.specs.Hosts.{conduct_of};
 ghost use Rattle.yp_worker.specs.Receptions.{IsFair, IsKept, IsUnder, opening_of, terms_of};
-ghost use Rattle.yp_serve.specs.Serving.{at_work, conduct_at, IsAtStart};
+ghost use Rattle.yp_turns.specs.Turns.{box_of};
+ghost use Rattle.yp_serve.specs.Serving.{at_work, conduct_at, gone_home, IsAtStart, ServesDatagrams};
 
 use crate::crew::{Seat, gather, run_all};
+use crate::mail::{Mailbag, Mailed};
 use std::alloc::Global;
 use std::random::RandomSource;
 use std::sync::ledger::{Blank, Ledger, Share};
 use std::sync::{Mutex, Wait};
-use std::thread::Threads;
+use std::thread::{Threads, join};
 use yp_board::Tell;
-use yp_io::{Clock, Dial, Disk, Texts};
+use yp_io::{Clock, Dial, Disk, Inbox, Texts};
 use yp_listen::Listen;
 use yp_session::{CALLS_MAX, Session};
 use yp_shared::Locked;
@@ -134,8 +137,9 @@ impl<
     G: Gate + Sync,
     R: Threads + Wait + RandomSource + Sync,
 > Workplace<'a, J, D, B, A, T, C, G, R> {
-    /// Serves the connections of a listener by workers in threads, one for each session, which have room in `seats`.
-    pub(crate) fn serve<E: Ledger + Send + Sync, L: Listen + Send>(
+    /// Serves the connections of a listener by workers in threads, one for each session, which have room in `seats`,
+    /// and the datagrams of an inbox beside them.
+    pub(crate) fn serve<E: Ledger + Send + Sync, L: Listen + Send, I: Inbox + Send + Drop>(
         &self,
         mut seats: Vec<Seat<J, E, WorkerHost<'a, J, D, B, A, T, C, &'a R>, &'a G>>,
         sessions: Vec<Session>,
@@ -143,7 +147,8 @@ impl<
         listen: L,
         out: Blank,
         ended: Blank,
-    ) -> (L, Tally)
+        bag: Mailbag<I, B::Reader>,
+    ) -> (L, Tally, Mailed<I, B::Reader>)
     where
         B::Reader: Send + Drop,
         L::In: Send,
@@ -161,10 +166,15 @@ impl<
         requires out { (out.name ≡ J.name) × (out.parts ≡ J.parts) × (out.parts ≡ length sessions.items + 1) }
         requires ended { (ended.name ≡ E.name) × (ended.parts ≡ E.parts)
             × (ended.parts ≡ length sessions.items + 1) }
-        ensures { IsKept (conduct_at B.Reader.seen B.Reader.stepped J.text J.hosts)
+        requires bag { IsAtStart J.catalogue J.starts (B.Reader.seen bag.reader) }
+        ensures kept { IsKept (conduct_at B.Reader.seen B.Reader.stepped J.text J.hosts)
             (terms_of J.catalogue J.starts J.most) J.opening
             (opening_of L.past L.most L.accepted L.faults result.0)
             result.1.connections result.1.calls result.1.listen_fault 0 1 }
+        ensures mail { ServesDatagrams (conduct_at B.Reader.seen B.Reader.stepped J.text J.hosts)
+            J.catalogue J.starts (B.Reader.seen result.2.reader).known bag.turns result.2.fault
+            (box_of I.past I.turns I.quiets bag.inbox) (box_of I.past I.turns I.quiets result.2.inbox) }
+        ensures cause { result.2.fault ≡ true → HasRisen (I.faults bag.inbox) (I.faults result.2.inbox) }
     {
         let (book, mut share) = out.open::<J>();
         let (ends, mut mine) = ended.open::<E>();
@@ -175,9 +185,53 @@ impl<
             L,
         >::new(listen, book, ends));
         self.seat_all(&mut seats, sessions, readers, &mut share, &mut mine);
-        run_all(self.rt, &listening, &mut seats);
+        let (mailed, seats) = self.work_beside(&listening, seats, bag);
         let mut pass = Pass::new(share, mine);
         gather(&mut pass, seats);
-        listening.into_inner().close(&mut pass)
+        let (listen, tally) = listening.into_inner().close(&mut pass);
+        (listen, tally, mailed)
+    }
+
+    /// Answers the datagrams of an inbox in a thread of its own, while workers serve the connections of a listener.
+    fn work_beside<E: Ledger + Send + Sync, L: Listen + Send, I: Inbox + Send + Drop>(
+        &self,
+        listening: &Mutex<Listening<J, E, WorkerHost<'a, J, D, B, A, T, C, &'a R>, L>>,
+        seats: Vec<Seat<J, E, WorkerHost<'a, J, D, B, A, T, C, &'a R>, &'a G>>,
+        bag: Mailbag<I, B::Reader>,
+    ) -> (
+        Mailed<I, B::Reader>,
+        Vec<Seat<J, E, WorkerHost<'a, J, D, B, A, T, C, &'a R>, &'a G>>,
+    )
+    where
+        B::Reader: Send + Drop,
+        L::In: Send,
+        L::Out: Send,
+        A::In: Send,
+        A::Out: Send,
+        requires seats { All (λ seat. seat ≡ at_work) seats.items }
+        requires bag { IsAtStart J.catalogue J.starts (B.Reader.seen bag.reader) }
+        ensures count { length result.1.items ≡ length seats.entry.items }
+        ensures ended { All (λ seat. seat ≡ gone_home) result.1.items }
+        ensures mail { ServesDatagrams (conduct_at B.Reader.seen B.Reader.stepped J.text J.hosts)
+            J.catalogue J.starts (B.Reader.seen result.0.reader).known bag.turns result.0.fault
+            (box_of I.past I.turns I.quiets bag.inbox) (box_of I.past I.turns I.quiets result.0.inbox) }
+        ensures cause { result.0.fault ≡ true → HasRisen (I.faults bag.inbox) (I.faults result.0.inbox) }
+    {
+        let rt = self.rt;
+        join(
+            rt,
+            move || -> Mailed<I, B::Reader>
+                requires { IsAtStart J.catalogue J.starts (B.Reader.seen bag.reader) }
+                ensures serves { ServesDatagrams (conduct_at B.Reader.seen B.Reader.stepped J.text J.hosts)
+                    J.catalogue J.starts (B.Reader.seen result.reader).known bag.turns result.fault
+                    (box_of I.past I.turns I.quiets bag.inbox) (box_of I.past I.turns I.quiets result.inbox) }
+                ensures cause { result.fault ≡ true → HasRisen (I.faults bag.inbox) (I.faults result.inbox) }
+            { self.answer_mail(bag) },
+            move || -> Vec<Seat<J, E, WorkerHost<J, D, B, A, T, C, &R>, &G>>
+                requires { All (λ seat. seat ≡ at_work) seats.items }
+                ensures count { length result.items ≡ length seats.entry.items }
+                ensures ended { All (λ seat. seat ≡ gone_home) result.items }
+            { run_all(rt, listening, seats) },
+        )
     }
 }

@@ -6,33 +6,39 @@ use yp_worker::Tally;
 /// The most workers of a server.
 pub const WORKERS_MAX: u32 = 8;
 
-/// How connections are served.
+/// How connections and datagrams are served.
 #[derive(Clone, Copy, Debug, PartialEq, Eq)]
 pub struct ServeSpec {
     /// How many workers there are, from 1 to 8.
     pub workers: u32,
     /// The most records that are answered on one connection.
     pub most: u64,
+    /// The most turns of the inbox.
+    pub turns: u32,
 }
 
 /// What comes back once all workers have ended.
 #[derive(Drop)]
-pub struct Served<D, B, A, T, C, L> {
+pub struct Served<D, B, A, T, C, L, I> {
     /// The disks of the maps, in their order.
     pub disks: Vec<D>,
     pub desk: Desk<A, T, C>,
     pub listen: L,
+    pub inbox: I,
     /// The writer of the board.
     pub writer: B,
-    /// What was served by all workers together.
+    /// What was served by all workers of connections together.
     pub tally: Tally,
+    /// Whether the inbox failed before all its turns were taken.
+    pub inbox_fault: bool,
 }
 
-/// Memory ran out before a connection was accepted. All that the workers would have had comes back.
+/// Memory ran out before a connection was accepted or a turn was taken. All that the workers would have had comes back.
 #[derive(Drop)]
-pub struct ServeRefused<D, A, T, C, L> {
+pub struct ServeRefused<D, A, T, C, L, I> {
     /// The disks of the maps, in their order.
     pub disks: Vec<D>,
     pub desk: Desk<A, T, C>,
     pub listen: L,
+    pub inbox: I,
 }

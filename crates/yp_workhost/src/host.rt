@@ -111,6 +111,25 @@ impl<
         }
     }
 
+    /// Its reader.
+    pub fn into_reader(self) -> B::Reader
+    where
+        R: Drop,
+        ensures { result ≡ self.entry.reader }
+    {
+        let WorkerHost {
+            reader,
+            publisher: _,
+            desk: _,
+            files: _,
+            transfers: _,
+            outcomes: _,
+            alloc: _,
+            rt: _,
+        } = self;
+        reader
+    }
+
     /// What its transfers came to, and how often.
     pub fn outcomes(&self) -> Outcomes
         ensures { result ≡ self.now.outcomes }

@@ -1,6 +1,6 @@
 use Rattle.yp_serve.specs.Serving.{IsAtStart}
 use Rattle.yp_serve.proofs.Rows.{all_before, all_last}
-use Rattle.yp_serve.proofs.serve.serve_connections.Goals as goal
+use Rattle.yp_serve.proofs.serving.serve.Goals as goal
 
 pub under_locks-requires-clause-know : goal.under_locks-requires-clause-know
 under_locks-requires-clause-know g c κs within =

@@ -1,13 +1,16 @@
 //! Serving, from what is lent to workers to what comes back.
 
-ghost use Rattle.std.specs.Prelude.{◌≡◌, ◌≤◌, ◌<◌, ◌+◌, false, length, vec_len, IfOk, IfErr};
+ghost use Rattle.std.specs.Prelude.{◌≡◌, ◌≤◌, ◌<◌, ◌+◌, true, false, length, vec_len, IfOk, IfErr};
 ghost use Rattle.std.specs.List.{All};
+ghost use Rattle.yp_io.specs.Counts.{HasRisen};
 ghost use Rattle.yp_board.specs.Views.{IsFront};
 ghost use Rattle.yp_workhost.specs.Desks.{IsSupplied};
 ghost use Rattle.yp_worker.specs.Receptions.{IsFair, IsKept, opening_of, terms_of};
-ghost use Rattle.yp_serve.specs.Serving.{conduct_at, IsAtStart, Leaves};
+ghost use Rattle.yp_turns.specs.Turns.{box_of};
+ghost use Rattle.yp_serve.specs.Serving.{conduct_at, IsAtStart, Leaves, ServesDatagrams};
 
 use crate::lent::{Lent, Staff, refuse, take_apart};
+use crate::mail::Mailbag;
 use crate::seats::Workplace;
 use crate::spec::{ServeRefused, ServeSpec, Served};
 use std::alloc::Global;
@@ -17,7 +20,7 @@ use std::sync::ledger::{Blank, Ledger};
 use std::sync::{Mutex, Wait};
 use std::thread::Threads;
 use yp_board::Tell;
-use yp_io::{Clock, Dial, Disk, Texts};
+use yp_io::{Clock, Dial, Disk, Inbox, Texts};
 use yp_listen::Listen;
 use yp_publish::Publisher;
 use yp_server::Desk;
@@ -26,21 +29,23 @@ use yp_shared::Locked;
 use yp_worker::{Gate, Reception};
 use yp_workhost::{SharedDesk, Supplies};
 
-/// Serves the connections of a listener, over maps and a desk that all workers share, until as many were accepted as
-/// are to be or an accept has failed. Each worker has a thread of its own. Where one can't be started, its connections
-/// are served in another worker's.
+/// Serves the connections of a listener and the datagrams of an inbox, over maps and a desk that all workers share:
+/// connections until as many were accepted as are to be or an accept has failed, datagrams until all turns are taken or
+/// the inbox has failed. Each worker has a thread of its own, and the datagrams have one more. Where one can't be
+/// started, its work is done in another's.
 ///
-/// There is one reader more than workers.
-pub fn serve_connections<D, B, A, T, C, L, G, R>(
+/// There is one reader more than workers of connections.
+pub fn serve<D, B, A, T, C, L, I, G, R>(
     alloc: Global,
     rt: &R,
     publisher: Publisher<D, B>,
     readers: Vec<B::Reader>,
     desk: Desk<A, T, C>,
     listen: L,
+    inbox: I,
     spec: &ServeSpec,
     gate: &G,
-) -> Result<Served<D, B, A, T, C, L>, ServeRefused<D, A, T, C, L>>
+) -> Result<Served<D, B, A, T, C, L, I>, ServeRefused<D, A, T, C, L, I>>
 where
     D: Disk + Send + Drop,
     B: Tell + Send + Drop,
@@ -49,6 +54,7 @@ where
     T: Texts + Send + Drop,
     C: Clock + Send + Drop,
     L: Listen + Send + Drop,
+    I: Inbox + Send + Drop,
     L::In: Send,
     L::Out: Send,
     A::In: Send,
@@ -74,14 +80,23 @@ where
     ensures all { IfOk result (λ served. served.tally.listen_fault ≡ false
         → L.accepted served.listen ≡ L.most listen) }
 
+    // What was sent of the inbox for what came, on what a worker knew that began with the start.
+    ensures datagrams { IfOk result (λ served. ServesDatagrams
+        (conduct_at B.Reader.seen B.Reader.stepped (T.text desk.texts) desk.hosts)
+        publisher.catalogue (B.log publisher.board) (B.log served.writer) spec.now.turns served.inbox_fault
+        (box_of I.past I.turns I.quiets inbox) (box_of I.past I.turns I.quiets served.inbox)) }
+    ensures inbox_fault { IfOk result (λ served. served.inbox_fault ≡ true
+        → HasRisen (I.faults inbox) (I.faults served.inbox)) }
+
     // How each map stands then.
     ensures maps { IfOk result (λ served. Leaves D.history publisher.catalogue (B.log served.writer)
         served.disks.items) }
     ensures grown { IfOk result (λ served. IsFront (B.log publisher.board) (B.log served.writer)) }
     ensures desk { IfOk result (λ served. IsSupplied T.Texts (T.text desk.texts) desk.hosts served.desk) }
 
-    // Want of memory, before a connection was accepted.
-    ensures refused { IfErr result (λ refused. (refused.desk ≡ desk) × (refused.listen ≡ listen)) }
+    // Want of memory, before a connection was accepted or a turn was taken.
+    ensures refused { IfErr result (λ refused. (refused.desk ≡ desk) × (refused.listen ≡ listen)
+        × (refused.inbox ≡ inbox)) }
     ensures stand { IfErr result (λ refused. Leaves D.history publisher.catalogue (B.log publisher.board)
         refused.disks.items) }
 {
@@ -89,17 +104,18 @@ where
         publisher,
         desk,
         listen,
+        inbox,
     };
     let Ok(staff) = Staff::of(alloc, readers, spec.workers) else {
         return Err(refuse(lent));
     };
     let parts = spec.workers as u64 + 1;
-    under_locks::<Brand, Brand, D, B, A, T, C, L, G, R>(
+    under_locks::<Brand, Brand, D, B, A, T, C, L, I, G, R>(
         alloc,
         rt,
         lent,
         staff,
-        spec.most,
+        spec,
         gate,
         Blank::new(parts),
         Blank::new(parts),
@@ -107,16 +123,16 @@ where
 }
 
 /// Lends all to workers, under two locks, and takes it apart again.
-fn under_locks<J, E, D, B, A, T, C, L, G, R>(
+fn under_locks<J, E, D, B, A, T, C, L, I, G, R>(
     alloc: Global,
     rt: &R,
-    lent: Lent<D, B, A, T, C, L>,
+    lent: Lent<D, B, A, T, C, L, I>,
     staff: Staff<B::Reader>,
-    most: u64,
+    spec: &ServeSpec,
     gate: &G,
     out: Blank,
     ended: Blank,
-) -> Result<Served<D, B, A, T, C, L>, ServeRefused<D, A, T, C, L>>
+) -> Result<Served<D, B, A, T, C, L, I>, ServeRefused<D, A, T, C, L, I>>
 where
     J: Reception + Supplies + Send + Sync,
     E: Ledger + Send + Sync,
@@ -127,6 +143,7 @@ where
     T: Texts + Send + Drop,
     C: Clock + Send + Drop,
     L: Listen + Send + Drop,
+    I: Inbox + Send + Drop,
     L::In: Send,
     L::Out: Send,
     A::In: Send,
@@ -138,7 +155,7 @@ where
     requires supplied { IsSupplied T.Texts J.text J.hosts lent.desk }
     requires opening { opening_of L.past L.most L.accepted L.faults lent.listen ≡ J.opening }
     requires fair { IsFair J.opening.past }
-    requires most { (most ≡ J.most) × (most ≤ CALLS_MAX) }
+    requires most { (spec.now.most ≡ J.most) × (spec.now.most ≤ CALLS_MAX) }
     requires some { 0 < length staff.sessions.items }
     requires readers { length staff.readers.items ≡ length staff.sessions.items }
     requires know { All (λ reader. IsAtStart J.catalogue J.starts (B.Reader.seen reader)) staff.readers.items }
@@ -150,10 +167,17 @@ where
         (conduct_at B.Reader.seen B.Reader.stepped J.text J.hosts) (terms_of J.catalogue J.starts J.most) J.opening
         (opening_of L.past L.most L.accepted L.faults served.listen)
         served.tally.connections served.tally.calls served.tally.listen_fault 0 1) }
+    ensures datagrams { IfOk result (λ served. ServesDatagrams
+        (conduct_at B.Reader.seen B.Reader.stepped J.text J.hosts)
+        J.catalogue J.starts (B.log served.writer) spec.now.turns served.inbox_fault
+        (box_of I.past I.turns I.quiets lent.inbox) (box_of I.past I.turns I.quiets served.inbox)) }
+    ensures inbox_fault { IfOk result (λ served. served.inbox_fault ≡ true
+        → HasRisen (I.faults lent.inbox) (I.faults served.inbox)) }
     ensures maps { IfOk result (λ served. Leaves D.history J.catalogue (B.log served.writer) served.disks.items) }
     ensures grown { IfOk result (λ served. IsFront J.starts (B.log served.writer)) }
     ensures desk { IfOk result (λ served. IsSupplied T.Texts J.text J.hosts served.desk) }
-    ensures refused { IfErr result (λ refused. (refused.desk ≡ lent.desk) × (refused.listen ≡ lent.listen)) }
+    ensures refused { IfErr result (λ refused. (refused.desk ≡ lent.desk) × (refused.listen ≡ lent.listen)
+        × (refused.inbox ≡ lent.inbox)) }
     ensures stand { IfErr result (λ refused. Leaves D.history J.catalogue J.starts refused.disks.items) }
 {
     let Ok(seats) = Vec::with_capacity(alloc, staff.sessions.len()) else {
@@ -163,6 +187,7 @@ where
         sessions,
         readers,
         spare,
+        room,
     } = staff;
     let publisher = Mutex::new(Locked::<J, D, B>::new(lent.publisher));
     let desk = Mutex::new(SharedDesk::<J, A, T, C>::new(lent.desk));
@@ -172,16 +197,25 @@ where
         publisher: &publisher,
         desk: &desk,
         gate,
-        most,
+        most: spec.most,
     };
-    let (listen, tally) = place.serve::<E, L>(seats, sessions, readers, lent.listen, out, ended);
+    let bag = Mailbag {
+        inbox: lent.inbox,
+        turns: spec.turns,
+        reader: spare,
+        room,
+    };
+    let (listen, tally, mailed) =
+        place.serve::<E, L, I>(seats, sessions, readers, lent.listen, out, ended, bag);
     let desk = desk.into_inner().into_desk();
-    let (disks, writer) = take_apart(publisher.into_inner(), spare);
+    let (disks, writer) = take_apart(publisher.into_inner(), mailed.reader);
     Ok(Served {
         disks,
         desk,
         listen,
+        inbox: mailed.inbox,
         writer,
         tally,
+        inbox_fault: mailed.fault,
     })
 }

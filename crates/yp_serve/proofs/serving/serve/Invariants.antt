@@ -1,11 +1,11 @@
 use Rattle.yp_worker.specs.Receptions.{opening_of}
-use Rattle.yp_serve.proofs.serve.serve_connections.Given as goal
+use Rattle.yp_serve.proofs.serving.serve.Given as goal
 
 -- what is lent, as it is before the first connection
 abbrev pub ghosts-under_locks-J-Reception : goal.ghosts-under_locks-J-Reception
 ghosts-under_locks-J-Reception g a = record {
   starts = g.B.Show.log a.lent.publisher.board;
-  most = a.most;
+  most = a.spec.now.most;
   opening = opening_of g.L.Listen.past g.L.Listen.most g.L.Listen.accepted g.L.Listen.faults a.lent.listen;
 }
 
