@@ -324,6 +324,8 @@ fn many_rows_in_any_order(rt: HostRuntime) {
     for (factor, order) in &ORDERS {
         let version = many_rows(&rt, rt.alloc(), *factor);
         assert_many(&rt, &version, *factor, *order);
+        let version = version.indexed(rt.alloc());
+        assert_many(&rt, &version, *factor, *order);
     }
 }
 
@@ -367,5 +369,7 @@ fn colliding_keys(rt: HostRuntime) {
     }
     assert_same(&rt, &builder.push(b"aq", b"8"), &Ok(false), "a row again");
     let version = builder.finish().expect(&rt, "a version");
+    assert_colliding(&rt, &version);
+    let version = version.indexed(rt.alloc());
     assert_colliding(&rt, &version);
 }
