@@ -14,7 +14,7 @@ use yp_io::{NoMemory, Sink};
 use yp_session::Trail;
 use yp_system::{
     BlockReader, DirectWriter, FileDisk, Locking, Patient, StandardStream, SystemClock, TcpDial,
-    TextFolder, UdpInbox, read_words,
+    TcpListen, TextFolder, UdpInbox, read_words,
 };
 use yp_tools::{
     Command, NamedDisk, Outside, ParseFault, Status, named_disks, parse, port_of, run_command,
@@ -22,12 +22,14 @@ use yp_tools::{
 };
 
 /// When the file of a map is locked, which a command reads or writes. A session answers from what it loaded, and may
-/// never write. Netgroups that are reversed are only read.
+/// never write. A server keeps its files for itself, so that each has one writer. Netgroups that are reversed are only
+/// read.
 fn locking_of(command: &Command, name: &MapName) -> Locking {
     match command {
         Command::Build { .. } => Locking::AtOnce,
         Command::Xfr(_) => Locking::AtOnce,
         Command::Walk(_) => Locking::AtOnce,
+        Command::Serve(_) => Locking::AtOnce,
         Command::Revnet { store, .. } if store.map == name.map => Locking::AtOnce,
         _ => Locking::AtFirstWrite,
     }
@@ -50,6 +52,29 @@ fn disks(
         Ok(disks) => Ok(disks),
         Err(AllocError) => Err(NoMemory),
     }
+}
+
+/// The listener and the inbox of a command. One without a port opens none. Any other has it open before it asks
+/// anybody, who may answer at once, and before it answers anybody.
+fn ports(
+    alloc: Global,
+    net: HostRuntime,
+    command: &Command,
+) -> (TcpListen<HostRuntime>, UdpInbox<HostRuntime>) {
+    let connections = match command {
+        Command::Serve(job) => job.connections,
+        _ => 0,
+    };
+    let port = port_of(command);
+    let mut listen = TcpListen::new(alloc, net, port.unwrap_or(0), connections);
+    let mut inbox = UdpInbox::new(net, port.unwrap_or(0));
+    if let Command::Serve(_) = command {
+        listen.open();
+    }
+    if port.is_some() {
+        inbox.open();
+    }
+    (listen, inbox)
 }
 
 /// Ends before anything was done.
@@ -75,18 +100,14 @@ fn main(rt: HostRuntime) -> ExitCode {
     let Ok(disks) = disks(alloc, rt, &command) else {
         return end(&mut notes, &Status::NoMemory);
     };
-    // A command without a port opens none. Any other has it open before it asks anybody, who may answer at once.
-    let port = port_of(&command);
-    let mut inbox = UdpInbox::new(rt, port.unwrap_or(0));
-    if port.is_some() {
-        inbox.open();
-    }
+    let (listen, inbox) = ports(alloc, rt, &command);
     let outside = Outside {
         input,
         output: DirectWriter::new(Patient::new(StandardStream::Output(rt.stdout()), rt)),
         notes,
         disks,
         clock: SystemClock::new(&rt),
+        listen,
         dial: TcpDial::new(alloc, rt),
         inbox,
         texts: TextFolder::new(rt),

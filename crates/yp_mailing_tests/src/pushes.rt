@@ -2,14 +2,18 @@
 
 ghost use Rattle.std.specs.Prelude.{◌≡◌, All, IfOk};
 ghost use Rattle.yp_io.specs.MemDial.{IsNew};
+ghost use Rattle.yp_listen.specs.MemListen.{calls_of};
+ghost use Rattle.yp_worker.specs.Receptions.{IsFair};
 ghost use Rattle.yp_words.specs.Words.{disk_names, texts};
 ghost use Rattle.yp_office.specs.Disks.{names_of};
 
 use crate::given::{assert_same, bytes};
-use crate::stage::{Datagram, Memory, copied, mail_of, strings};
+use crate::stage::{Datagram, Memory, copied, mail_of, nobody, strings};
 use std::alloc::{AllocError, Global};
 use std::process::Abort;
 use std::random::RandomSource;
+use std::sync::Wait;
+use std::thread::Threads;
 use yp_board::MapName;
 use yp_io::{MemDial, MemDisk, MemSink, MemSource, MemTexts, MemWire, Pair, Peer, SetClock};
 use yp_mem::MemInbox;
@@ -86,7 +90,8 @@ fn wires_of<R: Abort>(rt: &R, alloc: Global, row: &Row) -> Vec<MemWire>
 
 /// The outside of a row.
 fn memory_of<R: Abort>(rt: &R, alloc: Global, words: &[String], row: &Row) -> Memory
-    ensures { names_of result.disks.items ≡ disk_names (texts words.now) }
+    ensures disks { names_of result.disks.items ≡ disk_names (texts words.now) }
+    ensures fair { IsFair (calls_of result.listen) }
 {
     let mail = mail_of(rt, alloc, row.brings);
     let failing = copied(rt, alloc, row.failing);
@@ -98,6 +103,7 @@ fn memory_of<R: Abort>(rt: &R, alloc: Global, words: &[String], row: &Row) -> Me
         notes: MemSink::new(alloc, 4096, Vec::new(alloc)),
         disks: disks_of(alloc, words, row).expect(rt, "disks"),
         clock: SetClock { moment: 500 },
+        listen: nobody(alloc),
         dial: MemDial::new(alloc, wires, dials),
         inbox: MemInbox::new(alloc, mail, failing),
         texts: MemTexts::new(Vec::new(alloc), Vec::new(alloc)),
@@ -105,7 +111,11 @@ fn memory_of<R: Abort>(rt: &R, alloc: Global, words: &[String], row: &Row) -> Me
 }
 
 /// Runs the words of a row.
-fn play<R: RandomSource + Abort>(rt: &R, alloc: Global, row: &Row) -> (Status, Memory) {
+fn play<R: Threads + Wait + RandomSource + Abort + Sync>(
+    rt: &R,
+    alloc: Global,
+    row: &Row,
+) -> (Status, Memory) {
     let words = strings(rt, alloc, row.words);
     let outside = memory_of(rt, alloc, &words, row);
     run(alloc, rt, &words, outside)
@@ -125,7 +135,7 @@ fn told_of<'a>(status: &Status, outside: &'a Memory) -> Told<'a> {
     )
 }
 
-fn try_row<R: RandomSource + Abort>(rt: &R, alloc: Global, row: &Row) {
+fn try_row<R: Threads + Wait + RandomSource + Abort + Sync>(rt: &R, alloc: Global, row: &Row) {
     let (status, outside) = play(rt, alloc, row);
     let came = told_of(&status, &outside);
     let wanted = (

@@ -2,6 +2,8 @@
 
 ghost use Rattle.std.specs.Prelude.{◌≡◌, All, IfOk};
 ghost use Rattle.yp_io.specs.MemDial.{IsNew};
+ghost use Rattle.yp_listen.specs.MemListen.{calls_of};
+ghost use Rattle.yp_worker.specs.Receptions.{IsFair};
 ghost use Rattle.yp_words.specs.Words.{disk_names, texts};
 ghost use Rattle.yp_office.specs.Disks.{names_of};
 
@@ -9,13 +11,25 @@ use crate::given::{assert_same, bytes};
 use std::alloc::{AllocError, Global};
 use std::process::Abort;
 use std::random::RandomSource;
+use std::sync::Wait;
+use std::thread::Threads;
 use yp_board::MapName;
 use yp_io::{Letter, MemDial, MemDisk, MemSink, MemSource, MemTexts, MemWire, Peer, SetClock};
+use yp_listen::MemListen;
 use yp_mem::MemInbox;
 use yp_tools::{NamedDisk, Outside, Status, disk_names, named_disks, run};
 
 /// The outside in memory.
-pub type Memory = Outside<MemSource, MemSink, MemDisk, SetClock, MemDial, MemInbox, MemTexts>;
+pub type Memory = Outside<
+    MemSource,
+    MemSink,
+    MemDisk,
+    SetClock,
+    MemListen,
+    MemDial,
+    MemInbox,
+    MemTexts,
+>;
 
 /// A datagram in hexadecimal words, and who sent it or whom it is for.
 pub type Datagram = (Peer, &'static [&'static str]);
@@ -92,9 +106,17 @@ fn no_wires(alloc: Global) -> Vec<MemWire>
     Vec::new(alloc)
 }
 
+/// A listener that nobody calls.
+pub fn nobody(alloc: Global) -> MemListen
+    ensures { IsFair (calls_of result) }
+{
+    MemListen::new(alloc, Vec::new(alloc), 0, Vec::new(alloc))
+}
+
 /// The outside of a row.
 fn memory_of<R: Abort>(rt: &R, alloc: Global, words: &[String], row: &Row) -> Memory
-    ensures { names_of result.disks.items ≡ disk_names (texts words.now) }
+    ensures disks { names_of result.disks.items ≡ disk_names (texts words.now) }
+    ensures fair { IsFair (calls_of result.listen) }
 {
     let mail = mail_of(rt, alloc, row.brings);
     let failing = copied(rt, alloc, row.failing);
@@ -104,6 +126,7 @@ fn memory_of<R: Abort>(rt: &R, alloc: Global, words: &[String], row: &Row) -> Me
         notes: MemSink::new(alloc, 4096, Vec::new(alloc)),
         disks: disks_of(alloc, words).expect(rt, "disks"),
         clock: SetClock { moment: 500 },
+        listen: nobody(alloc),
         dial: MemDial::new(alloc, no_wires(alloc), Vec::new(alloc)),
         inbox: MemInbox::new(alloc, mail, failing),
         texts: MemTexts::new(Vec::new(alloc), Vec::new(alloc)),
@@ -111,7 +134,11 @@ fn memory_of<R: Abort>(rt: &R, alloc: Global, words: &[String], row: &Row) -> Me
 }
 
 /// Runs these words.
-fn play<R: RandomSource + Abort>(rt: &R, alloc: Global, row: &Row) -> (Status, Memory) {
+fn play<R: Threads + Wait + RandomSource + Abort + Sync>(
+    rt: &R,
+    alloc: Global,
+    row: &Row,
+) -> (Status, Memory) {
     let words = strings(rt, alloc, row.words);
     let outside = memory_of(rt, alloc, &words, row);
     run(alloc, rt, &words, outside)
@@ -155,7 +182,7 @@ fn told_of<'a>(status: &Status, outside: &'a Memory, letters: &[Letter]) -> Told
 }
 
 /// Runs a row, and compares what came of it.
-pub fn try_row<R: RandomSource + Abort>(rt: &R, alloc: Global, row: &Row) {
+pub fn try_row<R: Threads + Wait + RandomSource + Abort + Sync>(rt: &R, alloc: Global, row: &Row) {
     let letters = letters_of(rt, alloc, row);
     let (status, outside) = play(rt, alloc, row);
     let came = told_of(&status, &outside, &letters);

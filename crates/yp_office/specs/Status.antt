@@ -14,7 +14,8 @@ use Rattle.yp_office.specs.declared.status.Status.{Status}
 use Rattle.yp_office.specs.declared.status.Status.TheVariants.{Done, No, Usage, ReadFault, WriteFault, Torn, TooLong}
 use Rattle.yp_office.specs.declared.status.Status.TheVariants.{NoMemory, Damaged, NoVersion, DiskFault, Yp, Denied}
 use Rattle.yp_office.specs.declared.status.Status.TheVariants.{BadReply, BadXid, DialFault, Rows, OrderSpent, Refused}
-use Rattle.yp_office.specs.declared.status.Status.TheVariants.{GenerationsSpent, Enough, Xfr, InboxFault, Unanswered}
+use Rattle.yp_office.specs.declared.status.Status.TheVariants.{GenerationsSpent, Enough, Xfr, ListenFault, InboxFault}
+use Rattle.yp_office.specs.declared.status.Status.TheVariants.{Unanswered}
 
 -- the code with which the program ends
 abbrev pub code_of : Status → ℕ
@@ -39,6 +40,7 @@ code_of (Rows row rule) = 17
 code_of OrderSpent = 18
 code_of (Refused master) = 19
 code_of (GenerationsSpent map) = 20
+code_of ListenFault = 21
 code_of InboxFault = 22
 code_of Enough = 23
 code_of (Unanswered turns) = 24
@@ -79,6 +81,7 @@ note (Rows row rule) = note_line (codes "row " ++ decimal row ++ codes " rule " 
 note OrderSpent = note_line (codes "order spent")
 note (Refused master) = note_line (codes "mastered by " ++ master.items)
 note (GenerationsSpent map) = note_line (codes "generations spent in " ++ map_text (name_view map))
+note ListenFault = note_line (codes "listen fault")
 note InboxFault = note_line (codes "inbox fault")
 note Enough = note_line (codes "enough calls")
 note (Unanswered turns) = note_line (codes "unanswered after " ++ decimal turns ++ codes " turns")

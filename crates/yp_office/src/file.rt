@@ -1,11 +1,13 @@
 //! The status of a stored file that can't be loaded.
 
+ghost use Rattle.std.specs.Prelude.{◌<◌, All, length, map};
 ghost use Rattle.yp_board.specs.Catalogues.{name_view};
 ghost use Rattle.yp_words.specs.Words.{IsNamed};
 ghost use Rattle.yp_office.specs.Status.{IsTellable};
-ghost use Rattle.yp_office.specs.Files.{Fails};
+ghost use Rattle.yp_office.specs.Files.{Fails, TellsOf};
 
 use crate::status::Status;
+use std::alloc::{AllocError, Global};
 use yp_board::MapName;
 use yp_slot::SlotFault;
 
@@ -19,5 +21,18 @@ pub fn status_of_file(map: MapName, fault: SlotFault) -> Status
         SlotFault::Damaged { at, rule } => Status::Damaged { map, at, rule },
         SlotFault::DiskFault => Status::DiskFault { map },
         SlotFault::NoMemory => Status::NoMemory,
+    }
+}
+
+/// The status of a map whose file wasn't loaded, by its number. Memory may run out for its name.
+pub fn status_of_map(alloc: Global, names: &[MapName], number: u32, fault: SlotFault) -> Status
+    requires number { number < length names.now }
+    requires named { All IsNamed (map name_view names.now) }
+    ensures tells { TellsOf (map name_view names.now) number fault result }
+    ensures tellable { IsTellable result }
+{
+    match names[number as usize].copy(alloc) {
+        Ok(store) => status_of_file(store, fault),
+        Err(AllocError) => Status::NoMemory,
     }
 }

@@ -13,7 +13,7 @@ mod row;
 mod status;
 
 pub use disks::{Apart, NamedDisk, named_disks, put_together, take_apart};
-pub use file::status_of_file;
+pub use file::{status_of_file, status_of_map};
 pub use hosts::table_of;
 pub use lines::{LINE_MAX, Line, add, add_map, add_number};
 pub use office::Office;

@@ -63,6 +63,8 @@ pub enum Status {
     Refused { master: Vec<u8> },
     /// The stored file of this map has the greatest generation that there is.
     GenerationsSpent { map: MapName },
+    /// The listener failed.
+    ListenFault,
     /// The inbox failed.
     InboxFault,
     /// As many calls were read as a session may have.
@@ -98,6 +100,7 @@ impl Status {
             Status::OrderSpent => 18,
             Status::Refused { .. } => 19,
             Status::GenerationsSpent { .. } => 20,
+            Status::ListenFault => 21,
             Status::InboxFault => 22,
             Status::Enough => 23,
             Status::Unanswered { .. } => 24,
@@ -131,6 +134,7 @@ impl Status {
             Status::OrderSpent => line(b"order spent", b""),
             Status::Refused { master } => line(b"mastered by ", master),
             Status::GenerationsSpent { map } => named(b"generations spent in ", map),
+            Status::ListenFault => line(b"listen fault", b""),
             Status::InboxFault => line(b"inbox fault", b""),
             Status::Enough => line(b"enough calls", b""),
             Status::Unanswered { turns } => unanswered(*turns),

@@ -1,6 +1,6 @@
 -- What a session did, by what serving its connection came to.
-use Rattle.std.proofs.Common.{◌≡◌, ℕ, zero, suc, ◌<◌, List, [], ◌∷◌, ◌++◌, length, map, Option, Some, None, Result, Ok, Err, refl, sym, ap, ◌∙◌, subst, arith, inl, inr, get_or}
-use Rattle.std.specs.Prelude.{IfOk, IfErr, OnErr, IfSome, slice_get, slice_index_or, All}
+use Rattle.std.proofs.Common.{◌≡◌, ℕ, ◌<◌, List, [], ◌∷◌, ◌++◌, length, map, Option, Some, None, Result, Ok, Err, refl, sym, ap, ◌∙◌, subst, arith, inl, inr}
+use Rattle.std.specs.Prelude.{IfOk, IfErr, OnErr, IfSome, slice_get}
 use Rattle.std.specs.List.{AllZip}
 use Rattle.std.proofs.lemmas.List.{append-nil, length-append, length-map}
 use Rattle.yp_io.specs.Counts.{HasRisen}
@@ -26,7 +26,6 @@ use Rattle.yp_server.specs.Connections.{Service, service_of, Connection, Serves}
 use Rattle.yp_office.specs.declared.disks.NamedDisk.{NamedDisk}
 use Rattle.yp_office.specs.declared.status.Status.{Status}
 use Rattle.yp_office.specs.declared.status.Status.TheVariants.{Done, ReadFault, WriteFault, Torn, TooLong, NoMemory, Damaged, DiskFault, Enough}
-use Rattle.yp_words.specs.Words.{IsNamed}
 use Rattle.yp_office.specs.Files.{Fails}
 use Rattle.yp_serving.specs.Served.{status_of}
 use Rattle.yp_office.specs.Disks.{names_of, disks_of, total_faults, faults_of}
@@ -167,22 +166,6 @@ read_told (Err (opening.Refused number why)) names status (inl tells) e = absurd
 read_told (Err (opening.Refused number (fault.Damaged at rule))) names status (inr (store, found, fails)) e = absurd (subst (λ s. Fails store (fault.Damaged at rule) s) e fails)
 read_told (Err (opening.Refused number fault.DiskFault)) names status (inr (store, found, fails)) e = absurd (subst (λ s. Fails store fault.DiskFault s) e fails)
 read_told (Err (opening.Refused number fault.NoMemory)) names status (inr (store, found, fails)) e = absurd (subst (λ s. Fails store fault.NoMemory s) e fails)
-
--- ---- names by number
-
--- the name of a map with a number
-pub name_found : (names : List MapName) (number : ℕ) (name : MapName) → number < length names → name ≡ get_or names number name → slice_get (map name_view names) number ≡ Some (name_view name)
-name_found [] number name lt is = absurd (omega (arith, lt))
-name_found (first ∷ names) zero name lt is = ap (λ n. Some (name_view n)) (sym is)
-name_found (first ∷ names) (suc number) name lt is = name_found names number name (omega arith) is
-
-at_found : (names : List Name) (number : ℕ) (name : Name) → slice_get names number ≡ Some name → (number < length names) × (slice_index_or names number name ≡ name)
-at_found [] number name is = absurd cc
-at_found (first ∷ names) zero name is = (omega arith, cc)
-at_found (first ∷ names) (suc number) name is = let more = at_found names number name is in (omega (arith, more.0), more.1)
-
-pub found_named : (names : List Name) (number : ℕ) (name : Name) → All IsNamed names → slice_get names number ≡ Some name → IsNamed name
-found_named names number name all is = let at = at_found names number name is in subst IsNamed at.1 (all number name at.0)
 
 -- ---- the whole
 

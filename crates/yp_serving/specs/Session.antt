@@ -1,5 +1,5 @@
 -- What `session` does: it serves its input as one connection over stored maps.
-use Rattle.std.specs.Prelude.{◌≡◌, ◌≢◌, ◌⊎◌, ◌<◌, ◌≤◌, ℕ, Bool, true, List, [], All, length, slice_get}
+use Rattle.std.specs.Prelude.{◌≡◌, ◌≢◌, ◌<◌, ◌≤◌, ℕ, Bool, true, List, [], All, length, slice_get}
 use Rattle.std.specs.Prelude.{Option, Some, Result, Ok, Err, ⊤}
 use Rattle.std.specs.List.{AllZip}
 use Rattle.yp_io.specs.Disk.{History}
@@ -23,7 +23,7 @@ use Rattle.yp_publish.specs.Keeping.{keeping_of}
 use Rattle.yp_server.specs.Locals.{telling_of}
 use Rattle.yp_publish.specs.Grown.{AtDisk, LeavesOr}
 use Rattle.yp_server.specs.Connections.{Service, Connection, Serves, service_of}
-use Rattle.yp_office.specs.Files.{Fails}
+use Rattle.yp_office.specs.Files.{TellsOf}
 use Rattle.yp_office.specs.declared.office.Office.{Office}
 use Rattle.yp_office.specs.Seeing.{Seeing, moment, HasCauses, DiskFails}
 use Rattle.yp_office.specs.declared.disks.NamedDisk.{NamedDisk}
@@ -118,11 +118,6 @@ pub record SessionDoes {S K D C A I T : Type 0} (seen : Seeing S K D C A I T) (o
   pub inbox : new.inbox ≡ old.inbox
 
 -- ---- statuses
-
--- The fault of a map's file is told with its name, unless memory ran out for that.
-abbrev pub TellsOf : List Name → ℕ → SlotFault → Status → Type 0
-TellsOf names number why status =
-    (status ≡ NoMemory) ⊎ ((store : Name) × (slice_get names number ≡ Some store) × Fails store why status)
 
 -- How a connection ended, or why it wasn't served, is told by this status, where maps have these names.
 abbrev pub TellsEnd : Result End OpenFault → List Name → Status → Type 0

@@ -1,6 +1,6 @@
 //! The command `session`: one connection over stored maps.
 
-ghost use Rattle.std.specs.Prelude.{◌≡◌, ◌≢◌, ℕ, ◌≤◌, ◌<◌, None, IsTrue, All, map, length};
+ghost use Rattle.std.specs.Prelude.{◌≡◌, ◌≢◌, ℕ, ◌≤◌, None, IsTrue, All, map, length};
 ghost use Rattle.yp_io.specs.Counts.{HasRisen};
 ghost use Rattle.yp_slot.specs.Stands.{file_max};
 ghost use Rattle.yp_board.specs.Catalogues.{name_view, maps_max, catalog_fault};
@@ -12,40 +12,25 @@ ghost use Rattle.yp_publish.specs.Grown.{AtDisk, LeavesOr};
 ghost use Rattle.yp_server.specs.Connections.{service_of};
 ghost use Rattle.yp_words.specs.Words.{IsNamed, host_view};
 ghost use Rattle.yp_office.specs.Disks.{names_of, disks_of, faults_of};
-ghost use Rattle.yp_serving.specs.Session.{Sessions, TellsEnd, TellsOf, HasMapNumber, connection_at};
+ghost use Rattle.yp_serving.specs.Session.{Sessions, TellsEnd, HasMapNumber, connection_at};
 ghost use Rattle.yp_serving.specs.Session.{SessionDoes, session_may_end};
 ghost use Rattle.yp_office.specs.Seeing.{seeing, IsPassedOn};
 ghost use Rattle.yp_office.specs.Status.{IsTellable};
 
 use crate::end::status_of_end;
-use std::alloc::{AllocError, Global};
+use std::alloc::Global;
 use std::random::RandomSource;
 use yp_board::{Catalog, CatalogFault, MapName};
 use yp_io::{Clock, Dial, Disk, Inbox, NoMemory, Pair, Peer, Sink, Source, Texts};
 use yp_office::{
-    Apart, NamedDisk, Office, Status, put_together, status_of_file, table_of, take_apart,
+    Apart, NamedDisk, Office, Status, put_together, status_of_map, table_of, take_apart,
 };
 use yp_publish::OpenFault;
 use yp_rpc::laws;
 use yp_server::{Desk, Stock, serve_wire};
 use yp_session::{End, Witness};
-use yp_slot::SlotFault;
 use yp_words::HostWord;
 use yp_xfr::Hosts;
-
-/// The status of a map whose file wasn't loaded, by its number. Memory may run out for its name.
-fn status_of_map(alloc: Global, names: &[MapName], number: u32, fault: SlotFault) -> Status
-    requires number { number < length names.now }
-    requires named { All IsNamed (map name_view names.now) }
-    ensures tells { TellsOf (map name_view names.now) number fault result }
-    ensures may_end { IsTrue (session_may_end result) }
-    ensures tellable { IsTellable result }
-{
-    match names[number as usize].copy(alloc) {
-        Ok(store) => status_of_file(store, fault),
-        Err(AllocError) => Status::NoMemory,
-    }
-}
 
 /// The status of a connection that ended, or of one that wasn't served.
 fn status_of(alloc: Global, served: Result<End, OpenFault>, names: &[MapName]) -> Status

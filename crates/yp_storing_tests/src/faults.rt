@@ -6,6 +6,8 @@ use crate::stage::{FAIR, Scene, Stands, file_of, play, stands_of, strings, told_
 use std::alloc::Global;
 use std::process::Abort;
 use std::random::RandomSource;
+use std::sync::Wait;
+use std::thread::Threads;
 use yp_io::MemDisk;
 use yp_tools::NamedDisk;
 
@@ -64,7 +66,7 @@ const NO_LINE: Fault = Fault {
     ..NO_WIRE
 };
 
-fn try_fault<R: RandomSource + Abort>(
+fn try_fault<R: Threads + Wait + RandomSource + Abort + Sync>(
     rt: &R,
     alloc: Global,
     words: &[String],
@@ -102,7 +104,7 @@ fn wire_and_output_fail(rt: HostRuntime) {
 }
 
 /// A read or a write of the wire fails: there is no transfer.
-fn try_wire<'a, R: RandomSource + Abort>(
+fn try_wire<'a, R: Threads + Wait + RandomSource + Abort + Sync>(
     rt: &R,
     alloc: Global,
     words: &[String],
@@ -166,7 +168,7 @@ const SITES: [Site; 2] = [
 ];
 
 /// Compares what the files that a crash may leave stand for.
-fn try_crashes<R: RandomSource + Abort>(
+fn try_crashes<R: Threads + Wait + RandomSource + Abort + Sync>(
     rt: &R,
     alloc: Global,
     disks: &[NamedDisk<MemDisk>],
@@ -189,7 +191,7 @@ fn try_crashes<R: RandomSource + Abort>(
 
 /// What is told where this call of the disk fails, and what a crash may leave then: before a call that stores, what
 /// stood; at the last, what stood or the new version; and once all were done, that alone.
-fn try_disk<R: RandomSource + Abort>(
+fn try_disk<R: Threads + Wait + RandomSource + Abort + Sync>(
     rt: &R,
     alloc: Global,
     words: &[String],
@@ -217,7 +219,7 @@ fn try_disk<R: RandomSource + Abort>(
 }
 
 /// A call of the disk fails in each way: from it on, and then it alone.
-fn try_call<'a, R: RandomSource + Abort>(
+fn try_call<'a, R: Threads + Wait + RandomSource + Abort + Sync>(
     rt: &R,
     alloc: Global,
     words: &[String],
@@ -243,7 +245,12 @@ fn try_call<'a, R: RandomSource + Abort>(
     try_disk(rt, alloc, words, site, call, &only);
 }
 
-fn try_site<R: RandomSource + Abort>(rt: &R, alloc: Global, words: &[String], site: &Site) {
+fn try_site<R: Threads + Wait + RandomSource + Abort + Sync>(
+    rt: &R,
+    alloc: Global,
+    words: &[String],
+    site: &Site,
+) {
     let file = bytes(rt, alloc, site.file);
     let wire = bytes(rt, alloc, REPLIES);
     for call in 0..=site.last {

@@ -8,6 +8,8 @@ use crate::stage::{FAIR, Scene, Stands, file_of, play, stands_of, strings, told_
 use std::alloc::Global;
 use std::process::Abort;
 use std::random::RandomSource;
+use std::sync::Wait;
+use std::thread::Threads;
 use yp_io::MemDisk;
 use yp_tools::NamedDisk;
 
@@ -108,14 +110,14 @@ fn failing<'a>(netgroup: &'a [u8], netgroup_disk: &'a [u64]) -> Scene<'a> {
     }
 }
 
-fn try_case<R: RandomSource + Abort>(rt: &R, alloc: Global, case: &Case) {
+fn try_case<R: Threads + Wait + RandomSource + Abort + Sync>(rt: &R, alloc: Global, case: &Case) {
     let file = bytes(rt, alloc, case.file);
     let netgroup = bytes(rt, alloc, case.netgroup);
     try_files(rt, alloc, case, &file, &netgroup);
 }
 
 /// Runs a case over both files, where nothing fails.
-fn try_files<'a, R: RandomSource + Abort>(
+fn try_files<'a, R: Threads + Wait + RandomSource + Abort + Sync>(
     rt: &R,
     alloc: Global,
     case: &Case,
@@ -146,7 +148,7 @@ fn reverses_and_refusals(rt: HostRuntime) {
 }
 
 /// What is told, and the bytes of the first file.
-fn try_scene<R: RandomSource + Abort>(
+fn try_scene<R: Threads + Wait + RandomSource + Abort + Sync>(
     rt: &R,
     alloc: Global,
     row: &str,
@@ -205,7 +207,7 @@ fn each_netgroup_call_fails(rt: HostRuntime) {
 }
 
 /// Compares what the files that a crash may leave of the first disk stand for.
-fn try_crashes<R: RandomSource + Abort>(
+fn try_crashes<R: Threads + Wait + RandomSource + Abort + Sync>(
     rt: &R,
     alloc: Global,
     disks: &[NamedDisk<MemDisk>],
@@ -231,7 +233,7 @@ fn try_crashes<R: RandomSource + Abort>(
 const LAST: u64 = 11;
 
 /// What is told where this call of the map's disk fails, and what a crash may leave then.
-fn try_disk<R: RandomSource + Abort>(
+fn try_disk<R: Threads + Wait + RandomSource + Abort + Sync>(
     rt: &R,
     alloc: Global,
     words: &[String],

@@ -2,20 +2,34 @@
 
 ghost use Rattle.std.specs.Prelude.{◌≡◌, All, IfOk};
 ghost use Rattle.yp_io.specs.MemDial.{IsNew};
+ghost use Rattle.yp_listen.specs.MemListen.{calls_of};
+ghost use Rattle.yp_worker.specs.Receptions.{IsFair};
 ghost use Rattle.yp_words.specs.Words.{disk_names, texts};
 ghost use Rattle.yp_office.specs.Disks.{names_of};
 
 use std::alloc::{AllocError, Global};
 use std::process::Abort;
 use std::random::RandomSource;
+use std::sync::Wait;
+use std::thread::Threads;
 use yp_board::MapName;
 use yp_io::{MemDial, MemDisk, MemSink, MemSource, MemTexts, MemWire, Pair, SetClock};
+use yp_listen::MemListen;
 use yp_mem::MemInbox;
 use yp_slot::Slot;
 use yp_tools::{NamedDisk, Outside, Status, disk_names, named_disks, run};
 
 /// The outside in memory.
-pub type Memory = Outside<MemSource, MemSink, MemDisk, SetClock, MemDial, MemInbox, MemTexts>;
+pub type Memory = Outside<
+    MemSource,
+    MemSink,
+    MemDisk,
+    SetClock,
+    MemListen,
+    MemDial,
+    MemInbox,
+    MemTexts,
+>;
 
 /// What a run finds outside. Calls that fail are told by their numbers, from 0.
 #[derive(Clone, Copy)]
@@ -111,9 +125,17 @@ fn wires_of<R: Abort>(rt: &R, alloc: Global, scene: &Scene<'_>) -> Vec<MemWire>
     wires
 }
 
+/// A listener that nobody calls.
+fn nobody(alloc: Global) -> MemListen
+    ensures { IsFair (calls_of result) }
+{
+    MemListen::new(alloc, Vec::new(alloc), 0, Vec::new(alloc))
+}
+
 /// The outside of a scene.
 fn memory_of<R: Abort>(rt: &R, alloc: Global, words: &[String], scene: &Scene<'_>) -> Memory
-    ensures { names_of result.disks.items ≡ disk_names (texts words.now) }
+    ensures disks { names_of result.disks.items ≡ disk_names (texts words.now) }
+    ensures fair { IsFair (calls_of result.listen) }
 {
     Outside {
         input: MemSource::new(Vec::new(alloc), 64, Vec::new(alloc)),
@@ -121,6 +143,7 @@ fn memory_of<R: Abort>(rt: &R, alloc: Global, words: &[String], scene: &Scene<'_
         notes: MemSink::new(alloc, 4096, Vec::new(alloc)),
         disks: disks_of(alloc, words, scene).expect(rt, "disks"),
         clock: SetClock { moment: 500 },
+        listen: nobody(alloc),
         dial: MemDial::new(
             alloc,
             wires_of(rt, alloc, scene),
@@ -132,7 +155,7 @@ fn memory_of<R: Abort>(rt: &R, alloc: Global, words: &[String], scene: &Scene<'_
 }
 
 /// Runs these words.
-pub fn play<R: RandomSource + Abort>(
+pub fn play<R: Threads + Wait + RandomSource + Abort + Sync>(
     rt: &R,
     alloc: Global,
     words: &[String],

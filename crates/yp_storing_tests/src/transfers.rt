@@ -9,6 +9,8 @@ use crate::stage::{FAIR, Scene, file_of, play, strings, told_of};
 use std::alloc::Global;
 use std::process::Abort;
 use std::random::RandomSource;
+use std::sync::Wait;
+use std::thread::Threads;
 
 const NEWER: &[&str] = &[
     "xfr",
@@ -204,7 +206,7 @@ const CASES: [Case; 11] = [
 ];
 
 /// Compares what is told over a file and a wire, and the file that is left.
-fn try_scene<'a, R: RandomSource + Abort>(
+fn try_scene<'a, R: Threads + Wait + RandomSource + Abort + Sync>(
     rt: &R,
     alloc: Global,
     case: &Case,
@@ -225,7 +227,7 @@ fn try_scene<'a, R: RandomSource + Abort>(
     assert_same(rt, &came, &(told, left), case.row);
 }
 
-fn try_case<R: RandomSource + Abort>(rt: &R, alloc: Global, case: &Case) {
+fn try_case<R: Threads + Wait + RandomSource + Abort + Sync>(rt: &R, alloc: Global, case: &Case) {
     let file = bytes(rt, alloc, case.file);
     let wire = bytes(rt, alloc, case.replies);
     let left = bytes(rt, alloc, case.left);

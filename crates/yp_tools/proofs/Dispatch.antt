@@ -6,11 +6,11 @@ use Rattle.yp_words.specs.Words.{Meaning}
 use Rattle.yp_office.specs.declared.office.Office.{Office}
 use Rattle.yp_office.specs.declared.status.Status.{Status}
 use Rattle.yp_office.specs.Seeing.{Seeing, IsPassedOn}
-use Rattle.yp_tools.specs.Commands.{CommandDoes, may_end}
+use Rattle.yp_tools.specs.Commands.{AloneDoes, may_end}
 
 module _ {S K D C A I T : Type 0} (seen : Seeing S K D C A I T) (old : Office S K D C A I T) where
   pub same_does : (before : List Wire) (meaning meant : Meaning) (status told : Status) (new now : Office S K D C A I T) (after wires : List Wire) → meaning ≡ meant → status ≡ told → new ≡ now → after ≡ wires
-      → CommandDoes seen meant told old now before wires → CommandDoes seen meaning status old new before after
+      → AloneDoes seen meant told old now before wires → AloneDoes seen meaning status old new before after
   same_does before meaning meant status told new now after wires a b c d h = rw (a, b, c, d) h
 
   pub same_passed : (status told : Status) (new now : Office S K D C A I T) → status ≡ told → new ≡ now → IsPassedOn seen told old now → IsPassedOn seen status old new

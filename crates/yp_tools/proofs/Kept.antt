@@ -1,12 +1,12 @@
 -- What every command keeps: the names of the disks, and the moment that the clock tells.
 use Rattle.std.proofs.Common.{◌≡◌, List, refl, ap, ◌∙◌}
 use Rattle.yp_session.specs.Wires.{Wire}
-use Rattle.yp_words.specs.Words.{Meaning, Once, Session, Check, Build, Xfr, Walk, Sample, Push, Bind, Portmap, Getport, Ask, Revnet}
+use Rattle.yp_words.specs.Words.{Meaning, Once, Session, Serve, Check, Build, Xfr, Walk, Sample, Push, Bind, Portmap, Getport, Ask, Revnet}
 use Rattle.yp_office.specs.declared.office.Office.{Office}
 use Rattle.yp_office.specs.declared.status.Status.{Status}
 use Rattle.yp_office.specs.Disks.{names_of}
 use Rattle.yp_office.specs.Seeing.{Seeing, moment}
-use Rattle.yp_tools.specs.Commands.{CommandDoes}
+use Rattle.yp_tools.specs.Commands.{AloneDoes}
 
 -- both
 pub record KeepsOffice {S K D C A I T : Type 0} (seen : Seeing S K D C A I T) (old new : Office S K D C A I T) : Type 0 where
@@ -20,10 +20,11 @@ module _ {S K D C A I T : Type 0} (seen : Seeing S K D C A I T) (status : Status
     told = ap (λ (o : Office S K D C A I T). seen.clock.moment o.clock) same ∙ told;
   }
 
-  pub command_keeps : (meaning : Meaning) → CommandDoes seen meaning status old new before after → KeepsOffice seen old new
-  unfolding CommandDoes
+  pub command_keeps : (meaning : Meaning) → AloneDoes seen meaning status old new before after → KeepsOffice seen old new
+  unfolding AloneDoes
   command_keeps (Once store rows) h = by_stays (record old { wire = new.wire }) h.stays refl refl
   command_keeps (Session own peer stores hosts) h = record { names = h.names; told = h.told }
+  command_keeps (Serve own port workers connections turns stores hosts) h = absurd h
   command_keeps (Check store) h = record { names = h.0.names; told = ap (λ (o : Office S K D C A I T). seen.clock.moment o.clock) h.0.stays }
   command_keeps (Build name store flag) h = record { names = h.0.does.names; told = h.0.does.told }
   command_keeps (Xfr name force store host flag) h = record {

@@ -1,7 +1,7 @@
 -- What the program does, by its command: one line each.
-use Rattle.std.specs.Prelude.{◌≡◌, ◌⊎◌, ℕ, Bool, IsTrue, List, Result, Ok, Err}
+use Rattle.std.specs.Prelude.{◌≡◌, ◌⊎◌, ℕ, Bool, IsTrue, List, Result, Ok, Err, ⊤}
 use Rattle.yp_session.specs.Wires.{Wire}
-use Rattle.yp_words.specs.Words.{Meaning, Once, Session, Check, Build, Xfr, Walk}
+use Rattle.yp_words.specs.Words.{Meaning, Once, Session, Serve, Check, Build, Xfr, Walk}
 use Rattle.yp_words.specs.Words.{Sample, Push, Bind, Portmap, Getport, Ask, TakesMemory, Revnet}
 use Rattle.yp_words.specs.declared.words.ParseFault.{ParseFault}
 use Rattle.yp_words.specs.declared.words.ParseFault.TheVariants as fault
@@ -12,6 +12,8 @@ use Rattle.yp_office.specs.Seeing.{Seeing}
 use Rattle.yp_serving.specs.Once.{OnceDoes, once_may_end}
 use Rattle.yp_serving.specs.Sample.{SampleDoes, sample_may_end}
 use Rattle.yp_serving.specs.Session.{SessionDoes, session_may_end}
+use Rattle.yp_worker.specs.Receptions.{Opening}
+use Rattle.yp_hosting.specs.Serve.{ServeDoes, serve_order, serve_may_end}
 use Rattle.yp_storing.specs.Build.{BuildDoes, build_may_end}
 use Rattle.yp_storing.specs.Check.{CheckDoes, check_may_end}
 use Rattle.yp_storing.specs.Revnet.{RevnetDoes, revnet_may_end}
@@ -26,53 +28,71 @@ use Rattle.yp_tools.specs.Transferring.{TransferDoes}
 use Rattle.yp_tools.specs.Walking.{WalkingDoes}
 use Rattle.yp_tools.specs.declared.program.Outside.{Outside}
 
--- what a command does to the office and to a witness's wires, with this status
-unfoldable pub CommandDoes : {S K D C A I T : Type 0} → Seeing S K D C A I T → Meaning → Status
+-- the command serves no listener
+abbrev pub IsAlone : Meaning → Type 0
+IsAlone (Serve own port workers connections turns stores hosts) = ⊥
+IsAlone meaning = ⊤
+
+-- what a command that serves no listener does to the office and to a witness's wires, with this status
+unfoldable pub AloneDoes : {S K D C A I T : Type 0} → Seeing S K D C A I T → Meaning → Status
     → (old new : Office S K D C A I T) → (before after : List Wire) → Type 0
-CommandDoes seen (Once store rows) status old new before after = OnceDoes seen store rows status old new before after
-CommandDoes seen (Session own peer stores hosts) status old new before after =
+AloneDoes seen (Serve own port workers connections turns stores hosts) status old new before after = ⊥
+AloneDoes seen (Once store rows) status old new before after = OnceDoes seen store rows status old new before after
+AloneDoes seen (Session own peer stores hosts) status old new before after =
     SessionDoes seen own peer stores hosts status old new before after
-CommandDoes seen (Check store) status old new before after = CheckDoes seen store status old new × (after ≡ before)
-CommandDoes seen (Build name store flag) status old new before after =
+AloneDoes seen (Check store) status old new before after = CheckDoes seen store status old new × (after ≡ before)
+AloneDoes seen (Build name store flag) status old new before after =
     BuildDoes seen name store flag status old new × (after ≡ before)
-CommandDoes seen (Xfr name force store host flag) status old new before after =
+AloneDoes seen (Xfr name force store host flag) status old new before after =
     TransferDoes seen (order_of name force store host flag) status old new × (after ≡ before)
-CommandDoes seen (Walk name force store host port turns flag) status old new before after =
+AloneDoes seen (Walk name force store host port turns flag) status old new before after =
     WalkingDoes seen (order_of name force store host flag) turns status old new × (after ≡ before)
-CommandDoes seen (Revnet name store) status old new before after =
+AloneDoes seen (Revnet name store) status old new before after =
     RevnetDoes seen name store status old new × (after ≡ before)
-CommandDoes seen (Sample start count) status old new before after =
+AloneDoes seen (Sample start count) status old new before after =
     SampleDoes seen start count status old new × (after ≡ before)
-CommandDoes seen (Push name port window turns store hosts) status old new before after =
+AloneDoes seen (Push name port window turns store hosts) status old new before after =
     PushDoes seen (job_of name port window turns store hosts) status old new × (after ≡ before)
-CommandDoes seen (Bind port policy turns domain hosts) status old new before after =
+AloneDoes seen (Bind port policy turns domain hosts) status old new before after =
     BindDoes seen turns domain (servers_of hosts) policy status old new × (after ≡ before)
-CommandDoes seen (Portmap port turns) status old new before after =
+AloneDoes seen (Portmap port turns) status old new before after =
     PortmapDoes seen turns status old new × (after ≡ before)
-CommandDoes seen (Getport port turns peer prog vers prot) status old new before after =
+AloneDoes seen (Getport port turns peer prog vers prot) status old new before after =
     GetportDoes seen turns (begun peer prog vers prot) status old new × (after ≡ before)
-CommandDoes seen (Ask peer question) status old new before after =
+AloneDoes seen (Ask peer question) status old new before after =
     AskDoes seen peer question status old new × (after ≡ before)
+
+-- what a command does, to what a listener tells, too: any but `serve` leaves it as it is
+abbrev pub CommandDoes : {S K D C A I T : Type 0} → Seeing S K D C A I T → Meaning → Status
+    → (old new : Office S K D C A I T) → (door door' : Opening) → (before after : List Wire) → Type 0
+CommandDoes seen (Serve own port workers connections turns stores hosts) status old new door door' before after =
+    ServeDoes seen (serve_order own connections turns stores hosts) status old new door door' × (after ≡ before)
+CommandDoes seen meaning status old new door door' before after =
+    AloneDoes seen meaning status old new before after × (door' ≡ door)
 
 -- memory ran out for what is copied of the words, and nothing has changed
 pub record IsForgone {S K D C A I T : Type 0} (meaning : Meaning) (status : Status) (old new : Office S K D C A I T)
-    (before after : List Wire) : Type 0 where
+    (door door' : Opening) (before after : List Wire) : Type 0 where
   pub takes_memory : TakesMemory meaning
   pub told : status ≡ NoMemory
   pub stays : new ≡ old
+  pub door_stays : door' ≡ door
   pub unseen : after ≡ before
 
 -- what is done for the command that the words are; words that are none are told, and nothing is done
 abbrev pub Does : {S K D C A I T : Type 0} → Seeing S K D C A I T → Result Meaning ℕ → Status
-    → (old new : Office S K D C A I T) → (before after : List Wire) → Type 0
-Does seen (Ok meaning) status old new before after =
-    CommandDoes seen meaning status old new before after ⊎ IsForgone meaning status old new before after
-Does seen (Err word) status old new before after = (status ≡ Usage word) × (new ≡ old) × (after ≡ before)
+    → (old new : Office S K D C A I T) → (door door' : Opening) → (before after : List Wire) → Type 0
+Does seen (Ok meaning) status old new door door' before after =
+    CommandDoes seen meaning status old new door door' before after
+    ⊎ IsForgone meaning status old new door door' before after
+Does seen (Err word) status old new door door' before after =
+    (status ≡ Usage word) × (new ≡ old) × (door' ≡ door) × (after ≡ before)
 
 -- the statuses with which a command may end
 unfoldable pub may_end : Meaning → Status → Bool
 may_end (Once store rows) status = once_may_end status
 may_end (Session own peer stores hosts) status = session_may_end status
+may_end (Serve own port workers connections turns stores hosts) status = serve_may_end status
 may_end (Check store) status = check_may_end status
 may_end (Build name store flag) status = build_may_end status
 may_end (Xfr name force store host flag) status = xfr_may_end status
@@ -95,7 +115,7 @@ parse_status (fault.Usage word) = Usage word
 parse_status fault.NoMemory = NoMemory
 
 -- what a command reaches of the outside
-abbrev pub office_of : {S K D C A I T : Type 0} → Outside S K D C A I T → Office S K D C A I T
+abbrev pub office_of : {S K D C L A I T : Type 0} → Outside S K D C L A I T → Office S K D C A I T
 office_of outside = record {
   wire = record { source = outside.input; sink = outside.output };
   disks = outside.disks;

@@ -11,7 +11,7 @@ mod program;
 mod transferring;
 mod walking;
 
-pub use program::{Outside, run, run_command, run_watched, tell};
+pub use program::{Outside, run, run_alone, run_command, run_watched, tell};
 pub use yp_office::{NamedDisk, Status, named_disks};
 pub use yp_words::{
     Command, HostWord, KeyValue, ParseFault, disk_names, parse, port_of, stores_of,

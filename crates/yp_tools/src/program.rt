@@ -8,24 +8,31 @@ ghost use Rattle.yp_session.specs.Wires.{Wire};
 ghost use Rattle.yp_office.specs.Disks.{names_of};
 ghost use Rattle.yp_office.specs.Seeing.{seeing, IsPassedOn};
 ghost use Rattle.yp_office.specs.Status.{note, IsTellable};
-ghost use Rattle.yp_tools.specs.Commands.{CommandDoes, Does, MayEnd, may_end, office_of, parse_status};
+ghost use Rattle.yp_worker.specs.Receptions.{IsFair, opening_of};
+ghost use Rattle.yp_hosting.specs.Serve.{ServeDoes, order_view, serve_may_end};
+ghost use Rattle.yp_tools.specs.Commands.{IsAlone, AloneDoes, CommandDoes, Does, MayEnd, may_end, office_of};
+ghost use Rattle.yp_tools.specs.Commands.{parse_status};
 
 use crate::ask::ask;
 use crate::transferring::transfer;
 use crate::walking::walk;
 use std::alloc::Global;
 use std::random::RandomSource;
+use std::sync::Wait;
+use std::thread::Threads;
+use yp_hosting::serve_maps;
 use yp_io::{Clock, Dial, Disk, Inbox, Pair, Sink, Source, Texts, write_all};
+use yp_listen::Listen;
 use yp_mailing::{ask_mapper, bind_domain, push_map, serve_ports};
 use yp_office::{NamedDisk, Office, Status};
 use yp_serving::{serve_once, serve_session, tell_sample};
 use yp_session::{Trail, Witness};
 use yp_storing::{build_map, check_map, reverse_map};
-use yp_words::{Command, ParseFault, parse};
+use yp_words::{Command, ParseFault, ServeJob, parse};
 
 /// What the program reaches outside itself.
 #[derive(Drop)]
-pub struct Outside<S, K, D, C, A, I, T> {
+pub struct Outside<S, K, D, C, L, A, I, T> {
     /// What it reads.
     pub input: S,
     /// What it writes.
@@ -36,6 +43,8 @@ pub struct Outside<S, K, D, C, A, I, T> {
     pub disks: Vec<NamedDisk<D>>,
     /// The clock.
     pub clock: C,
+    /// What accepts connections at the port that its words name.
+    pub listen: L,
     /// What opens connections to servers.
     pub dial: A,
     /// What receives datagrams at the port that its words name.
@@ -44,7 +53,58 @@ pub struct Outside<S, K, D, C, A, I, T> {
     pub texts: T,
 }
 
-/// Does what a command asks for.
+/// What a command reaches, and beside it where it tells how it ended, and what accepts connections.
+fn unpack<S, K, D, C, L, A, I, T>(
+    outside: Outside<S, K, D, C, L, A, I, T>,
+) -> (Office<S, K, D, C, A, I, T>, K, L)
+    ensures office { result.0 ≡ office_of outside }
+    ensures notes { result.1 ≡ outside.notes }
+    ensures listen { result.2 ≡ outside.listen }
+{
+    let wire = Pair {
+        source: outside.input,
+        sink: outside.output,
+    };
+    let office = Office {
+        wire,
+        disks: outside.disks,
+        clock: outside.clock,
+        dial: outside.dial,
+        inbox: outside.inbox,
+        texts: outside.texts,
+    };
+    (office, outside.notes, outside.listen)
+}
+
+/// The outside of these, where it is told how the command ended.
+fn finish<S, K: Sink, D, C, L, A, I, T>(
+    status: &Status,
+    office: Office<S, K, D, C, A, I, T>,
+    notes: K,
+    listen: L,
+) -> Outside<S, K, D, C, L, A, I, T>
+    requires { IsTellable status.now }
+    ensures office { office_of result ≡ office }
+    ensures listen { result.listen ≡ listen }
+    ensures note { ¬ HasRisen (K.faults notes) (K.faults result.notes)
+        → Appends (K.output notes) (K.output result.notes) (note status.now) }
+{
+    let mut notes = notes;
+    tell(&mut notes, status);
+    Outside {
+        input: office.wire.source,
+        output: office.wire.sink,
+        notes,
+        disks: office.disks,
+        clock: office.clock,
+        listen,
+        dial: office.dial,
+        inbox: office.inbox,
+        texts: office.texts,
+    }
+}
+
+/// Does what a command asks for that serves no listener.
 fn obey<S: Source, K: Sink, D: Disk, C: Clock, A: Dial, I: Inbox, T: Texts, W: Witness<S, K>>(
     alloc: Global,
     rt: &impl RandomSource,
@@ -52,9 +112,10 @@ fn obey<S: Source, K: Sink, D: Disk, C: Clock, A: Dial, I: Inbox, T: Texts, W: W
     office: Office<S, K, D, C, A, I, T>,
     witness: &mut W,
 ) -> (Status, Office<S, K, D, C, A, I, T>)
+    requires alone { IsAlone (meaning command) }
     requires names { HasNames (meaning command) }
     requires disks { names_of office.disks.items ≡ stores_of (meaning command) }
-    ensures does { CommandDoes (seeing S.Source K.Sink D.Disk C.Clock A.Dial I.Inbox T.Texts)
+    ensures does { AloneDoes (seeing S.Source K.Sink D.Disk C.Clock A.Dial I.Inbox T.Texts)
         (meaning command) result.0 office result.1 (W.wires witness.old) (W.wires witness.new) }
     ensures may_end { IsTrue (may_end (meaning command) result.0) }
     ensures passed_on { IsPassedOn (seeing S.Source K.Sink D.Disk C.Clock A.Dial I.Inbox T.Texts)
@@ -101,6 +162,7 @@ fn obey<S: Source, K: Sink, D: Disk, C: Clock, A: Dial, I: Inbox, T: Texts, W: W
             hosts,
         } => return serve_session(alloc, rt, name, addr, stores, hosts, office, witness),
         Command::Push(job) => return push_map(alloc, rt, job, office),
+        Command::Serve(_) => unreachable!(),
     };
     (status, office)
 }
@@ -114,13 +176,14 @@ pub fn tell<K: Sink>(notes: &mut K, status: &Status)
     let _ = write_all(notes, &status.note());
 }
 
-/// Does all that a command asks for, on the outside that it hands back, and writes a note of how it ended. The witness
-/// sees the wire behind each record that was answered.
-pub fn run_command<
+/// Does all that a command asks for that serves no listener, on the outside that it hands back, and writes a note of
+/// how it ended. It waits for nobody but the outside. The witness sees the wire behind each record that was answered.
+pub fn run_alone<
     S: Source,
     K: Sink,
     D: Disk,
     C: Clock,
+    L,
     A: Dial,
     I: Inbox,
     T: Texts,
@@ -129,13 +192,15 @@ pub fn run_command<
     alloc: Global,
     rt: &impl RandomSource,
     command: Command,
-    outside: Outside<S, K, D, C, A, I, T>,
+    outside: Outside<S, K, D, C, L, A, I, T>,
     witness: &mut W,
-) -> (Status, Outside<S, K, D, C, A, I, T>)
+) -> (Status, Outside<S, K, D, C, L, A, I, T>)
+    requires alone { IsAlone (meaning command) }
     requires names { HasNames (meaning command) }
     requires disks { names_of outside.disks.items ≡ stores_of (meaning command) }
-    ensures does { CommandDoes (seeing S.Source K.Sink D.Disk C.Clock A.Dial I.Inbox T.Texts) (meaning command) result.0
+    ensures does { AloneDoes (seeing S.Source K.Sink D.Disk C.Clock A.Dial I.Inbox T.Texts) (meaning command) result.0
         (office_of outside) (office_of result.1) (W.wires witness.old) (W.wires witness.new) }
+    ensures listen { result.1.listen ≡ outside.listen }
     ensures may_end { IsTrue (may_end (meaning command) result.0) }
     ensures disks { names_of result.1.disks.items ≡ names_of outside.disks.items }
     ensures clock { C.moment result.1.clock ≡ C.moment outside.clock }
@@ -144,64 +209,124 @@ pub fn run_command<
     ensures note { ¬ HasRisen (K.faults outside.notes) (K.faults result.1.notes)
         → Appends (K.output outside.notes) (K.output result.1.notes) (note result.0) }
 {
-    let Outside {
-        input,
-        output,
-        mut notes,
-        disks,
-        clock,
-        dial,
-        inbox,
-        texts,
-    } = outside;
-    let wire = Pair {
-        source: input,
-        sink: output,
-    };
-    let office = Office {
-        wire,
-        disks,
-        clock,
-        dial,
-        inbox,
-        texts,
-    };
+    let (office, notes, listen) = unpack(outside);
     let (status, office) = obey(alloc, rt, command, office, witness);
-    tell(&mut notes, &status);
-    let outside = Outside {
-        input: office.wire.source,
-        output: office.wire.sink,
-        notes,
-        disks: office.disks,
-        clock: office.clock,
-        dial: office.dial,
-        inbox: office.inbox,
-        texts: office.texts,
-    };
+    let outside = finish(&status, office, notes, listen);
     (status, outside)
 }
 
-/// Does all that the words ask for, as [`run`] does. The witness sees the wire behind each record that was answered.
-pub fn run_watched<
+/// Serves all who call, on the outside that it hands back, and writes a note of how it ended.
+fn run_server<S, K, D, C, L, A, I, T, R>(
+    alloc: Global,
+    rt: &R,
+    job: ServeJob,
+    outside: Outside<S, K, D, C, L, A, I, T>,
+) -> (Status, Outside<S, K, D, C, L, A, I, T>)
+where
     S: Source,
     K: Sink,
-    D: Disk,
-    C: Clock,
-    A: Dial,
-    I: Inbox,
-    T: Texts,
-    W: Witness<S, K>,
->(
+    D: Disk + Send + Drop,
+    C: Clock + Send + Drop,
+    L: Listen + Send + Drop,
+    L::In: Send,
+    L::Out: Send,
+    A: Dial + Send + Drop,
+    A::In: Send,
+    A::Out: Send,
+    I: Inbox + Send + Drop,
+    T: Texts + Send + Drop,
+    R: Threads + Wait + RandomSource + Sync,
+    requires names { HasNames (meaning (Command.Serve job)) }
+    requires disks { names_of outside.disks.items ≡ stores_of (meaning (Command.Serve job)) }
+    requires fair { IsFair (L.past outside.listen) }
+    ensures does { ServeDoes (seeing S.Source K.Sink D.Disk C.Clock A.Dial I.Inbox T.Texts) (order_view job) result.0
+        (office_of outside) (office_of result.1) (opening_of L.past L.most L.accepted L.faults outside.listen)
+        (opening_of L.past L.most L.accepted L.faults result.1.listen) }
+    ensures may_end { IsTrue (serve_may_end result.0) }
+    ensures passed_on { IsPassedOn (seeing S.Source K.Sink D.Disk C.Clock A.Dial I.Inbox T.Texts) result.0
+        (office_of outside) (office_of result.1) }
+    ensures note { ¬ HasRisen (K.faults outside.notes) (K.faults result.1.notes)
+        → Appends (K.output outside.notes) (K.output result.1.notes) (note result.0) }
+{
+    let (office, notes, listen) = unpack(outside);
+    let (status, office, listen) = serve_maps(alloc, rt, job, office, listen);
+    let outside = finish(&status, office, notes, listen);
+    (status, outside)
+}
+
+/// Does all that a command asks for, on the outside that it hands back, and writes a note of how it ended. The witness
+/// sees the wire behind each record that was answered.
+pub fn run_command<S, K, D, C, L, A, I, T, W, R>(
     alloc: Global,
-    rt: &impl RandomSource,
-    words: &[String],
-    outside: Outside<S, K, D, C, A, I, T>,
+    rt: &R,
+    command: Command,
+    outside: Outside<S, K, D, C, L, A, I, T>,
     witness: &mut W,
-) -> (Status, Outside<S, K, D, C, A, I, T>)
-    requires { names_of outside.disks.items ≡ disk_names (texts words.now) }
+) -> (Status, Outside<S, K, D, C, L, A, I, T>)
+where
+    S: Source,
+    K: Sink,
+    D: Disk + Send + Drop,
+    C: Clock + Send + Drop,
+    L: Listen + Send + Drop,
+    L::In: Send,
+    L::Out: Send,
+    A: Dial + Send + Drop,
+    A::In: Send,
+    A::Out: Send,
+    I: Inbox + Send + Drop,
+    T: Texts + Send + Drop,
+    W: Witness<S, K>,
+    R: Threads + Wait + RandomSource + Sync,
+    requires names { HasNames (meaning command) }
+    requires disks { names_of outside.disks.items ≡ stores_of (meaning command) }
+    requires fair { IsFair (L.past outside.listen) }
+    ensures does { CommandDoes (seeing S.Source K.Sink D.Disk C.Clock A.Dial I.Inbox T.Texts) (meaning command) result.0
+        (office_of outside) (office_of result.1) (opening_of L.past L.most L.accepted L.faults outside.listen)
+        (opening_of L.past L.most L.accepted L.faults result.1.listen) (W.wires witness.old) (W.wires witness.new) }
+    ensures may_end { IsTrue (may_end (meaning command) result.0) }
+    ensures disks { names_of result.1.disks.items ≡ names_of outside.disks.items }
+    ensures clock { C.moment result.1.clock ≡ C.moment outside.clock }
+    ensures passed_on { IsPassedOn (seeing S.Source K.Sink D.Disk C.Clock A.Dial I.Inbox T.Texts) result.0
+        (office_of outside) (office_of result.1) }
+    ensures note { ¬ HasRisen (K.faults outside.notes) (K.faults result.1.notes)
+        → Appends (K.output outside.notes) (K.output result.1.notes) (note result.0) }
+{
+    match command {
+        Command::Serve(job) => run_server(alloc, rt, job, outside),
+        command => run_alone(alloc, rt, command, outside, witness),
+    }
+}
+
+/// Does all that the words ask for, as [`run`] does. The witness sees the wire behind each record that was answered.
+pub fn run_watched<S, K, D, C, L, A, I, T, W, R>(
+    alloc: Global,
+    rt: &R,
+    words: &[String],
+    outside: Outside<S, K, D, C, L, A, I, T>,
+    witness: &mut W,
+) -> (Status, Outside<S, K, D, C, L, A, I, T>)
+where
+    S: Source,
+    K: Sink,
+    D: Disk + Send + Drop,
+    C: Clock + Send + Drop,
+    L: Listen + Send + Drop,
+    L::In: Send,
+    L::Out: Send,
+    A: Dial + Send + Drop,
+    A::In: Send,
+    A::Out: Send,
+    I: Inbox + Send + Drop,
+    T: Texts + Send + Drop,
+    W: Witness<S, K>,
+    R: Threads + Wait + RandomSource + Sync,
+    requires disks { names_of outside.disks.items ≡ disk_names (texts words.now) }
+    requires fair { IsFair (L.past outside.listen) }
     ensures does { Does (seeing S.Source K.Sink D.Disk C.Clock A.Dial I.Inbox T.Texts)
         (command_of (texts words.now)) result.0 (office_of outside) (office_of result.1)
-        (W.wires witness.old) (W.wires witness.new) }
+        (opening_of L.past L.most L.accepted L.faults outside.listen)
+        (opening_of L.past L.most L.accepted L.faults result.1.listen) (W.wires witness.old) (W.wires witness.new) }
     ensures may_end { MayEnd (command_of (texts words.now)) result.0 }
     ensures disks { names_of result.1.disks.items ≡ names_of outside.disks.items }
     ensures clock { C.moment result.1.clock ≡ C.moment outside.clock }
@@ -234,18 +359,35 @@ fn status_of(fault: ParseFault) -> Status
 
 /// Does all that the program does: what the words ask for, on the outside that it hands back, and a note of how it
 /// ended. The records of the input are those of its one cut (RFC 5531 section 11), at most 262,144 bytes each.
-pub fn run<S: Source, K: Sink, D: Disk, C: Clock, A: Dial, I: Inbox, T: Texts>(
+pub fn run<S, K, D, C, L, A, I, T, R>(
     alloc: Global,
-    rt: &impl RandomSource,
+    rt: &R,
     words: &[String],
-    outside: Outside<S, K, D, C, A, I, T>,
-) -> (Status, Outside<S, K, D, C, A, I, T>)
-    requires { names_of outside.disks.items ≡ disk_names (texts words.now) }
+    outside: Outside<S, K, D, C, L, A, I, T>,
+) -> (Status, Outside<S, K, D, C, L, A, I, T>)
+where
+    S: Source,
+    K: Sink,
+    D: Disk + Send + Drop,
+    C: Clock + Send + Drop,
+    L: Listen + Send + Drop,
+    L::In: Send,
+    L::Out: Send,
+    A: Dial + Send + Drop,
+    A::In: Send,
+    A::Out: Send,
+    I: Inbox + Send + Drop,
+    T: Texts + Send + Drop,
+    R: Threads + Wait + RandomSource + Sync,
+    requires disks { names_of outside.disks.items ≡ disk_names (texts words.now) }
+    requires fair { IsFair (L.past outside.listen) }
 
     // What is done for the words, by the one relation of their command, over the wires that a witness of the run saw
     // behind its answered records.
     ensures does { (wires : List Wire) × Does (seeing S.Source K.Sink D.Disk C.Clock A.Dial I.Inbox T.Texts)
-        (command_of (texts words.now)) result.0 (office_of outside) (office_of result.1) [] wires }
+        (command_of (texts words.now)) result.0 (office_of outside) (office_of result.1)
+        (opening_of L.past L.most L.accepted L.faults outside.listen)
+        (opening_of L.past L.most L.accepted L.faults result.1.listen) [] wires }
 
     // How it may end.
     ensures may_end { MayEnd (command_of (texts words.now)) result.0 }

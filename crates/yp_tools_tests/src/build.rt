@@ -5,6 +5,8 @@ use crate::stage::{FAIR, Scene, play, strings, told_of, try_words};
 use std::alloc::Global;
 use std::process::Abort;
 use std::random::RandomSource;
+use std::sync::Wait;
+use std::thread::Threads;
 use yp_io::MemDisk;
 use yp_slot::Slot;
 use yp_tools::NamedDisk;
@@ -212,7 +214,7 @@ struct Site<'a> {
 type Place = (u64, Option<u64>);
 
 /// Compares what the files that a crash may leave stand for.
-fn try_crashes<R: RandomSource + Abort>(
+fn try_crashes<R: Threads + Wait + RandomSource + Abort + Sync>(
     rt: &R,
     alloc: Global,
     disks: &[NamedDisk<MemDisk>],
@@ -235,7 +237,7 @@ fn try_crashes<R: RandomSource + Abort>(
 
 /// A build whose disk fails at a call, or from it on. It is told, and each file that a crash may leave stands for what
 /// stood or for the new version; once the last call was done, for that alone.
-fn try_fault<R: RandomSource + Abort>(
+fn try_fault<R: Threads + Wait + RandomSource + Abort + Sync>(
     rt: &R,
     alloc: Global,
     words: &[String],
@@ -258,7 +260,12 @@ fn try_fault<R: RandomSource + Abort>(
 }
 
 /// The same for each call up to the last.
-fn try_faults<R: RandomSource + Abort>(rt: &R, alloc: Global, words: &[String], site: &Site<'_>) {
+fn try_faults<R: Threads + Wait + RandomSource + Abort + Sync>(
+    rt: &R,
+    alloc: Global,
+    words: &[String],
+    site: &Site<'_>,
+) {
     let file = Vec::from_slice(alloc, site.file).expect(rt, "memory");
     let before = stands_of(rt, alloc, file);
     for call in 0..=site.last {

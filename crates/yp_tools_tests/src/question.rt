@@ -6,6 +6,8 @@ use crate::stage::{FAIR, Scene, play, strings, try_words};
 use std::alloc::Global;
 use std::process::Abort;
 use std::random::RandomSource;
+use std::sync::Wait;
+use std::thread::Threads;
 use yp_io::{MemDial, MemDisk, MemSink, MemSource, MemTexts, SetClock};
 use yp_mem::MemInbox;
 use yp_tools::laws;
@@ -185,7 +187,11 @@ const ANSWERS: [Answer<'static>; 8] = [
 ];
 
 /// What the server sends for calls.
-fn served<R: RandomSource + Abort>(rt: &R, alloc: Global, calls: &[&str]) -> Vec<u8> {
+fn served<R: Threads + Wait + RandomSource + Abort + Sync>(
+    rt: &R,
+    alloc: Global,
+    calls: &[&str],
+) -> Vec<u8> {
     let input = bytes(rt, alloc, calls);
     let words = strings(rt, alloc, &SERVER);
     let scene = Scene {

@@ -2,6 +2,8 @@
 
 ghost use Rattle.std.specs.Prelude.{◌≡◌, All, IfOk};
 ghost use Rattle.yp_io.specs.MemDial.{IsNew};
+ghost use Rattle.yp_listen.specs.MemListen.{calls_of};
+ghost use Rattle.yp_worker.specs.Receptions.{IsFair};
 ghost use Rattle.yp_words.specs.Words.{disk_names, texts};
 ghost use Rattle.yp_office.specs.Disks.{names_of};
 
@@ -9,8 +11,11 @@ use crate::given::assert_same;
 use std::alloc::{AllocError, Global};
 use std::process::Abort;
 use std::random::RandomSource;
+use std::sync::Wait;
+use std::thread::Threads;
 use yp_board::MapName;
 use yp_io::{MemDial, MemDisk, MemSink, MemSource, MemTexts, MemWire, Pair, SetClock, TextFile};
+use yp_listen::MemListen;
 use yp_mem::MemInbox;
 use yp_tools::{NamedDisk, Outside, Status, disk_names, named_disks, run};
 
@@ -20,6 +25,7 @@ pub(crate) type Memory = Outside<
     MemSink,
     MemDisk,
     SetClock,
+    MemListen,
     MemDial,
     MemInbox,
     MemTexts,
@@ -132,9 +138,17 @@ fn texts_of<R: Abort>(rt: &R, alloc: Global, scene: &Scene<'_>) -> MemTexts {
     MemTexts::new(texts, copied(rt, alloc, scene.texts))
 }
 
+/// A listener that nobody calls.
+fn nobody(alloc: Global) -> MemListen
+    ensures { IsFair (calls_of result) }
+{
+    MemListen::new(alloc, Vec::new(alloc), 0, Vec::new(alloc))
+}
+
 /// The outside of a scene.
 fn memory_of<R: Abort>(rt: &R, alloc: Global, words: &[String], scene: &Scene<'_>) -> Memory
-    ensures { names_of result.disks.items ≡ disk_names (texts words.now) }
+    ensures disks { names_of result.disks.items ≡ disk_names (texts words.now) }
+    ensures fair { IsFair (calls_of result.listen) }
 {
     Outside {
         input: MemSource::new(
@@ -148,6 +162,7 @@ fn memory_of<R: Abort>(rt: &R, alloc: Global, words: &[String], scene: &Scene<'_
         clock: SetClock {
             moment: scene.moment,
         },
+        listen: nobody(alloc),
         dial: MemDial::new(
             alloc,
             wires_of(rt, alloc, scene),
@@ -159,7 +174,7 @@ fn memory_of<R: Abort>(rt: &R, alloc: Global, words: &[String], scene: &Scene<'_
 }
 
 /// Runs these words.
-pub(crate) fn play<R: RandomSource + Abort>(
+pub(crate) fn play<R: Threads + Wait + RandomSource + Abort + Sync>(
     rt: &R,
     alloc: Global,
     words: &[String],
@@ -194,7 +209,7 @@ fn compare<R: Abort>(
 }
 
 /// Runs words, and compares what is told, and what the file of the one map that they name then holds.
-pub(crate) fn try_strings<R: RandomSource + Abort>(
+pub(crate) fn try_strings<R: Threads + Wait + RandomSource + Abort + Sync>(
     rt: &R,
     alloc: Global,
     words: &[String],
@@ -208,7 +223,7 @@ pub(crate) fn try_strings<R: RandomSource + Abort>(
 }
 
 /// The same of words that aren't strings yet.
-pub(crate) fn try_words<R: RandomSource + Abort>(
+pub(crate) fn try_words<R: Threads + Wait + RandomSource + Abort + Sync>(
     rt: &R,
     alloc: Global,
     words: &[&str],

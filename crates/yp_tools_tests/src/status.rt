@@ -47,6 +47,8 @@ fn codes_and_notes(rt: HostRuntime) {
     };
     try_note(&rt, alloc, &status, 17, b"yp: row 4294967295 rule 3\n");
     try_note(&rt, alloc, &Status::OrderSpent, 18, b"yp: order spent\n");
+    try_note(&rt, alloc, &Status::ListenFault, 21, b"yp: listen fault\n");
+    try_note(&rt, alloc, &Status::InboxFault, 22, b"yp: inbox fault\n");
     try_note(&rt, alloc, &Status::Enough, 23, b"yp: enough calls\n");
 }
 

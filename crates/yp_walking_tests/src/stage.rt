@@ -2,6 +2,8 @@
 
 ghost use Rattle.std.specs.Prelude.{◌≡◌, All, IfOk};
 ghost use Rattle.yp_io.specs.MemDial.{IsNew};
+ghost use Rattle.yp_listen.specs.MemListen.{calls_of};
+ghost use Rattle.yp_worker.specs.Receptions.{IsFair};
 ghost use Rattle.yp_words.specs.Words.{disk_names, texts};
 ghost use Rattle.yp_office.specs.Disks.{names_of};
 
@@ -9,13 +11,25 @@ use crate::given::{assert_same, bytes};
 use std::alloc::{AllocError, Global};
 use std::process::Abort;
 use std::random::RandomSource;
+use std::sync::Wait;
+use std::thread::Threads;
 use yp_board::MapName;
 use yp_io::{Letter, MemDial, MemDisk, MemSink, MemSource, MemTexts, MemWire, Peer, SetClock};
+use yp_listen::MemListen;
 use yp_mem::MemInbox;
 use yp_tools::{NamedDisk, Outside, Status, disk_names, named_disks, run};
 
 /// The outside in memory.
-pub type Memory = Outside<MemSource, MemSink, MemDisk, SetClock, MemDial, MemInbox, MemTexts>;
+pub type Memory = Outside<
+    MemSource,
+    MemSink,
+    MemDisk,
+    SetClock,
+    MemListen,
+    MemDial,
+    MemInbox,
+    MemTexts,
+>;
 
 /// A datagram in hexadecimal words, and who sent it or whom it is for.
 pub type Datagram = (Peer, &'static [&'static str]);
@@ -103,9 +117,17 @@ fn no_wires(alloc: Global) -> Vec<MemWire>
     Vec::new(alloc)
 }
 
+/// A listener that nobody calls.
+fn nobody(alloc: Global) -> MemListen
+    ensures { IsFair (calls_of result) }
+{
+    MemListen::new(alloc, Vec::new(alloc), 0, Vec::new(alloc))
+}
+
 /// The outside of a row, with this file.
 fn memory_of<R: Abort>(rt: &R, alloc: Global, words: &[String], file: &[u8], row: &Row) -> Memory
-    ensures { names_of result.disks.items ≡ disk_names (texts words.now) }
+    ensures disks { names_of result.disks.items ≡ disk_names (texts words.now) }
+    ensures fair { IsFair (calls_of result.listen) }
 {
     let mail = mail_of(rt, alloc, row.brings);
     let failing = copied(rt, alloc, row.failing);
@@ -115,6 +137,7 @@ fn memory_of<R: Abort>(rt: &R, alloc: Global, words: &[String], file: &[u8], row
         notes: MemSink::new(alloc, 4096, Vec::new(alloc)),
         disks: disks_of(alloc, words, file, row.disk).expect(rt, "disks"),
         clock: SetClock { moment: 500 },
+        listen: nobody(alloc),
         dial: MemDial::new(alloc, no_wires(alloc), Vec::new(alloc)),
         inbox: MemInbox::new(alloc, mail, failing),
         texts: MemTexts::new(Vec::new(alloc), Vec::new(alloc)),
@@ -122,7 +145,7 @@ fn memory_of<R: Abort>(rt: &R, alloc: Global, words: &[String], file: &[u8], row
 }
 
 /// Runs the words of a row over this file.
-fn play<R: RandomSource + Abort>(
+fn play<R: Threads + Wait + RandomSource + Abort + Sync>(
     rt: &R,
     alloc: Global,
     file: &[u8],
@@ -203,7 +226,7 @@ fn compare<R: Abort>(rt: &R, alloc: Global, status: &Status, outside: &Memory, r
 const CRASHES: u64 = 8;
 
 /// The code of a run of a row over this file, and whether it told what the row has.
-fn ended_over<R: RandomSource + Abort>(
+fn ended_over<R: Threads + Wait + RandomSource + Abort + Sync>(
     rt: &R,
     alloc: Global,
     file: &[u8],
@@ -216,7 +239,7 @@ fn ended_over<R: RandomSource + Abort>(
 }
 
 /// Runs these rows over each file that a crash may leave: one of them has to tell what came.
-fn try_images<R: RandomSource + Abort>(
+fn try_images<R: Threads + Wait + RandomSource + Abort + Sync>(
     rt: &R,
     alloc: Global,
     disks: &[NamedDisk<MemDisk>],
@@ -242,7 +265,7 @@ fn try_images<R: RandomSource + Abort>(
 }
 
 /// Compares the file that is left, or runs these rows again.
-fn compare_left<R: RandomSource + Abort>(
+fn compare_left<R: Threads + Wait + RandomSource + Abort + Sync>(
     rt: &R,
     alloc: Global,
     disks: &[NamedDisk<MemDisk>],
@@ -258,7 +281,7 @@ fn compare_left<R: RandomSource + Abort>(
 
 /// Runs a row, and compares what came of it, and where none is to be run again, the file that is left. Else these rows
 /// are run over each file that a crash may leave, where nothing fails: what is told then is that of one of them.
-pub fn try_crash<R: RandomSource + Abort>(rt: &R, alloc: Global, row: &Row, again: &[&Row]) {
+pub fn try_crash<R: Threads + Wait + RandomSource + Abort + Sync>(rt: &R, alloc: Global, row: &Row, again: &[&Row]) {
     let file = bytes(rt, alloc, row.file);
     let (status, outside) = play(rt, alloc, &file, row);
     compare(rt, alloc, &status, &outside, row);
@@ -266,6 +289,6 @@ pub fn try_crash<R: RandomSource + Abort>(rt: &R, alloc: Global, row: &Row, agai
 }
 
 /// Runs a row, and compares what came of it.
-pub fn try_row<R: RandomSource + Abort>(rt: &R, alloc: Global, row: &Row) {
+pub fn try_row<R: Threads + Wait + RandomSource + Abort + Sync>(rt: &R, alloc: Global, row: &Row) {
     try_crash(rt, alloc, row, &[]);
 }

@@ -8,6 +8,8 @@ use crate::stage::{Datagram, Row, try_crash, try_row};
 use std::alloc::Global;
 use std::process::Abort;
 use std::random::RandomSource;
+use std::sync::Wait;
+use std::thread::Threads;
 
 /// A walk over eight turns, and the same over seven.
 const WORDS: &[&str] = &[
@@ -206,7 +208,7 @@ const WALKS: [Row; 8] = [
     },
 ];
 
-fn try_rows<R: RandomSource + Abort>(rt: &R, alloc: Global, rows: &[Row]) {
+fn try_rows<R: Threads + Wait + RandomSource + Abort + Sync>(rt: &R, alloc: Global, rows: &[Row]) {
     for row in rows {
         try_row(rt, alloc, row);
     }

@@ -14,11 +14,11 @@ use Rattle.yp_bind.specs.Rounds.{is_same_peer}
 use Rattle.yp_board.specs.Catalogues.{Name, name_max, maps_max, is_same, is_map_name, is_name as is_short_name}
 use Rattle.yp_board.specs.Catalogues.{again_from, with_numbers, bad_name, twice, catalog_fault}
 use Rattle.yp_words.specs.Forms.{Form, has_form, before, after, is_name, is_store, is_kind_store, is_text, is_key}
-use Rattle.yp_words.specs.Forms.{is_host, is_reverse, is_number, window_of, window_max}
+use Rattle.yp_words.specs.Forms.{is_host, is_reverse, is_number, window_of, window_max, workers_of, workers_max}
 use Rattle.std.specs.Str.Parse.{digits_value}
-use Rattle.yp_words.specs.Words.{Meaning, Further, Sentence, once, session, check, build, build_flagged, xfr}
+use Rattle.yp_words.specs.Words.{Meaning, Further, Sentence, once, session, serve, check, build, build_flagged, xfr}
 use Rattle.yp_words.specs.Words.{xfr_flagged, sample, push, bind, portmap, getport, cat, catk, which, poll, IsOneMap}
-use Rattle.yp_words.specs.Words.{walk, walk_flagged, revnet}
+use Rattle.yp_words.specs.Words.{walk, walk_flagged, revnet, AreMaps as MakeMaps}
 use Rattle.yp_words.specs.Words.{match_key, maps, innetgr, asking, sentences, further_fitting}
 use Rattle.yp_words.specs.Words.{serving_fitting, joins, is_new_store, served, fitting, is_whole, asked, name_of}
 use Rattle.yp_words.specs.Words.{kind_of, joins_servers, servers_fitting, peer_word, host_of, IsNamed, HasNames}
@@ -258,19 +258,51 @@ once_named [] h = absurd h.forms
 once_named (first ∷ []) h = absurd h.forms.1
 once_named (first ∷ store ∷ more) h = store_named store h.forms.1.0
 
+maps_made : (name : List ℕ) (words : List (List ℕ)) → is_name name ≡ true
+    → serving_fitting [] words ≡ length words → MakeMaps name (served words)
+maps_made name words named further =
+    let good : AreGood (served words) = served_good [] words no_maps further in (
+      good_catalogue name (served words) (name_some name named) good,
+      all_named (served words) good.named,
+      name_short name named,
+      good.few,
+    )
+
 session_named : (words : List (List ℕ)) → Fit session words → HasNames (session.asks words)
 unfolding HaveForms HaveFurther
 session_named [] h = absurd h.forms
 session_named (first ∷ []) h = absurd h.forms.1
 session_named (first ∷ name ∷ []) h = absurd h.forms.1.1
-session_named (first ∷ name ∷ address ∷ more) h =
-    let good : AreGood (served more) = served_good [] more no_maps h.further in (
-      good_catalogue name (served more) (name_some name h.forms.1.0) good,
-      all_named
-          (served more) good.named,
-      name_short name h.forms.1.0,
-      good.few,
-    )
+session_named (first ∷ name ∷ address ∷ more) h = maps_made name more h.forms.1.0 h.further
+
+-- a server has a worker, and at most 8
+workers_some : (word : List ℕ) → is_some (workers_of word) ≡ true
+    → (1 ≤ unwrap_or (workers_of word) 0) × (unwrap_or (workers_of word) 0 ≤ workers_max)
+workers_some word h =
+    at (is_number word && nat_le 1 (digits_value 10 word) && nat_le (digits_value 10 word) workers_max) refl
+  where
+    at : (b : Bool)
+        → (is_number word && nat_le 1 (digits_value 10 word) && nat_le (digits_value 10 word) workers_max) ≡ b
+        → (1 ≤ unwrap_or (workers_of word) 0) × (unwrap_or (workers_of word) 0 ≤ workers_max)
+    at true e =
+        let parts = both (is_number word && nat_le 1 (digits_value 10 word)) (nat_le (digits_value 10 word) workers_max)
+        e in
+        let one = (both (is_number word) (nat_le 1 (digits_value 10 word)) parts.0).1 in
+        let most = parts.1 in
+        rw e (grind (arith, nat_tests), grind (arith, nat_tests))
+    at false e = let none = rw e at h in absurd cc
+
+serve_named : (words : List (List ℕ)) → Fit serve words → HasNames (serve.asks words)
+unfolding HaveForms HaveFurther
+serve_named [] h = absurd h.forms
+serve_named (first ∷ []) h = absurd h.forms.1
+serve_named (first ∷ name ∷ []) h = absurd h.forms.1.1
+serve_named (first ∷ name ∷ port ∷ []) h = absurd h.forms.1.1.1
+serve_named (first ∷ name ∷ port ∷ workers ∷ []) h = absurd h.forms.1.1.1.1
+serve_named (first ∷ name ∷ port ∷ workers ∷ connections ∷ []) h = absurd h.forms.1.1.1.1.1
+serve_named (first ∷ name ∷ port ∷ workers ∷ connections ∷ turns ∷ more) h =
+    let some = workers_some workers h.forms.1.1.1.0 in
+    (some.0, some.1, maps_made name more h.forms.1.0 h.further)
 
 check_named : (words : List (List ℕ)) → Fit check words → HasNames (check.asks words)
 unfolding HaveForms
@@ -475,31 +507,21 @@ asked_named words meaning e =
         ),
       ),
     ) in
-    rows_named sentences (
-      once_named,
+    let makers : AllNamed (xfr ∷ xfr_flagged ∷ walk ∷ walk_flagged ∷ revnet ∷ sample ∷ push ∷ bind ∷ portmap ∷ getport
+    ∷ cat ∷ catk ∷ which ∷ poll ∷ match_key ∷ maps ∷ innetgr ∷ []) = (
+      xfr_named,
       (
-        session_named,
+        xfr_flagged_named,
         (
-          check_named,
+          walk_named,
           (
-            build_named,
-            (
-              flagged_named,
-              (
-                xfr_named,
-                (
-                  xfr_flagged_named,
-                  (
-                    walk_named,
-                    (
-                      walk_flagged_named,
-                      (revnet_named, (sample_named, (push_named, (bind_named, (portmap_named, (getport_named, questions)))))),
-                    ),
-                  ),
-                ),
-              ),
-            ),
+            walk_flagged_named,
+            (revnet_named, (sample_named, (push_named, (bind_named, (portmap_named, (getport_named, questions)))))),
           ),
         ),
       ),
+    ) in
+    rows_named sentences (
+      once_named,
+      (session_named, (serve_named, (check_named, (build_named, (flagged_named, makers))))),
     ) words meaning e

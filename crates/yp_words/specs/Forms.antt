@@ -82,6 +82,14 @@ abbrev pub window_of : List ℕ → Option ℕ
 window_of word = if is_number word && nat_le 1 (digits_value 10 word)
     && nat_le (digits_value 10 word) window_max then Some (digits_value 10 word) else None
 
+-- how many workers a server has: 1 to 8
+abbrev pub workers_max : ℕ
+workers_max = 8
+
+abbrev pub workers_of : List ℕ → Option ℕ
+workers_of word = if is_number word && nat_le 1 (digits_value 10 word)
+    && nat_le (digits_value 10 word) workers_max then Some (digits_value 10 word) else None
+
 -- an address: four numbers of a byte with dots between, a colon and a port
 abbrev pub address_of : List ℕ → Option Peer
 address_of word = do
@@ -146,6 +154,7 @@ pub data Form : Type 0 where
   Number : Form
   Port : Form
   Window : Form
+  Workers : Form
   Policy : Form
   Address : Form
   Text : Form
@@ -164,6 +173,7 @@ has_form Pair word = is_row word
 has_form Number word = is_number word
 has_form Port word = is_some (port_of word)
 has_form Window word = is_some (window_of word)
+has_form Workers word = is_some (workers_of word)
 has_form Policy word = is_fixed word || is_ypsetme word || is_ypset word
 has_form Address word = is_some (address_of word)
 has_form Text word = is_text word
@@ -183,6 +193,7 @@ form_view code.Pair = Pair
 form_view code.Number = Number
 form_view code.Port = Port
 form_view code.Window = Window
+form_view code.Workers = Workers
 form_view code.Policy = Policy
 form_view code.Address = Address
 form_view code.Text = Text

@@ -31,7 +31,7 @@ use Rattle.yp_words.specs.declared.sentence.Task.TheVariants as task
 use Rattle.yp_words.specs.declared.words.ParseFault.{ParseFault}
 use Rattle.yp_words.specs.declared.words.ParseFault.TheVariants.{Usage, NoMemory}
 use Rattle.yp_words.specs.Forms.{Form, has_form, form_view, before, after, number_of, is_store, is_host, address_of}
-use Rattle.yp_words.specs.Forms.{is_secure, is_force, is_ypsetme, is_ypset, is_any, is_reverse}
+use Rattle.yp_words.specs.Forms.{is_secure, is_force, is_ypsetme, is_ypset, is_any, is_reverse, workers_max}
 use Rattle.yp_words.specs.Forms as form
 
 -- ---- what words mean
@@ -45,6 +45,9 @@ pub data Meaning : Type 0 where
   Once : (store : Name) (rows : List Row) → Meaning
   -- the own name, the caller, the maps that are served, and the hosts that are known
   Session : (own : List ℕ) (peer : Peer) (stores : List Name) (hosts : List Host) → Meaning
+  -- the own name, the port, how many workers there are, how many connections are accepted, how many turns there are at
+  -- the datagrams, the maps that are served, and the hosts that are known
+  Serve : (own : List ℕ) (port workers connections turns : ℕ) (stores : List Name) (hosts : List Host) → Meaning
   Check : (store : Name) → Meaning
   -- the flag is true for a secure version, and none where the words don't say
   Build : (name : List ℕ) (store : Name) (flag : Option Bool) → Meaning
@@ -90,6 +93,10 @@ port_value word = unwrap_or (form.port_of word) 0
 -- how many slaves may be outstanding, as a word says it, and 0 where it says nothing
 abbrev pub window_value : List ℕ → ℕ
 window_value word = unwrap_or (form.window_of word) 0
+
+-- how many workers a server has, as a word says it, and 0 where it says nothing
+abbrev pub workers_value : List ℕ → ℕ
+workers_value word = unwrap_or (form.workers_of word) 0
 
 -- the address that a word says, and that of nobody where it says none
 abbrev pub nobody : Peer
@@ -140,6 +147,15 @@ session = record {
   forms = form.Exactly (codes "session") ∷ form.Name ∷ form.Address ∷ [];
   further = StoresAndHosts;
   asks = λ words. Session (word_at 1 words) (peer_of (word_at 2 words)) (served (drop 3 words)) (known (drop 3 words));
+}
+
+abbrev pub serve : Sentence
+serve = record {
+  forms =
+      form.Exactly (codes "serve") ∷ form.Name ∷ form.Port ∷ form.Workers ∷ form.Number ∷ form.Number ∷ [];
+  further = StoresAndHosts;
+  asks = λ words. Serve (word_at 1 words) (port_value (word_at 2 words)) (workers_value (word_at 3 words))
+      (value_of (word_at 4 words)) (value_of (word_at 5 words)) (served (drop 6 words)) (known (drop 6 words));
 }
 
 abbrev pub check : Sentence
@@ -301,8 +317,8 @@ innetgr = record {
 
 unfoldable pub sentences : List Sentence
 sentences =
-    once ∷ session ∷ check ∷ build ∷ build_flagged ∷ xfr ∷ xfr_flagged ∷ walk ∷ walk_flagged ∷ revnet ∷ sample
-    ∷ push ∷ bind ∷ portmap ∷ getport ∷ cat ∷ catk ∷ which ∷ poll ∷ match_key ∷ maps ∷ innetgr ∷ []
+    once ∷ session ∷ serve ∷ check ∷ build ∷ build_flagged ∷ xfr ∷ xfr_flagged ∷ walk ∷ walk_flagged ∷ revnet
+    ∷ sample ∷ push ∷ bind ∷ portmap ∷ getport ∷ cat ∷ catk ∷ which ∷ poll ∷ match_key ∷ maps ∷ innetgr ∷ []
 
 -- how many words at the front are of a form
 abbrev pub each_fitting : Form → List (List ℕ) → ℕ
@@ -401,6 +417,7 @@ with_ypservers store = if is_ypservers store then store ∷ [] else store ∷ yp
 abbrev pub stores_of : Meaning → List Name
 stores_of (Once store rows) = []
 stores_of (Session own peer stores hosts) = stores
+stores_of (Serve own port workers connections turns stores hosts) = stores
 stores_of (Check store) = store ∷ []
 stores_of (Build name store flag) = store ∷ []
 stores_of (Xfr name force store host flag) = store ∷ []
@@ -425,6 +442,7 @@ disk_names words = stores_in (command_of words)
 abbrev pub port_of : Meaning → Option ℕ
 port_of (Once store rows) = None
 port_of (Session own peer stores hosts) = None
+port_of (Serve own port workers connections turns stores hosts) = Some port
 port_of (Check store) = None
 port_of (Build name store flag) = None
 port_of (Xfr name force store host flag) = None
@@ -449,6 +467,9 @@ abbrev pub meaning : Command → Meaning
 meaning (command.Once store rows) = Once (name_view store) (map row_view rows.items)
 meaning (command.Session name addr stores hosts) =
     Session name.items addr (map name_view stores.items) (map host_view hosts.items)
+meaning (command.Serve job) =
+    Serve job.name.items job.port job.workers job.connections job.turns (map name_view job.stores.items)
+    (map host_view job.hosts.items)
 meaning (command.Check store) = Check (name_view store)
 meaning (command.Build name store flag) = Build name.items (name_view store) flag
 meaning (command.Xfr job) = Xfr job.name.items job.force (name_view job.store) (host_view job.host) job.flag
@@ -484,6 +505,7 @@ question_of question words = question_map (λ at. word_at at words) question
 abbrev pub asks_of : Task → List (List ℕ) → Meaning
 asks_of task.Once = once.asks
 asks_of task.Session = session.asks
+asks_of task.Serve = serve.asks
 asks_of task.Check = check.asks
 asks_of task.Build = build.asks
 asks_of task.BuildFlagged = build_flagged.asks
@@ -525,11 +547,17 @@ IsNamed store = (length store.0 ≤ name_max) × (length store.1 ≤ name_max)
 abbrev pub IsOneMap : List ℕ → Name → Type 0
 IsOneMap name store = (catalog_fault name (store ∷ []) ≡ None) × (length name ≤ name_max) × IsNamed store
 
+-- an own name and maps make a catalogue, whose names are within their limits
+abbrev pub AreMaps : List ℕ → List Name → Type 0
+AreMaps own stores =
+    (catalog_fault own stores ≡ None) × All IsNamed stores × (length own ≤ name_max) × (length stores ≤ maps_max)
+
 -- each name of a command is within its limit, and a map that is built has a kind
 abbrev pub HasNames : Meaning → Type 0
 HasNames (Once store rows) = IsNamed store
-HasNames (Session own peer stores hosts) =
-    (catalog_fault own stores ≡ None) × All IsNamed stores × (length own ≤ name_max) × (length stores ≤ maps_max)
+HasNames (Session own peer stores hosts) = AreMaps own stores
+HasNames (Serve own port workers connections turns stores hosts) =
+    (1 ≤ workers) × (workers ≤ workers_max) × AreMaps own stores
 HasNames (Check store) = IsNamed store
 HasNames (Build name store flag) = IsOneMap name store × IsSome (kind_of store)
 HasNames (Xfr name force store host flag) = IsOneMap name store
@@ -548,6 +576,7 @@ HasNames (Ask peer question) = QuestionIsWithin question
 abbrev pub TakesMemory : Meaning → Type 0
 TakesMemory (Once store rows) = Unit {0}
 TakesMemory (Session own peer stores hosts) = Unit {0}
+TakesMemory (Serve own port workers connections turns stores hosts) = Unit {0}
 TakesMemory (Check store) = Unit {0}
 TakesMemory (Build name store flag) = Unit {0}
 TakesMemory (Xfr name force store host flag) = Unit {0}

@@ -45,6 +45,25 @@ pub struct WalkJob {
     pub turns: u32,
 }
 
+/// Maps that are served to many callers.
+#[derive(Debug, Drop)]
+pub struct ServeJob {
+    /// The name of the host that answers.
+    pub name: Vec<u8>,
+    /// The port of connections and of datagrams.
+    pub port: u16,
+    /// How many workers serve connections, from 1 to 8.
+    pub workers: u32,
+    /// How many connections are accepted.
+    pub connections: u32,
+    /// The most turns at the datagrams.
+    pub turns: u32,
+    /// The maps.
+    pub stores: Vec<MapName>,
+    /// The hosts that it knows.
+    pub hosts: Vec<HostWord>,
+}
+
 /// A map that slaves are to fetch.
 #[derive(Debug, Drop)]
 pub struct PushJob {
@@ -78,6 +97,8 @@ pub enum Command {
         stores: Vec<MapName>,
         hosts: Vec<HostWord>,
     },
+    /// Answers the calls of connections and of datagrams at a port over the stored versions of maps.
+    Serve(ServeJob),
     /// Says what the file of this map stands for.
     Check {
         store: MapName,

@@ -4,7 +4,7 @@ ghost use Rattle.std.specs.Prelude.{◌≡◌, ◌<◌, ◌≤◌};
 ghost use Rattle.std.specs.List.{list_all};
 ghost use Rattle.yp_words.specs.Forms.{is_name_byte, is_name, is_store, is_kind_store, is_row, number_of, octet_of};
 ghost use Rattle.yp_words.specs.Forms.{port_of, address_of, is_host, is_text, is_key, before, after, has_form};
-ghost use Rattle.yp_words.specs.Forms.{is_reverse_store, window_of, form_view};
+ghost use Rattle.yp_words.specs.Forms.{is_reverse_store, window_of, workers_of, form_view};
 
 use yp_board::NAME_MAX;
 use yp_build::Kind;
@@ -28,6 +28,9 @@ const NEWER: &str = "newer";
 
 /// The most slaves of a push that may be outstanding.
 const WINDOW_MAX: u32 = 4_096;
+
+/// The most workers of a server.
+const WORKERS_MAX: u32 = 8;
 
 /// The policies of a binder: nobody binds a domain by a call, a caller on its own host does, or anybody.
 const FIXED: &str = "fixed";
@@ -60,6 +63,8 @@ pub enum Form {
     Port,
     /// How many slaves of a push may be outstanding: a number from 1 to 4096.
     Window,
+    /// How many workers a server has: a number from 1 to 8.
+    Workers,
     /// Who may bind a domain: `fixed`, `ypsetme` or `ypset`.
     Policy,
     /// Four numbers of a byte with dots between, a colon, and a port from 1 on.
@@ -91,6 +96,7 @@ impl Form {
             Form::Number => number_of(word).is_some(),
             Form::Port => port_of(word).is_some(),
             Form::Window => window_of(word).is_some(),
+            Form::Workers => workers_of(word).is_some(),
             Form::Policy => word == FIXED || word == YPSETME || word == YPSET,
             Form::Address => address_of(word).is_some(),
             Form::Text => is_text(word),
@@ -182,6 +188,16 @@ pub fn window_of(word: &str) -> Option<u32>
 {
     match number_of(word)? {
         window if window > 0 && window <= WINDOW_MAX => Some(window),
+        _ => None,
+    }
+}
+
+/// How many workers a server has, which is at least one.
+pub fn workers_of(word: &str) -> Option<u32>
+    ensures { result ≡ workers_of word.now }
+{
+    match number_of(word)? {
+        workers if workers > 0 && workers <= WORKERS_MAX => Some(workers),
         _ => None,
     }
 }

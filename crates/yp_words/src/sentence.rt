@@ -16,6 +16,7 @@ use yp_question::Question;
 pub enum Task {
     Once,
     Session,
+    Serve,
     Check,
     Build,
     BuildFlagged,
@@ -58,7 +59,7 @@ struct Sentence {
 }
 
 /// All sentences.
-const SENTENCES: [Sentence; 22] = [
+const SENTENCES: [Sentence; 23] = [
     Sentence {
         task: Task::Once,
         forms: &[Form::Exactly("once"), Form::Store],
@@ -67,6 +68,18 @@ const SENTENCES: [Sentence; 22] = [
     Sentence {
         task: Task::Session,
         forms: &[Form::Exactly("session"), Form::Name, Form::Address],
+        further: Further::StoresAndHosts,
+    },
+    Sentence {
+        task: Task::Serve,
+        forms: &[
+            Form::Exactly("serve"),
+            Form::Name,
+            Form::Port,
+            Form::Workers,
+            Form::Number,
+            Form::Number,
+        ],
         further: Further::StoresAndHosts,
     },
     Sentence {

@@ -6,17 +6,17 @@ ghost use Rattle.yp_question.specs.Questions.{bytes_of};
 ghost use Rattle.yp_words.specs.Words.{name_of, row_of, value_of, peer_of, host_of, served, known, word_at};
 ghost use Rattle.yp_words.specs.Words.{given_at, question_of};
 ghost use Rattle.yp_words.specs.Words.{command_of, disk_names, stores_of, port_of, row_view, host_view, meaning, texts};
-ghost use Rattle.yp_words.specs.Words.{asks_of, once, session, check, sample, portmap, getport, Build};
+ghost use Rattle.yp_words.specs.Words.{asks_of, once, session, serve, check, sample, portmap, getport, Build};
 ghost use Rattle.yp_words.specs.Words.{Xfr, bind, port_value, policy_of, TakesMemory, IsSentenceOfWords, revnet};
-ghost use Rattle.yp_words.specs.Words.{netgroup_of, push, window_value, ypservers_of, is_ypservers, Walk};
-ghost use Rattle.yp_words.specs.Words.{with_ypservers};
+ghost use Rattle.yp_words.specs.Words.{netgroup_of, push, window_value, workers_value, ypservers_of, is_ypservers};
+ghost use Rattle.yp_words.specs.Words.{with_ypservers, Walk};
 ghost use Rattle.yp_words.specs.Forms.{is_force};
 ghost use Rattle.yp_words.specs.Words.{IsUsage, HasNames};
 
-use crate::command::{Command, HostWord, KeyValue, PushJob, WalkJob, XfrJob};
+use crate::command::{Command, HostWord, KeyValue, PushJob, ServeJob, WalkJob, XfrJob};
 use crate::form::{
     ANY, FORCE, SECURE, YPSET, YPSETME, address_of, cut_at, is_host, is_store, number_of,
-    port_of as port_in, window_of,
+    port_of as port_in, window_of, workers_of,
 };
 use crate::sentence::{Task, task_of, wrong_word};
 use std::alloc::{AllocError, Global};
@@ -76,6 +76,13 @@ fn window_value(word: &str) -> u32
     ensures { result ≡ window_value word.now }
 {
     window_of(word).unwrap_or(0)
+}
+
+/// How many workers a server has, as a word says it, and 0 where it says nothing.
+fn workers_value(word: &str) -> u32
+    ensures { result ≡ workers_value word.now }
+{
+    workers_of(word).unwrap_or(0)
 }
 
 fn store_of(alloc: Global, word: &str) -> Result<MapName, AllocError>
@@ -175,6 +182,20 @@ fn session_of(alloc: Global, words: &[String]) -> Result<Command, AllocError>
         stores: served(alloc, words_from(words, 3))?,
         hosts: known(alloc, words_from(words, 3))?,
     })
+}
+
+fn serve_of(alloc: Global, words: &[String]) -> Result<Command, AllocError>
+    ensures { IfOk result (λ command. meaning command ≡ serve.asks (texts words.now)) }
+{
+    Ok(Command::Serve(ServeJob {
+        name: text_at(alloc, words, 1)?,
+        port: port_value(word_at(words, 2)),
+        workers: workers_value(word_at(words, 3)),
+        connections: value_of(word_at(words, 4)),
+        turns: value_of(word_at(words, 5)),
+        stores: served(alloc, words_from(words, 6))?,
+        hosts: known(alloc, words_from(words, 6))?,
+    }))
 }
 
 fn check_of(alloc: Global, words: &[String]) -> Result<Command, AllocError>
@@ -410,6 +431,7 @@ fn command_for(alloc: Global, task: Task, words: &[String]) -> Result<Command, A
     match task {
         Task::Once => once_of(alloc, words),
         Task::Session => session_of(alloc, words),
+        Task::Serve => serve_of(alloc, words),
         Task::Check => check_of(alloc, words),
         Task::Build => build_of(alloc, words, None),
         Task::BuildFlagged => build_of(alloc, words, Some(word_at(words, 3) == SECURE)),
@@ -457,6 +479,7 @@ pub fn stores_of(alloc: Global, command: &Command) -> Result<Vec<MapName>, NoMem
         Command::Revnet { store, .. } => with_netgroup(alloc, store),
         Command::Push(job) => with_ypservers(alloc, &job.store),
         Command::Session { stores, .. } => copy_names(alloc, stores),
+        Command::Serve(job) => copy_names(alloc, &job.stores),
         Command::Once { .. } => return Ok(Vec::new(alloc)),
         Command::Sample { .. } => return Ok(Vec::new(alloc)),
         Command::Bind { .. } => return Ok(Vec::new(alloc)),
@@ -470,13 +493,14 @@ pub fn stores_of(alloc: Global, command: &Command) -> Result<Vec<MapName>, NoMem
     }
 }
 
-/// The port at which a command receives datagrams, where it does.
+/// The port at which a command receives datagrams, where it does. `serve` accepts connections there, too.
 pub fn port_of(command: &Command) -> Option<u16>
     ensures { result ≡ port_of (meaning command.now) }
 {
     match command {
         Command::Once { .. } => None,
         Command::Session { .. } => None,
+        Command::Serve(job) => Some(job.port),
         Command::Check { .. } => None,
         Command::Build { .. } => None,
         Command::Xfr(_) => None,

@@ -6,6 +6,8 @@ mod given;
 #[cfg(test)]
 mod mailing;
 #[cfg(test)]
+mod serving;
+#[cfg(test)]
 mod walking;
 #[cfg(test)]
 mod words;

@@ -191,9 +191,9 @@ fn wrong_words(rt: HostRuntime) {
 }
 
 /// A domain and a map, or a key and a value.
-type Names<'a> = (&'a [u8], &'a [u8]);
+pub type Names<'a> = (&'a [u8], &'a [u8]);
 
-fn names_of(store: &MapName) -> Names<'_> {
+pub fn names_of(store: &MapName) -> Names<'_> {
     (&store.domain, &store.map)
 }
 
@@ -304,7 +304,7 @@ const FAR: Peer = Peer {
     port: 65_535,
 };
 
-fn host_of(host: &HostWord) -> (&[u8], Peer) {
+pub fn host_of(host: &HostWord) -> (&[u8], Peer) {
     (&host.name, host.peer)
 }
 

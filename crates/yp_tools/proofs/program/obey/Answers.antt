@@ -5,14 +5,14 @@ use Rattle.yp_words.specs.declared.command.KeyValue.{KeyValue}
 use Rattle.yp_words.specs.Words.{Once, Session, Check, Build, Xfr, Walk, Sample, Push, Bind}
 use Rattle.yp_words.specs.Words.{Portmap, Getport, Ask, meaning, row_view, host_view, Revnet}
 use Rattle.yp_office.specs.Seeing.{Seeing, seeing}
-use Rattle.yp_tools.specs.Commands.{CommandDoes, may_end}
+use Rattle.yp_tools.specs.Commands.{AloneDoes, may_end}
 use Rattle.yp_tools.proofs.Dispatch.{same_does, same_passed, same_end}
 use Rattle.yp_tools.proofs.program.obey.Goals.{in-Once, in-Sample, in-Check, in-Build, in-Xfr, in-Ask, in-Bind, in-Portmap, in-Getport}
 use Rattle.yp_tools.proofs.program.obey.Goals.{in-Revnet, in-Walk}
 use Rattle.yp_tools.proofs.program.obey.Goals as goal
 
 pub returns-in-Session-clause-does : goal.returns-in-Session-clause-does
-unfolding CommandDoes
+unfolding AloneDoes
 returns-in-Session-clause-does g c =
     let wires = g.W.Witness.wires in
     same_does (seeing g.S.Source g.K.Sink g.D.Disk g.C.Clock g.A.Dial g.I.Inbox g.T.Texts) c.args.office (wires c.args.witness.now) (meaning c.args.command)
@@ -28,7 +28,7 @@ returns-in-Session-clause-may_end g c =
     c.serve_session.result.0 c.serve_session.result.0 (ap meaning c.in-Session.is) refl c.serve_session.ensures.may_end
 
 pub returns-in-Push-clause-does : goal.returns-in-Push-clause-does
-unfolding CommandDoes
+unfolding AloneDoes
 returns-in-Push-clause-does g c =
     let wires = g.W.Witness.wires in
     let job = c.in-Push.job in
@@ -46,7 +46,7 @@ returns-in-Push-clause-may_end g c =
     c.push_map.result.0 c.push_map.result.0 (ap meaning c.in-Push.is) refl c.push_map.ensures.may_end
 
 pub returns-clause-does : goal.returns-clause-does
-unfolding CommandDoes
+unfolding AloneDoes
 returns-clause-does g c =
     let wires = g.W.Witness.wires in
     let by = same_does (seeing g.S.Source g.K.Sink g.D.Disk g.C.Clock g.A.Dial g.I.Inbox g.T.Texts) c.args.office (wires c.args.witness.now) (meaning c.args.command) in

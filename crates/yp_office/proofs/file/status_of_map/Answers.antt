@@ -2,8 +2,8 @@ use Rattle.std.proofs.Common.{◌≡◌, map, Some, ap, sym, ◌∙◌, subst, i
 use Rattle.std.specs.Prelude.{slice_get}
 use Rattle.yp_board.specs.Catalogues.{Name, name_view}
 use Rattle.yp_words.specs.Words.{IsNamed}
-use Rattle.yp_serving.proofs.Sessioned.{name_found, found_named}
-use Rattle.yp_serving.proofs.session.status_of_map.Goals as goal
+use Rattle.yp_office.proofs.Named.{name_found, found_named}
+use Rattle.yp_office.proofs.file.status_of_map.Goals as goal
 
 pub status_of_file-requires : goal.status_of_file-requires
 status_of_file-requires c =

@@ -1,0 +1,297 @@
+-- What was done, by what is told of it.
+use Rattle.std.proofs.Common.{◌≡◌, ◌⊎◌, inl, inr, ⊎_elim, ℕ, ◌<◌, List, length, Bool, true, false, Option, Some, Result, Ok, Err, refl, sym, ap, ◌∙◌, subst, arith}
+use Rattle.std.specs.Prelude.{IsTrue, IfOk, IfErr, OnErr, slice_get}
+use Rattle.yp_io.specs.Counts.{HasRisen}
+use Rattle.yp_io.specs.Disk.{History}
+use Rattle.yp_io.specs.declared.texts.TextFile.{TextFile}
+use Rattle.yp_slot.specs.declared.fault.SlotFault.{SlotFault}
+use Rattle.yp_slot.specs.declared.fault.SlotFault.TheVariants as fault
+use Rattle.yp_board.specs.Catalogues.{Name, Catalogue}
+use Rattle.yp_board.specs.declared.catalog.MapName.{MapName}
+use Rattle.yp_publish.specs.Opens.{IsStopped}
+use Rattle.yp_session.specs.Hosts.{Conduct}
+use Rattle.yp_worker.specs.Receptions.{Opening, IsKept, Terms, capped}
+use Rattle.yp_office.specs.declared.office.Office.{Office}
+use Rattle.yp_office.specs.declared.status.Status.{Status}
+use Rattle.yp_office.specs.declared.status.Status.TheVariants.{Done, WriteFault, NoMemory, Damaged, DiskFault}
+use Rattle.yp_office.specs.declared.status.Status.TheVariants.{ListenFault, InboxFault}
+use Rattle.yp_office.specs.Disks.{names_of, disks_of}
+use Rattle.yp_office.specs.Files.{Fails, TellsOf}
+use Rattle.yp_office.specs.Seeing.{Seeing, output, moment, WriteFails, DiskFails, InboxFails}
+use Rattle.yp_hosting.specs.declared.stock.NotHosted.{NotHosted}
+use Rattle.yp_hosting.specs.declared.stock.Stock.{Stock}
+use Rattle.yp_hosting.specs.declared.stock.NotHosted.TheVariants as unhosted
+use Rattle.yp_hosting.specs.declared.tally.Hosted.{Hosted}
+use Rattle.yp_hosting.specs.Hosting.{IsHosted, IsUnhosted, LeavesStarts}
+use Rattle.yp_hosting.specs.Serve.{ServeOrder, catalogue_of, house, place, IsToAccept, ServesMaps, IsShut, IsUnserved}
+use Rattle.yp_hosting.specs.Serve.{Serves, TellsServed, TellsEnd, IsWithin, ServeDoes}
+use Rattle.yp_hosting.proofs.Disks.{nothing_written, stopped_written, stopped_risen, stopped_count}
+
+-- as many connections came as were to, where no accept has failed
+pub all_came : {H : Type 0} (conduct : Conduct H) (terms : Terms) (old now : Opening) (connections calls wanted : ℕ)
+    (failed : Bool) → IsKept conduct terms old now connections calls failed 0 1 → IsToAccept wanted old
+    → failed ≡ false → connections ≡ capped 0 wanted
+all_came conduct terms old now connections calls wanted failed kept ready fine =
+    let over : now.accepted ≡ now.most =
+    ⊎_elim (λ yes. absurd (let no : true ≡ false = sym yes ∙ fine in cc)) (λ all. all) (kept.over (omega arith)) in
+    let count : kept.accepts.count ≡ wanted =
+    omega (arith, over, kept.most, kept.accepts.accepted, ready.most, ready.none) in
+    kept.accepts.connections_are ∙ ap (capped 0) count
+
+module _ {S K D C A I T : Type 0} (seen : Seeing S K D C A I T) (order : ServeOrder) (status : Status)
+    (old new : Office S K D C A I T) (door door' : Opening) where
+  -- what was served is told by its status
+  pub served_told : (hosted : Hosted) → IsHosted seen.disk.history seen.disk.faults (house seen order old) hosted
+      (place seen old door) (place seen new door') (disks_of old.disks.items) (disks_of new.disks.items)
+      → TellsServed hosted status (output seen old) (output seen new)
+      → Serves seen order status old new door door'
+  served_told hosted is tells = by_status status tells
+    where
+      maps : (s : Status) → TellsServed hosted s (output seen old) (output seen new)
+          → ServesMaps seen order s old new door door'
+      maps s told = record {
+        hosted = hosted;
+        is_hosted = is;
+        all = λ ready fine. all_came _ _ door door' hosted.tally.connections hosted.tally.calls order.connections
+            hosted.tally.listen_fault is.served.connections ready fine;
+        tells = told;
+      }
+
+      by_status : (s : Status) → TellsServed hosted s (output seen old) (output seen new)
+          → Serves seen order s old new door door'
+      by_status Done told = maps Done told
+      by_status WriteFault told = maps WriteFault told
+      by_status ListenFault told = maps ListenFault told
+      by_status InboxFault told = maps InboxFault told
+      by_status s told = absurd told
+
+  -- want of memory is told of disks that were stopped at, or were all loaded
+  pub memory_told : IsShut old new door door' → LeavesStarts seen.disk.history seen.disk.faults (catalogue_of order)
+      (disks_of old.disks.items) (disks_of new.disks.items) → status ≡ NoMemory
+      → Serves seen order status old new door door'
+  memory_told shut leaves is =
+      subst (λ s. Serves seen order s old new door door') (sym is) (record { disks = inr leaves; shut = shut })
+
+  pub stopped_told : (number : ℕ) (why : SlotFault) → IsShut old new door door'
+      → IsStopped seen.disk.history seen.disk.faults (disks_of old.disks.items) (disks_of new.disks.items) number why
+      → TellsOf order.stores number why status → Serves seen order status old new door door'
+  stopped_told number why shut stopped (inl is) =
+      subst (λ s. Serves seen order s old new door door') (sym is) (record {
+        disks = inl (stopped_written seen.disk.history seen.disk.faults (disks_of old.disks.items)
+            (disks_of new.disks.items) number why stopped);
+        shut = shut;
+      })
+  stopped_told number why shut stopped (inr (store, found, fails)) = by_fault why stopped status fails
+    where
+      by_fault : (w : SlotFault)
+          → IsStopped seen.disk.history seen.disk.faults (disks_of old.disks.items) (disks_of new.disks.items) number w
+          → (s : Status) → Fails store w s → Serves seen order s old new door door'
+      by_fault (fault.Damaged at rule) stopped (Damaged map at' rule') fails = record {
+        number = number;
+        named = found ∙ ap (λ (n : Name). Some n) (sym fails.0);
+        stopped = rw (fails.1, fails.2) stopped;
+        shut = shut;
+      }
+      by_fault fault.DiskFault stopped (DiskFault map) fails = record {
+        number = number;
+        named = found ∙ ap (λ (n : Name). Some n) (sym fails);
+        stopped = stopped;
+        shut = shut;
+      }
+      by_fault fault.NoMemory stopped NoMemory fails = record {
+        disks = inl (stopped_written seen.disk.history seen.disk.faults (disks_of old.disks.items)
+            (disks_of new.disks.items) number fault.NoMemory stopped);
+        shut = shut;
+      }
+      by_fault w stopped s fails = absurd fails
+
+  -- a fault of a disk is told where its count rose
+  pub risen_of : (number : ℕ) (why : SlotFault) (map : MapName) → status ≡ DiskFault map
+      → IsStopped seen.disk.history seen.disk.faults (disks_of old.disks.items) (disks_of new.disks.items) number why
+      → TellsOf order.stores number why status → DiskFails seen old new
+  risen_of number why map is stopped (inl memory) = absurd (let no : NoMemory ≡ DiskFault map = sym memory ∙ is in cc)
+  risen_of number (fault.Damaged at rule) map is stopped (inr (store, found, fails)) =
+      absurd (subst (λ s. Fails store (fault.Damaged at rule) s) is fails)
+  risen_of number fault.DiskFault map is stopped (inr (store, found, fails)) =
+      stopped_risen seen.disk.history seen.disk.faults old.disks.items new.disks.items number stopped
+  risen_of number fault.NoMemory map is stopped (inr (store, found, fails)) =
+      absurd (subst (λ s. Fails store fault.NoMemory s) is fails)
+
+-- the statuses of a map that wasn't loaded
+is_load : Status → Bool
+is_load (Damaged map at rule) = true
+is_load (DiskFault map) = true
+is_load NoMemory = true
+is_load status = false
+
+fails_load : (store : Name) (why : SlotFault) (status : Status) → Fails store why status → is_load status ≡ true
+unfolding is_load
+fails_load store (fault.Damaged at rule) (Damaged map at' rule') fails = refl
+fails_load store fault.DiskFault (DiskFault map) fails = refl
+fails_load store fault.NoMemory NoMemory fails = refl
+fails_load store _ _ fails = absurd fails
+
+told_load : (names : List Name) (number : ℕ) (why : SlotFault) (status : Status) → TellsOf names number why status
+    → is_load status ≡ true
+unfolding is_load
+told_load names number why status (inl is) = ap is_load is
+told_load names number why status (inr (store, found, fails)) = fails_load store why status fails
+
+-- none of them tells that an accept, the inbox or the output has failed
+no_listen : (status : Status) → is_load status ≡ true → status ≡ ListenFault → ⊥
+unfolding is_load
+no_listen status is e = let no : is_load ListenFault ≡ true = subst (λ s. is_load s ≡ true) e is in absurd cc
+
+no_inbox : (status : Status) → is_load status ≡ true → status ≡ InboxFault → ⊥
+unfolding is_load
+no_inbox status is e = let no : is_load InboxFault ≡ true = subst (λ s. is_load s ≡ true) e is in absurd cc
+
+module _ {S K D C A I T : Type 0} (seen : Seeing S K D C A I T) (order : ServeOrder) (status : Status)
+    (old new : Office S K D C A I T) (door door' : Opening) where
+  -- what was served, or why nobody was, is told by its status
+  pub end_told : (hosted : Result Hosted NotHosted)
+      → IfOk hosted (λ h. IsHosted seen.disk.history seen.disk.faults (house seen order old) h (place seen old door)
+      (place seen new door') (disks_of old.disks.items) (disks_of new.disks.items))
+      → IfErr hosted (λ why. IsUnhosted seen.disk.history seen.disk.faults (catalogue_of order) why
+      (disks_of old.disks.items) (disks_of new.disks.items))
+      → OnErr hosted (IsShut old new door door')
+      → TellsEnd hosted order.stores status (output seen old) (output seen new)
+      → Serves seen order status old new door door'
+  end_told (Ok h) is un shut tells = served_told seen order status old new door door' h is tells
+  end_told (Err (unhosted.Unloaded number why)) is un shut tells =
+      stopped_told seen order status old new door door' number why shut un tells
+  end_told (Err unhosted.NoMemory) is un shut tells = memory_told seen order status old new door door' shut un tells
+
+  -- a failed accept is told where the listener's count rose
+  pub listen_risen : (hosted : Result Hosted NotHosted)
+      → IfOk hosted (λ h. IsHosted seen.disk.history seen.disk.faults (house seen order old) h (place seen old door)
+      (place seen new door') (disks_of old.disks.items) (disks_of new.disks.items))
+      → TellsEnd hosted order.stores status (output seen old) (output seen new) → status ≡ ListenFault
+      → HasRisen door.faults door'.faults
+  listen_risen (Ok h) is tells e =
+      let told = subst (λ s. TellsServed h s (output seen old) (output seen new)) e tells in
+      is.served.connections.fault told.0
+  listen_risen (Err (unhosted.Unloaded number why)) is tells e =
+      absurd (no_listen status (told_load order.stores number why status tells) e)
+  listen_risen (Err unhosted.NoMemory) is tells e = absurd (let no : NoMemory ≡ ListenFault = sym tells ∙ e in cc)
+
+  -- a fault of the inbox is told where its count rose
+  pub inbox_risen : (hosted : Result Hosted NotHosted)
+      → IfOk hosted (λ h. h.inbox_fault ≡ true → InboxFails seen old new)
+      → TellsEnd hosted order.stores status (output seen old) (output seen new) → status ≡ InboxFault
+      → InboxFails seen old new
+  inbox_risen (Ok h) cause tells e =
+      let told = subst (λ s. TellsServed h s (output seen old) (output seen new)) e tells in
+      cause told.1
+  inbox_risen (Err (unhosted.Unloaded number why)) cause tells e =
+      absurd (no_inbox status (told_load order.stores number why status tells) e)
+  inbox_risen (Err unhosted.NoMemory) cause tells e = absurd (let no : NoMemory ≡ InboxFault = sym tells ∙ e in cc)
+
+  -- a fault of a disk is told where its count rose
+  pub disk_risen : (hosted : Result Hosted NotHosted) (map : MapName)
+      → IfErr hosted (λ why. IsUnhosted seen.disk.history seen.disk.faults (catalogue_of order) why
+      (disks_of old.disks.items) (disks_of new.disks.items))
+      → TellsEnd hosted order.stores status (output seen old) (output seen new) → status ≡ DiskFault map
+      → DiskFails seen old new
+  disk_risen (Ok h) map un tells e =
+      absurd (subst (λ s. TellsServed h s (output seen old) (output seen new)) e tells)
+  disk_risen (Err (unhosted.Unloaded number why)) map un tells e =
+      risen_of seen order status old new door door' number why map e un tells
+  disk_risen (Err unhosted.NoMemory) map un tells e = absurd (let no : NoMemory ≡ DiskFault map = sym tells ∙ e in cc)
+
+-- nothing was done
+pub nothing_done : {S K D C A I T : Type 0} (seen : Seeing S K D C A I T) (order : ServeOrder)
+    (office : Office S K D C A I T) (door : Opening) → ServeDoes seen order NoMemory office office door door
+nothing_done seen order office door = record {
+  serves = record {
+    disks = inl (nothing_written seen.disk.history seen.disk.faults (disks_of office.disks.items));
+    shut = record { stays = refl; door_stays = refl };
+  };
+  causes = record {
+    listen_fault = λ e. absurd (let no : NoMemory ≡ ListenFault = e in cc);
+    inbox_fault = λ e. absurd (let no : NoMemory ≡ InboxFault = e in cc);
+    write_fault = λ e. absurd (let no : NoMemory ≡ WriteFault = e in cc);
+    disk_fault = λ map e. absurd (let no : NoMemory ≡ DiskFault map = e in cc);
+  };
+  names = refl;
+  told = refl;
+  texts = λ file. refl;
+  source = refl;
+}
+
+-- the map whose file wasn't loaded is one of as many as there are disks
+pub number_within : {D : Type 0} (history : D → Option History) (faults : D → ℕ) (served : Catalogue)
+    (hosted : Result Hosted NotHosted) (old new : List D) (count : ℕ) → length old ≡ count
+    → IfErr hosted (λ why. IsUnhosted history faults served why old new) → IfErr hosted (IsWithin count)
+number_within history faults served (Ok h) old new count e un = tt
+number_within history faults served (Err unhosted.NoMemory) old new count e un = tt
+number_within history faults served (Err (unhosted.Unloaded number why)) old new count e un =
+    let within = (stopped_count history faults old new number why un).1 in omega (arith, within, e)
+
+-- where nobody was served, an office is as it was but for its disks
+pub shut_of : {S K D C A I T L : Type 0} (tells : L → Opening) (old new : Office S K D C A I T)
+    (stock back : Stock D A T C L I) (hosted : Result Hosted NotHosted)
+    → stock.desk.dial ≡ old.dial → stock.desk.texts ≡ old.texts → stock.desk.clock ≡ old.clock
+    → stock.inbox ≡ old.inbox
+    → new ≡ record {
+      wire = record old.wire { sink = new.wire.sink };
+      disks = new.disks;
+      clock = back.desk.clock;
+      dial = back.desk.dial;
+      inbox = back.inbox;
+      texts = back.desk.texts;
+    }
+    → OnErr hosted (back ≡ record stock { disks = back.disks }) → OnErr hosted (new.wire.sink ≡ old.wire.sink)
+    → OnErr hosted (IsShut old new (tells stock.listen) (tells back.listen))
+shut_of tells old new stock back (Ok h) a b c d form same sink = tt
+shut_of {S} {K} {D} {C} {A} {I} {T} {L} tells old new stock back (Err why) a b c d form same sink = record {
+  stays = form
+      ∙ ap (λ (s : Stock D A T C L I). record {
+        wire = record old.wire { sink = new.wire.sink };
+        disks = new.disks;
+        clock = s.desk.clock;
+        dial = s.desk.dial;
+        inbox = s.inbox;
+        texts = s.desk.texts;
+      }) same
+      ∙ rw (a, b, c, d, sink) refl;
+  door_stays = ap (λ (s : Stock D A T C L I). tells s.listen) same;
+}
+
+-- all that was done, of what is told of it
+pub all_done : {S K D C A I T : Type 0} (seen : Seeing S K D C A I T) (order : ServeOrder) (status : Status)
+    (old new : Office S K D C A I T) (door door' : Opening) (hosted : Result Hosted NotHosted) (apart back : List D)
+    → apart ≡ disks_of old.disks.items → back ≡ disks_of new.disks.items
+    → IfOk hosted (λ h. IsHosted seen.disk.history seen.disk.faults (house seen order old) h (place seen old door)
+    (place seen new door') apart back)
+    → IfErr hosted (λ why. IsUnhosted seen.disk.history seen.disk.faults (catalogue_of order) why apart back)
+    → OnErr hosted (IsShut old new door door')
+    → TellsEnd hosted order.stores status (output seen old) (output seen new)
+    → IfOk hosted (λ h. h.inbox_fault ≡ true → InboxFails seen old new)
+    → (status ≡ WriteFault → WriteFails seen old new) → names_of new.disks.items ≡ names_of old.disks.items
+    → moment seen new ≡ moment seen old
+    → ((file : TextFile) → seen.texts.text new.texts file ≡ seen.texts.text old.texts file)
+    → new.wire.source ≡ old.wire.source → ServeDoes seen order status old new door door'
+all_done {D = D} seen order status old new door door' hosted apart back a b is un shut tells inbox write names told texts
+    source =
+    let Is : List D → List D → Type 0 = λ l m. IfOk hosted (λ h. IsHosted seen.disk.history seen.disk.faults
+    (house seen order old) h (place seen old door) (place seen new door') l m) in
+    let Un : List D → List D → Type 0 = λ l m. IfErr hosted (λ why. IsUnhosted seen.disk.history seen.disk.faults
+    (catalogue_of order) why l m) in
+    let was = disks_of old.disks.items in
+    let now = disks_of new.disks.items in
+    let is' : Is was now = subst (λ (m : List D). Is was m) b (subst (λ (l : List D). Is l back) a is) in
+    let un' : Un was now = subst (λ (m : List D). Un was m) b (subst (λ (l : List D). Un l back) a un) in
+    record {
+      serves = end_told seen order status old new door door' hosted is' un' shut tells;
+      causes = record {
+        listen_fault = λ e. listen_risen seen order status old new door door' hosted is' tells e;
+        inbox_fault = λ e. inbox_risen seen order status old new door door' hosted inbox tells e;
+        write_fault = write;
+        disk_fault = λ map e. disk_risen seen order status old new door door' hosted map un' tells e;
+      };
+      names = names;
+      told = told;
+      texts = texts;
+      source = source;
+    }

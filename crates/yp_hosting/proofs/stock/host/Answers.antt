@@ -1,0 +1,18 @@
+use Rattle.std.proofs.Common.{◌∙◌}
+use Rattle.yp_hosting.proofs.Disks.{all_opened, stopped_count}
+use Rattle.yp_hosting.proofs.stock.host.Goals as goal
+
+pub host_loaded-requires-clause-count : goal.host_loaded-requires-clause-count
+host_loaded-requires-clause-count g c κs within =
+    all_opened g.D.Disk.history g.D.Disk.faults c.args.stock.disks.items c.in-Ok.loaded c.in-Ok.ensures.loaded
+    ∙ c.requires.count
+
+pub returns-in-Ok-clause-count : goal.returns-in-Ok-clause-count
+returns-in-Ok-clause-count g c =
+    c.host_loaded.ensures.count
+    ∙ all_opened g.D.Disk.history g.D.Disk.faults c.args.stock.disks.items c.in-Ok.loaded c.in-Ok.ensures.loaded
+
+pub returns-in-Err-clause-count : goal.returns-in-Err-clause-count
+returns-in-Err-clause-count g c =
+    (stopped_count g.D.Disk.history g.D.Disk.faults c.args.stock.disks.items c.in-Err.field-0.disks.items
+    c.in-Err.field-0.map c.in-Err.field-0.fault c.in-Err.ensures.refused).0

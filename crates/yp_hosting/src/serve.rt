@@ -1,0 +1,201 @@
+//! The command `serve`: stored maps for many callers at once.
+
+ghost use Rattle.std.specs.Prelude.{◌≡◌, ◌≢◌, ℕ, ◌≤◌, ◌<◌, None, IsTrue, All, map, length, IfErr, OnErr};
+ghost use Rattle.yp_io.specs.Counts.{HasRisen};
+ghost use Rattle.yp_board.specs.Catalogues.{name_view, maps_max, catalog_fault};
+ghost use Rattle.yp_worker.specs.Receptions.{IsFair, opening_of};
+ghost use Rattle.yp_words.specs.Words.{IsNamed};
+ghost use Rattle.yp_office.specs.Disks.{names_of};
+ghost use Rattle.yp_office.specs.Seeing.{seeing, IsPassedOn};
+ghost use Rattle.yp_office.specs.Status.{IsTellable};
+ghost use Rattle.yp_hosting.specs.Serve.{ServeDoes, serve_order, order_view, serve_may_end, TellsEnd, IsWithin};
+
+use crate::stock::{NotHosted, Stock, host};
+use crate::tally::{Hosted, tell_served};
+use std::alloc::Global;
+use std::random::RandomSource;
+use std::sync::Wait;
+use std::thread::Threads;
+use yp_board::{Catalog, CatalogFault, MapName};
+use yp_io::{Clock, Dial, Disk, Inbox, NoMemory, Sink, Source, Texts};
+use yp_listen::Listen;
+use yp_office::{Apart, Office, Status, put_together, status_of_map, table_of, take_apart};
+use yp_serve::ServeSpec;
+use yp_server::Desk;
+use yp_session::CALLS_MAX;
+use yp_words::ServeJob;
+use yp_xfr::Hosts;
+
+/// Tells what was served, or answers why nobody was.
+fn tell_end<K: Sink>(
+    alloc: Global,
+    sink: &mut K,
+    hosted: Result<Hosted, NotHosted>,
+    names: &[MapName],
+) -> Status
+    requires number { IfErr hosted (IsWithin (length names.now)) }
+    requires named { All IsNamed (map name_view names.now) }
+    ensures tells { TellsEnd hosted (map name_view names.now) result (K.output sink.old) (K.output sink.new) }
+    ensures untold { OnErr hosted (sink.new ≡ sink.old) }
+    ensures flushed { result ≢ Status.WriteFault → IsTrue (K.flushed sink.old) → IsTrue (K.flushed sink.new) }
+    ensures cause { result ≡ Status.WriteFault → HasRisen (K.faults sink.old) (K.faults sink.new) }
+    ensures may_end { IsTrue (serve_may_end result) }
+    ensures tellable { IsTellable result }
+{
+    match hosted {
+        Ok(hosted) => tell_served(sink, hosted),
+        Err(NotHosted::NoMemory) => Status::NoMemory,
+        Err(NotHosted::Unloaded { map, fault }) => status_of_map(alloc, names, map, fault),
+    }
+}
+
+/// Serves the maps of a catalogue from the disks of an office, and tells what was served.
+fn serve_catalog<S, K, D, C, A, I, T, L, R>(
+    alloc: Global,
+    rt: &R,
+    catalog: Catalog,
+    spec: &ServeSpec,
+    hosts: Hosts,
+    office: Office<S, K, D, C, A, I, T>,
+    listen: L,
+) -> (Status, Office<S, K, D, C, A, I, T>, L)
+where
+    S: Source,
+    K: Sink,
+    D: Disk + Send + Drop,
+    C: Clock + Send + Drop,
+    A: Dial + Send + Drop,
+    A::In: Send,
+    A::Out: Send,
+    I: Inbox + Send + Drop,
+    T: Texts + Send + Drop,
+    L: Listen + Send + Drop,
+    L::In: Send,
+    L::Out: Send,
+    R: Threads + Wait + RandomSource + Sync,
+    requires named { All IsNamed catalog.maps }
+    requires disks { names_of office.disks.items ≡ catalog.maps }
+    requires workers { (1 ≤ spec.now.workers) × (spec.now.workers ≤ 8) }
+    requires most { spec.now.most ≡ CALLS_MAX }
+    requires fair { IsFair (L.past listen) }
+    ensures does { (connections : ℕ) → ServeDoes (seeing S.Source K.Sink D.Disk C.Clock A.Dial I.Inbox T.Texts)
+        (serve_order catalog.own connections spec.now.turns catalog.maps hosts) result.0 office result.1
+        (opening_of L.past L.most L.accepted L.faults listen)
+        (opening_of L.past L.most L.accepted L.faults result.2) }
+    ensures may_end { IsTrue (serve_may_end result.0) }
+    ensures passed_on { IsPassedOn (seeing S.Source K.Sink D.Disk C.Clock A.Dial I.Inbox T.Texts)
+        result.0 office result.1 }
+    ensures tellable { IsTellable result.0 }
+{
+    let mut office = office;
+    let Apart { names, disks } = match take_apart(alloc, &mut office.disks) {
+        Ok(apart) => apart,
+        Err(NoMemory) => return (Status::NoMemory, office, listen),
+    };
+    let Office {
+        mut wire,
+        disks: mut named,
+        clock,
+        dial,
+        inbox,
+        texts,
+    } = office;
+    let desk = Desk {
+        dial,
+        texts,
+        clock,
+        hosts,
+    };
+    let stock = Stock {
+        disks,
+        desk,
+        listen,
+        inbox,
+    };
+    let (hosted, stock) = host(alloc, rt, catalog, spec, stock);
+    let status = tell_end(alloc, &mut wire.sink, hosted, &names);
+    let Stock {
+        disks,
+        desk,
+        listen,
+        inbox,
+    } = stock;
+    put_together(&mut named, Apart { names, disks });
+    let Desk {
+        dial,
+        texts,
+        clock,
+        hosts: _,
+    } = desk;
+    let office = Office {
+        wire,
+        disks: named,
+        clock,
+        dial,
+        inbox,
+        texts,
+    };
+    (status, office, listen)
+}
+
+/// Serves stored maps to all who call, and tells how many connections came and how many of their records were read.
+/// Where the file of a map can't be loaded, or memory runs out, nobody is served.
+pub fn serve_maps<S, K, D, C, A, I, T, L, R>(
+    alloc: Global,
+    rt: &R,
+    job: ServeJob,
+    office: Office<S, K, D, C, A, I, T>,
+    listen: L,
+) -> (Status, Office<S, K, D, C, A, I, T>, L)
+where
+    S: Source,
+    K: Sink,
+    D: Disk + Send + Drop,
+    C: Clock + Send + Drop,
+    A: Dial + Send + Drop,
+    A::In: Send,
+    A::Out: Send,
+    I: Inbox + Send + Drop,
+    T: Texts + Send + Drop,
+    L: Listen + Send + Drop,
+    L::In: Send,
+    L::Out: Send,
+    R: Threads + Wait + RandomSource + Sync,
+    requires catalogue { catalog_fault job.name.items (map name_view job.stores.items) ≡ None }
+    requires named { All IsNamed (map name_view job.stores.items) }
+    requires disks { names_of office.disks.items ≡ map name_view job.stores.items }
+    requires workers { (1 ≤ job.workers) × (job.workers ≤ 8) }
+    requires fair { IsFair (L.past listen) }
+    ensures does { ServeDoes (seeing S.Source K.Sink D.Disk C.Clock A.Dial I.Inbox T.Texts)
+        (order_view job) result.0 office result.1
+        (opening_of L.past L.most L.accepted L.faults listen)
+        (opening_of L.past L.most L.accepted L.faults result.2) }
+    ensures may_end { IsTrue (serve_may_end result.0) }
+    ensures passed_on { IsPassedOn (seeing S.Source K.Sink D.Disk C.Clock A.Dial I.Inbox T.Texts)
+        result.0 office result.1 }
+    ensures tellable { IsTellable result.0 }
+{
+    let ServeJob {
+        name,
+        port: _,
+        workers,
+        connections: _,
+        turns,
+        stores,
+        hosts,
+    } = job;
+    let Ok(hosts) = table_of(alloc, hosts) else {
+        return (Status::NoMemory, office, listen);
+    };
+    let catalog = match Catalog::new(alloc, name, stores) {
+        Ok(catalog) => catalog,
+        Err(CatalogFault::NoMemory) => return (Status::NoMemory, office, listen),
+        Err(_) => unreachable!(),
+    };
+    let spec = ServeSpec {
+        workers,
+        most: CALLS_MAX,
+        turns,
+    };
+    serve_catalog(alloc, rt, catalog, &spec, hosts, office, listen)
+}

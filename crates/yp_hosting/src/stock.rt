@@ -1,0 +1,325 @@
+//! Maps that are served from their disks, from the loading of their files to the handing back of all.
+
+ghost use Rattle.std.specs.Prelude.{◌≡◌, ◌≤◌, length, map, option_map, true, IfOk, IfErr, OnErr};
+ghost use Rattle.std.specs.Arc.{arc_value};
+ghost use Rattle.yp_io.specs.Counts.{HasRisen};
+ghost use Rattle.yp_io.specs.declared.texts.TextFile.{TextFile};
+ghost use Rattle.yp_board.specs.Logs.{starts};
+ghost use Rattle.yp_publish.specs.Standing.{versions};
+ghost use Rattle.yp_session.specs.declared.session.TheConstants.{CALLS_MAX};
+ghost use Rattle.yp_turns.specs.Turns.{box_of};
+ghost use Rattle.yp_worker.specs.Receptions.{IsFair, opening_of};
+ghost use Rattle.yp_serve.specs.Serving.{Leaves};
+ghost use Rattle.yp_hosting.specs.Hosting.{house_of, place_of, IsServed, IsHosted, IsUnhosted};
+
+use crate::clock::{Moment, SharedClock};
+use crate::tally::Hosted;
+use std::alloc::Global;
+use std::marker::Brand;
+use std::random::RandomSource;
+use std::sync::{Arc, Wait};
+use std::thread::Threads;
+use yp_board::Catalog;
+use yp_io::{Clock, Dial, Disk, Inbox, NoMemory, Texts};
+use yp_listen::Listen;
+use yp_publish::laws::starts_are_shown;
+use yp_publish::{Loaded, Publisher, StartRefused, load_all};
+use yp_readers::{Naming, Opened, board};
+use yp_serve::{ServeRefused, ServeSpec, Served, serve};
+use yp_server::Desk;
+use yp_slot::SlotFault;
+use yp_version::Version;
+use yp_worker::OpenGate;
+
+/// Why nobody was served.
+#[derive(Clone, Copy, Debug, PartialEq, Eq)]
+pub enum NotHosted {
+    /// The file of this map, by its number from 0, is the first that wasn't loaded.
+    Unloaded { map: u32, fault: SlotFault },
+    /// Memory ran out once all were loaded.
+    NoMemory,
+}
+
+/// What maps are served from.
+#[derive(Drop)]
+pub(crate) struct Stock<D, A, T, C, L, I> {
+    /// The disks of the maps, in the order of the catalogue.
+    pub(crate) disks: Vec<D>,
+    pub(crate) desk: Desk<A, T, C>,
+    pub(crate) listen: L,
+    pub(crate) inbox: I,
+}
+
+/// The disks of maps that were loaded.
+fn unload<D: Disk>(catalog: &Catalog, loaded: Loaded<D>) -> Vec<D>
+    requires { length loaded ≡ length catalog.now.maps }
+    ensures { Leaves D.history catalog.now (starts 0 (versions loaded)) result.items }
+{
+    starts_are_shown();
+    loaded.into_disks()
+}
+
+/// A catalogue once more, and the versions of its maps, which were loaded.
+fn starting<D: Disk>(
+    alloc: Global,
+    catalog: &Catalog,
+    loaded: &Loaded<D>,
+) -> Result<(Catalog, Vec<Option<Arc<Version>>>), NoMemory>
+    ensures catalogue { IfOk result (λ starting. starting.0 ≡ catalog.now) }
+    ensures versions { IfOk result (λ starting.
+        map (option_map arc_value) starting.1.items ≡ versions loaded.now) }
+{
+    let copy = catalog.copy(alloc)?;
+    let start = loaded.shown(alloc)?;
+    Ok((copy, start))
+}
+
+/// A desk whose clock workers share.
+fn shared<M: Moment, A, T, C: Clock>(desk: Desk<A, T, C>) -> Desk<A, T, SharedClock<M, C>>
+    requires { C.moment desk.clock ≡ M.moment }
+    ensures { result ≡ record { dial = desk.dial; texts = desk.texts; clock = desk.clock; hosts = desk.hosts } }
+{
+    let Desk {
+        dial,
+        texts,
+        clock,
+        hosts,
+    } = desk;
+    Desk {
+        dial,
+        texts,
+        clock: SharedClock::new(clock),
+        hosts,
+    }
+}
+
+/// The same desk, once nobody shares its clock.
+fn unshared<M: Moment, A, T, C: Clock>(desk: Desk<A, T, SharedClock<M, C>>) -> Desk<A, T, C>
+    ensures desk { result
+        ≡ record { dial = desk.dial; texts = desk.texts; clock = desk.clock; hosts = desk.hosts } }
+    ensures moment { C.moment result.clock ≡ M.moment }
+{
+    let Desk {
+        dial,
+        texts,
+        clock,
+        hosts,
+    } = desk;
+    Desk {
+        dial,
+        texts,
+        clock: clock.into_clock(),
+        hosts,
+    }
+}
+
+/// Serves maps from a stock, by workers in threads and a worker of datagrams, until all connections were served and all
+/// turns taken. Where a file isn't loaded, or memory runs out, nobody is served.
+pub(crate) fn host<D, A, T, C, L, I, R>(
+    alloc: Global,
+    rt: &R,
+    catalog: Catalog,
+    spec: &ServeSpec,
+    stock: Stock<D, A, T, C, L, I>,
+) -> (Result<Hosted, NotHosted>, Stock<D, A, T, C, L, I>)
+where
+    D: Disk + Send + Drop,
+    A: Dial + Send + Drop,
+    T: Texts + Send + Drop,
+    C: Clock + Send + Drop,
+    L: Listen + Send + Drop,
+    I: Inbox + Send + Drop,
+    L::In: Send,
+    L::Out: Send,
+    A::In: Send,
+    A::Out: Send,
+    R: Threads + Wait + RandomSource + Sync,
+    requires count { length stock.disks.items ≡ length catalog.maps }
+    requires workers { (1 ≤ spec.now.workers) × (spec.now.workers ≤ 8) }
+    requires most { spec.now.most ≡ CALLS_MAX }
+    requires fair { IsFair (L.past stock.listen) }
+    ensures hosted { IfOk result.0 (λ hosted. IsHosted D.history D.faults
+        (house_of catalog (T.text stock.desk.texts) stock.desk.hosts spec.now.turns) hosted
+        (place_of (opening_of L.past L.most L.accepted L.faults stock.listen)
+        (box_of I.past I.turns I.quiets stock.inbox))
+        (place_of (opening_of L.past L.most L.accepted L.faults result.1.listen)
+        (box_of I.past I.turns I.quiets result.1.inbox)) stock.disks.items result.1.disks.items) }
+    ensures unhosted { IfErr result.0 (λ why.
+        IsUnhosted D.history D.faults catalog why stock.disks.items result.1.disks.items) }
+    ensures untouched { OnErr result.0 (result.1 ≡ record stock { disks = result.1.disks }) }
+    ensures inbox_fault { IfOk result.0 (λ hosted. hosted.inbox_fault ≡ true
+        → HasRisen (I.faults stock.inbox) (I.faults result.1.inbox)) }
+    ensures texts { (file : TextFile) → T.text result.1.desk.texts file ≡ T.text stock.desk.texts file }
+    ensures moment { C.moment result.1.desk.clock ≡ C.moment stock.desk.clock }
+    ensures count { length result.1.disks.items ≡ length stock.disks.items }
+{
+    let Stock {
+        disks,
+        desk,
+        listen,
+        inbox,
+    } = stock;
+    // A catalogue has at most 64 maps.
+    prove!(disks.len() <= catalog.len() as usize);
+    match load_all(alloc, rt, disks) {
+        Ok(loaded) => host_loaded(alloc, rt, catalog, spec, loaded, desk, listen, inbox),
+        Err(StartRefused { disks, map, fault }) => {
+            let stock = Stock {
+                disks,
+                desk,
+                listen,
+                inbox,
+            };
+            (Err(NotHosted::Unloaded { map, fault }), stock)
+        }
+    }
+}
+
+/// The same of maps that were loaded.
+fn host_loaded<D, A, T, C, L, I, R>(
+    alloc: Global,
+    rt: &R,
+    catalog: Catalog,
+    spec: &ServeSpec,
+    loaded: Loaded<D>,
+    desk: Desk<A, T, C>,
+    listen: L,
+    inbox: I,
+) -> (Result<Hosted, NotHosted>, Stock<D, A, T, C, L, I>)
+where
+    D: Disk + Send + Drop,
+    A: Dial + Send + Drop,
+    T: Texts + Send + Drop,
+    C: Clock + Send + Drop,
+    L: Listen + Send + Drop,
+    I: Inbox + Send + Drop,
+    L::In: Send,
+    L::Out: Send,
+    A::In: Send,
+    A::Out: Send,
+    R: Threads + Wait + RandomSource + Sync,
+    requires count { length loaded ≡ length catalog.maps }
+    requires workers { (1 ≤ spec.now.workers) × (spec.now.workers ≤ 8) }
+    requires most { spec.now.most ≡ CALLS_MAX }
+    requires fair { IsFair (L.past listen) }
+    ensures hosted { IfOk result.0 (λ hosted. IsServed D.history
+        (house_of catalog (T.text desk.texts) desk.hosts spec.now.turns) loaded hosted
+        (place_of (opening_of L.past L.most L.accepted L.faults listen) (box_of I.past I.turns I.quiets inbox))
+        (place_of (opening_of L.past L.most L.accepted L.faults result.1.listen)
+        (box_of I.past I.turns I.quiets result.1.inbox)) result.1.disks.items) }
+    ensures unhosted { IfErr result.0 (λ why. why ≡ NotHosted.NoMemory) }
+    ensures leaves { OnErr result.0 (Leaves D.history catalog (starts 0 (versions loaded)) result.1.disks.items) }
+    ensures untouched { OnErr result.0
+        ((result.1.desk ≡ desk) × (result.1.listen ≡ listen) × (result.1.inbox ≡ inbox)) }
+    ensures inbox_fault { IfOk result.0 (λ hosted. hosted.inbox_fault ≡ true
+        → HasRisen (I.faults inbox) (I.faults result.1.inbox)) }
+    ensures texts { (file : TextFile) → T.text result.1.desk.texts file ≡ T.text desk.texts file }
+    ensures moment { C.moment result.1.desk.clock ≡ C.moment desk.clock }
+    ensures count { length result.1.disks.items ≡ length loaded }
+{
+    let Ok((copy, start)) = starting(alloc, &catalog, &loaded) else {
+        let stock = Stock {
+            disks: unload(&catalog, loaded),
+            desk,
+            listen,
+            inbox,
+        };
+        return (Err(NotHosted::NoMemory), stock);
+    };
+    let opened = Opened::new();
+    host_shown::<Brand, Brand, D, A, T, C, L, I, R>(
+        alloc, rt, opened, copy, start, catalog, spec, loaded, desk, listen, inbox,
+    )
+}
+
+/// The same of maps with a board of their own, on which these versions of theirs are shown.
+fn host_shown<J, M, D, A, T, C, L, I, R>(
+    alloc: Global,
+    rt: &R,
+    opened: Opened,
+    copy: Catalog,
+    start: Vec<Option<Arc<Version>>>,
+    catalog: Catalog,
+    spec: &ServeSpec,
+    loaded: Loaded<D>,
+    desk: Desk<A, T, C>,
+    listen: L,
+    inbox: I,
+) -> (Result<Hosted, NotHosted>, Stock<D, A, T, C, L, I>)
+where
+    J: Naming + Send + Sync,
+    M: Moment + Send + Sync,
+    D: Disk + Send + Drop,
+    A: Dial + Send + Drop,
+    T: Texts + Send + Drop,
+    C: Clock + Send + Drop,
+    L: Listen + Send + Drop,
+    I: Inbox + Send + Drop,
+    L::In: Send,
+    L::Out: Send,
+    A::In: Send,
+    A::Out: Send,
+    R: Threads + Wait + RandomSource + Sync,
+    requires opened { opened ≡ J.book }
+    requires moment { C.moment desk.clock ≡ M.moment }
+    requires copy { copy ≡ catalog }
+    requires start { map (option_map arc_value) start.items ≡ versions loaded }
+    requires count { length loaded ≡ length catalog.maps }
+    requires workers { (1 ≤ spec.now.workers) × (spec.now.workers ≤ 8) }
+    requires most { spec.now.most ≡ CALLS_MAX }
+    requires fair { IsFair (L.past listen) }
+    ensures hosted { IfOk result.0 (λ hosted. IsServed D.history
+        (house_of catalog (T.text desk.texts) desk.hosts spec.now.turns) loaded hosted
+        (place_of (opening_of L.past L.most L.accepted L.faults listen) (box_of I.past I.turns I.quiets inbox))
+        (place_of (opening_of L.past L.most L.accepted L.faults result.1.listen)
+        (box_of I.past I.turns I.quiets result.1.inbox)) result.1.disks.items) }
+    ensures unhosted { IfErr result.0 (λ why. why ≡ NotHosted.NoMemory) }
+    ensures leaves { OnErr result.0 (Leaves D.history catalog (starts 0 (versions loaded)) result.1.disks.items) }
+    ensures untouched { OnErr result.0
+        ((result.1.desk ≡ desk) × (result.1.listen ≡ listen) × (result.1.inbox ≡ inbox)) }
+    ensures inbox_fault { IfOk result.0 (λ hosted. hosted.inbox_fault ≡ true
+        → HasRisen (I.faults inbox) (I.faults result.1.inbox)) }
+    ensures texts { (file : TextFile) → T.text result.1.desk.texts file ≡ T.text desk.texts file }
+    ensures moment { C.moment result.1.desk.clock ≡ C.moment desk.clock }
+    ensures count { length result.1.disks.items ≡ length loaded }
+{
+    let Ok((writer, readers)) = board::<J, &R>(alloc, rt, opened, copy, start, spec.workers + 1)
+    else {
+        let stock = Stock {
+            disks: unload(&catalog, loaded),
+            desk,
+            listen,
+            inbox,
+        };
+        return (Err(NotHosted::NoMemory), stock);
+    };
+    starts_are_shown();
+    let publisher = Publisher::new(loaded, catalog, writer);
+    let desk = shared::<M, A, T, C>(desk);
+    match serve(
+        alloc, rt, publisher, readers, desk, listen, inbox, spec, &OpenGate,
+    ) {
+        Ok(served) => {
+            let hosted = Hosted {
+                tally: served.tally,
+                inbox_fault: served.inbox_fault,
+            };
+            let stock = Stock {
+                disks: served.disks,
+                desk: unshared(served.desk),
+                listen: served.listen,
+                inbox: served.inbox,
+            };
+            (Ok(hosted), stock)
+        }
+        Err(refused) => {
+            let stock = Stock {
+                disks: refused.disks,
+                desk: unshared(refused.desk),
+                listen: refused.listen,
+                inbox: refused.inbox,
+            };
+            (Err(NotHosted::NoMemory), stock)
+        }
+    }
+}

@@ -1,0 +1,9 @@
+//! Tests of the command `serve`, over memory.
+#![tactic(auto)]
+
+#[cfg(test)]
+mod given;
+#[cfg(test)]
+mod serve;
+#[cfg(test)]
+mod stage;
