@@ -1,7 +1,7 @@
 #!/usr/bin/env python3
 """Tells this machine's port mapper the port of a server, so that clients find it: register.py PORT [MAPPER]
 
-PORT is that of a server on this machine. The port mapper is asked by datagrams at 127.0.0.1, port MAPPER or 111.
+PORT is that of a `yp serve` on this machine. The port mapper is asked by datagrams at 127.0.0.1, port MAPPER or 111.
 What it has of YP version 2 and of the make program is removed (UNSET), and then both are set for TCP and UDP (SET).
 It needs the standard library alone, and ends with status 0 where each SET was taken, and else with status 1 and a
 line of what wasn't. A port mapper may take a SET from ports under 1,024 alone, which are used where this program has
