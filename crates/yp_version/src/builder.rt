@@ -89,7 +89,7 @@ impl VersionBuilder {
         let Ok(hasher) = RandomState::new(rt) else {
             return Err(NoMemory);
         };
-        let head = head_of(alloc, order, master, 0, 0)?;
+        let head = head_of(alloc, order, master, 0)?;
         let master = Vec::from_slice(alloc, master).map_err(|_| NoMemory)?;
         let slab = Slab::new(alloc, head, 0)?;
         Ok(VersionBuilder {
@@ -258,7 +258,7 @@ impl VersionBuilder {
             table,
         } = self;
         drop(table);
-        let head = head_of(alloc, order, &master, slab.len(), slab.bytes().len())?;
+        let head = head_of(alloc, order, &master, slab.len())?;
         let slab = slab.finished(alloc, head, rising)?;
         let table = Table::without_buckets(alloc, hasher);
         Ok(Version::new(order, master, slab, table))

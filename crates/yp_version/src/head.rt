@@ -23,19 +23,18 @@ pub(crate) fn format_of(secure: bool) -> u32
     if secure { SECURE } else { PLAIN }
 }
 
-// What stands before this many rows of a version that isn't secure, in memory that has room for a body of `len` bytes.
+// What stands before this many rows of a version that isn't secure.
 pub(crate) fn head_of(
     alloc: Global,
     order: u32,
     master: &[u8],
     count: usize,
-    len: usize,
 ) -> Result<Vec<u8>, NoMemory>
     requires master { length master.now ≤ master_max }
     requires count { count ≤ rows_max }
     ensures { IfOk result (λ head. head.items ≡ front_bytes 1 order master.now count) }
 {
-    let mut head = Vec::with_capacity(alloc, len).map_err(|_| NoMemory)?;
+    let mut head = Vec::new(alloc);
     head.resize(HEAD_LEN + padded(master.len()), 0)
         .map_err(|_| NoMemory)?;
     set_front(&mut head, order, master, count);

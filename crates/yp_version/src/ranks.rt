@@ -62,11 +62,12 @@ fn with_fronts(alloc: Global, bytes: &[u8], places: &[u32]) -> Result<Vec<Ranked
     Ok(ranked)
 }
 
-// Their places.
-fn places_of(alloc: Global, ranked: &[Ranked]) -> Result<Vec<u32>, NoMemory>
+// Their places, in the memory of others.
+fn places_of(ranked: &[Ranked], others: Vec<u32>) -> Result<Vec<u32>, NoMemory>
     ensures { IfOk result (λ places. places.items ≡ map (λ ranked. ranked.place) ranked.now) }
 {
-    let mut places = Vec::with_capacity(alloc, ranked.len()).map_err(|_| NoMemory)?;
+    let mut places = others;
+    places.clear();
     for row in ranked {
         places.push(row.place).map_err(|_| NoMemory)?;
     }
@@ -83,21 +84,21 @@ fn rank_cmp(bytes: &[u8], a: &Ranked, b: &Ranked) -> Ordering
     }
 }
 
-/// These places in rising order of the keys that are spelled there.
+/// These places in rising order of the keys that are spelled there. What sorts them is given back.
 pub(crate) fn sorted_places(
     alloc: Global,
     bytes: &[u8],
-    places: &[u32],
+    places: Vec<u32>,
 ) -> Result<Vec<u32>, NoMemory>
-    ensures moved { IfOk result (λ sorted. IsPermutation places.now sorted.items) }
+    ensures moved { IfOk result (λ sorted. IsPermutation places.items sorted.items) }
     ensures sorted { IfOk result (λ sorted.
         IsSortedBy (λ a b. is_lt (key_cmp (key_from bytes.now a) (key_from bytes.now b))) sorted.items) }
 {
-    let mut ranked = with_fronts(alloc, bytes, places)?;
+    let mut ranked = with_fronts(alloc, bytes, &places)?;
     ranked.sort_unstable_by(
         |a: &Ranked, b: &Ranked| -> Ordering
             ensures { result ≡ rank_cmp bytes.entry.now a.now b.now }
         { rank_cmp(bytes, a, b) },
     );
-    places_of(alloc, &ranked)
+    places_of(&ranked, places)
 }

@@ -238,18 +238,20 @@ impl Slab {
             places,
         } = self;
         let all = bytes.as_slice();
-        let sorted = sorted_places(alloc, all, &places)?;
-        drop(places);
+        let sorted = sorted_places(alloc, all, places)?;
         gathered(alloc, head, all, &sorted)
     }
 }
 
-// The rows at these places, behind a head. The bytes of each are copied as they stand.
+// The rows at these places, behind a head. The bytes of each are copied as they stand, into room for as many bytes as
+// they are copied from.
 fn gathered(alloc: Global, head: Vec<u8>, bytes: &[u8], places: &[u32]) -> Result<Slab, NoMemory>
     requires rows { All (IsRowAt bytes.now) places.now }
     requires room { length head.items + rows_len (map (row_from bytes.now) places.now) ≤ body_max }
     ensures { IfOk result (λ slab. slab ≡ record { head = head.items; rows = map (row_from bytes.now) places.now }) }
 {
+    let mut head = head;
+    head.reserve_exact(bytes.len()).map_err(|_| NoMemory)?;
     let mut slab = Slab::new(alloc, head, places.len())?;
     for place in places {
         slab.push_copy(bytes, *place)?;
