@@ -60,21 +60,22 @@ fn is_secure(last: Option<&Version>) -> bool
 }
 
 /// Builds a version of a text behind the last one of its map, at a moment, in seconds. `own` is the own name, and the
-/// master of the version. It is secure as `flag` says, or where that says nothing as the last one.
+/// master of the version. It is secure as `flag` says, or where that says nothing as the last one. The text is let go
+/// once its rows were taken.
 pub fn build_after(
     alloc: Global,
     rt: &impl RandomSource,
     kind: Kind,
-    text: &[u8],
+    text: Vec<u8>,
     last: Option<&Version>,
     flag: Option<bool>,
     now: u32,
     own: &[u8],
 ) -> Result<Version, AfterFault>
-    requires limit { length text.now ≤ text_max }
+    requires limit { length text.items ≤ text_max }
     requires own { length own.now ≤ master_max }
     ensures version { IfOk result (λ version.
-        built_after (basis_of kind own.now flag (option_map (λ last. last.now) last.entry)) (material_of text.now now)
+        built_after (basis_of kind own.now flag (option_map (λ last. last.now) last.entry)) (material_of text.items now)
         ≡ Ok version) }
 
     // It follows the last one.
@@ -83,7 +84,7 @@ pub fn build_after(
 
     // The first reason that applies.
     ensures hindered { IfErr result (IsHindered (built_after
-        (basis_of kind own.now flag (option_map (λ last. last.now) last.entry)) (material_of text.now now))) }
+        (basis_of kind own.now flag (option_map (λ last. last.now) last.entry)) (material_of text.items now))) }
     ensures spent { result ≡ Err (AfterFault.Build BuildFault.OrderSpent)
         → last_order (option_map (λ last. last.now) last.entry) ≡ Some order_max }
     ensures master { IfErr result (TellsMaster own.now (option_map (λ last. last.now) last.entry)) }

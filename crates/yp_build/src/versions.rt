@@ -13,27 +13,29 @@ use std::alloc::Global;
 use std::random::RandomSource;
 use yp_version::{Version, VersionBuilder};
 
-/// Builds a version of a text at a moment, in seconds, where `previous` is the order of the last version.
+/// Builds a version of a text at a moment, in seconds, where `previous` is the order of the last version. The text is
+/// let go before its rows are sorted, which takes as much memory again as they have.
 pub fn build(
     alloc: Global,
     rt: &impl RandomSource,
     kind: Kind,
-    text: &[u8],
+    text: Vec<u8>,
     previous: Option<u32>,
     now: u32,
     master: &[u8],
 ) -> Result<Version, BuildFault>
-    requires limit { length text.now ≤ text_max }
+    requires limit { length text.items ≤ text_max }
     requires master { length master.now ≤ master_max }
-    ensures version { IfOk result (λ version. built kind text.now previous now master.now ≡ Ok version) }
+    ensures version { IfOk result (λ version. built kind text.items previous now master.now ≡ Ok version) }
 
     // Each fault has its cause, but for want of memory. A spent order goes before all others.
     ensures cause { IfErr result (λ fault.
-        (fault ≡ BuildFault.NoMemory) ⊎ (built kind text.now previous now master.now ≡ Err fault)) }
+        (fault ≡ BuildFault.NoMemory) ⊎ (built kind text.items previous now master.now ≡ Err fault)) }
     ensures spent { (result ≡ Err BuildFault.OrderSpent) ↔ (previous ≡ Some order_max) }
 {
     let order = next_order(previous, now)?;
     let mut builder = VersionBuilder::new(alloc, rt, order, master)?;
-    rows_of(alloc, kind, text, &mut builder)?;
+    rows_of(alloc, kind, &text, &mut builder)?;
+    drop(text);
     Ok(builder.finish()?)
 }

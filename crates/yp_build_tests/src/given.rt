@@ -20,6 +20,15 @@ pub fn assert_fits<R: Abort>(rt: &R, text: &[u8])
     assert!(rt; text.len() <= TEXT_MAX);
 }
 
+/// A text to build of, of these bytes.
+pub fn text_of<R: Abort>(rt: &R, alloc: Global, bytes: &[u8]) -> Vec<u8>
+    ensures { length result.items ≤ text_max }
+{
+    let text = Vec::from_slice(alloc, bytes).expect(rt, "a text");
+    assert_fits(rt, &text);
+    text
+}
+
 /// A text whose lines have these fronts, each filled with `x` to its length.
 pub fn long_text<R: Abort>(rt: &R, alloc: Global, lines: &[(&[u8], usize)]) -> Vec<u8> {
     let mut text = Vec::new(alloc);

@@ -1,6 +1,6 @@
 //! Texts and their rows, written out by hand.
 
-use crate::given::{assert_fits, assert_same, long_text};
+use crate::given::{assert_fits, assert_same, long_text, text_of};
 use std::alloc::Global;
 use std::process::Abort;
 use std::random::RandomSource;
@@ -185,8 +185,7 @@ const MADE: [Made; 22] = [
 ];
 
 fn built<R: RandomSource + Abort>(rt: &R, alloc: Global, kind: Kind, text: &[u8]) -> Version {
-    assert_fits(rt, text);
-    build(alloc, rt, kind, text, None, 7, b"m1").expect(rt, "a version")
+    build(alloc, rt, kind, text_of(rt, alloc, text), None, 7, b"m1").expect(rt, "a version")
 }
 
 fn assert_rows<R: Abort>(rt: &R, version: &Version, rows: &[(&[u8], &[u8])], name: &str) {
@@ -332,7 +331,7 @@ fn big_text<R: Abort>(rt: &R, alloc: Global) -> Vec<u8> {
 fn too_big_at_a_line(rt: HostRuntime) {
     let text = big_text(&rt, rt.alloc());
     assert_fits(&rt, &text);
-    let fault = build(rt.alloc(), &rt, Kind::PasswdByname, &text, None, 7, b"m1").err();
+    let fault = build(rt.alloc(), &rt, Kind::PasswdByname, text, None, 7, b"m1").err();
     // 16 bytes, 4 of the master and 255 rows of 8, 4 and 65,536 are 16,714,760; one more row is over 16,777,216.
     let wanted = Some(BuildFault::TooBig { line: 256 });
     assert_same(&rt, &fault, &wanted, "256 long lines");

@@ -1,6 +1,6 @@
 //! Orders of versions, and versions of sample rows.
 
-use crate::given::{assert_fits, assert_same, long_text};
+use crate::given::{assert_same, long_text, text_of};
 use std::alloc::Global;
 use std::process::Abort;
 use std::random::RandomSource;
@@ -30,8 +30,7 @@ fn fault_of<R: RandomSource + Abort>(
     text: &[u8],
     previous: Option<u32>,
 ) -> Option<BuildFault> {
-    assert_fits(rt, text);
-    build(alloc, rt, Kind::Ypservers, text, previous, 7, b"m1").err()
+    build(alloc, rt, Kind::Ypservers, text_of(rt, alloc, text), previous, 7, b"m1").err()
 }
 
 #[test]
@@ -41,7 +40,8 @@ fn orders(rt: HostRuntime) {
         let came = (*previous, *now, next_order(*previous, *now));
         assert_same(&rt, &came, &(*previous, *now, *order), "an order");
     }
-    let raised = build(alloc, &rt, Kind::Ypservers, b"m1", Some(100), 50, b"m1").expect(
+    let text = text_of(&rt, alloc, b"m1");
+    let raised = build(alloc, &rt, Kind::Ypservers, text, Some(100), 50, b"m1").expect(
         &rt,
         "a version",
     );
@@ -128,13 +128,14 @@ const AFTER: [(Option<Last>, Option<bool>, After); 8] = [
     ),
 ];
 
-fn outcome_of<R: RandomSource>(
+fn outcome_of<R: RandomSource + Abort>(
     rt: &R,
     alloc: Global,
     last: Option<&Version>,
     flag: Option<bool>,
 ) -> After {
-    match build_after(alloc, rt, Kind::Ypservers, b"m1", last, flag, 50, b"m1") {
+    let text = text_of(rt, alloc, b"m1");
+    match build_after(alloc, rt, Kind::Ypservers, text, last, flag, 50, b"m1") {
         Ok(version) => After::Built {
             order: version.order(),
             secure: version.secure(),
@@ -147,7 +148,7 @@ fn outcome_of<R: RandomSource>(
 }
 
 /// The same behind a version that is made for it.
-fn after_last<R: RandomSource>(
+fn after_last<R: RandomSource + Abort>(
     rt: &R,
     alloc: Global,
     last: Option<Last>,
@@ -156,7 +157,8 @@ fn after_last<R: RandomSource>(
     let Some((order, master, secure)) = last else {
         return Ok(outcome_of(rt, alloc, None, flag));
     };
-    let version = build(alloc, rt, Kind::Ypservers, b"m1", None, order, master)?.marked(secure);
+    let text = text_of(rt, alloc, b"m1");
+    let version = build(alloc, rt, Kind::Ypservers, text, None, order, master)?.marked(secure);
     Ok(outcome_of(rt, alloc, Some(&version), flag))
 }
 

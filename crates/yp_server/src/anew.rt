@@ -49,7 +49,7 @@ pub fn build_anew<A: Dial, T: Texts, C: Clock>(
     }
     let text = read_text(alloc, &mut desk.texts, kind)?;
     let now = desk.clock.now();
-    match build_after(alloc, rt, kind, &text, shown, None, now, own) {
+    match build_after(alloc, rt, kind, text, shown, None, now, own) {
         Ok(version) => Ok(version),
         Err(AfterFault::Build(fault)) => Err(build_stat(fault)),
         Err(AfterFault::Foreign { .. }) => unreachable!(),

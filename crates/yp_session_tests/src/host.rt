@@ -60,6 +60,9 @@ fn build_next(
     if let Some(_) = other_master(own, last) {
         return Err(XfrStat::Refused);
     }
+    let Ok(text) = Vec::from_slice(alloc, text) else {
+        return Err(XfrStat::Rsrc);
+    };
     match build_after(alloc, &rt, job.kind, text, last, None, 100, own) {
         Ok(version) => Ok(version),
         Err(AfterFault::Build(BuildFault::OrderSpent)) => Err(XfrStat::Age),

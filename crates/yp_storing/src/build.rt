@@ -190,23 +190,23 @@ fn renew<D: Disk>(
     alloc: Global,
     rt: &impl RandomSource,
     job: &BuildJob,
-    text: &[u8],
+    text: Vec<u8>,
     now: u32,
     publisher: &mut Publisher<D, PlainBoard>,
 ) -> Result<Built, Stop>
-    requires text { length text.now ≤ text_max }
+    requires text { length text.items ≤ text_max }
     requires name { length job.now.name.items ≤ master_max }
     requires own { publisher.old.catalogue.own ≡ job.now.name.items }
     requires only { length publisher.old.maps ≡ 1 }
     requires level { OfMap 0 publisher.old.maps (λ kept. kept.standing ≡ Level) }
     ensures built { IfOk result (λ made. OfMap 0 publisher.old.maps
-        (λ kept. IsBuilt (plan_of (job_view job.now) text.now now kept) kept.generation made)) }
+        (λ kept. IsBuilt (plan_of (job_view job.now) text.items now kept) kept.generation made)) }
     ensures stop { IfErr result (λ stop. OfMap 0 publisher.old.maps
-        (λ kept. Stops (plan_of (job_view job.now) text.now now kept) stop)) }
+        (λ kept. Stops (plan_of (job_view job.now) text.items now kept) stop)) }
     ensures stored { OnOk result (At 0 publisher.old.maps publisher.new.maps (λ before after. (image : List ℕ)
-        → MayLeave (D.history after.disk) image → IsPlanned (plan_of (job_view job.now) text.now now before) image)) }
+        → MayLeave (D.history after.disk) image → IsPlanned (plan_of (job_view job.now) text.items now before) image)) }
     ensures any_moment { At 0 publisher.old.maps publisher.new.maps (λ before after. LeavesOnly (D.history before.disk)
-        (D.history after.disk) (IsShownOrPlanned (plan_of (job_view job.now) text.now now before) before)) }
+        (D.history after.disk) (IsShownOrPlanned (plan_of (job_view job.now) text.items now before) before)) }
     ensures few { At 0 publisher.old.maps publisher.new.maps
         (λ before after. LeavesFew (D.history before.disk) (D.history after.disk)) }
     ensures short { IfErr result IsShortStop }
@@ -234,17 +234,17 @@ fn build_over<D: Disk>(
     alloc: Global,
     rt: &impl RandomSource,
     job: &BuildJob,
-    text: &[u8],
+    text: Vec<u8>,
     now: u32,
     catalog: Catalog,
     disks: Vec<D>,
 ) -> (Result<Built, Stop>, Vec<D>)
-    requires text { length text.now ≤ text_max }
+    requires text { length text.items ≤ text_max }
     requires name { length job.now.name.items ≤ master_max }
     requires own { catalog.own ≡ job.now.name.items }
     requires map { length catalog.maps ≡ 1 }
     requires only { length disks.items ≡ 1 }
-    ensures builds { BuildsOn (job_view job.now) text.now now result.0
+    ensures builds { BuildsOn (job_view job.now) text.items now result.0
         (only_history D.history disks.items) (only_history D.history result.1.items)
         (total_faults D.faults disks.items) (total_faults D.faults result.1.items) }
     ensures short { IfErr result.0 IsShortStop }
@@ -265,15 +265,15 @@ fn build_on<D: Disk>(
     alloc: Global,
     rt: &impl RandomSource,
     job: &BuildJob,
-    text: &[u8],
+    text: Vec<u8>,
     now: u32,
     disks: &mut Vec<NamedDisk<D>>,
 ) -> Result<Built, Stop>
-    requires text { length text.now ≤ text_max }
+    requires text { length text.items ≤ text_max }
     requires name { length job.now.name.items ≤ master_max }
     requires catalogue { catalog_fault job.now.name.items (name_view job.now.store ∷ []) ≡ None }
     requires only { length disks.old.items ≡ 1 }
-    ensures builds { BuildsOn (job_view job.now) text.now now result
+    ensures builds { BuildsOn (job_view job.now) text.items now result
         (history_of D.history disks.old.items) (history_of D.history disks.new.items)
         (faults_of D.faults disks.old.items) (faults_of D.faults disks.new.items) }
     ensures short { IfErr result IsShortStop }
@@ -406,6 +406,6 @@ pub fn build_map<S: Source, K: Sink, D: Disk, C: Clock, A: Dial, I: Inbox, T: Te
         flag,
     };
     let now = office.clock.now();
-    let built = build_on(alloc, rt, &job, &text, now, &mut office.disks);
+    let built = build_on(alloc, rt, &job, text, now, &mut office.disks);
     tell_end(&mut office.wire.sink, job.store, built)
 }

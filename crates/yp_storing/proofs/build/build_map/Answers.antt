@@ -37,7 +37,7 @@ returns-clause-does g c =
     let old = c.args.office.now in
     let new = record old { wire = record { source = c.read_all.new.source; sink = c.tell_end.new.sink }; disks = c.build_on-built.new.disks; clock = c.now-now.new.self } in
     let kind = c.in-Some.kind in
-    let text = c.deref-2.result.now in
+    let text = c.in-Ok.text.items in
     let job = job_of c.args.name.items (name_view c.args.store) kind c.args.flag in
     let found : kind_of (name_view c.args.store) ≡ Some kind =
     sym (c.in-Some.ensures ∙ ap (λ (bytes : List ℕ). find (λ k. bytes_eq (kind_name k) bytes) kinds) c.deref.ensures.value) in
@@ -45,7 +45,7 @@ returns-clause-does g c =
     let did = build_does seen job c.args.store text c.now-now.result c.build_on-built.result c.tell_end.result old new
     (record {
       named = refl;
-      read = subst (λ (t : List ℕ). IfSome (input seen old) (λ bytes. bytes ≡ t)) (sym c.deref-2.ensures.value) read;
+      read = read;
       clock = c.now-now.ensures.told;
       builds = c.build_on-built.ensures.builds;
       ends = c.tell_end.ensures.ends;
