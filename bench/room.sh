@@ -16,13 +16,21 @@ compiled() {
     gcc -O2 -Wall -Wextra -o "$room/$1" "$top/bench/$1.c"
 }
 
-# hosts ROWS: a hosts text of so many lines, each with a name of its own. ROWS is no multiple of 7919.
+# hosts ROWS [ORDER]: a hosts text of so many lines, each with a name of its own. ROWS is no multiple of 7919. The names
+# are rising, falling or in random order where that is said, and else rise and begin anew some 8000 times.
 hosts() {
-    python3 - "$1" <<'PYTHON'
+    python3 - "$@" <<'PYTHON'
+import random
 import sys
 
 rows = int(sys.argv[1])
-for i in range(rows):
-    print(f"10.{i >> 16}.{i >> 8 & 255}.{i & 255}\thost{i * 7919 % rows:06} # rack {i % 40}")
+order = sys.argv[2] if len(sys.argv) > 2 else ""
+names = [i if order else i * 7919 % rows for i in range(rows)]
+if order == "falling":
+    names.reverse()
+elif order == "random":
+    random.Random(1).shuffle(names)
+for i, name in enumerate(names):
+    print(f"10.{i >> 16}.{i >> 8 & 255}.{i & 255}\thost{name:06} # rack {i % 40}")
 PYTHON
 }
