@@ -4,4 +4,3 @@ pub mod Unparsed
 pub mod Sourced
 pub mod Walked
 pub mod Sending
-pub mod Alone
