@@ -30,7 +30,16 @@ fn fault_of<R: RandomSource + Abort>(
     text: &[u8],
     previous: Option<u32>,
 ) -> Option<BuildFault> {
-    build(alloc, rt, Kind::Ypservers, text_of(rt, alloc, text), previous, 7, b"m1").err()
+    build(
+        alloc,
+        rt,
+        Kind::Ypservers,
+        text_of(rt, alloc, text),
+        previous,
+        7,
+        b"m1",
+    )
+    .err()
 }
 
 #[test]

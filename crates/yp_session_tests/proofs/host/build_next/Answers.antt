@@ -11,6 +11,6 @@ returns-in-Some-clause-unbuilt c = (
   other_so (c.own-own.ensures.own ∙ ap (λ (k : Catalogue). k.own) c.catalog.ensures) c.held-last.ensures c.in-Some.ensures.master,
 )
 
-pub returns-in-Ok-clause-built : goal.returns-in-Ok-clause-built
-returns-in-Ok-clause-built c =
-    built_so c.args.job.kind c.args.text.now 100 c.in-Ok.version (c.own-own.ensures.own ∙ ap (λ (k : Catalogue). k.own) c.catalog.ensures) c.held-last.ensures c.in-Ok.ensures.version c.in-Ok.ensures.over
+pub returns-in-Ok-build_after-clause-built : goal.returns-in-Ok-build_after-clause-built
+returns-in-Ok-build_after-clause-built c =
+    built_so c.args.job.kind c.in-Ok.text.items 100 c.in-Ok-build_after.version (c.own-own.ensures.own ∙ ap (λ (k : Catalogue). k.own) c.catalog.ensures) c.held-last.ensures c.in-Ok-build_after.ensures.version c.in-Ok-build_after.ensures.over
