@@ -1,7 +1,8 @@
 //! `bind`: the pings of its rounds, offers, questions, and what is told at the end.
 
-use crate::stage::{Datagram, Row, try_row};
+use crate::given::try_rows;
 use yp_io::Peer;
+use yp_stage::{Datagram, FAIR, QUIET, Row};
 
 const WORDS: &[&str] = &["bind", "7100", "fixed", "2", "lab", "z1@10.0.0.2:834"];
 
@@ -16,76 +17,73 @@ const CALLER: Peer = Peer {
 };
 
 /// The first ping and the second.
-const PING: Datagram = (
-    SERVER,
-    &[
+const PING: Datagram = Datagram {
+    peer: SERVER,
+    bytes: &[
         "00000001 00000000 00000002 000186a4 00000002 00000002 00000000 00000000 00000000 00000000",
         "00000003 6c616200",
     ],
-);
+};
 
-const SECOND_PING: Datagram = (
-    SERVER,
-    &[
+const SECOND_PING: Datagram = Datagram {
+    peer: SERVER,
+    bytes: &[
         "00000002 00000000 00000002 000186a4 00000002 00000002 00000000 00000000 00000000 00000000",
         "00000003 6c616200",
     ],
-);
+};
 
-const OFFER: Datagram = (
-    SERVER,
-    &["00000001 00000001 00000000 00000000 00000000 00000000 00000001"],
-);
+const OFFER: Datagram = Datagram {
+    peer: SERVER,
+    bytes: &["00000001 00000001 00000000 00000000 00000000 00000000 00000001"],
+};
 
-const NO_OFFER: Datagram = (
-    SERVER,
-    &["00000001 00000001 00000000 00000000 00000000 00000000 00000000"],
-);
+const NO_OFFER: Datagram = Datagram {
+    peer: SERVER,
+    bytes: &["00000001 00000001 00000000 00000000 00000000 00000000 00000000"],
+};
 
 /// DOMAIN of `lab`, and what it gets: that no server is found, or the server.
-const QUESTION: Datagram = (
-    CALLER,
-    &[
+const QUESTION: Datagram = Datagram {
+    peer: CALLER,
+    bytes: &[
         "00000007 00000000 00000002 000186a7 00000002 00000001 00000000 00000000 00000000 00000000",
         "00000003 6c616200",
     ],
-);
+};
 
-const UNBOUND: Datagram = (
-    CALLER,
-    &["00000007 00000001 00000000 00000000 00000000 00000000 00000002 00000002"],
-);
+const UNBOUND: Datagram = Datagram {
+    peer: CALLER,
+    bytes: &["00000007 00000001 00000000 00000000 00000000 00000000 00000002 00000002"],
+};
 
-const BOUND: Datagram = (
-    CALLER,
-    &["00000007 00000001 00000000 00000000 00000000 00000000 00000001 0a000002 03420000"],
-);
+const BOUND: Datagram = Datagram {
+    peer: CALLER,
+    bytes: &["00000007 00000001 00000000 00000000 00000000 00000000 00000001 0a000002 03420000"],
+};
 
 /// SETDOM of `lab` to 10.0.0.3 port 834, version 2, and its empty result.
-const SETDOM: Datagram = (
-    CALLER,
-    &[
+const SETDOM: Datagram = Datagram {
+    peer: CALLER,
+    bytes: &[
         "00000008 00000000 00000002 000186a7 00000002 00000002 00000000 00000000 00000000 00000000",
         "00000003 6c616200 0a000003 03420000 00000002",
     ],
-);
+};
 
-const EMPTY: Datagram = (
-    CALLER,
-    &["00000008 00000001 00000000 00000000 00000000 00000000"],
-);
+const EMPTY: Datagram = Datagram {
+    peer: CALLER,
+    bytes: &["00000008 00000001 00000000 00000000 00000000 00000000"],
+};
 
 const OFFERED: Row = Row {
     name: "offered, and quiet",
     words: WORDS,
-    brings: &[Some(OFFER)],
-    failing: &[],
-    writes: &[],
-    code: 0,
+    brings: &[OFFER],
     output: "lab 10.0.0.2:834\n",
-    note: "",
     sends: &[PING],
     turns: 2,
+    ..FAIR
 };
 
 const SILENT: Row = Row {
@@ -97,7 +95,7 @@ const SILENT: Row = Row {
 };
 
 /// Rounds of pings, and what comes of them.
-const ROUNDS: [Row; 6] = [
+static ROUNDS: [Row; 6] = [
     OFFERED,
     SILENT,
     Row {
@@ -109,30 +107,30 @@ const ROUNDS: [Row; 6] = [
     },
     Row {
         name: "a server that hasn't the domain",
-        brings: &[Some(NO_OFFER)],
+        brings: &[NO_OFFER],
         sends: &[PING],
         ..SILENT
     },
     Row {
         name: "an offer of another peer",
-        brings: &[Some((
-            CALLER,
-            &["00000001 00000001 00000000 00000000 00000000 00000000 00000001"],
-        ))],
+        brings: &[Datagram {
+            peer: CALLER,
+            bytes: &["00000001 00000001 00000000 00000000 00000000 00000000 00000001"],
+        }],
         sends: &[PING],
         ..SILENT
     },
     Row {
         name: "an offer that is cut, and one that rpc refused",
         brings: &[
-            Some((
-                SERVER,
-                &["00000001 00000001 00000000 00000000 00000000 00000000 0000"],
-            )),
-            Some((
-                SERVER,
-                &["00000001 00000001 00000000 00000000 00000000 00000001 00000001"],
-            )),
+            Datagram {
+                peer: SERVER,
+                bytes: &["00000001 00000001 00000000 00000000 00000000 00000000 0000"],
+            },
+            Datagram {
+                peer: SERVER,
+                bytes: &["00000001 00000001 00000000 00000000 00000000 00000001 00000001"],
+            },
         ],
         sends: &[PING],
         ..SILENT
@@ -140,11 +138,11 @@ const ROUNDS: [Row; 6] = [
 ];
 
 /// Calls to the binder, and turns that are quiet.
-const CALLS: [Row; 4] = [
+static CALLS: [Row; 4] = [
     Row {
         name: "asked before the offer and behind it",
         words: &["bind", "7100", "fixed", "3", "lab", "z1@10.0.0.2:834"],
-        brings: &[Some(QUESTION), Some(OFFER), Some(QUESTION)],
+        brings: &[QUESTION, OFFER, QUESTION],
         sends: &[PING, UNBOUND, BOUND],
         turns: 3,
         ..OFFERED
@@ -152,14 +150,14 @@ const CALLS: [Row; 4] = [
     Row {
         name: "set by a stranger under ypsetme",
         words: &["bind", "7100", "ypsetme", "2", "lab", "z1@10.0.0.2:834"],
-        brings: &[Some(SETDOM), Some(QUESTION)],
+        brings: &[SETDOM, QUESTION],
         sends: &[PING, EMPTY, UNBOUND],
         ..SILENT
     },
     Row {
         name: "set by a stranger under ypset",
         words: &["bind", "7100", "ypset", "1", "lab", "z1@10.0.0.2:834"],
-        brings: &[Some(SETDOM)],
+        brings: &[SETDOM],
         output: "lab 10.0.0.3:834\n",
         sends: &[PING, EMPTY],
         turns: 1,
@@ -168,18 +166,18 @@ const CALLS: [Row; 4] = [
     Row {
         name: "the third quiet turn unbinds",
         words: &["bind", "7100", "fixed", "4", "lab", "z1@10.0.0.2:834"],
-        brings: &[Some(OFFER), None, None, None],
+        brings: &[OFFER, QUIET, QUIET, QUIET],
         output: "lab none\n",
         sends: &[
             PING,
             SECOND_PING,
-            (
-                SERVER,
-                &[
+            Datagram {
+                peer: SERVER,
+                bytes: &[
                     "00000003 00000000 00000002 000186a4 00000002 00000002",
                     "00000000 00000000 00000000 00000000 00000003 6c616200",
                 ],
-            ),
+            },
         ],
         turns: 4,
         ..SILENT
@@ -187,10 +185,10 @@ const CALLS: [Row; 4] = [
 ];
 
 /// Calls of the inbox, and of the output, that fail.
-const FAULTS: [Row; 6] = [
+static FAULTS: [Row; 8] = [
     Row {
         name: "a ping fails",
-        failing: &[0],
+        inbox: 0,
         code: 22,
         output: "",
         note: "yp: inbox fault\n",
@@ -200,7 +198,7 @@ const FAULTS: [Row; 6] = [
     },
     Row {
         name: "a turn fails",
-        failing: &[1],
+        inbox: 1,
         code: 22,
         output: "",
         note: "yp: inbox fault\n",
@@ -210,7 +208,7 @@ const FAULTS: [Row; 6] = [
     },
     Row {
         name: "the second ping fails",
-        failing: &[2],
+        inbox: 2,
         code: 22,
         output: "",
         note: "yp: inbox fault\n",
@@ -220,7 +218,7 @@ const FAULTS: [Row; 6] = [
     },
     Row {
         name: "the second turn fails",
-        failing: &[3],
+        inbox: 3,
         code: 22,
         output: "",
         note: "yp: inbox fault\n",
@@ -229,8 +227,8 @@ const FAULTS: [Row; 6] = [
     },
     Row {
         name: "a reply fails",
-        brings: &[Some(QUESTION)],
-        failing: &[2],
+        brings: &[QUESTION],
+        inbox: 2,
         code: 22,
         output: "",
         note: "yp: inbox fault\n",
@@ -240,9 +238,26 @@ const FAULTS: [Row; 6] = [
     },
     Row {
         name: "the output fails",
-        writes: &[0],
+        writes: 0,
         code: 4,
         output: "",
+        note: "yp: write fault\n",
+        ..OFFERED
+    },
+    Row {
+        name: "no note of a ping that fails",
+        inbox: 0,
+        notes: 0,
+        code: 22,
+        output: "",
+        sends: &[],
+        turns: 0,
+        ..SILENT
+    },
+    Row {
+        name: "the output isn't flushed",
+        writes: 1,
+        code: 4,
         note: "yp: write fault\n",
         ..OFFERED
     },
@@ -250,24 +265,15 @@ const FAULTS: [Row; 6] = [
 
 #[test]
 fn bind_over_memory(rt: HostRuntime) {
-    let alloc = rt.alloc();
-    for row in &ROUNDS {
-        try_row(&rt, alloc, row);
-    }
+    try_rows(&rt, rt.alloc(), &ROUNDS);
 }
 
 #[test]
 fn a_binder_is_called(rt: HostRuntime) {
-    let alloc = rt.alloc();
-    for row in &CALLS {
-        try_row(&rt, alloc, row);
-    }
+    try_rows(&rt, rt.alloc(), &CALLS);
 }
 
 #[test]
 fn each_call_of_the_inbox_fails(rt: HostRuntime) {
-    let alloc = rt.alloc();
-    for row in &FAULTS {
-        try_row(&rt, alloc, row);
-    }
+    try_rows(&rt, rt.alloc(), &FAULTS);
 }

@@ -1,7 +1,8 @@
 //! `getport`: the calls, the answer, and what isn't one.
 
-use crate::stage::{Datagram, Row, try_row};
+use crate::given::try_rows;
 use yp_io::Peer;
+use yp_stage::{Datagram, FAIR, QUIET, Row};
 
 const WORDS: &[&str] = &["getport", "7112", "2", "127.0.0.1:7111", "100004", "2", "6"];
 
@@ -17,61 +18,67 @@ const OTHER: Peer = Peer {
 };
 
 /// The call of GETPORT for version 2 of program 100004 over TCP.
-const CALL: Datagram = (
-    MAPPER,
-    &[
+const CALL: Datagram = Datagram {
+    peer: MAPPER,
+    bytes: &[
         "00000001 00000000 00000002 000186a0 00000002 00000003 00000000 00000000 00000000 00000000",
         "000186a4 00000002 00000006 00000000",
     ],
-);
+};
 
-const ANSWER: &[&str] = &["00000001 00000001 00000000 00000000 00000000 00000000 00000342"];
+const ANSWER: Datagram = Datagram {
+    peer: MAPPER,
+    bytes: &["00000001 00000001 00000000 00000000 00000000 00000000 00000342"],
+};
 
 /// The answer to a call with another number, and a call.
-const OTHER_ANSWER: &[&str] = &["00000002 00000001 00000000 00000000 00000000 00000000 00000342"];
+const OTHER_ANSWER: Datagram = Datagram {
+    peer: MAPPER,
+    bytes: &["00000002 00000001 00000000 00000000 00000000 00000000 00000342"],
+};
 
-const ANOTHER_CALL: &[&str] = &["00000001 00000000 00000000 00000000 00000000 00000000 00000342"];
+const ANOTHER_CALL: Datagram = Datagram {
+    peer: MAPPER,
+    bytes: &["00000001 00000000 00000000 00000000 00000000 00000000 00000342"],
+};
 
-const QUIET: Row = Row {
+const SILENT: Row = Row {
     name: "two quiet turns",
     words: WORDS,
-    brings: &[],
-    failing: &[],
-    writes: &[],
     code: 24,
-    output: "",
     note: "yp: unanswered after 2 turns\n",
     sends: &[CALL, CALL],
     turns: 2,
+    ..FAIR
 };
 
 const FOUND: Row = Row {
     name: "answered at once",
-    brings: &[Some((MAPPER, ANSWER))],
+    brings: &[ANSWER],
     code: 0,
     output: "port 834\n",
     note: "",
     sends: &[CALL],
     turns: 1,
-    ..QUIET
+    ..SILENT
 };
 
-const ROWS: [Row; 15] = [
-    QUIET,
+static ROWS: [Row; 10] = [
+    SILENT,
     FOUND,
     Row {
         name: "answered at the last turn",
-        brings: &[None, Some((MAPPER, ANSWER))],
+        brings: &[QUIET, ANSWER],
         sends: &[CALL, CALL],
         turns: 2,
         ..FOUND
     },
     Row {
         name: "no port",
-        brings: &[Some((
-            MAPPER,
-            &["00000001 00000001 00000000 00000000 00000000 00000000 00000000"],
-        ))],
+        brings: &[Datagram {
+            peer: MAPPER,
+            bytes: &["00000001 00000001 00000000 00000000 00000000 00000000 00000000"],
+        }],
         code: 1,
         output: "port 0\n",
         ..FOUND
@@ -82,29 +89,38 @@ const ROWS: [Row; 15] = [
         note: "yp: unanswered after 0 turns\n",
         sends: &[],
         turns: 0,
-        ..QUIET
+        ..SILENT
     },
     Row {
         name: "other mail isn't asked after, and isn't an answer",
-        brings: &[Some((OTHER, ANSWER)), Some((MAPPER, OTHER_ANSWER))],
+        brings: &[
+            Datagram {
+                peer: OTHER,
+                ..ANSWER
+            },
+            OTHER_ANSWER,
+        ],
         sends: &[CALL],
-        ..QUIET
+        ..SILENT
     },
     Row {
         name: "neither a call nor a part of an answer is one",
         brings: &[
-            Some((MAPPER, ANOTHER_CALL)),
-            Some((MAPPER, &["00000001 000000"])),
+            ANOTHER_CALL,
+            Datagram {
+                peer: MAPPER,
+                bytes: &["00000001 000000"],
+            },
         ],
         sends: &[CALL],
-        ..QUIET
+        ..SILENT
     },
     Row {
         name: "an answer without its port",
-        brings: &[Some((
-            MAPPER,
-            &["00000001 00000001 00000000 00000000 00000000 00000000"],
-        ))],
+        brings: &[Datagram {
+            peer: MAPPER,
+            bytes: &["00000001 00000001 00000000 00000000 00000000 00000000"],
+        }],
         code: 13,
         output: "",
         note: "yp: bad reply at 24\n",
@@ -112,7 +128,10 @@ const ROWS: [Row; 15] = [
     },
     Row {
         name: "two words alone",
-        brings: &[Some((MAPPER, &["00000001 00000001"]))],
+        brings: &[Datagram {
+            peer: MAPPER,
+            bytes: &["00000001 00000001"],
+        }],
         code: 13,
         output: "",
         note: "yp: bad reply at 8\n",
@@ -120,55 +139,76 @@ const ROWS: [Row; 15] = [
     },
     Row {
         name: "refused by rpc",
-        brings: &[Some((
-            MAPPER,
-            &["00000001 00000001 00000000 00000000 00000000 00000001"],
-        ))],
+        brings: &[Datagram {
+            peer: MAPPER,
+            bytes: &["00000001 00000001 00000000 00000000 00000000 00000001"],
+        }],
         code: 12,
         output: "",
         note: "yp: refused by rpc\n",
         ..FOUND
     },
+];
+
+/// Calls of the inbox, and of the output, that fail.
+static FAULTS: [Row; 7] = [
     Row {
         name: "the call fails",
-        failing: &[0],
+        inbox: 0,
         code: 22,
         note: "yp: inbox fault\n",
         sends: &[],
         turns: 0,
-        ..QUIET
+        ..SILENT
     },
     Row {
         name: "the turn fails",
-        failing: &[1],
+        inbox: 1,
         code: 22,
         note: "yp: inbox fault\n",
         sends: &[CALL],
         turns: 0,
-        ..QUIET
+        ..SILENT
     },
     Row {
         name: "the second call fails",
-        failing: &[2],
+        inbox: 2,
         code: 22,
         note: "yp: inbox fault\n",
         sends: &[CALL],
         turns: 1,
-        ..QUIET
+        ..SILENT
     },
     Row {
         name: "the second turn fails",
-        failing: &[3],
+        inbox: 3,
         code: 22,
         note: "yp: inbox fault\n",
         turns: 1,
-        ..QUIET
+        ..SILENT
     },
     Row {
         name: "the output fails",
-        writes: &[0],
+        writes: 0,
         code: 4,
         output: "",
+        note: "yp: write fault\n",
+        ..FOUND
+    },
+    Row {
+        name: "no note of a call that fails",
+        inbox: 0,
+        notes: 0,
+        code: 22,
+        note: "",
+        sends: &[],
+        turns: 0,
+        ..SILENT
+    },
+    Row {
+        name: "the output isn't flushed",
+        writes: 1,
+        code: 4,
         note: "yp: write fault\n",
         ..FOUND
     },
@@ -176,8 +216,10 @@ const ROWS: [Row; 15] = [
 
 #[test]
 fn getport_over_memory(rt: HostRuntime) {
-    let alloc = rt.alloc();
-    for row in &ROWS {
-        try_row(&rt, alloc, row);
-    }
+    try_rows(&rt, rt.alloc(), &ROWS);
+}
+
+#[test]
+fn each_call_fails(rt: HostRuntime) {
+    try_rows(&rt, rt.alloc(), &FAULTS);
 }

@@ -12,5 +12,3 @@ mod given;
 mod portmaps;
 #[cfg(test)]
 mod pushes;
-#[cfg(test)]
-mod stage;

@@ -1,149 +1,8 @@
 //! `push`: what its files say, what slaves answer and tell, and what fails.
 
-ghost use Rattle.std.specs.Prelude.{◌≡◌, All, IfOk};
-ghost use Rattle.yp_io.specs.MemDial.{IsNew};
-ghost use Rattle.yp_listen.specs.MemListen.{calls_of};
-ghost use Rattle.yp_worker.specs.Receptions.{IsFair};
-ghost use Rattle.yp_words.specs.Words.{disk_names, texts};
-ghost use Rattle.yp_office.specs.Disks.{names_of};
-
-use crate::given::{assert_same, bytes};
-use crate::stage::{Datagram, Memory, copied, mail_of, nobody, strings};
-use std::alloc::{AllocError, Global};
-use std::process::Abort;
-use std::random::RandomSource;
-use std::sync::Wait;
-use std::thread::Threads;
-use yp_board::MapName;
-use yp_io::{MemDial, MemDisk, MemSink, MemSource, MemTexts, MemWire, Pair, Peer, SetClock};
-use yp_mem::MemInbox;
-use yp_tools::{NamedDisk, Outside, Status, disk_names, named_disks, run};
-
-/// The files of the map and of the servers, and the calls of their disks that fail; the replies of the wires in the
-/// order in which they come, and the dials that fail; what the turns bring, the calls of the inbox and the writes of
-/// the output that fail. What comes of it: the code, the output, the note, and how many replies, turns and wires there
-/// were.
-#[derive(Clone, Copy)]
-struct Row {
-    name: &'static str,
-    words: &'static [&'static str],
-    file: &'static [&'static str],
-    servers: &'static [&'static str],
-    disk: &'static [u64],
-    servers_disk: &'static [u64],
-    wires: (&'static [&'static str], &'static [&'static str]),
-    dials: &'static [u64],
-    brings: &'static [Option<Datagram>],
-    failing: &'static [u64],
-    writes: &'static [u64],
-    told: (u8, &'static str, &'static str),
-    counts: (usize, u64, usize),
-}
-
-fn disk_of(alloc: Global, map: &[u8], row: &Row) -> Result<MemDisk, AllocError> {
-    let (texts, failing) = if map == b"hosts.byname".as_slice() {
-        (row.file, row.disk)
-    } else {
-        (row.servers, row.servers_disk)
-    };
-    let Some(bytes) = yp_for_tests::bytes(alloc, texts) else {
-        return Err(AllocError);
-    };
-    Ok(MemDisk::new(alloc, bytes, None, Vec::from_slice(alloc, failing)?))
-}
-
-/// The disks that the words name.
-fn disks_of(
-    alloc: Global,
-    words: &[String],
-    row: &Row,
-) -> Result<Vec<NamedDisk<MemDisk>>, AllocError>
-    ensures { IfOk result (λ disks. names_of disks.items ≡ disk_names (texts words.now)) }
-{
-    let Ok(names) = disk_names(alloc, words) else {
-        return Err(AllocError);
-    };
-    let make = |name: &MapName| disk_of(alloc, &name.map, row);
-    named_disks(alloc, names, make)
-}
-
-fn wire_of<R: Abort>(rt: &R, alloc: Global, texts: &[&str]) -> MemWire
-    ensures { IsNew result }
-{
-    Pair {
-        source: MemSource::new(bytes(rt, alloc, texts), 64, Vec::new(alloc)),
-        sink: MemSink::new(alloc, 4096, Vec::new(alloc)),
-    }
-}
-
-/// The wires of a row.
-fn wires_of<R: Abort>(rt: &R, alloc: Global, row: &Row) -> Vec<MemWire>
-    ensures { All IsNew result.items }
-{
-    let first = wire_of(rt, alloc, row.wires.0);
-    let second = wire_of(rt, alloc, row.wires.1);
-    let mut wires = Vec::new(alloc);
-    wires.push(first).expect(rt, "memory");
-    wires.push(second).expect(rt, "memory");
-    wires
-}
-
-/// The outside of a row.
-fn memory_of<R: Abort>(rt: &R, alloc: Global, words: &[String], row: &Row) -> Memory
-    ensures disks { names_of result.disks.items ≡ disk_names (texts words.now) }
-    ensures fair { IsFair (calls_of result.listen) }
-{
-    let mail = mail_of(rt, alloc, row.brings);
-    let failing = copied(rt, alloc, row.failing);
-    let wires = wires_of(rt, alloc, row);
-    let dials = copied(rt, alloc, row.dials);
-    Outside {
-        input: MemSource::new(Vec::new(alloc), 64, Vec::new(alloc)),
-        output: MemSink::new(alloc, 4096, copied(rt, alloc, row.writes)),
-        notes: MemSink::new(alloc, 4096, Vec::new(alloc)),
-        disks: disks_of(alloc, words, row).expect(rt, "disks"),
-        clock: SetClock { moment: 500 },
-        listen: nobody(alloc),
-        dial: MemDial::new(alloc, wires, dials),
-        inbox: MemInbox::new(alloc, mail, failing),
-        texts: MemTexts::new(Vec::new(alloc), Vec::new(alloc)),
-    }
-}
-
-/// Runs the words of a row.
-fn play<R: Threads + Wait + RandomSource + Abort + Sync>(
-    rt: &R,
-    alloc: Global,
-    row: &Row,
-) -> (Status, Memory) {
-    let words = strings(rt, alloc, row.words);
-    let outside = memory_of(rt, alloc, &words, row);
-    run(alloc, rt, &words, outside)
-}
-
-/// What came of a run, as a row has it.
-type Told<'a> = ((u8, &'a [u8], &'a [u8]), (usize, u64, usize));
-
-fn told_of<'a>(status: &Status, outside: &'a Memory) -> Told<'a> {
-    (
-        (status.code(), outside.output.taken(), outside.notes.taken()),
-        (
-            outside.inbox.letters().len(),
-            outside.inbox.turns(),
-            outside.dial.came().len(),
-        ),
-    )
-}
-
-fn try_row<R: Threads + Wait + RandomSource + Abort + Sync>(rt: &R, alloc: Global, row: &Row) {
-    let (status, outside) = play(rt, alloc, row);
-    let came = told_of(&status, &outside);
-    let wanted = (
-        (row.told.0, row.told.1.as_bytes(), row.told.2.as_bytes()),
-        row.counts,
-    );
-    assert_same(rt, &came, &wanted, row.name);
-}
+use crate::given::try_rows;
+use yp_io::Peer;
+use yp_stage::{Datagram, FAIR, Row, Stands};
 
 const WORDS: &[&str] = &[
     "push",
@@ -195,65 +54,100 @@ const SLAVE: Peer = Peer {
 };
 
 /// Calls of XFRRESP: a transaction and its status.
-const FIRST_SUCC: Option<Datagram> = Some((
-    SLAVE,
-    &[
+const FIRST_SUCC: Datagram = Datagram {
+    peer: SLAVE,
+    bytes: &[
         "00000007 00000000 00000002 40000000 00000001 00000001 00000000 00000000 00000000 00000000",
         "000001f4 00000001",
     ],
-));
+};
 
-const FIRST_SKEW: Option<Datagram> = Some((
-    SLAVE,
-    &[
+const FIRST_SKEW: Datagram = Datagram {
+    peer: SLAVE,
+    bytes: &[
         "00000007 00000000 00000002 40000000 00000001 00000001 00000000 00000000 00000000 00000000",
         "000001f4 fffffff6",
     ],
-));
+};
 
-const SECOND_AGE: Option<Datagram> = Some((
-    SLAVE,
-    &[
+const SECOND_AGE: Datagram = Datagram {
+    peer: SLAVE,
+    bytes: &[
         "00000007 00000000 00000002 40000000 00000001 00000001 00000000 00000000 00000000 00000000",
         "000001f5 00000002",
     ],
-));
+};
+
+/// The reply to each of them.
+const HEARD: Datagram = Datagram {
+    peer: SLAVE,
+    bytes: &["00000007 00000001 00000000 00000000 00000000 00000000"],
+};
+
+/// What the file stands for, before and after.
+const STANDING: Stands = Some((100, 1, false));
 
 const CALLED: Row = Row {
     name: "both slaves call back",
     words: WORDS,
     file: FILE,
-    servers: SERVERS,
-    disk: &[],
-    servers_disk: &[],
-    wires: (FIRST, SECOND),
-    dials: &[],
+    other: SERVERS,
+    wire: FIRST,
+    second_wire: SECOND,
     brings: &[FIRST_SUCC, FIRST_SKEW, SECOND_AGE],
-    failing: &[],
-    writes: &[],
-    told: (0, "s1 1\ns2 2\n", ""),
-    counts: (3, 3, 2),
+    output: "s1 1\ns2 2\n",
+    sends: &[HEARD, HEARD, HEARD],
+    turns: 3,
+    wires: 2,
+    stands: STANDING,
+    left: FILE,
+    ..FAIR
 };
 
 /// Nothing is asked.
 const STOPPED: Row = Row {
-    counts: (0, 0, 0),
+    output: "",
+    sends: &[],
+    turns: 0,
+    wires: 0,
     ..CALLED
 };
 
-const ROWS: [Row; 8] = [
+const INBOX_FAULT: Row = Row {
+    code: 22,
+    output: "",
+    note: "yp: inbox fault\n",
+    ..CALLED
+};
+
+const WRITE_FAULT: Row = Row {
+    code: 4,
+    note: "yp: write fault\n",
+    ..CALLED
+};
+
+static ROWS: [Row; 7] = [
     CALLED,
+    Row {
+        name: "there is no fifth call of a disk",
+        disk: 4,
+        other_disk: 4,
+        ..CALLED
+    },
     Row {
         name: "a slave doesn't call",
         brings: &[FIRST_SUCC],
-        told: (1, "s1 1\ns2 none\n", ""),
-        counts: (1, 5, 2),
+        code: 1,
+        output: "s1 1\ns2 none\n",
+        sends: &[HEARD],
+        turns: 5,
         ..CALLED
     },
     Row {
         name: "no turn",
         words: &["push", "m1", "7001", "3", "0", "lab/hosts.byname"],
-        told: (1, "s1 none\ns2 none\n", ""),
+        code: 1,
+        output: "s1 none\ns2 none\n",
         ..STOPPED
     },
     Row {
@@ -267,28 +161,20 @@ const ROWS: [Row; 8] = [
             "lab/hosts.byname",
             "s2@127.0.0.1:7012",
         ],
-        dials: &[0],
-        told: (1, "s1 -5\ns2 -4\n", ""),
+        dials: 0,
+        code: 1,
+        output: "s1 -5\ns2 -4\n",
         ..STOPPED
     },
     Row {
-        name: "the turn fails",
-        failing: &[0],
-        told: (22, "", "yp: inbox fault\n"),
-        counts: (0, 0, 2),
-        ..CALLED
-    },
-    Row {
-        name: "the reply fails",
-        failing: &[1],
-        told: (22, "", "yp: inbox fault\n"),
-        counts: (0, 1, 2),
-        ..CALLED
-    },
-    Row {
-        name: "the output fails",
-        writes: &[0],
-        told: (4, "", "yp: write fault\n"),
+        name: "the second slave can't be reached",
+        dials: 1,
+        brings: &[FIRST_SUCC],
+        code: 1,
+        output: "s1 1\ns2 -4\n",
+        sends: &[HEARD],
+        turns: 1,
+        wires: 1,
         ..CALLED
     },
     Row {
@@ -305,65 +191,284 @@ const ROWS: [Row; 8] = [
         ],
         file: &[],
         brings: &[FIRST_SUCC, SECOND_AGE],
-        counts: (2, 2, 2),
+        sends: &[HEARD, HEARD],
+        turns: 2,
+        stands: Some((100, 3, false)),
+        left: SERVERS,
         ..CALLED
     },
 ];
 
-const FILES: [Row; 6] = [
+/// Calls of XFRRESP with a status that isn't one, and of version 2; and the replies: the arguments aren't read, and
+/// version 1 alone is here.
+const BAD_STATUS: Datagram = Datagram {
+    peer: SLAVE,
+    bytes: &[
+        "00000007 00000000 00000002 40000000 00000001 00000001 00000000 00000000 00000000 00000000",
+        "000001f4 00000007",
+    ],
+};
+
+const BAD_VERSION: Datagram = Datagram {
+    peer: SLAVE,
+    bytes: &[
+        "00000007 00000000 00000002 40000000 00000002 00000001 00000000 00000000 00000000 00000000",
+        "000001f4 00000001",
+    ],
+};
+
+const GARBAGE: Datagram = Datagram {
+    peer: SLAVE,
+    bytes: &["00000007 00000001 00000000 00000000 00000000 00000004"],
+};
+
+const MISMATCH: Datagram = Datagram {
+    peer: SLAVE,
+    bytes: &["00000007 00000001 00000000 00000000 00000000 00000002 00000001 00000001"],
+};
+
+/// Neither changes a result.
+static HOSTILE: [Row; 2] = [
+    Row {
+        name: "a callback with status 7",
+        brings: &[BAD_STATUS, FIRST_SUCC, SECOND_AGE],
+        sends: &[GARBAGE, HEARD, HEARD],
+        ..CALLED
+    },
+    Row {
+        name: "a callback of version 2",
+        brings: &[FIRST_SUCC, BAD_VERSION, SECOND_AGE],
+        sends: &[HEARD, MISMATCH, HEARD],
+        ..CALLED
+    },
+];
+
+#[test]
+fn hostile_slaves(rt: HostRuntime) {
+    try_rows(&rt, rt.alloc(), &HOSTILE);
+}
+
+/// Each callback takes a turn and a reply.
+static INBOX: [Row; 6] = [
+    Row {
+        name: "the first turn fails",
+        inbox: 0,
+        sends: &[],
+        turns: 0,
+        ..INBOX_FAULT
+    },
+    Row {
+        name: "the first reply fails",
+        inbox: 1,
+        sends: &[],
+        turns: 1,
+        ..INBOX_FAULT
+    },
+    Row {
+        name: "the second turn fails",
+        inbox: 2,
+        sends: &[HEARD],
+        turns: 1,
+        ..INBOX_FAULT
+    },
+    Row {
+        name: "the second reply fails",
+        inbox: 3,
+        sends: &[HEARD],
+        turns: 2,
+        ..INBOX_FAULT
+    },
+    Row {
+        name: "the last turn fails",
+        inbox: 4,
+        sends: &[HEARD, HEARD],
+        turns: 2,
+        ..INBOX_FAULT
+    },
+    Row {
+        name: "the last reply fails",
+        inbox: 5,
+        sends: &[HEARD, HEARD],
+        turns: 3,
+        ..INBOX_FAULT
+    },
+];
+
+/// The first slave is missed where a call of its wire fails: a call takes a write and a flush, and its reply two reads.
+const MISSED: Row = Row {
+    brings: &[SECOND_AGE],
+    code: 1,
+    output: "s1 -4\ns2 2\n",
+    sends: &[HEARD],
+    turns: 1,
+    ..CALLED
+};
+
+static FAULTS: [Row; 6] = [
+    Row {
+        name: "the call isn't written",
+        wire_writes: 0,
+        ..MISSED
+    },
+    Row {
+        name: "the call isn't flushed",
+        wire_writes: 1,
+        ..MISSED
+    },
+    Row {
+        name: "the head of the reply isn't read",
+        wire_reads: 0,
+        ..MISSED
+    },
+    Row {
+        name: "the reply isn't read",
+        wire_reads: 1,
+        ..MISSED
+    },
+    Row {
+        name: "the output isn't written",
+        writes: 0,
+        output: "",
+        ..WRITE_FAULT
+    },
+    Row {
+        name: "the output isn't flushed",
+        writes: 1,
+        ..WRITE_FAULT
+    },
+];
+
+const NO_MAP: Row = Row {
+    code: 10,
+    note: "yp: disk fault in lab/hosts.byname\n",
+    ..STOPPED
+};
+
+const NO_SERVERS: Row = Row {
+    code: 10,
+    note: "yp: disk fault in lab/ypservers\n",
+    ..STOPPED
+};
+
+/// Four calls load each file.
+static DISKS: [Row; 8] = [
+    Row {
+        name: "the first call of the map fails",
+        disk: 0,
+        ..NO_MAP
+    },
+    Row {
+        name: "the second",
+        disk: 1,
+        ..NO_MAP
+    },
+    Row {
+        name: "the third",
+        disk: 2,
+        ..NO_MAP
+    },
+    Row {
+        name: "the fourth, and the first of the servers",
+        disk: 3,
+        other_disk: 0,
+        ..NO_MAP
+    },
+    Row {
+        name: "the first call of the servers fails",
+        other_disk: 0,
+        ..NO_SERVERS
+    },
+    Row {
+        name: "the second of the servers",
+        other_disk: 1,
+        ..NO_SERVERS
+    },
+    Row {
+        name: "the third of the servers",
+        other_disk: 2,
+        ..NO_SERVERS
+    },
+    Row {
+        name: "the fourth of the servers",
+        other_disk: 3,
+        ..NO_SERVERS
+    },
+];
+
+static FILES: [Row; 7] = [
     Row {
         name: "no version of the map, nor of the servers",
         file: &[],
-        servers: &[],
-        told: (9, "", "yp: no version of lab/hosts.byname\n"),
+        other: &[],
+        stands: None,
+        left: &[],
+        code: 9,
+        note: "yp: no version of lab/hosts.byname\n",
         ..STOPPED
     },
     Row {
         name: "no version of the servers",
-        servers: &[],
-        told: (9, "", "yp: no version of lab/ypservers\n"),
+        other: &[],
+        code: 9,
+        note: "yp: no version of lab/ypservers\n",
         ..STOPPED
     },
     Row {
         name: "no slave",
-        servers: ALONE,
-        told: (0, "", ""),
+        other: ALONE,
         ..STOPPED
     },
     Row {
         name: "both disks fail",
-        disk: &[0],
-        servers_disk: &[0],
-        told: (10, "", "yp: disk fault in lab/hosts.byname\n"),
-        ..STOPPED
+        disk: 0,
+        other_disk: 0,
+        ..NO_MAP
+    },
+    Row {
+        name: "no note of a disk that fails",
+        disk: 0,
+        notes: 0,
+        note: "",
+        ..NO_MAP
     },
     Row {
         name: "the servers' disk fails, and no version of the map",
         file: &[],
-        servers_disk: &[1],
-        told: (10, "", "yp: disk fault in lab/ypservers\n"),
-        ..STOPPED
+        other_disk: 1,
+        stands: None,
+        left: &[],
+        ..NO_SERVERS
     },
     Row {
         name: "the own name is no slave's",
         words: &["push", "s2", "7001", "3", "0", "lab/hosts.byname"],
-        told: (1, "m1 none\ns1 none\n", ""),
+        code: 1,
+        output: "m1 none\ns1 none\n",
         ..STOPPED
     },
 ];
 
 #[test]
 fn push_over_memory(rt: HostRuntime) {
-    let alloc = rt.alloc();
-    for row in &ROWS {
-        try_row(&rt, alloc, row);
-    }
+    try_rows(&rt, rt.alloc(), &ROWS);
 }
 
 #[test]
 fn push_from_files(rt: HostRuntime) {
-    let alloc = rt.alloc();
-    for row in &FILES {
-        try_row(&rt, alloc, row);
-    }
+    try_rows(&rt, rt.alloc(), &FILES);
+}
+
+#[test]
+fn each_call_of_the_inbox_fails(rt: HostRuntime) {
+    try_rows(&rt, rt.alloc(), &INBOX);
+}
+
+#[test]
+fn each_call_of_the_disks_fails(rt: HostRuntime) {
+    try_rows(&rt, rt.alloc(), &DISKS);
+}
+
+#[test]
+fn calls_of_a_wire_and_of_the_output_fail(rt: HostRuntime) {
+    try_rows(&rt, rt.alloc(), &FAULTS);
 }

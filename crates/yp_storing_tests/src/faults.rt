@@ -1,15 +1,8 @@
-//! Each call outside fails in turn, and the program stops at each call of the disk.
+//! Each call outside of a transfer fails in turn, and the program stops at each call of the disk.
 
-use crate::given::{assert_same, bytes};
-use crate::source::{OLDER_FILE, REPLIES};
-use crate::stage::{FAIR, Scene, Stands, file_of, play, stands_of, strings, told_of};
-use std::alloc::Global;
-use std::process::Abort;
-use std::random::RandomSource;
-use std::sync::Wait;
-use std::thread::Threads;
-use yp_io::MemDisk;
-use yp_tools::NamedDisk;
+use crate::given::{try_disks, try_rows};
+use crate::source::{HOSTS_FILE, OLDER_FILE, REPLIES};
+use yp_stage::{After, DiskCalls, FAIR, Row, Stands, try_reads, try_writes};
 
 const WORDS: &[&str] = &[
     "xfr",
@@ -19,250 +12,233 @@ const WORDS: &[&str] = &[
     "m1@127.0.0.1:7001",
 ];
 
-/// A crash may keep each of the last three writes, or drop it.
-const CRASHES: u64 = 8;
-
-const DISK_FAULT: &str = "yp: disk fault in lab/hosts.byname\n";
-
-const FILE: &str = "yp: transfer -9\n";
-
-const RPC: &str = "yp: transfer -4\n";
-
 /// What is fetched.
 const NEW: Stands = Some((100, 1, false));
 
-/// The calls of the dial, of the wire and of the output that fail; the code and the note; and what the file stands for.
-#[derive(Clone, Copy)]
-struct Fault {
-    row: &'static str,
-    dials: &'static [u64],
-    reads: &'static [u64],
-    writes: &'static [u64],
-    output: &'static [u64],
-    code: u8,
-    note: &'static str,
-    stands: Stands,
-}
-
-const NO_WIRE: Fault = Fault {
-    row: "no wire",
-    dials: &[0],
-    reads: &[],
-    writes: &[],
-    output: &[],
-    code: 16,
-    note: RPC,
-    stands: None,
-};
-
-/// The line isn't written, and the map is stored.
-const NO_LINE: Fault = Fault {
-    row: "no line",
-    dials: &[],
-    output: &[0],
-    code: 4,
-    note: "yp: write fault\n",
+const FETCHED: Row = Row {
+    name: "nothing fails",
+    words: WORDS,
+    wire: REPLIES,
+    output: "lab/hosts.byname order 100 generation 1\n",
+    wires: 1,
     stands: NEW,
-    ..NO_WIRE
+    left: HOSTS_FILE,
+    ..FAIR
 };
 
-fn try_fault<R: Threads + Wait + RandomSource + Abort + Sync>(
-    rt: &R,
-    alloc: Global,
-    words: &[String],
-    wire: &[u8],
-    fault: &Fault,
-) {
-    let scene = Scene {
-        wire,
-        dials: fault.dials,
-        reads: fault.reads,
-        writes: fault.writes,
-        output: fault.output,
-        ..FAIR
-    };
-    let (status, outside) = play(rt, alloc, words, &scene);
-    let file = Vec::from_slice(alloc, file_of(&outside.disks)).expect(rt, "memory");
-    let (code, line, note, _) = told_of(&status, &outside);
-    let came = (code, line, note, stands_of(rt, alloc, file));
-    let wanted = (
-        fault.code,
-        [].as_slice(),
-        fault.note.as_bytes(),
-        fault.stands,
-    );
-    assert_same(rt, &came, &wanted, fault.row);
-}
+/// Nothing is fetched.
+const UNFETCHED: Row = Row {
+    name: "a call of the wire fails",
+    code: 16,
+    output: "",
+    note: "yp: transfer -4\n",
+    stands: None,
+    left: &[],
+    ..FETCHED
+};
 
-#[test]
-fn wire_and_output_fail(rt: HostRuntime) {
-    let alloc = rt.alloc();
-    let words = strings(&rt, alloc, WORDS);
-    let wire = bytes(&rt, alloc, REPLIES);
-    try_fault(&rt, alloc, &words, &wire, &NO_WIRE);
-    try_fault(&rt, alloc, &words, &wire, &NO_LINE);
-}
-
-/// A read or a write of the wire fails: there is no transfer.
-fn try_wire<'a, R: Threads + Wait + RandomSource + Abort + Sync>(
-    rt: &R,
-    alloc: Global,
-    words: &[String],
-    wire: &'a [u8],
-    reads: &'a [u64],
-    writes: &'a [u64],
-) {
-    let scene = Scene {
-        wire,
-        reads,
-        writes,
-        ..FAIR
-    };
-    let (status, outside) = play(rt, alloc, words, &scene);
-    let (code, line, note, _) = told_of(&status, &outside);
-    let came = (reads, writes, code, line, note, file_of(&outside.disks));
-    let empty: &[u8] = &[];
-    let wanted = (reads, writes, 16, empty, RPC.as_bytes(), empty);
-    assert_same(rt, &came, &wanted, "a call of the wire fails");
-}
-
-#[test]
-fn each_wire_call_fails(rt: HostRuntime) {
-    let alloc = rt.alloc();
-    let words = strings(&rt, alloc, WORDS);
-    let wire = bytes(&rt, alloc, REPLIES);
-    // Four replies of 184 bytes take at least four reads, and four calls of 68 bytes two writes and a flush each.
-    for call in 0..4 {
-        try_wire(&rt, alloc, &words, &wire, &[call], &[]);
-    }
-    for call in 0..12 {
-        try_wire(&rt, alloc, &words, &wire, &[], &[call]);
-    }
-}
-
-/// A file, what it stands for, the calls that load it, and the last of the calls of its disk; and the line that comes.
-struct Site {
-    file: &'static [&'static str],
-    before: Stands,
-    loads: u64,
-    last: u64,
-    line: &'static str,
-}
-
-/// Two calls load an empty file, and nine store a version on it; four load a version, and five store the next one.
-const SITES: [Site; 2] = [
-    Site {
-        file: &[],
-        before: None,
-        loads: 2,
-        last: 11,
-        line: "lab/hosts.byname order 100 generation 1\n",
+/// The line takes a write and a flush. Where one of them fails the map is stored.
+static FAULTS: [Row; 6] = [
+    Row {
+        name: "no wire",
+        dials: 0,
+        wires: 0,
+        ..UNFETCHED
     },
-    Site {
-        file: OLDER_FILE,
-        before: Some((99, 1, false)),
-        loads: 4,
-        last: 9,
-        line: "lab/hosts.byname order 100 generation 2\n",
+    Row {
+        name: "no wire, and no note",
+        dials: 0,
+        notes: 0,
+        note: "",
+        wires: 0,
+        ..UNFETCHED
+    },
+    Row {
+        name: "no second call of the dial",
+        dials: 1,
+        ..FETCHED
+    },
+    Row {
+        name: "no line",
+        writes: 0,
+        code: 4,
+        output: "",
+        note: "yp: write fault\n",
+        ..FETCHED
+    },
+    Row {
+        name: "no flush",
+        writes: 1,
+        code: 4,
+        note: "yp: write fault\n",
+        ..FETCHED
+    },
+    Row {
+        name: "no third call of the output",
+        writes: 2,
+        ..FETCHED
     },
 ];
 
-/// Compares what the files that a crash may leave stand for.
-fn try_crashes<R: Threads + Wait + RandomSource + Abort + Sync>(
-    rt: &R,
-    alloc: Global,
-    disks: &[NamedDisk<MemDisk>],
-    call: u64,
-    allowed: [Stands; 2],
-) {
-    for named in disks {
-        for kept in 0..CRASHES {
-            let image = named.disk.crashed(kept).expect(rt, "memory");
-            let is_allowed = allowed.contains(&stands_of(rt, alloc, image));
-            assert_same(
-                rt,
-                &(call, kept, is_allowed),
-                &(call, kept, true),
-                "a crash that keeps some writes",
-            );
-        }
-    }
+#[test]
+fn dial_and_output_fail(rt: HostRuntime) {
+    try_rows(&rt, rt.alloc(), &FAULTS);
 }
 
-/// What is told where this call of the disk fails, and what a crash may leave then: before a call that stores, what
-/// stood; at the last, what stood or the new version; and once all were done, that alone.
-fn try_disk<R: Threads + Wait + RandomSource + Abort + Sync>(
-    rt: &R,
-    alloc: Global,
-    words: &[String],
-    site: &Site,
-    call: u64,
-    scene: &Scene<'_>,
-) {
-    let (told, allowed) = if call == site.last {
-        ((0, site.line.as_bytes(), [].as_slice()), [NEW, NEW])
-    } else if call < site.loads {
-        let note = DISK_FAULT.as_bytes();
-        ((10, [].as_slice(), note), [site.before, site.before])
-    } else {
-        ((16, [].as_slice(), FILE.as_bytes()), [site.before, NEW])
-    };
-    let (status, outside) = play(rt, alloc, words, scene);
-    let (code, line, note, _) = told_of(&status, &outside);
-    assert_same(
-        rt,
-        &(call, scene.stop, (code, line, note)),
-        &(call, scene.stop, told),
-        "a call of the disk fails",
-    );
-    try_crashes(rt, alloc, &outside.disks, call, allowed);
+static IN_PIECES: Row = Row {
+    piece: 48,
+    ..UNFETCHED
+};
+
+/// A read or a write takes 48 bytes at most, so each of four calls of 68 bytes takes two writes and a flush, and each
+/// of four replies a read of the head, and one of the body, or two.
+#[test]
+fn each_wire_call_fails(rt: HostRuntime) {
+    let alloc = rt.alloc();
+    try_reads(alloc, &rt, &IN_PIECES, 9).expect(&rt, "a read");
+    try_writes(alloc, &rt, &IN_PIECES, 12).expect(&rt, "a write");
 }
 
-/// A call of the disk fails in each way: from it on, and then it alone.
-fn try_call<'a, R: Threads + Wait + RandomSource + Abort + Sync>(
-    rt: &R,
-    alloc: Global,
-    words: &[String],
-    site: &Site,
-    call: u64,
-    alone: &'a [u64],
-    file: &'a [u8],
-    wire: &'a [u8],
-) {
-    let from = Scene {
-        file,
-        wire,
-        stop: Some(call),
-        ..FAIR
-    };
-    try_disk(rt, alloc, words, site, call, &from);
-    let only = Scene {
-        file,
-        wire,
-        disk: alone,
-        ..FAIR
-    };
-    try_disk(rt, alloc, words, site, call, &only);
-}
+const NOT_LOADED: Row = Row {
+    name: "the file isn't loaded",
+    code: 10,
+    note: "yp: disk fault in lab/hosts.byname\n",
+    wires: 0,
+    ..UNFETCHED
+};
 
-fn try_site<R: Threads + Wait + RandomSource + Abort + Sync>(
-    rt: &R,
-    alloc: Global,
-    words: &[String],
-    site: &Site,
-) {
-    let file = bytes(rt, alloc, site.file);
-    let wire = bytes(rt, alloc, REPLIES);
-    for call in 0..=site.last {
-        try_call(rt, alloc, words, site, call, &[call], &file, &wire);
-    }
-}
+const NOT_STORED: Row = Row {
+    name: "the version isn't stored",
+    note: "yp: transfer -9\n",
+    torn: true,
+    ..UNFETCHED
+};
+
+/// The last call is the sync behind the write that shows the version.
+const NOT_SYNCED: Row = Row {
+    stands: NEW,
+    ..NOT_STORED
+};
+
+/// The same transfer over a file without a version, and over one that has it.
+const FETCHES_ANEW: After = After {
+    stands: None,
+    again: Row {
+        name: "behind a crash that lost the version",
+        torn: true,
+        ..FETCHED
+    },
+};
+
+const HAS_IT: After = After {
+    stands: NEW,
+    again: Row {
+        name: "behind a crash that kept the version",
+        code: 16,
+        output: "",
+        note: "yp: transfer 2 100 100\n",
+        torn: true,
+        ..FETCHED
+    },
+};
+
+/// Two calls load the empty file, and nine store a version on it.
+static DISK: [DiskCalls; 4] = [
+    DiskCalls {
+        row: NOT_LOADED,
+        first: 0,
+        last: 1,
+        after: &[FETCHES_ANEW],
+    },
+    DiskCalls {
+        row: NOT_STORED,
+        first: 2,
+        last: 9,
+        after: &[FETCHES_ANEW],
+    },
+    DiskCalls {
+        row: NOT_SYNCED,
+        first: 10,
+        last: 10,
+        after: &[FETCHES_ANEW, HAS_IT],
+    },
+    DiskCalls {
+        row: FETCHED,
+        first: 11,
+        last: 11,
+        after: &[HAS_IT],
+    },
+];
 
 #[test]
 fn each_disk_call_fails(rt: HostRuntime) {
-    let alloc = rt.alloc();
-    let words = strings(&rt, alloc, WORDS);
-    for site in &SITES {
-        try_site(&rt, alloc, &words, site);
-    }
+    try_disks(&rt, rt.alloc(), &DISK);
+}
+
+const OLDER: Stands = Some((99, 1, false));
+
+const SECOND: Row = Row {
+    name: "nothing fails over a version",
+    file: OLDER_FILE,
+    output: "lab/hosts.byname order 100 generation 2\n",
+    torn: true,
+    ..FETCHED
+};
+
+const OLDER_NOT_LOADED: Row = Row {
+    name: "the older version isn't loaded",
+    file: OLDER_FILE,
+    stands: OLDER,
+    left: OLDER_FILE,
+    ..NOT_LOADED
+};
+
+const OLDER_STAYS: Row = Row {
+    name: "the next version isn't stored",
+    file: OLDER_FILE,
+    stands: OLDER,
+    ..NOT_STORED
+};
+
+const NEXT_NOT_SYNCED: Row = Row {
+    stands: NEW,
+    ..OLDER_STAYS
+};
+
+const FETCHES_NEXT: After = After {
+    stands: OLDER,
+    again: SECOND,
+};
+
+/// Four calls load a version, and five store the next one.
+static SECOND_DISK: [DiskCalls; 4] = [
+    DiskCalls {
+        row: OLDER_NOT_LOADED,
+        first: 0,
+        last: 3,
+        after: &[FETCHES_NEXT],
+    },
+    DiskCalls {
+        row: OLDER_STAYS,
+        first: 4,
+        last: 7,
+        after: &[FETCHES_NEXT],
+    },
+    DiskCalls {
+        row: NEXT_NOT_SYNCED,
+        first: 8,
+        last: 8,
+        after: &[FETCHES_NEXT, HAS_IT],
+    },
+    DiskCalls {
+        row: SECOND,
+        first: 9,
+        last: 9,
+        after: &[HAS_IT],
+    },
+];
+
+#[test]
+fn each_disk_call_over_a_version_fails(rt: HostRuntime) {
+    try_disks(&rt, rt.alloc(), &SECOND_DISK);
 }

@@ -1,281 +1,241 @@
-//! Netgroups that are reversed: what is stored and told, each refusal, and each call of a disk that fails in turn.
+//! Netgroups that are reversed: what is stored and told, each refusal, and each call outside that fails in turn.
 
-use crate::given::{assert_same, bytes};
+use crate::given::{try_disks, try_rows};
 use crate::source::{
     BROKEN_FILE, BY_USER_FILE, LAST_GENERATION_FILE, LAST_ORDER_FILE, NETGROUP_FILE, SECURE_FILE,
 };
-use crate::stage::{FAIR, Scene, Stands, file_of, play, stands_of, strings, told_of};
-use std::alloc::Global;
-use std::process::Abort;
-use std::random::RandomSource;
-use std::sync::Wait;
-use std::thread::Threads;
-use yp_io::MemDisk;
-use yp_tools::NamedDisk;
+use yp_stage::{After, DiskCalls, FAIR, Row, Stands};
 
 const BY_USER: &[&str] = &["revnet", "m1", "lab/netgroup.byuser"];
 
 const BY_HOST: &[&str] = &["revnet", "m1", "lab/netgroup.byhost"];
-
-/// A crash may keep each of the last three writes, or drop it.
-const CRASHES: u64 = 8;
 
 const STORED: &str = "lab/netgroup.byuser order 500 rows 1 generation 1\n";
 
 /// What is made of the netgroups.
 const NEW: Stands = Some((500, 1, false));
 
-/// The words and both files; the code, the line and the note; and what the first file stands for then.
-#[derive(Clone, Copy)]
-struct Case {
-    row: &'static str,
-    words: &'static [&'static str],
-    file: &'static [&'static str],
-    netgroup: &'static [&'static str],
-    told: (u8, &'static str, &'static str),
-    stands: Stands,
-}
-
-const STANDING: Stands = Some((100, 1, false));
-
-const FIRST: Case = Case {
-    row: "users",
+const FIRST: Row = Row {
+    name: "users",
     words: BY_USER,
-    file: &[],
-    netgroup: NETGROUP_FILE,
-    told: (0, STORED, ""),
+    other: NETGROUP_FILE,
+    output: STORED,
     stands: NEW,
+    left: BY_USER_FILE,
+    ..FAIR
 };
 
-const CASES: [Case; 8] = [
+/// Nothing is made.
+const REFUSED: Row = Row {
+    output: "",
+    stands: None,
+    left: &[],
+    ..FIRST
+};
+
+static ROWS: [Row; 9] = [
     FIRST,
-    Case {
-        row: "no hosts",
+    Row {
+        name: "no hosts",
         words: BY_HOST,
-        told: (0, "lab/netgroup.byhost order 500 rows 0 generation 1\n", ""),
+        output: "lab/netgroup.byhost order 500 rows 0 generation 1\n",
         stands: Some((500, 0, false)),
+        torn: true,
         ..FIRST
     },
-    Case {
-        row: "behind a secure version",
+    Row {
+        name: "behind a secure version",
         file: SECURE_FILE,
-        told: (0, "lab/netgroup.byuser order 500 rows 1 generation 2\n", ""),
+        output: "lab/netgroup.byuser order 500 rows 1 generation 2\n",
         stands: Some((500, 1, true)),
+        torn: true,
         ..FIRST
     },
-    Case {
-        row: "no netgroups",
-        netgroup: &[],
-        told: (9, "", "yp: no version of lab/netgroup\n"),
-        stands: None,
-        ..FIRST
+    Row {
+        name: "no netgroups",
+        other: &[],
+        code: 9,
+        note: "yp: no version of lab/netgroup\n",
+        ..REFUSED
     },
-    Case {
-        row: "damaged netgroups",
-        netgroup: BROKEN_FILE,
-        told: (8, "", "yp: damaged lab/netgroup at 79 rule 5\n"),
-        stands: None,
-        ..FIRST
+    Row {
+        name: "damaged netgroups",
+        other: BROKEN_FILE,
+        code: 8,
+        note: "yp: damaged lab/netgroup at 79 rule 5\n",
+        ..REFUSED
     },
-    Case {
-        row: "another master, before a spent order",
+    Row {
+        name: "both are damaged",
+        file: BROKEN_FILE,
+        other: BROKEN_FILE,
+        code: 8,
+        note: "yp: damaged lab/netgroup.byuser at 79 rule 5\n",
+        left: BROKEN_FILE,
+        ..REFUSED
+    },
+    Row {
+        name: "another master, before a spent order",
         words: &["revnet", "m2", "lab/netgroup.byuser"],
         file: LAST_ORDER_FILE,
-        told: (19, "", "yp: mastered by m1\n"),
+        code: 19,
+        note: "yp: mastered by m1\n",
         stands: Some((4_294_967_295, 1, false)),
-        ..FIRST
+        left: LAST_ORDER_FILE,
+        ..REFUSED
     },
-    Case {
-        row: "a spent order",
+    Row {
+        name: "a spent order",
         file: LAST_ORDER_FILE,
-        told: (18, "", "yp: order spent\n"),
+        code: 18,
+        note: "yp: order spent\n",
         stands: Some((4_294_967_295, 1, false)),
+        left: LAST_ORDER_FILE,
+        ..REFUSED
+    },
+    Row {
+        name: "spent generations",
+        file: LAST_GENERATION_FILE,
+        code: 20,
+        note: "yp: generations spent in lab/netgroup.byuser\n",
+        stands: Some((100, 1, false)),
+        left: LAST_GENERATION_FILE,
+        ..REFUSED
+    },
+];
+
+#[test]
+fn reverses_and_refusals(rt: HostRuntime) {
+    try_rows(&rt, rt.alloc(), &ROWS);
+}
+
+const NOT_LOADED: Row = Row {
+    name: "a call of the netgroups fails",
+    code: 10,
+    note: "yp: disk fault in lab/netgroup\n",
+    ..REFUSED
+};
+
+/// Four calls load the netgroups. The line takes a write and a flush; where one of them fails the map is stored.
+static FAULTS: [Row; 8] = [
+    Row {
+        other_disk: 0,
+        ..NOT_LOADED
+    },
+    Row {
+        other_disk: 1,
+        ..NOT_LOADED
+    },
+    Row {
+        other_disk: 2,
+        ..NOT_LOADED
+    },
+    Row {
+        other_disk: 3,
+        ..NOT_LOADED
+    },
+    Row {
+        name: "no fifth call of the netgroups",
+        other_disk: 4,
         ..FIRST
     },
-    Case {
-        row: "spent generations",
-        file: LAST_GENERATION_FILE,
-        told: (20, "", "yp: generations spent in lab/netgroup.byuser\n"),
-        stands: STANDING,
+    Row {
+        name: "no note",
+        other_disk: 0,
+        notes: 0,
+        note: "",
+        ..NOT_LOADED
+    },
+    Row {
+        name: "no line",
+        writes: 0,
+        code: 4,
+        output: "",
+        note: "yp: write fault\n",
+        ..FIRST
+    },
+    Row {
+        name: "no flush",
+        writes: 1,
+        code: 4,
+        note: "yp: write fault\n",
         ..FIRST
     },
 ];
 
-/// The file of the netgroups, and the calls of its disk that fail.
-fn failing<'a>(netgroup: &'a [u8], netgroup_disk: &'a [u64]) -> Scene<'a> {
-    Scene {
-        netgroup,
-        netgroup_disk,
-        ..FAIR
-    }
-}
-
-fn try_case<R: Threads + Wait + RandomSource + Abort + Sync>(rt: &R, alloc: Global, case: &Case) {
-    let file = bytes(rt, alloc, case.file);
-    let netgroup = bytes(rt, alloc, case.netgroup);
-    try_files(rt, alloc, case, &file, &netgroup);
-}
-
-/// Runs a case over both files, where nothing fails.
-fn try_files<'a, R: Threads + Wait + RandomSource + Abort + Sync>(
-    rt: &R,
-    alloc: Global,
-    case: &Case,
-    file: &'a [u8],
-    netgroup: &'a [u8],
-) {
-    let words = strings(rt, alloc, case.words);
-    let scene = Scene {
-        file,
-        netgroup,
-        ..FAIR
-    };
-    let (status, outside) = play(rt, alloc, &words, &scene);
-    let file = Vec::from_slice(alloc, file_of(&outside.disks)).expect(rt, "memory");
-    let (code, line, note, _) = told_of(&status, &outside);
-    let came = (code, line, note, stands_of(rt, alloc, file));
-    let (code, line, note) = case.told;
-    let wanted = (code, line.as_bytes(), note.as_bytes(), case.stands);
-    assert_same(rt, &came, &wanted, case.row);
-}
-
 #[test]
-fn reverses_and_refusals(rt: HostRuntime) {
-    let alloc = rt.alloc();
-    for case in &CASES {
-        try_case(&rt, alloc, case);
-    }
+fn netgroups_and_output_fail(rt: HostRuntime) {
+    try_rows(&rt, rt.alloc(), &FAULTS);
 }
 
-/// What is told, and the bytes of the first file.
-fn try_scene<R: Threads + Wait + RandomSource + Abort + Sync>(
-    rt: &R,
-    alloc: Global,
-    row: &str,
-    scene: &Scene<'_>,
-    told: (u8, &str, &str),
-    file: &[u8],
-) {
-    let words = strings(rt, alloc, BY_USER);
-    let (status, outside) = play(rt, alloc, &words, scene);
-    let (code, line, note, _) = told_of(&status, &outside);
-    let came = (code, line, note, file_of(&outside.disks));
-    let wanted = (told.0, told.1.as_bytes(), told.2.as_bytes(), file);
-    assert_same(rt, &came, &wanted, row);
-}
+const MAP_NOT_LOADED: Row = Row {
+    name: "the map isn't loaded",
+    note: "yp: disk fault in lab/netgroup.byuser\n",
+    ..NOT_LOADED
+};
 
-/// A damaged file of the map is told before damaged netgroups, and is left as it is. Where the line isn't written, the
-/// map is stored, byte for byte.
-#[test]
-fn first_file_and_output(rt: HostRuntime) {
-    let alloc = rt.alloc();
-    let broken = bytes(&rt, alloc, BROKEN_FILE);
-    let netgroup = bytes(&rt, alloc, NETGROUP_FILE);
-    let stored = bytes(&rt, alloc, BY_USER_FILE);
-    let both = Scene {
-        file: &broken,
-        netgroup: &broken,
-        ..FAIR
-    };
-    let damaged = (8, "", "yp: damaged lab/netgroup.byuser at 79 rule 5\n");
-    try_scene(&rt, alloc, "both are damaged", &both, damaged, &broken);
-    let unwritten = Scene {
-        netgroup: &netgroup,
-        output: &[0],
-        ..FAIR
-    };
-    let fault = (4, "", "yp: write fault\n");
-    try_scene(&rt, alloc, "no line", &unwritten, fault, &stored);
-}
+const NOT_STORED: Row = Row {
+    name: "the version isn't stored",
+    torn: true,
+    ..MAP_NOT_LOADED
+};
 
-/// Each of the four calls that load the netgroups fails in turn: nothing is stored. There is no fifth.
-#[test]
-fn each_netgroup_call_fails(rt: HostRuntime) {
-    let alloc = rt.alloc();
-    let netgroup = bytes(&rt, alloc, NETGROUP_FILE);
-    let stored = bytes(&rt, alloc, BY_USER_FILE);
-    let fault = (10, "", "yp: disk fault in lab/netgroup\n");
-    for call in 0..5 {
-        let calls = [call];
-        let scene = failing(&netgroup, &calls);
-        if call == 4 {
-            try_scene(&rt, alloc, "no such call", &scene, (0, STORED, ""), &stored);
-        } else {
-            try_scene(&rt, alloc, "a call of the netgroups", &scene, fault, &[]);
-        }
-    }
-}
+/// The last call is the sync behind the write that shows the version.
+const NOT_SYNCED: Row = Row {
+    stands: NEW,
+    ..NOT_STORED
+};
 
-/// Compares what the files that a crash may leave of the first disk stand for.
-fn try_crashes<R: Threads + Wait + RandomSource + Abort + Sync>(
-    rt: &R,
-    alloc: Global,
-    disks: &[NamedDisk<MemDisk>],
-    call: u64,
-    allowed: [Stands; 2],
-) {
-    let Some((first, _)) = disks.split_first() else {
-        return;
-    };
-    for kept in 0..CRASHES {
-        let image = first.disk.crashed(kept).expect(rt, "memory");
-        let is_allowed = allowed.contains(&stands_of(rt, alloc, image));
-        assert_same(
-            rt,
-            &(call, kept, is_allowed),
-            &(call, kept, true),
-            "a crash that keeps some writes",
-        );
-    }
-}
+/// The same words over a file without a version, and over one that has it.
+const MADE_ANEW: After = After {
+    stands: None,
+    again: Row {
+        name: "behind a crash that lost the version",
+        torn: true,
+        ..FIRST
+    },
+};
+
+const MADE_NEXT: After = After {
+    stands: NEW,
+    again: Row {
+        name: "behind a crash that kept the version",
+        output: "lab/netgroup.byuser order 501 rows 1 generation 2\n",
+        stands: Some((501, 1, false)),
+        torn: true,
+        ..FIRST
+    },
+};
 
 /// Two calls load an empty file, and nine store a version on it.
-const LAST: u64 = 11;
-
-/// What is told where this call of the map's disk fails, and what a crash may leave then.
-fn try_disk<R: Threads + Wait + RandomSource + Abort + Sync>(
-    rt: &R,
-    alloc: Global,
-    words: &[String],
-    call: u64,
-    scene: &Scene<'_>,
-) {
-    let note = "yp: disk fault in lab/netgroup.byuser\n";
-    let (told, allowed) = if call == LAST {
-        ((0, STORED.as_bytes(), [].as_slice()), [NEW, NEW])
-    } else if call < 2 {
-        ((10, [].as_slice(), note.as_bytes()), [None, None])
-    } else {
-        ((10, [].as_slice(), note.as_bytes()), [None, NEW])
-    };
-    let (status, outside) = play(rt, alloc, words, scene);
-    let (code, line, note, _) = told_of(&status, &outside);
-    assert_same(
-        rt,
-        &(call, scene.stop, (code, line, note)),
-        &(call, scene.stop, told),
-        "a call of the disk fails",
-    );
-    try_crashes(rt, alloc, &outside.disks, call, allowed);
-}
+static DISK: [DiskCalls; 4] = [
+    DiskCalls {
+        row: MAP_NOT_LOADED,
+        first: 0,
+        last: 1,
+        after: &[MADE_ANEW],
+    },
+    DiskCalls {
+        row: NOT_STORED,
+        first: 2,
+        last: 9,
+        after: &[MADE_ANEW],
+    },
+    DiskCalls {
+        row: NOT_SYNCED,
+        first: 10,
+        last: 10,
+        after: &[MADE_ANEW, MADE_NEXT],
+    },
+    DiskCalls {
+        row: FIRST,
+        first: 11,
+        last: 11,
+        after: &[MADE_NEXT],
+    },
+];
 
 #[test]
 fn each_call_of_the_map_fails(rt: HostRuntime) {
-    let alloc = rt.alloc();
-    let words = strings(&rt, alloc, BY_USER);
-    let netgroup = bytes(&rt, alloc, NETGROUP_FILE);
-    for call in 0..=LAST {
-        let from = Scene {
-            netgroup: &netgroup,
-            stop: Some(call),
-            ..FAIR
-        };
-        try_disk(&rt, alloc, &words, call, &from);
-        let alone = Scene {
-            netgroup: &netgroup,
-            disk: &[call],
-            ..FAIR
-        };
-        try_disk(&rt, alloc, &words, call, &alone);
-    }
+    try_disks(&rt, rt.alloc(), &DISK);
 }

@@ -1,12 +1,11 @@
-//! Tests of `yp_tools`: what memory alone can show, as calls that fail, crashes and moments. The rest is in examples/.
+//! Tests of `yp_tools`: what memory alone can show of `once`, `session`, `sample` and the clients, as calls that fail
+//! and crashes; and the codes and notes of statuses. The rest is in examples/.
 #![tactic(auto)]
 
 #[cfg(test)]
-mod build;
-#[cfg(test)]
-mod check;
-#[cfg(test)]
 mod given;
+#[cfg(test)]
+mod notes;
 #[cfg(test)]
 mod once;
 #[cfg(test)]
@@ -15,7 +14,5 @@ mod question;
 mod sample;
 #[cfg(test)]
 mod session;
-#[cfg(test)]
-mod stage;
 #[cfg(test)]
 mod status;

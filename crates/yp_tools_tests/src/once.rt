@@ -1,55 +1,58 @@
 //! `once` over memory: its calls and replies written out by hand, from RFC 5531 and yp.x.
 
-use crate::given::{assert_same, bytes};
-use crate::stage::{FAIR, Scene, strings, try_strings, try_words};
+use crate::given::{assert_same, bytes, try_rows};
 use std::alloc::Global;
 use std::process::Abort;
-
-/// The words that serve one row.
-const SERVED: [&str; 3] = ["once", "lab/hosts.byname", "alpha=10.0.0.1 alpha"];
+use yp_stage::{FAIR, Row, Words, strings_of, try_made};
 
 /// MATCH of `alpha` in the map `hosts.byname` of the domain `lab`, xid 1, in a record of 80 bytes.
-const MATCH: &str = "8000004c 00000001 00000000 00000002 000186a4 00000002 00000003
-    00000000 00000000 00000000 00000000 00000003 6c616200
-    0000000c 686f7374 732e6279 6e616d65 00000005 616c7068 61000000";
+const MATCH: Words = &[
+    "8000004c 00000001 00000000 00000002 000186a4 00000002 00000003",
+    "00000000 00000000 00000000 00000000 00000003 6c616200",
+    "0000000c 686f7374 732e6279 6e616d65 00000005 616c7068 61000000",
+];
 
-/// Its reply.
-const MATCH_REPLY: &str = "80000030 00000001 00000001 00000000 00000000 00000000 00000000
+/// Its reply, of 52 bytes.
+const REPLY: &str = "80000030 00000001 00000001 00000000 00000000 00000000 00000000
     00000001 0000000e 31302e30 2e302e31 20616c70 68610000";
 
 /// Its reply where no row has the key.
 const NO_KEY_REPLY: &str = "80000020 00000001 00000001 00000000 00000000 00000000 00000000
     fffffffd 00000000";
 
-/// The most bytes of a read.
-const PIECES: [(usize, &str); 3] = [
-    (1, "reads of one byte"),
-    (3, "reads of three bytes"),
-    (80, "reads of eighty bytes"),
-];
+/// The words serve one row.
+const ANSWERED: Row = Row {
+    name: "reads of eighty bytes",
+    words: &["once", "lab/hosts.byname", "alpha=10.0.0.1 alpha"],
+    input: MATCH,
+    read: 80,
+    replies: &[REPLY],
+    ..FAIR
+};
 
-/// The most bytes of a value.
-const VALUE_MAX: usize = 65_536;
+/// The most bytes of a read.
+static PIECES: [Row; 3] = [
+    Row {
+        name: "reads of one byte",
+        read: 1,
+        ..ANSWERED
+    },
+    Row {
+        name: "reads of three bytes",
+        read: 3,
+        ..ANSWERED
+    },
+    ANSWERED,
+];
 
 #[test]
 fn first_match(rt: HostRuntime) {
-    let alloc = rt.alloc();
-    let call = bytes(&rt, alloc, &[MATCH]);
-    let reply = bytes(&rt, alloc, &[MATCH_REPLY]);
-    for (read, row) in &PIECES {
-        let scene = Scene {
-            input: &call,
-            read: *read,
-            ..FAIR
-        };
-        let told = (0, reply.as_slice(), b"".as_slice());
-        try_words(&rt, alloc, &SERVED, &scene, told, None, *row);
-    }
+    try_rows(&rt, rt.alloc(), &PIECES);
 }
 
 /// The call of MATCH, each of its bytes in a fragment of its own, and an empty fragment after the tenth.
 fn in_many_fragments<R: Abort>(rt: &R, alloc: Global) -> Vec<u8> {
-    let call = bytes(rt, alloc, &[MATCH]);
+    let call = bytes(rt, alloc, MATCH);
     let mut all = Vec::new(alloc);
     for (i, byte) in call.iter().enumerate() {
         if i >= 4 {
@@ -70,17 +73,15 @@ fn many_fragments(rt: HostRuntime) {
     let alloc = rt.alloc();
     let call = in_many_fragments(&rt, alloc);
     assert_same(&rt, &call.len(), &384, "the length of the call");
-    let reply = bytes(&rt, alloc, &[MATCH_REPLY]);
-    for (read, row) in &PIECES {
-        let scene = Scene {
-            input: &call,
-            read: *read,
-            ..FAIR
-        };
-        let told = (0, reply.as_slice(), b"".as_slice());
-        try_words(&rt, alloc, &SERVED, &scene, told, None, *row);
+    let reply = bytes(&rt, alloc, &[REPLY]);
+    let words = strings_of(alloc, ANSWERED.words).expect(&rt, "memory");
+    for row in &PIECES {
+        try_made(alloc, &rt, row, &words, &call, &reply).expect(&rt, row.name);
     }
 }
+
+/// The most bytes of a value.
+const VALUE_MAX: usize = 65_536;
 
 /// A row whose value is so many bytes `x`.
 fn long_row<R: Abort>(rt: &R, alloc: Global, key: &[u8], len: usize) -> String {
@@ -123,24 +124,19 @@ fn reply_of_nine_fragments<R: Abort>(rt: &R, alloc: Global) -> Vec<u8> {
 #[test]
 fn value_in_nine_fragments(rt: HostRuntime) {
     let alloc = rt.alloc();
-    let mut words = strings(&rt, alloc, &["once", "lab/hosts.byname"]);
+    let mut words = strings_of(alloc, &["once", "lab/hosts.byname"]).expect(&rt, "memory");
     let row = long_row(&rt, alloc, b"alpha", VALUE_MAX);
     words.push(row).expect(&rt, "memory");
-    let call = bytes(&rt, alloc, &[MATCH]);
+    let call = bytes(&rt, alloc, MATCH);
     let reply = reply_of_nine_fragments(&rt, alloc);
     assert_same(&rt, &reply.len(), &65_604, "the length of the reply");
     // A write takes 4,096 bytes at most.
-    let scene = Scene {
-        input: &call,
-        ..FAIR
-    };
-    let told = (0, reply.as_slice(), b"".as_slice());
-    try_strings(&rt, alloc, &words, &scene, told, None, "the longest value");
+    try_made(alloc, &rt, &ANSWERED, &words, &call, &reply).expect(&rt, "the longest value");
 }
 
 /// Words that serve 256 rows with keys of two letters and the longest values.
 fn longest_rows<R: Abort>(rt: &R, alloc: Global) -> Vec<String> {
-    let mut words = strings(rt, alloc, &["once", "lab/hosts.byname"]);
+    let mut words = strings_of(alloc, &["once", "lab/hosts.byname"]).expect(rt, "memory");
     for first in b'A'..=b'P' {
         for second in b'A'..=b'P' {
             let row = long_row(rt, alloc, &[first, second], VALUE_MAX);
@@ -150,100 +146,140 @@ fn longest_rows<R: Abort>(rt: &R, alloc: Global) -> Vec<String> {
     words
 }
 
+static REFUSED: Row = Row {
+    code: 17,
+    note: "yp: row 257 rule 4\n",
+    ..FAIR
+};
+
 #[test]
 fn rows_past_a_limit(rt: HostRuntime) {
     let alloc = rt.alloc();
     // The body of a version is at most 16,777,216 bytes: 20 at its front, and 65,548 of each row.
     let mut words = longest_rows(&rt, alloc);
     assert_same(&rt, &words.len(), &258, "the number of the words");
-    let call = bytes(&rt, alloc, &[MATCH]);
+    let call = bytes(&rt, alloc, MATCH);
     let reply = bytes(&rt, alloc, &[NO_KEY_REPLY]);
-    let scene = Scene {
-        input: &call,
-        ..FAIR
-    };
-    let refused = (17, b"".as_slice(), b"yp: row 257 rule 4\n".as_slice());
-    try_strings(&rt, alloc, &words, &scene, refused, None, "258 words");
+    try_made(alloc, &rt, &REFUSED, &words, &call, &[]).expect(&rt, "258 words");
     let _ = words.pop();
-    let absent = (0, reply.as_slice(), b"".as_slice());
-    try_strings(&rt, alloc, &words, &scene, absent, None, "257 words");
+    try_made(alloc, &rt, &ANSWERED, &words, &call, &reply).expect(&rt, "257 words");
 }
 
-/// Reads and writes that fail, and whether the first reply is written.
-#[derive(Clone, Copy)]
-struct Fault<'a> {
-    row: &'a str,
-    reads: &'a [u64],
-    writes: &'a [u64],
-    replied: bool,
-}
+/// The call twice: each record takes a read for its head and one for its body, and the end of the input one; each reply
+/// takes a write and a flush.
+const TWICE: Row = Row {
+    name: "no sixth read",
+    input: &[
+        "8000004c 00000001 00000000 00000002 000186a4 00000002 00000003",
+        "00000000 00000000 00000000 00000000 00000003 6c616200",
+        "0000000c 686f7374 732e6279 6e616d65 00000005 616c7068 61000000",
+        "8000004c 00000001 00000000 00000002 000186a4 00000002 00000003",
+        "00000000 00000000 00000000 00000000 00000003 6c616200",
+        "0000000c 686f7374 732e6279 6e616d65 00000005 616c7068 61000000",
+    ],
+    reads: 5,
+    writes: 4,
+    replies: &[REPLY, REPLY],
+    ..ANSWERED
+};
 
-/// Each record takes a read for its head and one for its body, each reply a write and a flush.
-const FAULTS: [Fault<'static>; 7] = [
-    Fault {
-        row: "the first head isn't read",
-        reads: &[0],
-        writes: &[],
-        replied: false,
+const UNREAD: Row = Row {
+    name: "the first head isn't read",
+    reads: 0,
+    code: 3,
+    cut: 0,
+    note: "yp: read fault\n",
+    ..TWICE
+};
+
+const UNWRITTEN: Row = Row {
+    name: "the first reply isn't written",
+    writes: 0,
+    code: 4,
+    cut: 0,
+    note: "yp: write fault\n",
+    ..TWICE
+};
+
+static FAULTS: [Row; 10] = [
+    TWICE,
+    UNREAD,
+    Row {
+        name: "the first body isn't read",
+        reads: 1,
+        ..UNREAD
     },
-    Fault {
-        row: "the first body isn't read",
-        reads: &[1],
-        writes: &[],
-        replied: false,
+    Row {
+        name: "the second head isn't read",
+        reads: 2,
+        cut: 52,
+        ..UNREAD
     },
-    Fault {
-        row: "the second head isn't read",
-        reads: &[2],
-        writes: &[],
-        replied: true,
+    Row {
+        name: "the second body isn't read",
+        reads: 3,
+        cut: 52,
+        ..UNREAD
     },
-    Fault {
-        row: "the second body isn't read",
-        reads: &[3],
-        writes: &[],
-        replied: true,
+    Row {
+        name: "the end isn't read",
+        reads: 4,
+        cut: 104,
+        ..UNREAD
     },
-    Fault {
-        row: "the first reply isn't written",
-        reads: &[],
-        writes: &[0],
-        replied: false,
+    UNWRITTEN,
+    Row {
+        name: "the first reply isn't flushed",
+        writes: 1,
+        cut: 52,
+        ..UNWRITTEN
     },
-    Fault {
-        row: "the first reply isn't flushed",
-        reads: &[],
-        writes: &[1],
-        replied: true,
+    Row {
+        name: "the second reply isn't written",
+        writes: 2,
+        cut: 52,
+        ..UNWRITTEN
     },
-    Fault {
-        row: "the second reply isn't written",
-        reads: &[],
-        writes: &[2],
-        replied: true,
+    Row {
+        name: "the second reply isn't flushed",
+        writes: 3,
+        cut: 104,
+        ..UNWRITTEN
     },
 ];
 
 #[test]
 fn one_failing_call(rt: HostRuntime) {
-    let alloc = rt.alloc();
-    let calls = bytes(&rt, alloc, &[MATCH, MATCH]);
-    let reply = bytes(&rt, alloc, &[MATCH_REPLY]);
-    for fault in &FAULTS {
-        let (code, note) = if fault.writes.is_empty() {
-            (3, b"yp: read fault\n".as_slice())
-        } else {
-            (4, b"yp: write fault\n".as_slice())
-        };
-        let output: &[u8] = if fault.replied { &reply } else { &[] };
-        let scene = Scene {
-            input: &calls,
-            read: 80,
-            reads: fault.reads,
-            writes: fault.writes,
-            ..FAIR
-        };
-        let told = (code, output, note);
-        try_words(&rt, alloc, &SERVED, &scene, told, None, fault.row);
-    }
+    try_rows(&rt, rt.alloc(), &FAULTS);
+}
+
+/// Calls with a domain of 4,294,967,295 bytes, with padding of the domain that isn't zero, and with a credential of 401
+/// bytes, and one that is well. The first two are garbage, and the third gets no reply.
+static HOSTILE: [Row; 1] = [Row {
+    name: "hostile calls",
+    input: &[
+        "8000004c 00000001 00000000 00000002 000186a4 00000002 00000003",
+        "00000000 00000000 00000000 00000000 ffffffff 6c616200",
+        "0000000c 686f7374 732e6279 6e616d65 00000005 616c7068 61000000",
+        "8000004c 00000001 00000000 00000002 000186a4 00000002 00000003",
+        "00000000 00000000 00000000 00000000 00000003 6c616201",
+        "0000000c 686f7374 732e6279 6e616d65 00000005 616c7068 61000000",
+        "8000004c 00000001 00000000 00000002 000186a4 00000002 00000003",
+        "00000000 00000191 00000000 00000000 00000003 6c616200",
+        "0000000c 686f7374 732e6279 6e616d65 00000005 616c7068 61000000",
+        "8000004c 00000001 00000000 00000002 000186a4 00000002 00000003",
+        "00000000 00000000 00000000 00000000 00000003 6c616200",
+        "0000000c 686f7374 732e6279 6e616d65 00000005 616c7068 61000000",
+    ],
+    replies: &[
+        "80000018 00000001 00000001 00000000 00000000 00000000 00000004",
+        "80000018 00000001 00000001 00000000 00000000 00000000 00000004",
+        REPLY,
+    ],
+    ..ANSWERED
+}];
+
+#[test]
+fn hostile_calls(rt: HostRuntime) {
+    try_rows(&rt, rt.alloc(), &HOSTILE);
 }

@@ -1,8 +1,7 @@
-//! Client commands over a wire in memory: its reply written out by hand, from RFC 5531 and yp.x, or what `once` sends
-//! for calls that are written out so.
+//! Client commands over a wire in memory: what `once` sends for calls that are written out by hand, from RFC 5531 and
+//! yp.x; and each call outside that fails in turn.
 
-use crate::given::bytes;
-use crate::stage::{FAIR, Scene, play, strings, try_words};
+use crate::given::try_rows;
 use std::alloc::Global;
 use std::process::Abort;
 use std::random::RandomSource;
@@ -10,91 +9,8 @@ use std::sync::Wait;
 use std::thread::Threads;
 use yp_io::{MemDial, MemDisk, MemSink, MemSource, MemTexts, SetClock};
 use yp_mem::MemInbox;
+use yp_stage::{FAIR, Row, try_reads, try_row, try_writes};
 use yp_tools::laws;
-
-const MATCH: [&str; 5] = ["match", "10.0.0.1:834", "lab", "hosts.byname", "alpha"];
-
-/// The reply to it, with number 1.
-const REPLY: &str = "80000030 00000001 00000001 00000000 00000000 00000000 00000000
-    00000001 0000000e 31302e30 2e302e31 20616c70 68610000";
-
-/// Reads of the wire, writes of the output and dials that fail, and what comes.
-#[derive(Clone, Copy)]
-struct Fault<'a> {
-    row: &'a str,
-    reads: &'a [u64],
-    writes: &'a [u64],
-    dials: &'a [u64],
-    code: u8,
-    output: &'a str,
-    note: &'a str,
-}
-
-const FAULTS: [Fault<'static>; 4] = [
-    Fault {
-        row: "no fault",
-        reads: &[],
-        writes: &[],
-        dials: &[],
-        code: 0,
-        output: "10.0.0.1 alpha\n",
-        note: "",
-    },
-    Fault {
-        row: "no read",
-        reads: &[0],
-        writes: &[],
-        dials: &[],
-        code: 3,
-        output: "",
-        note: "yp: read fault\n",
-    },
-    Fault {
-        row: "no write",
-        reads: &[],
-        writes: &[0],
-        dials: &[],
-        code: 4,
-        output: "",
-        note: "yp: write fault\n",
-    },
-    Fault {
-        row: "no dial",
-        reads: &[],
-        writes: &[],
-        dials: &[0],
-        code: 15,
-        output: "",
-        note: "yp: cannot dial\n",
-    },
-];
-
-#[test]
-fn one_failing_call(rt: HostRuntime) {
-    let alloc = rt.alloc();
-    let reply = bytes(&rt, alloc, &[REPLY]);
-    for fault in &FAULTS {
-        let scene = Scene {
-            wire: &reply,
-            wire_reads: fault.reads,
-            writes: fault.writes,
-            dials: fault.dials,
-            ..FAIR
-        };
-        let told = (fault.code, fault.output.as_bytes(), fault.note.as_bytes());
-        try_words(&rt, alloc, &MATCH, &scene, told, None, fault.row);
-    }
-}
-
-// ---- what a server of this product sends
-
-/// The words that serve two rows.
-const SERVER: [&str; 4] = [
-    "once",
-    "lab/hosts.byname",
-    "alpha=10.0.0.1 alpha",
-    "beta=10.0.0.2 beta",
-];
 
 /// ALL of a map, xid 1, up to the map, and a MATCH of hosts.byname, up to its key.
 const ALL: &str = "00000001 00000000 00000002 000186a4 00000002 00000008
@@ -118,89 +34,92 @@ const SECOND_MASTER: &str = "80000040 00000002 00000000 00000002 000186a4 000000
 const MAPLIST: &str = "80000030 00000001 00000000 00000002 000186a4 00000002 0000000b
     00000000 00000000 00000000 00000000 00000003 6c616200";
 
-/// A client command, the calls that it makes, and what comes of it where the server answers them.
-struct Answer<'a> {
-    words: &'a [&'a str],
-    calls: &'a [&'a str],
-    code: u8,
-    output: &'a str,
-    note: &'a str,
-}
+const CAT: Row = Row {
+    name: "cat",
+    words: &["cat", "10.0.0.1:834", "lab", "hosts.byname"],
+    server: &[
+        "once",
+        "lab/hosts.byname",
+        "alpha=10.0.0.1 alpha",
+        "beta=10.0.0.2 beta",
+    ],
+    wire: &["80000040", ALL, HOSTS],
+    output: "10.0.0.1 alpha\n10.0.0.2 beta\n",
+    wires: 1,
+    ..FAIR
+};
 
-const ANSWERS: [Answer<'static>; 8] = [
-    Answer {
-        words: &["cat", "10.0.0.1:834", "lab", "hosts.byname"],
-        calls: &["80000040", ALL, HOSTS],
-        code: 0,
-        output: "10.0.0.1 alpha\n10.0.0.2 beta\n",
-        note: "",
-    },
-    Answer {
+const POLL: Row = Row {
+    name: "poll",
+    words: &["poll", "10.0.0.1:834", "lab", "hosts.byname"],
+    wire: &[ORDER, SECOND_MASTER],
+    output: "order 1\nmaster once\n",
+    ..CAT
+};
+
+/// A client that makes two calls.
+static POLLS: [Row; 1] = [POLL];
+
+/// Clients that make one call.
+static CLIENTS: [Row; 6] = [
+    CAT,
+    Row {
+        name: "catk",
         words: &["catk", "10.0.0.1:834", "lab", "hosts.byname"],
-        calls: &["80000040", ALL, HOSTS],
-        code: 0,
         output: "alpha 10.0.0.1 alpha\nbeta 10.0.0.2 beta\n",
-        note: "",
+        ..CAT
     },
-    Answer {
-        words: &["cat", "10.0.0.1:834", "lab", "bare"],
-        calls: &["80000038", ALL, "00000004 62617265"],
-        code: 11,
-        output: "",
-        note: "yp: server says -1\n",
-    },
-    Answer {
-        words: &MATCH,
-        calls: &["8000004c", MATCH_IN, "00000005 616c7068 61000000"],
-        code: 0,
+    Row {
+        name: "match",
+        words: &["match", "10.0.0.1:834", "lab", "hosts.byname", "alpha"],
+        wire: &["8000004c", MATCH_IN, "00000005 616c7068 61000000"],
         output: "10.0.0.1 alpha\n",
-        note: "",
+        ..CAT
     },
-    Answer {
-        words: &["match", "10.0.0.1:834", "lab", "hosts.byname", "delta"],
-        calls: &["8000004c", MATCH_IN, "00000005 64656c74 61000000"],
-        code: 1,
-        output: "",
-        note: "",
-    },
-    Answer {
+    Row {
+        name: "which",
         words: &["which", "10.0.0.1:834", "lab", "hosts.byname"],
-        calls: &[MASTER],
-        code: 0,
+        wire: &[MASTER],
         output: "once\n",
-        note: "",
+        ..CAT
     },
-    Answer {
-        words: &["poll", "10.0.0.1:834", "lab", "hosts.byname"],
-        calls: &[ORDER, SECOND_MASTER],
-        code: 0,
-        output: "order 1\nmaster once\n",
-        note: "",
-    },
-    Answer {
+    Row {
+        name: "maps",
         words: &["maps", "10.0.0.1:834", "lab"],
-        calls: &[MAPLIST],
-        code: 0,
+        wire: &[MAPLIST],
         output: "hosts.byname\n",
-        note: "",
+        ..CAT
+    },
+    Row {
+        name: "innetgr",
+        words: &["innetgr", "10.0.0.1:834", "lab", "a", "*", "joe", "*"],
+        server: &["once", "lab/netgroup", "a=b", "b=a (-,joe,)"],
+        wire: &["8000003c", ALL, "00000008 6e657467 726f7570"],
+        output: "yes\n",
+        ..CAT
     },
 ];
 
-/// What the server sends for calls.
-fn served<R: Threads + Wait + RandomSource + Abort + Sync>(
-    rt: &R,
-    alloc: Global,
-    calls: &[&str],
-) -> Vec<u8> {
-    let input = bytes(rt, alloc, calls);
-    let words = strings(rt, alloc, &SERVER);
-    let scene = Scene {
-        input: &input,
-        ..FAIR
-    };
-    let (_status, outside) = play(rt, alloc, &words, &scene);
-    Vec::from_slice(alloc, outside.output.taken()).expect(rt, "memory")
-}
+/// What isn't there.
+static ABSENT: [Row; 2] = [
+    Row {
+        name: "cat of no such map",
+        words: &["cat", "10.0.0.1:834", "lab", "bare"],
+        wire: &["80000038", ALL, "00000004 62617265"],
+        code: 11,
+        output: "",
+        note: "yp: server says -1\n",
+        ..CAT
+    },
+    Row {
+        name: "match of no such key",
+        words: &["match", "10.0.0.1:834", "lab", "hosts.byname", "delta"],
+        wire: &["8000004c", MATCH_IN, "00000005 64656c74 61000000"],
+        code: 1,
+        output: "",
+        ..CAT
+    },
+];
 
 #[test]
 fn answers_of_a_server(rt: HostRuntime) {
@@ -214,17 +133,76 @@ fn answers_of_a_server(rt: HostRuntime) {
         MemTexts,
     >();
     let alloc = rt.alloc();
-    for answer in &ANSWERS {
-        let replies = served(&rt, alloc, answer.calls);
-        let scene = Scene {
-            wire: &replies,
-            ..FAIR
-        };
-        let told = (
-            answer.code,
-            answer.output.as_bytes(),
-            answer.note.as_bytes(),
-        );
-        try_words(&rt, alloc, answer.words, &scene, told, None, answer.output);
+    try_rows(&rt, alloc, &CLIENTS);
+    try_rows(&rt, alloc, &ABSENT);
+    try_rows(&rt, alloc, &POLLS);
+}
+
+/// Each call of the dial and the wire fails in turn: a call takes a write and a flush, its reply a read of the head and
+/// one of the body.
+fn try_wire<R: Threads + Wait + RandomSource + Abort + Sync>(
+    rt: &R,
+    alloc: Global,
+    client: &Row,
+    parts: u64,
+) {
+    let no_dial = Row {
+        dials: 0,
+        code: 15,
+        cut: 0,
+        note: "yp: cannot dial\n",
+        wires: 0,
+        ..*client
+    };
+    try_row(alloc, rt, &no_dial).expect(rt, client.name);
+    let no_read = Row {
+        code: 3,
+        cut: 0,
+        note: "yp: read fault\n",
+        ..*client
+    };
+    try_reads(alloc, rt, &no_read, parts).expect(rt, client.name);
+    let no_write = Row {
+        code: 4,
+        cut: 0,
+        note: "yp: write fault\n",
+        ..*client
+    };
+    try_writes(alloc, rt, &no_write, parts).expect(rt, client.name);
+}
+
+/// The text takes a write and a flush.
+fn try_output<R: Threads + Wait + RandomSource + Abort + Sync>(
+    rt: &R,
+    alloc: Global,
+    client: &Row,
+) {
+    let no_text = Row {
+        writes: 0,
+        code: 4,
+        cut: 0,
+        note: "yp: write fault\n",
+        ..*client
+    };
+    try_row(alloc, rt, &no_text).expect(rt, client.name);
+    let no_flush = Row {
+        writes: 1,
+        code: 4,
+        note: "yp: write fault\n",
+        ..*client
+    };
+    try_row(alloc, rt, &no_flush).expect(rt, client.name);
+}
+
+#[test]
+fn each_call_fails(rt: HostRuntime) {
+    let alloc = rt.alloc();
+    for client in &CLIENTS {
+        try_wire(&rt, alloc, client, 2);
+        try_output(&rt, alloc, client);
+    }
+    for client in &POLLS {
+        try_wire(&rt, alloc, client, 4);
+        try_output(&rt, alloc, client);
     }
 }

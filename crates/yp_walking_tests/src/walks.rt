@@ -1,15 +1,11 @@
 //! Walks over an inbox: what the network does, what is stored, and what fails.
 
+use crate::given::{try_disks, try_rows};
 use crate::source::{
     BROKEN_FILE, CALL_1, CALL_2, CALL_3, CALL_4, CALL_5, FOREIGN_1, HOSTS_FILE, LATER_5, NOMAP_1,
     REPLY_1, REPLY_2, REPLY_3, REPLY_4, REPLY_5, SECURE_FILE, TWICE_FILE,
 };
-use crate::stage::{Datagram, Row, try_crash, try_row};
-use std::alloc::Global;
-use std::process::Abort;
-use std::random::RandomSource;
-use std::sync::Wait;
-use std::thread::Threads;
+use yp_stage::{After, Datagram, DiskCalls, FAIR, QUIET, Row, Stands};
 
 /// A walk over eight turns, and the same over seven.
 const WORDS: &[&str] = &[
@@ -78,42 +74,28 @@ const FIRST_LINE: &str = "lab/hosts.byname order 100 generation 1\n";
 const INBOX_FAULT: &str = "yp: inbox fault\n";
 
 /// The replies in turn, and the calls that they answer.
-const REPLIES: &[Option<Datagram>] = &[
-    Some(REPLY_1),
-    Some(REPLY_2),
-    Some(REPLY_3),
-    Some(REPLY_4),
-    Some(REPLY_5),
-];
+const REPLIES: &[Datagram] = &[REPLY_1, REPLY_2, REPLY_3, REPLY_4, REPLY_5];
 
 const CALLS: &[Datagram] = &[CALL_1, CALL_2, CALL_3, CALL_4, CALL_5];
 
 /// Replies that come late and twice, and a quiet turn.
-const LATE: &[Option<Datagram>] = &[
-    Some(REPLY_1),
-    None,
-    Some(REPLY_1),
-    Some(REPLY_2),
-    Some(REPLY_3),
-    Some(REPLY_3),
-    Some(REPLY_4),
-    Some(REPLY_5),
+const LATE: &[Datagram] = &[
+    REPLY_1, QUIET, REPLY_1, REPLY_2, REPLY_3, REPLY_3, REPLY_4, REPLY_5,
 ];
+
+/// What is stored.
+const NEW: Stands = Some((100, 1, false));
 
 const WALKED: Row = Row {
     name: "late replies",
     words: WORDS,
     brings: LATE,
-    file: &[],
-    failing: &[],
-    disk: &[],
-    writes: &[],
-    code: 0,
     output: FIRST_LINE,
-    note: "",
     sends: &[CALL_1, CALL_2, CALL_2, CALL_3, CALL_4, CALL_5],
     turns: 8,
+    stands: NEW,
     left: HOSTS_FILE,
+    ..FAIR
 };
 
 const AT_ONCE: Row = Row {
@@ -124,7 +106,7 @@ const AT_ONCE: Row = Row {
     ..WALKED
 };
 
-const WALKS: [Row; 8] = [
+static WALKS: [Row; 8] = [
     WALKED,
     Row {
         name: "late replies, and one turn less",
@@ -134,52 +116,33 @@ const WALKS: [Row; 8] = [
         note: "yp: unanswered after 7 turns\n",
         sends: &[CALL_1, CALL_2, CALL_2, CALL_3, CALL_4],
         turns: 7,
+        stands: None,
         left: &[],
         ..WALKED
     },
     Row {
         name: "a source that changes",
         brings: &[
-            Some(REPLY_1),
-            None,
-            Some(REPLY_1),
-            Some(REPLY_2),
-            Some(REPLY_3),
-            Some(REPLY_3),
-            Some(REPLY_4),
-            Some(LATER_5),
+            REPLY_1, QUIET, REPLY_1, REPLY_2, REPLY_3, REPLY_3, REPLY_4, LATER_5,
         ],
         code: 16,
         output: "",
         note: "yp: transfer -10 100 101\n",
+        stands: None,
         left: &[],
         ..WALKED
     },
     AT_ONCE,
     Row {
         name: "a quiet first turn",
-        brings: &[
-            None,
-            Some(REPLY_1),
-            Some(REPLY_2),
-            Some(REPLY_3),
-            Some(REPLY_4),
-            Some(REPLY_5),
-        ],
+        brings: &[QUIET, REPLY_1, REPLY_2, REPLY_3, REPLY_4, REPLY_5],
         sends: &[CALL_1, CALL_1, CALL_2, CALL_3, CALL_4, CALL_5],
         turns: 6,
         ..WALKED
     },
     Row {
         name: "a mail of another port",
-        brings: &[
-            Some(FOREIGN_1),
-            Some(REPLY_1),
-            Some(REPLY_2),
-            Some(REPLY_3),
-            Some(REPLY_4),
-            Some(REPLY_5),
-        ],
+        brings: &[FOREIGN_1, REPLY_1, REPLY_2, REPLY_3, REPLY_4, REPLY_5],
         turns: 6,
         ..AT_ONCE
     },
@@ -192,6 +155,7 @@ const WALKS: [Row; 8] = [
         note: "yp: unanswered after 7 turns\n",
         sends: &[CALL_1, CALL_1, CALL_1, CALL_1, CALL_1, CALL_1, CALL_1],
         turns: 7,
+        stands: None,
         left: &[],
         ..WALKED
     },
@@ -203,16 +167,11 @@ const WALKS: [Row; 8] = [
         note: "yp: unanswered after 0 turns\n",
         sends: &[],
         turns: 0,
+        stands: None,
         left: &[],
         ..WALKED
     },
 ];
-
-fn try_rows<R: Threads + Wait + RandomSource + Abort + Sync>(rt: &R, alloc: Global, rows: &[Row]) {
-    for row in rows {
-        try_row(rt, alloc, row);
-    }
-}
 
 #[test]
 fn turns(rt: HostRuntime) {
@@ -220,7 +179,7 @@ fn turns(rt: HostRuntime) {
 }
 
 /// What is stored, by the mode, the flag and what stood.
-const STORED: [Row; 6] = [
+static STORED: [Row; 6] = [
     Row {
         name: "the same order",
         file: HOSTS_FILE,
@@ -251,6 +210,7 @@ const STORED: [Row; 6] = [
     Row {
         name: "secure",
         words: SECURE,
+        stands: Some((100, 1, true)),
         left: SECURE_FILE,
         ..AT_ONCE
     },
@@ -262,17 +222,19 @@ const STORED: [Row; 6] = [
         note: "yp: damaged lab/hosts.byname at 79 rule 5\n",
         sends: &[],
         turns: 0,
+        stands: None,
         left: BROKEN_FILE,
         ..AT_ONCE
     },
     Row {
         name: "no such map",
-        brings: &[Some(NOMAP_1)],
+        brings: &[NOMAP_1],
         code: 16,
         output: "",
         note: "yp: transfer -1\n",
         sends: &[CALL_1],
         turns: 1,
+        stands: None,
         left: &[],
         ..AT_ONCE
     },
@@ -285,42 +247,43 @@ fn stored(rt: HostRuntime) {
 
 const NO_INBOX: Row = Row {
     name: "call 0 of the inbox fails",
-    failing: &[0],
+    inbox: 0,
     code: 22,
     output: "",
     note: INBOX_FAULT,
     sends: &[],
     turns: 0,
+    stands: None,
     left: &[],
     ..AT_ONCE
 };
 
 /// Each call of the inbox fails in turn: a letter, a turn, a letter and so on.
-const FAILING: [Row; 5] = [
+static FAILING: [Row; 5] = [
     NO_INBOX,
     Row {
         name: "call 1 fails",
-        failing: &[1],
+        inbox: 1,
         sends: &[CALL_1],
         ..NO_INBOX
     },
     Row {
         name: "call 2 fails",
-        failing: &[2],
+        inbox: 2,
         sends: &[CALL_1],
         turns: 1,
         ..NO_INBOX
     },
     Row {
         name: "call 3 fails",
-        failing: &[3],
+        inbox: 3,
         sends: &[CALL_1, CALL_2],
         turns: 1,
         ..NO_INBOX
     },
     Row {
         name: "call 4 fails",
-        failing: &[4],
+        inbox: 4,
         sends: &[CALL_1, CALL_2],
         turns: 2,
         ..NO_INBOX
@@ -328,38 +291,38 @@ const FAILING: [Row; 5] = [
 ];
 
 /// The same of the later calls.
-const FAILING_LATE: [Row; 5] = [
+static FAILING_LATE: [Row; 5] = [
     Row {
         name: "call 5 fails",
-        failing: &[5],
+        inbox: 5,
         sends: &[CALL_1, CALL_2, CALL_3],
         turns: 2,
         ..NO_INBOX
     },
     Row {
         name: "call 6 fails",
-        failing: &[6],
+        inbox: 6,
         sends: &[CALL_1, CALL_2, CALL_3],
         turns: 3,
         ..NO_INBOX
     },
     Row {
         name: "call 7 fails",
-        failing: &[7],
+        inbox: 7,
         sends: &[CALL_1, CALL_2, CALL_3, CALL_4],
         turns: 3,
         ..NO_INBOX
     },
     Row {
         name: "call 8 fails",
-        failing: &[8],
+        inbox: 8,
         sends: &[CALL_1, CALL_2, CALL_3, CALL_4],
         turns: 4,
         ..NO_INBOX
     },
     Row {
         name: "call 9 fails",
-        failing: &[9],
+        inbox: 9,
         sends: CALLS,
         turns: 4,
         ..NO_INBOX
@@ -377,10 +340,10 @@ fn each_later_inbox_call_fails(rt: HostRuntime) {
 }
 
 /// The line takes a write and a flush; the version is stored before.
-const FAULTS: [Row; 2] = [
+static FAULTS: [Row; 2] = [
     Row {
         name: "the line isn't written",
-        writes: &[0],
+        writes: 0,
         code: 4,
         output: "",
         note: "yp: write fault\n",
@@ -388,7 +351,7 @@ const FAULTS: [Row; 2] = [
     },
     Row {
         name: "the line isn't flushed",
-        writes: &[1],
+        writes: 1,
         code: 4,
         note: "yp: write fault\n",
         ..AT_ONCE
@@ -400,10 +363,27 @@ fn output_fails(rt: HostRuntime) {
     try_rows(&rt, rt.alloc(), &FAULTS);
 }
 
-/// Calls of the disk that load the empty file, those that store the version on it but the last, and that.
-const LOADS: [&[u64]; 2] = [&[0], &[1]];
+/// The note of each of these isn't written.
+static NOTES: [Row; 2] = [
+    Row {
+        name: "no note of an inbox that fails",
+        notes: 0,
+        note: "",
+        ..NO_INBOX
+    },
+    Row {
+        name: "no note of a file that isn't loaded",
+        disk: 0,
+        notes: 0,
+        note: "",
+        ..NOT_LOADED
+    },
+];
 
-const STORES: [&[u64]; 8] = [&[2], &[3], &[4], &[5], &[6], &[7], &[8], &[9]];
+#[test]
+fn notes_fail(rt: HostRuntime) {
+    try_rows(&rt, rt.alloc(), &NOTES);
+}
 
 const NOT_LOADED: Row = Row {
     name: "the file isn't loaded",
@@ -412,6 +392,8 @@ const NOT_LOADED: Row = Row {
     note: "yp: disk fault in lab/hosts.byname\n",
     sends: &[],
     turns: 0,
+    stands: None,
+    left: &[],
     ..AT_ONCE
 };
 
@@ -420,42 +402,70 @@ const NOT_STORED: Row = Row {
     code: 16,
     output: "",
     note: "yp: transfer -9\n",
+    stands: None,
+    torn: true,
     ..AT_ONCE
 };
 
-/// The version is stored already.
-const SAME: Row = Row {
-    code: 16,
-    output: "",
-    note: "yp: transfer 2 100 100\n",
-    ..AT_ONCE
+/// The last call is the sync behind the write that shows the version.
+const NOT_SYNCED: Row = Row {
+    stands: NEW,
+    ..NOT_STORED
 };
+
+/// The same walk over a file without a version, and over one that has it.
+const WALKS_ANEW: After = After {
+    stands: None,
+    again: Row {
+        name: "behind a crash that lost the version",
+        torn: true,
+        ..AT_ONCE
+    },
+};
+
+const HAS_IT: After = After {
+    stands: NEW,
+    again: Row {
+        name: "behind a crash that kept the version",
+        code: 16,
+        output: "",
+        note: "yp: transfer 2 100 100\n",
+        sends: &[CALL_1],
+        turns: 1,
+        torn: true,
+        ..AT_ONCE
+    },
+};
+
+/// Two calls load the empty file, and nine store the version on it.
+static DISK: [DiskCalls; 4] = [
+    DiskCalls {
+        row: NOT_LOADED,
+        first: 0,
+        last: 1,
+        after: &[WALKS_ANEW],
+    },
+    DiskCalls {
+        row: NOT_STORED,
+        first: 2,
+        last: 9,
+        after: &[WALKS_ANEW],
+    },
+    DiskCalls {
+        row: NOT_SYNCED,
+        first: 10,
+        last: 10,
+        after: &[WALKS_ANEW, HAS_IT],
+    },
+    DiskCalls {
+        row: AT_ONCE,
+        first: 11,
+        last: 11,
+        after: &[HAS_IT],
+    },
+];
 
 #[test]
 fn each_call_of_the_disk_fails(rt: HostRuntime) {
-    let alloc = rt.alloc();
-    for disk in &LOADS {
-        let row = Row {
-            disk: *disk,
-            ..NOT_LOADED
-        };
-        try_crash(&rt, alloc, &row, &[&AT_ONCE]);
-    }
-    for disk in &STORES {
-        let row = Row {
-            disk: *disk,
-            ..NOT_STORED
-        };
-        try_crash(&rt, alloc, &row, &[&AT_ONCE]);
-    }
-    let last = Row {
-        disk: &[10],
-        ..NOT_STORED
-    };
-    try_crash(&rt, alloc, &last, &[&AT_ONCE, &SAME]);
-    let none = Row {
-        disk: &[11],
-        ..AT_ONCE
-    };
-    try_crash(&rt, alloc, &none, &[&SAME]);
+    try_disks(&rt, rt.alloc(), &DISK);
 }

@@ -1,0 +1,14 @@
+//! What the tests of commands share: rows of tables, and runs of `yp_tools::run` over memory by which a row is tried.
+//! No program stands on it, and it ends no process: what is wrong is handed to the test.
+#![tactic(auto)]
+
+mod ended;
+mod outside;
+mod row;
+mod stage;
+
+pub use row::{After, Datagram, DiskCalls, FAIR, NEVER, QUIET, Row, Stands, Words};
+pub use stage::{
+    Wrong, strings_of, try_alone, try_crash, try_disk, try_made, try_reads, try_row, try_stops,
+    try_writes,
+};

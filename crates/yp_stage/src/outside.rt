@@ -1,0 +1,184 @@
+//! The outside of a row, over memory.
+
+ghost use Rattle.std.specs.Prelude.{◌≡◌, All, IfOk};
+ghost use Rattle.yp_io.specs.MemDial.{IsNew};
+ghost use Rattle.yp_listen.specs.MemListen.{calls_of};
+ghost use Rattle.yp_worker.specs.Receptions.{IsFair};
+ghost use Rattle.yp_words.specs.Words.{disk_names, texts};
+ghost use Rattle.yp_office.specs.Disks.{names_of};
+
+use crate::row::{Datagram, NEVER, Row};
+use std::alloc::{AllocError, Global};
+use yp_board::MapName;
+use yp_io::{
+    Letter, MemDial, MemDisk, MemSink, MemSource, MemTexts, MemWire, Pair, SetClock, TextFile,
+};
+use yp_listen::MemListen;
+use yp_mem::MemInbox;
+use yp_tools::{NamedDisk, Outside, disk_names, named_disks};
+
+/// The outside in memory.
+pub type Memory = Outside<
+    MemSource,
+    MemSink,
+    MemDisk,
+    SetClock,
+    MemListen,
+    MemDial,
+    MemInbox,
+    MemTexts,
+>;
+
+/// The bytes of texts of hexadecimal words.
+pub fn bytes_of(alloc: Global, words: &[&str]) -> Result<Vec<u8>, AllocError> {
+    match yp_for_tests::bytes(alloc, words) {
+        Some(bytes) => Ok(bytes),
+        None => Err(AllocError),
+    }
+}
+
+/// A list of one call.
+fn plan(alloc: Global, call: u64) -> Result<Vec<u64>, AllocError> {
+    Vec::from_slice(alloc, &[call])
+}
+
+fn source_of(alloc: Global, input: &[u8], row: &Row) -> Result<MemSource, AllocError> {
+    let failing = plan(alloc, row.reads)?;
+    let input = Vec::from_slice(alloc, input)?;
+    Ok(MemSource::new(input, row.read.max(1), failing))
+}
+
+fn sink_of(alloc: Global, piece: usize, call: u64) -> Result<MemSink, AllocError> {
+    let failing = plan(alloc, call)?;
+    Ok(MemSink::new(alloc, piece.max(1), failing))
+}
+
+/// The disk of a map.
+fn disk_of(alloc: Global, map: &[u8], row: &Row, file: &[u8]) -> Result<MemDisk, AllocError> {
+    if map == b"netgroup".as_slice() || map == b"ypservers".as_slice() {
+        let failing = plan(alloc, row.other_disk)?;
+        let bytes = bytes_of(alloc, row.other)?;
+        return Ok(MemDisk::new(alloc, bytes, None, failing));
+    }
+    let failing = plan(alloc, row.disk)?;
+    let bytes = Vec::from_slice(alloc, file)?;
+    Ok(MemDisk::new(alloc, bytes, Some(row.stop), failing))
+}
+
+/// The disks that the words name.
+fn disks_of(
+    alloc: Global,
+    words: &[String],
+    row: &Row,
+    file: &[u8],
+) -> Result<Vec<NamedDisk<MemDisk>>, AllocError>
+    ensures { IfOk result (λ disks. names_of disks.items ≡ disk_names (texts words.now)) }
+{
+    let Ok(names) = disk_names(alloc, words) else {
+        return Err(AllocError);
+    };
+    let make = |name: &MapName| disk_of(alloc, &name.map, row, file);
+    named_disks(alloc, names, make)
+}
+
+fn wire_of(
+    alloc: Global,
+    input: &[u8],
+    piece: usize,
+    reads: u64,
+    writes: u64,
+) -> Result<MemWire, AllocError>
+    ensures { IfOk result IsNew }
+{
+    let reads = plan(alloc, reads)?;
+    let writes = plan(alloc, writes)?;
+    let input = Vec::from_slice(alloc, input)?;
+    Ok(Pair {
+        source: MemSource::new(input, piece.max(1), reads),
+        sink: MemSink::new(alloc, piece.max(1), writes),
+    })
+}
+
+/// The wires that come.
+fn wires_of(alloc: Global, row: &Row, wire: &[u8]) -> Result<Vec<MemWire>, AllocError>
+    ensures { IfOk result (λ wires. All IsNew wires.items) }
+{
+    let first = wire_of(alloc, wire, row.piece, row.wire_reads, row.wire_writes)?;
+    let second = bytes_of(alloc, row.second_wire)?;
+    let second = wire_of(alloc, &second, row.piece, NEVER, NEVER)?;
+    Ok(vec![in alloc; first, second]?)
+}
+
+fn dial_of(alloc: Global, row: &Row, wire: &[u8]) -> Result<MemDial, AllocError> {
+    let failing = plan(alloc, row.dials)?;
+    let wires = wires_of(alloc, row, wire)?;
+    Ok(MemDial::new(alloc, wires, failing))
+}
+
+/// What a turn brings.
+fn turn_of(alloc: Global, datagram: &Datagram) -> Result<Option<Letter>, AllocError> {
+    if datagram.bytes.is_empty() {
+        return Ok(None);
+    }
+    Ok(Some(Letter {
+        peer: datagram.peer,
+        bytes: bytes_of(alloc, datagram.bytes)?,
+    }))
+}
+
+fn inbox_of(alloc: Global, row: &Row) -> Result<MemInbox, AllocError> {
+    let failing = plan(alloc, row.inbox)?;
+    let mut mail = Vec::new(alloc);
+    for datagram in row.brings {
+        let turn = turn_of(alloc, datagram)?;
+        mail.push(turn)?;
+    }
+    Ok(MemInbox::new(alloc, mail, failing))
+}
+
+/// The texts that maps are made of.
+fn texts_of(alloc: Global, row: &Row) -> Result<MemTexts, AllocError> {
+    let failing = plan(alloc, row.texts)?;
+    let hosts = Vec::from_slice(alloc, row.hosts.as_bytes())?;
+    let texts = vec![in alloc; (TextFile::Hosts, hosts)]?;
+    Ok(MemTexts::new(texts, failing))
+}
+
+/// A listener that nobody calls.
+fn nobody(alloc: Global) -> MemListen
+    ensures { IsFair (calls_of result) }
+{
+    MemListen::new(alloc, Vec::new(alloc), 0, Vec::new(alloc))
+}
+
+/// The outside of a row, with this input, this file of the map, and a first wire that gives these bytes.
+pub fn memory_of(
+    alloc: Global,
+    row: &Row,
+    words: &[String],
+    input: &[u8],
+    file: &[u8],
+    wire: &[u8],
+) -> Result<Memory, AllocError>
+    ensures disks { IfOk result (λ outside. names_of outside.disks.items ≡ disk_names (texts words.now)) }
+    ensures fair { IfOk result (λ outside. IsFair (calls_of outside.listen)) }
+{
+    let input = source_of(alloc, input, row)?;
+    let output = sink_of(alloc, row.write, row.writes)?;
+    let notes = sink_of(alloc, 4_096, row.notes)?;
+    let texts = texts_of(alloc, row)?;
+    let inbox = inbox_of(alloc, row)?;
+    let dial = dial_of(alloc, row, wire)?;
+    let disks = disks_of(alloc, words, row, file)?;
+    Ok(Outside {
+        input,
+        output,
+        notes,
+        disks,
+        clock: SetClock { moment: row.moment },
+        listen: nobody(alloc),
+        dial,
+        inbox,
+        texts,
+    })
+}
