@@ -2,3 +2,4 @@ pub mod Desks
 pub mod Outcomes
 pub mod Makings
 pub mod Workers
+pub mod Charges
