@@ -2,3 +2,4 @@ mod Reasons
 mod Causing
 mod Learning
 mod Hosting
+mod Charging
