@@ -7,7 +7,9 @@ ghost use Rattle.yp_board.specs.Views.{IsFront};
 ghost use Rattle.yp_workhost.specs.Desks.{IsSupplied};
 ghost use Rattle.yp_worker.specs.Receptions.{IsFair, IsKept, opening_of, terms_of};
 ghost use Rattle.yp_turns.specs.Turns.{box_of};
+ghost use Rattle.yp_shared.specs.Failures.{disks_of, faults_over};
 ghost use Rattle.yp_serve.specs.Serving.{conduct_at, IsAtStart, Leaves, ServesDatagrams};
+ghost use Rattle.yp_serve.specs.Counting.{count_totals, CountsAll, FilesAreCovered};
 
 use crate::lent::{Lent, Staff, refuse, take_apart};
 use crate::mail::Mailbag;
@@ -25,9 +27,9 @@ use yp_listen::Listen;
 use yp_publish::Publisher;
 use yp_server::Desk;
 use yp_session::CALLS_MAX;
-use yp_shared::Locked;
+use yp_shared::{Accounts, Failures, Locked};
 use yp_worker::{Gate, Reception};
-use yp_workhost::{SharedDesk, Supplies};
+use yp_workhost::{Charges, SharedDesk, Supplies, Unread};
 
 /// Serves the connections of a listener and the datagrams of an inbox, over maps and a desk that all workers share:
 /// connections until as many were accepted as are to be or an accept has failed, datagrams until all turns are taken or
@@ -94,6 +96,16 @@ where
     ensures grown { IfOk result (λ served. IsFront (B.log publisher.board) (B.log served.writer)) }
     ensures desk { IfOk result (λ served. IsSupplied T.Texts (T.text desk.texts) desk.hosts served.desk) }
 
+    // What all workers counted, and that so many FILEs are covered by the faults of the texts and of the disks.
+    ensures counted { IfOk result (λ served. CountsAll
+        (conduct_at B.Reader.seen B.Reader.stepped (T.text desk.texts) desk.hosts) count_totals
+        (terms_of publisher.catalogue (B.log publisher.board) spec.now.most) (L.past listen) (L.past served.listen)
+        (B.log served.writer) spec.now.turns served.inbox_fault
+        (box_of I.past I.turns I.quiets inbox) (box_of I.past I.turns I.quiets served.inbox) served.totals) }
+    ensures files { IfOk result (λ served. FilesAreCovered D.history D.faults
+        (T.faults desk.texts) (T.faults served.desk.texts)
+        (disks_of publisher.maps) served.disks.items served.totals) }
+
     // Want of memory, before a connection was accepted or a turn was taken.
     ensures refused { IfErr result (λ refused. (refused.desk ≡ desk) × (refused.listen ≡ listen)
         × (refused.inbox ≡ inbox)) }
@@ -119,6 +131,8 @@ where
         gate,
         Blank::new(parts),
         Blank::new(parts),
+        Blank::new(parts + 2),
+        Blank::new(parts + 2),
     )
 }
 
@@ -132,9 +146,11 @@ fn under_locks<J, E, D, B, A, T, C, L, I, G, R>(
     gate: &G,
     out: Blank,
     ended: Blank,
+    unread: Blank,
+    failures: Blank,
 ) -> Result<Served<D, B, A, T, C, L, I>, ServeRefused<D, A, T, C, L, I>>
 where
-    J: Reception + Supplies + Send + Sync,
+    J: Reception + Accounts + Supplies + Send + Sync,
     E: Ledger + Send + Sync,
     D: Disk + Send + Drop,
     B: Tell + Send + Drop,
@@ -163,6 +179,11 @@ where
     requires out { (out.name ≡ J.name) × (out.parts ≡ J.parts) × (out.parts ≡ length staff.sessions.items + 1) }
     requires ended { (ended.name ≡ E.name) × (ended.parts ≡ E.parts)
         × (ended.parts ≡ length staff.sessions.items + 1) }
+    requires unread { (unread.name ≡ J.unread) × (unread.parts ≡ J.shares)
+        × (unread.parts ≡ length staff.sessions.items + 3) }
+    requires failures { (failures.name ≡ J.failures) × (failures.parts ≡ J.shares) }
+    requires texts { T.faults lent.desk.texts ≡ J.text_faults }
+    requires disks { faults_over D.faults (disks_of lent.publisher.maps) ≡ J.disk_faults }
     ensures served { IfOk result (λ served. IsKept
         (conduct_at B.Reader.seen B.Reader.stepped J.text J.hosts) (terms_of J.catalogue J.starts J.most) J.opening
         (opening_of L.past L.most L.accepted L.faults served.listen)
@@ -176,6 +197,14 @@ where
     ensures maps { IfOk result (λ served. Leaves D.history J.catalogue (B.log served.writer) served.disks.items) }
     ensures grown { IfOk result (λ served. IsFront J.starts (B.log served.writer)) }
     ensures desk { IfOk result (λ served. IsSupplied T.Texts J.text J.hosts served.desk) }
+    ensures counted { IfOk result (λ served. CountsAll
+        (conduct_at B.Reader.seen B.Reader.stepped J.text J.hosts) count_totals
+        (terms_of J.catalogue J.starts J.most) J.opening.past (L.past served.listen)
+        (B.log served.writer) spec.now.turns served.inbox_fault
+        (box_of I.past I.turns I.quiets lent.inbox) (box_of I.past I.turns I.quiets served.inbox) served.totals) }
+    ensures files { IfOk result (λ served. FilesAreCovered D.history D.faults
+        (T.faults lent.desk.texts) (T.faults served.desk.texts)
+        (disks_of lent.publisher.maps) served.disks.items served.totals) }
     ensures refused { IfErr result (λ refused. (refused.desk ≡ lent.desk) × (refused.listen ≡ lent.listen)
         × (refused.inbox ≡ lent.inbox)) }
     ensures stand { IfErr result (λ refused. Leaves D.history J.catalogue J.starts refused.disks.items) }
@@ -189,8 +218,10 @@ where
         spare,
         room,
     } = staff;
-    let publisher = Mutex::new(Locked::<J, D, B>::new(lent.publisher));
-    let desk = Mutex::new(SharedDesk::<J, A, T, C>::new(lent.desk));
+    let (unread, own_unread) = unread.open::<Unread<J>>();
+    let (failures, own_failures) = failures.open::<Failures<J>>();
+    let publisher = Mutex::new(Locked::<J, D, B>::new(lent.publisher, failures));
+    let desk = Mutex::new(SharedDesk::<J, A, T, C>::new(lent.desk, unread));
     let place = Workplace {
         alloc,
         rt,
@@ -205,17 +236,20 @@ where
         reader: spare,
         room,
     };
-    let (listen, tally, mailed) = place.serve::<E, L, I>(
+    let (listen, tally, mailed, account) = place.serve::<E, L, I>(
         posts,
         sessions,
         readers,
         lent.listen,
         out,
         ended,
+        Charges::new(own_unread, own_failures),
         bag,
     );
-    let desk = desk.into_inner().into_desk();
-    let (disks, writer) = take_apart(publisher.into_inner(), mailed.reader);
+    let (totals, charges) = account.into_parts();
+    let (mut unread, mut failures) = charges.into_shares();
+    let desk = desk.into_inner().close(&mut unread);
+    let (disks, writer) = take_apart(publisher.into_inner(), mailed.reader, &mut failures);
     Ok(Served {
         disks,
         desk,
@@ -223,6 +257,7 @@ where
         inbox: mailed.inbox,
         writer,
         tally,
+        totals,
         inbox_fault: mailed.fault,
     })
 }
