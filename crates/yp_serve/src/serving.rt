@@ -9,6 +9,7 @@ ghost use Rattle.yp_worker.specs.Receptions.{IsFair, IsKept, opening_of, terms_o
 ghost use Rattle.yp_turns.specs.Turns.{box_of};
 ghost use Rattle.yp_shared.specs.Failures.{disks_of, faults_over};
 ghost use Rattle.yp_serve.specs.Serving.{conduct_at, IsAtStart, Leaves, ServesDatagrams};
+ghost use Rattle.yp_workhost.specs.Wires.{CoversOrders};
 ghost use Rattle.yp_serve.specs.Counting.{count_totals, CountsAll, FilesAreCovered};
 
 use crate::lent::{Lent, Staff, refuse, take_apart};
@@ -29,7 +30,7 @@ use yp_server::Desk;
 use yp_session::CALLS_MAX;
 use yp_shared::{Accounts, Failures, Locked};
 use yp_worker::{Gate, Reception};
-use yp_workhost::{Charges, SharedDesk, Supplies, Unread};
+use yp_workhost::{Charges, Orders, SharedDesk, Supplies, Unread};
 
 /// Serves the connections of a listener and the datagrams of an inbox, over maps and a desk that all workers share:
 /// connections until as many were accepted as are to be or an accept has failed, datagrams until all turns are taken or
@@ -96,7 +97,8 @@ where
     ensures grown { IfOk result (λ served. IsFront (B.log publisher.board) (B.log served.writer)) }
     ensures desk { IfOk result (λ served. IsSupplied T.Texts (T.text desk.texts) desk.hosts served.desk) }
 
-    // What all workers counted, and that so many FILEs are covered by the faults of the texts and of the disks.
+    // What all workers counted, and that so many FILEs are covered by the faults of the texts and of the disks, and so
+    // many orders that were reached by the wires that begin with one.
     ensures counted { IfOk result (λ served. CountsAll
         (conduct_at B.Reader.seen B.Reader.stepped (T.text desk.texts) desk.hosts) count_totals
         (terms_of publisher.catalogue (B.log publisher.board) spec.now.most) (L.past listen) (L.past served.listen)
@@ -105,6 +107,8 @@ where
     ensures files { IfOk result (λ served. FilesAreCovered D.history D.faults
         (T.faults desk.texts) (T.faults served.desk.texts)
         (disks_of publisher.maps) served.disks.items served.totals) }
+    ensures orders { IfOk result (λ served. CoversOrders (A.past desk.dial) (A.past served.desk.dial)
+        served.totals.outcomes.reached) }
 
     // Want of memory, before a connection was accepted or a turn was taken.
     ensures refused { IfErr result (λ refused. (refused.desk ≡ desk) × (refused.listen ≡ listen)
@@ -133,6 +137,7 @@ where
         Blank::new(parts),
         Blank::new(parts + 2),
         Blank::new(parts + 2),
+        Blank::new(parts + 2),
     )
 }
 
@@ -148,6 +153,7 @@ fn under_locks<J, E, D, B, A, T, C, L, I, G, R>(
     ended: Blank,
     unread: Blank,
     failures: Blank,
+    orders: Blank,
 ) -> Result<Served<D, B, A, T, C, L, I>, ServeRefused<D, A, T, C, L, I>>
 where
     J: Reception + Accounts + Supplies + Send + Sync,
@@ -182,7 +188,9 @@ where
     requires unread { (unread.name ≡ J.unread) × (unread.parts ≡ J.shares)
         × (unread.parts ≡ length staff.sessions.items + 3) }
     requires failures { (failures.name ≡ J.failures) × (failures.parts ≡ J.shares) }
+    requires orders { (orders.name ≡ J.orders) × (orders.parts ≡ J.shares) }
     requires texts { T.faults lent.desk.texts ≡ J.text_faults }
+    requires wires { A.past lent.desk.dial ≡ J.wires }
     requires disks { faults_over D.faults (disks_of lent.publisher.maps) ≡ J.disk_faults }
     ensures served { IfOk result (λ served. IsKept
         (conduct_at B.Reader.seen B.Reader.stepped J.text J.hosts) (terms_of J.catalogue J.starts J.most) J.opening
@@ -205,6 +213,8 @@ where
     ensures files { IfOk result (λ served. FilesAreCovered D.history D.faults
         (T.faults lent.desk.texts) (T.faults served.desk.texts)
         (disks_of lent.publisher.maps) served.disks.items served.totals) }
+    ensures orders { IfOk result (λ served. CoversOrders J.wires (A.past served.desk.dial)
+        served.totals.outcomes.reached) }
     ensures refused { IfErr result (λ refused. (refused.desk ≡ lent.desk) × (refused.listen ≡ lent.listen)
         × (refused.inbox ≡ lent.inbox)) }
     ensures stand { IfErr result (λ refused. Leaves D.history J.catalogue J.starts refused.disks.items) }
@@ -220,8 +230,11 @@ where
     } = staff;
     let (unread, own_unread) = unread.open::<Unread<J>>();
     let (failures, own_failures) = failures.open::<Failures<J>>();
+    let (orders, own_orders) = orders.open::<Orders<J>>();
     let publisher = Mutex::new(Locked::<J, D, B>::new(lent.publisher, failures));
-    let desk = Mutex::new(SharedDesk::<J, A, T, C>::new(lent.desk, unread));
+    let desk = Mutex::new(SharedDesk::<J, A, T, C>::new(
+        lent.desk, unread, orders,
+    ));
     let place = Workplace {
         alloc,
         rt,
@@ -243,12 +256,12 @@ where
         lent.listen,
         out,
         ended,
-        Charges::new(own_unread, own_failures),
+        Charges::new(own_unread, own_failures, own_orders),
         bag,
     );
     let (totals, charges) = account.into_parts();
-    let (mut unread, mut failures) = charges.into_shares();
-    let desk = desk.into_inner().close(&mut unread);
+    let (mut unread, mut failures, mut reached) = charges.into_shares();
+    let desk = desk.into_inner().close(&mut unread, &mut reached);
     let (disks, writer) = take_apart(publisher.into_inner(), mailed.reader, &mut failures);
     Ok(Served {
         disks,

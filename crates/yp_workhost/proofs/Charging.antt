@@ -7,13 +7,17 @@ use Rattle.yp_shared.specs.declared.locked.ShareFault.{ShareFault}
 use Rattle.yp_shared.specs.declared.locked.ShareFault.TheVariants.{Shut, Unfit, Untold}
 use Rattle.yp_shared.specs.Failures.{failures_in}
 use Rattle.yp_workhost.specs.Outcomes.{shared_stat}
-use Rattle.yp_workhost.specs.Charges.{Charged, ChargesMore, files_in}
+use Rattle.yp_workhost.specs.Charges.{Charged, ChargesMore, files_in, orders_at}
+use Rattle.yp_workhost.specs.declared.outcome.Group.{Group}
+use Rattle.yp_workhost.specs.declared.outcome.Group.TheVariants.{NoAddress, NoMemory, File, Source, Reached}
 
 -- one thing after another
-pub charged_then : (more : ℕ) (a b c : Charged) → ChargesMore 0 a b → ChargesMore more b c → ChargesMore more a c
-charged_then more a b c first second = record {
+pub charged_then : (files orders : ℕ) (a b c : Charged) → ChargesMore 0 0 a b → ChargesMore files orders b c
+    → ChargesMore files orders a c
+charged_then files orders a b c first second = record {
   parts = second.parts ∙ first.parts;
-  charged = let one = first.charged in let other = second.charged in omega (arith, one, other);
+  files_are = let one = first.files_are in let other = second.files_are in omega (arith, one, other);
+  orders_are = let one = first.orders_are in let other = second.orders_are in omega (arith, one, other);
 }
 
 -- a version that isn't installed is FILE where its file failed
@@ -30,17 +34,27 @@ files_are_failures (Unfit fault.GenerationsSpent) = refl
 files_are_failures (Unfit fault.DiskFault) = refl
 
 -- of a version that was built, and then isn't installed
-pub charged_so : (why : ShareFault) (stat : XfrStat) (old built : Charged) (parts unread failures failed : ℕ)
+pub charged_so : (why : ShareFault) (stat : XfrStat) (old built : Charged) (parts unread failures orders failed : ℕ)
     → built ≡ record old { unread = old.unread + 0 }
-    → record { parts = parts; unread = unread; failures = failures } ≡ built
+    → record { parts = parts; unread = unread; failures = failures; orders = orders } ≡ built
     → failures + failures_in why ≤ failed → stat ≡ shared_stat why
-    → ChargesMore (files_in stat) old (record { parts = parts; unread = unread; failures = failed })
-charged_so why stat old built parts unread failures failed is inside more told =
+    → ChargesMore (files_in stat) 0 old (record { parts = parts; unread = unread; failures = failed; orders = orders })
+charged_so why stat old built parts unread failures orders failed is inside more told =
     let one = files_are_failures why in
     let count : files_in stat ≡ failures_in why = ap files_in told ∙ one in
-    let found : record { parts = parts; unread = unread; failures = failures } ≡ record old { unread = old.unread + 0 } = inside ∙ is in
+    let found : record { parts = parts; unread = unread; failures = failures; orders = orders } ≡ record old { unread = old.unread + 0 } = inside ∙ is in
     let texts : unread ≡ old.unread + 0 = ap (λ (c : Charged). c.unread) found in
-    let files : failures ≡ old.failures = ap (λ (c : Charged). c.failures) found in record {
+    let files : failures ≡ old.failures = ap (λ (c : Charged). c.failures) found in
+    let reached : orders ≡ old.orders = ap (λ (c : Charged). c.orders) found in record {
       parts = ap (λ (c : Charged). c.parts) found;
-      charged = omega (arith, count, texts, files, more);
+      files_are = omega (arith, count, texts, files, more);
+      orders_are = omega (arith, reached);
     }
+
+-- a version that was fetched, and what came of it
+pub at_most_one : (group : Group) → orders_at group ≤ 1
+at_most_one NoAddress = omega arith
+at_most_one NoMemory = omega arith
+at_most_one File = omega arith
+at_most_one Source = omega arith
+at_most_one Reached = omega arith

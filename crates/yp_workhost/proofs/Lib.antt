@@ -3,3 +3,4 @@ mod Causing
 mod Learning
 mod Hosting
 mod Charging
+mod Dialing

@@ -4,7 +4,7 @@ use Rattle.yp_io.specs.Counts.{last_count}
 use Rattle.yp_msgs.specs.declared.transfer.XfrStat.{XfrStat}
 use Rattle.yp_msgs.specs.declared.transfer.XfrStat.TheVariants as stats
 use Rattle.yp_workhost.specs.declared.outcome.Group.{Group}
-use Rattle.yp_workhost.specs.declared.outcome.Group.TheVariants.{File}
+use Rattle.yp_workhost.specs.declared.outcome.Group.TheVariants.{File, Reached}
 use Rattle.yp_workhost.specs.declared.outcome.Outcomes.{Outcomes}
 use Rattle.yp_workhost.specs.declared.outcome.Totals.{Totals}
 use Rattle.yp_workhost.specs.Workers.{Worker}
@@ -43,31 +43,35 @@ totals_of worker = record { files = worker.files; transfers = worker.transfers; 
 
 -- ---- what that is charged with
 
--- what a worker is charged with: so many texts that weren't read, and so many files that failed. It has so many parts
--- of the right to be charged.
+-- what a worker is charged with: so many texts that weren't read, files that failed, and orders that were reached. It
+-- has so many parts of the right to be charged.
 pub record Charged : Type 0 where
   pub parts : ℕ
   pub unread : ℕ
   pub failures : ℕ
+  pub orders : ℕ
 
 abbrev pub free_of_charge : ℕ → Charged
-free_of_charge parts = record { parts = parts; unread = 0; failures = 0 }
+free_of_charge parts = record { parts = parts; unread = 0; failures = 0; orders = 0 }
 
 abbrev pub charged_both : Charged → Charged → Charged
 charged_both one other = record {
   parts = one.parts + other.parts;
   unread = one.unread + other.unread;
   failures = one.failures + other.failures;
+  orders = one.orders + other.orders;
 }
 
--- As many makes and transfers as ended in FILE are charged.
-abbrev pub IsCharged : Totals → Charged → Type 0
-IsCharged totals charged = totals.files + totals.outcomes.file ≤ charged.unread + charged.failures
+-- As many makes and transfers as ended in FILE are charged, and as many transfers as reached an order.
+pub record IsCharged (totals : Totals) (charged : Charged) : Type 0 where
+  pub files : totals.files + totals.outcomes.file ≤ charged.unread + charged.failures
+  pub orders : totals.outcomes.reached ≤ charged.orders
 
 -- So many more are charged.
-pub record ChargesMore (more : ℕ) (old new : Charged) : Type 0 where
+pub record ChargesMore (files orders : ℕ) (old new : Charged) : Type 0 where
   pub parts : new.parts ≡ old.parts
-  pub charged : old.unread + old.failures + more ≤ new.unread + new.failures
+  pub files_are : old.unread + old.failures + files ≤ new.unread + new.failures
+  pub orders_are : old.orders + orders ≤ new.orders
 
 -- how many failures a status stands for, and what a transfer came to
 abbrev pub files_in : XfrStat → ℕ
@@ -77,6 +81,11 @@ files_in _ = 0
 abbrev pub files_at : Group → ℕ
 files_at File = 1
 files_at _ = 0
+
+-- how many orders were reached by a transfer that came to this
+abbrev pub orders_at : Group → ℕ
+orders_at Reached = 1
+orders_at _ = 0
 
 -- how many texts weren't read, where no version was built
 abbrev pub unread_in : {T : Type 0} → Result T XfrStat → ℕ

@@ -3,3 +3,4 @@ pub mod Outcomes
 pub mod Makings
 pub mod Workers
 pub mod Charges
+pub mod Wires

@@ -1,10 +1,11 @@
 //! A transfer that a worker carries out.
 
-ghost use Rattle.std.specs.Prelude.{◌≡◌, ◌≢◌, ◌<◌, length, option_map, IsSome};
+ghost use Rattle.std.specs.Prelude.{◌≡◌, ◌≢◌, ◌<◌, ◌≤◌, length, option_map, Err, IsSome};
 ghost use Rattle.yp_answer.specs.Transfer.{taken_view};
 ghost use Rattle.yp_shared.specs.Shares.{Learns};
 ghost use Rattle.yp_workhost.specs.Workers.{IsCarriedTo, IsInstalledTo};
-ghost use Rattle.yp_workhost.specs.Charges.{ChargesMore, files_at};
+ghost use Rattle.yp_workhost.specs.Charges.{ChargesMore, files_at, orders_at};
+ghost use Rattle.yp_workhost.specs.Wires.{orders_in};
 
 use crate::charges::Charges;
 use crate::desk::{SharedDesk, Supplies};
@@ -46,7 +47,7 @@ where
     ensures outcome { IsCarriedTo S.catalogue.own S.hosts (taken_view errand.now) result
         (B.Reader.seen reader.old).known (B.Reader.seen reader.new).known }
     ensures learned { Learns (B.Reader.seen reader.old) (B.Reader.seen reader.new) }
-    ensures charged { ChargesMore (files_at result) charges.old charges.new }
+    ensures charged { ChargesMore (files_at result) (orders_at result) charges.old charges.new }
 {
     let (group, stat) = fetch_and_install(alloc, rt, publisher, desk, reader, charges, errand);
     let addr = peer.addr;
@@ -83,11 +84,13 @@ where
     ensures outcome { IsCarriedTo S.catalogue.own S.hosts (taken_view errand.now) result.0
         (B.Reader.seen reader.old).known (B.Reader.seen reader.new).known }
     ensures learned { Learns (B.Reader.seen reader.old) (B.Reader.seen reader.new) }
-    ensures charged { ChargesMore (files_at result.0) charges.old charges.new }
+    ensures charged { ChargesMore (files_at result.0) (orders_at result.0) charges.old charges.new }
 {
     let name = reader.catalog().name(errand.map);
     let shown = order_of(reader.held(errand.map));
-    let fetched = desk.lock(rt).fetch(alloc, rt, errand.source, name, shown);
+    let fetched = desk
+        .lock(rt)
+        .fetch(alloc, rt, errand.source, name, shown, charges);
     match fetched {
         None => (Group::NoAddress, XfrStat::Maddr),
         Some(Err(fault)) => (failed_group(&fault, shown), fault.stat()),
@@ -109,6 +112,7 @@ fn failed_group(fault: &XfrFault, shown: Option<u32>) -> Group
     ensures addressed { result ≢ Group.NoAddress }
     ensures shown { result ≡ Group.Reached → IsSome shown }
     ensures no_file { files_at result ≡ 0 }
+    ensures orders { orders_at result ≤ orders_in (Err fault.now) }
 {
     match fault {
         XfrFault::NoMemory => Group::NoMemory,
@@ -136,7 +140,7 @@ where
     ensures outcome { IsInstalledTo S.catalogue.own map result.0
         (B.Reader.seen reader.old).known (B.Reader.seen reader.new).known }
     ensures learned { Learns (B.Reader.seen reader.old) (B.Reader.seen reader.new) }
-    ensures charged { ChargesMore (files_at result.0) charges.old charges.new }
+    ensures charged { ChargesMore (files_at result.0) 0 charges.old charges.new }
 {
     let stat = match install_shared(
         alloc,

@@ -3,19 +3,20 @@
 ghost use Rattle.std.specs.Prelude.{◌≡◌, ◌+◌, ◌<◌};
 ghost use Rattle.yp_workhost.specs.Charges.{IsCharged, charged_both, free_of_charge, no_totals, totals_plus};
 
-use crate::desk::{Supplies, Unread};
+use crate::desk::{Orders, Supplies, Unread};
 use crate::outcome::Totals;
 use std::marker::Model;
 use std::mem;
 use std::sync::ledger::Share;
 use yp_shared::{Accounts, Failures};
 
-/// What a worker is charged with, for contracts alone: shares of the ledgers of texts that weren't read and of files
-/// that failed.
+/// What a worker is charged with, for contracts alone: shares of the ledgers of texts that weren't read, of files that
+/// failed, and of orders that were reached.
 #[derive(Drop)]
 pub struct Charges<S: Accounts + Supplies> {
     pub(crate) unread: Share<Unread<S>>,
     pub(crate) failures: Share<Failures<S>>,
+    pub(crate) orders: Share<Orders<S>>,
 }
 
 impl<S: Accounts + Supplies> Model for Charges<S> {
@@ -28,19 +29,34 @@ impl<S: Accounts + Supplies> Model for Charges<S> {
       parts = c.unread.parts;
       unread = c.unread.amount;
       failures = c.failures.amount;
+      orders = c.orders.amount;
     } };
 
-    ghost invariant = { λ c. (0 < c.unread.parts) × (c.failures.parts ≡ c.unread.parts) };
+    ghost invariant = { λ c. (0 < c.unread.parts) × (c.failures.parts ≡ c.unread.parts)
+        × (c.orders.parts ≡ c.unread.parts) };
 }
 
 impl<S: Accounts + Supplies> Charges<S> {
     /// Charges of these shares.
-    pub fn new(unread: Share<Unread<S>>, failures: Share<Failures<S>>) -> Charges<S>
+    pub fn new(
+        unread: Share<Unread<S>>,
+        failures: Share<Failures<S>>,
+        orders: Share<Orders<S>>,
+    ) -> Charges<S>
         requires some { 0 < unread.parts }
-        requires same { failures.parts ≡ unread.parts }
-        ensures { result ≡ record { parts = unread.parts; unread = unread.amount; failures = failures.amount } }
+        requires same { (failures.parts ≡ unread.parts) × (orders.parts ≡ unread.parts) }
+        ensures { result ≡ record {
+          parts = unread.parts;
+          unread = unread.amount;
+          failures = failures.amount;
+          orders = orders.amount;
+        } }
     {
-        Charges { unread, failures }
+        Charges {
+            unread,
+            failures,
+            orders,
+        }
     }
 
     /// One part, which is charged with nothing yet.
@@ -53,6 +69,7 @@ impl<S: Accounts + Supplies> Charges<S> {
         Charges {
             unread: self.unread.split_off(1, 0),
             failures: self.failures.split_off(1, 0),
+            orders: self.orders.split_off(1, 0),
         }
     }
 
@@ -60,18 +77,28 @@ impl<S: Accounts + Supplies> Charges<S> {
     pub fn merge(&mut self, other: Charges<S>)
         ensures { self.new ≡ charged_both self.old other }
     {
-        let Charges { unread, failures } = other;
+        let Charges {
+            unread,
+            failures,
+            orders,
+        } = other;
         self.unread.merge(unread);
         self.failures.merge(failures);
+        self.orders.merge(orders);
     }
 
     /// The shares.
-    pub fn into_shares(self) -> (Share<Unread<S>>, Share<Failures<S>>)
+    pub fn into_shares(self) -> (Share<Unread<S>>, Share<Failures<S>>, Share<Orders<S>>)
         ensures unread { result.0.amount ≡ self.unread }
         ensures failures { result.1.amount ≡ self.failures }
+        ensures orders { result.2.amount ≡ self.orders }
     {
-        let Charges { unread, failures } = self;
-        (unread, failures)
+        let Charges {
+            unread,
+            failures,
+            orders,
+        } = self;
+        (unread, failures, orders)
     }
 }
 

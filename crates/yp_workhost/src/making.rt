@@ -45,7 +45,7 @@ where
     ensures made { IsMadeSo (texts_alone S.text) S.catalogue.own job result
         (B.Reader.seen reader.old).known (B.Reader.seen reader.new).known }
     ensures learned { Learns (B.Reader.seen reader.old) (B.Reader.seen reader.new) }
-    ensures charged { ChargesMore (files_in result) charges.old charges.new }
+    ensures charged { ChargesMore (files_in result) 0 charges.old charges.new }
 {
     if let Err(NoMemory) = tell_shared(rt, publisher, reader) {
         return XfrStat::Rsrc;
@@ -83,7 +83,7 @@ where
     ensures overtaken { result ≡ None → IsOvertaken job.map
         (B.Reader.seen reader.old).known (B.Reader.seen reader.new).known }
     ensures learned { Learns (B.Reader.seen reader.old) (B.Reader.seen reader.new) }
-    ensures charged { ChargesMore (option_map_or files_in result 0) charges.old charges.new }
+    ensures charged { ChargesMore (option_map_or files_in result 0) 0 charges.old charges.new }
 {
     let own = reader.catalog().own();
     let version = match desk.build(

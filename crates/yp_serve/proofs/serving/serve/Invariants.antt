@@ -18,7 +18,9 @@ ghosts-under_locks-J-Supplies g a = record {
   text = g.T.Texts.text a.lent.desk.texts;
   hosts = a.lent.desk.hosts;
   text_faults = g.T.Texts.faults a.lent.desk.texts;
+  wires = g.A.Dial.past a.lent.desk.dial;
   unread = a.unread.name;
+  orders = a.orders.name;
 }
 
 abbrev pub ghosts-under_locks-J-Ledger : goal.ghosts-under_locks-J-Ledger

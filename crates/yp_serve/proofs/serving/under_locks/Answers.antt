@@ -17,8 +17,14 @@ returns-clause-counted g c =
 
 pub returns-clause-files : goal.returns-clause-files
 returns-clause-files g c = λ texts well.
-    let charged = c.into_parts-charges.ensures.charged in
+    let charged = c.into_parts-charges.ensures.charged.files in
     let shares = c.into_shares-unread.ensures in
     let unread = c.close-desk.ensures.covered texts in
     let failures = c.take_apart-disks.ensures.covered well in
     omega (arith, charged, shares.unread, shares.failures, unread, failures, c.requires.texts, c.requires.disks)
+
+pub returns-clause-orders : goal.returns-clause-orders
+returns-clause-orders g c =
+    let charged = c.into_parts-charges.ensures.charged.orders in
+    let share = c.into_shares-unread.ensures.orders in
+    c.close-desk.ensures.orders c.into_parts-charges.result.0.outcomes.reached (omega (arith, charged, share))

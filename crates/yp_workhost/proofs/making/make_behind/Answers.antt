@@ -27,6 +27,6 @@ returns g c = record {
       c.in-Err-install_shared.fault _ _ c.in-Err-install_shared.ensures.reason (λ e. c.in_default.not-Age (c.shared_stat.ensures ∙ e)));
   overtaken = λ e. absurd (cc);
   learned = c.install_shared.ensures.learned;
-  charged = charged_so c.in-Err-install_shared.fault c.shared_stat.result c.args.charges.now c.build.new.charges _ _ _ _
+  charged = charged_so c.in-Err-install_shared.fault c.shared_stat.result c.args.charges.now c.build.new.charges _ _ _ _ _
       c.in-Ok.ensures.charged c.charges.view_is c.in-Err-install_shared.ensures.charged c.shared_stat.ensures;
 }

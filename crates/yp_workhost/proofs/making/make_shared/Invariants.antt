@@ -9,7 +9,7 @@ use Rattle.yp_workhost.proofs.making.make_shared.Given as goal
 abbrev pub invariant-rounds : goal.invariant-rounds
 invariant-rounds g l = record {
   learned : Learns (g.B.Reader.View.seen l.fn.reader) (g.B.Reader.View.seen l.reader);
-  charged : ChargesMore 0 l.fn.charges l.charges;
+  charged : ChargesMore 0 0 l.fn.charges l.charges;
 }
 
 abbrev pub decreases-rounds : goal.decreases-rounds
