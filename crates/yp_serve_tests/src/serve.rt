@@ -53,8 +53,8 @@ const NO_POST: Post<'static> = Post {
     failing: &[],
 };
 
-// What came of it: the tally, what all workers counted, what the connections had taken that went back, one after the other, and what came of the
-// inbox; or memory ran out. And how often a worker was held for too long.
+// What came of it: the tally, what all workers counted, what the connections had taken that went back, one after the
+// other, and what came of the inbox; or memory ran out. And how often a worker was held for too long.
 type Came = (Option<(Tally, Totals, Vec<u8>, Mailed)>, u64);
 
 // What came of an inbox: how many turns there were, what it sent to the sender, one after the other, and whether it is

@@ -38,8 +38,8 @@ impl Site for Brand {
     ghost catalogue = { record { own = []; maps = [] } };
 }
 
-/// How often the disks of a site had failed before its publisher was shared, and the ledger that counts the failed files
-/// since then. Each call of a program that shares a publisher picks it.
+/// How often the disks of a site had failed before its publisher was shared, and the ledger that counts the failed
+/// files since then. Each call of a program that shares a publisher picks it.
 pub trait Accounts {
     ghost use Rattle.std.specs.Prelude.{ℕ};
 

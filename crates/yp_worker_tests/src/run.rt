@@ -133,8 +133,8 @@ const SERVED: Tally = Tally {
     listen_fault: false,
 };
 
-// What both connections ask, the calls of the listener that fail, what was counted, how many transfers were carried out,
-// how many connections were accepted, and what was written.
+// What both connections ask, the calls of the listener that fail, what was counted, how many transfers were carried
+// out, how many connections were accepted, and what was written.
 const ROWS: &[(&[&str], &[u64], Tally, u64, u32, &[&str])] = &[
     (
         &[NULL, NULL],

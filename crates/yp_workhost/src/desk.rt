@@ -30,8 +30,8 @@ use yp_version::Version;
 use yp_xfr::{Asker, XfrFault, fetch_from, tell_back};
 
 /// What a desk of a site has, whoever uses it: it never changes; how often its texts had failed before it was shared,
-/// and which wires its dial had; and the ledgers of what is counted since then. Each call of a program that shares a desk
-/// picks it.
+/// and which wires its dial had; and the ledgers of what is counted since then. Each call of a program that shares a
+/// desk picks it.
 pub trait Supplies {
     ghost use Rattle.std.specs.Prelude.{ℕ, List, Option};
     ghost use Rattle.yp_io.specs.declared.texts.TextFile.{TextFile};
@@ -140,8 +140,8 @@ impl<S: Accounts + Supplies, A: Dial, T: Texts, C: Clock> SharedDesk<S, A, T, C>
         }
     }
 
-    /// The desk, once the lock is left. What a caller was charged with is covered by the faults of its texts, and by the
-    /// wires of its dial.
+    /// The desk, once the lock is left. What a caller was charged with is covered by the faults of its texts, and by
+    /// the wires of its dial.
     pub fn close(
         self,
         charge: &mut Share<Unread<S>>,

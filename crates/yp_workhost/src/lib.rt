@@ -5,9 +5,9 @@
 //! of all, behind all that the worker knew, and each other status by its cause, stands on [`WorkerHost`] as a
 //! [`Host`](yp_session::Host): the relation `made` of its `make`. What a transfer came to stands on the relation
 //! `carried` of its `transfer`. How many makes and transfers of all workers ended in FILE is at most what the counts of
-//! the texts and of the disks rose by, and how many transfers reached an order is at most how many wires begin with one:
-//! each is charged under the lock where it came about, and that stands on
-//! [`Account::into_parts`] and [`SharedDesk::close`].
+//! the texts and of the disks rose by, and how many transfers reached an order is at most how many wires begin with
+//! one: each is charged under the lock where it came about, and that stands on [`Account::into_parts`] and
+//! [`SharedDesk::close`].
 #![tactic(auto)]
 
 mod carrying;

@@ -31,7 +31,8 @@ const LAST_ORDER: &[&str] = &[CELLS, "00000001 ffffffff", REST];
 
 const LAST_STORED: &[&str] = &[LAST_GENERATION, "00000001 00000064", REST];
 
-// A host's own name, a file, the reads of the text that fail, what is done, what comes of it, and how often that is FILE.
+// A host's own name, a file, the reads of the text that fail, what is done, what comes of it, and how often that is
+// FILE.
 struct Row {
     name: &'static str,
     own: &'static [u8],
