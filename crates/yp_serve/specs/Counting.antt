@@ -36,7 +36,8 @@ pub record CountsAll {H T : Type 0} (conduct : Conduct H) (counting : Counting H
   pub connections : T
   pub datagrams : T
   pub of_connections : SumsUp conduct counting terms door door' connections
-  pub of_datagrams : CountsDatagrams conduct counting terms.catalogue terms.starts log turns fault before after datagrams
+  pub of_datagrams : CountsDatagrams conduct counting terms.catalogue terms.starts log turns fault before after
+      datagrams
   pub all_is : all ≡ counting.plus connections datagrams
 
 -- A disk tells what a crash may leave, its count of faults doesn't stand at its last value, and the last generation of

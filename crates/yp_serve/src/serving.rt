@@ -12,7 +12,7 @@ ghost use Rattle.yp_serve.specs.Serving.{conduct_at, IsAtStart, Leaves, ServesDa
 ghost use Rattle.yp_workhost.specs.Wires.{CoversOrders};
 ghost use Rattle.yp_serve.specs.Counting.{count_totals, CountsAll, FilesAreCovered};
 
-use crate::lent::{Lent, Staff, refuse, take_apart};
+use crate::lent::{Lent, Staff, books, refuse, take_apart};
 use crate::mail::Mailbag;
 use crate::seats::Workplace;
 use crate::spec::{ServeRefused, ServeSpec, Served};
@@ -28,9 +28,9 @@ use yp_listen::Listen;
 use yp_publish::Publisher;
 use yp_server::Desk;
 use yp_session::CALLS_MAX;
-use yp_shared::{Accounts, Failures, Locked};
+use yp_shared::{Accounts, Locked};
 use yp_worker::{Gate, Reception};
-use yp_workhost::{Charges, Orders, SharedDesk, Supplies, Unread};
+use yp_workhost::{SharedDesk, Supplies};
 
 /// Serves the connections of a listener and the datagrams of an inbox, over maps and a desk that all workers share:
 /// connections until as many were accepted as are to be or an accept has failed, datagrams until all turns are taken or
@@ -228,13 +228,9 @@ where
         spare,
         room,
     } = staff;
-    let (unread, own_unread) = unread.open::<Unread<J>>();
-    let (failures, own_failures) = failures.open::<Failures<J>>();
-    let (orders, own_orders) = orders.open::<Orders<J>>();
+    let (unread, failures, orders, charges) = books::<J>(unread, failures, orders);
     let publisher = Mutex::new(Locked::<J, D, B>::new(lent.publisher, failures));
-    let desk = Mutex::new(SharedDesk::<J, A, T, C>::new(
-        lent.desk, unread, orders,
-    ));
+    let desk = Mutex::new(SharedDesk::new(lent.desk, unread, orders));
     let place = Workplace {
         alloc,
         rt,
@@ -256,7 +252,7 @@ where
         lent.listen,
         out,
         ended,
-        Charges::new(own_unread, own_failures, own_orders),
+        charges,
         bag,
     );
     let (totals, charges) = account.into_parts();
