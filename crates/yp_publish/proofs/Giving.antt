@@ -3,7 +3,7 @@ use Rattle.std.proofs.Common.{◌≡◌, ℕ, zero, suc, ◌+◌, ◌≤◌, Lis
 use Rattle.std.proofs.Common.{append_assoc, arith, refl, sym, ◌∙◌, ap}
 use Rattle.std.proofs.lemmas.List.{append-nil, reverse-append, map-append, length-append}
 use Rattle.yp_io.specs.Disk.{History}
-use Rattle.yp_publish.specs.Standing.{Kept, OfMap, IsStanding}
+use Rattle.yp_publish.specs.Standing.{Kept, OfMap, IsStanding, IsNumbered}
 
 -- what isn't given back yet, and the disks that are
 pub record IsGiving {D : Type 0} (H : D
@@ -14,6 +14,7 @@ pub record IsGiving {D : Type 0} (H : D
   pub given : List (Kept D)
   pub front : all ≡ maps ++ given
   pub stands : (k : ℕ) → OfMap k given (IsStanding H)
+  pub numbers : (k : ℕ) → OfMap k given (IsNumbered H)
 
 pub giving_none : {D : Type 0} (H : D → Option History) (all : List (Kept D)) (first : List D) (capacity : ℕ)
     → length first + length all ≤ capacity → IsGiving H all first all first capacity
@@ -23,19 +24,21 @@ giving_none H all first capacity room = record {
   given = [];
   front = sym (append-nil all);
   stands = λ k. tt;
+  numbers = λ k. tt;
 }
 
-more_stand : {D : Type 0} (H : D → Option History) (kept : Kept D) (given : List (Kept D)) → IsStanding H kept
-    → ((k : ℕ) → OfMap k given (IsStanding H)) → (k : ℕ) → OfMap k (kept ∷ given) (IsStanding H)
-more_stand H kept given stands all zero = stands
-more_stand H kept given stands all (suc k) = all k
+more_hold : {D : Type 0} (P : Kept D → Type 0) (kept : Kept D) (given : List (Kept D)) → P kept
+    → ((k : ℕ) → OfMap k given P) → (k : ℕ) → OfMap k (kept ∷ given) P
+more_hold P kept given holds all zero = holds
+more_hold P kept given holds all (suc k) = all k
 
 pub giving_more : {D : Type 0} (H : D
     → Option History) (all : List (Kept D)) (first : List D) (maps fewer : List (Kept D)) (kept : Kept D)
     (disks more : List D) (disk : D) (capacity after : ℕ)
     → IsGiving H all first maps disks capacity → maps ≡ fewer ++ kept ∷ [] → disk ≡ kept.disk
-    → more ≡ disks ++ disk ∷ [] → after ≡ capacity → IsStanding H kept → IsGiving H all first fewer more after
-giving_more {D} H all first maps fewer kept disks more disk capacity after is popped own pushed same stands =
+    → more ≡ disks ++ disk ∷ [] → after ≡ capacity → IsStanding H kept → IsNumbered H kept
+    → IsGiving H all first fewer more after
+giving_more {D} H all first maps fewer kept disks more disk capacity after is popped own pushed same stands numbered =
     let f : Kept D → D = λ k. k.disk in
     let here : map f maps ≡ map f fewer ++ f kept ∷ [] = ap (map f) popped ∙ map-append f fewer (kept ∷ []) in
     let there : reverse more ≡ f kept ∷ reverse disks = ap reverse pushed ∙ reverse-append disks (disk ∷ [])
@@ -50,5 +53,6 @@ giving_more {D} H all first maps fewer kept disks more disk capacity after is po
       room = omega arith;
       given = kept ∷ is.given;
       front = is.front ∙ ap (λ (l : List (Kept D)). l ++ is.given) popped ∙ append_assoc fewer (kept ∷ []) is.given;
-      stands = more_stand H kept is.given stands is.stands;
+      stands = more_hold (IsStanding H) kept is.given stands is.stands;
+      numbers = more_hold (IsNumbered H) kept is.given numbered is.numbers;
     }

@@ -4,7 +4,7 @@ ghost use Rattle.std.specs.Prelude.{◌≡◌, ◌≤◌, ◌+◌, ◌++◌, ℕ
 ghost use Rattle.std.specs.Prelude.{IfErr, option_map};
 ghost use Rattle.std.specs.List.{AllZip};
 ghost use Rattle.std.specs.Arc.{arc_value};
-ghost use Rattle.yp_publish.specs.Standing.{Level, OfMap, IsStanding, versions};
+ghost use Rattle.yp_publish.specs.Standing.{Level, OfMap, IsStanding, IsNumbered, versions};
 ghost use Rattle.yp_publish.specs.Opens.{IsOpened, IsStopped};
 
 use crate::stored::StoredMap;
@@ -85,6 +85,7 @@ pub(crate) fn give_back<D: Disk>(rest: Vec<D>, maps: Vec<StoredMap<D>>) -> Vec<D
     requires { length rest.items + length maps.items ≤ vec_capacity rest }
     ensures disks { result.items ≡ map (λ kept. kept.disk) maps.items ++ reverse rest.items }
     ensures standing { (number : ℕ) → OfMap number maps.items (IsStanding D.history) }
+    ensures numbered { (number : ℕ) → OfMap number maps.items (IsNumbered D.history) }
 {
     let mut disks = rest;
     let mut maps = maps;

@@ -84,6 +84,7 @@ impl<D: Disk, B: Show> Publisher<D, B> {
         ensures board { result.1 ≡ self.board }
         ensures shown { Shows (B.log result.1) (versions self.maps) }
         ensures standing { (number : ℕ) → OfMap number self.maps (IsStanding D.history) }
+        ensures numbered { (number : ℕ) → OfMap number self.maps (IsNumbered D.history) }
     {
         let Publisher {
             catalog: _,

@@ -86,6 +86,7 @@ impl<D: Disk> StoredMap<D> {
     pub(crate) fn into_disk(self) -> D
         ensures disk { result ≡ self.disk }
         ensures standing { IsStanding D.history self }
+        ensures numbered { IsNumbered D.history self }
     {
         let StoredMap {
             slot,

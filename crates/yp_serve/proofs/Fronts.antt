@@ -14,54 +14,76 @@ use Rattle.yp_mailserve.specs.Mailing.{Mailing, Awaited}
 use Rattle.yp_mailserve.specs.Serving.{ServesMail}
 use Rattle.yp_serve.specs.declared.mail.Mailman.{Mailman}
 use Rattle.yp_serve.specs.Posts.{Mails}
+use Rattle.yp_worker.specs.Receptions.{Terms}
+use Rattle.yp_worker.specs.Summing.{Counting, SumsUp}
+use Rattle.yp_listen.specs.Calls.{Calls}
 use Rattle.yp_serve.specs.Serving.{at_rest, no_counts, IsAtStart, ServesDatagrams}
+use Rattle.yp_serve.specs.Counting.{CountsDatagrams, CountsAll}
 
 front_then : (a b c : Log) → IsFront a b → IsFront b c → IsFront a c
 front_then a b c first second =
     (first.0 ++ second.0, second.1 ∙ ap (λ (l : Log). l ++ second.0) first.1 ∙ append_assoc a first.0 second.0)
 
--- a server that ended so, and what its reader knows
-pub answered : {H : Type 0} (conduct : Conduct H) (catalogue : Catalogue) (starts known : Log) (turns : ℕ)
-    (fault : Bool) (end : Result Ended Failed) (old new : H) (first last : Mailing H) (before after : Box)
-    → first ≡ at_rest old → IsAtStart catalogue starts (conduct.seen old) → conduct.counts old ≡ no_counts
+-- a server that ended so, what its reader knows, and what it has counted
+pub answered : {H T : Type 0} (conduct : Conduct H) (counting : Counting H T) (catalogue : Catalogue) (starts known : Log)
+    (turns : ℕ) (fault : Bool) (end : Result Ended Failed) (old new : H) (first last : Mailing H) (before after : Box)
+    (count : T) → first ≡ at_rest old → IsAtStart catalogue starts (conduct.seen old) → conduct.counts old ≡ no_counts
     → fault ≡ is_err end → ServesMail conduct turns end first last before after → new ≡ last.host
-    → known ≡ (conduct.seen new).known → ServesDatagrams conduct catalogue starts known turns fault before after
-answered {H} conduct catalogue starts known turns fault end old new first last before after first_is start fresh
-    fault_is serves new_is known_is =
+    → known ≡ (conduct.seen new).known → counting.counted old ≡ counting.none → counting.counted new ≡ count
+    → CountsDatagrams conduct counting catalogue starts known turns fault before after count
+answered {H} conduct counting catalogue starts known turns fault end old new first last before after count first_is
+    start fresh fault_is serves new_is known_is from counted =
     let last_is : last ≡ at_rest new = ap (λ (h : H). record { host = h; waiting = last.waiting }) (sym new_is)
     ∙ ap (λ (w : Option Awaited). record { host = new; waiting = w }) serves.cleared in record {
-      old = old;
-      new = new;
-      start = start;
-      fresh = fresh;
-      end = end;
-      fault_is = fault_is;
-      serves = subst (λ (m : Mailing H). ServesMail conduct turns end m (at_rest new) before after) first_is
-          (subst (λ (m : Mailing H). ServesMail conduct turns end first m before after) last_is serves);
-      shown = ([], known_is ∙ sym (append-nil (conduct.seen new).known));
+      served = record {
+        old = old;
+        new = new;
+        start = start;
+        fresh = fresh;
+        end = end;
+        fault_is = fault_is;
+        serves = subst (λ (m : Mailing H). ServesMail conduct turns end m (at_rest new) before after) first_is
+            (subst (λ (m : Mailing H). ServesMail conduct turns end first m before after) last_is serves);
+        shown = ([], known_is ∙ sym (append-nil (conduct.seen new).known));
+      };
+      from_none = from;
+      counted = counted;
     }
 
-module _ {H : Type 0} (conduct : Conduct H) (catalogue : Catalogue) (starts known log : Log) (turns : ℕ) (fault : Bool)
-    (before after : Box) (mail : ServesDatagrams conduct catalogue starts known turns fault before after)
+module _ {H T : Type 0} (conduct : Conduct H) (counting : Counting H T) (terms : Terms) (door door' : Option Calls)
+    (known log : Log) (turns : ℕ) (fault : Bool) (before after : Box) (all : T)
+    (counts : CountsAll conduct counting terms door door' known turns fault before after all)
     (front : IsFront known log) where
   -- a longer log
-  pub shown_in : ServesDatagrams conduct catalogue starts log turns fault before after
-  shown_in = record {
-    old = mail.old;
-    new = mail.new;
-    start = mail.start;
-    fresh = mail.fresh;
-    end = mail.end;
-    fault_is = mail.fault_is;
-    serves = mail.serves;
-    shown = front_then (conduct.seen mail.new).known known log mail.shown front;
-  }
+  pub counted_in : CountsAll conduct counting terms door door' log turns fault before after all
+  counted_in =
+      let mail = counts.of_datagrams in record {
+        connections = counts.connections;
+        datagrams = counts.datagrams;
+        of_connections = counts.of_connections;
+        of_datagrams = record {
+          served = record {
+            old = mail.served.old;
+            new = mail.served.new;
+            start = mail.served.start;
+            fresh = mail.served.fresh;
+            end = mail.served.end;
+            fault_is = mail.served.fault_is;
+            serves = mail.served.serves;
+            shown = front_then (conduct.seen mail.served.new).known known log mail.served.shown front;
+          };
+          from_none = mail.from_none;
+          counted = mail.counted;
+        };
+        all_is = counts.all_is;
+      }
 
   -- it begins with what was shown at the start
-  pub starts_in : IsFront starts log
+  pub starts_in : IsFront terms.starts log
   starts_in =
+      let mail = counts.of_datagrams.served in
       let begun = subst (λ (l : Log). IsFront l (conduct.seen mail.new).known) mail.start.known mail.serves.grown in
-      front_then starts (conduct.seen mail.new).known log begun
+      front_then terms.starts (conduct.seen mail.new).known log begun
       (front_then (conduct.seen mail.new).known known log mail.shown front)
 
 -- what a worker of datagrams made of its turns, from a host that knew the start
@@ -73,17 +95,18 @@ module _ {I H : Type 0} (conduct : Conduct H) (box : I → Box) (faults : I → 
   back : last.inbox ≡ given
   back = sym (given_is ∙ ap (λ (m : Mailman I H). m.inbox) found_is)
 
-  pub mailed : IsAtStart catalogue starts (conduct.seen host) → conduct.counts host ≡ no_counts
-      → known ≡ (conduct.seen left).known
-      → ServesDatagrams conduct catalogue starts known turns fault (box inbox) (box given)
-  mailed start fresh known_is =
-      answered conduct catalogue starts known turns fault mails.end host left first.server last.server (box inbox)
-      (box given) host_is start fresh (fault_is ∙ ap (λ (m : Mailman I H). m.fault) found_is ∙ mails.fault_is)
+  pub mailed : {T : Type 0} (counting : Counting H T) (count : T) → IsAtStart catalogue starts (conduct.seen host)
+      → conduct.counts host ≡ no_counts → known ≡ (conduct.seen left).known
+      → counting.counted host ≡ counting.none → counting.counted left ≡ count
+      → CountsDatagrams conduct counting catalogue starts known turns fault (box inbox) (box given) count
+  mailed counting count start fresh known_is from counted =
+      answered conduct counting catalogue starts known turns fault mails.end host left first.server last.server (box inbox)
+      (box given) count host_is start fresh (fault_is ∙ ap (λ (m : Mailman I H). m.fault) found_is ∙ mails.fault_is)
       (subst (λ (i : I). ServesMail conduct turns mails.end first.server last.server (box inbox) (box i)) back
       (subst (λ (i : I). ServesMail conduct turns mails.end first.server last.server (box i) (box last.inbox)) inbox_is
       (subst (λ (n : ℕ). ServesMail conduct n mails.end first.server last.server (box first.inbox) (box last.inbox)) turns_is
       mails.serves)))
-      (left_is ∙ ap (λ (m : Mailman I H). m.server.host) found_is) known_is
+      (left_is ∙ ap (λ (m : Mailman I H). m.server.host) found_is) known_is from counted
 
   pub mail_fails : fault ≡ true → HasRisen (faults inbox) (faults given)
   mail_fails fails =

@@ -1,3 +1,4 @@
 mod Rows
 mod Fronts
 mod Posted
+mod Covering

@@ -15,16 +15,17 @@ use std::sync::{Mutex, Wait};
 use std::thread::{Threads, for_each_mut};
 use yp_io::Inbox;
 use yp_listen::Listen;
-use yp_worker::{CatchUp, Gate, Listening, Pass, Reception, Worker};
+use yp_worker::{Gate, HandsOver, Listening, Pass, Reception, Worker};
 
 /// A worker of a listener, with what it holds of that. It is seen as this.
 #[derive(Drop)]
-pub(crate) struct Seat<J: Reception, E: Ledger, H: CatchUp, G: Gate + Copy> {
+pub(crate) struct Seat<J: Reception, E: Ledger, H: HandsOver, G: Gate + Copy> {
     worker: Worker<H, G>,
     pass: Pass<J, E>,
 }
 
-impl<J: Reception, E: Ledger, H: CatchUp, G: Gate + Copy> Model for Seat<J, E, H, G> {
+impl<J: Reception, E: Ledger, H: HandsOver, G: Gate + Copy> Model for Seat<J, E, H, G> {
+    ghost use Rattle.std.specs.Prelude.{◌≡◌};
     ghost use Rattle.yp_session.specs.Hosts.{conduct_of};
     ghost use Rattle.yp_worker.specs.Receptions.{Passed, IsUnder, terms_of};
 
@@ -33,14 +34,15 @@ impl<J: Reception, E: Ledger, H: CatchUp, G: Gate + Copy> Model for Seat<J, E, H
     ghost view = { λ s. s.pass };
 
     ghost invariant = { λ s. IsUnder (conduct_of H.seen H.told H.counts H.stepped H.made H.carried)
-        (terms_of J.catalogue J.starts J.most) s.worker };
+        (terms_of J.catalogue J.starts J.most) s.worker × (H.counted s.worker.host ≡ H.none) };
 }
 
-impl<J: Reception, E: Ledger, H: CatchUp, G: Gate + Copy> Seat<J, E, H, G> {
+impl<J: Reception, E: Ledger, H: HandsOver, G: Gate + Copy> Seat<J, E, H, G> {
     /// A worker with what it holds of its listener.
     pub(crate) fn new(worker: Worker<H, G>, pass: Pass<J, E>) -> Seat<J, E, H, G>
-        requires { IsUnder (conduct_of H.seen H.told H.counts H.stepped H.made H.carried)
+        requires under { IsUnder (conduct_of H.seen H.told H.counts H.stepped H.made H.carried)
             (terms_of J.catalogue J.starts J.most) worker }
+        requires none { H.counted worker.host ≡ H.none }
         ensures { result ≡ pass }
     {
         Seat { worker, pass }
@@ -54,7 +56,7 @@ impl<J: Reception, E: Ledger, H: CatchUp, G: Gate + Copy> Seat<J, E, H, G> {
     }
 }
 
-impl<J: Reception, E: Ledger, H: CatchUp + Drop, G: Gate + Copy + Drop> Seat<J, E, H, G> {
+impl<J: Reception, E: Ledger, H: HandsOver + Drop, G: Gate + Copy + Drop> Seat<J, E, H, G> {
     /// What it holds of its listener.
     fn into_pass(self) -> Pass<J, E>
         ensures { result ≡ self }
@@ -66,12 +68,12 @@ impl<J: Reception, E: Ledger, H: CatchUp + Drop, G: Gate + Copy + Drop> Seat<J, 
 
 /// A place at which a server works: one of its connections, or that of its datagrams.
 #[derive(Drop)]
-pub(crate) enum Post<J: Reception, E: Ledger, H: CatchUp, G: Gate + Copy, I> {
+pub(crate) enum Post<J: Reception, E: Ledger, H: HandsOver, G: Gate + Copy, I> {
     Connections(Seat<J, E, H, G>),
     Datagrams(Mailman<I, H>),
 }
 
-impl<J: Reception, E: Ledger, H: CatchUp, G: Gate + Copy, I: Inbox> Post<J, E, H, G, I> {
+impl<J: Reception, E: Ledger, H: HandsOver, G: Gate + Copy, I: Inbox> Post<J, E, H, G, I> {
     /// Works until there is nothing more to do.
     fn work<L: Listen, R: Wait>(&mut self, rt: &R, listening: &Mutex<Listening<J, E, H, L>>)
         ensures { Works (Mails (conduct_of H.seen H.told H.counts H.stepped H.made H.carried)
@@ -93,7 +95,8 @@ pub(crate) fn run_all<J, E, H, G, L, I, R: Threads + Wait + Sync>(
 where
     J: Reception + Send + Sync,
     E: Ledger + Send + Sync,
-    H: CatchUp + Send + Drop,
+    H: HandsOver + Send + Drop,
+    H::Sum: Send,
     G: Gate + Copy + Send + Drop,
     I: Inbox + Send + Drop,
     L: Listen + Send,
@@ -117,7 +120,8 @@ fn work_all<J, E, H, G, L, I, R: Threads + Wait + Sync>(
 where
     J: Reception + Send + Sync,
     E: Ledger + Send + Sync,
-    H: CatchUp + Send + Drop,
+    H: HandsOver + Send + Drop,
+    H::Sum: Send,
     G: Gate + Copy + Send + Drop,
     I: Inbox + Send + Drop,
     L: Listen + Send,
@@ -143,7 +147,7 @@ pub(crate) fn gather<J, E, H, G, I>(
 where
     J: Reception,
     E: Ledger,
-    H: CatchUp + Drop,
+    H: HandsOver + Drop,
     G: Gate + Copy + Drop,
     I: Drop,
     requires { (mailman : Mailman I H) × IsManned mailman gone_home posts.items }

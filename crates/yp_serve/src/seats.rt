@@ -5,8 +5,10 @@ ghost use Rattle.std.specs.List.{All};
 ghost use Rattle.yp_io.specs.Counts.{HasRisen};
 ghost use Rattle.yp_session.specs.Hosts.{conduct_of};
 ghost use Rattle.yp_worker.specs.Receptions.{IsFair, IsKept, IsUnder, opening_of, terms_of};
+ghost use Rattle.yp_workhost.specs.Charges.{free_of_charge, no_totals, totals_of};
 ghost use Rattle.yp_turns.specs.Turns.{box_of};
-ghost use Rattle.yp_serve.specs.Serving.{at_work, conduct_at, IsAtStart, ServesDatagrams};
+ghost use Rattle.yp_serve.specs.Serving.{at_work, conduct_at, IsAtStart};
+ghost use Rattle.yp_serve.specs.Counting.{CountsAll, count_totals};
 ghost use Rattle.yp_serve.specs.Posts.{IsSeated};
 
 use crate::crew::{Post, Seat, gather, run_all};
@@ -20,16 +22,16 @@ use yp_board::Tell;
 use yp_io::{Clock, Dial, Disk, Inbox, Texts};
 use yp_listen::Listen;
 use yp_session::{CALLS_MAX, Session};
-use yp_shared::Locked;
-use yp_worker::{Gate, Listening, Pass, Reception, Tally, Worker};
-use yp_workhost::{SharedDesk, Supplies, WorkerHost};
+use yp_shared::{Accounts, Locked};
+use yp_worker::{Gate, HandsOver, Listening, Pass, Reception, Tally, Worker};
+use yp_workhost::{Account, Charges, SharedDesk, Supplies, WorkerHost};
 
 /// What each worker is lent: the locks of the publisher and of the desk, the gate, and the most records of a
 /// connection.
 #[derive(Drop)]
 pub(crate) struct Workplace<
     'a,
-    J: Reception + Supplies,
+    J: Reception + Accounts + Supplies,
     D: Disk,
     B: Tell,
     A: Dial,
@@ -48,7 +50,7 @@ pub(crate) struct Workplace<
 
 impl<
     'a,
-    J: Reception + Supplies,
+    J: Reception + Accounts + Supplies,
     D: Disk,
     B: Tell,
     A: Dial,
@@ -57,26 +59,36 @@ impl<
     G: Gate,
     R: RandomSource + Wait,
 > Workplace<'a, J, D, B, A, T, C, G, R> {
-    /// A worker with this reader and this memory.
+    /// A worker with this reader and this memory, which is charged by these.
     fn worker(
         &self,
         reader: B::Reader,
         session: Session,
+        charges: Charges<J>,
     ) -> Worker<WorkerHost<'a, J, D, B, A, T, C, &'a R>, &'a G>
         requires most { (self.now.most ≡ J.most) × (self.now.most ≤ CALLS_MAX) }
         requires knows { IsAtStart J.catalogue J.starts (B.Reader.seen reader) }
-        ensures { IsUnder (conduct_at B.Reader.seen B.Reader.stepped J.text J.hosts)
+        ensures under { IsUnder (conduct_at B.Reader.seen B.Reader.stepped J.text J.hosts)
             (terms_of J.catalogue J.starts J.most) result }
+        ensures none { totals_of result.host ≡ no_totals }
     {
-        let host = WorkerHost::new(self.alloc, self.rt, reader, self.publisher, self.desk);
+        let host = WorkerHost::new(
+            self.alloc,
+            self.rt,
+            reader,
+            self.publisher,
+            self.desk,
+            charges,
+        );
         Worker::new(host, session, self.gate, self.most)
     }
 
-    /// A worker with a part of the listener.
+    /// A worker with a part of the listener and of the charges.
     fn seat<E: Ledger>(
         &self,
         reader: B::Reader,
         session: Session,
+        charges: &mut Charges<J>,
         out: &mut Share<J>,
         ended: &mut Share<E>,
     ) -> Seat<J, E, WorkerHost<'a, J, D, B, A, T, C, &'a R>, &'a G>
@@ -84,11 +96,13 @@ impl<
         requires knows { IsAtStart J.catalogue J.starts (B.Reader.seen reader) }
         requires out { (1 < out.old.parts) × (out.old.amount ≡ 0) }
         requires ended { (1 < ended.old.parts) × (ended.old.amount ≡ 0) }
+        requires charges { 1 < charges.old.parts }
         ensures seat { result ≡ at_work }
         ensures out { (out.new.parts + 1 ≡ out.old.parts) × (out.new.amount ≡ 0) }
         ensures ended { (ended.new.parts + 1 ≡ ended.old.parts) × (ended.new.amount ≡ 0) }
+        ensures charges { charges.new.parts + 1 ≡ charges.old.parts }
     {
-        let worker = self.worker(reader, session);
+        let worker = self.worker(reader, session, charges.split_off());
         Seat::new(
             worker,
             Pass::new(out.split_off(1, 0), ended.split_off(1, 0)),
@@ -101,6 +115,7 @@ impl<
         posts: &mut Vec<Post<J, E, WorkerHost<'a, J, D, B, A, T, C, &'a R>, &'a G, I>>,
         mut sessions: Vec<Session>,
         mut readers: Vec<B::Reader>,
+        charges: &mut Charges<J>,
         out: &mut Share<J>,
         ended: &mut Share<E>,
     )
@@ -113,23 +128,26 @@ impl<
         requires room { length sessions.items + 1 ≤ vec_capacity posts.old }
         requires out { (out.old.parts ≡ length sessions.items + 1) × (out.old.amount ≡ 0) }
         requires ended { (ended.old.parts ≡ length sessions.items + 1) × (ended.old.amount ≡ 0) }
+        requires charges { length sessions.items + 2 ≡ charges.old.parts }
         ensures posts { IsSeated at_work posts.old.items posts.new.items }
         ensures count { length posts.new.items ≡ length sessions.items + 1 }
         ensures out { (out.new.parts ≡ 1) × (out.new.amount ≡ 0) }
         ensures ended { (ended.new.parts ≡ 1) × (ended.new.amount ≡ 0) }
+        ensures charges { charges.new.parts ≡ 2 }
     {
         while let Some(session) = sessions.pop() {
             let Some(reader) = readers.pop() else {
                 unreachable!();
             };
-            posts.push_reserved(Post::Connections(self.seat(reader, session, out, ended)));
+            let seat = self.seat(reader, session, charges, out, ended);
+            posts.push_reserved(Post::Connections(seat));
         }
     }
 }
 
 impl<
     'a,
-    J: Reception + Supplies + Send + Sync,
+    J: Reception + Accounts + Supplies + Send + Sync,
     D: Disk + Send,
     B: Tell + Send,
     A: Dial + Send,
@@ -148,8 +166,9 @@ impl<
         listen: L,
         out: Blank,
         ended: Blank,
+        charges: Charges<J>,
         bag: Mailbag<I, B::Reader>,
-    ) -> (L, Tally, Mailed<I, B::Reader>)
+    ) -> (L, Tally, Mailed<I, B::Reader>, Account<J>)
     where
         B::Reader: Send + Drop,
         L::In: Send,
@@ -167,37 +186,55 @@ impl<
         requires out { (out.name ≡ J.name) × (out.parts ≡ J.parts) × (out.parts ≡ length sessions.items + 1) }
         requires ended { (ended.name ≡ E.name) × (ended.parts ≡ E.parts)
             × (ended.parts ≡ length sessions.items + 1) }
+        requires charges { charges.parts ≡ length sessions.items + 3 }
         requires bag { IsAtStart J.catalogue J.starts (B.Reader.seen bag.reader) }
         ensures kept { IsKept (conduct_at B.Reader.seen B.Reader.stepped J.text J.hosts)
             (terms_of J.catalogue J.starts J.most) J.opening
             (opening_of L.past L.most L.accepted L.faults result.0)
             result.1.connections result.1.calls result.1.listen_fault 0 1 }
-        ensures mail { ServesDatagrams (conduct_at B.Reader.seen B.Reader.stepped J.text J.hosts)
-            J.catalogue J.starts (B.Reader.seen result.2.reader).known bag.turns result.2.fault
-            (box_of I.past I.turns I.quiets bag.inbox) (box_of I.past I.turns I.quiets result.2.inbox) }
+        ensures counted { CountsAll (conduct_at B.Reader.seen B.Reader.stepped J.text J.hosts) count_totals
+            (terms_of J.catalogue J.starts J.most) J.opening.past (L.past result.0)
+            (B.Reader.seen result.2.reader).known bag.turns result.2.fault
+            (box_of I.past I.turns I.quiets bag.inbox) (box_of I.past I.turns I.quiets result.2.inbox) result.3 }
         ensures cause { result.2.fault ≡ true → HasRisen (I.faults bag.inbox) (I.faults result.2.inbox) }
     {
         let (book, mut share) = out.open::<J>();
         let (ends, mut mine) = ended.open::<E>();
+        let mut charges = charges;
+        let host = WorkerHost::new(
+            self.alloc,
+            self.rt,
+            bag.reader,
+            self.publisher,
+            self.desk,
+            charges.split_off(),
+        );
+        let mailman = Mailman::new(bag.inbox, host, bag.room, bag.turns);
+        posts.push_reserved(Post::Datagrams(mailman));
+        self.seat_all(
+            &mut posts,
+            sessions,
+            readers,
+            &mut charges,
+            &mut share,
+            &mut mine,
+        );
         let listening = Mutex::new(Listening::<
             J,
             E,
             WorkerHost<'a, J, D, B, A, T, C, &'a R>,
             L,
-        >::new(listen, book, ends));
-        let host = WorkerHost::new(self.alloc, self.rt, bag.reader, self.publisher, self.desk);
-        let mailman = Mailman::new(bag.inbox, host, bag.room, bag.turns);
-        posts.push_reserved(Post::Datagrams(mailman));
-        self.seat_all(&mut posts, sessions, readers, &mut share, &mut mine);
+        >::new(listen, book, ends, Account::new(charges)));
         let posts = run_all(self.rt, &listening, posts);
         let mut pass = Pass::new(share, mine);
-        let (inbox, host, fault) = gather(&mut pass, posts).into_parts();
+        let (inbox, mut host, fault) = gather(&mut pass, posts).into_parts();
+        let (listen, tally, mut account) = listening.into_inner().close(&mut pass);
+        host.hand_over(&mut account);
         let mailed = Mailed {
             inbox,
             reader: host.into_reader(),
             fault,
         };
-        let (listen, tally) = listening.into_inner().close(&mut pass);
-        (listen, tally, mailed)
+        (listen, tally, mailed, account)
     }
 }

@@ -7,9 +7,12 @@ ghost use Rattle.yp_board.specs.Views.{IsFront};
 ghost use Rattle.yp_workhost.specs.Desks.{IsSupplied};
 ghost use Rattle.yp_worker.specs.Receptions.{IsFair, IsKept, opening_of, terms_of};
 ghost use Rattle.yp_turns.specs.Turns.{box_of};
+ghost use Rattle.yp_shared.specs.Failures.{disks_of, faults_over};
 ghost use Rattle.yp_serve.specs.Serving.{conduct_at, IsAtStart, Leaves, ServesDatagrams};
+ghost use Rattle.yp_workhost.specs.Wires.{CoversOrders};
+ghost use Rattle.yp_serve.specs.Counting.{count_totals, CountsAll, FilesAreCovered};
 
-use crate::lent::{Lent, Staff, refuse, take_apart};
+use crate::lent::{Lent, Staff, books, refuse, take_apart};
 use crate::mail::Mailbag;
 use crate::seats::Workplace;
 use crate::spec::{ServeRefused, ServeSpec, Served};
@@ -25,7 +28,7 @@ use yp_listen::Listen;
 use yp_publish::Publisher;
 use yp_server::Desk;
 use yp_session::CALLS_MAX;
-use yp_shared::Locked;
+use yp_shared::{Accounts, Locked};
 use yp_worker::{Gate, Reception};
 use yp_workhost::{SharedDesk, Supplies};
 
@@ -94,6 +97,19 @@ where
     ensures grown { IfOk result (λ served. IsFront (B.log publisher.board) (B.log served.writer)) }
     ensures desk { IfOk result (λ served. IsSupplied T.Texts (T.text desk.texts) desk.hosts served.desk) }
 
+    // What all workers counted, and that so many FILEs are covered by the faults of the texts and of the disks, and so
+    // many orders that were reached by the wires that begin with one.
+    ensures counted { IfOk result (λ served. CountsAll
+        (conduct_at B.Reader.seen B.Reader.stepped (T.text desk.texts) desk.hosts) count_totals
+        (terms_of publisher.catalogue (B.log publisher.board) spec.now.most) (L.past listen) (L.past served.listen)
+        (B.log served.writer) spec.now.turns served.inbox_fault
+        (box_of I.past I.turns I.quiets inbox) (box_of I.past I.turns I.quiets served.inbox) served.totals) }
+    ensures files { IfOk result (λ served. FilesAreCovered D.history D.faults
+        (T.faults desk.texts) (T.faults served.desk.texts)
+        (disks_of publisher.maps) served.disks.items served.totals) }
+    ensures orders { IfOk result (λ served. CoversOrders (A.past desk.dial) (A.past served.desk.dial)
+        served.totals.outcomes.reached) }
+
     // Want of memory, before a connection was accepted or a turn was taken.
     ensures refused { IfErr result (λ refused. (refused.desk ≡ desk) × (refused.listen ≡ listen)
         × (refused.inbox ≡ inbox)) }
@@ -119,6 +135,9 @@ where
         gate,
         Blank::new(parts),
         Blank::new(parts),
+        Blank::new(parts + 2),
+        Blank::new(parts + 2),
+        Blank::new(parts + 2),
     )
 }
 
@@ -132,9 +151,12 @@ fn under_locks<J, E, D, B, A, T, C, L, I, G, R>(
     gate: &G,
     out: Blank,
     ended: Blank,
+    unread: Blank,
+    failures: Blank,
+    orders: Blank,
 ) -> Result<Served<D, B, A, T, C, L, I>, ServeRefused<D, A, T, C, L, I>>
 where
-    J: Reception + Supplies + Send + Sync,
+    J: Reception + Accounts + Supplies + Send + Sync,
     E: Ledger + Send + Sync,
     D: Disk + Send + Drop,
     B: Tell + Send + Drop,
@@ -163,6 +185,13 @@ where
     requires out { (out.name ≡ J.name) × (out.parts ≡ J.parts) × (out.parts ≡ length staff.sessions.items + 1) }
     requires ended { (ended.name ≡ E.name) × (ended.parts ≡ E.parts)
         × (ended.parts ≡ length staff.sessions.items + 1) }
+    requires unread { (unread.name ≡ J.unread) × (unread.parts ≡ J.shares)
+        × (unread.parts ≡ length staff.sessions.items + 3) }
+    requires failures { (failures.name ≡ J.failures) × (failures.parts ≡ J.shares) }
+    requires orders { (orders.name ≡ J.orders) × (orders.parts ≡ J.shares) }
+    requires texts { T.faults lent.desk.texts ≡ J.text_faults }
+    requires wires { A.past lent.desk.dial ≡ J.wires }
+    requires disks { faults_over D.faults (disks_of lent.publisher.maps) ≡ J.disk_faults }
     ensures served { IfOk result (λ served. IsKept
         (conduct_at B.Reader.seen B.Reader.stepped J.text J.hosts) (terms_of J.catalogue J.starts J.most) J.opening
         (opening_of L.past L.most L.accepted L.faults served.listen)
@@ -176,6 +205,16 @@ where
     ensures maps { IfOk result (λ served. Leaves D.history J.catalogue (B.log served.writer) served.disks.items) }
     ensures grown { IfOk result (λ served. IsFront J.starts (B.log served.writer)) }
     ensures desk { IfOk result (λ served. IsSupplied T.Texts J.text J.hosts served.desk) }
+    ensures counted { IfOk result (λ served. CountsAll
+        (conduct_at B.Reader.seen B.Reader.stepped J.text J.hosts) count_totals
+        (terms_of J.catalogue J.starts J.most) J.opening.past (L.past served.listen)
+        (B.log served.writer) spec.now.turns served.inbox_fault
+        (box_of I.past I.turns I.quiets lent.inbox) (box_of I.past I.turns I.quiets served.inbox) served.totals) }
+    ensures files { IfOk result (λ served. FilesAreCovered D.history D.faults
+        (T.faults lent.desk.texts) (T.faults served.desk.texts)
+        (disks_of lent.publisher.maps) served.disks.items served.totals) }
+    ensures orders { IfOk result (λ served. CoversOrders J.wires (A.past served.desk.dial)
+        served.totals.outcomes.reached) }
     ensures refused { IfErr result (λ refused. (refused.desk ≡ lent.desk) × (refused.listen ≡ lent.listen)
         × (refused.inbox ≡ lent.inbox)) }
     ensures stand { IfErr result (λ refused. Leaves D.history J.catalogue J.starts refused.disks.items) }
@@ -189,8 +228,9 @@ where
         spare,
         room,
     } = staff;
-    let publisher = Mutex::new(Locked::<J, D, B>::new(lent.publisher));
-    let desk = Mutex::new(SharedDesk::<J, A, T, C>::new(lent.desk));
+    let (unread, failures, orders, charges) = books::<J>(unread, failures, orders);
+    let publisher = Mutex::new(Locked::<J, D, B>::new(lent.publisher, failures));
+    let desk = Mutex::new(SharedDesk::new(lent.desk, unread, orders));
     let place = Workplace {
         alloc,
         rt,
@@ -205,17 +245,20 @@ where
         reader: spare,
         room,
     };
-    let (listen, tally, mailed) = place.serve::<E, L, I>(
+    let (listen, tally, mailed, account) = place.serve::<E, L, I>(
         posts,
         sessions,
         readers,
         lent.listen,
         out,
         ended,
+        charges,
         bag,
     );
-    let desk = desk.into_inner().into_desk();
-    let (disks, writer) = take_apart(publisher.into_inner(), mailed.reader);
+    let (totals, charges) = account.into_parts();
+    let (mut unread, mut failures, mut reached) = charges.into_shares();
+    let desk = desk.into_inner().close(&mut unread, &mut reached);
+    let (disks, writer) = take_apart(publisher.into_inner(), mailed.reader, &mut failures);
     Ok(Served {
         disks,
         desk,
@@ -223,6 +266,7 @@ where
         inbox: mailed.inbox,
         writer,
         tally,
+        totals,
         inbox_fault: mailed.fault,
     })
 }

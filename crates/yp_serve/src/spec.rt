@@ -2,6 +2,7 @@
 
 use yp_server::Desk;
 use yp_worker::Tally;
+use yp_workhost::Totals;
 
 /// The most workers of a server.
 pub const WORKERS_MAX: u32 = 8;
@@ -29,6 +30,8 @@ pub struct Served<D, B, A, T, C, L, I> {
     pub writer: B,
     /// What was served by all workers of connections together.
     pub tally: Tally,
+    /// What all workers counted of maps that were made and of transfers.
+    pub totals: Totals,
     /// Whether the inbox failed before all its turns were taken.
     pub inbox_fault: bool,
 }

@@ -69,6 +69,19 @@ pub const MAKE: &str = "80000034 00000003
 pub const MADE: &str = "8000001c 00000003
     00000001 00000000 00000000 00000000 00000000 00000001";
 
+// The reply to MAKE where the text isn't read.
+pub const NOT_READ: &str = "8000001c 00000003
+    00000001 00000000 00000000 00000000 00000000 fffffff7";
+
+// XFR of hosts.byname of `lab` from the host `m2`, which has no address, and the reply to it.
+pub const XFR: &str = "80000058 00000005
+    00000000 00000002 000186a4 00000002 00000006 00000000 00000000 00000000
+    00000000 00000003 6c616200 0000000c 686f7374 732e6279 6e616d65 00000000
+    00000002 6d320000 00000009 40000000 00000400";
+
+pub const TAKEN: &str = "80000020 00000005
+    00000001 00000000 00000000 00000000 00000000 00000009 00000001";
+
 // A file of order 100, master `m1` and the row `alpha`, `10.0.0.1 alpha`.
 pub const FILE: &[&str] = &[
     "01000000 00000000 00000000 00000001 00000000 00000040 00000000 00000034",
@@ -92,14 +105,15 @@ pub type Maps<'r, J, R> = Publisher<MemDisk, Writer<J, &'r R>>;
 /// What maps are made of.
 pub type MemDesk = Desk<MemDial, MemTexts, SetClock>;
 
-/// A desk with a text of hosts, at the moment 200.
-pub fn desk(rt: &impl Abort, alloc: Global) -> MemDesk {
+/// A desk with a text of hosts, at the moment 200, whose reads with these numbers fail.
+pub fn desk(rt: &impl Abort, alloc: Global, failing: &[u64]) -> MemDesk {
+    let failing = Vec::from_slice(alloc, failing).expect(rt, "numbers");
     let text = Vec::from_slice(alloc, TEXT).expect(rt, "a text");
     let texts = vec![in alloc; (TextFile::Hosts, text)].expect(rt, "memory for a text");
     Desk {
         dial: MemDial::new(alloc, Vec::new(alloc), Vec::new(alloc)),
         hosts: Hosts::new(alloc),
-        texts: MemTexts::new(texts, Vec::new(alloc)),
+        texts: MemTexts::new(texts, failing),
         clock: SetClock { moment: 200 },
     }
 }

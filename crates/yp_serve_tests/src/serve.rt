@@ -17,9 +17,10 @@ use yp_mem::MemInbox;
 use yp_readers::{Naming, Opened};
 use yp_serve::{ServeSpec, serve};
 use yp_worker::Tally;
+use yp_workhost::{Outcomes, Totals};
 
 // What is served: the file of the map, the inputs of connections, how many workers there are, and how these are held.
-// These calls of the listener fail.
+// These calls of the listener fail, and these reads of the text.
 #[derive(Clone, Copy)]
 struct Case<'c> {
     file: &'c [&'c str],
@@ -27,6 +28,7 @@ struct Case<'c> {
     workers: u32,
     holds: &'c [Hold],
     failing: &'c [u64],
+    unread: &'c [u64],
     post: Post<'c>,
 }
 
@@ -51,9 +53,9 @@ const NO_POST: Post<'static> = Post {
     failing: &[],
 };
 
-// What came of it: the tally, what the connections had taken that went back, one after the other, and what came of the
-// inbox; or memory ran out. And how often a worker was held for too long.
-type Came = (Option<(Tally, Vec<u8>, Mailed)>, u64);
+// What came of it: the tally, what all workers counted, what the connections had taken that went back, one after the
+// other, and what came of the inbox; or memory ran out. And how often a worker was held for too long.
+type Came = (Option<(Tally, Totals, Vec<u8>, Mailed)>, u64);
 
 // What came of an inbox: how many turns there were, what it sent to the sender, one after the other, and whether it is
 // said to have failed.
@@ -108,7 +110,7 @@ fn served<J: Naming + Send + Sync, R: Threads + Wait + RandomSource + Abort + Sy
         most: 9,
         turns: case.post.turns,
     };
-    let desk = desk(rt, alloc);
+    let desk = desk(rt, alloc, case.unread);
     let inbox = Behind::new(
         inbox(rt, alloc, case.post.mail, case.post.failing),
         &gate,
@@ -119,6 +121,7 @@ fn served<J: Naming + Send + Sync, R: Threads + Wait + RandomSource + Abort + Sy
     ) {
         Ok(served) => Some((
             served.tally,
+            served.totals,
             taken(rt, alloc, &served.listen),
             mailed(rt, alloc, served.inbox.inside(), served.inbox_fault),
         )),
@@ -136,13 +139,41 @@ type WantedMail<'w> = (u64, &'w [&'w str], bool);
 // Of an inbox without turns.
 const NO_MAIL: WantedMail<'static> = (0, &[], false);
 
-// Serves a case, and compares what came. No worker is held for too long.
+// Nothing was counted.
+const NONE: Totals = Totals {
+    files: 0,
+    transfers: 0,
+    outcomes: Outcomes {
+        no_address: 0,
+        no_memory: 0,
+        file: 0,
+        source: 0,
+        reached: 0,
+    },
+};
+
+// Serves a case, and compares what came, where nothing is counted.
 fn assert_serves<R: Threads + Wait + RandomSource + Abort + Sync>(
     rt: &R,
     alloc: Global,
     case: &Case<'_>,
     wanted: Wanted<'_>,
     mail: WantedMail<'_>,
+    row: &str,
+)
+    requires { (1 ≤ case.now.workers) × (case.now.workers ≤ 8) }
+{
+    assert_counts(rt, alloc, case, wanted, mail, NONE, row);
+}
+
+// Serves a case, and compares what came. No worker is held for too long.
+fn assert_counts<R: Threads + Wait + RandomSource + Abort + Sync>(
+    rt: &R,
+    alloc: Global,
+    case: &Case<'_>,
+    wanted: Wanted<'_>,
+    mail: WantedMail<'_>,
+    totals: Totals,
     row: &str,
 )
     requires { (1 ≤ case.now.workers) × (case.now.workers ≤ 8) }
@@ -155,9 +186,41 @@ fn assert_serves<R: Threads + Wait + RandomSource + Abort + Sync>(
     };
     let (turns, replies, fault) = mail;
     let mailed = (turns, bytes(rt, alloc, replies), fault);
-    let wanted = (Some((tally, bytes(rt, alloc, output), mailed)), 0);
+    let wanted = (Some((tally, totals, bytes(rt, alloc, output), mailed)), 0);
     let came = served::<Brand, R>(rt, alloc, Opened::new(), case);
     assert_same(rt, &came, &wanted, row);
+}
+
+#[test]
+fn totals_of_a_worker(rt: HostRuntime) {
+    // The text isn't read at the first MAKE.
+    let case = Case {
+        file: NO_FILE,
+        inputs: &[&[XFR, MAKE], &[MAKE]],
+        workers: 1,
+        holds: &[],
+        failing: &[],
+        unread: &[0],
+        post: NO_POST,
+    };
+    let wanted: Wanted<'_> = (2, 3, false, &[TAKEN, NOT_READ, MADE]);
+    let totals = Totals {
+        files: 1,
+        transfers: 1,
+        outcomes: Outcomes {
+            no_address: 1,
+            ..NONE.outcomes
+        },
+    };
+    assert_counts(
+        &rt,
+        rt.alloc(),
+        &case,
+        wanted,
+        NO_MAIL,
+        totals,
+        "a transfer and two makes",
+    );
 }
 
 #[test]
@@ -168,6 +231,7 @@ fn two_workers(rt: HostRuntime) {
         workers: 2,
         holds: &[],
         failing: &[],
+        unread: &[],
         post: NO_POST,
     };
     let wanted: Wanted<'_> = (2, 3, false, &[OLD, OLD, OLD]);
@@ -191,6 +255,7 @@ fn later_connection_sees_build(rt: HostRuntime) {
         workers: 2,
         holds: BUILD_HOLDS,
         failing: &[],
+        unread: &[],
         post: NO_POST,
     };
     let wanted: Wanted<'_> = (3, 2, false, &[MADE, NEW]);
@@ -215,6 +280,7 @@ fn idle_connection_sees_newer(rt: HostRuntime) {
             ((Kind::Replied, 1, 1), (Kind::Replied, 2, 1)),
         ],
         failing: &[],
+        unread: &[],
         post: NO_POST,
     };
     let wanted: Wanted<'_> = (2, 3, false, &[OLD, NEW, MADE]);
@@ -236,6 +302,7 @@ fn listen_fault(rt: HostRuntime) {
         workers: 1,
         holds: &[],
         failing: &[0],
+        unread: &[],
         post: NO_POST,
     };
     let wanted: Wanted<'_> = (0, 0, true, &[]);
@@ -257,6 +324,7 @@ fn later_listen_fault(rt: HostRuntime) {
         workers: 2,
         holds: &[],
         failing: &[1],
+        unread: &[],
         post: NO_POST,
     };
     let wanted: Wanted<'_> = (1, 1, true, &[NO_MAP]);
@@ -282,6 +350,7 @@ fn held_stream(rt: HostRuntime) {
             ((Kind::Piece, 1, 2), (Kind::Replied, 2, 2)),
         ],
         failing: &[],
+        unread: &[],
         post: NO_POST,
     };
     let wanted: Wanted<'_> = (2, 4, false, &[OLD_ALL, NEW, OLD, MADE]);
@@ -324,6 +393,7 @@ fn held_streams_of_seven(rt: HostRuntime) {
         workers: 8,
         holds: HELD,
         failing: &[],
+        unread: &[],
         post: NO_POST,
     };
     let wanted: Wanted<'_> = (
@@ -354,6 +424,7 @@ fn datagram_beside(rt: HostRuntime) {
         workers: 1,
         holds: &[((Kind::Piece, 1, 1), (Kind::Asked, 0, 1))],
         failing: &[],
+        unread: &[],
         post: Post {
             mail: &[&[NULL]],
             turns: 1,
@@ -375,6 +446,7 @@ fn inbox_fault(rt: HostRuntime) {
         workers: 1,
         holds: &[],
         failing: &[],
+        unread: &[],
         post: Post {
             mail: &[&[NULL], &[NULL]],
             turns: 3,

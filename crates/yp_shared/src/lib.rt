@@ -3,11 +3,12 @@
 //! Whenever the lock is got, every map stands as its publisher says, and what is shown of it is the state of the log:
 //! that is a fact of the type [`Locked`], which lies under the lock. What a caller learns of an install by its own
 //! reader, which the lock's writer tells of all that was shown, stands on [`install_shared`]; what a crash leaves of
-//! each map at any moment under the lock, on [`Locked::install`].
+//! each map at any moment under the lock, on [`Locked::install`]. How many files failed in all installs is at most what
+//! the counts of the disks rose by: that stands on [`Locked::close`].
 #![tactic(auto)]
 
 mod locked;
 mod share;
 
-pub use locked::{Locked, ShareFault, Site};
+pub use locked::{Accounts, Failures, Locked, ShareFault, Site};
 pub use share::{install_shared, tell_shared};

@@ -1,6 +1,6 @@
 //! What lies under the lock.
 
-ghost use Rattle.std.specs.Prelude.{◌≡◌, ◌<◌, false, length, option_map, OnOk, OnErr, IfErr, None};
+ghost use Rattle.std.specs.Prelude.{◌≡◌, ◌+◌, ◌<◌, ◌≤◌, false, length, option_map, OnOk, OnErr, IfErr, None};
 ghost use Rattle.std.specs.Arc.{arc_value};
 ghost use Rattle.std.specs.Option.{option_map_or};
 ghost use Rattle.yp_board.specs.Logs.{shown};
@@ -11,11 +11,13 @@ ghost use Rattle.yp_publish.specs.Keeping.{keeping_of};
 ghost use Rattle.yp_publish.specs.Rising.{with_shown};
 ghost use Rattle.yp_shared.specs.Shares.{offer_behind, OpensAndInstalls, IsNotInstalled, IsRefused, IsShownBehind};
 ghost use Rattle.yp_shared.specs.Shares.{IsReason, Learns};
+ghost use Rattle.yp_shared.specs.Failures.{failures_in, failures_of, faults_over, disks_of, Covers};
 
 use std::alloc::Global;
 use std::marker::{Brand, Model, PhantomData};
 use std::random::RandomSource;
 use std::sync::Arc;
+use std::sync::ledger::{Book, Ledger, Share};
 use yp_board::{Show, Tell};
 use yp_io::{Disk, NoMemory};
 use yp_publish::{InstallFault, Origin, Publisher};
@@ -36,6 +38,41 @@ impl Site for Brand {
     ghost catalogue = { record { own = []; maps = [] } };
 }
 
+/// How often the disks of a site had failed before its publisher was shared, and the ledger that counts the failed
+/// files since then. Each call of a program that shares a publisher picks it.
+pub trait Accounts {
+    ghost use Rattle.std.specs.Prelude.{ℕ};
+
+    /// How often its disks had failed.
+    ghost disk_faults: { ℕ };
+
+    /// The name of the ledger.
+    ghost failures: { ℕ };
+
+    /// Into how many parts its ledgers are cut.
+    ghost shares: { ℕ };
+}
+
+impl Accounts for Brand {
+    ghost disk_faults = { 0 };
+
+    ghost failures = { 0 };
+
+    ghost shares = { 0 };
+}
+
+/// The ledger of the failed files of a site.
+#[derive(Drop)]
+pub struct Failures<S: Accounts> {
+    of: PhantomData<S>,
+}
+
+impl<S: Accounts> Ledger for Failures<S> {
+    ghost name = { S.failures };
+
+    ghost parts = { S.shares };
+}
+
 /// Why a version wasn't installed, or why the reader doesn't know it.
 #[derive(Debug, PartialEq, Eq, Drop)]
 pub enum ShareFault {
@@ -47,47 +84,58 @@ pub enum ShareFault {
     Untold,
 }
 
-/// A publisher of the maps that are served, for a lock to keep. It is seen as that publisher.
+/// A publisher of the maps that are served, for a lock to keep, with the book of the files that failed since it is
+/// shared. It is seen as that publisher.
 #[derive(Drop)]
-pub struct Locked<S: Site, D: Disk, B: Show> {
+pub struct Locked<S: Site + Accounts, D: Disk, B: Show> {
     publisher: Publisher<D, B>,
-    of: PhantomData<S>,
+    failures: Book<Failures<S>>,
 }
 
-impl<S: Site, D: Disk, B: Show> Model for Locked<S, D, B> {
+impl<S: Site + Accounts, D: Disk, B: Show> Model for Locked<S, D, B> {
     ghost use Rattle.std.specs.Prelude.{◌≡◌};
     ghost use Rattle.yp_publish.specs.Standing.{Published};
+    ghost use Rattle.yp_shared.specs.Failures.{Covers};
 
     ghost Value = { Published D B };
 
     ghost view = { λ l. l.publisher };
 
-    ghost invariant = { λ l. l.publisher.catalogue ≡ S.catalogue };
+    ghost invariant = { λ l. (l.publisher.catalogue ≡ S.catalogue)
+        × Covers D.history D.faults S.disk_faults l.publisher.maps l.failures.total };
 }
 
-impl<S: Site, D: Disk, B: Show> Locked<S, D, B> {
-    /// A publisher of the maps that are served.
-    pub fn new(publisher: Publisher<D, B>) -> Locked<S, D, B>
-        requires { publisher.catalogue ≡ S.catalogue }
+impl<S: Site + Accounts, D: Disk, B: Show> Locked<S, D, B> {
+    /// A publisher of the maps that are served, with the book of the files that fail from now on.
+    pub fn new(publisher: Publisher<D, B>, failures: Book<Failures<S>>) -> Locked<S, D, B>
+        requires site { publisher.catalogue ≡ S.catalogue }
+        requires before { faults_over D.faults (disks_of publisher.maps) ≡ S.disk_faults }
+        requires none { failures.total ≡ 0 }
         ensures { result ≡ publisher }
     {
         Locked {
             publisher,
-            of: PhantomData,
+            failures,
         }
     }
 
-    /// The publisher, once the lock is left.
-    pub fn into_publisher(self) -> Publisher<D, B>
+    /// The publisher, once the lock is left. What a caller was charged with is covered by the faults of its disks.
+    pub fn close(self, charge: &mut Share<Failures<S>>) -> Publisher<D, B>
         ensures publisher { result ≡ self }
         ensures catalogue { result.catalogue ≡ S.catalogue }
+        ensures covered { Covers D.history D.faults S.disk_faults result.maps charge.old.amount }
     {
-        self.publisher
+        let Locked {
+            publisher,
+            mut failures,
+        } = self;
+        failures.audit(charge);
+        publisher
     }
 
     /// Stores a version of a map, and then shows it. A map that is behind is opened again first. The version is marked
     /// as the one that is shown then, and has to have a higher order. At each moment of the call a crash leaves a file
-    /// that stands as the map stood, or for that version.
+    /// that stands as the map stood, or for that version. Where its file failed, that is charged.
     pub fn install(
         &mut self,
         alloc: Global,
@@ -95,8 +143,10 @@ impl<S: Site, D: Disk, B: Show> Locked<S, D, B> {
         map: u32,
         version: Version,
         origin: Origin,
+        charge: &mut Share<Failures<S>>,
     ) -> Result<(), ShareFault>
-        requires { map < length S.catalogue.maps }
+        requires map { map < length S.catalogue.maps }
+        requires charge { 0 < charge.old.parts }
         ensures installed { OnOk result (OpensAndInstalls (keeping_of D.history D.faults B.log) map version origin
             self.old self.new) }
         ensures refused { IfErr result (λ fault. IsNotInstalled (keeping_of D.history D.faults B.log) map version
@@ -108,13 +158,19 @@ impl<S: Site, D: Disk, B: Show> Locked<S, D, B> {
         ensures reason { IfErr result (λ fault. IsReason S.catalogue.own map version origin fault
             (B.log self.new.board)) }
         ensures grown { IsFront (B.log self.old.board) (B.log self.new.board) }
+
+        // What it is charged with.
+        ensures charged { charge.new.amount ≡ charge.old.amount + failures_of result }
+        ensures parts { charge.new.parts ≡ charge.old.parts }
     {
         let _catalog = self.publisher.catalog();
-        open_and_offer(alloc, rt, &mut self.publisher, map, version, origin)
+        let installed = open_and_offer(alloc, rt, &mut self.publisher, map, version, origin);
+        self.failures.add(charge, failures_of(&installed));
+        installed
     }
 }
 
-impl<S: Site, D: Disk, B: Tell> Locked<S, D, B> {
+impl<S: Site + Accounts, D: Disk, B: Tell> Locked<S, D, B> {
     /// Lets a reader of the board know all that was shown. After a refusal nothing has changed.
     pub fn tell_to(&mut self, reader: &mut B::Reader) -> Result<(), NoMemory>
         ensures same { self.new ≡ self.old }
@@ -136,21 +192,50 @@ impl<S: Site, D: Disk, B: Tell> Locked<S, D, B> {
         map: u32,
         version: Version,
         origin: Origin,
+        charge: &mut Share<Failures<S>>,
     ) -> Result<(), ShareFault>
-        requires { map < length S.catalogue.maps }
+        requires map { map < length S.catalogue.maps }
+        requires charge { 0 < charge.old.parts }
         ensures shown { OnOk result (IsShownBehind S.catalogue.own map version origin
             (B.Reader.seen reader.old).known (B.Reader.seen reader.new).known) }
         ensures reason { IfErr result (λ fault. IsReason S.catalogue.own map version origin fault
             (B.Reader.seen reader.new).known) }
         ensures learned { Learns (B.Reader.seen reader.old) (B.Reader.seen reader.new) }
+        ensures charged { charge.old.amount + failures_of result ≤ charge.new.amount }
+        ensures parts { charge.new.parts ≡ charge.old.parts }
     {
         // It needn't know what was shown before, but that this begins with all that it knows.
         let _ = self.tell_to(reader);
-        let installed = self.install(alloc, rt, map, version, origin);
+        let installed = self.install(alloc, rt, map, version, origin, charge);
         match self.tell_to(reader) {
             Ok(()) => installed,
             Err(NoMemory) => Err(ShareFault::Untold),
         }
+    }
+}
+
+/// How many failed files the outcome of an install stands for.
+fn failures_of(installed: &Result<(), ShareFault>) -> u64
+    ensures { result ≡ failures_of installed.now }
+{
+    match installed {
+        Ok(()) => 0,
+        Err(fault) => failures_in(fault),
+    }
+}
+
+/// How many failed files a fault stands for.
+fn failures_in(fault: &ShareFault) -> u64
+    ensures { result ≡ failures_in fault.now }
+{
+    match fault {
+        ShareFault::Untold => 0,
+        ShareFault::Shut(SlotFault::NoMemory) => 0,
+        ShareFault::Shut(_) => 1,
+        ShareFault::Unfit(InstallFault::NoMemory) => 0,
+        ShareFault::Unfit(InstallFault::Refused { .. }) => 0,
+        ShareFault::Unfit(InstallFault::Age { .. }) => 0,
+        ShareFault::Unfit(_) => 1,
     }
 }
 

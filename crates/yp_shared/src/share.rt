@@ -1,11 +1,13 @@
 //! The calls that take the lock.
 
-ghost use Rattle.std.specs.Prelude.{◌≡◌, ◌<◌, length, OnOk, OnErr, IfErr};
+ghost use Rattle.std.specs.Prelude.{◌≡◌, ◌+◌, ◌<◌, ◌≤◌, length, OnOk, OnErr, IfErr};
 ghost use Rattle.yp_shared.specs.Shares.{IsShownBehind, IsReason, Learns};
+ghost use Rattle.yp_shared.specs.Failures.{failures_of};
 
-use crate::locked::{Locked, ShareFault, Site};
+use crate::locked::{Accounts, Failures, Locked, ShareFault, Site};
 use std::alloc::Global;
 use std::random::RandomSource;
+use std::sync::ledger::Share;
 use std::sync::{Mutex, Wait};
 use yp_board::Tell;
 use yp_io::{Disk, NoMemory};
@@ -16,8 +18,8 @@ use yp_version::Version;
 /// and for readers that are inside a read step.
 ///
 /// The version is shown behind all that the reader knew. Where it isn't, the reader knows why, or memory ran out, or
-/// the map's file failed.
-pub fn install_shared<S: Site, D: Disk, B: Tell, R: RandomSource + Wait>(
+/// the map's file failed, which is charged.
+pub fn install_shared<S: Site + Accounts, D: Disk, B: Tell, R: RandomSource + Wait>(
     alloc: Global,
     rt: &R,
     shared: &Mutex<Locked<S, D, B>>,
@@ -25,21 +27,25 @@ pub fn install_shared<S: Site, D: Disk, B: Tell, R: RandomSource + Wait>(
     map: u32,
     version: Version,
     origin: Origin,
+    charge: &mut Share<Failures<S>>,
 ) -> Result<(), ShareFault>
-    requires { map < length S.catalogue.maps }
+    requires map { map < length S.catalogue.maps }
+    requires charge { 0 < charge.old.parts }
     ensures shown { OnOk result (IsShownBehind S.catalogue.own map version origin
         (B.Reader.seen reader.old).known (B.Reader.seen reader.new).known) }
     ensures reason { IfErr result (λ fault. IsReason S.catalogue.own map version origin fault
         (B.Reader.seen reader.new).known) }
     ensures learned { Learns (B.Reader.seen reader.old) (B.Reader.seen reader.new) }
+    ensures charged { charge.old.amount + failures_of result ≤ charge.new.amount }
+    ensures parts { charge.new.parts ≡ charge.old.parts }
 {
     let mut locked = shared.lock(rt);
-    locked.install_for(alloc, rt, reader, map, version, origin)
+    locked.install_for(alloc, rt, reader, map, version, origin, charge)
 }
 
 /// Lets a reader of the board know all that was shown, in any thread. It waits for the lock. After a refusal the reader
 /// is as it was.
-pub fn tell_shared<S: Site, D: Disk, B: Tell, R: Wait>(
+pub fn tell_shared<S: Site + Accounts, D: Disk, B: Tell, R: Wait>(
     rt: &R,
     shared: &Mutex<Locked<S, D, B>>,
     reader: &mut B::Reader,

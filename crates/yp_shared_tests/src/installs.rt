@@ -1,17 +1,20 @@
 //! Installs and tellings under one lock, in one thread.
 
 ghost use Rattle.std.specs.Prelude.{◌≡◌, ◌<◌, length};
+ghost use Rattle.yp_io.specs.MemDisk.{Platter};
+ghost use Rattle.yp_shared.specs.Failures.{disks_of, faults_over};
 
 use crate::given::*;
 use std::alloc::Global;
 use std::marker::Brand;
 use std::process::Abort;
 use std::random::RandomSource;
+use std::sync::ledger::{Blank, Share};
 use std::sync::{Mutex, Wait};
 use yp_io::MemDisk;
 use yp_publish::{InstallFault, Origin};
 use yp_readers::{Naming, Opened, Reader, Writer};
-use yp_shared::{Locked, ShareFault, Site, install_shared, tell_shared};
+use yp_shared::{Accounts, Failures, Locked, ShareFault, Site, install_shared, tell_shared};
 
 // The maps under their lock.
 type Shared<'r, S, J, R> = Mutex<Locked<S, MemDisk, Writer<J, &'r R>>>;
@@ -96,51 +99,70 @@ fn played<J: Naming, R: Wait + RandomSource + Abort>(
     let disk = disk(rt, alloc, failing);
     let (maps, mut readers) = publisher_of::<J, R>(rt, alloc, opened, disk, 1);
     let mut reader = one_of(rt, &mut readers);
-    play_all::<J, Brand, R>(rt, alloc, maps, &mut reader, rows);
+    play_all::<J, Brand, R>(rt, alloc, maps, Blank::new(1), &mut reader, rows);
 }
 
 // Makes these installs in turn.
-fn play_all<'r, J: Naming, S: Site, R: Wait + RandomSource + Abort>(
+fn play_all<'r, J: Naming, S: Site + Accounts, R: Wait + RandomSource + Abort>(
     rt: &'r R,
     alloc: Global,
     maps: Maps<'r, J, R>,
+    failures: Blank,
     reader: &mut Reader<J>,
     rows: &[Row],
 )
     requires site { maps.catalogue ≡ S.catalogue }
     requires some { 0 < length S.catalogue.maps }
+    requires disks { faults_over (λ (p : Platter). p.faults) (disks_of maps.maps) ≡ S.disk_faults }
+    requires ledger { (failures.name ≡ S.failures) × (failures.parts ≡ S.shares) × (0 < failures.parts) }
 {
-    let shared = Mutex::new(Locked::<S, _, _>::new(maps));
-    play(rt, alloc, &shared, reader, rows);
+    let (book, mut charge) = failures.open::<Failures<S>>();
+    let shared = Mutex::new(Locked::<S, _, _>::new(maps, book));
+    play(rt, alloc, &shared, reader, &mut charge, rows);
+    let _ = shared.into_inner().close(&mut charge);
 }
 
-fn play<'r, J: Naming, S: Site, R: Wait + RandomSource + Abort>(
+fn play<'r, J: Naming, S: Site + Accounts, R: Wait + RandomSource + Abort>(
     rt: &'r R,
     alloc: Global,
     shared: &Shared<'r, S, J, R>,
     reader: &mut Reader<J>,
+    charge: &mut Share<Failures<S>>,
     rows: &[Row],
 )
-    requires { 0 < length S.catalogue.maps }
+    requires maps { 0 < length S.catalogue.maps }
+    requires charge { 0 < charge.old.parts }
 {
     for (order, outcome, after) in rows {
-        let came = offered(rt, alloc, shared, reader, *order);
+        let came = offered(rt, alloc, shared, reader, charge, *order);
         assert_same(rt, &came, &(*outcome, *after), "an install");
     }
 }
 
 // Offers a version of this order, and tells what came of it and what the reader then holds.
-fn offered<'r, J: Naming, S: Site, R: Wait + RandomSource + Abort>(
+fn offered<'r, J: Naming, S: Site + Accounts, R: Wait + RandomSource + Abort>(
     rt: &'r R,
     alloc: Global,
     shared: &Shared<'r, S, J, R>,
     reader: &mut Reader<J>,
+    charge: &mut Share<Failures<S>>,
     order: u32,
 ) -> (Outcome, Option<u32>)
-    requires { 0 < length S.catalogue.maps }
+    requires maps { 0 < length S.catalogue.maps }
+    requires charge { 0 < charge.old.parts }
+    ensures { charge.new.parts ≡ charge.old.parts }
 {
     let version = version(rt, alloc, order);
-    let result = install_shared(alloc, rt, shared, reader, 0, version, Origin::Built);
+    let result = install_shared(
+        alloc,
+        rt,
+        shared,
+        reader,
+        0,
+        version,
+        Origin::Built,
+        charge,
+    );
     (outcome_of(&result), held(reader))
 }
 
@@ -169,33 +191,39 @@ fn told<J: Naming, R: Wait + RandomSource + Abort>(
     let (maps, mut readers) = publisher_of::<J, R>(rt, alloc, opened, disk, 2);
     let mut first = one_of(rt, &mut readers);
     let mut second = one_of(rt, &mut readers);
-    tell_second::<J, Brand, R>(rt, alloc, maps, &mut first, &mut second)
+    tell_second::<J, Brand, R>(rt, alloc, maps, Blank::new(1), &mut first, &mut second)
 }
 
-fn tell_second<'r, J: Naming, S: Site, R: Wait + RandomSource + Abort>(
+fn tell_second<'r, J: Naming, S: Site + Accounts, R: Wait + RandomSource + Abort>(
     rt: &'r R,
     alloc: Global,
     maps: Maps<'r, J, R>,
+    failures: Blank,
     first: &mut Reader<J>,
     second: &mut Reader<J>,
 ) -> (Option<u32>, Option<u32>)
     requires site { maps.catalogue ≡ S.catalogue }
     requires some { 0 < length S.catalogue.maps }
+    requires disks { faults_over (λ (p : Platter). p.faults) (disks_of maps.maps) ≡ S.disk_faults }
+    requires ledger { (failures.name ≡ S.failures) × (failures.parts ≡ S.shares) × (0 < failures.parts) }
 {
-    let shared = Mutex::new(Locked::<S, _, _>::new(maps));
-    told_under(rt, alloc, &shared, first, second)
+    let (book, mut charge) = failures.open::<Failures<S>>();
+    let shared = Mutex::new(Locked::<S, _, _>::new(maps, book));
+    told_under(rt, alloc, &shared, first, second, &mut charge)
 }
 
-fn told_under<'r, J: Naming, S: Site, R: Wait + RandomSource + Abort>(
+fn told_under<'r, J: Naming, S: Site + Accounts, R: Wait + RandomSource + Abort>(
     rt: &'r R,
     alloc: Global,
     shared: &Shared<'r, S, J, R>,
     first: &mut Reader<J>,
     second: &mut Reader<J>,
+    charge: &mut Share<Failures<S>>,
 ) -> (Option<u32>, Option<u32>)
-    requires { 0 < length S.catalogue.maps }
+    requires maps { 0 < length S.catalogue.maps }
+    requires charge { 0 < charge.old.parts }
 {
-    offered(rt, alloc, shared, first, 100);
+    offered(rt, alloc, shared, first, charge, 100);
     let before = held(second);
     match tell_shared(rt, shared, second) {
         Ok(()) => (before, held(second)),

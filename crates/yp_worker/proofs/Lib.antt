@@ -1,3 +1,4 @@
 mod Growing
 mod Serving
 mod Receiving
+mod Summing

@@ -4,7 +4,7 @@ ghost use Rattle.std.specs.Prelude.{◌≡◌, ◌+◌};
 ghost use Rattle.yp_session.specs.Hosts.{conduct_of};
 ghost use Rattle.yp_worker.specs.Receptions.{IsUnder, terms_of};
 
-use crate::catch_up::CatchUp;
+use crate::catch_up::HandsOver;
 use crate::gate::Gate;
 use crate::listening::{Listening, Pass, Reception};
 use crate::tally::Tally;
@@ -25,7 +25,8 @@ pub fn run_beside<J, E, H, G, L, R: Threads + Wait + Sync>(
 where
     J: Reception + Send + Sync,
     E: Ledger + Send + Sync,
-    H: CatchUp + Send + Drop,
+    H: HandsOver + Send + Drop,
+    H::Sum: Send,
     G: Gate + Copy + Send + Drop,
     L: Listen + Send,
     L::In: Send,
@@ -34,6 +35,7 @@ where
         (terms_of J.catalogue J.starts J.most) first.0 }
     requires second { IsUnder (conduct_of H.seen H.told H.counts H.stepped H.made H.carried)
         (terms_of J.catalogue J.starts J.most) second.0 }
+    requires none { (H.counted first.0.host ≡ H.none) × (H.counted second.0.host ≡ H.none) }
     ensures first { result.0.0 ≡ record first.1 { ended = first.1.ended + 1 } }
     ensures second { result.1.0 ≡ record second.1 { ended = second.1.ended + 1 } }
 {
@@ -43,26 +45,27 @@ where
         rt,
         move || -> (Pass<J, E>, Tally)
             requires { IsUnder (conduct_of H.seen H.told H.counts H.stepped H.made H.carried)
-                (terms_of J.catalogue J.starts J.most) worker }
+                (terms_of J.catalogue J.starts J.most) worker × (H.counted worker.host ≡ H.none) }
             ensures { result.0 ≡ record pass { ended = pass.ended + 1 } }
         { ran(rt, listening, worker, pass) },
         move || -> (Pass<J, E>, Tally)
             requires { IsUnder (conduct_of H.seen H.told H.counts H.stepped H.made H.carried)
-                (terms_of J.catalogue J.starts J.most) other }
+                (terms_of J.catalogue J.starts J.most) other × (H.counted other.host ≡ H.none) }
             ensures { result.0 ≡ record its_pass { ended = its_pass.ended + 1 } }
         { ran(rt, listening, other, its_pass) },
     )
 }
 
 /// Runs a worker, and hands its pass back.
-fn ran<J: Reception, E: Ledger, H: CatchUp + Drop, G: Gate + Copy + Drop, L: Listen, R: Wait>(
+fn ran<J: Reception, E: Ledger, H: HandsOver + Drop, G: Gate + Copy + Drop, L: Listen, R: Wait>(
     rt: &R,
     listening: &Mutex<Listening<J, E, H, L>>,
     mut worker: Worker<H, G>,
     mut pass: Pass<J, E>,
 ) -> (Pass<J, E>, Tally)
-    requires { IsUnder (conduct_of H.seen H.told H.counts H.stepped H.made H.carried)
+    requires under { IsUnder (conduct_of H.seen H.told H.counts H.stepped H.made H.carried)
         (terms_of J.catalogue J.starts J.most) worker }
+    requires none { H.counted worker.host ≡ H.none }
     ensures { result.0 ≡ record pass { ended = pass.ended + 1 } }
 {
     let tally = worker.run(rt, listening, &mut pass);

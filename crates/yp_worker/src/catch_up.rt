@@ -1,4 +1,4 @@
-//! A host that can be told of what others showed.
+//! A host that can be told of what others showed, and one that hands over what it has counted.
 
 ghost use Rattle.std.specs.Prelude.{◌≡◌, OnErr};
 ghost use Rattle.yp_shared.specs.Shares.{Learns};
@@ -14,4 +14,25 @@ pub trait CatchUp: Host {
         ensures learned { Learns (Self.seen self.old) (Self.seen self.new) }
         ensures counts { Self.counts self.new ≡ Self.counts self.old }
         ensures refused { OnErr result (self.new ≡ self.old) };
+}
+
+/// A host that hands over what it has counted, to be summed up.
+pub trait HandsOver: CatchUp {
+    /// What hosts have counted.
+    type Sum: Drop;
+
+    /// What it has counted since it last handed that over.
+    ghost counted: { Self → Self.Sum };
+
+    /// The sum of nothing.
+    ghost none: { Self.Sum };
+
+    /// A sum and more.
+    ghost plus: { Self.Sum → Self.Sum → Self.Sum };
+
+    /// Adds what it has counted to a sum, and counts from nothing again.
+    fn hand_over(&mut self, sum: &mut Self::Sum)
+        ensures seen { Self.seen self.new ≡ Self.seen self.old }
+        ensures none { counted self.new ≡ none }
+        ensures added { sum.new ≡ plus sum.old (counted self.old) };
 }

@@ -5,12 +5,14 @@ ghost use Rattle.yp_io.specs.Counts.{HasRisen};
 ghost use Rattle.yp_io.specs.declared.stream.Peer.{Peer};
 ghost use Rattle.yp_listen.specs.Calls.{IsFreshCall, ended_by};
 ghost use Rattle.yp_session.specs.Hosts.{conduct_of};
-ghost use Rattle.yp_worker.specs.Receptions.{Admits, IsFair, IsKept, WasServed, stay_of};
+ghost use Rattle.yp_worker.specs.Receptions.{Admits, IsFair, IsKept, stay_of};
 ghost use Rattle.yp_worker.specs.Receptions.{opening_of, terms_of};
+ghost use Rattle.yp_worker.specs.Summing.{CountsUpTo, SumsUp, counting_of};
 
-use crate::catch_up::CatchUp;
+use crate::catch_up::HandsOver;
 use crate::tally::Tally;
-use std::marker::{Brand, Model, PhantomData};
+use crate::worker::Worker;
+use std::marker::{Brand, Model};
 use std::sync::ledger::{Book, Ledger, Share};
 use yp_io::Failed;
 use yp_listen::{Arrival, Called, Listen};
@@ -106,21 +108,22 @@ impl<J: Ledger, E: Ledger> Pass<J, E> {
     }
 }
 
-/// A listener, and what came of its connections.
+/// A listener, what came of its connections, and the sum of what was counted in them.
 #[derive(Drop)]
-pub struct Listening<J: Reception, E: Ledger, H: CatchUp, L: Listen> {
+pub struct Listening<J: Reception, E: Ledger, H: HandsOver, L: Listen> {
     listen: L,
     connections: u64,
     calls: u64,
     failed: bool,
     out: Book<J>,
     ended: Book<E>,
-    host: PhantomData<H>,
+    sum: H::Sum,
 }
 
-impl<J: Reception, E: Ledger, H: CatchUp, L: Listen> Model for Listening<J, E, H, L> {
+impl<J: Reception, E: Ledger, H: HandsOver, L: Listen> Model for Listening<J, E, H, L> {
     ghost use Rattle.yp_session.specs.Hosts.{conduct_of};
     ghost use Rattle.yp_worker.specs.Receptions.{Kept, IsFair, IsKept, opening_of, terms_of};
+    ghost use Rattle.yp_worker.specs.Summing.{SumsUp, counting_of};
 
     ghost Value = { Kept L };
 
@@ -136,16 +139,20 @@ impl<J: Reception, E: Ledger, H: CatchUp, L: Listen> Model for Listening<J, E, H
     ghost invariant = { λ l. IsFair J.opening.past
         × IsKept (conduct_of H.seen H.told H.counts H.stepped H.made H.carried)
         (terms_of J.catalogue J.starts J.most) J.opening (opening_of L.past L.most L.accepted L.faults l.listen)
-        l.connections l.calls l.failed l.out.total l.ended.total };
+        l.connections l.calls l.failed l.out.total l.ended.total
+        × SumsUp (conduct_of H.seen H.told H.counts H.stepped H.made H.carried)
+        (counting_of H.counted H.none H.plus) (terms_of J.catalogue J.starts J.most) J.opening.past (L.past l.listen)
+        l.sum };
 }
 
-impl<J: Reception, E: Ledger, H: CatchUp, L: Listen> Listening<J, E, H, L> {
+impl<J: Reception, E: Ledger, H: HandsOver, L: Listen> Listening<J, E, H, L> {
     /// A listener before its first connection.
-    pub fn new(listen: L, out: Book<J>, ended: Book<E>) -> Listening<J, E, H, L>
+    pub fn new(listen: L, out: Book<J>, ended: Book<E>, sum: H::Sum) -> Listening<J, E, H, L>
         requires opening { opening_of L.past L.most L.accepted L.faults listen ≡ J.opening }
         requires fair { IsFair J.opening.past }
         requires none_out { out.total ≡ 0 }
         requires none_ended { ended.total ≡ 0 }
+        requires none_counted { sum ≡ H.none }
         ensures { result ≡ record {
           listen = listen;
           connections = 0;
@@ -162,7 +169,7 @@ impl<J: Reception, E: Ledger, H: CatchUp, L: Listen> Listening<J, E, H, L> {
             failed: false,
             out,
             ended,
-            host: PhantomData,
+            sum,
         }
     }
 
@@ -193,28 +200,33 @@ impl<J: Reception, E: Ledger, H: CatchUp, L: Listen> Listening<J, E, H, L> {
         }
     }
 
-    /// Takes back a connection that was served, of which so many records were read.
-    pub(crate) fn take_back(
+    /// Takes back a connection that was served, of which so many records were read, and what the worker counted in it.
+    pub(crate) fn take_back<G>(
         &mut self,
         pass: &mut Pass<J, E>,
         call: Called<L::In, L::Out>,
         calls: u64,
+        worker: &mut Worker<H, G>,
     )
         requires out { 0 < pass.old.out }
-        requires served { WasServed (conduct_of H.seen H.told H.counts H.stepped H.made H.carried)
-            (terms_of J.catalogue J.starts J.most)
-            (stay_of (ended_by L.In.input L.Out.output L.Out.flushed call) calls) }
+        requires served { CountsUpTo (conduct_of H.seen H.told H.counts H.stepped H.made H.carried)
+            (counting_of H.counted H.none H.plus) (terms_of J.catalogue J.starts J.most)
+            (stay_of (ended_by L.In.input L.Out.output L.Out.flushed call) calls) (H.counted worker.old.host) }
         ensures out { pass.new.out + 1 ≡ pass.old.out }
         ensures same { pass.new ≡ record pass.old { out = pass.new.out } }
+        ensures seen { H.seen worker.new.host ≡ H.seen worker.old.host }
+        ensures worker { worker.new ≡ record worker.old { host = worker.new.host } }
+        ensures none { H.counted worker.new.host ≡ H.none }
     {
         self.out.sub(&mut pass.out, 1);
         self.calls = self.calls.saturating_add(calls);
+        worker.hand_over(&mut self.sum);
         self.listen.back(call);
     }
 
     /// The listener, once all its workers have ended and been joined, with how many connections came, how many of
-    /// their records were read, and whether an accept has failed.
-    pub fn close(self, pass: &mut Pass<J, E>) -> (L, Tally)
+    /// their records were read, and whether an accept has failed, and the sum of what the workers counted.
+    pub fn close(self, pass: &mut Pass<J, E>) -> (L, Tally, H::Sum)
         requires all { pass.old.parts ≡ J.parts }
         requires none_out { pass.old.out ≡ 0 }
         requires ended { 0 < pass.old.ended }
@@ -222,6 +234,9 @@ impl<J: Reception, E: Ledger, H: CatchUp, L: Listen> Listening<J, E, H, L> {
             (terms_of J.catalogue J.starts J.most) J.opening
             (opening_of L.past L.most L.accepted L.faults result.0)
             result.1.connections result.1.calls result.1.listen_fault 0 1 }
+        ensures summed { SumsUp (conduct_of H.seen H.told H.counts H.stepped H.made H.carried)
+            (counting_of H.counted H.none H.plus) (terms_of J.catalogue J.starts J.most) J.opening.past
+            (L.past result.0) result.2 }
         ensures same { pass.new ≡ pass.old }
     {
         let Listening {
@@ -231,7 +246,7 @@ impl<J: Reception, E: Ledger, H: CatchUp, L: Listen> Listening<J, E, H, L> {
             failed,
             mut out,
             mut ended,
-            host: _,
+            sum,
         } = self;
         out.audit(&mut pass.out);
         ended.audit(&mut pass.ended);
@@ -240,6 +255,6 @@ impl<J: Reception, E: Ledger, H: CatchUp, L: Listen> Listening<J, E, H, L> {
             calls,
             listen_fault: failed,
         };
-        (listen, tally)
+        (listen, tally, sum)
     }
 }

@@ -6,7 +6,7 @@ ghost use Rattle.yp_listen.specs.Calls.{IsFreshCall};
 ghost use Rattle.yp_session.specs.Hosts.{conduct_of};
 ghost use Rattle.yp_worker.specs.Receptions.{Admits, IsUnder, terms_of};
 
-use crate::catch_up::CatchUp;
+use crate::catch_up::HandsOver;
 use crate::gate::Gate;
 use crate::listening::{Admission, Listening, Pass, Reception};
 use crate::tally::Tally;
@@ -15,7 +15,7 @@ use std::sync::ledger::Ledger;
 use std::sync::{Mutex, Wait};
 use yp_listen::{Called, Listen};
 
-impl<H: CatchUp, G: Gate + Copy> Worker<H, G> {
+impl<H: HandsOver, G: Gate + Copy> Worker<H, G> {
     /// Serves connections, one after another, until as many were accepted as are to be, or an accept has failed. It
     /// holds the lock of the listener only while a connection is accepted or given back. What it counts is its own.
     pub fn run<J: Reception, E: Ledger, L: Listen, R: Wait>(
@@ -26,8 +26,10 @@ impl<H: CatchUp, G: Gate + Copy> Worker<H, G> {
     ) -> Tally
         requires under { IsUnder (conduct_of H.seen H.told H.counts H.stepped H.made H.carried)
             (terms_of J.catalogue J.starts J.most) self.old }
+        requires none { H.counted self.old.host ≡ H.none }
         ensures under { IsUnder (conduct_of H.seen H.told H.counts H.stepped H.made H.carried)
             (terms_of J.catalogue J.starts J.most) self.new }
+        ensures none { H.counted self.new.host ≡ H.none }
         ensures grown { IsFront (H.seen self.old.host).known (H.seen self.new.host).known }
 
         // It ends by an end of the listener alone, with no connection out that it has accepted.
@@ -54,7 +56,8 @@ impl<H: CatchUp, G: Gate + Copy> Worker<H, G> {
         tally
     }
 
-    /// Serves a connection that was accepted, gives it back, and answers how many of its records were read.
+    /// Serves a connection that was accepted, gives it back with what the host counted, and answers how many of its
+    /// records were read.
     fn serve<J: Reception, E: Ledger, L: Listen, R: Wait>(
         &mut self,
         rt: &R,
@@ -65,10 +68,12 @@ impl<H: CatchUp, G: Gate + Copy> Worker<H, G> {
     ) -> u64
         requires under { IsUnder (conduct_of H.seen H.told H.counts H.stepped H.made H.carried)
             (terms_of J.catalogue J.starts J.most) self.old }
+        requires none { H.counted self.old.host ≡ H.none }
         requires fresh { IsFreshCall L.In.faults L.Out.faults L.Out.output call }
         requires out { 0 < pass.old.out }
         ensures under { IsUnder (conduct_of H.seen H.told H.counts H.stepped H.made H.carried)
             (terms_of J.catalogue J.starts J.most) self.new }
+        ensures none { H.counted self.new.host ≡ H.none }
         ensures grown { IsFront (H.seen self.old.host).known (H.seen self.new.host).known }
         ensures out { pass.new.out + 1 ≡ pass.old.out }
         ensures same { pass.new ≡ record pass.old { out = pass.new.out } }
@@ -77,13 +82,13 @@ impl<H: CatchUp, G: Gate + Copy> Worker<H, G> {
         let (wire, _) = self.one(wire, peer, connection);
         let calls = self.calls();
         let mut kept = listening.lock(rt);
-        kept.take_back(pass, Called { peer, wire }, calls);
+        kept.take_back(pass, Called { peer, wire }, calls, self);
         calls
     }
 }
 
 /// The next connection of a listener.
-fn admitted<J: Reception, E: Ledger, H: CatchUp, L: Listen, R: Wait>(
+fn admitted<J: Reception, E: Ledger, H: HandsOver, L: Listen, R: Wait>(
     rt: &R,
     listening: &Mutex<Listening<J, E, H, L>>,
     pass: &mut Pass<J, E>,

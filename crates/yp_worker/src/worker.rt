@@ -6,7 +6,7 @@ ghost use Rattle.yp_session.specs.Wires.{Wire, wire_of, NeverFalls, SeesMore};
 ghost use Rattle.yp_session.specs.Hosts.{conduct_of};
 ghost use Rattle.yp_worker.specs.Working.{Attends};
 
-use crate::catch_up::CatchUp;
+use crate::catch_up::{CatchUp, HandsOver};
 use crate::gate::{Gate, Point};
 use crate::gated::Gated;
 use std::marker::Model;
@@ -125,5 +125,17 @@ impl<H: CatchUp, G: Gate + Copy> Worker<H, G> {
     {
         let mut trail = Trail::new();
         self.one_watched(wire, peer, connection, &mut trail)
+    }
+}
+
+impl<H: HandsOver, G> Worker<H, G> {
+    /// Adds what its host has counted to a sum.
+    pub(crate) fn hand_over(&mut self, sum: &mut H::Sum)
+        ensures seen { H.seen self.new.host ≡ H.seen self.old.host }
+        ensures same { self.new ≡ record self.old { host = self.new.host } }
+        ensures none { H.counted self.new.host ≡ H.none }
+        ensures added { sum.new ≡ H.plus sum.old (H.counted self.old.host) }
+    {
+        self.host.hand_over(sum);
     }
 }

@@ -1,8 +1,8 @@
 //! A host of two maps, on which others show versions of the first.
 
-ghost use Rattle.std.specs.Prelude.{◌≡◌, ◌<◌, None, length};
+ghost use Rattle.std.specs.Prelude.{◌≡◌, ◌+◌, ◌<◌, None, length, min};
 ghost use Rattle.std.proofs.Common.{ap};
-ghost use Rattle.yp_io.specs.Counts.{next_count};
+ghost use Rattle.yp_io.specs.Counts.{last_count, next_count};
 
 use crate::given::assert_same;
 use std::alloc::Global;
@@ -15,7 +15,7 @@ use yp_io::{NoMemory, Peer};
 use yp_msgs::XfrStat;
 use yp_session::Host;
 use yp_version::{Version, VersionBuilder};
-use yp_worker::CatchUp;
+use yp_worker::{CatchUp, HandsOver};
 
 /// It makes no map: memory runs out. A transfer is counted.
 #[derive(Drop)]
@@ -73,6 +73,21 @@ impl CatchUp for TestHost {
             let _ = self.board.show(0, version);
         }
         Ok(())
+    }
+}
+
+impl HandsOver for TestHost {
+    type Sum = u64;
+
+    ghost counted = { λ host. host.transfers };
+
+    ghost none = { 0 };
+
+    ghost plus = { λ sum more. min (sum + more) last_count };
+
+    fn hand_over(&mut self, sum: &mut u64) {
+        *sum = sum.saturating_add(self.transfers);
+        self.transfers = 0;
     }
 }
 
@@ -150,7 +165,8 @@ pub fn host_on<R: RandomSource + Abort>(
     catalog: Catalog,
     values: &[&[u8]],
 ) -> TestHost
-    ensures { result.board.catalogue ≡ catalog }
+    ensures catalogue { result.board.catalogue ≡ catalog }
+    ensures none { result.transfers ≡ 0 }
 {
     let first = version(rt, alloc, 7, b"alpha:1");
     let waiting = waiting(rt, alloc, values);
@@ -162,13 +178,16 @@ pub fn host_on<R: RandomSource + Abort>(
 }
 
 /// The same of passwd.byname.
-pub fn host_of<R: RandomSource + Abort>(rt: &R, alloc: Global, values: &[&[u8]]) -> TestHost {
+pub fn host_of<R: RandomSource + Abort>(rt: &R, alloc: Global, values: &[&[u8]]) -> TestHost
+    ensures { result.transfers ≡ 0 }
+{
     host_on(rt, alloc, catalog(rt, alloc), values)
 }
 
 /// Two hosts of the same maps, behind which nothing is shown.
 pub fn two_hosts<R: RandomSource + Abort>(rt: &R, alloc: Global) -> (TestHost, TestHost)
-    ensures { result.1.board.catalogue ≡ result.0.board.catalogue }
+    ensures catalogue { result.1.board.catalogue ≡ result.0.board.catalogue }
+    ensures none { (result.0.transfers ≡ 0) × (result.1.transfers ≡ 0) }
 {
     let first = catalog(rt, alloc);
     let second = first.copy(alloc).expect(rt, "a catalogue");

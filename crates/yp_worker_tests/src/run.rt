@@ -25,8 +25,9 @@ const NULL: &str = "80000028 00000001 00000000 00000002 000186a4 00000002 000000
 
 const NULL_REPLY: &str = "80000018 00000001 00000001 00000000 00000000 00000000 00000000";
 
-// What a run counted, what the lock kept, how many connections were accepted, and what each that went back had taken.
-type Came = (Tally, Tally, u32, Vec<u8>);
+// What a run counted, what the lock kept, how many transfers its host carried out, how many connections were accepted,
+// and what each that went back had taken.
+type Came = (Tally, Tally, u64, u32, Vec<u8>);
 
 // What the lock kept, how many connections were accepted, and what each that went back had taken.
 type Shared = (Tally, u32, Vec<u8>);
@@ -47,6 +48,7 @@ fn served<J: Reception, E: Ledger, R: Wait + RandomSource + Abort>(
     requires fair { IsFair J.opening.past }
     requires catalogue { host.board.catalogue ≡ J.catalogue }
     requires knows { IsFront J.starts host.board.known }
+    requires none { host.transfers ≡ 0 }
     requires most { 9 ≡ J.most }
 {
     let (book, share) = out.open::<J>();
@@ -54,10 +56,12 @@ fn served<J: Reception, E: Ledger, R: Wait + RandomSource + Abort>(
     let mut pass = Pass::new(share, mine);
     let session = Session::new(alloc).expect(rt, "a session");
     let mut worker = Worker::new(host, session, OpenGate, 9);
-    let listening = Mutex::new(Listening::<J, E, TestHost, MemListen>::new(listen, book, ends));
+    let listening = Mutex::new(Listening::<J, E, TestHost, MemListen>::new(
+        listen, book, ends, 0,
+    ));
     let own = worker.run(rt, &listening, &mut pass);
-    let (listen, all) = listening.into_inner().close(&mut pass);
-    (own, all, listen.accepted(), taken(rt, alloc, &listen))
+    let (listen, all, sum) = listening.into_inner().close(&mut pass);
+    (own, all, sum, listen.accepted(), taken(rt, alloc, &listen))
 }
 
 // Runs two workers, each in a thread, over a listener to the end.
@@ -80,17 +84,20 @@ where
     requires first { hosts.0.board.catalogue ≡ J.catalogue }
     requires second { hosts.1.board.catalogue ≡ J.catalogue }
     requires starts { J.starts ≡ [] }
+    requires none { (hosts.0.transfers ≡ 0) × (hosts.1.transfers ≡ 0) }
     requires most { 9 ≡ J.most }
 {
     let (book, mut mine) = out.open::<J>();
     let (ends, mut my_ends) = ended.open::<E>();
     let (theirs, their_ends) = (mine.split_off(1, 0), my_ends.split_off(1, 0));
-    let listening = Mutex::new(Listening::<J, E, TestHost, MemListen>::new(listen, book, ends));
+    let listening = Mutex::new(Listening::<J, E, TestHost, MemListen>::new(
+        listen, book, ends, 0,
+    ));
     let first = (worker(rt, alloc, hosts.0), Pass::new(mine, my_ends));
     let second = (worker(rt, alloc, hosts.1), Pass::new(theirs, their_ends));
     let ((mut pass, _), (other, _)) = run_beside(rt, &listening, first, second);
     pass.merge(other);
-    let (listen, tally) = listening.into_inner().close(&mut pass);
+    let (listen, tally, _) = listening.into_inner().close(&mut pass);
     (tally, listen.accepted(), taken(rt, alloc, &listen))
 }
 
@@ -112,21 +119,41 @@ fn taken(rt: &impl Abort, alloc: Global, listen: &MemListen) -> Vec<u8> {
     all
 }
 
+// XFR of hosts.byname of `d` from the host `m2` (yp.x), and its reply with SUCC.
+const XFR: &str = "80000058 00000005 00000000 00000002 000186a4 00000002 00000006
+    00000000 00000000 00000000 00000000 00000001 64000000
+    0000000c 686f7374 732e6279 6e616d65 00000000 00000002 6d320000
+    00000009 40000000 00000400";
+
+const TAKEN: &str = "80000020 00000005 00000001 00000000 00000000 00000000 00000000 00000009 00000001";
+
 const SERVED: Tally = Tally {
     connections: 2,
     calls: 4,
     listen_fault: false,
 };
 
-// The calls of the listener that fail, what was counted, how many connections were accepted, and what was written.
-const ROWS: &[(&[u64], Tally, u32, &[&str])] = &[
+// What both connections ask, the calls of the listener that fail, what was counted, how many transfers were carried
+// out, how many connections were accepted, and what was written.
+const ROWS: &[(&[&str], &[u64], Tally, u64, u32, &[&str])] = &[
     (
+        &[NULL, NULL],
         &[],
         SERVED,
+        0,
         2,
         &[NULL_REPLY, NULL_REPLY, NULL_REPLY, NULL_REPLY],
     ),
     (
+        &[NULL, XFR],
+        &[],
+        SERVED,
+        2,
+        2,
+        &[NULL_REPLY, TAKEN, NULL_REPLY, TAKEN],
+    ),
+    (
+        &[NULL, NULL],
         &[0],
         Tally {
             connections: 0,
@@ -134,15 +161,18 @@ const ROWS: &[(&[u64], Tally, u32, &[&str])] = &[
             listen_fault: true,
         },
         0,
+        0,
         &[],
     ),
     (
+        &[NULL, NULL],
         &[1],
         Tally {
             connections: 1,
             calls: 2,
             listen_fault: true,
         },
+        0,
         1,
         &[NULL_REPLY, NULL_REPLY],
     ),
@@ -151,12 +181,18 @@ const ROWS: &[(&[u64], Tally, u32, &[&str])] = &[
 #[test]
 fn all_connections_of_a_listener(rt: HostRuntime) {
     let alloc = rt.alloc();
-    for &(failing, tally, accepted, output) in ROWS {
-        let listen = door(&rt, alloc, &[NULL, NULL], 2, failing);
+    for &(input, failing, tally, transfers, accepted, output) in ROWS {
+        let listen = door(&rt, alloc, input, 2, failing);
         let host = host_of(&rt, alloc, &[]);
         let (out, ended) = (Blank::new(1), Blank::new(1));
         let came = served::<Brand, Brand, _>(&rt, alloc, out, ended, listen, host);
-        let wanted = (tally, tally, accepted, bytes(&rt, alloc, output));
+        let wanted = (
+            tally,
+            tally,
+            transfers,
+            accepted,
+            bytes(&rt, alloc, output),
+        );
         assert_same(&rt, &came, &wanted, "the connections of a listener");
     }
 }

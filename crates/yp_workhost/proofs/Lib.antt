@@ -2,3 +2,5 @@ mod Reasons
 mod Causing
 mod Learning
 mod Hosting
+mod Charging
+mod Dialing

@@ -2,3 +2,5 @@ pub mod Desks
 pub mod Outcomes
 pub mod Makings
 pub mod Workers
+pub mod Charges
+pub mod Wires

@@ -1,10 +1,13 @@
 //! A transfer that a worker carries out.
 
-ghost use Rattle.std.specs.Prelude.{◌≡◌, ◌≢◌, ◌<◌, length, option_map, IsSome};
+ghost use Rattle.std.specs.Prelude.{◌≡◌, ◌≢◌, ◌<◌, ◌≤◌, length, option_map, Err, IsSome};
 ghost use Rattle.yp_answer.specs.Transfer.{taken_view};
 ghost use Rattle.yp_shared.specs.Shares.{Learns};
 ghost use Rattle.yp_workhost.specs.Workers.{IsCarriedTo, IsInstalledTo};
+ghost use Rattle.yp_workhost.specs.Charges.{ChargesMore, files_at, orders_at};
+ghost use Rattle.yp_workhost.specs.Wires.{orders_in};
 
+use crate::charges::Charges;
 use crate::desk::{SharedDesk, Supplies};
 use crate::outcome::{Group, group_of, shared_stat};
 use std::alloc::Global;
@@ -15,7 +18,7 @@ use yp_board::{Tell, View};
 use yp_io::{Clock, Dial, Disk, Peer, Texts};
 use yp_msgs::XfrStat;
 use yp_publish::Origin;
-use yp_shared::{Locked, Site, install_shared};
+use yp_shared::{Accounts, Locked, Site, install_shared};
 use yp_version::Version;
 use yp_xfr::{Asker, XfrFault};
 
@@ -27,11 +30,12 @@ pub(crate) fn carry_out<S, D, B, A, T, C, R>(
     publisher: &Mutex<Locked<S, D, B>>,
     desk: &Mutex<SharedDesk<S, A, T, C>>,
     reader: &mut B::Reader,
+    charges: &mut Charges<S>,
     errand: &Errand<'_>,
     peer: Peer,
 ) -> Group
 where
-    S: Site + Supplies,
+    S: Site + Accounts + Supplies,
     D: Disk,
     B: Tell,
     A: Dial,
@@ -43,8 +47,9 @@ where
     ensures outcome { IsCarriedTo S.catalogue.own S.hosts (taken_view errand.now) result
         (B.Reader.seen reader.old).known (B.Reader.seen reader.new).known }
     ensures learned { Learns (B.Reader.seen reader.old) (B.Reader.seen reader.new) }
+    ensures charged { ChargesMore (files_at result) (orders_at result) charges.old charges.new }
 {
-    let (group, stat) = fetch_and_install(alloc, rt, publisher, desk, reader, errand);
+    let (group, stat) = fetch_and_install(alloc, rt, publisher, desk, reader, charges, errand);
     let addr = peer.addr;
     let asker = Asker {
         addr,
@@ -63,10 +68,11 @@ fn fetch_and_install<S, D, B, A, T, C, R>(
     publisher: &Mutex<Locked<S, D, B>>,
     desk: &Mutex<SharedDesk<S, A, T, C>>,
     reader: &mut B::Reader,
+    charges: &mut Charges<S>,
     errand: &Errand<'_>,
 ) -> (Group, XfrStat)
 where
-    S: Site + Supplies,
+    S: Site + Accounts + Supplies,
     D: Disk,
     B: Tell,
     A: Dial,
@@ -78,14 +84,19 @@ where
     ensures outcome { IsCarriedTo S.catalogue.own S.hosts (taken_view errand.now) result.0
         (B.Reader.seen reader.old).known (B.Reader.seen reader.new).known }
     ensures learned { Learns (B.Reader.seen reader.old) (B.Reader.seen reader.new) }
+    ensures charged { ChargesMore (files_at result.0) (orders_at result.0) charges.old charges.new }
 {
     let name = reader.catalog().name(errand.map);
     let shown = order_of(reader.held(errand.map));
-    let fetched = desk.lock(rt).fetch(alloc, rt, errand.source, name, shown);
+    let fetched = desk
+        .lock(rt)
+        .fetch(alloc, rt, errand.source, name, shown, charges);
     match fetched {
         None => (Group::NoAddress, XfrStat::Maddr),
         Some(Err(fault)) => (failed_group(&fault, shown), fault.stat()),
-        Some(Ok(version)) => install_for(alloc, rt, publisher, reader, errand.map, version),
+        Some(Ok(version)) => {
+            install_for(alloc, rt, publisher, reader, charges, errand.map, version)
+        },
     }
 }
 
@@ -100,6 +111,8 @@ fn order_of(held: Option<&Version>) -> Option<u32>
 fn failed_group(fault: &XfrFault, shown: Option<u32>) -> Group
     ensures addressed { result ≢ Group.NoAddress }
     ensures shown { result ≡ Group.Reached → IsSome shown }
+    ensures no_file { files_at result ≡ 0 }
+    ensures orders { orders_at result ≤ orders_in (Err fault.now) }
 {
     match fault {
         XfrFault::NoMemory => Group::NoMemory,
@@ -114,11 +127,12 @@ fn install_for<S, D, B, R>(
     rt: &R,
     publisher: &Mutex<Locked<S, D, B>>,
     reader: &mut B::Reader,
+    charges: &mut Charges<S>,
     map: u32,
     version: Version,
 ) -> (Group, XfrStat)
 where
-    S: Site,
+    S: Site + Accounts + Supplies,
     D: Disk,
     B: Tell,
     R: RandomSource + Wait,
@@ -126,8 +140,18 @@ where
     ensures outcome { IsInstalledTo S.catalogue.own map result.0
         (B.Reader.seen reader.old).known (B.Reader.seen reader.new).known }
     ensures learned { Learns (B.Reader.seen reader.old) (B.Reader.seen reader.new) }
+    ensures charged { ChargesMore (files_at result.0) 0 charges.old charges.new }
 {
-    let stat = match install_shared(alloc, rt, publisher, reader, map, version, Origin::Fetched) {
+    let stat = match install_shared(
+        alloc,
+        rt,
+        publisher,
+        reader,
+        map,
+        version,
+        Origin::Fetched,
+        &mut charges.failures,
+    ) {
         Ok(()) => XfrStat::Succ,
         Err(fault) => shared_stat(&fault),
     };

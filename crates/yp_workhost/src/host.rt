@@ -5,11 +5,13 @@ ghost use Rattle.std.proofs.Common.{ap};
 ghost use Rattle.yp_shared.specs.Shares.{Learns};
 ghost use Rattle.yp_workhost.specs.Desks.{texts_alone};
 ghost use Rattle.yp_workhost.specs.Workers.{counts_of, Stepped, Made, Carried};
+ghost use Rattle.yp_workhost.specs.Charges.{no_totals, totals_of, totals_plus};
 
 use crate::carrying::carry_out;
+use crate::charges::{Account, Charges};
 use crate::desk::{SharedDesk, Supplies};
 use crate::making::make_shared;
-use crate::outcome::{Outcomes, files_after};
+use crate::outcome::{Outcomes, Totals, files_after};
 use std::alloc::Global;
 use std::marker::Model;
 use std::random::RandomSource;
@@ -19,9 +21,9 @@ use yp_board::{Catalog, Tell, View};
 use yp_io::{Clock, Dial, Disk, NoMemory, Peer, Texts};
 use yp_msgs::XfrStat;
 use yp_session::Host;
-use yp_shared::{Locked, Site, tell_shared};
+use yp_shared::{Accounts, Locked, Site, tell_shared};
 use yp_version::Version;
-use yp_worker::CatchUp;
+use yp_worker::{CatchUp, HandsOver};
 
 /// The host of a worker. What it knows is what its reader knows.
 ///
@@ -29,7 +31,7 @@ use yp_worker::CatchUp;
 #[derive(Drop)]
 pub struct WorkerHost<
     'a,
-    S: Site + Supplies,
+    S: Site + Accounts + Supplies,
     D: Disk,
     B: Tell,
     A: Dial,
@@ -40,16 +42,15 @@ pub struct WorkerHost<
     reader: B::Reader,
     publisher: &'a Mutex<Locked<S, D, B>>,
     desk: &'a Mutex<SharedDesk<S, A, T, C>>,
-    files: u64,
-    transfers: u64,
-    outcomes: Outcomes,
+    totals: Totals,
+    charges: Charges<S>,
     alloc: Global,
     rt: R,
 }
 
 impl<
     'a,
-    S: Site + Supplies,
+    S: Site + Accounts + Supplies,
     D: Disk,
     B: Tell,
     A: Dial,
@@ -59,22 +60,23 @@ impl<
 > Model for WorkerHost<'a, S, D, B, A, T, C, R> {
     ghost use Rattle.std.specs.Prelude.{◌≡◌};
     ghost use Rattle.yp_workhost.specs.Workers.{Worker};
+    ghost use Rattle.yp_workhost.specs.Charges.{IsCharged};
 
     ghost Value = { Worker B.Reader };
 
     ghost view = { λ h. record {
       reader = h.reader;
-      files = h.files;
-      transfers = h.transfers;
-      outcomes = h.outcomes;
+      files = h.totals.files;
+      transfers = h.totals.transfers;
+      outcomes = h.totals.outcomes;
     } };
 
-    ghost invariant = { λ h. (B.Reader.seen h.reader).catalogue ≡ S.catalogue };
+    ghost invariant = { λ h. ((B.Reader.seen h.reader).catalogue ≡ S.catalogue) × IsCharged h.totals h.charges };
 }
 
 impl<
     'a,
-    S: Site + Supplies,
+    S: Site + Accounts + Supplies,
     D: Disk,
     B: Tell,
     A: Dial,
@@ -82,14 +84,15 @@ impl<
     C: Clock,
     R: RandomSource + Wait,
 > WorkerHost<'a, S, D, B, A, T, C, R> {
-    /// A host with this reader of the maps of its site. Its memory is taken by `alloc`, the tables of its builds are
-    /// made with the randomness of `rt`, and it waits for the locks by that.
+    /// A host with this reader of the maps of its site, which is charged by these. Its memory is taken by `alloc`, the
+    /// tables of its builds are made with the randomness of `rt`, and it waits for the locks by that.
     pub fn new(
         alloc: Global,
         rt: R,
         reader: B::Reader,
         publisher: &'a Mutex<Locked<S, D, B>>,
         desk: &'a Mutex<SharedDesk<S, A, T, C>>,
+        charges: Charges<S>,
     ) -> WorkerHost<'a, S, D, B, A, T, C, R>
         requires { (B.Reader.seen reader).catalogue ≡ S.catalogue }
         ensures { result ≡ record {
@@ -103,9 +106,8 @@ impl<
             reader,
             publisher,
             desk,
-            files: 0,
-            transfers: 0,
-            outcomes: Outcomes::none(),
+            totals: Totals::none(),
+            charges,
             alloc,
             rt,
         }
@@ -121,9 +123,8 @@ impl<
             reader,
             publisher: _,
             desk: _,
-            files: _,
-            transfers: _,
-            outcomes: _,
+            totals: _,
+            charges: _,
             alloc: _,
             rt: _,
         } = self;
@@ -134,7 +135,7 @@ impl<
     pub fn outcomes(&self) -> Outcomes
         ensures { result ≡ self.now.outcomes }
     {
-        self.outcomes
+        self.totals.outcomes
     }
 
     // Lets the reader know all that was shown.
@@ -149,7 +150,7 @@ impl<
 
 impl<
     'a,
-    S: Site + Supplies,
+    S: Site + Accounts + Supplies,
     D: Disk,
     B: Tell,
     A: Dial,
@@ -176,7 +177,7 @@ impl<
 
 impl<
     'a,
-    S: Site + Supplies,
+    S: Site + Accounts + Supplies,
     D: Disk,
     B: Tell,
     A: Dial,
@@ -198,9 +199,10 @@ impl<
             self.publisher,
             &mut *desk,
             &mut self.reader,
+            &mut self.charges,
             job,
         );
-        self.files = files_after(self.files, stat);
+        self.totals.files = files_after(self.totals.files, stat);
         stat
     }
 
@@ -213,11 +215,12 @@ impl<
             self.publisher,
             self.desk,
             &mut self.reader,
+            &mut self.charges,
             errand,
             peer,
         );
-        self.transfers = self.transfers.saturating_add(1);
-        self.outcomes.count(group);
+        self.totals.transfers = self.totals.transfers.saturating_add(1);
+        self.totals.outcomes.count(group);
     }
 
     ghost step_counts_nothing = { λ old new h. ap (λ host. counts_of host) h.1 };
@@ -225,7 +228,7 @@ impl<
 
 impl<
     'a,
-    S: Site + Supplies,
+    S: Site + Accounts + Supplies,
     D: Disk,
     B: Tell,
     A: Dial,
@@ -236,5 +239,29 @@ impl<
     // It waits for the publisher's lock.
     fn catch_up(&mut self) -> Result<(), NoMemory> {
         self.learn()
+    }
+}
+
+impl<
+    'a,
+    S: Site + Accounts + Supplies,
+    D: Disk,
+    B: Tell,
+    A: Dial,
+    T: Texts,
+    C: Clock,
+    R: RandomSource + Wait,
+> HandsOver for WorkerHost<'a, S, D, B, A, T, C, R> {
+    type Sum = Account<S>;
+
+    ghost counted = { totals_of };
+
+    ghost none = { no_totals };
+
+    ghost plus = { totals_plus };
+
+    fn hand_over(&mut self, sum: &mut Account<S>) {
+        sum.take_in(self.totals, &mut self.charges);
+        self.totals = Totals::none();
     }
 }

@@ -1,10 +1,13 @@
 //! A map that a worker makes.
 
 ghost use Rattle.std.specs.Prelude.{◌≡◌, ◌<◌, None, length, IfSome};
+ghost use Rattle.std.specs.Option.{option_map_or};
 ghost use Rattle.yp_shared.specs.Shares.{Learns};
 ghost use Rattle.yp_workhost.specs.Desks.{texts_alone};
 ghost use Rattle.yp_workhost.specs.Makings.{IsMadeSo, IsOvertaken};
+ghost use Rattle.yp_workhost.specs.Charges.{ChargesMore, files_in};
 
+use crate::charges::Charges;
 use crate::desk::{SharedDesk, Supplies};
 use crate::outcome::shared_stat;
 use std::alloc::Global;
@@ -16,7 +19,7 @@ use yp_build::laws::built_is_built_behind;
 use yp_io::{Clock, Dial, Disk, NoMemory, Texts};
 use yp_msgs::XfrStat;
 use yp_publish::Origin;
-use yp_shared::{Locked, Site, install_shared, tell_shared};
+use yp_shared::{Accounts, Locked, Site, install_shared, tell_shared};
 
 /// Makes a map anew, behind all that was shown, and lets the reader know it. Where another version of the map is shown
 /// meanwhile, it is built again behind that, so the orders of the map rise with each round.
@@ -26,10 +29,11 @@ pub(crate) fn make_shared<S, D, B, A, T, C, R>(
     publisher: &Mutex<Locked<S, D, B>>,
     desk: &mut SharedDesk<S, A, T, C>,
     reader: &mut B::Reader,
+    charges: &mut Charges<S>,
     job: Job,
 ) -> XfrStat
 where
-    S: Site + Supplies,
+    S: Site + Accounts + Supplies,
     D: Disk,
     B: Tell,
     A: Dial,
@@ -41,12 +45,13 @@ where
     ensures made { IsMadeSo (texts_alone S.text) S.catalogue.own job result
         (B.Reader.seen reader.old).known (B.Reader.seen reader.new).known }
     ensures learned { Learns (B.Reader.seen reader.old) (B.Reader.seen reader.new) }
+    ensures charged { ChargesMore (files_in result) 0 charges.old charges.new }
 {
     if let Err(NoMemory) = tell_shared(rt, publisher, reader) {
         return XfrStat::Rsrc;
     }
     'rounds: loop {
-        if let Some(stat) = make_behind(alloc, rt, publisher, desk, reader, job) {
+        if let Some(stat) = make_behind(alloc, rt, publisher, desk, reader, charges, job) {
             return stat;
         }
     }
@@ -60,10 +65,11 @@ fn make_behind<S, D, B, A, T, C, R>(
     publisher: &Mutex<Locked<S, D, B>>,
     desk: &mut SharedDesk<S, A, T, C>,
     reader: &mut B::Reader,
+    charges: &mut Charges<S>,
     job: Job,
 ) -> Option<XfrStat>
 where
-    S: Site + Supplies,
+    S: Site + Accounts + Supplies,
     D: Disk,
     B: Tell,
     A: Dial,
@@ -77,9 +83,17 @@ where
     ensures overtaken { result ≡ None → IsOvertaken job.map
         (B.Reader.seen reader.old).known (B.Reader.seen reader.new).known }
     ensures learned { Learns (B.Reader.seen reader.old) (B.Reader.seen reader.new) }
+    ensures charged { ChargesMore (option_map_or files_in result 0) 0 charges.old charges.new }
 {
     let own = reader.catalog().own();
-    let version = match desk.build(alloc, rt, job.kind, own, reader.held(job.map)) {
+    let version = match desk.build(
+        alloc,
+        rt,
+        job.kind,
+        own,
+        reader.held(job.map),
+        charges,
+    ) {
         Ok(version) => version,
         Err(stat) => return Some(stat),
     };
@@ -93,6 +107,7 @@ where
         job.map,
         version,
         Origin::Built,
+        &mut charges.failures,
     ) {
         Ok(()) => Some(XfrStat::Succ),
         Err(fault) => match shared_stat(&fault) {

@@ -3,6 +3,7 @@
 ghost use Rattle.std.specs.Prelude.{◌≡◌};
 ghost use Rattle.yp_workhost.specs.Outcomes.{counted_in, group_of, shared_stat};
 ghost use Rattle.yp_workhost.specs.Workers.{files_after};
+ghost use Rattle.yp_workhost.specs.Charges.{no_outcomes, no_totals, outcomes_plus, totals_plus};
 
 use yp_msgs::XfrStat;
 use yp_publish::InstallFault;
@@ -37,7 +38,7 @@ pub struct Outcomes {
 impl Outcomes {
     /// No transfers.
     pub(crate) fn none() -> Outcomes
-        ensures { result ≡ record { no_address = 0; no_memory = 0; file = 0; source = 0; reached = 0 } }
+        ensures { result ≡ no_outcomes }
     {
         Outcomes {
             no_address: 0,
@@ -58,6 +59,54 @@ impl Outcomes {
             Group::File => self.file = self.file.saturating_add(1),
             Group::Source => self.source = self.source.saturating_add(1),
             Group::Reached => self.reached = self.reached.saturating_add(1),
+        }
+    }
+
+    /// These transfers and others.
+    fn plus(self, other: Outcomes) -> Outcomes
+        ensures { result ≡ outcomes_plus self other }
+    {
+        Outcomes {
+            no_address: self.no_address.saturating_add(other.no_address),
+            no_memory: self.no_memory.saturating_add(other.no_memory),
+            file: self.file.saturating_add(other.file),
+            source: self.source.saturating_add(other.source),
+            reached: self.reached.saturating_add(other.reached),
+        }
+    }
+}
+
+/// What workers have counted, each up to 2^64 - 1.
+#[derive(Clone, Copy, Debug, PartialEq, Eq)]
+pub struct Totals {
+    /// How often FILE was answered, where a map was to be made.
+    pub files: u64,
+    /// How many transfers were carried out.
+    pub transfers: u64,
+    /// What they came to.
+    pub outcomes: Outcomes,
+}
+
+impl Totals {
+    /// Nothing.
+    pub(crate) fn none() -> Totals
+        ensures { result ≡ no_totals }
+    {
+        Totals {
+            files: 0,
+            transfers: 0,
+            outcomes: Outcomes::none(),
+        }
+    }
+
+    /// These and others.
+    pub(crate) fn plus(self, other: Totals) -> Totals
+        ensures { result ≡ totals_plus self other }
+    {
+        Totals {
+            files: self.files.saturating_add(other.files),
+            transfers: self.transfers.saturating_add(other.transfers),
+            outcomes: self.outcomes.plus(other.outcomes),
         }
     }
 }

@@ -31,7 +31,8 @@ const LAST_ORDER: &[&str] = &[CELLS, "00000001 ffffffff", REST];
 
 const LAST_STORED: &[&str] = &[LAST_GENERATION, "00000001 00000064", REST];
 
-// A host's own name, a file, the reads of the text that fail, what is done, and what comes of it.
+// A host's own name, a file, the reads of the text that fail, what is done, what comes of it, and how often that is
+// FILE.
 struct Row {
     name: &'static str,
     own: &'static [u8],
@@ -39,6 +40,7 @@ struct Row {
     failing: &'static [u64],
     acts: &'static [(bool, Act)],
     came: &'static [Came],
+    files: u64,
 }
 
 const FIRST: bool = true;
@@ -52,6 +54,7 @@ const EMPTY: Row = Row {
     failing: &[],
     acts: &[(FIRST, Act::Make)],
     came: &[(Some(XfrStat::Succ), Some(100))],
+    files: 0,
 };
 
 const ROWS: &[Row] = &[
@@ -121,12 +124,14 @@ const ROWS: &[Row] = &[
             (Some(XfrStat::File), None),
             (Some(XfrStat::Succ), Some(100)),
         ],
+        files: 1,
         ..EMPTY
     },
     Row {
         name: "the generations are spent",
         file: LAST_STORED,
         came: &[(Some(XfrStat::File), Some(100))],
+        files: 1,
         ..EMPTY
     },
 ];
@@ -141,13 +146,14 @@ fn came_of<R: RandomSource + Wait + Abort>(rt: &R, alloc: Global, row: &Row) -> 
         acts: row.acts,
         source: b"m1",
     };
-    staged::<Brand, Brand, _, R>(rt, alloc, Opened::new(), catalog, disk, desk, script)
+    staged::<Brand, _, R>(rt, alloc, Opened::new(), catalog, disk, desk, script)
 }
 
 #[test]
 fn made_maps(rt: HostRuntime) {
     for row in ROWS {
-        let (came, _, _) = came_of(&rt, rt.alloc(), row);
-        assert_same(&rt, &came.as_slice(), &row.came, row.name);
+        let (came, totals, _) = came_of(&rt, rt.alloc(), row);
+        let found = (came.as_slice(), totals.files, totals.transfers);
+        assert_same(&rt, &found, &(row.came, row.files, 0), row.name);
     }
 }

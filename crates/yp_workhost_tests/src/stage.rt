@@ -1,12 +1,17 @@
 //! Two workers over one map.
 
 ghost use Rattle.std.specs.Prelude.{◌≡◌, All};
+ghost use Rattle.yp_io.specs.MemDisk.{Platter};
+ghost use Rattle.yp_io.specs.MemDial.{wires_of};
+ghost use Rattle.yp_shared.specs.Failures.{disks_of, faults_over};
 ghost use Rattle.yp_workhost.specs.Desks.{IsSupplied};
 
 use crate::given::*;
 use std::alloc::Global;
+use std::marker::Brand;
 use std::process::Abort;
 use std::random::RandomSource;
+use std::sync::ledger::Blank;
 use std::sync::{Mutex, Wait};
 use yp_answer::{Errand, Job};
 use yp_board::{Catalog, View};
@@ -18,9 +23,11 @@ use yp_publish::{Publisher, load_all};
 use yp_readers::{Naming, Opened, Reader, Writer, board};
 use yp_server::Desk;
 use yp_session::Host;
-use yp_shared::{Locked, Site};
-use yp_worker::CatchUp;
-use yp_workhost::{Outcomes, SharedDesk, Supplies, WorkerHost};
+use yp_shared::{Accounts, Failures, Locked, Site};
+use yp_worker::{CatchUp, HandsOver};
+use yp_workhost::{
+    Account, Charges, Orders, SharedDesk, Supplies, Totals, Unread, WorkerHost,
+};
 
 /// The locks of a map and its desk.
 type Maps<S, J, R> = Mutex<Locked<S, MemDisk, Writer<J, R>>>;
@@ -66,7 +73,7 @@ fn open<'r, J: Naming, R: RandomSource + Wait + Abort>(
 }
 
 /// Does one thing.
-fn done_by<S: Site + Supplies, J: Naming, T: Texts + Drop, R: RandomSource + Wait + Drop>(
+fn done_by<S: Site + Accounts + Supplies, J: Naming, T: Texts + Drop, R: RandomSource + Wait + Drop>(
     host: &mut Worker<'_, S, J, T, R>,
     act: Act,
     source: &[u8],
@@ -116,7 +123,7 @@ pub struct Script<'a> {
 }
 
 /// What two workers do in turn.
-fn play<'r, S: Site + Supplies, J: Naming, T: Texts + Drop, R: RandomSource + Wait + Abort>(
+fn play<'r, S: Site + Accounts + Supplies, J: Naming, T: Texts + Drop, R: RandomSource + Wait + Abort>(
     rt: &'r R,
     alloc: Global,
     first: &mut Worker<'_, S, J, T, &'r R>,
@@ -136,28 +143,35 @@ fn play<'r, S: Site + Supplies, J: Naming, T: Texts + Drop, R: RandomSource + Wa
 }
 
 /// Two workers, made of their readers and the locks, play.
-fn meet<'r, S: Site + Supplies, J: Naming, T: Texts + Drop, R: RandomSource + Wait + Abort>(
+fn meet<'r, S: Site + Accounts + Supplies, J: Naming, T: Texts + Drop, R: RandomSource + Wait + Abort>(
     rt: &'r R,
     alloc: Global,
     maps: &Maps<S, J, &'r R>,
     tools: &Tools<S, T>,
     readers: (Reader<J>, Reader<J>),
+    charges: Charges<S>,
     script: Script<'_>,
-) -> (Vec<Came>, Outcomes)
+) -> (Vec<Came>, Account<S>)
     requires first { readers.0.catalogue ≡ S.catalogue }
     requires second { readers.1.catalogue ≡ S.catalogue }
+    requires charges { charges.parts ≡ 4 }
 {
-    let mut first = WorkerHost::new(alloc, rt, readers.0, maps, tools);
-    let mut second = WorkerHost::new(alloc, rt, readers.1, maps, tools);
+    let mut charges = charges;
+    let (one, other) = (charges.split_off(), charges.split_off());
+    let mut first = WorkerHost::new(alloc, rt, readers.0, maps, tools, one);
+    let mut second = WorkerHost::new(alloc, rt, readers.1, maps, tools, other);
+    let mut account = Account::new(charges);
     let came = play(rt, alloc, &mut first, &mut second, script);
-    (came, first.outcomes())
+    first.hand_over(&mut account);
+    second.hand_over(&mut account);
+    (came, account)
 }
 
-/// What came of a stage: of each act, of the transfers of the first worker, and what was posted.
-pub type Played = (Vec<Came>, Outcomes, Vec<(Peer, Vec<u8>)>);
+/// What came of a stage: of each act, what both workers counted, and what was posted.
+pub type Played = (Vec<Came>, Totals, Vec<(Peer, Vec<u8>)>);
 
 /// What came of a script over a map with its file on a disk.
-pub fn staged<S: Site + Supplies, J: Naming, T: Texts + Drop, R: RandomSource + Wait + Abort>(
+pub fn staged<J: Naming, T: Texts + Drop, R: RandomSource + Wait + Abort>(
     rt: &R,
     alloc: Global,
     opened: Opened,
@@ -166,18 +180,63 @@ pub fn staged<S: Site + Supplies, J: Naming, T: Texts + Drop, R: RandomSource + 
     desk: Desk<MemDial, T, SetClock>,
     script: Script<'_>,
 ) -> Played
-    requires book { opened ≡ J.book }
-    requires catalogue { catalog ≡ S.catalogue }
-    requires supplied { IsSupplied T.Texts S.text S.hosts desk }
+    requires { opened ≡ J.book }
 {
     let (publisher, mut readers) = open(rt, alloc, opened, &catalog, disk);
     let second = readers.pop().expect(rt, "a reader");
     let first = readers.pop().expect(rt, "a reader");
-    let maps: Maps<S, J, &R> = Mutex::new(Locked::new(publisher));
-    let tools: Tools<S, T> = Mutex::new(SharedDesk::new(desk));
-    let (came, outcomes) = meet(rt, alloc, &maps, &tools, (first, second), script);
-    let desk = tools.into_inner().into_desk();
-    (came, outcomes, posted_by(rt, alloc, &desk.dial))
+    under_locks::<Brand, J, T, R>(
+        rt,
+        alloc,
+        publisher,
+        (first, second),
+        desk,
+        Blank::new(4),
+        Blank::new(4),
+        Blank::new(4),
+        script,
+    )
+}
+
+/// What came of it, once the publisher and the desk are under their locks.
+fn under_locks<
+    'r,
+    S: Site + Accounts + Supplies,
+    J: Naming,
+    T: Texts + Drop,
+    R: RandomSource + Wait + Abort,
+>(
+    rt: &'r R,
+    alloc: Global,
+    publisher: Publisher<MemDisk, Writer<J, &'r R>>,
+    readers: (Reader<J>, Reader<J>),
+    desk: Desk<MemDial, T, SetClock>,
+    unread: Blank,
+    failures: Blank,
+    orders: Blank,
+    script: Script<'_>,
+) -> Played
+    requires site { publisher.catalogue ≡ S.catalogue }
+    requires disks { faults_over (λ (p : Platter). p.faults) (disks_of publisher.maps) ≡ S.disk_faults }
+    requires first { readers.0.catalogue ≡ S.catalogue }
+    requires second { readers.1.catalogue ≡ S.catalogue }
+    requires supplied { IsSupplied T.Texts S.text S.hosts desk }
+    requires before { (T.faults desk.texts ≡ S.text_faults) × (wires_of desk.dial ≡ S.wires) }
+    requires unread { (unread.name ≡ S.unread) × (unread.parts ≡ S.shares) × (unread.parts ≡ 4) }
+    requires failures { (failures.name ≡ S.failures) × (failures.parts ≡ S.shares) }
+    requires orders { (orders.name ≡ S.orders) × (orders.parts ≡ S.shares) }
+{
+    let (unread, own_unread) = unread.open::<Unread<S>>();
+    let (failures, own_failures) = failures.open::<Failures<S>>();
+    let (orders, own_orders) = orders.open::<Orders<S>>();
+    let maps: Maps<S, J, &R> = Mutex::new(Locked::new(publisher, failures));
+    let tools: Tools<S, T> = Mutex::new(SharedDesk::new(desk, unread, orders));
+    let charges = Charges::new(own_unread, own_failures, own_orders);
+    let (came, account) = meet(rt, alloc, &maps, &tools, readers, charges, script);
+    let (totals, charges) = account.into_parts();
+    let (mut unread, _, mut orders) = charges.into_shares();
+    let desk = tools.into_inner().close(&mut unread, &mut orders);
+    (came, totals, posted_by(rt, alloc, &desk.dial))
 }
 
 // What was posted: to whom, and the bytes.

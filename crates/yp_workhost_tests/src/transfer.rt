@@ -9,7 +9,7 @@ use std::random::RandomSource;
 use std::sync::Wait;
 use yp_io::{MemDisk, Peer};
 use yp_readers::Opened;
-use yp_workhost::Outcomes;
+use yp_workhost::{Outcomes, Totals};
 
 // What is posted of the transaction 9 to the program 0x40000000, with its status: 48 bytes.
 const CALL_BACK: &str = "00000009 00000000 00000002 40000000 00000001 00000001
@@ -63,7 +63,7 @@ const UNKNOWN: Outcomes = Outcomes {
     ..NONE
 };
 
-// The own name, the file, what the source sends, what the first worker then holds, what the transfer came to, and the
+// The own name, the file, what the source sends, what the first worker then holds, what its transfer came to, and the
 // status that is posted.
 struct Row {
     name: &'static str,
@@ -138,7 +138,7 @@ fn came_of<R: RandomSource + Wait + Abort>(rt: &R, alloc: Global, row: &Row) -> 
         acts: &[(true, Act::Transfer)],
         source: row.source,
     };
-    staged::<Brand, Brand, _, R>(rt, alloc, Opened::new(), catalog, disk, desk, script)
+    staged::<Brand, _, R>(rt, alloc, Opened::new(), catalog, disk, desk, script)
 }
 
 // What is wanted of a row.
@@ -146,7 +146,12 @@ fn wanted_of(rt: &impl Abort, alloc: Global, row: &Row) -> Played {
     let came = vec![in alloc; (None, row.held)].expect(rt, "what came");
     let letter = (PROGRAM, bytes(rt, alloc, &[CALL_BACK, row.stat]));
     let posted = vec![in alloc; letter].expect(rt, "a letter");
-    (came, row.outcomes, posted)
+    let totals = Totals {
+        files: 0,
+        transfers: 1,
+        outcomes: row.outcomes,
+    };
+    (came, totals, posted)
 }
 
 #[test]

@@ -1,5 +1,5 @@
 use Rattle.std.proofs.Common.{◌≡◌, [], ◌++◌, List, map, reverse, ap, sym, ◌∙◌, subst, rules, vec_capacity, arith}
-use Rattle.yp_publish.specs.Standing.{Kept, OfMap, IsStanding}
+use Rattle.yp_publish.specs.Standing.{Kept, OfMap, IsStanding, IsNumbered}
 use Rattle.yp_publish.proofs.Giving.{giving_none, giving_more}
 use Rattle.yp_publish.proofs.loaded.give_back.Goals as goal
 
@@ -12,7 +12,7 @@ loop-stored-preserved g c =
     giving_more g.D.Disk.history c.args.maps.items c.args.rest.items c.loop-stored.maps.items c.pop.new.self.items
     c.in-Some.stored c.loop-stored.disks.items c.push_reserved.new.self.items c.into_disk.result _ _
     c.loop-stored.invariant c.in-Some.ensures.items c.into_disk.ensures.disk c.push_reserved.ensures.items
-    c.push_reserved.ensures.capacity c.into_disk.ensures.standing
+    c.push_reserved.ensures.capacity c.into_disk.ensures.standing c.into_disk.ensures.numbered
 
 pub push_reserved-requires : goal.push_reserved-requires
 push_reserved-requires g c =
@@ -34,3 +34,11 @@ returns-clause-standing g c =
     ∙ ap (λ (l : List (Kept g.row.D.Denot)). l ++ c.loop-stored.invariant.given) none in
     λ k. subst (λ (l : List (Kept g.row.D.Denot)). OfMap k l (IsStanding g.D.Disk.history)) (sym all)
     (c.loop-stored.invariant.stands k)
+
+pub returns-clause-numbered : goal.returns-clause-numbered
+returns-clause-numbered g c =
+    let none : c.loop-stored.maps.items ≡ [] = search rules in
+    let all : c.args.maps.items ≡ c.loop-stored.invariant.given = c.loop-stored.invariant.front
+    ∙ ap (λ (l : List (Kept g.row.D.Denot)). l ++ c.loop-stored.invariant.given) none in
+    λ k. subst (λ (l : List (Kept g.row.D.Denot)). OfMap k l (IsNumbered g.D.Disk.history)) (sym all)
+    (c.loop-stored.invariant.numbers k)

@@ -1,4 +1,5 @@
 use Rattle.yp_worker.specs.Receptions.{opening_of}
+use Rattle.yp_shared.specs.Failures.{disks_of, faults_over}
 use Rattle.yp_serve.proofs.serving.serve.Given as goal
 
 -- what is lent, as it is before the first connection
@@ -13,10 +14,24 @@ abbrev pub ghosts-under_locks-J-Site : goal.ghosts-under_locks-J-Site
 ghosts-under_locks-J-Site g a = record { catalogue = a.lent.publisher.catalogue }
 
 abbrev pub ghosts-under_locks-J-Supplies : goal.ghosts-under_locks-J-Supplies
-ghosts-under_locks-J-Supplies g a = record { text = g.T.Texts.text a.lent.desk.texts; hosts = a.lent.desk.hosts }
+ghosts-under_locks-J-Supplies g a = record {
+  text = g.T.Texts.text a.lent.desk.texts;
+  hosts = a.lent.desk.hosts;
+  text_faults = g.T.Texts.faults a.lent.desk.texts;
+  wires = g.A.Dial.past a.lent.desk.dial;
+  unread = a.unread.name;
+  orders = a.orders.name;
+}
 
 abbrev pub ghosts-under_locks-J-Ledger : goal.ghosts-under_locks-J-Ledger
 ghosts-under_locks-J-Ledger g a = record { name = a.out.name; parts = a.out.parts }
 
 abbrev pub ghosts-under_locks-E-Ledger : goal.ghosts-under_locks-E-Ledger
 ghosts-under_locks-E-Ledger g a = record { name = a.ended.name; parts = a.ended.parts }
+
+abbrev pub ghosts-under_locks-J-Accounts : goal.ghosts-under_locks-J-Accounts
+ghosts-under_locks-J-Accounts g a = record {
+  disk_faults = faults_over g.D.Disk.faults (disks_of a.lent.publisher.maps);
+  failures = a.failures.name;
+  shares = a.failures.parts;
+}

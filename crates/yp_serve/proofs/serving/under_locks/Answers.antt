@@ -1,10 +1,30 @@
-use Rattle.yp_serve.proofs.Fronts.{shown_in, starts_in}
+use Rattle.std.proofs.Common.{arith}
+use Rattle.yp_serve.proofs.Fronts.{counted_in, starts_in}
 use Rattle.yp_serve.proofs.serving.under_locks.Goals as goal
 
 pub returns-clause-datagrams : goal.returns-clause-datagrams
 returns-clause-datagrams g c =
-    shown_in _ _ _ _ _ _ _ _ _ c.serve-listen.ensures.mail c.take_apart-disks.ensures.grown
+    (counted_in _ _ _ _ _ _ _ _ _ _ _ _ c.serve-listen.ensures.counted c.take_apart-disks.ensures.grown).of_datagrams.served
 
 pub returns-clause-grown : goal.returns-clause-grown
 returns-clause-grown g c =
-    starts_in _ _ _ _ _ _ _ _ _ c.serve-listen.ensures.mail c.take_apart-disks.ensures.grown
+    starts_in _ _ _ _ _ _ _ _ _ _ _ _ c.serve-listen.ensures.counted c.take_apart-disks.ensures.grown
+
+pub returns-clause-counted : goal.returns-clause-counted
+returns-clause-counted g c =
+    rw c.into_parts-charges.ensures.totals (counted_in _ _ _ _ _ _ _ _ _ _ _ _ c.serve-listen.ensures.counted
+        c.take_apart-disks.ensures.grown)
+
+pub returns-clause-files : goal.returns-clause-files
+returns-clause-files g c = λ texts well.
+    let charged = c.into_parts-charges.ensures.charged.files in
+    let shares = c.into_shares-unread.ensures in
+    let unread = c.close-desk.ensures.covered texts in
+    let failures = c.take_apart-disks.ensures.covered well in
+    omega (arith, charged, shares.unread, shares.failures, unread, failures, c.requires.texts, c.requires.disks)
+
+pub returns-clause-orders : goal.returns-clause-orders
+returns-clause-orders g c =
+    let charged = c.into_parts-charges.ensures.charged.orders in
+    let share = c.into_shares-unread.ensures.orders in
+    c.close-desk.ensures.orders c.into_parts-charges.result.0.outcomes.reached (omega (arith, charged, share))

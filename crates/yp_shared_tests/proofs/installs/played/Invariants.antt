@@ -1,5 +1,14 @@
+use Rattle.yp_io.specs.MemDisk.{Platter}
+use Rattle.yp_shared.specs.Failures.{disks_of, faults_over}
 use Rattle.yp_shared_tests.proofs.installs.played.Given as goal
 
--- the maps of this publisher
-abbrev pub ghosts-play_all : goal.ghosts-play_all
-ghosts-play_all g a = record { catalogue = a.maps.catalogue }
+-- the maps of this publisher, and its disks
+abbrev pub ghosts-play_all-S-Site : goal.ghosts-play_all-S-Site
+ghosts-play_all-S-Site g a = record { catalogue = a.maps.catalogue }
+
+abbrev pub ghosts-play_all-S-Accounts : goal.ghosts-play_all-S-Accounts
+ghosts-play_all-S-Accounts g a = record {
+  disk_faults = faults_over (λ (p : Platter). p.faults) (disks_of a.maps.maps);
+  failures = a.failures.name;
+  shares = a.failures.parts;
+}

@@ -4,6 +4,7 @@ use Rattle.yp_build.specs.Builds.{order_max}
 use Rattle.yp_workhost.specs.Desks.{texts_alone}
 use Rattle.yp_server.specs.Locals.{telling_of}
 use Rattle.yp_workhost.proofs.Causing.{unmade, shown_last, unfit}
+use Rattle.yp_workhost.proofs.Charging.{charged_so}
 use Rattle.yp_workhost.proofs.making.make_behind.Goals as goal
 
 pub returns-in-Err-clause-made : goal.returns-in-Err-clause-made
@@ -26,4 +27,6 @@ returns g c = record {
       c.in-Err-install_shared.fault _ _ c.in-Err-install_shared.ensures.reason (λ e. c.in_default.not-Age (c.shared_stat.ensures ∙ e)));
   overtaken = λ e. absurd (cc);
   learned = c.install_shared.ensures.learned;
+  charged = charged_so c.in-Err-install_shared.fault c.shared_stat.result c.args.charges.now c.build.new.charges _ _ _ _ _
+      c.in-Ok.ensures.charged c.charges.view_is c.in-Err-install_shared.ensures.charged c.shared_stat.ensures;
 }

@@ -13,6 +13,7 @@ invariant-loop-session g l = record {
   knows : All (λ reader. IsAtStart g.J.Site.catalogue g.J.Reception.starts (g.B.Reader.View.seen reader)) l.readers.items;
   out : (l.out.parts ≡ length l.sessions.items + 1) × (l.out.amount ≡ 0);
   ended : (l.ended.parts ≡ length l.sessions.items + 1) × (l.ended.amount ≡ 0);
+  charges : l.charges.parts ≡ length l.sessions.items + 2;
 }
 
 abbrev pub decreases-loop-session : goal.decreases-loop-session

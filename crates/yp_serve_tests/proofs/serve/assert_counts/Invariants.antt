@@ -1,4 +1,4 @@
-use Rattle.yp_serve_tests.proofs.serve.assert_serves.Given as goal
+use Rattle.yp_serve_tests.proofs.serve.assert_counts.Given as goal
 
 -- the book that was just opened
 abbrev pub ghosts-served : goal.ghosts-served

@@ -1,0 +1,56 @@
+-- What the workers of a server counted together, and what covers it.
+use Rattle.std.specs.Prelude.{◌≡◌, ◌≢◌, ◌+◌, ◌<◌, ◌≤◌, ℕ, Bool, List, Option, IsSome}
+use Rattle.std.specs.List.{All}
+use Rattle.yp_io.specs.Counts.{last_count}
+use Rattle.yp_io.specs.Disk.{History}
+use Rattle.yp_slot.specs.Commits.{generation_max}
+use Rattle.yp_slot.specs.Slots.{HasGeneration}
+use Rattle.yp_board.specs.Catalogues.{Catalogue}
+use Rattle.yp_board.specs.Logs.{Log}
+use Rattle.yp_session.specs.Hosts.{Conduct}
+use Rattle.yp_turns.specs.Turns.{Box}
+use Rattle.yp_listen.specs.Calls.{Calls}
+use Rattle.yp_shared.specs.Failures.{faults_over}
+use Rattle.yp_worker.specs.Receptions.{Terms}
+use Rattle.yp_worker.specs.Summing.{Counting, SumsUp, counting_of}
+use Rattle.yp_workhost.specs.declared.outcome.Totals.{Totals}
+use Rattle.yp_workhost.specs.Workers.{Worker}
+use Rattle.yp_workhost.specs.Charges.{no_totals, totals_plus, totals_of}
+use Rattle.yp_serve.specs.Serving.{ServesDatagrams}
+
+-- how the hosts of workers count
+abbrev pub count_totals : {V : Type 0} → Counting (Worker V) Totals
+count_totals = counting_of totals_of no_totals totals_plus
+
+-- Datagrams were served by a host that had counted nothing yet, and has counted this then.
+pub record CountsDatagrams {H T : Type 0} (conduct : Conduct H) (counting : Counting H T) (catalogue : Catalogue)
+    (starts log : Log) (turns : ℕ) (fault : Bool) (before after : Box) (count : T) : Type 0 where
+  pub served : ServesDatagrams conduct catalogue starts log turns fault before after
+  pub from_none : counting.counted served.old ≡ counting.none
+  pub counted : counting.counted served.new ≡ count
+
+-- What all hosts counted: in each connection that the listener got back, where it tells them, and in the turns of the
+-- datagrams.
+pub record CountsAll {H T : Type 0} (conduct : Conduct H) (counting : Counting H T) (terms : Terms)
+    (door door' : Option Calls) (log : Log) (turns : ℕ) (fault : Bool) (before after : Box) (all : T) : Type 0 where
+  pub connections : T
+  pub datagrams : T
+  pub of_connections : SumsUp conduct counting terms door door' connections
+  pub of_datagrams : CountsDatagrams conduct counting terms.catalogue terms.starts log turns fault before after
+      datagrams
+  pub all_is : all ≡ counting.plus connections datagrams
+
+-- A disk tells what a crash may leave, its count of faults doesn't stand at its last value, and the last generation of
+-- its file isn't reached.
+pub record IsWell {D : Type 0} (history : D → Option History) (faults : D → ℕ) (disk : D) : Type 0 where
+  pub told : IsSome (history disk)
+  pub counts : faults disk < last_count
+  pub unspent : HasGeneration (history disk) generation_max → ⊥
+
+-- The makes and transfers that ended in FILE are together at most what the counts of the texts and of the disks rose
+-- by, where no count stands at its last value, and all disks are well.
+abbrev pub FilesAreCovered : {D : Type 0} → (D → Option History) → (D → ℕ) → (texts texts' : ℕ) → List D → List D
+    → Totals → Type 0
+FilesAreCovered history faults texts texts' disks disks' totals =
+    texts' < last_count → All (IsWell history faults) disks'
+    → totals.files + totals.outcomes.file + (texts + faults_over faults disks) ≤ texts' + faults_over faults disks'

@@ -1,0 +1,16 @@
+use Rattle.std.proofs.Common.{◌<◌, length, ◌∙◌}
+use Rattle.yp_publish.specs.Keeping.{keeping_of}
+use Rattle.yp_shared.proofs.Failing.{covers_after}
+use Rattle.yp_shared.proofs.locked.Locked.install.Goals as goal
+
+pub invariant_of-self : goal.invariant_of-self
+invariant_of-self g c =
+    let step = c.open_and_offer-installed in
+    let maps = c.catalog-catalog.ensures.maps in
+    let within : c.args.map < length c.self.inside.publisher.maps = rw (maps, c.self.invariant.0) c.requires.map in (
+      step.ensures.catalogue ∙ c.self.invariant.0,
+      rw (c.add.ensures.total, c.failures_of.ensures) (covers_after
+          (keeping_of g.D.Disk.history g.D.Disk.faults g.B.Show.log) c.args.map g.S.Accounts.disk_faults
+          c.self.inside.failures.total c.args.version c.args.origin c.self.inside.publisher step.new.publisher step.result
+          within step.ensures.installed step.ensures.refused c.self.invariant.1),
+    )

@@ -1,0 +1,12 @@
+use Rattle.std.proofs.Common.{arith}
+use Rattle.yp_workhost.proofs.Dialing.{covers_none}
+use Rattle.yp_workhost.proofs.desk.SharedDesk.new.Goals as goal
+
+pub invariant_of-result : goal.invariant_of-result
+invariant_of-result g c =
+    let none = c.requires.none.0 in
+    let before = c.requires.before.0 in (
+      c.requires.supplied,
+      λ below. omega (arith, none, before),
+      rw (c.requires.none.1, c.requires.before.1) (covers_none g.S.Supplies.wires),
+    )

@@ -1,0 +1,25 @@
+-- The catalogue, and what the publisher and the desk have before they are shared.
+use Rattle.yp_io.specs.MemDial.{wires_of}
+use Rattle.yp_io.specs.MemDisk.{Platter}
+use Rattle.yp_shared.specs.Failures.{disks_of, faults_over}
+use Rattle.yp_workhost_tests.proofs.stage.staged.Given as goal
+
+abbrev pub ghosts-under_locks-S-Site : goal.ghosts-under_locks-S-Site
+ghosts-under_locks-S-Site g a = record { catalogue = a.publisher.catalogue }
+
+abbrev pub ghosts-under_locks-S-Accounts : goal.ghosts-under_locks-S-Accounts
+ghosts-under_locks-S-Accounts g a = record {
+  disk_faults = faults_over (λ (p : Platter). p.faults) (disks_of a.publisher.maps);
+  failures = a.failures.name;
+  shares = a.failures.parts;
+}
+
+abbrev pub ghosts-under_locks-S-Supplies : goal.ghosts-under_locks-S-Supplies
+ghosts-under_locks-S-Supplies g a = record {
+  text = g.T.Texts.text a.desk.texts;
+  hosts = a.desk.hosts;
+  text_faults = g.T.Texts.faults a.desk.texts;
+  wires = wires_of a.desk.dial;
+  unread = a.unread.name;
+  orders = a.orders.name;
+}
