@@ -23,6 +23,7 @@ peak() {
 for order in rising falling random; do
     hosts 262144 "$order" >hosts
     text=$(stat -c %s hosts)
+    rm -rf ypdata # over a stored file the body before this one would stay in it
     "$yp" build m1 lab/hosts.byname <hosts >out
     body=$(($(stat -c %s "$file") - 64))
     echo "a text of $text bytes whose names are $order, a body of $body bytes"

@@ -1,5 +1,5 @@
 -- A table of row numbers by a hash of the key: chains of rows, one for each bucket. Which hash it is, is free.
-use Rattle.std.specs.Prelude.{◌≡◌, ℕ, zero, suc, ◌-◌, ◌%◌, ◌<◌, ◌≤◌, Bool, false, List, length, slice_get}
+use Rattle.std.specs.Prelude.{◌≡◌, ℕ, zero, suc, ◌-◌, ◌*◌, ◌/◌, ◌^◌, ◌<◌, ◌≤◌, Bool, false, List, length, slice_get}
 use Rattle.std.specs.Prelude.{slice_index_or}
 use Rattle.std.specs.Prelude.{Option, Some, None, if◌then◌else◌, ◌==◌, bytes_eq}
 use Rattle.std.specs.Hash.DefaultHasher as sip
@@ -13,9 +13,13 @@ use Rattle.yp_version.specs.declared.table.Link.{Link}
 unfoldable pub hash_of : RandomState → List ℕ → ℕ
 hash_of state key = sip.finish (sip.write (initial_hasher state) key)
 
--- the number of its bucket among this many
+-- the bucket by a hash of 64 bits, of this many
+abbrev pub bucket_by : ℕ → ℕ → ℕ
+bucket_by hash size = hash * size / 2 ^ 64
+
+-- the number of a key's bucket among this many
 abbrev pub bucket_of : RandomState → ℕ → List ℕ → ℕ
-bucket_of state size key = hash_of state key % size
+bucket_of state size key = bucket_by (hash_of state key) size
 
 -- a stored link as the number of a row, or none
 abbrev pub linked : Link → Option ℕ

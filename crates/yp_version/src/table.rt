@@ -4,7 +4,7 @@ ghost use Rattle.std.specs.Prelude.{◌≡◌, ◌+◌, ◌<◌, ◌≤◌, ◌^
 ghost use Rattle.yp_version.specs.Limits.{rows_max};
 ghost use Rattle.yp_version.specs.Rows.{Row};
 ghost use Rattle.yp_version.specs.Table.{IsTable, HasAll, IsWhole};
-ghost use Rattle.yp_version.specs.Tables.{linked, bucket_of, last_below, has_key};
+ghost use Rattle.yp_version.specs.Tables.{linked, hash_of, bucket_by, last_below, has_key};
 
 use crate::slab::Slab;
 use std::alloc::Global;
@@ -132,7 +132,7 @@ impl Table {
         ensures all { OnOk result (HasAll self.new slab.now.rows) }
     {
         for row in self.before.len()..slab.len() {
-            let bucket = bucket(&self.hasher, self.heads.len(), slab.key(row));
+            let bucket = bucket(hash(&self.hasher, slab.key(row)), self.heads.len());
             let last = self.heads[bucket];
             self.before.push(last).map_err(|_| NoMemory)?;
             self.heads[bucket] = Link::to(row);
@@ -145,7 +145,7 @@ impl Table {
         requires { IsTable self.now slab.now.rows }
         ensures { result ≡ last_below (has_key key.now slab.now.rows) (length self.now.before.items) }
     {
-        let mut link = self.heads[bucket(&self.hasher, self.heads.len(), key)];
+        let mut link = self.heads[bucket(hash(&self.hasher, key), self.heads.len())];
         while let Some(row) = link.row() {
             if slab.key(row) == key {
                 return Some(row);
@@ -156,14 +156,21 @@ impl Table {
     }
 }
 
-// The bucket of a key, of this many.
+// The hash of a key.
 #[tactic(auto, unfolding(crate::specs::Tables::hash_of))]
-fn bucket(hasher: &RandomState, count: usize, key: &[u8]) -> usize
-    requires { 0 < count }
-    ensures value { result ≡ bucket_of hasher.now count key.now }
-    ensures within { result < count }
+fn hash(hasher: &RandomState, key: &[u8]) -> u64
+    ensures { result ≡ hash_of hasher.now key.now }
 {
     let mut state = hasher.build_hasher();
     state.write(key);
-    (state.finish() % count as u64) as usize
+    state.finish()
+}
+
+// The bucket of a key with this hash, of this many. A product costs less than a remainder.
+fn bucket(hash: u64, count: usize) -> usize
+    requires { 0 < count }
+    ensures value { result ≡ bucket_by hash count }
+    ensures within { result < count }
+{
+    ((hash as u128 * count as u128) >> 64) as usize
 }
