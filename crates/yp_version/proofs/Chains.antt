@@ -1,16 +1,16 @@
 -- Chains of row numbers, and the walk along one of them.
-use Rattle.std.proofs.Common.{◌≡◌, ℕ, zero, suc, ◌-◌, ◌<◌, ◌≤◌, Bool, true, false, cond, List, [], ◌∷◌, ◌++◌, length, Option, Some, None, slice_get, get_or, set, bytes_eq, nat_eq, option_map, refl, sym, ap, ◌∙◌, inl, inr, true≢false, arith}
+use Rattle.std.proofs.Common.{◌≡◌, ℕ, zero, suc, ◌-◌, ◌<◌, ◌≤◌, Bool, true, false, cond, List, [], ◌∷◌, ◌++◌, length, Option, Some, None, slice_get, get_or, set, bytes_eq, nat_eq, option_map, refl, sym, ap, ◌∙◌, subst, inl, inr, true≢false, arith}
 use Rattle.std.proofs.Math.ListN.{get_or-append}
 use Rattle.std.proofs.Math.Seq.{get_or-append_seam}
 use Rattle.std.proofs.lemmas.Bool.{cases_Bool, cond-true, cond-false, eq-eqb, eqb-true}
 use Rattle.std.proofs.lemmas.Bool.Decides.{eqb_tells}
 use Rattle.std.proofs.lemmas.Grind.{get_or-set_at}
 use Rattle.std.proofs.lemmas.List.{length-append, length-set, get_or-set_other}
-use Rattle.std.proofs.lemmas.Option.{none-some, same_Some}
+use Rattle.std.proofs.lemmas.Option.{none-some, same_Some, slice_get_cases}
 use Rattle.std.specs.Option.{option_map_or}
 use Rattle.std.specs.declared.hash.RandomState.{RandomState}
 use Rattle.yp_version.specs.Rows.{Row}
-use Rattle.yp_version.specs.Tables.{last_below, bucket_of, linked, has_key, bucket_at, is_in, HasChains}
+use Rattle.yp_version.specs.Tables.{last_below, bucket_of, mark_of, number_in, mark_in, linked, IsMarked, has_key, bucket_at, is_in, HasChains}
 use Rattle.yp_version.specs.declared.table.Link.{Link}
 use Rattle.yp_version.proofs.Keys.{same_key}
 
@@ -116,6 +116,8 @@ no_chains state heads before rows some none empty = record {
   within = omega arith;
   last = λ bucket any low. empty bucket any low ∙ ap (last_below (is_in state (length heads) rows bucket)) (sym none);
   former = λ i any low. absurd (omega (arith, low, none));
+  last_marked = λ bucket any low. record { mark = λ i is. absurd (none-some i (sym (empty bucket any low) ∙ is)) };
+  former_marked = λ i any low. absurd (omega (arith, low, none));
 }
 
 -- the last that passes is the same by tests that agree below the bound
@@ -144,8 +146,18 @@ chains_more state heads before rows more n chains = record {
       let there : i < length rows = omega (arith, low, w) in
       chains.former i any low ∙ same (bucket_at state (length heads) rows i) i (omega (arith, there))
       ∙ ap (λ b. last_below (is_in state (length heads) (rows ++ more) b) i) (sym (at_same i there));
+  last_marked = λ bucket any low. marked_more (get_or heads bucket any) (chains.last_marked bucket any low);
+  former_marked = λ i any low. marked_more (get_or before i any) (chains.former_marked i any low);
 }
   where
+    marked_more : (link : Link) → IsMarked state rows link → IsMarked state (rows ++ more) link
+    marked_more link marked = record {
+      mark = λ i is. elim (slice_get_cases rows i).1 [
+        | inl (row, here, s, r) ↦ ap (option_map (λ (row : Row). mark_of state row.0)) (get_front rows more i here) ∙ marked.mark i is
+        | inr (past, none) ↦ absurd (none-some (mark_in link) (sym (ap (option_map (λ (row : Row). mark_of state row.0)) none) ∙ marked.mark i is))
+      ];
+    }
+
     at_same : (j : ℕ) → j < length rows → bucket_at state (length heads) (rows ++ more) j ≡ bucket_at state (length heads) rows j
     at_same j low = ap (λ (row : Option Row). option_map_or (λ (row : Row). bucket_of state (length heads) row.0) row (length heads)) (get_front rows more j low)
 
@@ -158,8 +170,9 @@ pub chained : (state : RandomState) (heads before : List Link) (rows : List Row)
     → HasChains state heads before rows n → n < length rows → bucket < length heads
     → bucket ≡ bucket_at state (length heads) rows n
     → linked head ≡ Some n → linked former ≡ last_below (is_in state (length heads) rows bucket) n
+    → IsMarked state rows head → IsMarked state rows former
     → HasChains state (set heads bucket head) (before ++ former ∷ []) rows (suc n)
-chained state heads before rows n bucket head former chains low within is head_is former_is =
+chained state heads before rows n bucket head former chains low within is head_is former_is head_marked former_marked =
     let size = length-set heads bucket head in
     let count = chains.count in
     let buckets = chains.buckets in
@@ -169,6 +182,8 @@ chained state heads before rows n bucket head former chains low within is head_i
       within = omega arith;
       last = λ other any there. last other any (omega arith);
       former = λ i any there. earlier i any there;
+      last_marked = λ other any there. last_marked other any (omega arith);
+      former_marked = λ i any there. earlier_marked i any there;
     }
   where
     size_is : length (set heads bucket head) ≡ length heads
@@ -205,6 +220,23 @@ chained state heads before rows n bucket head former chains low within is head_i
           ∙ (λ j. last_below (is_in state (sym size_is j) rows (bucket_at state (sym size_is j) rows i)) i)
     ]
 
+    last_marked : (other : ℕ) (any : Link) → other < length heads → IsMarked state rows (get_or (set heads bucket head) other any)
+    last_marked other any there = elim (eqb_tells other bucket) [
+      | inl (_, same) ↦ subst (IsMarked state rows) (sym (get_or-set_at heads bucket other head any (omega (arith, same)) within)) head_marked
+      | inr (_, apart) ↦ subst (IsMarked state rows) (sym (get_or-set_other heads bucket other head any apart)) (chains.last_marked other any there)
+    ]
+
+    earlier_marked : (i : ℕ) (any : Link) → i < suc n → IsMarked state rows (get_or (before ++ former ∷ []) i any)
+    earlier_marked i any there = elim (eqb_tells i n) [
+      | inl (_, same) ↦
+          subst (IsMarked state rows)
+          (sym (ap (λ k. get_or (before ++ former ∷ []) k any) (same ∙ sym chains.count) ∙ get_or-append_seam before former [] any)) former_marked
+      | inr (_, apart) ↦
+          let count = chains.count in
+          let low : i < n = omega (arith, there, apart) in
+          subst (IsMarked state rows) (sym (get_or-append before (former ∷ []) any i (omega (arith, low, count)))) (chains.former_marked i any low)
+    ]
+
 -- the bucket of a row is that of its key
 pub bucket_of_key : (state : RandomState) (size : ℕ) (rows : List Row) (n : ℕ) (key : List ℕ)
     → option_map (λ (row : Row). row.0) (slice_get rows n) ≡ Some key → bucket_of state size key ≡ bucket_at state size rows n
@@ -214,6 +246,33 @@ bucket_of_key state size rows n key is = by (slice_get rows n) is
         → bucket_of state size key ≡ option_map_or (λ (row : Row). bucket_of state size row.0) row size
     by None e = absurd (none-some key e)
     by (Some row) e = ap (bucket_of state size) (sym (same_Some row.0 key e))
+
+-- a link to a row with the mark of the row's key
+pub link_marked : (state : RandomState) (rows : List Row) (n : ℕ) (key : List ℕ) (link : Link)
+    → option_map (λ (row : Row). row.0) (slice_get rows n) ≡ Some key → linked link ≡ Some n → mark_in link ≡ mark_of state key
+    → IsMarked state rows link
+link_marked state rows n key link is there mark = record {
+  mark = λ i here. ap (λ k. option_map (λ (row : Row). mark_of state row.0) (slice_get rows k)) (same_Some i n (sym here ∙ there))
+      ∙ by (slice_get rows n) is ∙ ap Some (sym mark);
+}
+  where
+    by : (row : Option Row) → option_map (λ (row : Row). row.0) row ≡ Some key
+        → option_map (λ (row : Row). mark_of state row.0) row ≡ Some (mark_of state key)
+    by None e = absurd (none-some key e)
+    by (Some row) e = ap (λ k. Some (mark_of state k)) (same_Some row.0 key e)
+
+-- where the mark of a link is another than that of a key, the row that it leads to hasn't the key
+pub mark_tells : (state : RandomState) (rows : List Row) (i : ℕ) (key : List ℕ) (link : Link)
+    → IsMarked state rows link → linked link ≡ Some i → ¬ (mark_in link ≡ mark_of state key) → has_key key rows i ≡ false
+mark_tells state rows i key link marked is apart = by (slice_get rows i) (marked.mark i is)
+  where
+    by : (row : Option Row) → option_map (λ (row : Row). mark_of state row.0) row ≡ Some (mark_in link)
+        → option_map_or (λ (row : Row). bytes_eq row.0 key) row false ≡ false
+    by None e = refl
+    by (Some row) e = elim (cases_Bool (bytes_eq row.0 key)) [
+      | inl same ↦ absurd (apart (sym (same_Some (mark_of state row.0) (mark_in link) e) ∙ ap (mark_of state) (same_key row.0 key same)))
+      | inr other ↦ other
+    ]
 
 -- whether a row has a key, by its own key
 pub key_tells : (rows : List Row) (i : ℕ) (own key : List ℕ) → option_map (λ (row : Row). row.0) (slice_get rows i) ≡ Some own
@@ -242,15 +301,15 @@ all_fail test (suc n) none j low = elim (cases_Bool (test n)) [
 ]
 
 -- a walk comes nearer to its end
-pub walk_shrinks : (link next : Link) (test : ℕ → Bool) (row : ℕ) → linked link ≡ Some row → linked next ≡ last_below test row → next.number < link.number
-walk_shrinks link next test row here there = elim (eqb_tells link.number 0) [
-  | inl (zero_is, _) ↦ absurd (none-some row (sym (cond-true (nat_eq link.number 0) None (Some (link.number - 1)) zero_is) ∙ here))
+pub walk_shrinks : (link next : Link) (test : ℕ → Bool) (row : ℕ) → linked link ≡ Some row → linked next ≡ last_below test row → number_in next < number_in link
+walk_shrinks link next test row here there = elim (eqb_tells (number_in link) 0) [
+  | inl (zero_is, _) ↦ absurd (none-some row (sym (cond-true (nat_eq (number_in link) 0) None (Some (number_in link - 1)) zero_is) ∙ here))
   | inr (not_zero, apart) ↦
-      let at : link.number - 1 ≡ row = same_Some (link.number - 1) row (sym (cond-false (nat_eq link.number 0) None (Some (link.number - 1)) not_zero) ∙ here) in
-      elim (eqb_tells next.number 0) [
+      let at : number_in link - 1 ≡ row = same_Some (number_in link - 1) row (sym (cond-false (nat_eq (number_in link) 0) None (Some (number_in link - 1)) not_zero) ∙ here) in
+      elim (eqb_tells (number_in next) 0) [
         | inl (_, none) ↦ omega (arith, apart, none)
         | inr (not_zero_there, apart_there) ↦
-            let h = (last_passes test row (next.number - 1) (sym there ∙ cond-false (nat_eq next.number 0) None (Some (next.number - 1)) not_zero_there)).0 in
+            let h = (last_passes test row (number_in next - 1) (sym there ∙ cond-false (nat_eq (number_in next) 0) None (Some (number_in next - 1)) not_zero_there)).0 in
             omega (arith, apart, apart_there, at, h)
       ]
 ]

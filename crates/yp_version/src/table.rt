@@ -4,18 +4,23 @@ ghost use Rattle.std.specs.Prelude.{◌≡◌, ◌+◌, ◌<◌, ◌≤◌, ◌^
 ghost use Rattle.yp_version.specs.Limits.{rows_max};
 ghost use Rattle.yp_version.specs.Rows.{Row};
 ghost use Rattle.yp_version.specs.Table.{IsTable, HasAll, IsWhole};
-ghost use Rattle.yp_version.specs.Tables.{linked, hash_of, bucket_by, last_below, has_key};
+ghost use Rattle.yp_version.specs.Tables.{linked, mark_in, hash_of, bucket_by, mark_by, last_below, has_key};
 
 use crate::slab::Slab;
 use std::alloc::Global;
 use std::hash::{BuildHasher, Hasher, RandomState};
 use yp_io::NoMemory;
 
-/// The number of a row, or none. It takes four bytes.
+// How many numbers a link has for rows and for none, and how many marks: its 32 bits are 19 and 13.
+const NUMBERS: u32 = 1 << 19;
+
+const MARKS: u64 = 1 << 13;
+
+/// The number of a row with the mark of its key, or none. It takes four bytes.
 #[derive(Clone, Copy, Debug)]
 pub(crate) struct Link {
-    // One more than the row's, and 0 for none.
-    number: u32,
+    // The mark, and below it one more than the row's number, and 0 for none.
+    bits: u32,
 }
 
 impl Link {
@@ -23,16 +28,18 @@ impl Link {
     fn none() -> Link
         ensures { linked result ≡ None }
     {
-        Link { number: 0 }
+        Link { bits: 0 }
     }
 
-    /// The row with this number.
-    fn to(row: usize) -> Link
-        requires { row < rows_max }
-        ensures { linked result ≡ Some row }
+    /// The row with this number, whose key has this mark.
+    fn to(row: usize, mark: u32) -> Link
+        requires row { row < rows_max }
+        requires mark { mark < 2 ^ 13 }
+        ensures row { linked result ≡ Some row }
+        ensures mark { mark_in result ≡ mark }
     {
         Link {
-            number: row as u32 + 1,
+            bits: mark * NUMBERS + (row as u32 + 1),
         }
     }
 
@@ -40,11 +47,19 @@ impl Link {
     fn row(self) -> Option<usize>
         ensures { result ≡ linked self }
     {
-        if self.number == 0 {
+        let number = self.bits % NUMBERS;
+        if number == 0 {
             None
         } else {
-            Some(self.number as usize - 1)
+            Some(number as usize - 1)
         }
+    }
+
+    /// The mark of the row's key.
+    fn mark(self) -> u32
+        ensures { result ≡ mark_in self }
+    {
+        self.bits / NUMBERS
     }
 }
 
@@ -132,22 +147,26 @@ impl Table {
         ensures all { OnOk result (HasAll self.new slab.now.rows) }
     {
         for row in self.before.len()..slab.len() {
-            let bucket = bucket(hash(&self.hasher, slab.key(row)), self.heads.len());
+            let hash = hash(&self.hasher, slab.key(row));
+            let bucket = bucket(hash, self.heads.len());
             let last = self.heads[bucket];
             self.before.push(last).map_err(|_| NoMemory)?;
-            self.heads[bucket] = Link::to(row);
+            self.heads[bucket] = Link::to(row, mark(hash));
         }
         Ok(())
     }
 
-    /// The number of the last row with this key, among those of the slab that it has.
+    /// The number of the last row with this key, among those of the slab that it has. A row's key is looked at where
+    /// the mark is that of the key.
     pub(crate) fn find(&self, slab: &Slab, key: &[u8]) -> Option<usize>
         requires { IsTable self.now slab.now.rows }
         ensures { result ≡ last_below (has_key key.now slab.now.rows) (length self.now.before.items) }
     {
-        let mut link = self.heads[bucket(hash(&self.hasher, key), self.heads.len())];
+        let hash = hash(&self.hasher, key);
+        let mark = mark(hash);
+        let mut link = self.heads[bucket(hash, self.heads.len())];
         while let Some(row) = link.row() {
-            if slab.key(row) == key {
+            if link.mark() == mark && slab.key(row) == key {
                 return Some(row);
             }
             link = self.before[row];
@@ -173,4 +192,12 @@ fn bucket(hash: u64, count: usize) -> usize
     ensures within { result < count }
 {
     ((hash as u128 * count as u128) >> 64) as usize
+}
+
+// The mark of a key with this hash. Its bits are the lowest, and those that choose a bucket the highest.
+fn mark(hash: u64) -> u32
+    ensures value { result ≡ mark_by hash }
+    ensures within { result < 2 ^ 13 }
+{
+    (hash % MARKS) as u32
 }
