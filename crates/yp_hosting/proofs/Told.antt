@@ -24,7 +24,8 @@ use Rattle.yp_hosting.specs.declared.stock.NotHosted.TheVariants as unhosted
 use Rattle.yp_hosting.specs.declared.tally.Hosted.{Hosted}
 use Rattle.yp_hosting.specs.Hosting.{IsHosted, IsUnhosted, LeavesStarts}
 use Rattle.yp_hosting.specs.Serve.{ServeOrder, catalogue_of, house, place, IsToAccept, ServesMaps, IsShut, IsUnserved}
-use Rattle.yp_hosting.specs.Serve.{Serves, TellsServed, TellsEnd, IsWithin, ServeDoes}
+use Rattle.yp_hosting.specs.Serve.{Serves, TellsServed, TellsEnd, IsWithin, HasCauses, ServeDoes}
+use Rattle.yp_hosting.proofs.Completed.{completes}
 use Rattle.yp_hosting.proofs.Disks.{nothing_written, stopped_written, stopped_risen, stopped_count}
 
 -- as many connections came as were to, where no accept has failed
@@ -207,6 +208,7 @@ nothing_done seen order office door = record {
     disks = inl (nothing_written seen.disk.history seen.disk.faults (disks_of office.disks.items));
     shut = record { stays = refl; door_stays = refl };
   };
+  complete = λ sound listen inbox disk write. inr refl;
   causes = record {
     listen_fault = λ e. absurd (let no : NoMemory ≡ ListenFault = e in cc);
     inbox_fault = λ e. absurd (let no : NoMemory ≡ InboxFault = e in cc);
@@ -282,14 +284,18 @@ all_done {D = D} seen order status old new door door' hosted apart back a b is u
     let now = disks_of new.disks.items in
     let is' : Is was now = subst (λ (m : List D). Is was m) b (subst (λ (l : List D). Is l back) a is) in
     let un' : Un was now = subst (λ (m : List D). Un was m) b (subst (λ (l : List D). Un l back) a un) in
+    let serves = end_told seen order status old new door door' hosted is' un' shut tells in
+    let causes : HasCauses seen status old new door door' = record {
+      listen_fault = λ e. listen_risen seen order status old new door door' hosted is' tells e;
+      inbox_fault = λ e. inbox_risen seen order status old new door door' hosted inbox tells e;
+      write_fault = write;
+      disk_fault = λ map e. disk_risen seen order status old new door door' hosted map un' tells e;
+    } in
     record {
-      serves = end_told seen order status old new door door' hosted is' un' shut tells;
-      causes = record {
-        listen_fault = λ e. listen_risen seen order status old new door door' hosted is' tells e;
-        inbox_fault = λ e. inbox_risen seen order status old new door door' hosted inbox tells e;
-        write_fault = write;
-        disk_fault = λ map e. disk_risen seen order status old new door door' hosted map un' tells e;
-      };
+      serves = serves;
+      complete = λ sound listen inbox disk write'. completes seen order old new door door' status serves causes sound
+          listen inbox disk write';
+      causes = causes;
       names = names;
       told = told;
       texts = texts;

@@ -1,13 +1,16 @@
 -- What `serve` does: it serves stored maps to many callers at once.
-use Rattle.std.specs.Prelude.{◌≡◌, ◌⊎◌, ◌<◌, ℕ, Bool, true, false, List, ◌++◌, map, Option, Some, Result, Ok, Err}
+use Rattle.std.specs.Prelude.{◌≡◌, ◌⊎◌, ◌<◌, ℕ, Bool, true, false, List, All, ◌++◌, map, Option, Some, Result, Ok, Err}
 use Rattle.std.specs.Prelude.{slice_get, codes, decimal, ⊤}
 use Rattle.std.specs.List.{AllZip}
 use Rattle.std.specs.Io.KnownBytes.{Appends}
 use Rattle.yp_io.specs.Counts.{HasRisen}
+use Rattle.yp_io.specs.Disk.{History}
 use Rattle.yp_io.specs.Streams.{AppendsFront}
 use Rattle.yp_io.specs.declared.texts.TextFile.{TextFile}
 use Rattle.yp_slot.specs.declared.fault.SlotFault.{SlotFault}
 use Rattle.yp_slot.specs.declared.fault.SlotFault.TheVariants as fault
+use Rattle.yp_slot.specs.Slots.{IsSound}
+use Rattle.yp_slot.specs.Stands.{stands}
 use Rattle.yp_board.specs.Catalogues.{Catalogue, Name, name_view}
 use Rattle.yp_board.specs.declared.catalog.MapName.{MapName}
 use Rattle.yp_publish.specs.Begins.{IsUnwritten}
@@ -155,6 +158,12 @@ serve_may_end ListenFault = true
 serve_may_end InboxFault = true
 serve_may_end _ = false
 
+-- the file of this disk is told, and isn't damaged
+pub record IsUndamaged {D : Type 0} (history : D → Option History) (disk : D) : Type 0 where
+  pub told : History
+  pub tells : history disk ≡ Some told
+  pub sound : IsSound (stands told.state.reads)
+
 -- A fault that is told has its cause.
 pub record HasCauses {S K D C A I T : Type 0} (seen : Seeing S K D C A I T) (status : Status)
     (old new : Office S K D C A I T) (door door' : Opening) : Type 0 where
@@ -165,10 +174,13 @@ pub record HasCauses {S K D C A I T : Type 0} (seen : Seeing S K D C A I T) (sta
 
 -- What `serve` does to an office and to what a listener tells: the stored maps are served to all who call, by
 -- connections and by datagrams, and what was served is told; or the first reason why not is, and then nobody was
--- served.
+-- served. Over files that aren't damaged, with no fault, all is done, unless memory ran out.
 pub record ServeDoes {S K D C A I T : Type 0} (seen : Seeing S K D C A I T) (order : ServeOrder) (status : Status)
     (old new : Office S K D C A I T) (door door' : Opening) : Type 0 where
   pub serves : Serves seen order status old new door door'
+  pub complete : All (IsUndamaged seen.disk.history) (disks_of old.disks.items) → ¬ HasRisen door.faults door'.faults
+      → ¬ InboxFails seen old new → ¬ DiskFails seen old new → ¬ WriteFails seen old new
+      → (status ≡ Done) ⊎ (status ≡ NoMemory)
   pub causes : HasCauses seen status old new door door'
   pub names : names_of new.disks.items ≡ names_of old.disks.items
   pub told : moment seen new ≡ moment seen old

@@ -61,6 +61,7 @@ const QUIET: Scene = Scene {
     mail: &[],
     turns: &[],
     file: &[],
+    disk: &[],
     wire: &[],
     writes: &[],
 };
@@ -114,7 +115,7 @@ fn datagram_null(rt: HostRuntime) {
 }
 
 // Servers that fail, and how they end.
-const FAULTS: [(&str, Scene, Wanted); 5] = [
+const FAULTS: [(&str, Scene, Wanted); 6] = [
     (
         "the first accept fails",
         Scene {
@@ -188,6 +189,24 @@ const FAULTS: [(&str, Scene, Wanted); 5] = [
             code: 8,
             notes: b"yp: damaged lab/hosts.byname at 79 rule 5\n",
             file: BAD_PADDING,
+            ..FAILED
+        },
+    ),
+    (
+        "the disk fails at once",
+        Scene {
+            words: &["serve", "m1", "7001", "1", "1", "3", "lab/hosts.byname"],
+            calls: &[&[NULL]],
+            most: 1,
+            mail: &[NULL_MAIL],
+            file: FILE,
+            disk: &[0],
+            ..QUIET
+        },
+        Wanted {
+            code: 10,
+            notes: b"yp: disk fault in lab/hosts.byname\n",
+            file: FILE,
             ..FAILED
         },
     ),

@@ -45,8 +45,9 @@ pub struct Scene {
     /// A datagram that comes, if one does.
     pub mail: &'static [&'static str],
     pub turns: &'static [u64],
-    /// The file of each map that the words name.
+    /// The file of each map that the words name, and the calls of each of their disks that fail.
     pub file: &'static [&'static str],
+    pub disk: &'static [u64],
     /// What the only wire gives that is dialed.
     pub wire: &'static [&'static str],
     pub writes: &'static [u64],
@@ -89,11 +90,12 @@ fn numbers(rt: &impl Abort, alloc: Global, given: &[u64]) -> Vec<u64> {
     Vec::from_slice(alloc, given).expect(rt, "memory for numbers")
 }
 
-// The disks that the words name, each with this file.
+// The disks that the words name, each with this file, and with these calls that fail.
 fn disks_of(
     alloc: Global,
     words: &[String],
     file: &[u8],
+    failing: &[u64],
 ) -> Result<Vec<NamedDisk<MemDisk>>, AllocError>
     ensures { IfOk result (λ disks. names_of disks.items ≡ disk_names (texts words.now)) }
 {
@@ -102,7 +104,8 @@ fn disks_of(
     };
     let make = |_: &MapName| {
         let bytes = Vec::from_slice(alloc, file)?;
-        Ok(MemDisk::new(alloc, bytes, None, Vec::new(alloc)))
+        let failing = Vec::from_slice(alloc, failing)?;
+        Ok(MemDisk::new(alloc, bytes, None, failing))
     };
     named_disks(alloc, names, make)
 }
@@ -173,7 +176,7 @@ fn memory_of(rt: &impl Abort, alloc: Global, words: &[String], scene: &Scene) ->
         input: MemSource::new(Vec::new(alloc), 1000, Vec::new(alloc)),
         output: MemSink::new(alloc, 1000, writes),
         notes: MemSink::new(alloc, 1000, Vec::new(alloc)),
-        disks: disks_of(alloc, words, &file).expect(rt, "disks"),
+        disks: disks_of(alloc, words, &file, scene.disk).expect(rt, "disks"),
         clock: SetClock { moment: 100 },
         listen: listener(rt, alloc, scene),
         dial: MemDial::new(alloc, wires(rt, alloc, scene.wire), Vec::new(alloc)),

@@ -34,9 +34,9 @@ pub type TcpCall = Called<BlockReader<Caller>, DirectWriter<TcpStream>>;
 // Its two halves.
 type CallerWire = Pair<BlockReader<Caller>, DirectWriter<TcpStream>>;
 
-/// A port of TCP over IPv4, on every address of this machine. It is opened at the first call, so that a command that
-/// has no use for it opens nothing, and a port that can't be opened is a fault of that call. A port that another
-/// program has just left can be opened. It tells nothing of its connections.
+/// A port of TCP over IPv4, on every address of this machine. It is opened at the first call, or by `open`, so that a
+/// command that has no use for it opens nothing, and a port that can't be opened is a fault of that call. A port that
+/// another program has just left can be opened. It tells nothing of its connections.
 #[derive(Drop)]
 pub struct TcpListen<R> {
     alloc: Global,
@@ -90,6 +90,16 @@ impl<R: Net<Stream = TcpStream, Listener = TcpListener> + rt::Clock> TcpListen<R
             faults: 0,
             silence,
         }
+    }
+
+    /// Opens the port ahead of the first call, so that who calls before that isn't refused. Where it can't be opened,
+    /// the first call tries again, and fails.
+    pub fn open(&mut self)
+        ensures accepted { ⟦<TcpListen<R> as Listen>⟧.accepted self.new ≡ ⟦<TcpListen<R> as Listen>⟧.accepted self.old }
+        ensures most { ⟦<TcpListen<R> as Listen>⟧.most self.new ≡ ⟦<TcpListen<R> as Listen>⟧.most self.old }
+        ensures faults { ⟦<TcpListen<R> as Listen>⟧.faults self.new ≡ ⟦<TcpListen<R> as Listen>⟧.faults self.old }
+    {
+        let _ = opened(&self.system, self.port, &mut self.listener);
     }
 }
 

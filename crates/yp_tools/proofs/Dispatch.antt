@@ -1,5 +1,5 @@
 -- What holds of equal commands, statuses, offices and wires.
-use Rattle.std.proofs.Common.{◌≡◌, List, sym}
+use Rattle.std.proofs.Common.{◌≡◌, List}
 use Rattle.std.specs.Prelude.{IsTrue}
 use Rattle.yp_session.specs.Wires.{Wire}
 use Rattle.yp_words.specs.Words.{Meaning}

@@ -1,9 +1,8 @@
 -- A transfer whose source is a server of this product, and one that has all it needs.
-use Rattle.std.proofs.Common.{◌≡◌, ◌⊎◌, inl, inr, ⊎_elim, ℕ, ◌+◌, ◌≤◌, List, [], ◌∷◌, ◌++◌, length, Option, Some, None, Result, Ok, Err}
-use Rattle.std.proofs.Common.{refl, sym, ap, ◌∙◌, subst, arith}
+use Rattle.std.proofs.Common.{◌≡◌, ◌⊎◌, inl, inr, ⊎_elim, ℕ, ◌≤◌, List, [], ◌∷◌, ◌++◌, length, Option, Some, None, Result, Ok, Err}
+use Rattle.std.proofs.Common.{refl, sym, ap, ◌∙◌, subst}
 use Rattle.std.specs.Prelude.{IfSome, OnOk, IsTrue}
 use Rattle.yp_io.specs.declared.stream.Peer.{Peer}
-use Rattle.yp_io.specs.Counts.{HasRisen}
 use Rattle.yp_io.specs.Disk.{History, MayLeave}
 use Rattle.yp_version.specs.Versions.{MapVersion}
 use Rattle.yp_slot.specs.declared.fault.SlotFault.{SlotFault}
@@ -31,10 +30,10 @@ use Rattle.yp_office.specs.declared.office.Office.{Office}
 use Rattle.yp_office.specs.declared.status.Status.{Status}
 use Rattle.yp_office.specs.declared.status.Status.TheVariants.{Done, WriteFault, NoMemory, Damaged, DiskFault, Xfr}
 use Rattle.yp_office.specs.Files.{Fails}
-use Rattle.yp_office.specs.Seeing.{Seeing, output, history, WriteFails, DiskFails, DialFails}
+use Rattle.yp_office.specs.Seeing.{Seeing, output, history, DiskFails, DialFails}
 use Rattle.yp_storing.specs.Build.{TellsLine, tells_stored}
 use Rattle.yp_storing.specs.Xfr.{Order, Held, IsHeld, wanted, against, IsFetchedIn, IsNotStored, Comes, Tells, xfr_line}
-use Rattle.yp_storing.specs.Xfr.{Transfers, Declines, XfrDoes, dialing}
+use Rattle.yp_storing.specs.Xfr.{Transfers, XfrDoes, dialing}
 use Rattle.yp_tools.specs.Transferring.{IsStored, IsToldHeld}
 
 -- ---- statuses

@@ -2,7 +2,7 @@
 use Rattle.std.proofs.Common.{◌≡◌, ℕ, List, Result, Ok, Err, refl, inr, true}
 use Rattle.yp_session.specs.Wires.{Wire}
 use Rattle.yp_words.specs.Words.{Meaning, Once, Session, Serve, Check, Build, Xfr, Walk, Sample, Push}
-use Rattle.yp_words.specs.Words.{Bind, Portmap, Getport, Ask, TakesMemory, IsSentenceOfWords, IsUsage, Revnet}
+use Rattle.yp_words.specs.Words.{Bind, Portmap, Getport, Ask, IsSentenceOfWords, IsUsage, Revnet}
 use Rattle.yp_words.specs.declared.words.ParseFault.{ParseFault}
 use Rattle.yp_words.specs.declared.words.ParseFault.TheVariants as fault
 use Rattle.yp_worker.specs.Receptions.{Opening}

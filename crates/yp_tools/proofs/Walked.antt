@@ -12,24 +12,22 @@ use Rattle.yp_version.specs.Drafts.{Draft}
 use Rattle.yp_board.specs.Catalogues.{Catalogue}
 use Rattle.yp_turns.specs.declared.turns.Ended.{Ended}
 use Rattle.yp_turns.specs.Turns.{GainsAll}
-use Rattle.yp_publish.specs.declared.install.Installed.{Installed}
 use Rattle.yp_xfr.specs.declared.fault.XfrFault.{XfrFault}
 use Rattle.yp_xfr.specs.declared.fault.XfrFault.TheVariants as fault
-use Rattle.yp_xfr.specs.Fetching.{Wanted, Outcome}
-use Rattle.yp_enum.specs.Standings.{Standing, HasEnded, IsAsking, refusal}
+use Rattle.yp_xfr.specs.Fetching.{Outcome}
+use Rattle.yp_enum.specs.Standings.{Standing, HasEnded, refusal}
 use Rattle.yp_enum.specs.Schedules.{walk_by}
-use Rattle.yp_enum.specs.Walks.{IsOf}
 use Rattle.yp_walked.specs.Laws.{AnswersWalk, IsWalkedOf, DeliveredIsOfSource}
 use Rattle.yp_office.specs.declared.office.Office.{Office}
 use Rattle.yp_office.specs.declared.status.Status.{Status}
 use Rattle.yp_office.specs.declared.status.Status.TheVariants.{Done, WriteFault, NoMemory, InboxFault, Unanswered}
-use Rattle.yp_office.specs.Seeing.{Seeing, output, history, WriteFails, DiskFails, InboxFails}
+use Rattle.yp_office.specs.Seeing.{Seeing, history, WriteFails, DiskFails, InboxFails}
 use Rattle.yp_storing.specs.Build.{tells_stored}
 use Rattle.yp_storing.specs.Xfr.{Order, Held, wanted, against}
 use Rattle.yp_mailing.specs.Telling.{box}
 use Rattle.yp_walking.specs.declared.walker.Came.{Came}
 use Rattle.yp_walking.specs.declared.walker.Came.TheVariants.{Outcome as HasOutcome, Spent, Failed as HasFailed}
-use Rattle.yp_walking.specs.Turns.{heard_of, Gave, IsCame, WalksTo}
+use Rattle.yp_walking.specs.Turns.{heard_of, IsCame, WalksTo}
 use Rattle.yp_walking.specs.Walk.{WalkDoes, Walks, WalksForNothing, IsVain}
 use Rattle.yp_tools.specs.Transferring.{IsStored, IsToldHeld}
 use Rattle.yp_tools.specs.Walking.{Happened}

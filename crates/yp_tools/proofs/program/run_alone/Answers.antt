@@ -2,7 +2,7 @@ use Rattle.std.proofs.Common.{ap, ◌∙◌}
 use Rattle.yp_words.specs.Words.{meaning}
 use Rattle.yp_office.specs.declared.office.Office.{Office}
 use Rattle.yp_office.specs.Disks.{names_of}
-use Rattle.yp_office.specs.Seeing.{Seeing, seeing}
+use Rattle.yp_office.specs.Seeing.{seeing}
 use Rattle.yp_tools.proofs.Kept.{command_keeps}
 use Rattle.yp_tools.proofs.program.run_alone.Goals as goal
 

@@ -1,0 +1,59 @@
+-- A server over files that aren't damaged, with no fault, is done.
+use Rattle.std.proofs.Common.{◌≡◌, ◌⊎◌, inl, inr, ℕ, suc, List, [], ◌∷◌, ◌++◌, Option, Some, None, refl, sym, ap, ◌∙◌, subst, arith}
+use Rattle.std.specs.Prelude.{All, IfSome}
+use Rattle.yp_io.specs.Counts.{HasRisen}
+use Rattle.yp_io.specs.Disk.{History}
+use Rattle.yp_slot.specs.declared.fault.SlotFault.TheVariants as fault
+use Rattle.yp_slot.specs.Slots.{IsSound}
+use Rattle.yp_slot.specs.Stands.{stands}
+use Rattle.yp_slot.specs.Stands as stood
+use Rattle.yp_board.specs.declared.catalog.MapName.{MapName}
+use Rattle.yp_publish.specs.Opens.{IsStopped}
+use Rattle.yp_worker.specs.Receptions.{Opening}
+use Rattle.yp_office.specs.declared.office.Office.{Office}
+use Rattle.yp_office.specs.declared.status.Status.{Status}
+use Rattle.yp_office.specs.declared.status.Status.TheVariants.{Done, WriteFault, NoMemory, Damaged, DiskFault}
+use Rattle.yp_office.specs.declared.status.Status.TheVariants.{ListenFault, InboxFault}
+use Rattle.yp_office.specs.Disks.{disks_of}
+use Rattle.yp_office.specs.Seeing.{Seeing, WriteFails, DiskFails, InboxFails}
+use Rattle.yp_hosting.specs.Serve.{ServeOrder, Serves, HasCauses, IsUndamaged}
+
+module _ {D : Type 0} (history : D → Option History) where
+  -- a file of which this is told isn't damaged
+  untold : (told : Option History) (known : History) (at rule : ℕ) → told ≡ Some known
+      → IsSound (stands known.state.reads) → IfSome told (λ h. stands h.state.reads ≡ stood.Damaged at rule) → ⊥
+  untold None known at rule e sound damaged = absurd cc
+  untold (Some h) known at rule e sound damaged =
+      let same : known ≡ h = cc in
+      subst IsSound damaged (subst (λ (x : History). IsSound (stands x.state.reads)) same sound)
+
+  -- nor is one of those that aren't
+  undamaged : (disks front : List D) (disk : D) (rest : List D) (at rule : ℕ) → disks ≡ front ++ disk ∷ rest
+      → All (IsUndamaged history) disks → IfSome (history disk) (λ h. stands h.state.reads ≡ stood.Damaged at rule) → ⊥
+  undamaged [] [] disk rest at rule e all damaged = absurd cc
+  undamaged [] (first ∷ front) disk rest at rule e all damaged = absurd cc
+  undamaged (one ∷ disks) [] disk rest at rule e all damaged =
+      let same : one ≡ disk = cc in
+      let is = all 0 one (omega arith) in
+      untold (history disk) is.told at rule (ap history (sym same) ∙ is.tells) is.sound damaged
+  undamaged (one ∷ disks) (first ∷ front) disk rest at rule e all damaged =
+      let tail : disks ≡ front ++ disk ∷ rest = cc in
+      undamaged disks front disk rest at rule tail (λ k d lt. all (suc k) d (omega (arith, lt))) damaged
+
+module _ {S K D C A I T : Type 0} (seen : Seeing S K D C A I T) (order : ServeOrder) (old new : Office S K D C A I T)
+    (door door' : Opening) where
+  pub completes : (status : Status) → Serves seen order status old new door door'
+      → HasCauses seen status old new door door' → All (IsUndamaged seen.disk.history) (disks_of old.disks.items)
+      → (HasRisen door.faults door'.faults → ⊥) → (InboxFails seen old new → ⊥) → (DiskFails seen old new → ⊥)
+      → (WriteFails seen old new → ⊥) → (status ≡ Done) ⊎ (status ≡ NoMemory)
+  completes Done serves causes sound listen inbox disk write = inl refl
+  completes NoMemory serves causes sound listen inbox disk write = inr refl
+  completes WriteFault serves causes sound listen inbox disk write = absurd (write (causes.write_fault refl))
+  completes ListenFault serves causes sound listen inbox disk write = absurd (listen (causes.listen_fault refl))
+  completes InboxFault serves causes sound listen inbox disk write = absurd (inbox (causes.inbox_fault refl))
+  completes (DiskFault map) serves causes sound listen inbox disk write = absurd (disk (causes.disk_fault map refl))
+  completes (Damaged map at rule) serves causes sound listen inbox disk write =
+      let stopped = serves.stopped in
+      absurd (undamaged seen.disk.history (disks_of old.disks.items) stopped.front stopped.before stopped.rest at rule
+      stopped.old_is sound stopped.refused.cause)
+  completes status serves causes sound listen inbox disk write = absurd serves.tells
