@@ -6,6 +6,8 @@ ghost use Rattle.yp_serve.specs.Serving.{Leaves};
 ghost use Rattle.yp_serve.specs.Counting.{IsWell};
 ghost use Rattle.std.specs.List.{All};
 ghost use Rattle.yp_publish.specs.Standing.{OfMap, IsNumbered};
+ghost use Rattle.yp_publish.specs.Rising.{IsStart, IsRisingLog};
+ghost use Rattle.yp_publish.specs.Grown.{AreTold};
 ghost use Rattle.yp_shared.specs.Failures.{disks_of, faults_over};
 ghost use Rattle.yp_workhost.specs.Charges.{free_of_charge};
 
@@ -65,8 +67,8 @@ fn disassemble<D: Disk, B: Show>(publisher: Publisher<D, B>) -> (Vec<D>, B)
     publisher.into_parts()
 }
 
-/// The disks of the maps and the writer, of which the reader knows nothing that wasn't shown. What was charged is
-/// covered by the faults of the disks.
+/// The disks of the maps and the writer, of which the reader knows nothing that wasn't shown. What was charged is covered
+/// by the faults of the disks. From a start the log rises, where the disks tell what a crash may leave of them.
 pub(crate) fn take_apart<S: Site + Accounts, D: Disk, B: Tell>(
     mut locked: Locked<S, D, B>,
     mut reader: B::Reader,
@@ -78,6 +80,7 @@ where
     ensures grown { IsFront (B.Reader.seen reader).known (B.log result.1) }
     ensures covered { All (IsWell D.history D.faults) result.0.items
         → S.disk_faults + charge.old.amount ≤ faults_over D.faults result.0.items }
+    ensures rises { IsStart S.first → AreTold D.history result.0.items → IsRisingLog (B.log result.1) }
 {
     // That what it knew is a front of what was shown holds whether or not it can be told more.
     let _ = locked.tell_to(&mut reader);

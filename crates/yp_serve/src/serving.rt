@@ -7,6 +7,8 @@ ghost use Rattle.yp_board.specs.Views.{IsFront};
 ghost use Rattle.yp_workhost.specs.Desks.{IsSupplied};
 ghost use Rattle.yp_worker.specs.Receptions.{IsFair, IsKept, opening_of, terms_of};
 ghost use Rattle.yp_turns.specs.Turns.{box_of};
+ghost use Rattle.yp_publish.specs.Grown.{AreTold};
+ghost use Rattle.yp_publish.specs.Rising.{moment_of, IsStart, IsRisingLog};
 ghost use Rattle.yp_shared.specs.Failures.{disks_of, faults_over};
 ghost use Rattle.yp_serve.specs.Serving.{conduct_at, IsAtStart, Leaves, ServesDatagrams};
 ghost use Rattle.yp_workhost.specs.Wires.{CoversOrders};
@@ -91,10 +93,13 @@ where
     ensures inbox_fault { IfOk result (λ served. served.inbox_fault ≡ true
         → HasRisen (I.faults inbox) (I.faults served.inbox)) }
 
-    // How each map stands then.
+    // How each map stands then. From a start the orders of each map rise, where the disks tell what a crash may leave of
+    // them.
     ensures maps { IfOk result (λ served. Leaves D.history publisher.catalogue (B.log served.writer)
         served.disks.items) }
     ensures grown { IfOk result (λ served. IsFront (B.log publisher.board) (B.log served.writer)) }
+    ensures rises { IfOk result (λ served. IsStart (moment_of B.log publisher)
+        → AreTold D.history served.disks.items → IsRisingLog (B.log served.writer)) }
     ensures desk { IfOk result (λ served. IsSupplied T.Texts (T.text desk.texts) desk.hosts served.desk) }
 
     // What all workers counted, and that so many FILEs are covered by the faults of the texts and of the disks, and so
@@ -192,6 +197,7 @@ where
     requires texts { T.faults lent.desk.texts ≡ J.text_faults }
     requires wires { A.past lent.desk.dial ≡ J.wires }
     requires disks { faults_over D.faults (disks_of lent.publisher.maps) ≡ J.disk_faults }
+    requires first { moment_of B.log lent.publisher ≡ J.first }
     ensures served { IfOk result (λ served. IsKept
         (conduct_at B.Reader.seen B.Reader.stepped J.text J.hosts) (terms_of J.catalogue J.starts J.most) J.opening
         (opening_of L.past L.most L.accepted L.faults served.listen)
@@ -204,6 +210,8 @@ where
         → HasRisen (I.faults lent.inbox) (I.faults served.inbox)) }
     ensures maps { IfOk result (λ served. Leaves D.history J.catalogue (B.log served.writer) served.disks.items) }
     ensures grown { IfOk result (λ served. IsFront J.starts (B.log served.writer)) }
+    ensures rises { IfOk result (λ served. IsStart J.first → AreTold D.history served.disks.items
+        → IsRisingLog (B.log served.writer)) }
     ensures desk { IfOk result (λ served. IsSupplied T.Texts J.text J.hosts served.desk) }
     ensures counted { IfOk result (λ served. CountsAll
         (conduct_at B.Reader.seen B.Reader.stepped J.text J.hosts) count_totals

@@ -59,7 +59,7 @@ module _ {D : Type 0} (faults : D → ℕ) where
 -- ---- a map that has changed
 
 -- a disk that tells its history told it before
-told_before : (old new : Option History) → GoesOn old new → IsSome new → IsSome old
+pub told_before : (old new : Option History) → GoesOn old new → IsSome new → IsSome old
 told_before None None goes told = absurd cc
 told_before None (Some new) goes told = absurd goes
 told_before (Some old) new goes told = refl
@@ -101,18 +101,18 @@ module _ {D : Type 0} (history : D → Option History) (faults : D → ℕ) wher
 -- ---- the calls of a publisher
 
 -- a map that is there
-the_map : {D : Type 0} (maps : List (Kept D)) (number : ℕ) → number < length maps
+pub the_map : {D : Type 0} (maps : List (Kept D)) (number : ℕ) → number < length maps
     → (kept : Kept D) × (slice_get maps number ≡ Some kept)
 the_map maps number within = elim (slice_get_cases maps number).1 [
   | inl here ↦ (here.0, here.2)
   | inr past ↦ let le : length maps ≤ number = past.0 in absurd (omega arith)
 ]
 
-of_map : {D : Type 0} (P : Kept D → Type 0) (number : ℕ) (maps : List (Kept D)) (kept : Kept D)
+pub of_map : {D : Type 0} (P : Kept D → Type 0) (number : ℕ) (maps : List (Kept D)) (kept : Kept D)
     → slice_get maps number ≡ Some kept → OfMap number maps P → P kept
 of_map {D} P number maps kept here h = subst (λ (o : Option (Kept D)). IfSome o P) here h
 
-at_map : {D : Type 0} (P : Kept D → Kept D → Type 0) (number : ℕ) (old new : List (Kept D)) (before after : Kept D)
+pub at_map : {D : Type 0} (P : Kept D → Kept D → Type 0) (number : ℕ) (old new : List (Kept D)) (before after : Kept D)
     → slice_get old number ≡ Some before → slice_get new number ≡ Some after → At number old new P → P before after
 at_map {D} P number old new before after here there h =
     of_map (P before) number new after there (of_map (λ b. OfMap number new (P b)) number old before here h)

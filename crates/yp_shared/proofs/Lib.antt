@@ -1,3 +1,4 @@
 pub mod Installing
 pub mod Learning
 mod Failing
+mod Leading

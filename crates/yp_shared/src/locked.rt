@@ -8,7 +8,8 @@ ghost use Rattle.yp_board.specs.Views.{IsFront};
 ghost use Rattle.yp_publish.specs.Standing.{Level, OfMap};
 ghost use Rattle.yp_publish.specs.Installs.{Installs, not_following};
 ghost use Rattle.yp_publish.specs.Keeping.{keeping_of};
-ghost use Rattle.yp_publish.specs.Rising.{with_shown};
+ghost use Rattle.yp_publish.specs.Rising.{moment_of, with_shown, IsStart, IsRisingLog};
+ghost use Rattle.yp_publish.specs.Grown.{AreTold};
 ghost use Rattle.yp_shared.specs.Shares.{offer_behind, OpensAndInstalls, IsNotInstalled, IsRefused, IsShownBehind};
 ghost use Rattle.yp_shared.specs.Shares.{IsReason, Learns};
 ghost use Rattle.yp_shared.specs.Failures.{failures_in, failures_of, faults_over, disks_of, Covers};
@@ -20,6 +21,7 @@ use std::sync::Arc;
 use std::sync::ledger::{Book, Ledger, Share};
 use yp_board::{Show, Tell};
 use yp_io::{Disk, NoMemory};
+use yp_publish::laws::log_rises;
 use yp_publish::{InstallFault, Origin, Publisher};
 use yp_slot::SlotFault;
 use yp_version::Version;
@@ -38,10 +40,14 @@ impl Site for Brand {
     ghost catalogue = { record { own = []; maps = [] } };
 }
 
-/// How often the disks of a site had failed before its publisher was shared, and the ledger that counts the failed
-/// files since then. Each call of a program that shares a publisher picks it.
+/// How a site stood before its publisher was shared, how often its disks had failed, and the ledger that counts the
+/// failed files since then. Each call of a program that shares a publisher picks it.
 pub trait Accounts {
     ghost use Rattle.std.specs.Prelude.{ℕ};
+    ghost use Rattle.yp_publish.specs.Rising.{Moment};
+
+    /// What was shown, and how each map stood.
+    ghost first: { Moment };
 
     /// How often its disks had failed.
     ghost disk_faults: { ℕ };
@@ -54,6 +60,10 @@ pub trait Accounts {
 }
 
 impl Accounts for Brand {
+    ghost use Rattle.std.specs.Prelude.{[]};
+
+    ghost first = { record { log = []; standings = [] } };
+
     ghost disk_faults = { 0 };
 
     ghost failures = { 0 };
@@ -95,20 +105,24 @@ pub struct Locked<S: Site + Accounts, D: Disk, B: Show> {
 impl<S: Site + Accounts, D: Disk, B: Show> Model for Locked<S, D, B> {
     ghost use Rattle.std.specs.Prelude.{◌≡◌};
     ghost use Rattle.yp_publish.specs.Standing.{Published};
+    ghost use Rattle.yp_publish.specs.Keeping.{keeping_of};
     ghost use Rattle.yp_shared.specs.Failures.{Covers};
+    ghost use Rattle.yp_shared.specs.Moments.{IsLed};
 
     ghost Value = { Published D B };
 
     ghost view = { λ l. l.publisher };
 
     ghost invariant = { λ l. (l.publisher.catalogue ≡ S.catalogue)
-        × Covers D.history D.faults S.disk_faults l.publisher.maps l.failures.total };
+        × Covers D.history D.faults S.disk_faults l.publisher.maps l.failures.total
+        × IsLed (keeping_of D.history D.faults B.log) S.first l.publisher };
 }
 
 impl<S: Site + Accounts, D: Disk, B: Show> Locked<S, D, B> {
     /// A publisher of the maps that are served, with the book of the files that fail from now on.
     pub fn new(publisher: Publisher<D, B>, failures: Book<Failures<S>>) -> Locked<S, D, B>
         requires site { publisher.catalogue ≡ S.catalogue }
+        requires first { moment_of B.log publisher ≡ S.first }
         requires before { faults_over D.faults (disks_of publisher.maps) ≡ S.disk_faults }
         requires none { failures.total ≡ 0 }
         ensures { result ≡ publisher }
@@ -119,12 +133,16 @@ impl<S: Site + Accounts, D: Disk, B: Show> Locked<S, D, B> {
         }
     }
 
-    /// The publisher, once the lock is left. What a caller was charged with is covered by the faults of its disks.
+    /// The publisher, once the lock is left. What a caller was charged with is covered by the faults of its disks. From
+    /// a start, over disks that tell what a crash may leave of them, the orders of each map rise in the log.
     pub fn close(self, charge: &mut Share<Failures<S>>) -> Publisher<D, B>
         ensures publisher { result ≡ self }
         ensures catalogue { result.catalogue ≡ S.catalogue }
         ensures covered { Covers D.history D.faults S.disk_faults result.maps charge.old.amount }
+        ensures rises { IsStart S.first → AreTold D.history (disks_of result.maps)
+            → IsRisingLog (B.log result.board) }
     {
+        log_rises();
         let Locked {
             publisher,
             mut failures,

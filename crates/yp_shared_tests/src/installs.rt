@@ -2,6 +2,8 @@
 
 ghost use Rattle.std.specs.Prelude.{◌≡◌, ◌<◌, length};
 ghost use Rattle.yp_io.specs.MemDisk.{Platter};
+ghost use Rattle.yp_publish.specs.Rising.{moment_of};
+ghost use Rattle.yp_readers.specs.Boards.{Written};
 ghost use Rattle.yp_shared.specs.Failures.{disks_of, faults_over};
 
 use crate::given::*;
@@ -113,6 +115,7 @@ fn play_all<'r, J: Naming, S: Site + Accounts, R: Wait + RandomSource + Abort>(
 )
     requires site { maps.catalogue ≡ S.catalogue }
     requires some { 0 < length S.catalogue.maps }
+    requires first { moment_of (λ (w : Written). w.log) maps ≡ S.first }
     requires disks { faults_over (λ (p : Platter). p.faults) (disks_of maps.maps) ≡ S.disk_faults }
     requires ledger { (failures.name ≡ S.failures) × (failures.parts ≡ S.shares) × (0 < failures.parts) }
 {
@@ -204,6 +207,7 @@ fn tell_second<'r, J: Naming, S: Site + Accounts, R: Wait + RandomSource + Abort
 ) -> (Option<u32>, Option<u32>)
     requires site { maps.catalogue ≡ S.catalogue }
     requires some { 0 < length S.catalogue.maps }
+    requires first { moment_of (λ (w : Written). w.log) maps ≡ S.first }
     requires disks { faults_over (λ (p : Platter). p.faults) (disks_of maps.maps) ≡ S.disk_faults }
     requires ledger { (failures.name ≡ S.failures) × (failures.parts ≡ S.shares) × (0 < failures.parts) }
 {

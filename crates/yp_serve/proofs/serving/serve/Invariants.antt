@@ -1,4 +1,5 @@
 use Rattle.yp_worker.specs.Receptions.{opening_of}
+use Rattle.yp_publish.specs.Rising.{moment_of}
 use Rattle.yp_shared.specs.Failures.{disks_of, faults_over}
 use Rattle.yp_serve.proofs.serving.serve.Given as goal
 
@@ -31,6 +32,7 @@ ghosts-under_locks-E-Ledger g a = record { name = a.ended.name; parts = a.ended.
 
 abbrev pub ghosts-under_locks-J-Accounts : goal.ghosts-under_locks-J-Accounts
 ghosts-under_locks-J-Accounts g a = record {
+  first = moment_of g.B.Show.log a.lent.publisher;
   disk_faults = faults_over g.D.Disk.faults (disks_of a.lent.publisher.maps);
   failures = a.failures.name;
   shares = a.failures.parts;

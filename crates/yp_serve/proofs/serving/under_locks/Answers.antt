@@ -10,6 +10,9 @@ pub returns-clause-grown : goal.returns-clause-grown
 returns-clause-grown g c =
     starts_in _ _ _ _ _ _ _ _ _ _ _ _ c.serve-listen.ensures.counted c.take_apart-disks.ensures.grown
 
+pub returns-clause-rises : goal.returns-clause-rises
+returns-clause-rises g c = c.take_apart-disks.ensures.rises
+
 pub returns-clause-counted : goal.returns-clause-counted
 returns-clause-counted g c =
     rw c.into_parts-charges.ensures.totals (counted_in _ _ _ _ _ _ _ _ _ _ _ _ c.serve-listen.ensures.counted

@@ -1,6 +1,7 @@
 use Rattle.std.proofs.Common.{◌<◌, length, ◌∙◌}
 use Rattle.yp_publish.specs.Keeping.{keeping_of}
 use Rattle.yp_shared.proofs.Failing.{covers_after}
+use Rattle.yp_shared.proofs.Leading.{led_after}
 use Rattle.yp_shared.proofs.locked.Locked.install.Goals as goal
 
 pub invariant_of-self : goal.invariant_of-self
@@ -13,4 +14,7 @@ invariant_of-self g c =
           (keeping_of g.D.Disk.history g.D.Disk.faults g.B.Show.log) c.args.map g.S.Accounts.disk_faults
           c.self.inside.failures.total c.args.version c.args.origin c.self.inside.publisher step.new.publisher step.result
           within step.ensures.installed step.ensures.refused c.self.invariant.1),
+      led_after (keeping_of g.D.Disk.history g.D.Disk.faults g.B.Show.log) g.S.Accounts.first c.args.map c.args.version
+          c.args.origin c.self.inside.publisher step.new.publisher step.result within step.ensures.installed
+          step.ensures.refused c.self.invariant.2,
     )

@@ -1,0 +1,203 @@
+-- Where installs and reopens lead, and that a log rises there.
+use Rattle.std.proofs.Common.{◌≡◌, inl, inr, ℕ, zero, suc, ◌<◌, List, [], ◌∷◌, ◌++◌, length, map, slice_get, Option, None, Some, IfSome, IsSome, option_map, false, OnOk, IfErr, Result, Ok, Err, refl, sym, ◌∙◌, ap, subst, arith}
+use Rattle.std.specs.Prelude.{All}
+use Rattle.std.specs.List.{AllByRecursion}
+use Rattle.std.proofs.lemmas.List.{length-map}
+use Rattle.std.proofs.lemmas.Option.{slice_get_cases, slice_get-map, get_or_from_slice_get, same_Some}
+use Rattle.std.proofs.lemmas.Bool.{cases_eq}
+use Rattle.yp_io.specs.Disk.{History, GoesOn}
+use Rattle.yp_version.specs.Versions.{MapVersion}
+use Rattle.yp_slot.specs.declared.fault.SlotFault.{SlotFault}
+use Rattle.yp_publish.specs.declared.install.Origin.{Origin}
+use Rattle.yp_publish.specs.declared.install.InstallFault.{InstallFault}
+use Rattle.yp_publish.specs.Standing.{MapStanding, Kept, Published, OfMap, At, IsSameElsewhere}
+use Rattle.yp_publish.specs.Keeping.{Keeping, Upholds}
+use Rattle.yp_publish.specs.Installs.{Offer, LeavesEither, Installs, Refuses, GoesOnRising}
+use Rattle.yp_publish.specs.Opens.{StandsMeanwhile, Opens, IsStillBehind, StaysBehind}
+use Rattle.yp_publish.specs.Rising.{Moment, moment_of, Steps, Follow, Reopens, IsStart, IsRisingLog}
+use Rattle.yp_publish.specs.Grown.{AreTold}
+use Rattle.yp_publish.specs.Laws.{LogRises}
+use Rattle.yp_shared.specs.declared.locked.ShareFault.{ShareFault}
+use Rattle.yp_shared.specs.declared.locked.ShareFault.TheVariants.{Shut, Unfit, Untold}
+use Rattle.yp_shared.specs.Shares.{offer_behind, OpensAndInstalls, OpensAndRefuses, IsNotInstalled}
+use Rattle.yp_shared.specs.Failures.{disks_of}
+use Rattle.yp_shared.specs.Moments.{Leads, MapsTell, IsLed}
+use Rattle.yp_shared.proofs.Failing.{told_before, at_map, of_map, the_map}
+
+-- ---- one step more
+
+follow_on : (first middle last : Moment) (moments : List Moment) → Follow first (moments ++ middle ∷ [])
+    → Steps middle last → Follow first ((moments ++ middle ∷ []) ++ last ∷ [])
+follow_on first middle last [] follow step = (follow.0, (step, tt))
+follow_on first middle last (next ∷ moments) follow step =
+    (follow.0, follow_on next middle last moments follow.1 step)
+
+leads_on : (first middle last : Moment) → Leads first middle → Steps middle last → Leads first last
+leads_on first middle last leads step = record {
+  moments = leads.moments ++ middle ∷ [];
+  follow = follow_on first middle last leads.moments leads.follow step;
+}
+
+-- before the first step
+pub led_at_first : {D B : Type 0} (keeping : Keeping D B) (first : Moment) (published : Published D B)
+    → moment_of keeping.log published ≡ first → IsLed keeping first published
+led_at_first keeping first published is = λ told. record { moments = []; follow = (inr (0, inl is), tt) }
+
+-- ---- disks that tell what a crash may leave
+
+module _ {D : Type 0} (history : D → Option History) (number : ℕ) (old new : List (Kept D))
+    (elsewhere : IsSameElsewhere number old new) where
+  -- they told it before one of them went on
+  tell_before : (before after : Kept D) → slice_get old number ≡ Some before → slice_get new number ≡ Some after
+      → GoesOn (history before.disk) (history after.disk) → MapsTell history new → MapsTell history old
+  tell_before before after here there goes told = λ other. elim (cases_eq other number) [
+    | inl e ↦
+        let now = of_map (λ k. IsSome (history k.disk)) number new after there (told number) in
+        subst (λ (n : ℕ). OfMap n old (λ k. IsSome (history k.disk))) (sym e)
+        (subst (λ (o : Option (Kept D)). IfSome o (λ k. IsSome (history k.disk))) (sym here)
+        (told_before (history before.disk) (history after.disk) goes now))
+    | inr ne ↦ subst (λ (o : Option (Kept D)). IfSome o (λ k. IsSome (history k.disk))) (elsewhere.others other ne)
+        (told other)
+  ]
+
+-- disks of maps that tell it
+maps_tell : {D : Type 0} (history : D → Option History) (maps : List (Kept D)) → AreTold history (disks_of maps)
+    → MapsTell history maps
+maps_tell {D} history maps told = λ number. elim (slice_get_cases maps number).1 [
+  | inl here ↦
+      let kept = here.0 in
+      let there : slice_get (disks_of maps) number ≡ Some kept.disk =
+      slice_get-map (λ (k : Kept D). k.disk) maps number ∙ ap (option_map (λ (k : Kept D). k.disk)) here.2 in
+      let long = length-map maps (λ (k : Kept D). k.disk) in
+      let inside : number < length maps = here.1 in
+      subst (λ (o : Option (Kept D)). IfSome o (λ k. IsSome (history k.disk))) (sym here.2)
+      (subst (λ (d : D). IsSome (history d)) (get_or_from_slice_get (disks_of maps) number kept.disk kept.disk there)
+      (told number kept.disk (omega (arith, long, inside))))
+  | inr past ↦ subst (λ (o : Option (Kept D)). IfSome o (λ k. IsSome (history k.disk))) (sym past.1) tt
+]
+
+-- ---- maps that all stand as they stood
+
+standings_same : {D : Type 0} (old new : List (Kept D)) → length new ≡ length old
+    → ((other : ℕ) → At other old new (λ x y. y.standing ≡ x.standing))
+    → map (λ (k : Kept D). k.standing) new ≡ map (λ (k : Kept D). k.standing) old
+standings_same [] [] count same = refl
+standings_same [] (y ∷ new) count same = absurd (omega (arith, count))
+standings_same (x ∷ old) [] count same = absurd (omega (arith, count))
+standings_same (x ∷ old) (y ∷ new) count same =
+    rw (same 0, standings_same old new (omega (arith, count)) (λ other. same (suc other))) refl
+
+at_same : {D : Type 0} (here there : Option (Kept D)) → there ≡ here
+    → IfSome here (λ x. IfSome there (λ y. y.standing ≡ x.standing))
+at_same {D} here there e = subst (λ (o : Option (Kept D)). IfSome here (λ x. IfSome o (λ y. y.standing ≡ x.standing))) (sym e) (one here)
+  where
+    one : (o : Option (Kept D)) → IfSome o (λ x. IfSome o (λ y. y.standing ≡ x.standing))
+    one None = tt
+    one (Some kept) = refl
+
+still_stand : {D : Type 0} (history : D → Option History) (why : SlotFault) (here there : Option (Kept D))
+    → IfSome here (λ x. IfSome there (IsStillBehind history why x)) → IfSome here (λ x. IfSome there (λ y. y.standing ≡ x.standing))
+still_stand history why None there still = tt
+still_stand history why (Some x) None still = tt
+still_stand {D} history why (Some x) (Some y) still = ap (λ (k : Kept D). k.standing) still.same
+
+-- ---- the calls of a publisher
+
+module _ {D B : Type 0} (keeping : Keeping D B) (first : Moment) (number : ℕ) where
+  abbrev now_of : Published D B → Moment
+  now_of = moment_of keeping.log
+
+  -- a step of one map, while the others stay
+  module _ (old new : Published D B) (elsewhere : IsSameElsewhere number old.maps new.maps)
+      (within : number < length old.maps) where
+    was : (kept : Kept D) × (slice_get old.maps number ≡ Some kept)
+    was = the_map old.maps number within
+
+    is : (kept : Kept D) × (slice_get new.maps number ≡ Some kept)
+    is = the_map new.maps number (let count = elsewhere.count in omega (arith, within, count))
+
+    led_then : GoesOn (keeping.history was.0.disk) (keeping.history is.0.disk)
+        → (IsSome (keeping.history was.0.disk) → Steps (now_of old) (now_of new))
+        → IsLed keeping first old → IsLed keeping first new
+    led_then goes step led = λ told.
+        let before = tell_before keeping.history number old.maps new.maps elsewhere was.0 is.0 was.1 is.1 goes told in
+        leads_on first (now_of old) (now_of new) (led before)
+        (step (of_map (λ k. IsSome (keeping.history k.disk)) number old.maps was.0 was.1 (before number)))
+
+    opened : Opens keeping number old new → IsLed keeping first old → IsLed keeping first new
+    opened opens =
+        let meanwhile = at_map (StandsMeanwhile keeping.history) number old.maps new.maps was.0 is.0 was.1 is.1 opens.meanwhile in
+        led_then meanwhile.no_more.goes_on (λ told. inr (
+          number,
+          of_map (λ m. IsSome (keeping.history m.disk) → Reopens number (now_of old) (now_of new)) number old.maps was.0 was.1
+              opens.rising told,
+        ))
+
+    offered : (offer : Offer) → offer.force ≡ false → At number old.maps new.maps (LeavesEither keeping.history offer.version)
+        → GoesOnRising keeping number offer old new → IsLed keeping first old → IsLed keeping first new
+    offered offer unforced leaves rising =
+        let meanwhile = at_map (LeavesEither keeping.history offer.version) number old.maps new.maps was.0 is.0 was.1 is.1 leaves in
+        led_then meanwhile.goes_on (λ told. inl (number, offer.version, rising unforced))
+
+    shut : (why : SlotFault) → StaysBehind keeping number why old new → IsLed keeping first old → IsLed keeping first new
+    shut why stays =
+        let meanwhile = at_map (StandsMeanwhile keeping.history) number old.maps new.maps was.0 is.0 was.1 is.1 stays.meanwhile in
+        let stand = standings_same old.maps new.maps elsewhere.count (λ other. elim (cases_eq other number) [
+          | inl e ↦ subst (λ (n : ℕ). At n old.maps new.maps (λ x y. y.standing ≡ x.standing)) (sym e)
+              (still_stand keeping.history why (slice_get old.maps number) (slice_get new.maps number) stays.still)
+          | inr ne ↦ at_same (slice_get old.maps other) (slice_get new.maps other) (elsewhere.others other ne)
+        ]) in
+        led_then meanwhile.no_more.goes_on (λ told. inr (
+          number,
+          inl (ap (λ (b : B). record { log = keeping.log b; standings = map (λ (k : Kept D). k.standing) new.maps }) stays.not_shown
+          ∙ ap (λ (l : List MapStanding). record { log = keeping.log old.board; standings = l }) stand),
+        ))
+
+  module _ (version : MapVersion) (origin : Origin) (old new : Published D B) (within : number < length old.maps)
+      (led : IsLed keeping first old) where
+    led_middle : (middle : Published D B) → Opens keeping number old middle
+        → (number < length middle.maps) × IsLed keeping first middle
+    led_middle middle opens =
+        let count = opens.upheld.elsewhere.count in
+        (omega (arith, within, count), opened old middle opens.upheld.elsewhere within opens led)
+
+    led_installed : OpensAndInstalls keeping number version origin old new → IsLed keeping first new
+    led_installed is =
+        let middle = led_middle is.middle is.opens in
+        offered is.middle new is.installs.upheld.elsewhere middle.0
+        (offer_behind number version origin (keeping.log is.middle.board)) refl is.installs.meanwhile is.installs.rising middle.1
+
+    led_refused : (why : ShareFault) → IsNotInstalled keeping number version origin why old new → IsLed keeping first new
+    led_refused (Shut why) is = shut old new is.upheld.elsewhere within why is led
+    led_refused (Unfit why) is =
+        let middle = led_middle is.middle is.opens in
+        offered is.middle new is.refuses.upheld.elsewhere middle.0
+        (offer_behind number version origin (keeping.log is.middle.board)) refl is.refuses.meanwhile is.refuses.rising middle.1
+    led_refused Untold is = absurd is
+
+-- behind an install or a refusal
+pub led_after : {T D B : Type 0} (keeping : Keeping D B) (first : Moment) (number : ℕ) (version : MapVersion) (origin : Origin)
+    (old new : Published D B) (r : Result T ShareFault) → number < length old.maps
+    → OnOk r (OpensAndInstalls keeping number version origin old new)
+    → IfErr r (λ why. IsNotInstalled keeping number version origin why old new)
+    → IsLed keeping first old → IsLed keeping first new
+led_after keeping first number version origin old new (Ok done) within installed none led =
+    led_installed keeping first number version origin old new within led installed
+led_after keeping first number version origin old new (Err why) within none refused led =
+    led_refused keeping first number version origin old new within led why refused
+
+-- ---- the log at the last moment
+
+last_of : (P : Moment → Type 0) (moments : List Moment) (last : Moment) → AllByRecursion P (moments ++ last ∷ []) → P last
+last_of P [] last all = all.0
+last_of P (moment ∷ moments) last all = last_of P moments last all.1
+
+-- from a start it rises
+pub rises : LogRises → {D B : Type 0} (keeping : Keeping D B) (first : Moment) (published : Published D B)
+    → IsLed keeping first published → IsStart first → AreTold keeping.history (disks_of published.maps)
+    → IsRisingLog (keeping.log published.board)
+rises law keeping first published led start told =
+    let now = moment_of keeping.log published in
+    let leads = led (maps_tell keeping.history published.maps told) in
+    last_of (λ moment. IsRisingLog moment.log) (first ∷ leads.moments) now
+    (law first (leads.moments ++ now ∷ []) start leads.follow)
