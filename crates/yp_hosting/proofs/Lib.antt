@@ -2,3 +2,4 @@ pub mod Disks
 pub mod Starts
 pub mod Told
 pub mod Completed
+pub mod Served

@@ -1,8 +1,14 @@
--- What a reader knows before the first caller comes.
-use Rattle.std.proofs.Common.{◌≡◌, ap, ◌∙◌}
+-- What a reader knows before the first caller comes, and how the maps stand then.
+use Rattle.std.proofs.Common.{◌≡◌, ℕ, zero, suc, ◌<◌, List, [], ◌∷◌, map, length, get_or, Option, sym, ap, ◌∙◌, subst, arith}
+use Rattle.std.specs.List.{All, AllZip}
+use Rattle.yp_io.specs.Disk.{History}
 use Rattle.yp_board.specs.Catalogues.{Catalogue}
-use Rattle.yp_board.specs.Logs.{Log}
+use Rattle.yp_board.specs.Logs.{Log, starts}
 use Rattle.yp_board.specs.Views.{Seen}
+use Rattle.yp_publish.specs.Standing.{MapStanding, Level, Kept, Published, versions}
+use Rattle.yp_publish.specs.Opens.{IsOpened}
+use Rattle.yp_publish.specs.Rising.{moment_of, IsStart}
+use Rattle.yp_publish.specs.Laws.{BeginningIsStart}
 use Rattle.yp_serve.specs.Serving.{IsAtStart}
 
 pub at_start : (served catalogue : Catalogue) (log first : Log) (seen : Seen)
@@ -10,3 +16,26 @@ pub at_start : (served catalogue : Catalogue) (log first : Log) (seen : Seen)
     → IsAtStart served log seen
 at_start served catalogue log first seen is a b =
     record { catalogue_is = ap (λ (s : Seen). s.catalogue) is ∙ a; known = ap (λ (s : Seen). s.known) is ∙ b }
+
+-- maps that were opened are level
+pub levels : {D : Type 0} (history : D → Option History) (faults : D → ℕ) (disks : List D) (maps : List (Kept D))
+    → AllZip (IsOpened history faults) disks maps
+    → All (λ standing. standing ≡ Level) (map (λ (kept : Kept D). kept.standing) maps)
+levels history faults [] [] each k d lt = absurd (omega (arith, lt))
+levels history faults [] (kept ∷ maps) each k d lt = absurd each
+levels history faults (disk ∷ disks) [] each k d lt = absurd each
+levels history faults (disk ∷ disks) (kept ∷ maps) each zero d lt = each.0.level
+levels history faults (disk ∷ disks) (kept ∷ maps) each (suc k) d lt =
+    levels history faults disks maps each.1 k d (omega (arith, lt))
+
+-- level maps and a board that shows exactly them are a start
+pub start_of : BeginningIsStart → {D B : Type 0} (log : B → Log) (published : Published D B) (maps : List (Kept D))
+    → published.maps ≡ maps → log published.board ≡ starts 0 (versions maps)
+    → All (λ standing. standing ≡ Level) (map (λ (kept : Kept D). kept.standing) maps)
+    → IsStart (moment_of log published)
+start_of law {D} {B} log published maps maps_are log_is level =
+    let standings : List MapStanding = map (λ (kept : Kept D). kept.standing) maps in
+    let at : IsStart (record { log = log published.board; standings = standings }) =
+    subst (λ (l : Log). IsStart (record { log = l; standings = standings })) (sym log_is) (law (versions maps) standings level) in
+    subst (λ (kept : List (Kept D)). IsStart (record { log = log published.board; standings = map (λ (k : Kept D). k.standing) kept }))
+    (sym maps_are) at

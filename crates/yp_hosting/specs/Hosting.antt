@@ -8,6 +8,8 @@ use Rattle.yp_board.specs.Logs.{Log, starts}
 use Rattle.yp_board.specs.Views.{Seen, IsFront, Refreshes}
 use Rattle.yp_publish.specs.Opens.{IsOpened, IsStopped}
 use Rattle.yp_publish.specs.Standing.{Kept, versions}
+use Rattle.yp_publish.specs.Rising.{IsRisingLog}
+use Rattle.yp_publish.specs.Grown.{AreTold}
 use Rattle.yp_xfr.specs.HostTable.{HostList}
 use Rattle.yp_session.specs.Hosts.{Conduct}
 use Rattle.yp_session.specs.declared.session.TheConstants.{CALLS_MAX}
@@ -46,7 +48,7 @@ conduct house = conduct_at (λ reader. reader) Refreshes house.text house.hosts
 -- shown since stands behind that in one log. Each connection that the listener got back was served, and all went back
 -- that came; so many came, and so many of their records were read. Each datagram had its turn. Whatever a crash may
 -- leave of a disk now stands for what the log shows of its map, or, where that is behind, for that or for the version
--- whose install failed.
+-- whose install failed. The orders of each map rise in the log, where all disks tell what a crash may leave of them.
 pub record IsServed {D : Type 0} (history : D → Option History) (house : House) (maps : List (Kept D)) (hosted : Hosted)
     (old new : Place) (disks : List D) : Type 0 where
   pub log : Log
@@ -56,6 +58,7 @@ pub record IsServed {D : Type 0} (history : D → Option History) (house : House
   pub datagrams : ServesDatagrams (conduct house) house.catalogue (starts 0 (versions maps)) log house.turns
       hosted.inbox_fault old.box new.box
   pub leaves : Leaves history house.catalogue log disks
+  pub rises : AreTold history disks → IsRisingLog log
 
 -- Maps were loaded, each by the version that its file stood for, and served.
 pub record IsHosted {D : Type 0} (history : D → Option History) (faults : D → ℕ) (house : House) (hosted : Hosted)

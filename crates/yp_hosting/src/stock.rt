@@ -2,10 +2,12 @@
 
 ghost use Rattle.std.specs.Prelude.{◌≡◌, ◌≤◌, length, map, option_map, true, IfOk, IfErr, OnErr};
 ghost use Rattle.std.specs.Arc.{arc_value};
+ghost use Rattle.std.specs.List.{All};
 ghost use Rattle.yp_io.specs.Counts.{HasRisen};
 ghost use Rattle.yp_io.specs.declared.texts.TextFile.{TextFile};
 ghost use Rattle.yp_board.specs.Logs.{starts};
-ghost use Rattle.yp_publish.specs.Standing.{versions};
+ghost use Rattle.yp_publish.specs.Standing.{Level, versions};
+ghost use Rattle.yp_publish.specs.Rising.{moment_of, IsStart};
 ghost use Rattle.yp_session.specs.declared.session.TheConstants.{CALLS_MAX};
 ghost use Rattle.yp_turns.specs.Turns.{box_of};
 ghost use Rattle.yp_worker.specs.Receptions.{IsFair, opening_of};
@@ -19,10 +21,10 @@ use std::marker::Brand;
 use std::random::RandomSource;
 use std::sync::{Arc, Wait};
 use std::thread::Threads;
-use yp_board::Catalog;
+use yp_board::{Catalog, Show};
 use yp_io::{Clock, Dial, Disk, Inbox, NoMemory, Texts};
 use yp_listen::Listen;
-use yp_publish::laws::starts_are_shown;
+use yp_publish::laws::{beginning_is_start, starts_are_shown};
 use yp_publish::{Loaded, Publisher, StartRefused, load_all};
 use yp_readers::{Naming, Opened, board};
 use yp_serve::{ServeRefused, ServeSpec, Served, serve};
@@ -72,6 +74,20 @@ fn starting<D: Disk>(
     let copy = catalog.copy(alloc)?;
     let start = loaded.shown(alloc)?;
     Ok((copy, start))
+}
+
+/// A publisher of level maps, on a board that shows exactly them. From there on its log rises.
+fn publisher_of<D: Disk, B: Show>(loaded: Loaded<D>, catalog: Catalog, board: B) -> Publisher<D, B>
+    requires count { length loaded ≡ length catalog.maps }
+    requires level { All (λ standing. standing ≡ Level) (map (λ kept. kept.standing) loaded) }
+    requires maps { B.maps board ≡ length catalog.maps }
+    requires log { B.log board ≡ starts 0 (versions loaded) }
+    ensures publisher { result ≡ record { catalogue = catalog; maps = loaded; board = board } }
+    ensures start { IsStart (moment_of B.log result) }
+{
+    starts_are_shown();
+    beginning_is_start();
+    Publisher::new(loaded, catalog, board)
 }
 
 /// A desk whose clock workers share.
@@ -199,6 +215,7 @@ where
     A::Out: Send,
     R: Threads + Wait + RandomSource + Sync,
     requires count { length loaded ≡ length catalog.maps }
+    requires level { All (λ standing. standing ≡ Level) (map (λ kept. kept.standing) loaded) }
     requires workers { (1 ≤ spec.now.workers) × (spec.now.workers ≤ 8) }
     requires most { spec.now.most ≡ CALLS_MAX }
     requires fair { IsFair (L.past listen) }
@@ -265,6 +282,7 @@ where
     requires copy { copy ≡ catalog }
     requires start { map (option_map arc_value) start.items ≡ versions loaded }
     requires count { length loaded ≡ length catalog.maps }
+    requires level { All (λ standing. standing ≡ Level) (map (λ kept. kept.standing) loaded) }
     requires workers { (1 ≤ spec.now.workers) × (spec.now.workers ≤ 8) }
     requires most { spec.now.most ≡ CALLS_MAX }
     requires fair { IsFair (L.past listen) }
@@ -293,8 +311,7 @@ where
         };
         return (Err(NotHosted::NoMemory), stock);
     };
-    starts_are_shown();
-    let publisher = Publisher::new(loaded, catalog, writer);
+    let publisher = publisher_of(loaded, catalog, writer);
     let desk = shared::<M, A, T, C>(desk);
     match serve(
         alloc, rt, publisher, readers, desk, listen, inbox, spec, &OpenGate,

@@ -1,11 +1,16 @@
 use Rattle.std.proofs.Common.{◌∙◌}
 use Rattle.yp_hosting.proofs.Disks.{all_opened, stopped_count}
+use Rattle.yp_hosting.proofs.Starts.{levels}
 use Rattle.yp_hosting.proofs.stock.host.Goals as goal
 
 pub host_loaded-requires-clause-count : goal.host_loaded-requires-clause-count
 host_loaded-requires-clause-count g c κs within =
     all_opened g.D.Disk.history g.D.Disk.faults c.args.stock.disks.items c.in-Ok.loaded c.in-Ok.ensures.loaded
     ∙ c.requires.count
+
+pub host_loaded-requires-clause-level : goal.host_loaded-requires-clause-level
+host_loaded-requires-clause-level g c κs within =
+    levels g.D.Disk.history g.D.Disk.faults c.args.stock.disks.items c.in-Ok.loaded c.in-Ok.ensures.loaded
 
 pub returns-in-Ok-clause-count : goal.returns-in-Ok-clause-count
 returns-in-Ok-clause-count g c =

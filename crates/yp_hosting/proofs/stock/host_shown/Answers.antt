@@ -4,10 +4,11 @@ use Rattle.std.specs.Arc.{arc_value}
 use Rattle.std.proofs.lemmas.List.{length-map}
 use Rattle.yp_version.specs.Versions.{MapVersion}
 use Rattle.yp_board.specs.Catalogues.{Catalogue}
-use Rattle.yp_board.specs.Logs.{starts, shown}
+use Rattle.yp_board.specs.Logs.{starts}
 use Rattle.yp_publish.specs.Standing.{Kept, Published, versions}
 use Rattle.yp_readers.specs.Boards.{Written}
 use Rattle.yp_server.specs.declared.desk.Desk.{Desk}
+use Rattle.yp_hosting.proofs.Served.{served_as, leaves_count}
 use Rattle.yp_hosting.proofs.Starts.{at_start}
 use Rattle.yp_hosting.proofs.stock.host_shown.Goals as goal
 
@@ -17,22 +18,43 @@ board-requires-clause-starts g c =
     ∙ length-map c.args.loaded (λ (k : Kept g.row.D.Denot). k.version) ∙ c.requires.count
     ∙ sym (ap (λ (served : Catalogue). length served.maps) c.requires.copy)
 
-pub new-publisher-requires-clause-shown : goal.new-publisher-requires-clause-shown
-new-publisher-requires-clause-shown g c = λ number.
-    ap (λ (w : Written). shown number w.log) c.in-Ok.ensures.writer
-    ∙ ap (λ (l : List (Option MapVersion)). shown number (starts 0 l)) c.requires.start
-    ∙ c.starts_are_shown.ensures (versions c.args.loaded) number
+pub publisher_of-publisher-requires-clause-log : goal.publisher_of-publisher-requires-clause-log
+publisher_of-publisher-requires-clause-log g c =
+    ap (λ (w : Written). w.log) c.in-Ok.ensures.writer
+    ∙ ap (λ (l : List (Option MapVersion)). starts 0 l) c.requires.start
 
 -- each reader knows what was loaded
 pub serve-requires-clause-starts : goal.serve-requires-clause-starts
 serve-requires-clause-starts g c κs within k d lt =
     at_start _ _ _ _ _ (c.in-Ok.ensures.known k d lt)
-    (c.requires.copy ∙ sym (ap (λ (p : Published g.row.D.Denot Written). p.catalogue) c.new-publisher.ensures))
+    (c.requires.copy ∙ sym (ap (λ (p : Published g.row.D.Denot Written). p.catalogue) c.publisher_of-publisher.ensures.publisher))
     (sym (ap (λ (w : Written). w.log) c.in-Ok.ensures.writer)
-    ∙ sym (ap (λ (p : Published g.row.D.Denot Written). p.board.log) c.new-publisher.ensures))
+    ∙ sym (ap (λ (p : Published g.row.D.Denot Written). p.board.log) c.publisher_of-publisher.ensures.publisher))
 
 pub returns-in-Ok-serve-clause-texts : goal.returns-in-Ok-serve-clause-texts
 returns-in-Ok-serve-clause-texts g c = λ file.
     ap (λ (d : Desk g.row.A.Denot g.row.T.Denot g.row.C.Denot). g.T.Texts.text d.texts file) c.unshared.ensures.desk
     ∙ c.in-Ok-serve.ensures.desk.texts_are file
     ∙ ap (λ (d : Desk g.row.A.Denot g.row.T.Denot g.row.C.Denot). g.T.Texts.text d.texts file) c.shared-desk.ensures
+
+pub returns-in-Ok-serve-clause-hosted : goal.returns-in-Ok-serve-clause-hosted
+returns-in-Ok-serve-clause-hosted g c =
+    let did = c.in-Ok-serve.ensures in
+    let made = c.publisher_of-publisher.ensures in
+    served_as g.D.Disk.history c.args.loaded _ _ _ c.in-Ok-serve.served.disks.items c.in-Ok-serve.served.writer.log
+    c.args.spec.now.turns c.args.catalog c.publisher_of-publisher.result.catalogue _ _ _ _
+    c.publisher_of-publisher.result.board.log c.args.spec.now.most
+    (ap (λ (p : Published g.row.D.Denot Written). p.catalogue) made.publisher)
+    (ap (λ (d : Desk g.row.A.Denot g.row.T.Denot g.row.C.Denot). g.T.Texts.text d.texts) c.shared-desk.ensures)
+    (ap (λ (d : Desk g.row.A.Denot g.row.T.Denot g.row.C.Denot). d.hosts) c.shared-desk.ensures)
+    (ap (λ (p : Published g.row.D.Denot Written). p.board.log) made.publisher
+    ∙ ap (λ (w : Written). w.log) c.in-Ok.ensures.writer
+    ∙ ap (λ (l : List (Option MapVersion)). starts 0 l) c.requires.start)
+    c.requires.most did.grown did.served did.datagrams did.maps (did.rises made.start)
+
+pub returns-in-Ok-serve-clause-count : goal.returns-in-Ok-serve-clause-count
+returns-in-Ok-serve-clause-count g c =
+    leaves_count g.D.Disk.history c.publisher_of-publisher.result.catalogue c.in-Ok-serve.served.writer.log
+    c.in-Ok-serve.served.disks.items c.in-Ok-serve.ensures.maps
+    ∙ ap (λ (p : Published g.row.D.Denot Written). length p.catalogue.maps) c.publisher_of-publisher.ensures.publisher
+    ∙ sym c.requires.count
