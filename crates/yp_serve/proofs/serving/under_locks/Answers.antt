@@ -13,7 +13,7 @@ returns-clause-grown g c =
 pub returns-clause-counted : goal.returns-clause-counted
 returns-clause-counted g c =
     rw c.into_parts-charges.ensures.totals (counted_in _ _ _ _ _ _ _ _ _ _ _ _ c.serve-listen.ensures.counted
-        c.take_apart-disks.ensures.grown)
+    c.take_apart-disks.ensures.grown)
 
 pub returns-clause-files : goal.returns-clause-files
 returns-clause-files g c = λ texts well.
