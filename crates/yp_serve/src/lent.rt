@@ -92,7 +92,12 @@ pub(crate) fn books<S: Accounts + Supplies>(
     unread: Blank,
     failures: Blank,
     orders: Blank,
-) -> (Book<Unread<S>>, Book<Failures<S>>, Book<Orders<S>>, Charges<S>)
+) -> (
+    Book<Unread<S>>,
+    Book<Failures<S>>,
+    Book<Orders<S>>,
+    Charges<S>,
+)
     requires unread { (unread.name ≡ S.unread) × (unread.parts ≡ S.shares) }
     requires failures { (failures.name ≡ S.failures) × (failures.parts ≡ S.shares) }
     requires orders { (orders.name ≡ S.orders) × (orders.parts ≡ S.shares) }

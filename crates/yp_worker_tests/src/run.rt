@@ -56,9 +56,7 @@ fn served<J: Reception, E: Ledger, R: Wait + RandomSource + Abort>(
     let mut pass = Pass::new(share, mine);
     let session = Session::new(alloc).expect(rt, "a session");
     let mut worker = Worker::new(host, session, OpenGate, 9);
-    let listening = Mutex::new(Listening::<J, E, TestHost, MemListen>::new(
-        listen, book, ends, 0,
-    ));
+    let listening = Mutex::new(Listening::<J, E, TestHost, MemListen>::new(listen, book, ends, 0));
     let own = worker.run(rt, &listening, &mut pass);
     let (listen, all, sum) = listening.into_inner().close(&mut pass);
     (own, all, sum, listen.accepted(), taken(rt, alloc, &listen))
@@ -90,9 +88,7 @@ where
     let (book, mut mine) = out.open::<J>();
     let (ends, mut my_ends) = ended.open::<E>();
     let (theirs, their_ends) = (mine.split_off(1, 0), my_ends.split_off(1, 0));
-    let listening = Mutex::new(Listening::<J, E, TestHost, MemListen>::new(
-        listen, book, ends, 0,
-    ));
+    let listening = Mutex::new(Listening::<J, E, TestHost, MemListen>::new(listen, book, ends, 0));
     let first = (worker(rt, alloc, hosts.0), Pass::new(mine, my_ends));
     let second = (worker(rt, alloc, hosts.1), Pass::new(theirs, their_ends));
     let ((mut pass, _), (other, _)) = run_beside(rt, &listening, first, second);
@@ -125,7 +121,8 @@ const XFR: &str = "80000058 00000005 00000000 00000002 000186a4 00000002 0000000
     0000000c 686f7374 732e6279 6e616d65 00000000 00000002 6d320000
     00000009 40000000 00000400";
 
-const TAKEN: &str = "80000020 00000005 00000001 00000000 00000000 00000000 00000000 00000009 00000001";
+const TAKEN: &str =
+    "80000020 00000005 00000001 00000000 00000000 00000000 00000000 00000009 00000001";
 
 const SERVED: Tally = Tally {
     connections: 2,
@@ -186,13 +183,7 @@ fn all_connections_of_a_listener(rt: HostRuntime) {
         let host = host_of(&rt, alloc, &[]);
         let (out, ended) = (Blank::new(1), Blank::new(1));
         let came = served::<Brand, Brand, _>(&rt, alloc, out, ended, listen, host);
-        let wanted = (
-            tally,
-            tally,
-            transfers,
-            accepted,
-            bytes(&rt, alloc, output),
-        );
+        let wanted = (tally, tally, transfers, accepted, bytes(&rt, alloc, output));
         assert_same(&rt, &came, &wanted, "the connections of a listener");
     }
 }

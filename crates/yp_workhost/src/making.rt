@@ -86,14 +86,7 @@ where
     ensures charged { ChargesMore (option_map_or files_in result 0) 0 charges.old charges.new }
 {
     let own = reader.catalog().own();
-    let version = match desk.build(
-        alloc,
-        rt,
-        job.kind,
-        own,
-        reader.held(job.map),
-        charges,
-    ) {
+    let version = match desk.build(alloc, rt, job.kind, own, reader.held(job.map), charges) {
         Ok(version) => version,
         Err(stat) => return Some(stat),
     };

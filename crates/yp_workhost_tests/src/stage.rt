@@ -25,9 +25,7 @@ use yp_server::Desk;
 use yp_session::Host;
 use yp_shared::{Accounts, Failures, Locked, Site};
 use yp_worker::{CatchUp, HandsOver};
-use yp_workhost::{
-    Account, Charges, Orders, SharedDesk, Supplies, Totals, Unread, WorkerHost,
-};
+use yp_workhost::{Account, Charges, Orders, SharedDesk, Supplies, Totals, Unread, WorkerHost};
 
 /// The locks of a map and its desk.
 type Maps<S, J, R> = Mutex<Locked<S, MemDisk, Writer<J, R>>>;
@@ -73,11 +71,12 @@ fn open<'r, J: Naming, R: RandomSource + Wait + Abort>(
 }
 
 /// Does one thing.
-fn done_by<S: Site + Accounts + Supplies, J: Naming, T: Texts + Drop, R: RandomSource + Wait + Drop>(
-    host: &mut Worker<'_, S, J, T, R>,
-    act: Act,
-    source: &[u8],
-) -> Came {
+fn done_by<
+    S: Site + Accounts + Supplies,
+    J: Naming,
+    T: Texts + Drop,
+    R: RandomSource + Wait + Drop,
+>(host: &mut Worker<'_, S, J, T, R>, act: Act, source: &[u8]) -> Came {
     if host.catalog().len() == 0 || source.len() > 64 {
         return (None, None);
     }
@@ -123,7 +122,13 @@ pub struct Script<'a> {
 }
 
 /// What two workers do in turn.
-fn play<'r, S: Site + Accounts + Supplies, J: Naming, T: Texts + Drop, R: RandomSource + Wait + Abort>(
+fn play<
+    'r,
+    S: Site + Accounts + Supplies,
+    J: Naming,
+    T: Texts + Drop,
+    R: RandomSource + Wait + Abort,
+>(
     rt: &'r R,
     alloc: Global,
     first: &mut Worker<'_, S, J, T, &'r R>,
@@ -143,7 +148,13 @@ fn play<'r, S: Site + Accounts + Supplies, J: Naming, T: Texts + Drop, R: Random
 }
 
 /// Two workers, made of their readers and the locks, play.
-fn meet<'r, S: Site + Accounts + Supplies, J: Naming, T: Texts + Drop, R: RandomSource + Wait + Abort>(
+fn meet<
+    'r,
+    S: Site + Accounts + Supplies,
+    J: Naming,
+    T: Texts + Drop,
+    R: RandomSource + Wait + Abort,
+>(
     rt: &'r R,
     alloc: Global,
     maps: &Maps<S, J, &'r R>,
