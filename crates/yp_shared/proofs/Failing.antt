@@ -138,12 +138,12 @@ not_following_is_not_spent own offered None generation is =
     opposed_is_spent generation (generation == generation_max) refl is
 not_following_is_not_spent own offered (Some version) generation is =
     by_cases (is_foreign own offered.origin version) (is_no_newer offered version) is where
-  by_cases : (foreign older : Bool)
-      → option_or (if foreign then Some (HasMaster version.master) else if older then Some (IsNotNewer version.order offered.version.order) else None) (no_further generation) ≡ Some IsSpent
-      → generation ≡ generation_max
-  by_cases true older h = absurd cc
-  by_cases false true h = absurd cc
-  by_cases false false h = opposed_is_spent generation (generation == generation_max) refl h
+      by_cases : (foreign older : Bool)
+          → option_or (if foreign then Some (HasMaster version.master) else if older then Some (IsNotNewer version.order offered.version.order) else None) (no_further generation) ≡ Some IsSpent
+          → generation ≡ generation_max
+      by_cases true older h = absurd cc
+      by_cases false true h = absurd cc
+      by_cases false false h = opposed_is_spent generation (generation == generation_max) refl h
 
 -- of a level map it is the refusal of the first of the other reasons
 level_refusal : {D : Type 0} (own : List ℕ) (offered : Offer) (kept : Kept D) → kept.standing ≡ Level
@@ -159,13 +159,13 @@ not_behind own offered None generation is = by_end (generation == generation_max
   by_end false h = absurd cc
 not_behind own offered (Some version) generation is =
     by_cases (is_foreign own offered.origin version) (is_no_newer offered version) (generation == generation_max) is where
-  by_cases : (foreign older b : Bool)
-      → option_or (if foreign then Some (HasMaster version.master) else if older then Some (IsNotNewer version.order offered.version.order) else None) (if b then Some IsSpent else None) ≡ Some IsBehind
-      → ⊥
-  by_cases true older b h = absurd cc
-  by_cases false true b h = absurd cc
-  by_cases false false true h = absurd cc
-  by_cases false false false h = absurd cc
+      by_cases : (foreign older b : Bool)
+          → option_or (if foreign then Some (HasMaster version.master) else if older then Some (IsNotNewer version.order offered.version.order) else None) (if b then Some IsSpent else None) ≡ Some IsBehind
+          → ⊥
+      by_cases true older b h = absurd cc
+      by_cases false true b h = absurd cc
+      by_cases false false true h = absurd cc
+      by_cases false false false h = absurd cc
 
 risen_by_one : (before after : ℕ) → HasRisen before after → after < last_count → before + 1 ≤ after
 risen_by_one before after risen below = omega (arith, risen, below)

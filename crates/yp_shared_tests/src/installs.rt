@@ -156,16 +156,7 @@ fn offered<'r, J: Naming, S: Site + Accounts, R: Wait + RandomSource + Abort>(
     ensures { charge.new.parts ≡ charge.old.parts }
 {
     let version = version(rt, alloc, order);
-    let result = install_shared(
-        alloc,
-        rt,
-        shared,
-        reader,
-        0,
-        version,
-        Origin::Built,
-        charge,
-    );
+    let result = install_shared(alloc, rt, shared, reader, 0, version, Origin::Built, charge);
     (outcome_of(&result), held(reader))
 }
 

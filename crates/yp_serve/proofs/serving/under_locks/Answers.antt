@@ -16,7 +16,7 @@ returns-clause-rises g c = c.take_apart-disks.ensures.rises
 pub returns-clause-counted : goal.returns-clause-counted
 returns-clause-counted g c =
     rw c.into_parts-charges.ensures.totals (counted_in _ _ _ _ _ _ _ _ _ _ _ _ c.serve-listen.ensures.counted
-        c.take_apart-disks.ensures.grown)
+    c.take_apart-disks.ensures.grown)
 
 pub returns-clause-files : goal.returns-clause-files
 returns-clause-files g c = λ texts well.
