@@ -67,8 +67,8 @@ fn disassemble<D: Disk, B: Show>(publisher: Publisher<D, B>) -> (Vec<D>, B)
     publisher.into_parts()
 }
 
-/// The disks of the maps and the writer, of which the reader knows nothing that wasn't shown. What was charged is covered
-/// by the faults of the disks. From a start the log rises, where the disks tell what a crash may leave of them.
+/// The disks of the maps and the writer, of which the reader knows nothing that wasn't shown. What was charged is
+/// covered by the faults of the disks. From a start the log rises, where the disks tell what a crash may leave of them.
 pub(crate) fn take_apart<S: Site + Accounts, D: Disk, B: Tell>(
     mut locked: Locked<S, D, B>,
     mut reader: B::Reader,

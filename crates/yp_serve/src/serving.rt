@@ -93,8 +93,7 @@ where
     ensures inbox_fault { IfOk result (λ served. served.inbox_fault ≡ true
         → HasRisen (I.faults inbox) (I.faults served.inbox)) }
 
-    // How each map stands then. From a start the orders of each map rise, where the disks tell what a crash may leave of
-    // them.
+    // How each map stands then. From a start the orders of each map rise, where the disks tell what a crash may leave.
     ensures maps { IfOk result (λ served. Leaves D.history publisher.catalogue (B.log served.writer)
         served.disks.items) }
     ensures grown { IfOk result (λ served. IsFront (B.log publisher.board) (B.log served.writer)) }

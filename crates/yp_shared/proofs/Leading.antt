@@ -1,25 +1,23 @@
 -- Where installs and reopens lead, and that a log rises there.
-use Rattle.std.proofs.Common.{◌≡◌, inl, inr, ℕ, zero, suc, ◌<◌, List, [], ◌∷◌, ◌++◌, length, map, slice_get, Option, None, Some, IfSome, IsSome, option_map, false, OnOk, IfErr, Result, Ok, Err, refl, sym, ◌∙◌, ap, subst, arith}
-use Rattle.std.specs.Prelude.{All}
+use Rattle.std.proofs.Common.{◌≡◌, inl, inr, ℕ, suc, ◌<◌, List, [], ◌∷◌, ◌++◌, length, map, slice_get, Option, None, Some, IfSome, IsSome, option_map, false, OnOk, IfErr, Result, Ok, Err, refl, sym, ◌∙◌, ap, subst, arith}
 use Rattle.std.specs.List.{AllByRecursion}
 use Rattle.std.proofs.lemmas.List.{length-map}
-use Rattle.std.proofs.lemmas.Option.{slice_get_cases, slice_get-map, get_or_from_slice_get, same_Some}
+use Rattle.std.proofs.lemmas.Option.{slice_get_cases, slice_get-map, get_or_from_slice_get}
 use Rattle.std.proofs.lemmas.Bool.{cases_eq}
 use Rattle.yp_io.specs.Disk.{History, GoesOn}
 use Rattle.yp_version.specs.Versions.{MapVersion}
 use Rattle.yp_slot.specs.declared.fault.SlotFault.{SlotFault}
 use Rattle.yp_publish.specs.declared.install.Origin.{Origin}
-use Rattle.yp_publish.specs.declared.install.InstallFault.{InstallFault}
 use Rattle.yp_publish.specs.Standing.{MapStanding, Kept, Published, OfMap, At, IsSameElsewhere}
-use Rattle.yp_publish.specs.Keeping.{Keeping, Upholds}
-use Rattle.yp_publish.specs.Installs.{Offer, LeavesEither, Installs, Refuses, GoesOnRising}
+use Rattle.yp_publish.specs.Keeping.{Keeping}
+use Rattle.yp_publish.specs.Installs.{Offer, LeavesEither, GoesOnRising}
 use Rattle.yp_publish.specs.Opens.{StandsMeanwhile, Opens, IsStillBehind, StaysBehind}
 use Rattle.yp_publish.specs.Rising.{Moment, moment_of, Steps, Follow, Reopens, IsStart, IsRisingLog}
 use Rattle.yp_publish.specs.Grown.{AreTold}
 use Rattle.yp_publish.specs.Laws.{LogRises}
 use Rattle.yp_shared.specs.declared.locked.ShareFault.{ShareFault}
 use Rattle.yp_shared.specs.declared.locked.ShareFault.TheVariants.{Shut, Unfit, Untold}
-use Rattle.yp_shared.specs.Shares.{offer_behind, OpensAndInstalls, OpensAndRefuses, IsNotInstalled}
+use Rattle.yp_shared.specs.Shares.{offer_behind, OpensAndInstalls, IsNotInstalled}
 use Rattle.yp_shared.specs.Failures.{disks_of}
 use Rattle.yp_shared.specs.Moments.{Leads, MapsTell, IsLed}
 use Rattle.yp_shared.proofs.Failing.{told_before, at_map, of_map, the_map}
@@ -150,7 +148,7 @@ module _ {D B : Type 0} (keeping : Keeping D B) (first : Moment) (number : ℕ) 
         led_then meanwhile.no_more.goes_on (λ told. inr (
           number,
           inl (ap (λ (b : B). record { log = keeping.log b; standings = map (λ (k : Kept D). k.standing) new.maps }) stays.not_shown
-          ∙ ap (λ (l : List MapStanding). record { log = keeping.log old.board; standings = l }) stand),
+              ∙ ap (λ (l : List MapStanding). record { log = keeping.log old.board; standings = l }) stand),
         ))
 
   module _ (version : MapVersion) (origin : Origin) (old new : Published D B) (within : number < length old.maps)

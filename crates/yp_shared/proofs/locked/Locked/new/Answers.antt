@@ -1,5 +1,4 @@
 use Rattle.yp_publish.specs.Keeping.{keeping_of}
-use Rattle.yp_shared.specs.Failures.{Covers}
 use Rattle.yp_shared.proofs.Failing.{covers_none}
 use Rattle.yp_shared.proofs.Leading.{led_at_first}
 use Rattle.yp_shared.proofs.locked.Locked.new.Goals as goal
