@@ -3,6 +3,8 @@
 ghost use Rattle.std.specs.Prelude.{◌≡◌, All};
 ghost use Rattle.yp_io.specs.MemDisk.{Platter};
 ghost use Rattle.yp_io.specs.MemDial.{wires_of};
+ghost use Rattle.yp_publish.specs.Rising.{moment_of};
+ghost use Rattle.yp_readers.specs.Boards.{Written};
 ghost use Rattle.yp_shared.specs.Failures.{disks_of, faults_over};
 ghost use Rattle.yp_workhost.specs.Desks.{IsSupplied};
 
@@ -228,6 +230,7 @@ fn under_locks<
     script: Script<'_>,
 ) -> Played
     requires site { publisher.catalogue ≡ S.catalogue }
+    requires stood { moment_of (λ (w : Written). w.log) publisher ≡ S.first }
     requires disks { faults_over (λ (p : Platter). p.faults) (disks_of publisher.maps) ≡ S.disk_faults }
     requires first { readers.0.catalogue ≡ S.catalogue }
     requires second { readers.1.catalogue ≡ S.catalogue }

@@ -1,6 +1,8 @@
 -- The catalogue, and what the publisher and the desk have before they are shared.
 use Rattle.yp_io.specs.MemDial.{wires_of}
 use Rattle.yp_io.specs.MemDisk.{Platter}
+use Rattle.yp_publish.specs.Rising.{moment_of}
+use Rattle.yp_readers.specs.Boards.{Written}
 use Rattle.yp_shared.specs.Failures.{disks_of, faults_over}
 use Rattle.yp_workhost_tests.proofs.stage.staged.Given as goal
 
@@ -9,6 +11,7 @@ ghosts-under_locks-S-Site g a = record { catalogue = a.publisher.catalogue }
 
 abbrev pub ghosts-under_locks-S-Accounts : goal.ghosts-under_locks-S-Accounts
 ghosts-under_locks-S-Accounts g a = record {
+  first = moment_of (λ (w : Written). w.log) a.publisher;
   disk_faults = faults_over (λ (p : Platter). p.faults) (disks_of a.publisher.maps);
   failures = a.failures.name;
   shares = a.failures.parts;
