@@ -7,8 +7,10 @@
 //! the counts of the disks rose by: that stands on [`Locked::close`].
 #![tactic(auto)]
 
+mod debits;
 mod locked;
 mod share;
 
-pub use locked::{Accounts, Failures, Locked, ShareFault, Site};
+pub use debits::Debits;
+pub use locked::{Accounts, Failures, Locked, Made, ShareFault, Site, Versions};
 pub use share::{install_shared, tell_shared};
