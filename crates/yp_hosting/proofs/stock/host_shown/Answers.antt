@@ -60,18 +60,17 @@ returns-in-Ok-serve-clause-hosted g c =
     c.args.spec.now.turns c.args.catalog c.publisher_of-publisher.result.catalogue _ _ _ _
     (moment_of (λ (w : Written). w.log) c.publisher_of-publisher.result) c.args.spec.now.most
     (ap (λ (d : Desk g.row.A.Denot g.row.T.Denot g.row.C.Denot). place_of (here c.args.listen) (letters c.args.inbox)
-        (supply_of (g.T.Texts.faults d.texts) (g.A.Dial.past d.dial) (g.A.Dial.faults d.dial))) c.shared-desk.ensures)
+    (supply_of (g.T.Texts.faults d.texts) (g.A.Dial.past d.dial) (g.A.Dial.faults d.dial))) c.shared-desk.ensures)
     (ap (λ (d : Desk g.row.A.Denot g.row.T.Denot g.row.C.Denot). place_of (here c.in-Ok-serve.served.listen)
-        (letters c.in-Ok-serve.served.inbox)
-        (supply_of (g.T.Texts.faults d.texts) (g.A.Dial.past d.dial) (g.A.Dial.faults d.dial))) (sym c.unshared.ensures.desk))
+    (letters c.in-Ok-serve.served.inbox)
+    (supply_of (g.T.Texts.faults d.texts) (g.A.Dial.past d.dial) (g.A.Dial.faults d.dial))) (sym c.unshared.ensures.desk))
     (ap (λ (p : Published g.row.D.Denot Written). p.catalogue) made.publisher)
     (ap (λ (d : Desk g.row.A.Denot g.row.T.Denot g.row.C.Denot). g.T.Texts.text d.texts) c.shared-desk.ensures)
     (ap (λ (d : Desk g.row.A.Denot g.row.T.Denot g.row.C.Denot). d.hosts) c.shared-desk.ensures)
     (first_as c.publisher_of-publisher.result c.args.catalog c.args.loaded c.in-Ok.field-0.0 made.publisher
     (ap (λ (w : Written). w.log) c.in-Ok.ensures.writer
     ∙ ap (λ (l : List (Option MapVersion)). starts 0 l) c.requires.start))
-    c.requires.most
-    (
+    c.requires.most (
       did.grown,
       did.served,
       did.datagrams,
