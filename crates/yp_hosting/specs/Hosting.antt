@@ -17,7 +17,7 @@ use Rattle.yp_session.specs.declared.session.TheConstants.{CALLS_MAX}
 use Rattle.yp_turns.specs.Turns.{Box}
 use Rattle.yp_shared.specs.Failures.{disks_of}
 use Rattle.yp_workhost.specs.Workers.{Worker}
-use Rattle.yp_workhost.specs.Builds.{IsBuilt}
+use Rattle.yp_workhost.specs.Makings.{IsBuilt}
 use Rattle.yp_workhost.specs.Wires.{CoversOrders, CoversSources}
 use Rattle.yp_worker.specs.Receptions.{Opening, IsKept, terms_of}
 use Rattle.yp_serve.specs.Serving.{conduct_at, ServesDatagrams, Leaves}
