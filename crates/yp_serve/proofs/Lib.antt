@@ -2,3 +2,4 @@ mod Rows
 mod Fronts
 mod Posted
 mod Covering
+mod Stemming

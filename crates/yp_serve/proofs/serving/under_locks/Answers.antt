@@ -31,3 +31,18 @@ returns-clause-orders g c =
     let charged = c.into_parts-charges.ensures.charged.orders in
     let share = c.into_shares-unread.ensures.orders in
     c.close-desk.ensures.orders c.into_parts-charges.result.0.outcomes.reached (omega (arith, charged, share))
+
+pub returns-clause-sources : goal.returns-clause-sources
+returns-clause-sources g c =
+    let charged = c.into_parts-charges.ensures.charged.sources in
+    let share = c.into_shares-unread.ensures.sources in
+    c.close-desk.ensures.sources c.into_parts-charges.result.0.outcomes.source (omega (arith, charged, share))
+
+pub returns-clause-origins : goal.returns-clause-origins
+returns-clause-origins g c = λ start told.
+    let charged = c.into_parts-charges.ensures.charged.made in
+    let debits = c.into_shares-unread.ensures.debits in record {
+      fetched = c.take_apart-disks.result.2.amount;
+      stems = c.take_apart-disks.ensures.sourced c.into_parts-charges.result.0.made (rw debits charged) start told;
+      good = c.close-desk.ensures.versions c.take_apart-disks.result.2.amount (omega arith);
+    }
