@@ -5,7 +5,7 @@ ghost use Rattle.std.specs.List.{All};
 ghost use Rattle.yp_io.specs.Counts.{HasRisen};
 ghost use Rattle.yp_session.specs.Hosts.{conduct_of};
 ghost use Rattle.yp_worker.specs.Receptions.{IsFair, IsKept, IsUnder, opening_of, terms_of};
-ghost use Rattle.yp_workhost.specs.Builds.{Builds};
+ghost use Rattle.yp_workhost.specs.Makings.{Builds};
 ghost use Rattle.yp_workhost.specs.Charges.{free_of_charge, no_totals, totals_of};
 ghost use Rattle.yp_turns.specs.Turns.{box_of};
 ghost use Rattle.yp_serve.specs.Serving.{at_work, conduct_at, IsAtStart};

@@ -11,7 +11,7 @@ ghost use Rattle.yp_publish.specs.Grown.{AreTold};
 ghost use Rattle.yp_publish.specs.Rising.{moment_of, IsStart, IsRisingLog};
 ghost use Rattle.yp_shared.specs.Failures.{disks_of, faults_over};
 ghost use Rattle.yp_serve.specs.Serving.{conduct_at, IsAtStart, Leaves, ServesDatagrams};
-ghost use Rattle.yp_workhost.specs.Builds.{Builds, IsBuilt};
+ghost use Rattle.yp_workhost.specs.Makings.{Builds, IsBuilt};
 ghost use Rattle.yp_workhost.specs.Wires.{CoversOrders, CoversSources};
 ghost use Rattle.yp_serve.specs.Counting.{count_totals, CountsAll, FilesAreCovered};
 ghost use Rattle.yp_serve.specs.Origins.{ComesFrom};

@@ -1,7 +1,7 @@
 use Rattle.yp_worker.specs.Receptions.{opening_of}
 use Rattle.yp_publish.specs.Rising.{moment_of}
 use Rattle.yp_shared.specs.Failures.{disks_of, faults_over}
-use Rattle.yp_workhost.specs.Builds.{IsBuilt}
+use Rattle.yp_workhost.specs.Makings.{IsBuilt}
 use Rattle.yp_serve.proofs.serving.serve.Given as goal
 
 -- what is lent, as it is before the first connection
