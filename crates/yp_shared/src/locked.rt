@@ -114,16 +114,19 @@ impl<S: Accounts> Ledger for Made<S> {
     ghost parts = { S.shares };
 }
 
-/// The ledger of the versions that were fetched for a site. Its book isn't here.
+/// The ledger of the versions that were fetched for a site. Its book isn't here. One part more than of the others lies
+/// with the publisher.
 #[derive(Drop)]
 pub struct Versions<S: Accounts> {
     of: PhantomData<S>,
 }
 
 impl<S: Accounts> Ledger for Versions<S> {
+    ghost use Rattle.std.specs.Prelude.{◌+◌};
+
     ghost name = { S.versions };
 
-    ghost parts = { S.shares };
+    ghost parts = { S.shares + 1 };
 }
 
 /// Why a version wasn't installed, or why the reader doesn't know it.
