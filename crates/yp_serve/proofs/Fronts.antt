@@ -1,7 +1,6 @@
 -- What a worker of datagrams knew, in the log of the writer.
-use Rattle.std.proofs.Common.{◌≡◌, Bool, true, ℕ, [], ◌++◌, Option, Result, sym, ap, ◌∙◌, subst, append_assoc}
+use Rattle.std.proofs.Common.{◌≡◌, Bool, true, ℕ, ◌++◌, get_or, Option, Some, None, Result, sym, ap, ◌∙◌, subst, append_assoc}
 use Rattle.std.specs.Prelude.{is_err}
-use Rattle.std.proofs.lemmas.List.{append-nil}
 use Rattle.yp_io.specs.Counts.{HasRisen}
 use Rattle.yp_io.specs.declared.stream.Failed.{Failed}
 use Rattle.yp_board.specs.Catalogues.{Catalogue}
@@ -17,7 +16,7 @@ use Rattle.yp_serve.specs.Posts.{Mails}
 use Rattle.yp_worker.specs.Receptions.{Terms, Stay}
 use Rattle.yp_worker.specs.Summing.{Counting, CountsUpTo, SumsUp}
 use Rattle.yp_listen.specs.Calls.{Calls}
-use Rattle.yp_serve.specs.Serving.{at_rest, no_counts, IsAtStart, ServesDatagrams}
+use Rattle.yp_serve.specs.Serving.{at_rest, no_counts, IsAtStart}
 use Rattle.yp_serve.specs.Counting.{CountsDatagrams, CountsAll}
 
 front_then : (a b c : Log) → IsFront a b → IsFront b c → IsFront a c

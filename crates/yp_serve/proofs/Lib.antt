@@ -3,3 +3,4 @@ mod Fronts
 mod Posted
 mod Covering
 mod Stemming
+mod Closing

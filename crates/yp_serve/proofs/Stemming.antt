@@ -1,9 +1,9 @@
 -- Where what was shown came from, said of the disks alone.
-use Rattle.std.proofs.Common.{◌≡◌, ℕ, List, map, Option, sym, ap, subst}
+use Rattle.std.proofs.Common.{◌≡◌, ℕ, List, map, Option, sym, subst}
 use Rattle.yp_io.specs.Disk.{History}
 use Rattle.yp_board.specs.Catalogues.{Catalogue}
 use Rattle.yp_board.specs.Logs.{Log}
-use Rattle.yp_publish.specs.Standing.{MapStanding, Kept, Published}
+use Rattle.yp_publish.specs.Standing.{Kept, Published}
 use Rattle.yp_publish.specs.Rising.{Moment, moment_of}
 use Rattle.yp_shared.specs.Sources.{Building, IsSourced}
 use Rattle.yp_serve.specs.Serving.{Leaves}

@@ -1,6 +1,5 @@
-use Rattle.std.proofs.Common.{List, ap, sym, subst}
+use Rattle.std.proofs.Common.{sym, subst}
 use Rattle.yp_publish.specs.Rising.{IsRisingLog}
-use Rattle.yp_publish.specs.Standing.{MapStanding}
 use Rattle.yp_publish.specs.Grown.{AreTold}
 use Rattle.yp_serve.proofs.Covering.{covered}
 use Rattle.yp_serve.proofs.Stemming.{stems}
