@@ -46,7 +46,7 @@ fn joined(alloc: Global, words: &[&str], text: &str) -> Result<Vec<u8>, AllocErr
 /// A crash may keep each of the last three writes, or drop it.
 const CRASHES: u64 = 8;
 
-/// The files that a crash may leave of the first disk.
+/// The files that a crash may leave of the first disk, each once.
 fn images_of(alloc: Global, disks: &[NamedDisk<MemDisk>]) -> Result<Vec<Vec<u8>>, AllocError> {
     let mut images = Vec::new(alloc);
     let Some((first, _)) = disks.split_first() else {
@@ -56,7 +56,9 @@ fn images_of(alloc: Global, disks: &[NamedDisk<MemDisk>]) -> Result<Vec<Vec<u8>>
         let Ok(image) = first.disk.crashed(kept) else {
             return Err(AllocError);
         };
-        images.push(image)?;
+        if !images.contains(&image) {
+            images.push(image)?;
+        }
     }
     Ok(images)
 }
