@@ -166,9 +166,11 @@ static TEXTS: [Row; 3] = [
     },
 ];
 
+static MADE_AFTER: [After; 2] = [MADE_OVER, MADE_OVER_NEXT];
+
 #[test]
 fn each_read_of_the_text_fails(rt: HostRuntime) {
-    try_rows(&rt, rt.alloc(), &TEXTS, &[MADE_OVER, MADE_OVER_NEXT]);
+    try_rows(&rt, rt.alloc(), &TEXTS, &MADE_AFTER);
 }
 
 // ---- the disk
@@ -477,7 +479,9 @@ const SERVED_OVER: After = After {
     },
 };
 
+static SERVED_AFTER: [After; 2] = [SERVED_ANEW, SERVED_OVER];
+
 #[test]
 fn each_call_of_a_connection_fails(rt: HostRuntime) {
-    try_rows(&rt, rt.alloc(), &CONNECTIONS, &[SERVED_ANEW, SERVED_OVER]);
+    try_rows(&rt, rt.alloc(), &CONNECTIONS, &SERVED_AFTER);
 }

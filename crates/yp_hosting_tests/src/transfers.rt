@@ -2,13 +2,8 @@
 
 use crate::bytes::{ADDRESS, FILE, FIRST, MATCH, NOMAP};
 use crate::given::{try_all, try_each, try_rows};
-use std::alloc::Global;
-use std::process::Abort;
-use std::random::RandomSource;
-use std::sync::Wait;
-use std::thread::Threads;
 use yp_io::Peer;
-use yp_stage::{After, Datagram, DiskCalls, FAIR, Row, Words, try_crash};
+use yp_stage::{After, Datagram, DiskCalls, FAIR, Row, Words, try_reads, try_writes};
 
 /// XFR of hosts.byname of `lab` from `m1`, which asks to be told at port 7002 of transaction 9 in program 0x40000000;
 /// behind the word of its number. Then the reply.
@@ -112,6 +107,8 @@ const HAS_IT: After = After {
     },
 };
 
+static AFTER: [After; 2] = [FETCHED_ANEW, HAS_IT];
+
 // ---- the dial and its wire
 
 static DIALS: [Row; 4] = [
@@ -137,7 +134,7 @@ static DIALS: [Row; 4] = [
 
 #[test]
 fn each_call_of_the_dial_fails(rt: HostRuntime) {
-    try_rows(&rt, rt.alloc(), &DIALS, &[FETCHED_ANEW, HAS_IT]);
+    try_rows(&rt, rt.alloc(), &DIALS, &AFTER);
 }
 
 static IN_PIECES: Row = Row {
@@ -145,34 +142,13 @@ static IN_PIECES: Row = Row {
     ..UNFETCHED
 };
 
-/// Runs a row for each of the first reads of its wire, which fails, and then for each of its first writes and flushes.
-fn try_wire<R: Threads + Wait + RandomSource + Abort + Sync>(
-    rt: &R,
-    alloc: Global,
-    reads: u64,
-    writes: u64,
-) {
-    for call in 0..reads {
-        let row = Row {
-            wire_reads: call,
-            ..IN_PIECES
-        };
-        try_crash(alloc, rt, &row, &[FETCHED_ANEW]).expect(rt, "a read");
-    }
-    for call in 0..writes {
-        let row = Row {
-            wire_writes: call,
-            ..IN_PIECES
-        };
-        try_crash(alloc, rt, &row, &[FETCHED_ANEW]).expect(rt, "a write");
-    }
-}
-
 /// A read or a write takes 48 bytes at most, so each of four calls of 68 bytes takes two writes and a flush, and each
 /// of four replies a read of the head, and one of the body, or two.
 #[test]
 fn each_call_of_the_wire_fails(rt: HostRuntime) {
-    try_wire(&rt, rt.alloc(), 9, 12);
+    let alloc = rt.alloc();
+    try_reads(alloc, &rt, &IN_PIECES, 9, &AFTER).expect(&rt, "a read");
+    try_writes(alloc, &rt, &IN_PIECES, 12, &AFTER).expect(&rt, "a write");
 }
 
 // ---- the disk
@@ -363,7 +339,9 @@ const SERVED_OVER: After = After {
     },
 };
 
+static SERVED_AFTER: [After; 2] = [SERVED_ANEW, SERVED_OVER];
+
 #[test]
 fn each_call_of_the_connection_fails(rt: HostRuntime) {
-    try_rows(&rt, rt.alloc(), &CONNECTIONS, &[SERVED_ANEW, SERVED_OVER]);
+    try_rows(&rt, rt.alloc(), &CONNECTIONS, &SERVED_AFTER);
 }

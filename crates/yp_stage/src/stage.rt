@@ -251,36 +251,38 @@ pub fn try_disk<R: Threads + Wait + RandomSource + Sync>(
     try_stops(alloc, rt, calls)
 }
 
-/// Runs a row for each of the first reads of its wire, which fails.
+/// Runs a row for each of the first reads of its wire, which fails, with rows for behind a crash.
 pub fn try_reads<R: Threads + Wait + RandomSource + Sync>(
     alloc: Global,
     rt: &R,
     row: &Row,
     count: u64,
+    after: &[After],
 ) -> Result<(), Wrong> {
     for call in 0..count {
         let row = Row {
             wire_reads: call,
             ..*row
         };
-        try_row(alloc, rt, &row)?;
+        try_crash(alloc, rt, &row, after)?;
     }
     Ok(())
 }
 
-/// Runs a row for each of the first writes and flushes of its wire, which fails.
+/// Runs a row for each of the first writes and flushes of its wire, which fails, with rows for behind a crash.
 pub fn try_writes<R: Threads + Wait + RandomSource + Sync>(
     alloc: Global,
     rt: &R,
     row: &Row,
     count: u64,
+    after: &[After],
 ) -> Result<(), Wrong> {
     for call in 0..count {
         let row = Row {
             wire_writes: call,
             ..*row
         };
-        try_row(alloc, rt, &row)?;
+        try_crash(alloc, rt, &row, after)?;
     }
     Ok(())
 }
