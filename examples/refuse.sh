@@ -4,9 +4,9 @@
 #
 # A growth is a call of malloc or realloc that the program makes; refuse.c, which gcc compiles, makes one of them fail.
 # Each run must end with status 7, or do what it does where none is refused. The file that it writes must stand for the
-# version before or for the new one. A server that has no memory for a MAKE must answer RSRC and go on, and no wire comes
-# of a dial where there is none for its buffer. It takes a few minutes, prints for each command how its runs ended, and
-# ends with status 1 where anything else came. It isn't part of the gate.
+# version before or for the new one. A server that has no memory for a MAKE must answer RSRC and go on. Where there is
+# none for the buffer of a wire that is dialed, no wire comes. It takes a few minutes, prints for each command how its
+# runs ended, and ends with status 1 where anything else came. It isn't part of the gate.
 set -u
 top=$(dirname -- "$(dirname -- "$(readlink -f -- "$0")")")
 yp=$top/crates/yp/out/yp # as ./yp runs it, so that only the program's own growths are refused

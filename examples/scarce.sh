@@ -8,11 +8,10 @@
 #
 # and then
 #
-#     base step wide most    the numbers that are tried: from the first, in steps, or wide ones for the server, and where
-#                            to give up
+#     base step wide most    the numbers that are tried: the first, the steps, those for the server, and where to give up
 #     scarce NUMBER INPUT WORD ..
-#                            runs the program with these words and this input in the folder `at`, as memory goes with this
-#                            number, writes to `out` and `note`, and has its status
+#                            runs the program with these words and this input in the folder `at`, as memory goes with
+#                            this number, writes to `out` and `note`, and has its status
 #     is_enough              whether the last run wanted nothing
 #     told NUMBER            prints how memory went with this number
 #     enough NUMBER          the same of one with which nothing was wanted
@@ -260,8 +259,8 @@ is_front() {
 }
 
 # A server, which ends before it answers anybody where it has no memory to begin, and else serves two connections, of
-# which it may let one go that it has no memory for. Behind its head and number, the reply on the other connection is the
-# last one of the first.
+# which it may let one go that it has no memory for. Behind its head and number, the reply on the other connection is
+# the last one of the first.
 serve_row() {
     local name=serve number status found process replies one other made unmade
     local -A ends=()

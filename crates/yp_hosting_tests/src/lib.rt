@@ -1,5 +1,5 @@
-//! Tests of the command `serve`, as `yp_tools` runs it, over memory: what it serves, and each call outside that fails in
-//! turn.
+//! Tests of the command `serve`, as `yp_tools` runs it, over memory: what it serves, and what comes where each call
+//! outside fails in turn.
 #![tactic(auto)]
 
 #[cfg(test)]

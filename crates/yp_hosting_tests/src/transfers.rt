@@ -1,4 +1,4 @@
-//! A map that a caller has fetched: each call of the dial, of its wire, of the disk and of the connection fails in turn.
+//! A map that a caller has fetched: each call of the dial, its wire, the disk and the connection fails in turn.
 
 use crate::bytes::{ADDRESS, FILE, FIRST, MATCH, NOMAP};
 use crate::given::{try_all, try_each, try_rows};
