@@ -34,9 +34,11 @@ pub record Streams (maps : Maps) (expected : Response) (stream : Streamed) : Typ
   pub some : parts_left maps.log stream ≢ []
   pub whole : expected ≡ Bytes (joined (parts_left maps.log stream))
 
--- The reply is at the front of the buffer, and takes a transfer of one of the catalogue's maps.
+-- The reply is at the front of the buffer, and takes a transfer of one of the catalogue's maps, from a source with a
+-- name.
 pub record TakesTransfer (maps : Maps) (expected : Response) (len : ℕ) (errand : Errand) (buf : List ℕ) : Type 0 where
   pub inside : errand.map < length maps.catalogue.maps
+  pub named : 0 < length errand.source.now
   pub source_len : length errand.source.now ≤ name_max
   pub some : 0 < len
   pub within : len ≤ length buf

@@ -31,6 +31,7 @@ pub struct Errand<'a> {
 fn xfr_check<V: View>(view: &V, asked: &ReqXfr<'_>) -> Result<u32, XfrStat>
     ensures check { result ≡ xfr_check (maps_of (V.seen view.now)) (req_xfr_view asked.now) }
     ensures inside { IfOk result (λ map. map < length (V.seen view.now).catalogue.maps) }
+    ensures named { IfOk result (λ map. 0 < length asked.now.peer.now) }
 {
     if asked.domain.is_empty() || asked.map.is_empty() || asked.peer.is_empty() {
         return Err(XfrStat::Badargs);

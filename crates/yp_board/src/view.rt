@@ -68,6 +68,12 @@ pub trait Tell: Show {
     /// What reads the board.
     type Reader: View;
 
+    /// What a reader knew at a moment, kept for good, for contracts alone: a front of the log.
+    type Front: Drop;
+
+    /// The log that it is.
+    ghost kept: { Self.Front → Log };
+
     /// Lets a reader know all that was shown. It takes no memory, waits for nobody, and makes no read step. After a
     /// refusal nothing has changed.
     fn tell_to(&mut self, reader: &mut Self::Reader) -> Result<(), NoMemory>
@@ -76,4 +82,18 @@ pub trait Tell: Show {
         ensures told { OnOk result (Self.Reader.seen reader.new
             ≡ record (Self.Reader.seen reader.old) { known = Self.log self.old }) }
         ensures refused { OnErr result (reader.new ≡ reader.old) };
+
+    /// What a reader knows, kept for good. It takes no memory.
+    fn known(reader: &Self::Reader) -> Self::Front
+        ensures { kept result ≡ (Self.Reader.seen reader.now).known };
+
+    /// The longer of two fronts. Both are fronts of it.
+    fn longer(one: Self::Front, other: Self::Front) -> Self::Front
+        ensures one { IsFront (kept one) (kept result) }
+        ensures other { IsFront (kept other) (kept result) };
+
+    /// What was known is a front of all that was shown. The call changes nothing: its contract is the fact.
+    fn covers(&mut self, front: &Self::Front)
+        ensures front { IsFront (kept front.now) (Self.log self.old) }
+        ensures same { self.new ≡ self.old };
 }

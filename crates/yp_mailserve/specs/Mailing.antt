@@ -36,6 +36,7 @@ pub record Mailing (H : Type 0) : Type 0 where
 -- A transfer that waits is of one of so many maps, and its source has a name that can be asked.
 pub record IsDue (maps : ℕ) (awaited : Awaited) : Type 0 where
   pub inside : awaited.0.map < maps
+  pub named : 0 < length awaited.0.source
   pub source_len : length awaited.0.source ≤ name_max
 
 module _ {H : Type 0} (conduct : Conduct H) where

@@ -257,4 +257,12 @@ impl<D: Disk, B: Tell> Publisher<D, B> {
     {
         self.board.tell_to(reader)
     }
+
+    /// What a reader of its board knew is a front of all that was shown. The call changes nothing.
+    pub fn covers(&mut self, front: &B::Front)
+        ensures front { IsFront (B.kept front.now) (B.log self.old.board) }
+        ensures same { self.new ≡ self.old }
+    {
+        self.board.covers(front);
+    }
 }

@@ -37,6 +37,7 @@ pub trait Host: View {
     /// what came of it, where it wants to be told.
     fn transfer(&mut self, errand: &Errand<'_>, peer: Peer)
         requires map { errand.now.map < length (Self.seen self.old).catalogue.maps }
+        requires named { 0 < length errand.now.source.now }
         requires source { length errand.now.source.now ≤ name_max }
         ensures { CarriesOut (conduct_of Self.seen told counts Self.stepped made carried) (taken_view errand.now) peer
             self.old self.new };

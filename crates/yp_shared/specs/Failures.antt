@@ -5,6 +5,8 @@ use Rattle.yp_io.specs.Disk.{History}
 use Rattle.yp_slot.specs.Commits.{generation_max}
 use Rattle.yp_slot.specs.declared.fault.SlotFault.TheVariants as slot
 use Rattle.yp_publish.specs.declared.install.InstallFault.TheVariants as fault
+use Rattle.yp_publish.specs.declared.install.Origin.{Origin}
+use Rattle.yp_publish.specs.declared.install.Origin.TheVariants.{Built, Fetched}
 use Rattle.yp_publish.specs.Standing.{Level, Kept, OfMap}
 use Rattle.yp_shared.specs.declared.locked.ShareFault.{ShareFault}
 use Rattle.yp_shared.specs.declared.locked.ShareFault.TheVariants.{Shut, Unfit, Untold}
@@ -22,6 +24,12 @@ failures_in Untold = 0
 abbrev pub failures_of : {T : Type 0} → Result T ShareFault → ℕ
 failures_of (Ok installed) = 0
 failures_of (Err why) = failures_in why
+
+-- how many built versions were shown by an install
+abbrev pub made_by : {T : Type 0} → Origin → Result T ShareFault → ℕ
+made_by Built (Ok installed) = 1
+made_by Built (Err why) = 0
+made_by Fetched result = 0
 
 -- how often disks have failed in all
 abbrev pub faults_over : {D : Type 0} → (D → ℕ) → List D → ℕ

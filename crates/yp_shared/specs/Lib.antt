@@ -1,3 +1,5 @@
 pub mod Shares
 pub mod Failures
 pub mod Moments
+pub mod Sources
+pub mod Debits

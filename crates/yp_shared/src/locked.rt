@@ -1,6 +1,6 @@
 //! What lies under the lock.
 
-ghost use Rattle.std.specs.Prelude.{◌≡◌, ◌+◌, ◌<◌, ◌≤◌, false, length, option_map, OnOk, OnErr, IfErr, None};
+ghost use Rattle.std.specs.Prelude.{◌≡◌, ℕ, ◌+◌, ◌<◌, ◌≤◌, false, length, option_map, OnOk, OnErr, IfErr, None};
 ghost use Rattle.std.specs.Arc.{arc_value};
 ghost use Rattle.std.specs.Option.{option_map_or};
 ghost use Rattle.yp_board.specs.Logs.{shown};
@@ -12,8 +12,11 @@ ghost use Rattle.yp_publish.specs.Rising.{moment_of, with_shown, IsStart, IsRisi
 ghost use Rattle.yp_publish.specs.Grown.{AreTold};
 ghost use Rattle.yp_shared.specs.Shares.{offer_behind, OpensAndInstalls, IsNotInstalled, IsRefused, IsShownBehind};
 ghost use Rattle.yp_shared.specs.Shares.{IsReason, Learns};
-ghost use Rattle.yp_shared.specs.Failures.{failures_in, failures_of, faults_over, disks_of, Covers};
+ghost use Rattle.yp_shared.specs.Failures.{failures_in, failures_of, made_by, faults_over, disks_of, Covers};
+ghost use Rattle.yp_shared.specs.Debits.{IsCharged};
+ghost use Rattle.yp_shared.specs.Sources.{IsBuiltThere, fetched_in, IsSourced};
 
+use crate::debits::Debits;
 use std::alloc::Global;
 use std::marker::{Brand, Model, PhantomData};
 use std::random::RandomSource;
@@ -40,11 +43,15 @@ impl Site for Brand {
     ghost catalogue = { record { own = []; maps = [] } };
 }
 
-/// How a site stood before its publisher was shared, how often its disks had failed, and the ledger that counts the
-/// failed files since then. Each call of a program that shares a publisher picks it.
+/// How a site stood before its publisher was shared, how often its disks had failed, and the ledgers of what is counted
+/// since then. Each call of a program that shares a publisher picks it.
 pub trait Accounts {
-    ghost use Rattle.std.specs.Prelude.{ℕ};
+    ghost use Rattle.std.specs.Prelude.{ℕ, Option};
+    ghost use Rattle.yp_version.specs.Versions.{MapVersion};
     ghost use Rattle.yp_publish.specs.Rising.{Moment};
+
+    /// What it is that a version was built behind the last one of its map.
+    ghost built: { Option MapVersion → MapVersion → Type 0 };
 
     /// What was shown, and how each map stood.
     ghost first: { Moment };
@@ -52,8 +59,14 @@ pub trait Accounts {
     /// How often its disks had failed.
     ghost disk_faults: { ℕ };
 
-    /// The name of the ledger.
+    /// The name of the ledger of files that failed.
     ghost failures: { ℕ };
+
+    /// The name of the ledger of built versions that were shown.
+    ghost made: { ℕ };
+
+    /// The name of the ledger of versions that were fetched.
+    ghost versions: { ℕ };
 
     /// Into how many parts its ledgers are cut.
     ghost shares: { ℕ };
@@ -62,11 +75,17 @@ pub trait Accounts {
 impl Accounts for Brand {
     ghost use Rattle.std.specs.Prelude.{[]};
 
+    ghost built = { λ last version. Unit {0} };
+
     ghost first = { record { log = []; standings = [] } };
 
     ghost disk_faults = { 0 };
 
     ghost failures = { 0 };
+
+    ghost made = { 0 };
+
+    ghost versions = { 0 };
 
     ghost shares = { 0 };
 }
@@ -83,6 +102,33 @@ impl<S: Accounts> Ledger for Failures<S> {
     ghost parts = { S.shares };
 }
 
+/// The ledger of the built versions of a site that were shown.
+#[derive(Drop)]
+pub struct Made<S: Accounts> {
+    of: PhantomData<S>,
+}
+
+impl<S: Accounts> Ledger for Made<S> {
+    ghost name = { S.made };
+
+    ghost parts = { S.shares };
+}
+
+/// The ledger of the versions that were fetched for a site. Its book isn't here. One part more than of the others lies
+/// with the publisher.
+#[derive(Drop)]
+pub struct Versions<S: Accounts> {
+    of: PhantomData<S>,
+}
+
+impl<S: Accounts> Ledger for Versions<S> {
+    ghost use Rattle.std.specs.Prelude.{◌+◌};
+
+    ghost name = { S.versions };
+
+    ghost parts = { S.shares + 1 };
+}
+
 /// Why a version wasn't installed, or why the reader doesn't know it.
 #[derive(Debug, PartialEq, Eq, Drop)]
 pub enum ShareFault {
@@ -94,20 +140,24 @@ pub enum ShareFault {
     Untold,
 }
 
-/// A publisher of the maps that are served, for a lock to keep, with the book of the files that failed since it is
-/// shared. It is seen as that publisher.
+/// A publisher of the maps that are served, for a lock to keep, with the books of the files that failed and of the
+/// built versions that were shown since it is shared, and with what stands for the fetched versions that were installed.
+/// It is seen as that publisher.
 #[derive(Drop)]
 pub struct Locked<S: Site + Accounts, D: Disk, B: Show> {
     publisher: Publisher<D, B>,
     failures: Book<Failures<S>>,
+    made: Book<Made<S>>,
+    versions: Share<Versions<S>>,
 }
 
 impl<S: Site + Accounts, D: Disk, B: Show> Model for Locked<S, D, B> {
-    ghost use Rattle.std.specs.Prelude.{◌≡◌};
+    ghost use Rattle.std.specs.Prelude.{◌≡◌, ◌<◌};
     ghost use Rattle.yp_publish.specs.Standing.{Published};
     ghost use Rattle.yp_publish.specs.Keeping.{keeping_of};
     ghost use Rattle.yp_shared.specs.Failures.{Covers};
     ghost use Rattle.yp_shared.specs.Moments.{IsLed};
+    ghost use Rattle.yp_shared.specs.Sources.{IsSourcedAt};
 
     ghost Value = { Published D B };
 
@@ -115,45 +165,65 @@ impl<S: Site + Accounts, D: Disk, B: Show> Model for Locked<S, D, B> {
 
     ghost invariant = { λ l. (l.publisher.catalogue ≡ S.catalogue)
         × Covers D.history D.faults S.disk_faults l.publisher.maps l.failures.total
-        × IsLed (keeping_of D.history D.faults B.log) S.first l.publisher };
+        × IsLed (keeping_of D.history D.faults B.log) S.first l.publisher
+        × IsSourcedAt (keeping_of D.history D.faults B.log) S.built S.first l.publisher l.made.total l.versions.amount
+        × (0 < l.versions.parts) };
 }
 
 impl<S: Site + Accounts, D: Disk, B: Show> Locked<S, D, B> {
-    /// A publisher of the maps that are served, with the book of the files that fail from now on.
-    pub fn new(publisher: Publisher<D, B>, failures: Book<Failures<S>>) -> Locked<S, D, B>
+    /// A publisher of the maps that are served, with the books of what is counted from now on, and a part of the ledger
+    /// of fetched versions.
+    pub fn new(
+        publisher: Publisher<D, B>,
+        failures: Book<Failures<S>>,
+        made: Book<Made<S>>,
+        versions: Share<Versions<S>>,
+    ) -> Locked<S, D, B>
         requires site { publisher.catalogue ≡ S.catalogue }
         requires first { moment_of B.log publisher ≡ S.first }
         requires before { faults_over D.faults (disks_of publisher.maps) ≡ S.disk_faults }
-        requires none { failures.total ≡ 0 }
+        requires none { (failures.total ≡ 0) × (made.total ≡ 0) }
+        requires part { 0 < versions.parts }
         ensures { result ≡ publisher }
     {
         Locked {
             publisher,
             failures,
+            made,
+            versions,
         }
     }
 
-    /// The publisher, once the lock is left. What a caller was charged with is covered by the faults of its disks. From
-    /// a start, over disks that tell what a crash may leave of them, the orders of each map rise in the log.
-    pub fn close(self, charge: &mut Share<Failures<S>>) -> Publisher<D, B>
-        ensures publisher { result ≡ self }
-        ensures catalogue { result.catalogue ≡ S.catalogue }
-        ensures covered { Covers D.history D.faults S.disk_faults result.maps charge.old.amount }
-        ensures rises { IsStart S.first → AreTold D.history (disks_of result.maps)
-            → IsRisingLog (B.log result.board) }
+    /// The publisher, once the lock is left, and what stands for the fetched versions that were installed. The files
+    /// that a caller was charged with are covered by the faults of its disks. From a start, over disks that tell what a
+    /// crash may leave of them, the orders of each map rise in the log; as many built versions were shown as the caller
+    /// was charged with, and no more others, with those that maps are behind, than were fetched.
+    pub fn close(self, charge: &mut Debits<S>) -> (Publisher<D, B>, Share<Versions<S>>)
+        ensures publisher { result.0 ≡ self }
+        ensures catalogue { result.0.catalogue ≡ S.catalogue }
+        ensures covered { Covers D.history D.faults S.disk_faults result.0.maps charge.old.failures }
+        ensures rises { IsStart S.first → AreTold D.history (disks_of result.0.maps)
+            → IsRisingLog (B.log result.0.board) }
+        ensures sourced { (made : ℕ) → made ≤ charge.old.made → IsStart S.first
+            → AreTold D.history (disks_of result.0.maps)
+            → IsSourced S.built S.first (moment_of B.log result.0) made result.1.amount }
     {
         log_rises();
         let Locked {
             publisher,
             mut failures,
+            mut made,
+            versions,
         } = self;
-        failures.audit(charge);
-        publisher
+        failures.audit(&mut charge.failures);
+        made.audit(&mut charge.made);
+        (publisher, versions)
     }
 
     /// Stores a version of a map, and then shows it. A map that is behind is opened again first. The version is marked
     /// as the one that is shown then, and has to have a higher order. At each moment of the call a crash leaves a file
-    /// that stands as the map stood, or for that version. Where its file failed, that is charged.
+    /// that stands as the map stood, or for that version. Where its file failed, that is charged, and so is a built
+    /// version that is shown. What stands for a fetched version goes over to the publisher.
     pub fn install(
         &mut self,
         alloc: Global,
@@ -161,10 +231,11 @@ impl<S: Site + Accounts, D: Disk, B: Show> Locked<S, D, B> {
         map: u32,
         version: Version,
         origin: Origin,
-        charge: &mut Share<Failures<S>>,
+        charge: &mut Debits<S>,
     ) -> Result<(), ShareFault>
         requires map { map < length S.catalogue.maps }
-        requires charge { 0 < charge.old.parts }
+        requires built { IsBuiltThere S.built S.catalogue.own version origin }
+        requires fetched { fetched_in origin ≤ charge.old.versions }
         ensures installed { OnOk result (OpensAndInstalls (keeping_of D.history D.faults B.log) map version origin
             self.old self.new) }
         ensures refused { IfErr result (λ fault. IsNotInstalled (keeping_of D.history D.faults B.log) map version
@@ -178,12 +249,17 @@ impl<S: Site + Accounts, D: Disk, B: Show> Locked<S, D, B> {
         ensures grown { IsFront (B.log self.old.board) (B.log self.new.board) }
 
         // What it is charged with.
-        ensures charged { charge.new.amount ≡ charge.old.amount + failures_of result }
-        ensures parts { charge.new.parts ≡ charge.old.parts }
+        ensures charged { IsCharged (failures_of result) (made_by origin result) (fetched_in origin)
+            charge.old charge.new }
     {
         let _catalog = self.publisher.catalog();
         let installed = open_and_offer(alloc, rt, &mut self.publisher, map, version, origin);
-        self.failures.add(charge, failures_of(&installed));
+        self.failures
+            .add(&mut charge.failures, failures_of(&installed));
+        self.made.add(&mut charge.made, made_by(origin, &installed));
+        charge
+            .versions
+            .transfer(&mut self.versions, fetched_in(origin));
         installed
     }
 }
@@ -200,6 +276,14 @@ impl<S: Site + Accounts, D: Disk, B: Tell> Locked<S, D, B> {
         self.publisher.tell_to(reader)
     }
 
+    /// What a reader of the board knew is a front of all that was shown. The call changes nothing.
+    pub fn covers(&mut self, front: &B::Front)
+        ensures front { IsFront (B.kept front.now) (B.log self.old.board) }
+        ensures same { self.new ≡ self.old }
+    {
+        self.publisher.covers(front);
+    }
+
     /// Installs a version as [`Locked::install`] does, and lets a reader of the board know what was shown.
     #[tactic(auto, using(crate::proofs::Learning::learned))]
     pub fn install_for(
@@ -210,17 +294,18 @@ impl<S: Site + Accounts, D: Disk, B: Tell> Locked<S, D, B> {
         map: u32,
         version: Version,
         origin: Origin,
-        charge: &mut Share<Failures<S>>,
+        charge: &mut Debits<S>,
     ) -> Result<(), ShareFault>
         requires map { map < length S.catalogue.maps }
-        requires charge { 0 < charge.old.parts }
+        requires built { IsBuiltThere S.built S.catalogue.own version origin }
+        requires fetched { fetched_in origin ≤ charge.old.versions }
         ensures shown { OnOk result (IsShownBehind S.catalogue.own map version origin
             (B.Reader.seen reader.old).known (B.Reader.seen reader.new).known) }
         ensures reason { IfErr result (λ fault. IsReason S.catalogue.own map version origin fault
             (B.Reader.seen reader.new).known) }
         ensures learned { Learns (B.Reader.seen reader.old) (B.Reader.seen reader.new) }
-        ensures charged { charge.old.amount + failures_of result ≤ charge.new.amount }
-        ensures parts { charge.new.parts ≡ charge.old.parts }
+        ensures charged { IsCharged (failures_of result) (made_by origin result) (fetched_in origin)
+            charge.old charge.new }
     {
         // It needn't know what was shown before, but that this begins with all that it knows.
         let _ = self.tell_to(reader);
@@ -229,6 +314,26 @@ impl<S: Site + Accounts, D: Disk, B: Tell> Locked<S, D, B> {
             Ok(()) => installed,
             Err(NoMemory) => Err(ShareFault::Untold),
         }
+    }
+}
+
+/// How many built versions an install has shown.
+fn made_by(origin: Origin, installed: &Result<(), ShareFault>) -> u64
+    ensures { result ≡ made_by origin installed.now }
+{
+    match (origin, installed) {
+        (Origin::Built, Ok(())) => 1,
+        _ => 0,
+    }
+}
+
+/// How many fetched versions an install takes.
+fn fetched_in(origin: Origin) -> u64
+    ensures { result ≡ fetched_in origin }
+{
+    match origin {
+        Origin::Built => 0,
+        Origin::Fetched => 1,
     }
 }
 

@@ -2,12 +2,14 @@
 
 ghost use Rattle.std.specs.Prelude.{◌≡◌, ◌+◌, ◌<◌, ◌≤◌, length, OnOk, OnErr, IfErr};
 ghost use Rattle.yp_shared.specs.Shares.{IsShownBehind, IsReason, Learns};
-ghost use Rattle.yp_shared.specs.Failures.{failures_of};
+ghost use Rattle.yp_shared.specs.Failures.{failures_of, made_by};
+ghost use Rattle.yp_shared.specs.Debits.{IsCharged};
+ghost use Rattle.yp_shared.specs.Sources.{IsBuiltThere, fetched_in};
 
-use crate::locked::{Accounts, Failures, Locked, ShareFault, Site};
+use crate::debits::Debits;
+use crate::locked::{Accounts, Locked, ShareFault, Site};
 use std::alloc::Global;
 use std::random::RandomSource;
-use std::sync::ledger::Share;
 use std::sync::{Mutex, Wait};
 use yp_board::Tell;
 use yp_io::{Disk, NoMemory};
@@ -18,7 +20,8 @@ use yp_version::Version;
 /// and for readers that are inside a read step.
 ///
 /// The version is shown behind all that the reader knew. Where it isn't, the reader knows why, or memory ran out, or
-/// the map's file failed, which is charged.
+/// the map's file failed, which is charged. So is a built version that the reader knows then, and what stands for a
+/// fetched one goes over to the publisher.
 pub fn install_shared<S: Site + Accounts, D: Disk, B: Tell, R: RandomSource + Wait>(
     alloc: Global,
     rt: &R,
@@ -27,17 +30,18 @@ pub fn install_shared<S: Site + Accounts, D: Disk, B: Tell, R: RandomSource + Wa
     map: u32,
     version: Version,
     origin: Origin,
-    charge: &mut Share<Failures<S>>,
+    charge: &mut Debits<S>,
 ) -> Result<(), ShareFault>
     requires map { map < length S.catalogue.maps }
-    requires charge { 0 < charge.old.parts }
+    requires built { IsBuiltThere S.built S.catalogue.own version origin }
+    requires fetched { fetched_in origin ≤ charge.old.versions }
     ensures shown { OnOk result (IsShownBehind S.catalogue.own map version origin
         (B.Reader.seen reader.old).known (B.Reader.seen reader.new).known) }
     ensures reason { IfErr result (λ fault. IsReason S.catalogue.own map version origin fault
         (B.Reader.seen reader.new).known) }
     ensures learned { Learns (B.Reader.seen reader.old) (B.Reader.seen reader.new) }
-    ensures charged { charge.old.amount + failures_of result ≤ charge.new.amount }
-    ensures parts { charge.new.parts ≡ charge.old.parts }
+    ensures charged { IsCharged (failures_of result) (made_by origin result) (fetched_in origin)
+        charge.old charge.new }
 {
     let mut locked = shared.lock(rt);
     locked.install_for(alloc, rt, reader, map, version, origin, charge)
