@@ -8,7 +8,7 @@
 #
 # and then
 #
-#     base step wide most    the numbers that are tried: the first, the steps, those for the server, and where to give up
+#     base step wide most    the numbers that are tried: the first, the step, that for the server, and where to give up
 #     scarce NUMBER INPUT WORD ..
 #                            runs the program with these words and this input in the folder `at`, as memory goes with
 #                            this number, writes to `out` and `note`, and has its status

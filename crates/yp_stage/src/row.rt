@@ -45,8 +45,8 @@ pub struct Row {
     /// The words of a server. Where there are none, the first wire gives the bytes of `wire`, and else what the program
     /// sends by these words for the calls in `wire`.
     pub server: &'static [&'static str],
-    /// What the first wire gives, the most bytes of a read or a write of it, or of a connection that calls, and the read
-    /// of that wire, and the write or flush, that fail; and what the second gives.
+    /// What the first wire gives, the most bytes of a read or a write of it, or of a connection that calls, and its read,
+    /// and its write or flush, that fail; and what the second gives.
     pub wire: Words,
     pub piece: usize,
     pub wire_reads: u64,
