@@ -45,8 +45,8 @@ pub struct Row {
     /// The words of a server. Where there are none, the first wire gives the bytes of `wire`, and else what the program
     /// sends by these words for the calls in `wire`.
     pub server: &'static [&'static str],
-    /// What the first wire gives, the most bytes of a read or a write of it, or of a connection that calls, and its read,
-    /// and its write or flush, that fail; and what the second gives.
+    /// What the first wire gives, and what the second does; the most bytes of a read or a write of each wire, and of
+    /// each connection that calls; and the read, and the write or flush, of the first wire that fail.
     pub wire: Words,
     pub piece: usize,
     pub wire_reads: u64,
