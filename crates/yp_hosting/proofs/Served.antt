@@ -1,5 +1,5 @@
 -- Maps that were served, by what their publisher and their desk were.
-use Rattle.std.proofs.Common.{◌≡◌, ℕ, List, Option, length, map, sym, ap, ◌∙◌, subst}
+use Rattle.std.proofs.Common.{◌≡◌, ℕ, List, Option, length, ap, ◌∙◌, subst}
 use Rattle.std.proofs.lemmas.List.{length-map}
 use Rattle.yp_io.specs.Disk.{History}
 use Rattle.yp_io.specs.declared.texts.TextFile.{TextFile}
@@ -46,11 +46,11 @@ module _ {D : Type 0} (history : D → Option History) (faults : D → ℕ) (map
       let is = given all in record {
         log = log;
         grown = is.0;
-        connections = is.1.0;
-        datagrams = is.1.1.0;
-        leaves = is.1.1.1.0;
+        connections = is.1;
+        datagrams = is.2;
+        leaves = is.3;
         rises = rises;
-        accounted = is.1.1.1.1;
+        accounted = is.4;
       }
 
 -- as many disks as maps

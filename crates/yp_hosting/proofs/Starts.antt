@@ -1,5 +1,5 @@
 -- What a reader knows before the first caller comes, and how the maps stand then.
-use Rattle.std.proofs.Common.{◌≡◌, ℕ, zero, suc, ◌<◌, List, [], ◌∷◌, map, length, get_or, Option, sym, ap, ◌∙◌, subst, arith}
+use Rattle.std.proofs.Common.{◌≡◌, ℕ, zero, suc, List, [], ◌∷◌, map, Option, sym, ap, ◌∙◌, subst, arith}
 use Rattle.std.specs.List.{All, AllZip}
 use Rattle.yp_io.specs.Disk.{History}
 use Rattle.yp_board.specs.Catalogues.{Catalogue}
@@ -7,7 +7,7 @@ use Rattle.yp_board.specs.Logs.{Log, starts}
 use Rattle.yp_board.specs.Views.{Seen}
 use Rattle.yp_publish.specs.Standing.{MapStanding, Level, Kept, Published, versions}
 use Rattle.yp_publish.specs.Opens.{IsOpened}
-use Rattle.yp_publish.specs.Rising.{Moment, moment_of, IsStart}
+use Rattle.yp_publish.specs.Rising.{moment_of, IsStart}
 use Rattle.yp_publish.specs.Laws.{BeginningIsStart}
 use Rattle.yp_serve.specs.Serving.{IsAtStart}
 use Rattle.yp_readers.specs.Boards.{Written}

@@ -1,11 +1,11 @@
-use Rattle.std.proofs.Common.{◌≡◌, List, map, length, Option, sym, ap, subst, ◌∙◌}
+use Rattle.std.proofs.Common.{List, length, Option, sym, ap, subst, ◌∙◌}
 use Rattle.std.specs.Prelude.{option_map}
 use Rattle.std.specs.Arc.{arc_value}
 use Rattle.std.proofs.lemmas.List.{length-map}
 use Rattle.yp_version.specs.Versions.{MapVersion}
 use Rattle.yp_board.specs.Catalogues.{Catalogue}
 use Rattle.yp_board.specs.Logs.{starts}
-use Rattle.yp_publish.specs.Standing.{Kept, Published, versions}
+use Rattle.yp_publish.specs.Standing.{Kept, Published}
 use Rattle.yp_readers.specs.Boards.{Written}
 use Rattle.yp_server.specs.declared.desk.Desk.{Desk}
 use Rattle.yp_publish.specs.Rising.{moment_of}
@@ -67,7 +67,7 @@ returns-in-Ok-serve-clause-hosted g c =
     (ap (λ (p : Published g.row.D.Denot Written). p.catalogue) made.publisher)
     (ap (λ (d : Desk g.row.A.Denot g.row.T.Denot g.row.C.Denot). g.T.Texts.text d.texts) c.shared-desk.ensures)
     (ap (λ (d : Desk g.row.A.Denot g.row.T.Denot g.row.C.Denot). d.hosts) c.shared-desk.ensures)
-    (first_as c.publisher_of-publisher.result c.args.catalog c.args.loaded c.in-Ok.field-0.0 made.publisher
+    (first_as c.publisher_of-publisher.result c.args.catalog c.args.loaded c.in-Ok.writer made.publisher
     (ap (λ (w : Written). w.log) c.in-Ok.ensures.writer
     ∙ ap (λ (l : List (Option MapVersion)). starts 0 l) c.requires.start))
     c.requires.most (
