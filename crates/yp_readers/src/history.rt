@@ -163,9 +163,9 @@ impl Opened {
     }
 }
 
-/// A front of the log of a board, with its length. Contracts see it as a log.
+/// A front of the log of a board, with its length. It stays one for good. Contracts see it as a log.
 #[derive(Drop)]
-pub(crate) struct Front<J: Naming> {
+pub struct Front<J: Naming> {
     count: u64,
     seen: Seen<Shown, u64, Counted>,
     of: PhantomData<J>,

@@ -2,9 +2,10 @@
 //!
 //! Its log is the ghost history of a book (`logbook`), in the order in which versions were shown. What readers see
 //! of it is a table that `left_right` carries. That what a [`Reader`] knows is always a front of the one log stands on
-//! its clauses for [`View`](yp_board::View), on [`Reader::meet`] and on [`Writer::covers`]; that a version which is
-//! shown is one pair more of it, on the clauses of [`Writer`] for [`Show`](yp_board::Show). No call of a reader waits,
-//! takes memory or a lock.
+//! its clauses for [`View`](yp_board::View), on [`Reader::meet`] and on those of [`Writer`] for
+//! [`Tell`](yp_board::Tell), of which `covers` says it of a [`Front`] that was known at any moment; that a version
+//! which is shown is one pair more of it, on the clauses of [`Writer`] for [`Show`](yp_board::Show). No call of a
+//! reader waits, takes memory or a lock.
 #![tactic(auto)]
 
 mod beside;
@@ -16,7 +17,7 @@ mod table;
 mod writer;
 
 pub use beside::show_beside;
-pub use history::{Naming, Opened, Shown};
+pub use history::{Front, Naming, Opened, Shown};
 pub use opening::board;
 pub use reader::Reader;
 pub use table::{Note, Table};

@@ -2,10 +2,9 @@
 
 ghost use Rattle.std.specs.Prelude.{◌≡◌, ◌<◌, [], ◌∷◌, ◌++◌, length, IfOk};
 ghost use Rattle.std.specs.Arc.{arc_value};
-ghost use Rattle.yp_board.specs.Views.{IsFront};
 ghost use Rattle.yp_readers.specs.Tables.{Holds};
 
-use crate::history::{History, Naming, Shown};
+use crate::history::{Front, History, Naming, Shown};
 use crate::reader::Reader;
 use crate::slots::Slots;
 use crate::table::{Note, Table};
@@ -96,14 +95,6 @@ where
         Ok(Reader::new(catalog, table, handle))
     }
 
-    /// What a reader knows is a front of what was shown. The call changes nothing: its contract is the fact.
-    pub fn covers(&mut self, reader: &Reader<J>)
-        ensures front { IsFront reader.now.known self.old.log }
-        ensures same { self.new ≡ self.old }
-    {
-        self.history.covers(reader.front());
-    }
-
     /// What is shown, for a reader to meet. It takes no memory.
     pub fn tell(&self) -> Note<J>
         ensures { result ≡ self.now.log }
@@ -158,9 +149,25 @@ where
 {
     type Reader = Reader<J>;
 
+    type Front = Front<J>;
+
+    ghost kept = { λ front. front };
+
     #[tactic(auto, using(crate::proofs::Fronts::both_fronts))]
     fn tell_to(&mut self, reader: &mut Reader<J>) -> Result<(), NoMemory> {
         self.history.covers(reader.front());
         reader.meet(self.tell())
+    }
+
+    fn known(reader: &Reader<J>) -> Front<J> {
+        reader.front().again()
+    }
+
+    fn longer(one: Front<J>, other: Front<J>) -> Front<J> {
+        if one.is_behind(&other) { other } else { one }
+    }
+
+    fn covers(&mut self, front: &Front<J>) {
+        self.history.covers(front);
     }
 }

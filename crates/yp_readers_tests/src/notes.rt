@@ -1,6 +1,8 @@
 //! Notes that readers meet, in any order, and readers that lag.
 
 ghost use Rattle.std.specs.Prelude.{◌≡◌};
+ghost use Rattle.yp_board.specs.Logs.{Log};
+ghost use Rattle.yp_board.specs.Views.{IsFront};
 
 use crate::given::*;
 use std::alloc::Global;
@@ -8,7 +10,7 @@ use std::marker::Brand;
 use std::process::Abort;
 use std::random::RandomSource;
 use std::sync::Wait;
-use yp_board::View;
+use yp_board::{Tell, View};
 use yp_readers::{Naming, Note, Opened, Reader, Writer};
 
 #[test]
@@ -37,6 +39,7 @@ fn met<J: Naming, R: Wait + RandomSource + Abort>(
     let at_later = held_after(&mut first, later);
     let still = held_after(&mut first, earlier.0);
     let at_earlier = held_after(&mut second, earlier.1);
+    cover(&mut writer, &first, &second);
     second.refresh();
     [before, at_later, still, at_earlier, held(&second, 0)]
 }
@@ -51,6 +54,15 @@ fn two_notes<J: Naming, R: Wait + Drop, H: RandomSource + Abort>(
     let earlier = (writer.tell(), writer.tell());
     shows(writer, 0, version(rt, alloc, 3));
     (earlier, writer.tell())
+}
+
+// Covers what two readers know, by the longer of their fronts.
+fn cover<J: Naming, R: Wait + Drop>(writer: &mut Writer<J, R>, one: &Reader<J>, other: &Reader<J>)
+    ensures { (front : Log) × IsFront one.now.known front × IsFront other.now.known front
+        × IsFront front writer.new.log }
+{
+    let longer = Writer::<J, R>::longer(Writer::<J, R>::known(one), Writer::<J, R>::known(other));
+    writer.covers(&longer);
 }
 
 // The order that a reader holds of the first map, once it has met a note.
@@ -90,7 +102,6 @@ fn lagged<J: Naming, R: Wait + RandomSource + Abort>(
     if !shows(&mut writer, 1, three) {
         shows(&mut writer, 1, once_more);
     }
-    writer.covers(&reader);
     let before = (held(&reader, 0), held(&reader, 1));
     reader.refresh();
     [before, (held(&reader, 0), held(&reader, 1))]

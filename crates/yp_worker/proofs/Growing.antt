@@ -20,6 +20,9 @@ pub record Later (old new : Seen) : Type 0 where
   pub grown : IsFront old.known new.known
   pub catalogue : new.catalogue ≡ old.catalogue
 
+pub front_same : (a : Log) → IsFront a a
+front_same a = ([], sym (append-nil a))
+
 pub front_then : (a b c : Log) → IsFront a b → IsFront b c → IsFront a c
 front_then a b c first second =
     (first.0 ++ second.0, second.1 ∙ ap (λ (l : Log). l ++ second.0) first.1 ∙ append_assoc a first.0 second.0)

@@ -1,3 +1,4 @@
 pub mod Working
 pub mod Receptions
 pub mod Summing
+pub mod Laws

@@ -1,6 +1,8 @@
 //! A host that can be told of what others showed, and one that hands over what it has counted.
 
 ghost use Rattle.std.specs.Prelude.{◌≡◌, OnErr};
+ghost use Rattle.yp_board.specs.Logs.{Log};
+ghost use Rattle.yp_board.specs.Views.{IsFront};
 ghost use Rattle.yp_shared.specs.Shares.{Learns};
 
 use yp_io::NoMemory;
@@ -16,23 +18,35 @@ pub trait CatchUp: Host {
         ensures refused { OnErr result (self.new ≡ self.old) };
 }
 
-/// A host that hands over what it has counted, to be summed up.
+/// A host that hands over what it has counted, to be summed up, and tells how far it has read the log.
 pub trait HandsOver: CatchUp {
-    /// What hosts have counted.
+    /// What hosts count.
+    type Count;
+
+    /// A sum of that, with a front of the log that goes as far as any of those who handed over knew.
     type Sum: Drop;
 
     /// What it has counted since it last handed that over.
-    ghost counted: { Self → Self.Sum };
+    ghost counted: { Self → Self.Count };
+
+    /// What a sum has of that.
+    ghost summed: { Self.Sum → Self.Count };
+
+    /// The log that a sum has, of which what hosts knew when they handed over is a front.
+    ghost reached: { Self.Sum → Log };
 
     /// The sum of nothing.
-    ghost none: { Self.Sum };
+    ghost none: { Self.Count };
 
     /// A sum and more.
-    ghost plus: { Self.Sum → Self.Sum → Self.Sum };
+    ghost plus: { Self.Count → Self.Count → Self.Count };
 
-    /// Adds what it has counted to a sum, and counts from nothing again.
+    /// Adds what it has counted to a sum, and counts from nothing again. What it knows is a front of the sum's log
+    /// then.
     fn hand_over(&mut self, sum: &mut Self::Sum)
         ensures seen { Self.seen self.new ≡ Self.seen self.old }
         ensures none { counted self.new ≡ none }
-        ensures added { sum.new ≡ plus sum.old (counted self.old) };
+        ensures added { summed sum.new ≡ plus (summed sum.old) (counted self.old) }
+        ensures covered { IsFront (Self.seen self.old).known (reached sum.new) }
+        ensures kept { IsFront (reached sum.old) (reached sum.new) };
 }

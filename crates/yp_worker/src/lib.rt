@@ -3,14 +3,16 @@
 //! A worker serves one connection after another, and what its host knows never goes back between them. What goes out
 //! on a connection for what comes in stands on [`Worker::one`]. Workers share a listener under one lock: that each
 //! connection which the listener got back was served so is a fact of the type [`Listening`], which lies under the lock,
-//! and stands on [`Listening::close`], and so does the sum of what their hosts counted in them. That a worker ends by
-//! an end of the listener alone stands on [`Worker::run`], and of two in threads on [`run_beside`].
+//! and stands on [`Listening::close`], and so does the sum of what their hosts counted in them, and that what each was
+//! answered on is a front of one log. That a worker ends by an end of the listener alone stands on [`Worker::run`], and
+//! of two in threads on [`run_beside`].
 #![tactic(auto)]
 
 mod beside;
 mod catch_up;
 mod gate;
 mod gated;
+pub mod laws;
 mod listening;
 mod run;
 mod tally;

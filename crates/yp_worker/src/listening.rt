@@ -108,7 +108,8 @@ impl<J: Ledger, E: Ledger> Pass<J, E> {
     }
 }
 
-/// A listener, what came of its connections, and the sum of what was counted in them.
+/// A listener, what came of its connections, and the sum of what was counted in them, with a log of which each was
+/// answered on a front.
 #[derive(Drop)]
 pub struct Listening<J: Reception, E: Ledger, H: HandsOver, L: Listen> {
     listen: L,
@@ -142,7 +143,7 @@ impl<J: Reception, E: Ledger, H: HandsOver, L: Listen> Model for Listening<J, E,
         l.connections l.calls l.failed l.out.total l.ended.total
         × SumsUp (conduct_of H.seen H.told H.counts H.stepped H.made H.carried)
         (counting_of H.counted H.none H.plus) (terms_of J.catalogue J.starts J.most) J.opening.past (L.past l.listen)
-        l.sum };
+        (H.summed l.sum) (H.reached l.sum) };
 }
 
 impl<J: Reception, E: Ledger, H: HandsOver, L: Listen> Listening<J, E, H, L> {
@@ -152,7 +153,7 @@ impl<J: Reception, E: Ledger, H: HandsOver, L: Listen> Listening<J, E, H, L> {
         requires fair { IsFair J.opening.past }
         requires none_out { out.total ≡ 0 }
         requires none_ended { ended.total ≡ 0 }
-        requires none_counted { sum ≡ H.none }
+        requires none_counted { H.summed sum ≡ H.none }
         ensures { result ≡ record {
           listen = listen;
           connections = 0;
@@ -211,7 +212,8 @@ impl<J: Reception, E: Ledger, H: HandsOver, L: Listen> Listening<J, E, H, L> {
         requires out { 0 < pass.old.out }
         requires served { CountsUpTo (conduct_of H.seen H.told H.counts H.stepped H.made H.carried)
             (counting_of H.counted H.none H.plus) (terms_of J.catalogue J.starts J.most)
-            (stay_of (ended_by L.In.input L.Out.output L.Out.flushed call) calls) (H.counted worker.old.host) }
+            (stay_of (ended_by L.In.input L.Out.output L.Out.flushed call) calls) (H.counted worker.old.host)
+            (H.seen worker.old.host).known }
         ensures out { pass.new.out + 1 ≡ pass.old.out }
         ensures same { pass.new ≡ record pass.old { out = pass.new.out } }
         ensures seen { H.seen worker.new.host ≡ H.seen worker.old.host }
@@ -236,7 +238,7 @@ impl<J: Reception, E: Ledger, H: HandsOver, L: Listen> Listening<J, E, H, L> {
             result.1.connections result.1.calls result.1.listen_fault 0 1 }
         ensures summed { SumsUp (conduct_of H.seen H.told H.counts H.stepped H.made H.carried)
             (counting_of H.counted H.none H.plus) (terms_of J.catalogue J.starts J.most) J.opening.past
-            (L.past result.0) result.2 }
+            (L.past result.0) (H.summed result.2) (H.reached result.2) }
         ensures same { pass.new ≡ pass.old }
     {
         let Listening {

@@ -2,6 +2,7 @@
 
 ghost use Rattle.std.specs.Prelude.{◌≡◌, ◌≢◌, ◌≤◌, List, IsTrue};
 ghost use Rattle.yp_io.specs.Counts.{HasRisen};
+ghost use Rattle.yp_board.specs.Views.{IsFront};
 ghost use Rattle.yp_session.specs.Wires.{Wire, wire_of, NeverFalls, SeesMore};
 ghost use Rattle.yp_session.specs.Hosts.{conduct_of};
 ghost use Rattle.yp_worker.specs.Working.{Attends};
@@ -129,12 +130,14 @@ impl<H: CatchUp, G: Gate + Copy> Worker<H, G> {
 }
 
 impl<H: HandsOver, G> Worker<H, G> {
-    /// Adds what its host has counted to a sum.
+    /// Adds what its host has counted to a sum, and lets the sum know how far that has read the log.
     pub(crate) fn hand_over(&mut self, sum: &mut H::Sum)
         ensures seen { H.seen self.new.host ≡ H.seen self.old.host }
         ensures same { self.new ≡ record self.old { host = self.new.host } }
         ensures none { H.counted self.new.host ≡ H.none }
-        ensures added { sum.new ≡ H.plus sum.old (H.counted self.old.host) }
+        ensures added { H.summed sum.new ≡ H.plus (H.summed sum.old) (H.counted self.old.host) }
+        ensures covered { IsFront (H.seen self.old.host).known (H.reached sum.new) }
+        ensures kept { IsFront (H.reached sum.old) (H.reached sum.new) }
     {
         self.host.hand_over(sum);
     }

@@ -19,8 +19,8 @@ invariant_of-self-in-Ok-Came g c =
           g.J.Reception.opening (seen c.self.inside.listen) (seen c.accept.new.self) _ _ _ _ _ c.self.invariant.1 _ c.if-self.false
           comes c.in-Ok-Came.ensures.cause.never_falls),
       sums_came conduct counting terms _ g.J.Reception.opening.past (g.L.Listen.past c.self.inside.listen)
-          (g.L.Listen.past c.accept.new.self) _ _ c.self.inside.sum c.self.invariant.1.tells c.self.invariant.2
-          comes.gained,
+          (g.L.Listen.past c.accept.new.self) _ _ (g.H.HandsOver.summed c.self.inside.sum)
+          (g.H.HandsOver.reached c.self.inside.sum) c.self.invariant.1.tells c.self.invariant.2 comes.gained,
     )
 
 pub invariant_of-self-in-Err : goal.invariant_of-self-in-Err
@@ -34,6 +34,7 @@ invariant_of-self-in-Err g c =
           (seen c.accept.new.self) _ _ _ _ _ c.self.invariant.1 true _ c.in-Err.ensures.none c.in-Err.ensures.cause.never_falls
           (λ was. inr c.in-Err.ensures.cause.risen) (λ some. inl refl),
       sums_same conduct counting terms g.J.Reception.opening.past (g.L.Listen.past c.self.inside.listen)
-          (g.L.Listen.past c.accept.new.self) c.self.inside.sum
+          (g.L.Listen.past c.accept.new.self) (g.H.HandsOver.summed c.self.inside.sum)
+          (g.H.HandsOver.reached c.self.inside.sum)
           (ap (λ (a : Accepting). a.past) c.in-Err.ensures.none) c.self.invariant.2,
     )

@@ -1,7 +1,7 @@
-use Rattle.std.proofs.Common.{sym, ap, subst}
+use Rattle.std.proofs.Common.{ap}
 use Rattle.yp_session.specs.Hosts.{conduct_of}
 use Rattle.yp_worker.specs.Receptions.{Opening, opening_of, terms_of}
-use Rattle.yp_worker.specs.Summing.{SumsUp, counting_of}
+use Rattle.yp_worker.specs.Summing.{counting_of}
 use Rattle.yp_worker.proofs.Receiving.{kept_none}
 use Rattle.yp_worker.proofs.Summing.{sums_none, sums_same}
 use Rattle.yp_worker.proofs.listening.Listening.new.Goals as goal
@@ -16,7 +16,8 @@ invariant_of-result g c =
       c.requires.fair,
       rw (c.requires.none_out, c.requires.none_ended, c.requires.opening) (kept_none conduct terms
           g.J.Reception.opening),
-      sums_same conduct counting terms past past (g.L.Listen.past c.args.listen) c.args.sum
+      sums_same conduct counting terms past past (g.L.Listen.past c.args.listen)
+          (g.H.HandsOver.summed c.args.sum) (g.H.HandsOver.reached c.args.sum)
           (ap (λ (o : Opening). o.past) c.requires.opening)
-          (rw c.requires.none_counted (sums_none conduct counting terms past)),
+          (rw c.requires.none_counted (sums_none conduct counting terms past (g.H.HandsOver.reached c.args.sum))),
     )

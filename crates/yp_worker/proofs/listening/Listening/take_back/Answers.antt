@@ -20,6 +20,8 @@ invariant_of-self g c =
           (sym c.sub.ensures.total) c.self.invariant.0 c.requires.served.served c.back.ensures.past c.back.ensures.most
           c.back.ensures.accepted c.back.ensures.faults),
       rw c.hand_over.ensures.added (sums_back conduct counting terms ended c.args.calls _ g.J.Reception.opening.past
-          (g.L.Listen.past c.self.inside.listen) (g.L.Listen.past c.back.new.self) _ _ c.self.inside.sum
-          c.self.invariant.1.tells c.requires.served c.self.invariant.2 c.back.ensures.past),
+          (g.L.Listen.past c.self.inside.listen) (g.L.Listen.past c.back.new.self) _ _
+          (g.H.HandsOver.summed c.self.inside.sum) _ (g.H.HandsOver.reached c.self.inside.sum) _
+          c.self.invariant.1.tells c.requires.served c.self.invariant.2 c.back.ensures.past c.hand_over.ensures.covered
+          c.hand_over.ensures.kept),
     )

@@ -1,5 +1,6 @@
 use Rattle.std.proofs.Common.{refl}
 use Rattle.yp_session.specs.Wires.{wire_of}
+use Rattle.yp_worker.proofs.Growing.{front_same}
 use Rattle.yp_worker.proofs.worker.Worker.serve.Goals as goal
 
 pub take_back-requires-clause-served : goal.take_back-requires-clause-served
@@ -19,4 +20,5 @@ take_back-requires-clause-served g c = record {
   };
   from_none = c.requires.none;
   counted = refl;
+  front = front_same (g.H.View.seen c.one-wire.new.self.host).known;
 }
