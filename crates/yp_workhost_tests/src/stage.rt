@@ -1,6 +1,6 @@
 //! Two workers over one map.
 
-ghost use Rattle.std.specs.Prelude.{◌≡◌, ◌<◌, All};
+ghost use Rattle.std.specs.Prelude.{◌≡◌, All};
 ghost use Rattle.yp_io.specs.MemDisk.{Platter};
 ghost use Rattle.yp_io.specs.MemDial.{wires_of};
 ghost use Rattle.yp_publish.specs.Rising.{moment_of};
@@ -14,7 +14,7 @@ use std::alloc::Global;
 use std::marker::Brand;
 use std::process::Abort;
 use std::random::RandomSource;
-use std::sync::ledger::{Blank, Ledger, Share};
+use std::sync::ledger::Blank;
 use std::sync::{Mutex, Wait};
 use yp_answer::{Errand, Job};
 use yp_board::{Catalog, Tell, View};
@@ -232,35 +232,24 @@ struct Blanks {
 }
 
 impl Blanks {
-    /// Five parts each: one for the publisher, and four for who is charged.
+    /// Four parts each, and of the one of fetched versions one more, for the publisher.
     fn new() -> Blanks
-        ensures unread { result.unread.parts ≡ 5 }
-        ensures failures { result.failures.parts ≡ 5 }
-        ensures orders { result.orders.parts ≡ 5 }
-        ensures sources { result.sources.parts ≡ 5 }
-        ensures made { result.made.parts ≡ 5 }
+        ensures unread { result.unread.parts ≡ 4 }
+        ensures failures { result.failures.parts ≡ 4 }
+        ensures orders { result.orders.parts ≡ 4 }
+        ensures sources { result.sources.parts ≡ 4 }
+        ensures made { result.made.parts ≡ 4 }
         ensures versions { result.versions.parts ≡ 5 }
     {
         Blanks {
-            unread: Blank::new(5),
-            failures: Blank::new(5),
-            orders: Blank::new(5),
-            sources: Blank::new(5),
-            made: Blank::new(5),
+            unread: Blank::new(4),
+            failures: Blank::new(4),
+            orders: Blank::new(4),
+            sources: Blank::new(4),
+            made: Blank::new(4),
             versions: Blank::new(5),
         }
     }
-}
-
-/// Four parts of a share of five.
-fn most_of<L: Ledger>(share: &mut Share<L>) -> Share<L>
-    requires some { share.old.parts ≡ 5 }
-    requires none { share.old.amount ≡ 0 }
-    ensures most { result.parts ≡ 4 }
-    ensures left { share.new.parts ≡ 1 }
-    ensures none { result.amount ≡ 0 }
-{
-    share.split_off(4, 0)
 }
 
 /// What came of it, once the publisher and the desk are under their locks.
@@ -288,12 +277,12 @@ fn under_locks<
     requires supplied { IsSupplied T.Texts S.text S.hosts desk }
     requires before { (T.faults desk.texts ≡ S.text_faults) × (wires_of desk.dial ≡ S.wires)
         × (desk.dial.faults ≡ S.dial_faults) }
-    requires parts { S.shares ≡ 5 }
-    requires unread { (blanks.unread.name ≡ S.unread) × (blanks.unread.parts ≡ 5) }
-    requires failures { (blanks.failures.name ≡ S.failures) × (blanks.failures.parts ≡ 5) }
-    requires orders { (blanks.orders.name ≡ S.orders) × (blanks.orders.parts ≡ 5) }
-    requires sources { (blanks.sources.name ≡ S.sources) × (blanks.sources.parts ≡ 5) }
-    requires made { (blanks.made.name ≡ S.made) × (blanks.made.parts ≡ 5) }
+    requires parts { S.shares ≡ 4 }
+    requires unread { (blanks.unread.name ≡ S.unread) × (blanks.unread.parts ≡ 4) }
+    requires failures { (blanks.failures.name ≡ S.failures) × (blanks.failures.parts ≡ 4) }
+    requires orders { (blanks.orders.name ≡ S.orders) × (blanks.orders.parts ≡ 4) }
+    requires sources { (blanks.sources.name ≡ S.sources) × (blanks.sources.parts ≡ 4) }
+    requires made { (blanks.made.name ≡ S.made) × (blanks.made.parts ≡ 4) }
     requires versions { (blanks.versions.name ≡ S.versions) × (blanks.versions.parts ≡ 5) }
 {
     let Blanks {
@@ -304,24 +293,16 @@ fn under_locks<
         made,
         versions,
     } = blanks;
-    let (unread, mut own_unread) = unread.open::<Unread<S>>();
-    let (failures, mut own_failures) = failures.open::<Failures<S>>();
-    let (orders, mut own_orders) = orders.open::<Orders<S>>();
-    let (sources, mut own_sources) = sources.open::<Sources<S>>();
-    let (made, mut own_made) = made.open::<Made<S>>();
+    let (unread, own_unread) = unread.open::<Unread<S>>();
+    let (failures, own_failures) = failures.open::<Failures<S>>();
+    let (orders, own_orders) = orders.open::<Orders<S>>();
+    let (sources, own_sources) = sources.open::<Sources<S>>();
+    let (made, own_made) = made.open::<Made<S>>();
     let (versions, mut own_versions) = versions.open::<Versions<S>>();
-    let debits = Debits::new(
-        most_of(&mut own_failures),
-        most_of(&mut own_made),
-        most_of(&mut own_versions),
-    );
-    let charges = Charges::new(
-        most_of(&mut own_unread),
-        most_of(&mut own_orders),
-        most_of(&mut own_sources),
-        debits,
-    );
-    let maps: Maps<S, J, &R> = Mutex::new(Locked::new(publisher, failures, made, own_versions));
+    let publishers = own_versions.split_off(1, 0);
+    let debits = Debits::new(own_failures, own_made, own_versions);
+    let charges = Charges::new(own_unread, own_orders, own_sources, debits);
+    let maps: Maps<S, J, &R> = Mutex::new(Locked::new(publisher, failures, made, publishers));
     let tools: Tools<S, T> = Mutex::new(SharedDesk::new(desk, unread, orders, sources, versions));
     let (came, account) = meet(rt, alloc, &maps, &tools, readers, charges, script);
     let (totals, charges, _) = account.into_parts();

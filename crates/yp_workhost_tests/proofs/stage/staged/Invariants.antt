@@ -18,7 +18,7 @@ ghosts-under_locks-S-Accounts g a = record {
   failures = a.blanks.failures.name;
   made = a.blanks.made.name;
   versions = a.blanks.versions.name;
-  shares = 5;
+  shares = 4;
 }
 
 abbrev pub ghosts-under_locks-S-Supplies : goal.ghosts-under_locks-S-Supplies
