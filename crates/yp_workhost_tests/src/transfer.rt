@@ -63,8 +63,8 @@ const UNKNOWN: Outcomes = Outcomes {
     ..NONE
 };
 
-// The own name, the file, what the source sends, the calls of the dial that fail, what the first worker then holds, what
-// its transfer came to, and the status that is posted.
+// The own name, the file, what the source sends, the calls of the dial that fail, what the first worker then holds,
+// what its transfer came to, and the status that is posted.
 struct Row {
     name: &'static str,
     own: &'static [u8],
