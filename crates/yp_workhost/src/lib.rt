@@ -7,11 +7,11 @@
 //! `carried` of its `transfer`.
 //!
 //! What all workers answered is covered by what came about under the locks. How many makes and transfers ended in FILE
-//! is at most what the counts of the texts and of the disks rose by; how many transfers reached an order is at most how
-//! many wires begin with one; how many had a source that failed is at most what the dial's count of faults rose by, with
-//! the wires that give no version; how many versions were fetched is at most how many wires give one; and how many makes
-//! ended in SUCC is at most how many built versions were shown. Each is charged under the lock where it came about, and
-//! that stands on [`Account::into_parts`], on [`SharedDesk::close`] and on
+//! is at most what the counts of the texts and of the disks rose by. How many transfers reached an order is at most how
+//! many wires begin with one, and how many had a source that failed is at most what the dial's count of faults rose by,
+//! with the wires that give no version. How many versions were fetched is at most how many wires give one, and how many
+//! makes ended in SUCC is at most how many built versions were shown. Each is charged under the lock where it came
+//! about, and that stands on [`Account::into_parts`], on [`SharedDesk::close`] and on
 //! [`Locked::close`](yp_shared::Locked::close).
 #![tactic(auto)]
 
