@@ -3,12 +3,9 @@ use Rattle.std.proofs.Common.{◌≡◌, ◌⊎◌, inl, inr, ℕ, suc, List, []
 use Rattle.std.specs.Prelude.{All, IfSome}
 use Rattle.yp_io.specs.Counts.{HasRisen}
 use Rattle.yp_io.specs.Disk.{History}
-use Rattle.yp_slot.specs.declared.fault.SlotFault.TheVariants as fault
 use Rattle.yp_slot.specs.Slots.{IsSound}
 use Rattle.yp_slot.specs.Stands.{stands}
 use Rattle.yp_slot.specs.Stands as stood
-use Rattle.yp_board.specs.declared.catalog.MapName.{MapName}
-use Rattle.yp_publish.specs.Opens.{IsStopped}
 use Rattle.yp_worker.specs.Receptions.{Opening}
 use Rattle.yp_office.specs.declared.office.Office.{Office}
 use Rattle.yp_office.specs.declared.status.Status.{Status}

@@ -1,5 +1,5 @@
 -- What a reader knows before the first caller comes, and how the maps stand then.
-use Rattle.std.proofs.Common.{◌≡◌, ℕ, zero, suc, ◌<◌, List, [], ◌∷◌, map, length, get_or, Option, sym, ap, ◌∙◌, subst, arith}
+use Rattle.std.proofs.Common.{◌≡◌, ℕ, zero, suc, List, [], ◌∷◌, map, Option, sym, ap, ◌∙◌, subst, arith}
 use Rattle.std.specs.List.{All, AllZip}
 use Rattle.yp_io.specs.Disk.{History}
 use Rattle.yp_board.specs.Catalogues.{Catalogue}
@@ -10,6 +10,8 @@ use Rattle.yp_publish.specs.Opens.{IsOpened}
 use Rattle.yp_publish.specs.Rising.{moment_of, IsStart}
 use Rattle.yp_publish.specs.Laws.{BeginningIsStart}
 use Rattle.yp_serve.specs.Serving.{IsAtStart}
+use Rattle.yp_readers.specs.Boards.{Written}
+use Rattle.yp_hosting.specs.Hosting.{first_of}
 
 pub at_start : (served catalogue : Catalogue) (log first : Log) (seen : Seen)
     → seen ≡ record { catalogue = catalogue; known = first; asked = 0 } → catalogue ≡ served → first ≡ log
@@ -39,3 +41,11 @@ start_of law {D} {B} log published maps maps_are log_is level =
     subst (λ (l : Log). IsStart (record { log = l; standings = standings })) (sym log_is) (law (versions maps) standings level) in
     subst (λ (kept : List (Kept D)). IsStart (record { log = log published.board; standings = map (λ (k : Kept D). k.standing) kept }))
     (sym maps_are) at
+
+-- what is shown by a publisher of these maps, on a board that shows exactly them, and how they stand
+pub first_as : {D : Type 0} (published : Published D Written) (catalogue : Catalogue) (maps : List (Kept D))
+    (board : Written) → published ≡ record { catalogue = catalogue; maps = maps; board = board }
+    → board.log ≡ starts 0 (versions maps) → moment_of (λ (w : Written). w.log) published ≡ first_of maps
+first_as {D} published catalogue maps board is log_is =
+    ap (λ (p : Published D Written). moment_of (λ (w : Written). w.log) p) is
+    ∙ ap (λ (l : Log). record { log = l; standings = map (λ (kept : Kept D). kept.standing) maps }) log_is

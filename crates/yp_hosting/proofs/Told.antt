@@ -1,6 +1,6 @@
 -- What was done, by what is told of it.
-use Rattle.std.proofs.Common.{◌≡◌, ◌⊎◌, inl, inr, ⊎_elim, ℕ, ◌<◌, List, length, Bool, true, false, Option, Some, Result, Ok, Err, refl, sym, ap, ◌∙◌, subst, arith}
-use Rattle.std.specs.Prelude.{IsTrue, IfOk, IfErr, OnErr, slice_get}
+use Rattle.std.proofs.Common.{◌≡◌, inl, inr, ⊎_elim, ℕ, List, length, Bool, true, false, Option, Some, Result, Ok, Err, refl, sym, ap, ◌∙◌, subst, arith}
+use Rattle.std.specs.Prelude.{IfOk, IfErr, OnErr}
 use Rattle.yp_io.specs.Counts.{HasRisen}
 use Rattle.yp_io.specs.Disk.{History}
 use Rattle.yp_io.specs.declared.texts.TextFile.{TextFile}
@@ -23,7 +23,7 @@ use Rattle.yp_hosting.specs.declared.stock.Stock.{Stock}
 use Rattle.yp_hosting.specs.declared.stock.NotHosted.TheVariants as unhosted
 use Rattle.yp_hosting.specs.declared.tally.Hosted.{Hosted}
 use Rattle.yp_hosting.specs.Hosting.{IsHosted, IsUnhosted, LeavesStarts}
-use Rattle.yp_hosting.specs.Serve.{ServeOrder, catalogue_of, house, place, IsToAccept, ServesMaps, IsShut, IsUnserved}
+use Rattle.yp_hosting.specs.Serve.{ServeOrder, catalogue_of, house, place, IsToAccept, ServesMaps, IsShut}
 use Rattle.yp_hosting.specs.Serve.{Serves, TellsServed, TellsEnd, IsWithin, HasCauses, ServeDoes}
 use Rattle.yp_hosting.proofs.Completed.{completes}
 use Rattle.yp_hosting.proofs.Disks.{nothing_written, stopped_written, stopped_risen, stopped_count}

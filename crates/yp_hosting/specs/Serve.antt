@@ -30,7 +30,7 @@ use Rattle.yp_office.specs.Seeing.{Seeing, output, moment, WriteFails, DiskFails
 use Rattle.yp_hosting.specs.declared.stock.NotHosted.{NotHosted}
 use Rattle.yp_hosting.specs.declared.stock.NotHosted.TheVariants as unhosted
 use Rattle.yp_hosting.specs.declared.tally.Hosted.{Hosted}
-use Rattle.yp_hosting.specs.Hosting.{House, Place, house_of, place_of, IsHosted, LeavesStarts}
+use Rattle.yp_hosting.specs.Hosting.{House, Place, Supply, house_of, place_of, supply_of, IsHosted, LeavesStarts}
 
 -- ---- what is asked for
 
@@ -95,9 +95,15 @@ IsWithin count (unhosted.Unloaded number why) = number < count
 abbrev pub house : {S K D C A I T : Type 0} → Seeing S K D C A I T → ServeOrder → Office S K D C A I T → House
 house seen order office = house_of (catalogue_of order) (seen.texts.text office.texts) order.hosts order.turns
 
--- what is told by an inbox of an office, and by a listener beside it
+-- what is told by the texts and the dial of an office
+abbrev pub supply : {S K D C A I T : Type 0} → Seeing S K D C A I T → Office S K D C A I T → Supply
+supply seen office =
+    supply_of (seen.texts.faults office.texts) (seen.dial.past office.dial) (seen.dial.faults office.dial)
+
+-- what is told by an inbox of an office, and by a listener beside it, and by its texts and its dial
 abbrev pub place : {S K D C A I T : Type 0} → Seeing S K D C A I T → Office S K D C A I T → Opening → Place
-place seen office door = place_of door (box_of seen.inbox.past seen.inbox.turns seen.inbox.quiets office.inbox)
+place seen office door =
+    place_of door (box_of seen.inbox.past seen.inbox.turns seen.inbox.quiets office.inbox) (supply seen office)
 
 -- A listener is to accept so many connections, and has accepted none.
 pub record IsToAccept (connections : ℕ) (door : Opening) : Type 0 where

@@ -12,7 +12,7 @@ ghost use Rattle.yp_session.specs.declared.session.TheConstants.{CALLS_MAX};
 ghost use Rattle.yp_turns.specs.Turns.{box_of};
 ghost use Rattle.yp_worker.specs.Receptions.{IsFair, opening_of};
 ghost use Rattle.yp_serve.specs.Serving.{Leaves};
-ghost use Rattle.yp_hosting.specs.Hosting.{house_of, place_of, IsServed, IsHosted, IsUnhosted};
+ghost use Rattle.yp_hosting.specs.Hosting.{house_of, place_of, supply_of, IsServed, IsHosted, IsUnhosted};
 
 use crate::clock::{Moment, SharedClock};
 use crate::tally::Hosted;
@@ -157,9 +157,12 @@ where
     ensures hosted { IfOk result.0 (λ hosted. IsHosted D.history D.faults
         (house_of catalog (T.text stock.desk.texts) stock.desk.hosts spec.now.turns) hosted
         (place_of (opening_of L.past L.most L.accepted L.faults stock.listen)
-        (box_of I.past I.turns I.quiets stock.inbox))
+        (box_of I.past I.turns I.quiets stock.inbox)
+        (supply_of (T.faults stock.desk.texts) (A.past stock.desk.dial) (A.faults stock.desk.dial)))
         (place_of (opening_of L.past L.most L.accepted L.faults result.1.listen)
-        (box_of I.past I.turns I.quiets result.1.inbox)) stock.disks.items result.1.disks.items) }
+        (box_of I.past I.turns I.quiets result.1.inbox)
+        (supply_of (T.faults result.1.desk.texts) (A.past result.1.desk.dial) (A.faults result.1.desk.dial)))
+        stock.disks.items result.1.disks.items) }
     ensures unhosted { IfErr result.0 (λ why.
         IsUnhosted D.history D.faults catalog why stock.disks.items result.1.disks.items) }
     ensures untouched { OnErr result.0 (result.1 ≡ record stock { disks = result.1.disks }) }
@@ -219,11 +222,14 @@ where
     requires workers { (1 ≤ spec.now.workers) × (spec.now.workers ≤ 8) }
     requires most { spec.now.most ≡ CALLS_MAX }
     requires fair { IsFair (L.past listen) }
-    ensures hosted { IfOk result.0 (λ hosted. IsServed D.history
+    ensures hosted { IfOk result.0 (λ hosted. IsServed D.history D.faults
         (house_of catalog (T.text desk.texts) desk.hosts spec.now.turns) loaded hosted
-        (place_of (opening_of L.past L.most L.accepted L.faults listen) (box_of I.past I.turns I.quiets inbox))
+        (place_of (opening_of L.past L.most L.accepted L.faults listen) (box_of I.past I.turns I.quiets inbox)
+        (supply_of (T.faults desk.texts) (A.past desk.dial) (A.faults desk.dial)))
         (place_of (opening_of L.past L.most L.accepted L.faults result.1.listen)
-        (box_of I.past I.turns I.quiets result.1.inbox)) result.1.disks.items) }
+        (box_of I.past I.turns I.quiets result.1.inbox)
+        (supply_of (T.faults result.1.desk.texts) (A.past result.1.desk.dial) (A.faults result.1.desk.dial)))
+        result.1.disks.items) }
     ensures unhosted { IfErr result.0 (λ why. why ≡ NotHosted.NoMemory) }
     ensures leaves { OnErr result.0 (Leaves D.history catalog (starts 0 (versions loaded)) result.1.disks.items) }
     ensures untouched { OnErr result.0
@@ -286,11 +292,14 @@ where
     requires workers { (1 ≤ spec.now.workers) × (spec.now.workers ≤ 8) }
     requires most { spec.now.most ≡ CALLS_MAX }
     requires fair { IsFair (L.past listen) }
-    ensures hosted { IfOk result.0 (λ hosted. IsServed D.history
+    ensures hosted { IfOk result.0 (λ hosted. IsServed D.history D.faults
         (house_of catalog (T.text desk.texts) desk.hosts spec.now.turns) loaded hosted
-        (place_of (opening_of L.past L.most L.accepted L.faults listen) (box_of I.past I.turns I.quiets inbox))
+        (place_of (opening_of L.past L.most L.accepted L.faults listen) (box_of I.past I.turns I.quiets inbox)
+        (supply_of (T.faults desk.texts) (A.past desk.dial) (A.faults desk.dial)))
         (place_of (opening_of L.past L.most L.accepted L.faults result.1.listen)
-        (box_of I.past I.turns I.quiets result.1.inbox)) result.1.disks.items) }
+        (box_of I.past I.turns I.quiets result.1.inbox)
+        (supply_of (T.faults result.1.desk.texts) (A.past result.1.desk.dial) (A.faults result.1.desk.dial)))
+        result.1.disks.items) }
     ensures unhosted { IfErr result.0 (λ why. why ≡ NotHosted.NoMemory) }
     ensures leaves { OnErr result.0 (Leaves D.history catalog (starts 0 (versions loaded)) result.1.disks.items) }
     ensures untouched { OnErr result.0
@@ -319,6 +328,7 @@ where
         Ok(served) => {
             let hosted = Hosted {
                 tally: served.tally,
+                totals: served.totals,
                 inbox_fault: served.inbox_fault,
             };
             let stock = Stock {

@@ -9,6 +9,7 @@ use arrayvec::ArrayString;
 use yp_io::{Failed, Sink, write_through};
 use yp_office::Status;
 use yp_worker::Tally;
+use yp_workhost::Totals;
 
 /// The most bytes of a line.
 const LINE_MAX: usize = 64;
@@ -18,6 +19,8 @@ const LINE_MAX: usize = 64;
 pub struct Hosted {
     /// What was served of connections.
     pub tally: Tally,
+    /// What all workers counted of maps that were made and of transfers.
+    pub totals: Totals,
     /// Whether the inbox has failed.
     pub inbox_fault: bool,
 }

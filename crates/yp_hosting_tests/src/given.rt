@@ -1,15 +1,43 @@
-//! What the tests share. A call of each takes no exit from its caller: an exit costs seconds to prove.
+//! What the tests share.
 
 use std::alloc::Global;
-use std::fmt::Debug;
 use std::process::Abort;
+use std::random::RandomSource;
+use std::sync::Wait;
+use std::thread::Threads;
+use yp_stage::{After, DiskCalls, Row, try_alone, try_crash, try_stops};
 
-/// The bytes of texts of hexadecimal words, as `8000004c 00000001`.
-pub fn bytes<R: Abort>(rt: &R, alloc: Global, texts: &[&str]) -> Vec<u8> {
-    yp_for_tests::bytes(alloc, texts).expect(rt, "hexadecimal words")
+/// Runs rows, and ends the test at the first of which something else comes. Where rows are given for behind a crash,
+/// each file that one may leave has to stand for one of theirs, and that row is run over it.
+pub fn try_rows<R: Threads + Wait + RandomSource + Abort + Sync>(
+    rt: &R,
+    alloc: Global,
+    rows: &[Row],
+    after: &[After],
+) {
+    for row in rows {
+        try_crash(alloc, rt, row, after).expect(rt, row.name);
+    }
 }
 
-/// Ends the test where what came isn't what is wanted, and tells of which row.
-pub fn assert_same<R: Abort, T: PartialEq + Debug>(rt: &R, came: &T, wanted: &T, row: &str) {
-    assert!(rt; came == wanted, "{row}: {came:?} came, not {wanted:?}");
+/// Runs a row for each call of the disk, which fails alone.
+pub fn try_each<R: Threads + Wait + RandomSource + Abort + Sync>(
+    rt: &R,
+    alloc: Global,
+    disks: &[DiskCalls],
+) {
+    for calls in disks {
+        try_alone(alloc, rt, calls).expect(rt, calls.row.name);
+    }
+}
+
+/// Runs a row for each call of the disk, which fails, and all behind it do.
+pub fn try_all<R: Threads + Wait + RandomSource + Abort + Sync>(
+    rt: &R,
+    alloc: Global,
+    disks: &[DiskCalls],
+) {
+    for calls in disks {
+        try_stops(alloc, rt, calls).expect(rt, calls.row.name);
+    }
 }

@@ -1,249 +1,198 @@
-//! Servers over memory: their calls, replies and files written out by hand from RFC 5531 sections 9 and 11, yp.x and
-//! docs/FORMATS.md.
+//! What is served, and how a server ends of which the listener, the inbox, the output or the note fails.
 
-use crate::stage::{Scene, Wanted, assert_serves};
+use crate::bytes::{FILE, FIRST, MADE, MAKE, NULL, NULL_REPLY, SENDER};
+use crate::given::try_rows;
+use yp_stage::{Datagram, FAIR, Row, Words};
 
-// NULL of the NIS program, as a record and as a datagram, and the reply to it.
-const NULL: &str = "80000028 00000007
-    00000000 00000002 000186a4 00000002 00000000 00000000 00000000 00000000 00000000";
+/// NULL and its reply as records.
+const CALL: Words = &["80000028", NULL];
 
-const NULL_MAIL: &str = "00000007
-    00000000 00000002 000186a4 00000002 00000000 00000000 00000000 00000000 00000000";
+const REPLY: Words = &["80000018", NULL_REPLY];
 
-const NULL_REPLY: &str = "80000018 00000007
-    00000001 00000000 00000000 00000000 00000000";
-
-const NULL_MAIL_REPLY: &str = "00000007
-    00000001 00000000 00000000 00000000 00000000";
-
-// XFR of hosts.byname in `lab` from `m1`: transaction 9 of the program 0x40000000 at port 7002. Then the reply, and the
-// letter that tells how it went.
-const XFR: &str = "80000058 00000001
-    00000000 00000002 000186a4 00000002 00000006 00000000 00000000 00000000
-    00000000 00000003 6c616200 0000000c 686f7374 732e6279 6e616d65 00000000 00000002 6d310000
-    00000009 40000000 00001b5a";
-
-const TAKEN: &str = "80000020 00000001
-    00000001 00000000 00000000 00000000 00000000 00000009 00000001";
-
-const CALL_BACK: &str = "00000009 00000000 00000002 40000000 00000001 00000001
-    00000000 00000000 00000000 00000000 00000009 00000001";
-
-// What the source sends: order 100, master `m1`, the row `alpha`, and the order 100 again.
-const SOURCE: &str =
-    "80000020 00000001 00000001 00000000 00000000 00000000 00000000 00000001 00000064
-    80000024 00000002 00000001 00000000 00000000 00000000 00000000 00000001 00000002 6d310000
-    80000044 00000003 00000001 00000000 00000000 00000000 00000000 00000001 00000001
-    0000000e 31302e30 2e302e31 20616c70 68610000 00000005 616c7068 61000000 00000000
-    80000020 00000004 00000001 00000000 00000000 00000000 00000000 00000001 00000064";
-
-// A file of order 100 by the master `m1`, and one whose master has a padding byte that isn't 0.
-const FILE: &[&str] = &[
-    "01000000 00000000 00000000 00000001 00000000 00000040 00000000 00000034",
-    "00000000 00000000 00000000 00000000 00000000 00000000 00000000 00000000",
-    "00000001 00000064 00000002 6d310000 00000001 00000005 616c7068 61000000",
-    "0000000e 31302e30 2e302e31 20616c70 68610000",
-];
-
-const BAD_PADDING: &[&str] = &[
-    "01000000 00000000 00000000 00000001 00000000 00000040 00000000 00000034",
-    "00000000 00000000 00000000 00000000 00000000 00000000 00000000 00000000",
-    "00000001 00000064 00000002 6d310001 00000001 00000005 616c7068 61000000",
-    "0000000e 31302e30 2e302e31 20616c70 68610000",
-];
-
-// Nobody calls, and nothing comes.
-const QUIET: Scene = Scene {
-    words: &["serve", "m1", "7001", "1", "0", "0", "lab/hosts.byname"],
-    calls: &[],
-    most: 0,
-    accepts: &[],
-    mail: &[],
-    turns: &[],
-    file: &[],
-    disk: &[],
-    wire: &[],
-    writes: &[],
+/// They as datagrams.
+const MAIL: Datagram = Datagram {
+    peer: SENDER,
+    bytes: &[NULL],
 };
 
-const SERVED: Wanted = Wanted {
-    code: 0,
-    output: b"connections 0 calls 0\n",
-    notes: b"",
-    taken: &[],
-    back: 0,
-    answered: &[],
-    posted: &[],
-    file: &[],
+const MAIL_REPLY: Datagram = Datagram {
+    peer: SENDER,
+    bytes: &[NULL_REPLY],
 };
 
-const FAILED: Wanted = Wanted {
-    output: b"",
-    ..SERVED
+const TWO_CONNECTIONS: Row = Row {
+    name: "a third call isn't accepted",
+    words: &["serve", "m1", "7001", "1", "2", "0", "lab/hosts.byname"],
+    calls: &[CALL, CALL, CALL],
+    most: 2,
+    output: "connections 2 calls 2\n",
+    takes: &[REPLY, REPLY],
+    ..FAIR
 };
 
-#[test]
-fn two_connections(rt: HostRuntime) {
-    let scene = Scene {
-        words: &["serve", "m1", "7001", "1", "2", "0", "lab/hosts.byname"],
-        calls: &[&[NULL], &[NULL], &[NULL]],
-        most: 2,
-        ..QUIET
-    };
-    let wanted = Wanted {
-        output: b"connections 2 calls 2\n",
-        taken: &[NULL_REPLY, NULL_REPLY],
-        back: 2,
-        ..SERVED
-    };
-    let row = "a third call isn't accepted";
-    assert_serves(&rt, rt.alloc(), &scene, &wanted, row);
-}
+/// One accept fails. Behind each that doesn't, a connection is served.
+const UNACCEPTED: Row = Row {
+    name: "the first accept fails",
+    accepts: 0,
+    code: 21,
+    output: "",
+    note: "yp: listen fault\n",
+    takes: &[],
+    ..TWO_CONNECTIONS
+};
 
-#[test]
-fn datagram_null(rt: HostRuntime) {
-    let scene = Scene {
-        words: &["serve", "m1", "7001", "1", "0", "2", "lab/hosts.byname"],
-        mail: &[NULL_MAIL],
-        ..QUIET
-    };
-    let wanted = Wanted {
-        answered: &[NULL_MAIL_REPLY],
-        ..SERVED
-    };
-    assert_serves(&rt, rt.alloc(), &scene, &wanted, "a datagram");
-}
-
-// Servers that fail, and how they end.
-const FAULTS: [(&str, Scene, Wanted); 6] = [
-    (
-        "the first accept fails",
-        Scene {
-            words: &["serve", "m1", "7001", "1", "1", "0", "lab/hosts.byname"],
-            calls: &[&[NULL]],
-            most: 1,
-            accepts: &[0],
-            ..QUIET
-        },
-        Wanted {
-            code: 21,
-            notes: b"yp: listen fault\n",
-            ..FAILED
-        },
-    ),
-    (
-        "the first turn fails",
-        Scene {
-            words: &["serve", "m1", "7001", "1", "1", "3", "lab/hosts.byname"],
-            calls: &[&[NULL]],
-            most: 1,
-            turns: &[0],
-            ..QUIET
-        },
-        Wanted {
-            code: 22,
-            notes: b"yp: inbox fault\n",
-            taken: &[NULL_REPLY],
-            back: 1,
-            ..FAILED
-        },
-    ),
-    (
-        "the first accept and the first turn fail",
-        Scene {
-            words: &["serve", "m1", "7001", "1", "1", "3", "lab/hosts.byname"],
-            most: 1,
-            accepts: &[0],
-            turns: &[0],
-            ..QUIET
-        },
-        Wanted {
-            code: 21,
-            notes: b"yp: listen fault\n",
-            ..FAILED
-        },
-    ),
-    (
-        "the output fails",
-        Scene {
-            writes: &[0],
-            ..QUIET
-        },
-        Wanted {
-            code: 4,
-            notes: b"yp: write fault\n",
-            ..FAILED
-        },
-    ),
-    (
-        "a damaged file",
-        Scene {
-            words: &["serve", "m1", "7001", "1", "1", "3", "lab/hosts.byname"],
-            calls: &[&[NULL]],
-            most: 1,
-            mail: &[NULL_MAIL],
-            file: BAD_PADDING,
-            ..QUIET
-        },
-        Wanted {
-            code: 8,
-            notes: b"yp: damaged lab/hosts.byname at 79 rule 5\n",
-            file: BAD_PADDING,
-            ..FAILED
-        },
-    ),
-    (
-        "the disk fails at once",
-        Scene {
-            words: &["serve", "m1", "7001", "1", "1", "3", "lab/hosts.byname"],
-            calls: &[&[NULL]],
-            most: 1,
-            mail: &[NULL_MAIL],
-            file: FILE,
-            disk: &[0],
-            ..QUIET
-        },
-        Wanted {
-            code: 10,
-            notes: b"yp: disk fault in lab/hosts.byname\n",
-            file: FILE,
-            ..FAILED
-        },
-    ),
+static LISTENS: [Row; 5] = [
+    TWO_CONNECTIONS,
+    UNACCEPTED,
+    Row {
+        name: "the second accept fails",
+        accepts: 1,
+        takes: &[REPLY],
+        ..UNACCEPTED
+    },
+    Row {
+        name: "the accept fails that would tell that all were accepted",
+        accepts: 2,
+        takes: &[REPLY, REPLY],
+        ..UNACCEPTED
+    },
+    Row {
+        name: "no fourth accept",
+        accepts: 3,
+        ..TWO_CONNECTIONS
+    },
 ];
 
 #[test]
-fn listen_fault(rt: HostRuntime) {
-    for (row, scene, wanted) in &FAULTS {
-        assert_serves(&rt, rt.alloc(), scene, wanted, *row);
-    }
+fn each_accept_fails(rt: HostRuntime) {
+    try_rows(&rt, rt.alloc(), &LISTENS, &[]);
 }
 
+const DATAGRAM: Row = Row {
+    name: "a datagram and a quiet turn, beside a connection",
+    words: &["serve", "m1", "7001", "1", "1", "2", "lab/hosts.byname"],
+    calls: &[CALL],
+    most: 1,
+    brings: &[MAIL],
+    output: "connections 1 calls 1\n",
+    takes: &[REPLY],
+    sends: &[MAIL_REPLY],
+    turns: 2,
+    ..FAIR
+};
+
+/// A call of the inbox fails. The connection is served.
+const UNHEARD: Row = Row {
+    name: "the first turn fails",
+    inbox: 0,
+    code: 22,
+    output: "",
+    note: "yp: inbox fault\n",
+    sends: &[],
+    turns: 0,
+    ..DATAGRAM
+};
+
+/// The map is made, and nobody is told.
+const MADE_UNTOLD: Row = Row {
+    name: "the reply to MAKE isn't sent",
+    brings: &[Datagram {
+        peer: SENDER,
+        bytes: &["00000002", MAKE],
+    }],
+    inbox: 1,
+    hosts: "10.0.0.1 alpha\n",
+    moment: 100,
+    turns: 1,
+    stands: FIRST,
+    left: FILE,
+    ..UNHEARD
+};
+
+static INBOXES: [Row; 7] = [
+    DATAGRAM,
+    UNHEARD,
+    Row {
+        name: "the reply isn't sent",
+        inbox: 1,
+        turns: 1,
+        ..UNHEARD
+    },
+    Row {
+        name: "the second turn fails",
+        inbox: 2,
+        sends: &[MAIL_REPLY],
+        turns: 1,
+        ..UNHEARD
+    },
+    Row {
+        name: "no fourth call of the inbox",
+        inbox: 3,
+        ..DATAGRAM
+    },
+    MADE_UNTOLD,
+    Row {
+        name: "the reply to MAKE is sent, and the next turn fails",
+        inbox: 2,
+        sends: &[Datagram {
+            peer: SENDER,
+            bytes: &["00000002", MADE],
+        }],
+        ..MADE_UNTOLD
+    },
+];
+
 #[test]
-fn worker_transfer(rt: HostRuntime) {
-    let scene = Scene {
-        words: &[
-            "serve",
-            "s1",
-            "7101",
-            "1",
-            "1",
-            "0",
-            "lab/hosts.byname",
-            "m1@127.0.0.1:7001",
-        ],
-        calls: &[&[XFR]],
-        most: 1,
-        wire: &[SOURCE],
-        ..QUIET
-    };
-    let wanted = Wanted {
-        output: b"connections 1 calls 1\n",
-        taken: &[TAKEN],
-        back: 1,
-        posted: &[CALL_BACK],
-        file: FILE,
-        ..SERVED
-    };
-    assert_serves(&rt, rt.alloc(), &scene, &wanted, "a transfer");
+fn each_call_of_the_inbox_fails(rt: HostRuntime) {
+    try_rows(&rt, rt.alloc(), &INBOXES, &[]);
+}
+
+/// The line takes a write and a flush.
+const UNTOLD: Row = Row {
+    name: "no line",
+    writes: 0,
+    code: 4,
+    output: "",
+    note: "yp: write fault\n",
+    ..DATAGRAM
+};
+
+static ENDS: [Row; 6] = [
+    UNTOLD,
+    Row {
+        name: "no flush",
+        writes: 1,
+        output: "connections 1 calls 1\n",
+        ..UNTOLD
+    },
+    Row {
+        name: "no third call of the output",
+        writes: 2,
+        ..DATAGRAM
+    },
+    Row {
+        name: "no line, and no note",
+        notes: 0,
+        note: "",
+        ..UNTOLD
+    },
+    Row {
+        name: "no note of an accept",
+        notes: 0,
+        note: "",
+        ..UNACCEPTED
+    },
+    Row {
+        name: "an accept and a turn fail",
+        accepts: 0,
+        code: 21,
+        note: "yp: listen fault\n",
+        takes: &[],
+        ..UNHEARD
+    },
+];
+
+#[test]
+fn ends(rt: HostRuntime) {
+    try_rows(&rt, rt.alloc(), &ENDS, &[]);
 }

@@ -1,7 +1,6 @@
 -- What a worker of datagrams knew, in the log of the writer.
-use Rattle.std.proofs.Common.{◌≡◌, Bool, true, ℕ, [], ◌++◌, Option, Result, sym, ap, ◌∙◌, subst, append_assoc}
+use Rattle.std.proofs.Common.{◌≡◌, Bool, true, ℕ, ◌++◌, get_or, Option, Some, None, Result, sym, ap, ◌∙◌, subst, append_assoc}
 use Rattle.std.specs.Prelude.{is_err}
-use Rattle.std.proofs.lemmas.List.{append-nil}
 use Rattle.yp_io.specs.Counts.{HasRisen}
 use Rattle.yp_io.specs.declared.stream.Failed.{Failed}
 use Rattle.yp_board.specs.Catalogues.{Catalogue}
@@ -14,10 +13,10 @@ use Rattle.yp_mailserve.specs.Mailing.{Mailing, Awaited}
 use Rattle.yp_mailserve.specs.Serving.{ServesMail}
 use Rattle.yp_serve.specs.declared.mail.Mailman.{Mailman}
 use Rattle.yp_serve.specs.Posts.{Mails}
-use Rattle.yp_worker.specs.Receptions.{Terms}
-use Rattle.yp_worker.specs.Summing.{Counting, SumsUp}
+use Rattle.yp_worker.specs.Receptions.{Terms, Stay}
+use Rattle.yp_worker.specs.Summing.{Counting, CountsUpTo, SumsUp}
 use Rattle.yp_listen.specs.Calls.{Calls}
-use Rattle.yp_serve.specs.Serving.{at_rest, no_counts, IsAtStart, ServesDatagrams}
+use Rattle.yp_serve.specs.Serving.{at_rest, no_counts, IsAtStart}
 use Rattle.yp_serve.specs.Counting.{CountsDatagrams, CountsAll}
 
 front_then : (a b c : Log) → IsFront a b → IsFront b c → IsFront a c
@@ -25,14 +24,14 @@ front_then a b c first second =
     (first.0 ++ second.0, second.1 ∙ ap (λ (l : Log). l ++ second.0) first.1 ∙ append_assoc a first.0 second.0)
 
 -- a server that ended so, what its reader knows, and what it has counted
-pub answered : {H T : Type 0} (conduct : Conduct H) (counting : Counting H T) (catalogue : Catalogue) (starts known : Log)
+pub answered : {H T : Type 0} (conduct : Conduct H) (counting : Counting H T) (catalogue : Catalogue) (starts log : Log)
     (turns : ℕ) (fault : Bool) (end : Result Ended Failed) (old new : H) (first last : Mailing H) (before after : Box)
     (count : T) → first ≡ at_rest old → IsAtStart catalogue starts (conduct.seen old) → conduct.counts old ≡ no_counts
     → fault ≡ is_err end → ServesMail conduct turns end first last before after → new ≡ last.host
-    → known ≡ (conduct.seen new).known → counting.counted old ≡ counting.none → counting.counted new ≡ count
-    → CountsDatagrams conduct counting catalogue starts known turns fault before after count
-answered {H} conduct counting catalogue starts known turns fault end old new first last before after count first_is
-    start fresh fault_is serves new_is known_is from counted =
+    → IsFront (conduct.seen new).known log → counting.counted old ≡ counting.none → counting.counted new ≡ count
+    → CountsDatagrams conduct counting catalogue starts log turns fault before after count
+answered {H} conduct counting catalogue starts log turns fault end old new first last before after count first_is
+    start fresh fault_is serves new_is front from counted =
     let last_is : last ≡ at_rest new = ap (λ (h : H). record { host = h; waiting = last.waiting }) (sym new_is)
     ∙ ap (λ (w : Option Awaited). record { host = new; waiting = w }) serves.cleared in record {
       served = record {
@@ -44,11 +43,34 @@ answered {H} conduct counting catalogue starts known turns fault end old new fir
         fault_is = fault_is;
         serves = subst (λ (m : Mailing H). ServesMail conduct turns end m (at_rest new) before after) first_is
             (subst (λ (m : Mailing H). ServesMail conduct turns end first m before after) last_is serves);
-        shown = ([], known_is ∙ sym (append-nil (conduct.seen new).known));
+        shown = front;
       };
       from_none = from;
       counted = counted;
     }
+
+-- what was known in connections is a front of a longer log, too
+module _ {H T : Type 0} (conduct : Conduct H) (counting : Counting H T) (terms : Terms) (known log : Log)
+    (front : IsFront known log) where
+  further : (stay : Stay) (count : T) → CountsUpTo conduct counting terms stay count known
+      → CountsUpTo conduct counting terms stay count log
+  further stay count is = record {
+    served = is.served;
+    from_none = is.from_none;
+    counted = is.counted;
+    front = front_then (conduct.seen is.served.new.host).known known log is.front front;
+  }
+
+  pub sums_further : (door door' : Option Calls) (sum : T) → SumsUp conduct counting terms door door' sum known
+      → SumsUp conduct counting terms door door' sum log
+  sums_further None door' sum sums = tt
+  sums_further (Some old) None sum sums = tt
+  sums_further (Some old) (Some now) sum sums = record {
+    stays = sums.stays;
+    more_back = sums.more_back;
+    each = λ k d low. further (get_or sums.stays k d).0 (get_or sums.stays k d).1 (sums.each k d low);
+    sum_is = sums.sum_is;
+  }
 
 module _ {H T : Type 0} (conduct : Conduct H) (counting : Counting H T) (terms : Terms) (door door' : Option Calls)
     (known log : Log) (turns : ℕ) (fault : Bool) (before after : Box) (all : T)
@@ -60,7 +82,8 @@ module _ {H T : Type 0} (conduct : Conduct H) (counting : Counting H T) (terms :
       let mail = counts.of_datagrams in record {
         connections = counts.connections;
         datagrams = counts.datagrams;
-        of_connections = counts.of_connections;
+        of_connections = sums_further conduct counting terms known log front door door' counts.connections
+            counts.of_connections;
         of_datagrams = record {
           served = record {
             old = mail.served.old;
@@ -88,7 +111,7 @@ module _ {H T : Type 0} (conduct : Conduct H) (counting : Counting H T) (terms :
 
 -- what a worker of datagrams made of its turns, from a host that knew the start
 module _ {I H : Type 0} (conduct : Conduct H) (box : I → Box) (faults : I → ℕ) (catalogue : Catalogue)
-    (starts known : Log) (turns : ℕ) (fault : Bool) (first last found : Mailman I H) (host left : H) (inbox given : I)
+    (starts log : Log) (turns : ℕ) (fault : Bool) (first last found : Mailman I H) (host left : H) (inbox given : I)
     (mails : Mails conduct box faults first last) (found_is : found ≡ last) (inbox_is : first.inbox ≡ inbox)
     (host_is : first.server ≡ at_rest host) (turns_is : first.turns ≡ turns) (given_is : given ≡ found.inbox)
     (left_is : left ≡ found.server.host) (fault_is : fault ≡ found.fault) where
@@ -96,17 +119,17 @@ module _ {I H : Type 0} (conduct : Conduct H) (box : I → Box) (faults : I → 
   back = sym (given_is ∙ ap (λ (m : Mailman I H). m.inbox) found_is)
 
   pub mailed : {T : Type 0} (counting : Counting H T) (count : T) → IsAtStart catalogue starts (conduct.seen host)
-      → conduct.counts host ≡ no_counts → known ≡ (conduct.seen left).known
+      → conduct.counts host ≡ no_counts → IsFront (conduct.seen left).known log
       → counting.counted host ≡ counting.none → counting.counted left ≡ count
-      → CountsDatagrams conduct counting catalogue starts known turns fault (box inbox) (box given) count
-  mailed counting count start fresh known_is from counted =
-      answered conduct counting catalogue starts known turns fault mails.end host left first.server last.server (box inbox)
+      → CountsDatagrams conduct counting catalogue starts log turns fault (box inbox) (box given) count
+  mailed counting count start fresh front from counted =
+      answered conduct counting catalogue starts log turns fault mails.end host left first.server last.server (box inbox)
       (box given) count host_is start fresh (fault_is ∙ ap (λ (m : Mailman I H). m.fault) found_is ∙ mails.fault_is)
       (subst (λ (i : I). ServesMail conduct turns mails.end first.server last.server (box inbox) (box i)) back
       (subst (λ (i : I). ServesMail conduct turns mails.end first.server last.server (box i) (box last.inbox)) inbox_is
       (subst (λ (n : ℕ). ServesMail conduct n mails.end first.server last.server (box first.inbox) (box last.inbox)) turns_is
       mails.serves)))
-      (left_is ∙ ap (λ (m : Mailman I H). m.server.host) found_is) known_is from counted
+      (left_is ∙ ap (λ (m : Mailman I H). m.server.host) found_is) front from counted
 
   pub mail_fails : fault ≡ true → HasRisen (faults inbox) (faults given)
   mail_fails fails =

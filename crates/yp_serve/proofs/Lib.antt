@@ -2,3 +2,5 @@ mod Rows
 mod Fronts
 mod Posted
 mod Covering
+mod Stemming
+mod Closing

@@ -1,5 +1,5 @@
 -- What the workers of a server counted together, and what covers it.
-use Rattle.std.specs.Prelude.{◌≡◌, ◌≢◌, ◌+◌, ◌<◌, ◌≤◌, ℕ, Bool, List, Option, IsSome}
+use Rattle.std.specs.Prelude.{◌≡◌, ◌+◌, ◌<◌, ◌≤◌, ℕ, Bool, List, Option, IsSome}
 use Rattle.std.specs.List.{All}
 use Rattle.yp_io.specs.Counts.{last_count}
 use Rattle.yp_io.specs.Disk.{History}
@@ -30,12 +30,12 @@ pub record CountsDatagrams {H T : Type 0} (conduct : Conduct H) (counting : Coun
   pub counted : counting.counted served.new ≡ count
 
 -- What all hosts counted: in each connection that the listener got back, where it tells them, and in the turns of the
--- datagrams.
+-- datagrams. What was known at the end of each is a front of this log.
 pub record CountsAll {H T : Type 0} (conduct : Conduct H) (counting : Counting H T) (terms : Terms)
     (door door' : Option Calls) (log : Log) (turns : ℕ) (fault : Bool) (before after : Box) (all : T) : Type 0 where
   pub connections : T
   pub datagrams : T
-  pub of_connections : SumsUp conduct counting terms door door' connections
+  pub of_connections : SumsUp conduct counting terms door door' connections log
   pub of_datagrams : CountsDatagrams conduct counting terms.catalogue terms.starts log turns fault before after
       datagrams
   pub all_is : all ≡ counting.plus connections datagrams

@@ -1,3 +1,4 @@
 pub mod Serving
 pub mod Posts
 pub mod Counting
+pub mod Origins

@@ -21,27 +21,27 @@ pub record Mails {I H : Type 0} (conduct : Conduct H) (box : I → Box) (faults 
   pub cause : new.fault ≡ true → HasRisen (faults old.inbox) (faults new.inbox)
 
 -- what work leaves of a post: a worker of connections has ended, and a worker of datagrams has made this of them
-abbrev pub Works : {J E H G I N : Type 0} → (Mailman I H → Mailman I H → Type 0) → Post J E H G I N → Post J E H G I N
+abbrev pub Works : {J E H G I M N : Type 0} → (Mailman I H → Mailman I H → Type 0) → Post J E H G I M N → Post J E H G I M N
     → Type 0
 Works mails (Connections old) (Connections new) = new ≡ record old { ended = old.ended + 1 }
 Works mails (Datagrams old) (Datagrams new) = mails old new
 Works mails old new = ⊥
 
 -- so they worked at each of these posts
-abbrev pub AllWork : {J E H G I N : Type 0} → (Mailman I H → Mailman I H → Type 0) → List (Post J E H G I N)
-    → List (Post J E H G I N) → Type 0
-AllWork {J} {E} {H} {G} {I} {N} mails old new = (i : ℕ) (d : Post J E H G I N) → i < length old
+abbrev pub AllWork : {J E H G I M N : Type 0} → (Mailman I H → Mailman I H → Type 0) → List (Post J E H G I M N)
+    → List (Post J E H G I M N) → Type 0
+AllWork {J} {E} {H} {G} {I} {M} {N} mails old new = (i : ℕ) (d : Post J E H G I M N) → i < length old
     → Works mails (slice_index_or old i d) (slice_index_or new i d)
 
 -- The first post is that of this worker of datagrams, and at all others workers of connections hold this.
-pub record IsManned {J E H G I N : Type 0} (mailman : Mailman I H) (held : Passed) (posts : List (Post J E H G I N))
+pub record IsManned {J E H G I M N : Type 0} (mailman : Mailman I H) (held : Passed) (posts : List (Post J E H G I M N))
     : Type 0 where
-  pub others : List (Post J E H G I N)
+  pub others : List (Post J E H G I M N)
   pub posts_are : posts ≡ Datagrams mailman ∷ others
   pub all : All (λ post. post ≡ Connections held) others
 
 -- Behind what was there came posts of workers of connections, who hold this.
-pub record IsSeated {J E H G I N : Type 0} (held : Passed) (old new : List (Post J E H G I N)) : Type 0 where
-  pub more : List (Post J E H G I N)
+pub record IsSeated {J E H G I M N : Type 0} (held : Passed) (old new : List (Post J E H G I M N)) : Type 0 where
+  pub more : List (Post J E H G I M N)
   pub posts_are : new ≡ old ++ more
   pub all : All (λ post. post ≡ Connections held) more

@@ -1,6 +1,6 @@
 //! What workers are lent, and how it comes back.
 
-ghost use Rattle.std.specs.Prelude.{◌≡◌, ℕ, ◌+◌, ◌<◌, ◌≤◌, [], ◌∷◌, ◌++◌, length, vec_len, IfOk};
+ghost use Rattle.std.specs.Prelude.{◌≡◌, ℕ, ◌+◌, ◌-◌, ◌^◌, ◌<◌, ◌≤◌, [], ◌∷◌, ◌++◌, length, vec_len, IfOk};
 ghost use Rattle.yp_board.specs.Views.{IsFront};
 ghost use Rattle.yp_serve.specs.Serving.{Leaves};
 ghost use Rattle.yp_serve.specs.Counting.{IsWell};
@@ -10,6 +10,7 @@ ghost use Rattle.yp_publish.specs.Rising.{IsStart, IsRisingLog};
 ghost use Rattle.yp_publish.specs.Grown.{AreTold};
 ghost use Rattle.yp_shared.specs.Failures.{disks_of, faults_over};
 ghost use Rattle.yp_workhost.specs.Charges.{free_of_charge};
+ghost use Rattle.yp_serve.specs.Origins.{Stems};
 
 use crate::spec::ServeRefused;
 use std::alloc::Global;
@@ -19,9 +20,9 @@ use yp_io::{Disk, NoMemory};
 use yp_publish::Publisher;
 use yp_server::Desk;
 use yp_session::Session;
-use yp_shared::{Accounts, Failures, Locked, Site};
+use yp_shared::{Accounts, Debits, Failures, Locked, Made, Site, Versions};
 use yp_turns::Room;
-use yp_workhost::{Charges, Orders, Supplies, Unread};
+use yp_workhost::{Charges, Orders, Sources, Supplies, Unread};
 
 /// What all workers share.
 #[derive(Drop)]
@@ -59,7 +60,8 @@ pub(crate) fn refuse<D: Disk, B: Show + Drop, A, T, C, L, I>(
 /// The disks of the maps and the board.
 fn disassemble<D: Disk, B: Show>(publisher: Publisher<D, B>) -> (Vec<D>, B)
     ensures board { result.1 ≡ publisher.board }
-    ensures stand { Leaves D.history publisher.catalogue (B.log publisher.board) result.0.items }
+    ensures stand { (leaves : Leaves D.history publisher.catalogue (B.log publisher.board) result.0.items)
+        × (leaves.kept ≡ publisher.maps) }
     ensures disks { result.0.items ≡ disks_of publisher.maps }
     ensures numbered { (number : ℕ) → OfMap number publisher.maps (IsNumbered D.history) }
 {
@@ -67,49 +69,110 @@ fn disassemble<D: Disk, B: Show>(publisher: Publisher<D, B>) -> (Vec<D>, B)
     publisher.into_parts()
 }
 
-/// The disks of the maps and the writer, of which the reader knows nothing that wasn't shown. What was charged is
-/// covered by the faults of the disks. From a start the log rises, where the disks tell what a crash may leave of them.
+/// The disks of the maps, the writer, of whose log this is a front, and what stands for the fetched versions that were
+/// installed. What was charged is covered by the faults of the disks, and by the built versions that were shown. From a
+/// start the log rises, where the disks tell what a crash may leave of them.
 pub(crate) fn take_apart<S: Site + Accounts, D: Disk, B: Tell>(
     mut locked: Locked<S, D, B>,
-    mut reader: B::Reader,
-    charge: &mut Share<Failures<S>>,
-) -> (Vec<D>, B)
-where
-    B::Reader: Drop,
+    front: &B::Front,
+    charge: &mut Debits<S>,
+) -> (Vec<D>, B, Share<Versions<S>>)
     ensures stand { Leaves D.history S.catalogue (B.log result.1) result.0.items }
-    ensures grown { IsFront (B.Reader.seen reader).known (B.log result.1) }
+    ensures grown { IsFront (B.kept front.now) (B.log result.1) }
     ensures covered { All (IsWell D.history D.faults) result.0.items
-        → S.disk_faults + charge.old.amount ≤ faults_over D.faults result.0.items }
+        → S.disk_faults + charge.old.failures ≤ faults_over D.faults result.0.items }
     ensures rises { IsStart S.first → AreTold D.history result.0.items → IsRisingLog (B.log result.1) }
+    ensures sourced { (made : ℕ) → made ≤ charge.old.made → IsStart S.first → AreTold D.history result.0.items
+        → Stems D.history S.built S.first S.catalogue (B.log result.1) result.0.items made result.2.amount }
 {
-    // That what it knew is a front of what was shown holds whether or not it can be told more.
-    let _ = locked.tell_to(&mut reader);
-    disassemble(locked.close(charge))
+    locked.covers(front);
+    let (publisher, versions) = locked.close(charge);
+    let (disks, board) = disassemble(publisher);
+    (disks, board, versions)
 }
 
-/// The books of what is counted under the locks, and what all workers are charged by.
-pub(crate) fn books<S: Accounts + Supplies>(
-    unread: Blank,
-    failures: Blank,
-    orders: Blank,
-) -> (
-    Book<Unread<S>>,
-    Book<Failures<S>>,
-    Book<Orders<S>>,
-    Charges<S>,
-)
-    requires unread { (unread.name ≡ S.unread) × (unread.parts ≡ S.shares) }
-    requires failures { (failures.name ≡ S.failures) × (failures.parts ≡ S.shares) }
-    requires orders { (orders.name ≡ S.orders) × (orders.parts ≡ S.shares) }
-    requires some { 0 < S.shares }
-    ensures none { (result.0.total ≡ 0) × (result.1.total ≡ 0) × (result.2.total ≡ 0) }
-    ensures charges { result.3 ≡ free_of_charge S.shares }
-{
-    let (unread, own_unread) = unread.open::<Unread<S>>();
-    let (failures, own_failures) = failures.open::<Failures<S>>();
-    let (orders, own_orders) = orders.open::<Orders<S>>();
-    let charges = Charges::new(own_unread, own_failures, own_orders);
-    (unread, failures, orders, charges)
+/// Ledgers that nothing stands for yet, of what is counted under the locks.
+#[derive(Drop)]
+pub(crate) struct Blanks {
+    pub(crate) unread: Blank,
+    pub(crate) orders: Blank,
+    pub(crate) sources: Blank,
+    pub(crate) failures: Blank,
+    pub(crate) made: Blank,
+    pub(crate) versions: Blank,
+}
+
+impl Blanks {
+    /// Ledgers in so many parts, but for one part more of fetched versions, which lies with the publisher.
+    pub(crate) fn new(parts: u64) -> Blanks
+        requires { parts < 2 ^ 64 - 1 }
+        ensures unread { result.unread.parts ≡ parts }
+        ensures orders { result.orders.parts ≡ parts }
+        ensures sources { result.sources.parts ≡ parts }
+        ensures failures { result.failures.parts ≡ parts }
+        ensures made { result.made.parts ≡ parts }
+        ensures versions { result.versions.parts ≡ parts + 1 }
+    {
+        Blanks {
+            unread: Blank::new(parts),
+            orders: Blank::new(parts),
+            sources: Blank::new(parts),
+            failures: Blank::new(parts),
+            made: Blank::new(parts),
+            versions: Blank::new(parts + 1),
+        }
+    }
+}
+
+/// The books of what is counted under the locks.
+#[derive(Drop)]
+pub(crate) struct Books<S: Accounts + Supplies> {
+    pub(crate) unread: Book<Unread<S>>,
+    pub(crate) orders: Book<Orders<S>>,
+    pub(crate) sources: Book<Sources<S>>,
+    pub(crate) fetched: Book<Versions<S>>,
+    pub(crate) failures: Book<Failures<S>>,
+    pub(crate) made: Book<Made<S>>,
+    /// What stands for fetched versions that are installed: none yet.
+    pub(crate) versions: Share<Versions<S>>,
+}
+
+impl<S: Accounts + Supplies> Books<S> {
+    /// The books of these ledgers, and what all workers are charged by.
+    pub(crate) fn open(blanks: Blanks) -> (Books<S>, Charges<S>)
+        requires unread { (blanks.unread.name ≡ S.unread) × (blanks.unread.parts ≡ S.shares) }
+        requires orders { (blanks.orders.name ≡ S.orders) × (blanks.orders.parts ≡ S.shares) }
+        requires sources { (blanks.sources.name ≡ S.sources) × (blanks.sources.parts ≡ S.shares) }
+        requires failures { (blanks.failures.name ≡ S.failures) × (blanks.failures.parts ≡ S.shares) }
+        requires made { (blanks.made.name ≡ S.made) × (blanks.made.parts ≡ S.shares) }
+        requires versions { (blanks.versions.name ≡ S.versions) × (blanks.versions.parts ≡ S.shares + 1) }
+        requires some { 0 < S.shares }
+        ensures desk { (result.0.unread.total ≡ 0) × (result.0.orders.total ≡ 0) × (result.0.sources.total ≡ 0)
+            × (result.0.fetched.total ≡ 0) }
+        ensures publisher { (result.0.failures.total ≡ 0) × (result.0.made.total ≡ 0)
+            × (result.0.versions.parts ≡ 1) }
+        ensures charges { result.1 ≡ free_of_charge S.shares }
+    {
+        let (unread, own_unread) = blanks.unread.open::<Unread<S>>();
+        let (orders, own_orders) = blanks.orders.open::<Orders<S>>();
+        let (sources, own_sources) = blanks.sources.open::<Sources<S>>();
+        let (failures, own_failures) = blanks.failures.open::<Failures<S>>();
+        let (made, own_made) = blanks.made.open::<Made<S>>();
+        let (fetched, mut own_versions) = blanks.versions.open::<Versions<S>>();
+        let versions = own_versions.split_off(1, 0);
+        let debits = Debits::new(own_failures, own_made, own_versions);
+        let charges = Charges::new(own_unread, own_orders, own_sources, debits);
+        let books = Books {
+            unread,
+            orders,
+            sources,
+            fetched,
+            failures,
+            made,
+            versions,
+        };
+        (books, charges)
+    }
 }
 
 /// What workers work with: the memory of a session and a reader for each, and what the worker of datagrams works with.

@@ -21,11 +21,10 @@ pub(crate) struct Mailbag<I, V> {
     pub(crate) room: Room,
 }
 
-/// What comes back of it, and whether the inbox has failed.
+/// The inbox that comes back of it, and whether that has failed.
 #[derive(Drop)]
-pub(crate) struct Mailed<I, V> {
+pub(crate) struct Mailed<I> {
     pub(crate) inbox: I,
-    pub(crate) reader: V,
     pub(crate) fault: bool,
 }
 

@@ -5,6 +5,7 @@ ghost use Rattle.std.specs.List.{All};
 ghost use Rattle.yp_io.specs.Counts.{HasRisen};
 ghost use Rattle.yp_session.specs.Hosts.{conduct_of};
 ghost use Rattle.yp_worker.specs.Receptions.{IsFair, IsKept, IsUnder, opening_of, terms_of};
+ghost use Rattle.yp_workhost.specs.Makings.{Builds};
 ghost use Rattle.yp_workhost.specs.Charges.{free_of_charge, no_totals, totals_of};
 ghost use Rattle.yp_turns.specs.Turns.{box_of};
 ghost use Rattle.yp_serve.specs.Serving.{at_work, conduct_at, IsAtStart};
@@ -68,6 +69,7 @@ impl<
     ) -> Worker<WorkerHost<'a, J, D, B, A, T, C, &'a R>, &'a G>
         requires most { (self.now.most ≡ J.most) × (self.now.most ≤ CALLS_MAX) }
         requires knows { IsAtStart J.catalogue J.starts (B.Reader.seen reader) }
+        requires builds { Builds J.text J.catalogue.own J.built }
         ensures under { IsUnder (conduct_at B.Reader.seen B.Reader.stepped J.text J.hosts)
             (terms_of J.catalogue J.starts J.most) result }
         ensures none { totals_of result.host ≡ no_totals }
@@ -94,6 +96,7 @@ impl<
     ) -> Seat<J, E, WorkerHost<'a, J, D, B, A, T, C, &'a R>, &'a G>
         requires most { (self.now.most ≡ J.most) × (self.now.most ≤ CALLS_MAX) }
         requires knows { IsAtStart J.catalogue J.starts (B.Reader.seen reader) }
+        requires builds { Builds J.text J.catalogue.own J.built }
         requires out { (1 < out.old.parts) × (out.old.amount ≡ 0) }
         requires ended { (1 < ended.old.parts) × (ended.old.amount ≡ 0) }
         requires charges { 1 < charges.old.parts }
@@ -124,6 +127,7 @@ impl<
         requires most { (self.now.most ≡ J.most) × (self.now.most ≤ CALLS_MAX) }
         requires readers { length readers.items ≡ length sessions.items }
         requires knows { All (λ reader. IsAtStart J.catalogue J.starts (B.Reader.seen reader)) readers.items }
+        requires builds { Builds J.text J.catalogue.own J.built }
         requires one { length posts.old.items ≡ 1 }
         requires room { length sessions.items + 1 ≤ vec_capacity posts.old }
         requires out { (out.old.parts ≡ length sessions.items + 1) × (out.old.amount ≡ 0) }
@@ -168,9 +172,10 @@ impl<
         ended: Blank,
         charges: Charges<J>,
         bag: Mailbag<I, B::Reader>,
-    ) -> (L, Tally, Mailed<I, B::Reader>, Account<J>)
+    ) -> (L, Tally, Mailed<I>, Account<J, B>)
     where
         B::Reader: Send + Drop,
+        B::Front: Send,
         L::In: Send,
         L::Out: Send,
         A::In: Send,
@@ -178,6 +183,7 @@ impl<
         requires most { (self.now.most ≡ J.most) × (self.now.most ≤ CALLS_MAX) }
         requires readers { length readers.items ≡ length sessions.items }
         requires knows { All (λ reader. IsAtStart J.catalogue J.starts (B.Reader.seen reader)) readers.items }
+        requires builds { Builds J.text J.catalogue.own J.built }
         requires none { posts.items ≡ [] }
         requires some { 0 < length sessions.items }
         requires room { length sessions.items + 1 ≤ vec_capacity posts }
@@ -194,13 +200,15 @@ impl<
             result.1.connections result.1.calls result.1.listen_fault 0 1 }
         ensures counted { CountsAll (conduct_at B.Reader.seen B.Reader.stepped J.text J.hosts) count_totals
             (terms_of J.catalogue J.starts J.most) J.opening.past (L.past result.0)
-            (B.Reader.seen result.2.reader).known bag.turns result.2.fault
-            (box_of I.past I.turns I.quiets bag.inbox) (box_of I.past I.turns I.quiets result.2.inbox) result.3 }
+            result.3.reached bag.turns result.2.fault
+            (box_of I.past I.turns I.quiets bag.inbox) (box_of I.past I.turns I.quiets result.2.inbox)
+            result.3.totals }
         ensures cause { result.2.fault ≡ true → HasRisen (I.faults bag.inbox) (I.faults result.2.inbox) }
     {
         let (book, mut share) = out.open::<J>();
         let (ends, mut mine) = ended.open::<E>();
         let mut charges = charges;
+        let front = B::known(&bag.reader);
         let host = WorkerHost::new(
             self.alloc,
             self.rt,
@@ -224,17 +232,12 @@ impl<
             E,
             WorkerHost<'a, J, D, B, A, T, C, &'a R>,
             L,
-        >::new(listen, book, ends, Account::new(charges)));
+        >::new(listen, book, ends, Account::new(charges, front)));
         let posts = run_all(self.rt, &listening, posts);
         let mut pass = Pass::new(share, mine);
         let (inbox, mut host, fault) = gather(&mut pass, posts).into_parts();
         let (listen, tally, mut account) = listening.into_inner().close(&mut pass);
         host.hand_over(&mut account);
-        let mailed = Mailed {
-            inbox,
-            reader: host.into_reader(),
-            fault,
-        };
-        (listen, tally, mailed, account)
+        (listen, tally, Mailed { inbox, fault }, account)
     }
 }

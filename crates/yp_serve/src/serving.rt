@@ -11,10 +11,12 @@ ghost use Rattle.yp_publish.specs.Grown.{AreTold};
 ghost use Rattle.yp_publish.specs.Rising.{moment_of, IsStart, IsRisingLog};
 ghost use Rattle.yp_shared.specs.Failures.{disks_of, faults_over};
 ghost use Rattle.yp_serve.specs.Serving.{conduct_at, IsAtStart, Leaves, ServesDatagrams};
-ghost use Rattle.yp_workhost.specs.Wires.{CoversOrders};
+ghost use Rattle.yp_workhost.specs.Makings.{Builds, IsBuilt};
+ghost use Rattle.yp_workhost.specs.Wires.{CoversOrders, CoversSources};
 ghost use Rattle.yp_serve.specs.Counting.{count_totals, CountsAll, FilesAreCovered};
+ghost use Rattle.yp_serve.specs.Origins.{ComesFrom};
 
-use crate::lent::{Lent, Staff, books, refuse, take_apart};
+use crate::lent::{Blanks, Books, Lent, Staff, refuse, take_apart};
 use crate::mail::Mailbag;
 use crate::seats::Workplace;
 use crate::spec::{ServeRefused, ServeSpec, Served};
@@ -55,6 +57,7 @@ where
     D: Disk + Send + Drop,
     B: Tell + Send + Drop,
     B::Reader: Send + Drop,
+    B::Front: Send,
     A: Dial + Send + Drop,
     T: Texts + Send + Drop,
     C: Clock + Send + Drop,
@@ -101,8 +104,9 @@ where
         → AreTold D.history served.disks.items → IsRisingLog (B.log served.writer)) }
     ensures desk { IfOk result (λ served. IsSupplied T.Texts (T.text desk.texts) desk.hosts served.desk) }
 
-    // What all workers counted, and that so many FILEs are covered by the faults of the texts and of the disks, and so
-    // many orders that were reached by the wires that begin with one.
+    // What all workers counted, and what covers it: FILEs by the faults of the texts and of the disks, orders that were
+    // reached by the wires that begin with one, and failed sources by the faults of the dial and the wires that give no
+    // version.
     ensures counted { IfOk result (λ served. CountsAll
         (conduct_at B.Reader.seen B.Reader.stepped (T.text desk.texts) desk.hosts) count_totals
         (terms_of publisher.catalogue (B.log publisher.board) spec.now.most) (L.past listen) (L.past served.listen)
@@ -113,6 +117,14 @@ where
         (disks_of publisher.maps) served.disks.items served.totals) }
     ensures orders { IfOk result (λ served. CoversOrders (A.past desk.dial) (A.past served.desk.dial)
         served.totals.outcomes.reached) }
+    ensures sources { IfOk result (λ served. CoversSources (A.past desk.dial) (A.past served.desk.dial)
+        (A.faults desk.dial) (A.faults served.desk.dial) served.totals.outcomes.source) }
+
+    // Where what was shown came from: so many makes were answered SUCC, and all else was fetched.
+    ensures origins { IfOk result (λ served. IsStart (moment_of B.log publisher)
+        → AreTold D.history served.disks.items → ComesFrom D.history
+        (IsBuilt (T.text desk.texts) publisher.catalogue.own) (moment_of B.log publisher) publisher.catalogue
+        (B.log served.writer) served.disks.items served.totals.made (A.past desk.dial) (A.past served.desk.dial)) }
 
     // Want of memory, before a connection was accepted or a turn was taken.
     ensures refused { IfErr result (λ refused. (refused.desk ≡ desk) × (refused.listen ≡ listen)
@@ -139,9 +151,7 @@ where
         gate,
         Blank::new(parts),
         Blank::new(parts),
-        Blank::new(parts + 2),
-        Blank::new(parts + 2),
-        Blank::new(parts + 2),
+        Blanks::new(parts + 2),
     )
 }
 
@@ -155,9 +165,7 @@ fn under_locks<J, E, D, B, A, T, C, L, I, G, R>(
     gate: &G,
     out: Blank,
     ended: Blank,
-    unread: Blank,
-    failures: Blank,
-    orders: Blank,
+    blanks: Blanks,
 ) -> Result<Served<D, B, A, T, C, L, I>, ServeRefused<D, A, T, C, L, I>>
 where
     J: Reception + Accounts + Supplies + Send + Sync,
@@ -165,6 +173,7 @@ where
     D: Disk + Send + Drop,
     B: Tell + Send + Drop,
     B::Reader: Send + Drop,
+    B::Front: Send,
     A: Dial + Send + Drop,
     T: Texts + Send + Drop,
     C: Clock + Send + Drop,
@@ -189,12 +198,16 @@ where
     requires out { (out.name ≡ J.name) × (out.parts ≡ J.parts) × (out.parts ≡ length staff.sessions.items + 1) }
     requires ended { (ended.name ≡ E.name) × (ended.parts ≡ E.parts)
         × (ended.parts ≡ length staff.sessions.items + 1) }
-    requires unread { (unread.name ≡ J.unread) × (unread.parts ≡ J.shares)
-        × (unread.parts ≡ length staff.sessions.items + 3) }
-    requires failures { (failures.name ≡ J.failures) × (failures.parts ≡ J.shares) }
-    requires orders { (orders.name ≡ J.orders) × (orders.parts ≡ J.shares) }
+    requires builds { Builds J.text J.catalogue.own J.built }
+    requires unread { (blanks.unread.name ≡ J.unread) × (blanks.unread.parts ≡ J.shares)
+        × (J.shares ≡ length staff.sessions.items + 3) }
+    requires orders { (blanks.orders.name ≡ J.orders) × (blanks.orders.parts ≡ J.shares) }
+    requires sources { (blanks.sources.name ≡ J.sources) × (blanks.sources.parts ≡ J.shares) }
+    requires failures { (blanks.failures.name ≡ J.failures) × (blanks.failures.parts ≡ J.shares) }
+    requires made { (blanks.made.name ≡ J.made) × (blanks.made.parts ≡ J.shares) }
+    requires versions { (blanks.versions.name ≡ J.versions) × (blanks.versions.parts ≡ J.shares + 1) }
     requires texts { T.faults lent.desk.texts ≡ J.text_faults }
-    requires wires { A.past lent.desk.dial ≡ J.wires }
+    requires dial { (A.past lent.desk.dial ≡ J.wires) × (A.faults lent.desk.dial ≡ J.dial_faults) }
     requires disks { faults_over D.faults (disks_of lent.publisher.maps) ≡ J.disk_faults }
     requires first { moment_of B.log lent.publisher ≡ J.first }
     ensures served { IfOk result (λ served. IsKept
@@ -222,6 +235,11 @@ where
         (disks_of lent.publisher.maps) served.disks.items served.totals) }
     ensures orders { IfOk result (λ served. CoversOrders J.wires (A.past served.desk.dial)
         served.totals.outcomes.reached) }
+    ensures sources { IfOk result (λ served. CoversSources J.wires (A.past served.desk.dial)
+        J.dial_faults (A.faults served.desk.dial) served.totals.outcomes.source) }
+    ensures origins { IfOk result (λ served. IsStart J.first → AreTold D.history served.disks.items
+        → ComesFrom D.history J.built J.first J.catalogue (B.log served.writer) served.disks.items
+        served.totals.made J.wires (A.past served.desk.dial)) }
     ensures refused { IfErr result (λ refused. (refused.desk ≡ lent.desk) × (refused.listen ≡ lent.listen)
         × (refused.inbox ≡ lent.inbox)) }
     ensures stand { IfErr result (λ refused. Leaves D.history J.catalogue J.starts refused.disks.items) }
@@ -235,9 +253,18 @@ where
         spare,
         room,
     } = staff;
-    let (unread, failures, orders, charges) = books::<J>(unread, failures, orders);
-    let publisher = Mutex::new(Locked::<J, D, B>::new(lent.publisher, failures));
-    let desk = Mutex::new(SharedDesk::new(lent.desk, unread, orders));
+    let (books, charges) = Books::<J>::open(blanks);
+    let Books {
+        unread,
+        orders,
+        sources,
+        fetched,
+        failures,
+        made,
+        versions,
+    } = books;
+    let publisher = Mutex::new(Locked::<J, D, B>::new(lent.publisher, failures, made, versions));
+    let desk = Mutex::new(SharedDesk::new(lent.desk, unread, orders, sources, fetched));
     let place = Workplace {
         alloc,
         rt,
@@ -262,10 +289,12 @@ where
         charges,
         bag,
     );
-    let (totals, charges) = account.into_parts();
-    let (mut unread, mut failures, mut reached) = charges.into_shares();
-    let desk = desk.into_inner().close(&mut unread, &mut reached);
-    let (disks, writer) = take_apart(publisher.into_inner(), mailed.reader, &mut failures);
+    let (totals, charges, front) = account.into_parts();
+    let (mut unread, mut reached, mut failed, mut debits) = charges.into_shares();
+    let (disks, writer, mut versions) = take_apart(publisher.into_inner(), &front, &mut debits);
+    let desk = desk
+        .into_inner()
+        .close(&mut unread, &mut reached, &mut failed, &mut versions);
     Ok(Served {
         disks,
         desk,

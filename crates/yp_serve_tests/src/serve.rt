@@ -142,6 +142,7 @@ const NO_MAIL: WantedMail<'static> = (0, &[], false);
 // Nothing was counted.
 const NONE: Totals = Totals {
     files: 0,
+    made: 0,
     transfers: 0,
     outcomes: Outcomes {
         no_address: 0,
@@ -152,18 +153,20 @@ const NONE: Totals = Totals {
     },
 };
 
-// Serves a case, and compares what came, where nothing is counted.
+// Serves a case, and compares what came, where nothing is counted but so many makes.
 fn assert_serves<R: Threads + Wait + RandomSource + Abort + Sync>(
     rt: &R,
     alloc: Global,
     case: &Case<'_>,
     wanted: Wanted<'_>,
     mail: WantedMail<'_>,
+    made: u64,
     row: &str,
 )
     requires { (1 ≤ case.now.workers) × (case.now.workers ≤ 8) }
 {
-    assert_counts(rt, alloc, case, wanted, mail, NONE, row);
+    let totals = Totals { made, ..NONE };
+    assert_counts(rt, alloc, case, wanted, mail, totals, row);
 }
 
 // Serves a case, and compares what came. No worker is held for too long.
@@ -206,6 +209,7 @@ fn totals_of_a_worker(rt: HostRuntime) {
     let wanted: Wanted<'_> = (2, 3, false, &[TAKEN, NOT_READ, MADE]);
     let totals = Totals {
         files: 1,
+        made: 1,
         transfers: 1,
         outcomes: Outcomes {
             no_address: 1,
@@ -235,7 +239,7 @@ fn two_workers(rt: HostRuntime) {
         post: NO_POST,
     };
     let wanted: Wanted<'_> = (2, 3, false, &[OLD, OLD, OLD]);
-    assert_serves(&rt, rt.alloc(), &case, wanted, NO_MAIL, "two workers");
+    assert_serves(&rt, rt.alloc(), &case, wanted, NO_MAIL, 0, "two workers");
 }
 
 // The first worker is held until the other one has made the map. That is held in its turn until the first worker has
@@ -265,6 +269,7 @@ fn later_connection_sees_build(rt: HostRuntime) {
         &case,
         wanted,
         NO_MAIL,
+        1,
         "a later connection",
     );
 }
@@ -290,6 +295,7 @@ fn idle_connection_sees_newer(rt: HostRuntime) {
         &case,
         wanted,
         NO_MAIL,
+        1,
         "an idle connection",
     );
 }
@@ -312,6 +318,7 @@ fn listen_fault(rt: HostRuntime) {
         &case,
         wanted,
         NO_MAIL,
+        0,
         "the first accept fails",
     );
 }
@@ -334,6 +341,7 @@ fn later_listen_fault(rt: HostRuntime) {
         &case,
         wanted,
         NO_MAIL,
+        0,
         "the second accept fails",
     );
 }
@@ -354,7 +362,7 @@ fn held_stream(rt: HostRuntime) {
         post: NO_POST,
     };
     let wanted: Wanted<'_> = (2, 4, false, &[OLD_ALL, NEW, OLD, MADE]);
-    assert_serves(&rt, rt.alloc(), &case, wanted, NO_MAIL, "a held stream");
+    assert_serves(&rt, rt.alloc(), &case, wanted, NO_MAIL, 1, "a held stream");
 }
 
 // Seven connections are held before the second write of ALL, until the eighth has been served, which begins once each
@@ -410,6 +418,7 @@ fn held_streams_of_seven(rt: HostRuntime) {
         &case,
         wanted,
         NO_MAIL,
+        1,
         "seven held streams",
     );
 }
@@ -434,7 +443,7 @@ fn datagram_beside(rt: HostRuntime) {
     };
     let wanted: Wanted<'_> = (1, 1, false, &[OLD]);
     let mail: WantedMail<'_> = (1, &[NULL_DONE], false);
-    assert_serves(&rt, rt.alloc(), &case, wanted, mail, "a datagram");
+    assert_serves(&rt, rt.alloc(), &case, wanted, mail, 0, "a datagram");
 }
 
 #[test]
@@ -456,5 +465,13 @@ fn inbox_fault(rt: HostRuntime) {
     };
     let wanted: Wanted<'_> = (1, 1, false, &[OLD]);
     let mail: WantedMail<'_> = (1, &[NULL_DONE], true);
-    assert_serves(&rt, rt.alloc(), &case, wanted, mail, "an inbox that fails");
+    assert_serves(
+        &rt,
+        rt.alloc(),
+        &case,
+        wanted,
+        mail,
+        0,
+        "an inbox that fails",
+    );
 }

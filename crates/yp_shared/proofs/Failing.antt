@@ -1,5 +1,5 @@
 -- What a failed file is covered by.
-use Rattle.std.proofs.Common.{◌≡◌, ◌≢◌, ◌⊎◌, inl, inr, ℕ, zero, suc, ◌+◌, ◌<◌, ◌≤◌, ◌==◌, List, [], ◌∷◌, length, slice_get, Bool, true, false, if◌then◌else◌, Option, None, Some, IfSome, IsSome, IsNone, IfErr, OnOk, Result, Ok, Err, refl, sym, ◌∙◌, ap, subst, arith}
+use Rattle.std.proofs.Common.{◌≡◌, ◌≢◌, inl, inr, ℕ, zero, suc, ◌+◌, ◌<◌, ◌≤◌, ◌==◌, List, [], ◌∷◌, length, slice_get, Bool, true, false, if◌then◌else◌, Option, None, Some, IfSome, IsSome, IsNone, IfErr, OnOk, Result, Ok, Err, refl, sym, ◌∙◌, ap, subst, arith}
 use Rattle.std.specs.Option.{option_or}
 use Rattle.std.proofs.lemmas.Option.{slice_get_cases, same_Some}
 use Rattle.std.proofs.lemmas.Bool.{cases_eq}
@@ -146,7 +146,7 @@ not_following_is_not_spent own offered (Some version) generation is =
       by_cases false false h = opposed_is_spent generation (generation == generation_max) refl h
 
 -- of a level map it is the refusal of the first of the other reasons
-level_refusal : {D : Type 0} (own : List ℕ) (offered : Offer) (kept : Kept D) → kept.standing ≡ Level
+pub level_refusal : {D : Type 0} (own : List ℕ) (offered : Offer) (kept : Kept D) → kept.standing ≡ Level
     → install_refusal own offered kept ≡ option_or (not_following own offered kept.version) (no_further kept.generation)
 level_refusal own offered kept level =
     ap (λ (s : MapStanding). if is_behind s then Some IsBehind else option_or (not_following own offered kept.version) (no_further kept.generation)) level

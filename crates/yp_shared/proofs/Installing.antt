@@ -1,6 +1,6 @@
 -- An install, from its steps.
 use Rattle.std.proofs.Common.{◌≡◌, ◌⊎◌, inl, inr, ℕ, ◌<◌, ◌≤◌, List, [], ◌∷◌, ◌++◌, length, slice_get, Option, None}
-use Rattle.std.proofs.Common.{IfSome, OnOk, OnErr, IfErr, Result, Ok, Err, refl, sym, ◌∙◌, ap, subst, arith}
+use Rattle.std.proofs.Common.{IfSome, OnOk, OnErr, IfErr, Result, Ok, Err, sym, ◌∙◌, ap, subst, arith}
 use Rattle.std.proofs.lemmas.List.{append-nil, append_assoc}
 use Rattle.std.proofs.lemmas.Option.{slice_get_cases}
 use Rattle.yp_version.specs.Versions.{MapVersion}
@@ -10,7 +10,7 @@ use Rattle.yp_board.specs.Views.{IsFront}
 use Rattle.yp_publish.specs.declared.install.Origin.{Origin}
 use Rattle.yp_publish.specs.declared.install.InstallFault.{InstallFault}
 use Rattle.yp_publish.specs.declared.install.InstallFault.TheVariants as fault
-use Rattle.yp_publish.specs.Standing.{Kept, Published, At, IsSameElsewhere}
+use Rattle.yp_publish.specs.Standing.{Kept, Published, At}
 use Rattle.yp_publish.specs.Keeping.{Keeping}
 use Rattle.yp_publish.specs.Installs.{Offer, Leaves, Installs, not_following}
 use Rattle.yp_publish.specs.Opens.{IsAnother, Opens}

@@ -1,18 +1,17 @@
 -- Where installs and reopens lead, and that a log rises there.
-use Rattle.std.proofs.Common.{◌≡◌, inl, inr, ℕ, suc, ◌<◌, List, [], ◌∷◌, ◌++◌, length, map, slice_get, Option, None, Some, IfSome, IsSome, option_map, false, OnOk, IfErr, Result, Ok, Err, refl, sym, ◌∙◌, ap, subst, arith}
+use Rattle.std.proofs.Common.{◌≡◌, inl, inr, ℕ, ◌<◌, List, [], ◌∷◌, ◌++◌, length, slice_get, Option, Some, IfSome, IsSome, option_map, false, OnOk, IfErr, Result, Ok, Err, refl, sym, ◌∙◌, ap, subst, arith}
 use Rattle.std.specs.List.{AllByRecursion}
 use Rattle.std.proofs.lemmas.List.{length-map}
 use Rattle.std.proofs.lemmas.Option.{slice_get_cases, slice_get-map, get_or_from_slice_get}
-use Rattle.std.proofs.lemmas.Bool.{cases_eq}
-use Rattle.yp_io.specs.Disk.{History, GoesOn}
+use Rattle.yp_io.specs.Disk.{History}
 use Rattle.yp_version.specs.Versions.{MapVersion}
 use Rattle.yp_slot.specs.declared.fault.SlotFault.{SlotFault}
 use Rattle.yp_publish.specs.declared.install.Origin.{Origin}
-use Rattle.yp_publish.specs.Standing.{MapStanding, Kept, Published, OfMap, At, IsSameElsewhere}
+use Rattle.yp_publish.specs.Standing.{Kept, Published, At, IsSameElsewhere}
 use Rattle.yp_publish.specs.Keeping.{Keeping}
 use Rattle.yp_publish.specs.Installs.{Offer, LeavesEither, GoesOnRising}
-use Rattle.yp_publish.specs.Opens.{StandsMeanwhile, Opens, IsStillBehind, StaysBehind}
-use Rattle.yp_publish.specs.Rising.{Moment, moment_of, Steps, Follow, Reopens, IsStart, IsRisingLog}
+use Rattle.yp_publish.specs.Opens.{Opens, StaysBehind}
+use Rattle.yp_publish.specs.Rising.{Moment, moment_of, Steps, Follow, IsStart, IsRisingLog}
 use Rattle.yp_publish.specs.Grown.{AreTold}
 use Rattle.yp_publish.specs.Laws.{LogRises}
 use Rattle.yp_shared.specs.declared.locked.ShareFault.{ShareFault}
@@ -20,7 +19,7 @@ use Rattle.yp_shared.specs.declared.locked.ShareFault.TheVariants.{Shut, Unfit, 
 use Rattle.yp_shared.specs.Shares.{offer_behind, OpensAndInstalls, IsNotInstalled}
 use Rattle.yp_shared.specs.Failures.{disks_of}
 use Rattle.yp_shared.specs.Moments.{Leads, MapsTell, IsLed}
-use Rattle.yp_shared.proofs.Failing.{told_before, at_map, of_map, the_map}
+use Rattle.yp_shared.proofs.Telling.{opened_then, offered_then, shut_then}
 
 -- ---- one step more
 
@@ -41,25 +40,8 @@ pub led_at_first : {D B : Type 0} (keeping : Keeping D B) (first : Moment) (publ
     → moment_of keeping.log published ≡ first → IsLed keeping first published
 led_at_first keeping first published is = λ told. record { moments = []; follow = (inr (0, inl is), tt) }
 
--- ---- disks that tell what a crash may leave
-
-module _ {D : Type 0} (history : D → Option History) (number : ℕ) (old new : List (Kept D))
-    (elsewhere : IsSameElsewhere number old new) where
-  -- they told it before one of them went on
-  tell_before : (before after : Kept D) → slice_get old number ≡ Some before → slice_get new number ≡ Some after
-      → GoesOn (history before.disk) (history after.disk) → MapsTell history new → MapsTell history old
-  tell_before before after here there goes told = λ other. elim (cases_eq other number) [
-    | inl e ↦
-        let now = of_map (λ k. IsSome (history k.disk)) number new after there (told number) in
-        subst (λ (n : ℕ). OfMap n old (λ k. IsSome (history k.disk))) (sym e)
-        (subst (λ (o : Option (Kept D)). IfSome o (λ k. IsSome (history k.disk))) (sym here)
-        (told_before (history before.disk) (history after.disk) goes now))
-    | inr ne ↦ subst (λ (o : Option (Kept D)). IfSome o (λ k. IsSome (history k.disk))) (elsewhere.others other ne)
-        (told other)
-  ]
-
 -- disks of maps that tell it
-maps_tell : {D : Type 0} (history : D → Option History) (maps : List (Kept D)) → AreTold history (disks_of maps)
+pub maps_tell : {D : Type 0} (history : D → Option History) (maps : List (Kept D)) → AreTold history (disks_of maps)
     → MapsTell history maps
 maps_tell {D} history maps told = λ number. elim (slice_get_cases maps number).1 [
   | inl here ↦
@@ -74,31 +56,6 @@ maps_tell {D} history maps told = λ number. elim (slice_get_cases maps number).
   | inr past ↦ subst (λ (o : Option (Kept D)). IfSome o (λ k. IsSome (history k.disk))) (sym past.1) tt
 ]
 
--- ---- maps that all stand as they stood
-
-standings_same : {D : Type 0} (old new : List (Kept D)) → length new ≡ length old
-    → ((other : ℕ) → At other old new (λ x y. y.standing ≡ x.standing))
-    → map (λ (k : Kept D). k.standing) new ≡ map (λ (k : Kept D). k.standing) old
-standings_same [] [] count same = refl
-standings_same [] (y ∷ new) count same = absurd (omega (arith, count))
-standings_same (x ∷ old) [] count same = absurd (omega (arith, count))
-standings_same (x ∷ old) (y ∷ new) count same =
-    rw (same 0, standings_same old new (omega (arith, count)) (λ other. same (suc other))) refl
-
-at_same : {D : Type 0} (here there : Option (Kept D)) → there ≡ here
-    → IfSome here (λ x. IfSome there (λ y. y.standing ≡ x.standing))
-at_same {D} here there e = subst (λ (o : Option (Kept D)). IfSome here (λ x. IfSome o (λ y. y.standing ≡ x.standing))) (sym e) (one here)
-  where
-    one : (o : Option (Kept D)) → IfSome o (λ x. IfSome o (λ y. y.standing ≡ x.standing))
-    one None = tt
-    one (Some kept) = refl
-
-still_stand : {D : Type 0} (history : D → Option History) (why : SlotFault) (here there : Option (Kept D))
-    → IfSome here (λ x. IfSome there (IsStillBehind history why x)) → IfSome here (λ x. IfSome there (λ y. y.standing ≡ x.standing))
-still_stand history why None there still = tt
-still_stand history why (Some x) None still = tt
-still_stand {D} history why (Some x) (Some y) still = ap (λ (k : Kept D). k.standing) still.same
-
 -- ---- the calls of a publisher
 
 module _ {D B : Type 0} (keeping : Keeping D B) (first : Moment) (number : ℕ) where
@@ -108,48 +65,19 @@ module _ {D B : Type 0} (keeping : Keeping D B) (first : Moment) (number : ℕ) 
   -- a step of one map, while the others stay
   module _ (old new : Published D B) (elsewhere : IsSameElsewhere number old.maps new.maps)
       (within : number < length old.maps) where
-    was : (kept : Kept D) × (slice_get old.maps number ≡ Some kept)
-    was = the_map old.maps number within
-
-    is : (kept : Kept D) × (slice_get new.maps number ≡ Some kept)
-    is = the_map new.maps number (let count = elsewhere.count in omega (arith, within, count))
-
-    led_then : GoesOn (keeping.history was.0.disk) (keeping.history is.0.disk)
-        → (IsSome (keeping.history was.0.disk) → Steps (now_of old) (now_of new))
-        → IsLed keeping first old → IsLed keeping first new
-    led_then goes step led = λ told.
-        let before = tell_before keeping.history number old.maps new.maps elsewhere was.0 is.0 was.1 is.1 goes told in
-        leads_on first (now_of old) (now_of new) (led before)
-        (step (of_map (λ k. IsSome (keeping.history k.disk)) number old.maps was.0 was.1 (before number)))
-
     opened : Opens keeping number old new → IsLed keeping first old → IsLed keeping first new
-    opened opens =
-        let meanwhile = at_map (StandsMeanwhile keeping.history) number old.maps new.maps was.0 is.0 was.1 is.1 opens.meanwhile in
-        led_then meanwhile.no_more.goes_on (λ told. inr (
-          number,
-          of_map (λ m. IsSome (keeping.history m.disk) → Reopens number (now_of old) (now_of new)) number old.maps was.0 was.1
-              opens.rising told,
-        ))
+    opened opens led = opened_then keeping number old new elsewhere within led opens
+        (λ reopens leads. leads_on first (now_of old) (now_of new) leads (inr (number, reopens)))
 
     offered : (offer : Offer) → offer.force ≡ false → At number old.maps new.maps (LeavesEither keeping.history offer.version)
         → GoesOnRising keeping number offer old new → IsLed keeping first old → IsLed keeping first new
-    offered offer unforced leaves rising =
-        let meanwhile = at_map (LeavesEither keeping.history offer.version) number old.maps new.maps was.0 is.0 was.1 is.1 leaves in
-        led_then meanwhile.goes_on (λ told. inl (number, offer.version, rising unforced))
+    offered offer unforced leaves rising led =
+        offered_then keeping number old new elsewhere within led offer unforced leaves rising
+        (λ installs leads. leads_on first (now_of old) (now_of new) leads (inl (number, offer.version, installs)))
 
     shut : (why : SlotFault) → StaysBehind keeping number why old new → IsLed keeping first old → IsLed keeping first new
-    shut why stays =
-        let meanwhile = at_map (StandsMeanwhile keeping.history) number old.maps new.maps was.0 is.0 was.1 is.1 stays.meanwhile in
-        let stand = standings_same old.maps new.maps elsewhere.count (λ other. elim (cases_eq other number) [
-          | inl e ↦ subst (λ (n : ℕ). At n old.maps new.maps (λ x y. y.standing ≡ x.standing)) (sym e)
-              (still_stand keeping.history why (slice_get old.maps number) (slice_get new.maps number) stays.still)
-          | inr ne ↦ at_same (slice_get old.maps other) (slice_get new.maps other) (elsewhere.others other ne)
-        ]) in
-        led_then meanwhile.no_more.goes_on (λ told. inr (
-          number,
-          inl (ap (λ (b : B). record { log = keeping.log b; standings = map (λ (k : Kept D). k.standing) new.maps }) stays.not_shown
-              ∙ ap (λ (l : List MapStanding). record { log = keeping.log old.board; standings = l }) stand),
-        ))
+    shut why stays led = shut_then keeping number old new elsewhere within led why stays
+        (λ same leads. leads_on first (now_of old) (now_of new) leads (inr (number, inl same)))
 
   module _ (version : MapVersion) (origin : Origin) (old new : Published D B) (within : number < length old.maps)
       (led : IsLed keeping first old) where

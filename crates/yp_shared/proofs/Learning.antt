@@ -1,5 +1,5 @@
 -- What a reader learns.
-use Rattle.std.proofs.Common.{◌≡◌, ◌++◌, sym, ◌∙◌, ap, subst}
+use Rattle.std.proofs.Common.{◌≡◌, sym, ◌∙◌, ap, subst}
 use Rattle.yp_board.specs.Logs.{Log}
 use Rattle.yp_board.specs.Views.{Seen, IsFront}
 use Rattle.yp_shared.specs.Shares.{Learns}

@@ -1,4 +1,6 @@
 pub mod Installing
 pub mod Learning
 mod Failing
+mod Telling
 mod Leading
+mod Sourcing

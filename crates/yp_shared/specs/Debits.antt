@@ -21,7 +21,7 @@ debit_both one other = record {
 }
 
 -- So many more files and built versions at least are charged, and so many fetched ones were given away.
-pub record Debits (failures made versions : ℕ) (old new : Debit) : Type 0 where
+pub record IsCharged (failures made versions : ℕ) (old new : Debit) : Type 0 where
   pub parts : new.parts ≡ old.parts
   pub failures_are : old.failures + failures ≤ new.failures
   pub made_are : old.made + made ≤ new.made

@@ -1,11 +1,10 @@
 -- How a version is installed under the lock of a publisher, and what a reader then knows of it.
-use Rattle.std.specs.Prelude.{◌≡◌, ℕ, false, List, Option, None, Some, ⊤}
+use Rattle.std.specs.Prelude.{◌≡◌, ℕ, false, List, None, Some, ⊤}
 use Rattle.std.specs.Option.{option_map_or}
 use Rattle.yp_version.specs.Versions.{MapVersion}
 use Rattle.yp_board.specs.Logs.{Log, shown}
 use Rattle.yp_board.specs.Views.{Seen, IsFront}
 use Rattle.yp_publish.specs.declared.install.Origin.{Origin}
-use Rattle.yp_publish.specs.declared.install.InstallFault.{InstallFault}
 use Rattle.yp_publish.specs.declared.install.InstallFault.TheVariants as fault
 use Rattle.yp_publish.specs.Standing.{Published}
 use Rattle.yp_publish.specs.Keeping.{Keeping}

@@ -1,7 +1,6 @@
 -- Where versions come from: those that were shown since a moment, and those that maps are behind then.
 use Rattle.std.specs.Prelude.{◌≡◌, ◌⊎◌, ℕ, suc, ◌+◌, ◌≤◌, List, [], ◌∷◌, ◌++◌, Option, None, false, ⊤}
 use Rattle.std.specs.Option.{option_map_or}
-use Rattle.yp_io.specs.Disk.{History}
 use Rattle.yp_version.specs.Versions.{MapVersion}
 use Rattle.yp_board.specs.Logs.{Log, shown}
 use Rattle.yp_publish.specs.declared.install.Origin.{Origin}

@@ -87,7 +87,7 @@ impl<S: Accounts> Debits<S> {
     /// A version was fetched, and is told to the book of those.
     pub fn fetched(&mut self, book: &mut Book<Versions<S>>)
         ensures total { book.new.total ≡ book.old.total + 1 }
-        ensures { self.new ≡ record self.old { versions = self.old.versions + 1 } }
+        ensures versions { self.new ≡ record self.old { versions = self.old.versions + 1 } }
     {
         book.add(&mut self.versions, 1);
     }

@@ -13,7 +13,7 @@ ghost use Rattle.yp_publish.specs.Grown.{AreTold};
 ghost use Rattle.yp_shared.specs.Shares.{offer_behind, OpensAndInstalls, IsNotInstalled, IsRefused, IsShownBehind};
 ghost use Rattle.yp_shared.specs.Shares.{IsReason, Learns};
 ghost use Rattle.yp_shared.specs.Failures.{failures_in, failures_of, made_by, faults_over, disks_of, Covers};
-ghost use Rattle.yp_shared.specs.Debits.{Debits};
+ghost use Rattle.yp_shared.specs.Debits.{IsCharged};
 ghost use Rattle.yp_shared.specs.Sources.{IsBuiltThere, fetched_in, IsSourced};
 
 use crate::debits::Debits;
@@ -114,16 +114,19 @@ impl<S: Accounts> Ledger for Made<S> {
     ghost parts = { S.shares };
 }
 
-/// The ledger of the versions that were fetched for a site. Its book isn't here.
+/// The ledger of the versions that were fetched for a site. Its book isn't here. One part more than of the others lies
+/// with the publisher.
 #[derive(Drop)]
 pub struct Versions<S: Accounts> {
     of: PhantomData<S>,
 }
 
 impl<S: Accounts> Ledger for Versions<S> {
+    ghost use Rattle.std.specs.Prelude.{◌+◌};
+
     ghost name = { S.versions };
 
-    ghost parts = { S.shares };
+    ghost parts = { S.shares + 1 };
 }
 
 /// Why a version wasn't installed, or why the reader doesn't know it.
@@ -137,9 +140,9 @@ pub enum ShareFault {
     Untold,
 }
 
-/// A publisher of the maps that are served, for a lock to keep, with the books of the files that failed and of the built
-/// versions that were shown since it is shared, and with what stands for the fetched versions that were installed. It is
-/// seen as that publisher.
+/// A publisher of the maps that are served, for a lock to keep, with the books of the files that failed and of the
+/// built versions that were shown since it is shared, and with what stands for the fetched versions that were installed.
+/// It is seen as that publisher.
 #[derive(Drop)]
 pub struct Locked<S: Site + Accounts, D: Disk, B: Show> {
     publisher: Publisher<D, B>,
@@ -246,14 +249,17 @@ impl<S: Site + Accounts, D: Disk, B: Show> Locked<S, D, B> {
         ensures grown { IsFront (B.log self.old.board) (B.log self.new.board) }
 
         // What it is charged with.
-        ensures charged { Debits (failures_of result) (made_by origin result) (fetched_in origin)
+        ensures charged { IsCharged (failures_of result) (made_by origin result) (fetched_in origin)
             charge.old charge.new }
     {
         let _catalog = self.publisher.catalog();
         let installed = open_and_offer(alloc, rt, &mut self.publisher, map, version, origin);
-        self.failures.add(&mut charge.failures, failures_of(&installed));
+        self.failures
+            .add(&mut charge.failures, failures_of(&installed));
         self.made.add(&mut charge.made, made_by(origin, &installed));
-        charge.versions.transfer(&mut self.versions, fetched_in(origin));
+        charge
+            .versions
+            .transfer(&mut self.versions, fetched_in(origin));
         installed
     }
 }
@@ -298,7 +304,7 @@ impl<S: Site + Accounts, D: Disk, B: Tell> Locked<S, D, B> {
         ensures reason { IfErr result (λ fault. IsReason S.catalogue.own map version origin fault
             (B.Reader.seen reader.new).known) }
         ensures learned { Learns (B.Reader.seen reader.old) (B.Reader.seen reader.new) }
-        ensures charged { Debits (failures_of result) (made_by origin result) (fetched_in origin)
+        ensures charged { IsCharged (failures_of result) (made_by origin result) (fetched_in origin)
             charge.old charge.new }
     {
         // It needn't know what was shown before, but that this begins with all that it knows.

@@ -3,7 +3,7 @@
 ghost use Rattle.std.specs.Prelude.{◌≡◌, ◌+◌, ◌<◌, ◌≤◌, length, OnOk, OnErr, IfErr};
 ghost use Rattle.yp_shared.specs.Shares.{IsShownBehind, IsReason, Learns};
 ghost use Rattle.yp_shared.specs.Failures.{failures_of, made_by};
-ghost use Rattle.yp_shared.specs.Debits.{Debits};
+ghost use Rattle.yp_shared.specs.Debits.{IsCharged};
 ghost use Rattle.yp_shared.specs.Sources.{IsBuiltThere, fetched_in};
 
 use crate::debits::Debits;
@@ -40,7 +40,7 @@ pub fn install_shared<S: Site + Accounts, D: Disk, B: Tell, R: RandomSource + Wa
     ensures reason { IfErr result (λ fault. IsReason S.catalogue.own map version origin fault
         (B.Reader.seen reader.new).known) }
     ensures learned { Learns (B.Reader.seen reader.old) (B.Reader.seen reader.new) }
-    ensures charged { Debits (failures_of result) (made_by origin result) (fetched_in origin)
+    ensures charged { IsCharged (failures_of result) (made_by origin result) (fetched_in origin)
         charge.old charge.new }
 {
     let mut locked = shared.lock(rt);

@@ -1,48 +1,58 @@
 //! Installs and tellings under one lock, in one thread.
 
-ghost use Rattle.std.specs.Prelude.{◌≡◌, ◌<◌, length};
+ghost use Rattle.std.specs.Prelude.{◌≡◌, ◌<◌, ◌≤◌, length, Option};
 ghost use Rattle.yp_io.specs.MemDisk.{Platter};
+ghost use Rattle.yp_version.specs.Versions.{MapVersion};
 ghost use Rattle.yp_publish.specs.Rising.{moment_of};
 ghost use Rattle.yp_readers.specs.Boards.{Written};
 ghost use Rattle.yp_shared.specs.Failures.{disks_of, faults_over};
+ghost use Rattle.yp_shared.specs.Sources.{fetched_in};
 
 use crate::given::*;
 use std::alloc::Global;
 use std::marker::Brand;
 use std::process::Abort;
 use std::random::RandomSource;
-use std::sync::ledger::{Blank, Share};
+use std::sync::ledger::{Blank, Book};
 use std::sync::{Mutex, Wait};
+use yp_board::Tell;
 use yp_io::MemDisk;
 use yp_publish::{InstallFault, Origin};
 use yp_readers::{Naming, Opened, Reader, Writer};
-use yp_shared::{Accounts, Failures, Locked, ShareFault, Site, install_shared, tell_shared};
+use yp_shared::{
+    Accounts, Debits, Failures, Locked, Made, ShareFault, Site, Versions, install_shared,
+    tell_shared,
+};
 
-// The maps under their lock.
-type Shared<'r, S, J, R> = Mutex<Locked<S, MemDisk, Writer<J, &'r R>>>;
+// The maps, and where they are under their lock.
+type Kept<'r, S, J, R> = Locked<S, MemDisk, Writer<J, &'r R>>;
+
+type Shared<'r, S, J, R> = Mutex<Kept<'r, S, J, R>>;
 
 // What came of an install.
 #[derive(Clone, Copy, Debug, PartialEq, Eq)]
 enum Outcome {
     Installed,
     Age { shown: u32, offered: u32 },
+    Refused,
     DiskFault,
     Shut,
     Other,
 }
 
-// The order of a version that was built, what came of its install, and the order that the caller's reader then holds.
-type Row = (u32, Outcome, Option<u32>);
+// Where a version comes from, its order, what came of its install, and the order that the caller's reader then holds.
+type Row = (Origin, u32, Outcome, Option<u32>);
 
-const FIRST: Row = (100, Outcome::Installed, Some(100));
+const FIRST: Row = (Origin::Built, 100, Outcome::Installed, Some(100));
 
-const SECOND: Row = (101, Outcome::Installed, Some(101));
+const SECOND: Row = (Origin::Built, 101, Outcome::Installed, Some(101));
 
 #[test]
 fn installs_known_and_refused(rt: HostRuntime) {
     let rows = [
         FIRST,
         (
+            Origin::Built,
             100,
             Outcome::Age {
                 shown: 100,
@@ -51,6 +61,7 @@ fn installs_known_and_refused(rt: HostRuntime) {
             Some(100),
         ),
         (
+            Origin::Built,
             99,
             Outcome::Age {
                 shown: 100,
@@ -69,11 +80,23 @@ fn failing_disk(rt: HostRuntime) {
     let rows = [
         FIRST,
         SECOND,
-        (102, Outcome::DiskFault, Some(101)),
-        (103, Outcome::Shut, Some(101)),
-        (104, Outcome::Installed, Some(104)),
+        (Origin::Built, 102, Outcome::DiskFault, Some(101)),
+        (Origin::Built, 103, Outcome::Shut, Some(101)),
+        (Origin::Built, 104, Outcome::Installed, Some(104)),
     ];
     played::<Brand, _>(&rt, rt.alloc(), Opened::new(), &[16, 17], &rows);
+}
+
+#[test]
+fn fetched_and_built(rt: HostRuntime) {
+    // Where nothing is shown, a version goes in wherever it comes from. Its master is this host, so that behind it only
+    // built ones do.
+    let rows = [
+        (Origin::Fetched, 100, Outcome::Installed, Some(100)),
+        (Origin::Fetched, 101, Outcome::Refused, Some(100)),
+        SECOND,
+    ];
+    played::<Brand, _>(&rt, rt.alloc(), Opened::new(), &[], &rows);
 }
 
 #[test]
@@ -101,28 +124,65 @@ fn played<J: Naming, R: Wait + RandomSource + Abort>(
     let disk = disk(rt, alloc, failing);
     let (maps, mut readers) = publisher_of::<J, R>(rt, alloc, opened, disk, 1);
     let mut reader = one_of(rt, &mut readers);
-    play_all::<J, Brand, R>(rt, alloc, maps, Blank::new(1), &mut reader, rows);
+    let (failures, made, versions) = (Blank::new(3), Blank::new(3), Blank::new(3));
+    play_all::<J, Brand, R>(rt, alloc, maps, failures, made, versions, &mut reader, rows);
 }
 
-// Makes these installs in turn.
+// Makes these installs in turn, each as whatever it is offered as.
 fn play_all<'r, J: Naming, S: Site + Accounts, R: Wait + RandomSource + Abort>(
     rt: &'r R,
     alloc: Global,
     maps: Maps<'r, J, R>,
     failures: Blank,
+    made: Blank,
+    versions: Blank,
     reader: &mut Reader<J>,
     rows: &[Row],
 )
     requires site { maps.catalogue ≡ S.catalogue }
     requires some { 0 < length S.catalogue.maps }
+    requires any { (last : Option MapVersion) → (version : MapVersion) → S.built last version }
     requires first { moment_of (λ (w : Written). w.log) maps ≡ S.first }
     requires disks { faults_over (λ (p : Platter). p.faults) (disks_of maps.maps) ≡ S.disk_faults }
-    requires ledger { (failures.name ≡ S.failures) × (failures.parts ≡ S.shares) × (0 < failures.parts) }
+    requires names { (failures.name ≡ S.failures) × (made.name ≡ S.made) × (versions.name ≡ S.versions) }
+    requires parts { (failures.parts ≡ S.shares) × (made.parts ≡ S.shares) × (versions.parts ≡ S.shares) }
+    requires three { S.shares ≡ 3 }
 {
-    let (book, mut charge) = failures.open::<Failures<S>>();
-    let shared = Mutex::new(Locked::<S, _, _>::new(maps, book));
-    play(rt, alloc, &shared, reader, &mut charge, rows);
-    let _ = shared.into_inner().close(&mut charge);
+    let (locked, mut charge, mut fetches) = open_all::<J, S, R>(maps, failures, made, versions);
+    let shared = Mutex::new(locked);
+    let mut mine = charge.split_off();
+    play(rt, alloc, &shared, reader, &mut mine, &mut fetches, rows);
+    charge.merge(mine);
+    let known = Writer::<J, &'r R>::known(reader);
+    let mut locked = shared.into_inner();
+    locked.covers(&known);
+    let _ = locked.close(&mut charge);
+}
+
+// The maps with what is counted of them, two parts of what a caller is charged with, and the book of fetched versions.
+fn open_all<'r, J: Naming, S: Site + Accounts, R: Wait + RandomSource + Abort>(
+    maps: Maps<'r, J, R>,
+    failures: Blank,
+    made: Blank,
+    versions: Blank,
+) -> (Kept<'r, S, J, R>, Debits<S>, Book<Versions<S>>)
+    requires site { maps.catalogue ≡ S.catalogue }
+    requires first { moment_of (λ (w : Written). w.log) maps ≡ S.first }
+    requires disks { faults_over (λ (p : Platter). p.faults) (disks_of maps.maps) ≡ S.disk_faults }
+    requires names { (failures.name ≡ S.failures) × (made.name ≡ S.made) × (versions.name ≡ S.versions) }
+    requires parts { (failures.parts ≡ S.shares) × (made.parts ≡ S.shares) × (versions.parts ≡ S.shares) }
+    requires three { S.shares ≡ 3 }
+    ensures { result.1.parts ≡ 2 }
+{
+    let (failed, mut failures) = failures.open::<Failures<S>>();
+    let (shown, mut made) = made.open::<Made<S>>();
+    let (fetches, mut versions) = versions.open::<Versions<S>>();
+    // One part of the last stays under the lock, so one of each other isn't used.
+    let kept = versions.split_off(1, 0);
+    let _ = failures.split_off(1, 0);
+    let _ = made.split_off(1, 0);
+    let locked = Locked::new(maps, failed, shown, kept);
+    (locked, Debits::new(failures, made, versions), fetches)
 }
 
 fn play<'r, J: Naming, S: Site + Accounts, R: Wait + RandomSource + Abort>(
@@ -130,15 +190,27 @@ fn play<'r, J: Naming, S: Site + Accounts, R: Wait + RandomSource + Abort>(
     alloc: Global,
     shared: &Shared<'r, S, J, R>,
     reader: &mut Reader<J>,
-    charge: &mut Share<Failures<S>>,
+    charge: &mut Debits<S>,
+    fetches: &mut Book<Versions<S>>,
     rows: &[Row],
 )
     requires maps { 0 < length S.catalogue.maps }
-    requires charge { 0 < charge.old.parts }
+    requires any { (last : Option MapVersion) → (version : MapVersion) → S.built last version }
 {
-    for (order, outcome, after) in rows {
-        let came = offered(rt, alloc, shared, reader, charge, *order);
+    for (origin, order, outcome, after) in rows {
+        fetch(*origin, charge, fetches);
+        let came = offered(rt, alloc, shared, reader, charge, *origin, *order);
         assert_same(rt, &came, &(*outcome, *after), "an install");
+    }
+}
+
+// Tells the book of a version that is fetched.
+fn fetch<S: Accounts>(origin: Origin, charge: &mut Debits<S>, fetches: &mut Book<Versions<S>>)
+    ensures { fetched_in origin ≤ charge.new.versions }
+{
+    match origin {
+        Origin::Built => {}
+        Origin::Fetched => charge.fetched(fetches),
     }
 }
 
@@ -148,15 +220,16 @@ fn offered<'r, J: Naming, S: Site + Accounts, R: Wait + RandomSource + Abort>(
     alloc: Global,
     shared: &Shared<'r, S, J, R>,
     reader: &mut Reader<J>,
-    charge: &mut Share<Failures<S>>,
+    charge: &mut Debits<S>,
+    origin: Origin,
     order: u32,
 ) -> (Outcome, Option<u32>)
     requires maps { 0 < length S.catalogue.maps }
-    requires charge { 0 < charge.old.parts }
-    ensures { charge.new.parts ≡ charge.old.parts }
+    requires any { (last : Option MapVersion) → (version : MapVersion) → S.built last version }
+    requires fetched { fetched_in origin ≤ charge.old.versions }
 {
     let version = version(rt, alloc, order);
-    let result = install_shared(alloc, rt, shared, reader, 0, version, Origin::Built, charge);
+    let result = install_shared(alloc, rt, shared, reader, 0, version, origin, charge);
     (outcome_of(&result), held(reader))
 }
 
@@ -167,6 +240,7 @@ fn outcome_of(installed: &Result<(), ShareFault>) -> Outcome {
             shown: *shown,
             offered: *offered,
         },
+        Err(ShareFault::Unfit(InstallFault::Refused { .. })) => Outcome::Refused,
         Err(ShareFault::Unfit(InstallFault::DiskFault)) => Outcome::DiskFault,
         Err(ShareFault::Shut(_)) => Outcome::Shut,
         Err(_) => Outcome::Other,
@@ -185,7 +259,17 @@ fn told<J: Naming, R: Wait + RandomSource + Abort>(
     let (maps, mut readers) = publisher_of::<J, R>(rt, alloc, opened, disk, 2);
     let mut first = one_of(rt, &mut readers);
     let mut second = one_of(rt, &mut readers);
-    tell_second::<J, Brand, R>(rt, alloc, maps, Blank::new(1), &mut first, &mut second)
+    let (failures, made, versions) = (Blank::new(3), Blank::new(3), Blank::new(3));
+    tell_second::<J, Brand, R>(
+        rt,
+        alloc,
+        maps,
+        failures,
+        made,
+        versions,
+        &mut first,
+        &mut second,
+    )
 }
 
 fn tell_second<'r, J: Naming, S: Site + Accounts, R: Wait + RandomSource + Abort>(
@@ -193,17 +277,22 @@ fn tell_second<'r, J: Naming, S: Site + Accounts, R: Wait + RandomSource + Abort
     alloc: Global,
     maps: Maps<'r, J, R>,
     failures: Blank,
+    made: Blank,
+    versions: Blank,
     first: &mut Reader<J>,
     second: &mut Reader<J>,
 ) -> (Option<u32>, Option<u32>)
     requires site { maps.catalogue ≡ S.catalogue }
     requires some { 0 < length S.catalogue.maps }
+    requires any { (last : Option MapVersion) → (version : MapVersion) → S.built last version }
     requires first { moment_of (λ (w : Written). w.log) maps ≡ S.first }
     requires disks { faults_over (λ (p : Platter). p.faults) (disks_of maps.maps) ≡ S.disk_faults }
-    requires ledger { (failures.name ≡ S.failures) × (failures.parts ≡ S.shares) × (0 < failures.parts) }
+    requires names { (failures.name ≡ S.failures) × (made.name ≡ S.made) × (versions.name ≡ S.versions) }
+    requires parts { (failures.parts ≡ S.shares) × (made.parts ≡ S.shares) × (versions.parts ≡ S.shares) }
+    requires three { S.shares ≡ 3 }
 {
-    let (book, mut charge) = failures.open::<Failures<S>>();
-    let shared = Mutex::new(Locked::<S, _, _>::new(maps, book));
+    let (locked, mut charge, _fetches) = open_all::<J, S, R>(maps, failures, made, versions);
+    let shared = Mutex::new(locked);
     told_under(rt, alloc, &shared, first, second, &mut charge)
 }
 
@@ -213,12 +302,12 @@ fn told_under<'r, J: Naming, S: Site + Accounts, R: Wait + RandomSource + Abort>
     shared: &Shared<'r, S, J, R>,
     first: &mut Reader<J>,
     second: &mut Reader<J>,
-    charge: &mut Share<Failures<S>>,
+    charge: &mut Debits<S>,
 ) -> (Option<u32>, Option<u32>)
     requires maps { 0 < length S.catalogue.maps }
-    requires charge { 0 < charge.old.parts }
+    requires any { (last : Option MapVersion) → (version : MapVersion) → S.built last version }
 {
-    offered(rt, alloc, shared, first, charge, 100);
+    offered(rt, alloc, shared, first, charge, Origin::Built, 100);
     let before = held(second);
     match tell_shared(rt, shared, second) {
         Ok(()) => (before, held(second)),

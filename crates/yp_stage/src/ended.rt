@@ -1,15 +1,17 @@
 //! What comes of a run, and what a row wants of it.
 
 use crate::outside::{Memory, bytes_of};
-use crate::row::{Datagram, Row, Stands};
+use crate::row::{Datagram, Row, Stands, Words};
 use std::alloc::{AllocError, Global};
 use std::random::RandomSource;
 use yp_io::{Letter, MemDial, MemDisk, Peer};
+use yp_listen::MemListen;
 use yp_slot::Slot;
 use yp_tools::{NamedDisk, Status};
 
 /// What came of a run: the status, the output and the note; the letters and the turns of the inbox; the letters and the
-/// wires of the dial, and how many bytes the first wire took; and what the first file stands for, and its bytes.
+/// wires of the dial, and how many bytes the first wire took; what each connection had taken that went back; and what
+/// the first file stands for, and its bytes.
 #[derive(Debug, PartialEq, Eq, Drop)]
 pub struct Ended {
     pub code: u8,
@@ -20,6 +22,7 @@ pub struct Ended {
     pub posted: Vec<(Peer, Vec<u8>)>,
     pub wires: usize,
     pub asked: usize,
+    pub taken: Vec<Vec<u8>>,
     pub stands: Stands,
     pub file: Vec<u8>,
 }
@@ -48,6 +51,26 @@ fn asked_of(dial: &MemDial, row: &Row) -> usize {
         [wire, ..] if row.asked > 0 => wire.sink.taken().len(),
         _ => 0,
     }
+}
+
+/// What each connection had taken that went back.
+fn taken_of(alloc: Global, listen: &MemListen) -> Result<Vec<Vec<u8>>, AllocError> {
+    let mut all = Vec::new(alloc);
+    for call in listen.past() {
+        let bytes = Vec::from_slice(alloc, call.wire.sink.taken())?;
+        all.push(bytes)?;
+    }
+    Ok(all)
+}
+
+/// What each is to have taken.
+fn takes_of(alloc: Global, takes: &[Words]) -> Result<Vec<Vec<u8>>, AllocError> {
+    let mut all = Vec::new(alloc);
+    for words in takes {
+        let bytes = bytes_of(alloc, *words)?;
+        all.push(bytes)?;
+    }
+    Ok(all)
 }
 
 /// The bytes of the first file.
@@ -84,6 +107,7 @@ pub fn ended_of(
     let note = Vec::from_slice(alloc, outside.notes.taken())?;
     let sent = letters_of(alloc, outside.inbox.letters())?;
     let posted = letters_of(alloc, outside.dial.letters())?;
+    let taken = taken_of(alloc, &outside.listen)?;
     Ok(Ended {
         code: status.code(),
         output,
@@ -93,6 +117,7 @@ pub fn ended_of(
         posted,
         wires: outside.dial.came().len(),
         asked: asked_of(&outside.dial, row),
+        taken,
         stands,
         file,
     })
@@ -113,6 +138,7 @@ pub fn wanted_of(alloc: Global, row: &Row, output: &[u8]) -> Result<Ended, Alloc
     let note = Vec::from_slice(alloc, row.note.as_bytes())?;
     let sent = datagrams_of(alloc, row.sends)?;
     let posted = datagrams_of(alloc, row.posts)?;
+    let taken = takes_of(alloc, row.takes)?;
     Ok(Ended {
         code: row.code,
         output,
@@ -122,6 +148,7 @@ pub fn wanted_of(alloc: Global, row: &Row, output: &[u8]) -> Result<Ended, Alloc
         posted,
         wires: row.wires,
         asked: row.asked,
+        taken,
         stands: row.stands,
         file,
     })

@@ -2,7 +2,7 @@
 
 ghost use Rattle.std.specs.Prelude.{◌≡◌, All, IfOk};
 ghost use Rattle.yp_io.specs.MemDial.{IsNew};
-ghost use Rattle.yp_listen.specs.MemListen.{calls_of};
+ghost use Rattle.yp_listen.specs.MemListen.{IsNew as IsNewCall, calls_of};
 ghost use Rattle.yp_worker.specs.Receptions.{IsFair};
 ghost use Rattle.yp_words.specs.Words.{disk_names, texts};
 ghost use Rattle.yp_office.specs.Disks.{names_of};
@@ -11,9 +11,10 @@ use crate::row::{Datagram, NEVER, Row};
 use std::alloc::{AllocError, Global};
 use yp_board::MapName;
 use yp_io::{
-    Letter, MemDial, MemDisk, MemSink, MemSource, MemTexts, MemWire, Pair, SetClock, TextFile,
+    Letter, MemDial, MemDisk, MemSink, MemSource, MemTexts, MemWire, OWN_HOST, Pair, Peer,
+    SetClock, TextFile,
 };
-use yp_listen::MemListen;
+use yp_listen::{Called, MemCall, MemListen};
 use yp_mem::MemInbox;
 use yp_tools::{NamedDisk, Outside, disk_names, named_disks};
 
@@ -144,11 +145,42 @@ fn texts_of(alloc: Global, row: &Row) -> Result<MemTexts, AllocError> {
     Ok(MemTexts::new(texts, failing))
 }
 
-/// A listener that nobody calls.
-fn nobody(alloc: Global) -> MemListen
-    ensures { IsFair (calls_of result) }
+/// Who calls by connections.
+const CALLER: Peer = Peer {
+    addr: OWN_HOST,
+    port: 40_000,
+};
+
+/// A connection that sends these words, and the read, and the write or flush, of it that fail.
+fn call_of(
+    alloc: Global,
+    words: &[&str],
+    piece: usize,
+    reads: u64,
+    writes: u64,
+) -> Result<MemCall, AllocError>
+    ensures { IfOk result IsNewCall }
 {
-    MemListen::new(alloc, Vec::new(alloc), 0, Vec::new(alloc))
+    let input = bytes_of(alloc, words)?;
+    Ok(Called {
+        peer: CALLER,
+        wire: wire_of(alloc, &input, piece, reads, writes)?,
+    })
+}
+
+/// The listener. The first connection alone has calls that fail.
+fn listener_of(alloc: Global, row: &Row) -> Result<MemListen, AllocError>
+    ensures { IfOk result (λ listen. IsFair (calls_of listen)) }
+{
+    let failing = plan(alloc, row.accepts)?;
+    let (mut reads, mut writes) = (row.call_reads, row.call_writes);
+    let mut calls = Vec::new(alloc);
+    for words in row.calls {
+        let call = call_of(alloc, *words, row.piece, reads, writes)?;
+        calls.push(call)?;
+        (reads, writes) = (NEVER, NEVER);
+    }
+    Ok(MemListen::new(alloc, calls, row.most, failing))
 }
 
 /// The outside of a row, with this input, this file of the map, and a first wire that gives these bytes.
@@ -169,6 +201,7 @@ pub fn memory_of(
     let texts = texts_of(alloc, row)?;
     let inbox = inbox_of(alloc, row)?;
     let dial = dial_of(alloc, row, wire)?;
+    let listen = listener_of(alloc, row)?;
     let disks = disks_of(alloc, words, row, file)?;
     Ok(Outside {
         input,
@@ -176,7 +209,7 @@ pub fn memory_of(
         notes,
         disks,
         clock: SetClock { moment: row.moment },
-        listen: nobody(alloc),
+        listen,
         dial,
         inbox,
         texts,

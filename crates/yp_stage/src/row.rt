@@ -45,8 +45,8 @@ pub struct Row {
     /// The words of a server. Where there are none, the first wire gives the bytes of `wire`, and else what the program
     /// sends by these words for the calls in `wire`.
     pub server: &'static [&'static str],
-    /// What the first wire gives, the most bytes of a read or a write of it, and the read, and the write or flush, that
-    /// fail; and what the second gives.
+    /// What the first wire gives, and what the second does; the most bytes of a read or a write of each wire, and of
+    /// each connection that calls; and the read, and the write or flush, of the first wire that fail.
     pub wire: Words,
     pub piece: usize,
     pub wire_reads: u64,
@@ -57,6 +57,13 @@ pub struct Row {
     /// What the turns bring, and the call of the inbox that fails: a turn or a letter.
     pub brings: &'static [Datagram],
     pub inbox: u64,
+    /// What each connection sends that calls, in turn, how many of them are to be accepted, and the accept that fails;
+    /// and the read, and the write or flush, of the first one that fail.
+    pub calls: &'static [Words],
+    pub most: u32,
+    pub accepts: u64,
+    pub call_reads: u64,
+    pub call_writes: u64,
     /// The text of hosts, and the read of a text that fails.
     pub hosts: &'static str,
     pub texts: u64,
@@ -75,6 +82,8 @@ pub struct Row {
     pub posts: &'static [Datagram],
     pub wires: usize,
     pub asked: usize,
+    /// What each connection has taken that went back.
+    pub takes: &'static [Words],
     /// What the first file stands for then; and its bytes, where it may not be torn.
     pub stands: Stands,
     pub left: Words,
@@ -107,6 +116,11 @@ pub const FAIR: Row = Row {
     dials: NEVER,
     brings: &[],
     inbox: NEVER,
+    calls: &[],
+    most: 0,
+    accepts: NEVER,
+    call_reads: NEVER,
+    call_writes: NEVER,
     hosts: "",
     texts: NEVER,
     code: 0,
@@ -119,6 +133,7 @@ pub const FAIR: Row = Row {
     posts: &[],
     wires: 0,
     asked: 0,
+    takes: &[],
     stands: None,
     left: &[],
     torn: false,

@@ -46,7 +46,7 @@ fn joined(alloc: Global, words: &[&str], text: &str) -> Result<Vec<u8>, AllocErr
 /// A crash may keep each of the last three writes, or drop it.
 const CRASHES: u64 = 8;
 
-/// The files that a crash may leave of the first disk.
+/// The files that a crash may leave of the first disk, each once.
 fn images_of(alloc: Global, disks: &[NamedDisk<MemDisk>]) -> Result<Vec<Vec<u8>>, AllocError> {
     let mut images = Vec::new(alloc);
     let Some((first, _)) = disks.split_first() else {
@@ -56,7 +56,9 @@ fn images_of(alloc: Global, disks: &[NamedDisk<MemDisk>]) -> Result<Vec<Vec<u8>>
         let Ok(image) = first.disk.crashed(kept) else {
             return Err(AllocError);
         };
-        images.push(image)?;
+        if !images.contains(&image) {
+            images.push(image)?;
+        }
     }
     Ok(images)
 }
@@ -249,36 +251,38 @@ pub fn try_disk<R: Threads + Wait + RandomSource + Sync>(
     try_stops(alloc, rt, calls)
 }
 
-/// Runs a row for each of the first reads of its wire, which fails.
+/// Runs a row for each of the first reads of its wire, which fails, with rows for behind a crash.
 pub fn try_reads<R: Threads + Wait + RandomSource + Sync>(
     alloc: Global,
     rt: &R,
     row: &Row,
     count: u64,
+    after: &[After],
 ) -> Result<(), Wrong> {
     for call in 0..count {
         let row = Row {
             wire_reads: call,
             ..*row
         };
-        try_row(alloc, rt, &row)?;
+        try_crash(alloc, rt, &row, after)?;
     }
     Ok(())
 }
 
-/// Runs a row for each of the first writes and flushes of its wire, which fails.
+/// Runs a row for each of the first writes and flushes of its wire, which fails, with rows for behind a crash.
 pub fn try_writes<R: Threads + Wait + RandomSource + Sync>(
     alloc: Global,
     rt: &R,
     row: &Row,
     count: u64,
+    after: &[After],
 ) -> Result<(), Wrong> {
     for call in 0..count {
         let row = Row {
             wire_writes: call,
             ..*row
         };
-        try_row(alloc, rt, &row)?;
+        try_crash(alloc, rt, &row, after)?;
     }
     Ok(())
 }

@@ -90,13 +90,15 @@ static IN_PIECES: Row = Row {
     ..UNFETCHED
 };
 
+static AGAIN: [After; 1] = [FETCHES_ANEW];
+
 /// A read or a write takes 48 bytes at most, so each of four calls of 68 bytes takes two writes and a flush, and each
 /// of four replies a read of the head, and one of the body, or two.
 #[test]
 fn each_wire_call_fails(rt: HostRuntime) {
     let alloc = rt.alloc();
-    try_reads(alloc, &rt, &IN_PIECES, 9).expect(&rt, "a read");
-    try_writes(alloc, &rt, &IN_PIECES, 12).expect(&rt, "a write");
+    try_reads(alloc, &rt, &IN_PIECES, 9, &AGAIN).expect(&rt, "a read");
+    try_writes(alloc, &rt, &IN_PIECES, 12, &AGAIN).expect(&rt, "a write");
 }
 
 const NOT_LOADED: Row = Row {

@@ -161,14 +161,14 @@ fn try_wire<R: Threads + Wait + RandomSource + Abort + Sync>(
         note: "yp: read fault\n",
         ..*client
     };
-    try_reads(alloc, rt, &no_read, parts).expect(rt, client.name);
+    try_reads(alloc, rt, &no_read, parts, &[]).expect(rt, client.name);
     let no_write = Row {
         code: 4,
         cut: 0,
         note: "yp: write fault\n",
         ..*client
     };
-    try_writes(alloc, rt, &no_write, parts).expect(rt, client.name);
+    try_writes(alloc, rt, &no_write, parts, &[]).expect(rt, client.name);
 }
 
 /// The text takes a write and a flush.

@@ -491,6 +491,17 @@ static TRANSFERS: [Row; 4] = [
 
 static UNSENT: Row = UNFETCHED;
 
+static SENT_ANEW: [After; 1] = [FETCHED_ANEW];
+
+/// The same calls over a file without a version.
+const FETCHED_ANEW: After = After {
+    stands: None,
+    again: Row {
+        torn: true,
+        ..FETCHED
+    },
+};
+
 /// What was fetched isn't installed.
 const UNINSTALLED: Row = Row {
     name: "an install fails",
@@ -504,13 +515,7 @@ static TRANSFER_INSTALLS: [DiskCalls; 2] = [
         row: UNINSTALLED,
         first: 2,
         last: 9,
-        after: &[After {
-            stands: None,
-            again: Row {
-                torn: true,
-                ..FETCHED
-            },
-        }],
+        after: &[FETCHED_ANEW],
     },
     DiskCalls {
         row: Row {
@@ -532,8 +537,8 @@ fn calls_of_a_transfer_fail(rt: HostRuntime) {
 #[test]
 fn each_wire_call_of_a_transfer_fails(rt: HostRuntime) {
     let alloc = rt.alloc();
-    try_reads(alloc, &rt, &UNSENT, 8).expect(&rt, "a read");
-    try_writes(alloc, &rt, &UNSENT, 8).expect(&rt, "a write");
+    try_reads(alloc, &rt, &UNSENT, 8, &SENT_ANEW).expect(&rt, "a read");
+    try_writes(alloc, &rt, &UNSENT, 8, &SENT_ANEW).expect(&rt, "a write");
 }
 
 #[test]

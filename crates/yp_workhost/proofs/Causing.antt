@@ -1,6 +1,6 @@
 -- Why a map that a worker made has its status.
 use Rattle.std.proofs.Common.{◌≡◌, ◌≢◌, ℕ, ◌+◌, ◌≤◌, true, List, [], ◌∷◌, Option, Some, None, Err, IfSome, is_some}
-use Rattle.std.proofs.Common.{arith, refl, sym, ◌∙◌, ap, subst}
+use Rattle.std.proofs.Common.{arith, refl, sym, ◌∙◌, ap, subst, false}
 use Rattle.std.proofs.lemmas.List.{append-nil}
 use Rattle.std.specs.Option.{option_map_or}
 use Rattle.yp_io.specs.declared.texts.TextFile.{TextFile}
@@ -11,11 +11,13 @@ use Rattle.yp_slot.specs.declared.fault.SlotFault.TheVariants as slot
 use Rattle.yp_board.specs.Logs.{Log, shown}
 use Rattle.yp_board.specs.Views.{IsFront}
 use Rattle.yp_build.specs.Builds.{order_max}
+use Rattle.yp_build.specs.declared.kind.Kind.{Kind}
 use Rattle.yp_build.specs.Kinds.{file_of}
-use Rattle.yp_build.specs.After.{HasFault, other_master, built_after, IsOver}
+use Rattle.yp_build.specs.After.{HasFault, other_master, basis_of, built_after, IsOver}
 use Rattle.yp_build.specs.Laws.{BuiltIsBuiltBehind}
 use Rattle.yp_publish.specs.declared.install.Origin.TheVariants.{Built}
 use Rattle.yp_publish.specs.declared.install.InstallFault.TheVariants as fault
+use Rattle.yp_publish.specs.Installs.{offer, not_following}
 use Rattle.yp_publish.specs.Rising.{with_shown}
 use Rattle.yp_answer.specs.declared.make.Job.{Job}
 use Rattle.yp_answer.specs.Causes.{Told, IsAnew, IsCaused, basis_at, HasBadRowAt}
@@ -25,9 +27,10 @@ use Rattle.yp_server.specs.Anew.{IsUnbuilt}
 use Rattle.yp_shared.specs.declared.locked.ShareFault.{ShareFault}
 use Rattle.yp_shared.specs.declared.locked.ShareFault.TheVariants.{Shut, Unfit, Untold}
 use Rattle.yp_shared.specs.Shares.{offer_behind, IsShownBehind, IsReason}
+use Rattle.yp_shared.specs.Sources.{Building, marked_behind, IsBuiltThere}
 use Rattle.yp_workhost.specs.Desks.{texts_alone, telling_texts}
 use Rattle.yp_workhost.specs.Outcomes.{shared_stat}
-use Rattle.yp_workhost.specs.Makings.{IsShownLast, IsMadeSo, height, IsOvertaken}
+use Rattle.yp_workhost.specs.Makings.{Builds, IsShownLast, IsMadeSo, height, IsOvertaken}
 use Rattle.yp_workhost.proofs.Reasons.{followed, of_another, not_lower}
 use Rattle.yp_workhost.proofs.Learning.{front_same, front_then}
 
@@ -73,23 +76,33 @@ unmade text telling own job log Xfrerr old new none = absurd none
 
 -- ---- what is shown
 
+-- a version that was built of the texts was built behind whatever it follows
+module _ (law : BuiltIsBuiltBehind) (text : TextFile → Option (List ℕ)) (own : List ℕ) (kind : Kind) (before : Option MapVersion)
+    (version : MapVersion) (anew : IsAnew (texts_alone text) (basis_of kind own None before) version)
+    (most : version.order ≤ order_max) where
+  anew_behind : (last : Option MapVersion) → not_following own (offer (marked_behind version last) Built false) last ≡ None
+      → IsAnew (texts_alone text) (basis_of kind own None last) (marked_behind version last)
+  anew_behind last follows =
+      let found = followed own (marked_behind version last) last follows in record {
+        material = record anew.material { moment = version.order };
+        of_told = record { text = anew.of_told.text; moment = tt };
+        built = law (basis_of kind own None before) anew.material version last anew.built most found.0 found.1;
+      }
+
+  pub built_there : (Is : Building) → Builds text own Is → IsBuiltThere Is own version Built
+  built_there Is builds last follows = builds last (marked_behind version last) (kind, anew_behind last follows)
+
 pub shown_last : BuiltIsBuiltBehind → (text : TextFile → Option (List ℕ)) (own : List ℕ) (job : Job) (version : MapVersion) (old new : Log)
     → IsAnew (texts_alone text) (basis_at own job old) version → version.order ≤ order_max
     → IsShownBehind own job.map version Built old new → IsShownLast (texts_alone text) own job old new
 shown_last law text own job version old new anew most s =
     let last = shown job.map s.before in
-    let offered = (offer_behind job.map version Built s.before).version in
-    let follows = followed own offered last s.follows in
-    record {
+    let offered = (offer_behind job.map version Built s.before).version in record {
       version = offered;
       before = s.before;
       begins = s.begins;
-      anew = record {
-        material = record anew.material { moment = version.order };
-        of_told = record { text = anew.of_told.text; moment = tt };
-        built = law (basis_at own job old) anew.material version last anew.built most follows.0 follows.1;
-      };
-      over = follows.1;
+      anew = anew_behind law text own job.kind (shown job.map old) version anew most last s.follows;
+      over = (followed own offered last s.follows).1;
       entry = s.entry;
     }
 

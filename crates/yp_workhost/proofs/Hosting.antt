@@ -11,7 +11,7 @@ use Rattle.yp_session.specs.Hosts.{Counts, Conduct, conduct_of, counts_after, Fu
 use Rattle.yp_shared.specs.Shares.{Learns}
 use Rattle.yp_workhost.specs.Makings.{IsMadeSo}
 use Rattle.yp_workhost.specs.Desks.{texts_alone}
-use Rattle.yp_workhost.specs.Workers.{Worker, counts_of, files_after, Stepped, Made, Carried}
+use Rattle.yp_workhost.specs.Workers.{Worker, counts_of, files_after, made_after, Stepped, Made, Carried}
 use Rattle.yp_workhost.proofs.Causing.{is_caused}
 use Rattle.yp_workhost.proofs.Learning.{learns_maps}
 
@@ -50,16 +50,17 @@ module _ {V : Type 0} (seen : V → Seen) (stepped : V → V → Type 0) (text :
     counted = ap counts_of made.counted ∙ counted (counts_of old) stat;
   }
 
-  -- the same from a host inside, whose reader learned and whose count rose
-  pub made_from : (job : Job) (stat : XfrStat) (inside old : Worker V) (catalogue : Catalogue) (reader : V) (files : ℕ)
+  -- the same from a host inside, whose reader learned and whose counts rose
+  pub made_from : (job : Job) (stat : XfrStat) (inside old : Worker V) (catalogue : Catalogue) (reader : V) (files made : ℕ)
       → inside ≡ old → (seen inside.reader).catalogue ≡ catalogue
       → IsMadeSo (texts_alone text) catalogue.own job stat (seen inside.reader).known (seen reader).known
-      → Learns (seen inside.reader) (seen reader) → files ≡ files_after inside.files stat
-      → Fulfils conduct job stat old (record inside { reader = reader; files = files })
-  made_from job stat inside old catalogue reader files is maps made learned counts =
-      subst (λ (o : Worker V). Fulfils conduct job stat o (record inside { reader = reader; files = files })) is
-      (fulfilled job stat inside (record inside { reader = reader; files = files }) record {
-        made = subst (λ (k : Catalogue). IsMadeSo (texts_alone text) k.own job stat (seen inside.reader).known (seen reader).known) (sym maps) made;
+      → Learns (seen inside.reader) (seen reader) → files ≡ files_after inside.files stat → made ≡ made_after inside.made stat
+      → Fulfils conduct job stat old (record inside { reader = reader; files = files; made = made })
+  made_from job stat inside old catalogue reader files made is maps makes learned counts others =
+      subst (λ (o : Worker V). Fulfils conduct job stat o (record inside { reader = reader; files = files; made = made })) is
+      (fulfilled job stat inside (record inside { reader = reader; files = files; made = made }) record {
+        made = subst (λ (k : Catalogue). IsMadeSo (texts_alone text) k.own job stat (seen inside.reader).known (seen reader).known) (sym maps) makes;
         learned = learned;
-        counted = ap (λ (n : ℕ). record inside { reader = reader; files = n }) counts;
+        counted = ap (λ (n : ℕ). record inside { reader = reader; files = n; made = made }) counts
+            ∙ ap (λ (n : ℕ). record inside { reader = reader; files = files_after inside.files stat; made = n }) others;
       })

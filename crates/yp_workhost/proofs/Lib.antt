@@ -4,3 +4,7 @@ mod Learning
 mod Hosting
 mod Charging
 mod Dialing
+mod Reaching
+mod Leading
+mod Sourcing
+mod Aging

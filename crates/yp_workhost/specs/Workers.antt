@@ -20,10 +20,12 @@ use Rattle.yp_workhost.specs.Desks.{texts_alone}
 use Rattle.yp_workhost.specs.Outcomes.{counted_in}
 use Rattle.yp_workhost.specs.Makings.{IsMadeSo}
 
--- a host of a worker: its reader, how often it answered FILE, how many transfers it carried out, and what they came to
+-- a host of a worker: its reader, how often it answered FILE and how often SUCC where a map was to be made, how many
+-- transfers it carried out, and what they came to
 pub record Worker (V : Type 0) : Type 0 where
   pub reader : V
   pub files : ℕ
+  pub made : ℕ
   pub transfers : ℕ
   pub outcomes : Outcomes
 
@@ -35,17 +37,27 @@ abbrev pub files_after : ℕ → XfrStat → ℕ
 files_after files stats.File = next_count files
 files_after files _ = files
 
+-- how often SUCC was
+abbrev pub made_after : ℕ → XfrStat → ℕ
+made_after made stats.Succ = next_count made
+made_after made _ = made
+
 -- A read step of the reader was made, and nothing else.
 abbrev pub Stepped : {V : Type 0} → (V → V → Type 0) → Worker V → Worker V → Type 0
 Stepped stepped old new = stepped old.reader new.reader × (new ≡ record old { reader = new.reader })
 
--- A map was made, with this status. The reader knows all that it knew and what the status says, and FILE is counted.
+-- A map was made, with this status. The reader knows all that it knew and what the status says, and FILE and SUCC are
+-- counted.
 pub record Made {V : Type 0} (seen : V → Seen) (text : TextFile → Option (List ℕ)) (job : Job) (stat : XfrStat)
     (old new : Worker V) : Type 0 where
   pub made : IsMadeSo (texts_alone text) (seen old.reader).catalogue.own job stat
       (seen old.reader).known (seen new.reader).known
   pub learned : Learns (seen old.reader) (seen new.reader)
-  pub counted : new ≡ record old { reader = new.reader; files = files_after old.files stat }
+  pub counted : new ≡ record old {
+    reader = new.reader;
+    files = files_after old.files stat;
+    made = made_after old.made stat;
+  }
 
 -- A version that was fetched was shown, last of all that is known, and behind all that was.
 pub record IsFetchedBehind (own : List ℕ) (number : ℕ) (old new : Log) : Type 0 where

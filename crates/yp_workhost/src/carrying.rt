@@ -4,8 +4,9 @@ ghost use Rattle.std.specs.Prelude.{◌≡◌, ◌≢◌, ◌<◌, ◌≤◌, le
 ghost use Rattle.yp_answer.specs.Transfer.{taken_view};
 ghost use Rattle.yp_shared.specs.Shares.{Learns};
 ghost use Rattle.yp_workhost.specs.Workers.{IsCarriedTo, IsInstalledTo};
-ghost use Rattle.yp_workhost.specs.Charges.{ChargesMore, files_at, orders_at};
-ghost use Rattle.yp_workhost.specs.Wires.{orders_in};
+ghost use Rattle.yp_workhost.specs.Charges.{ChargesMore, cost_of_install, cost_of_transfer};
+ghost use Rattle.yp_workhost.specs.Charges.{files_at, orders_at, sources_at};
+ghost use Rattle.yp_workhost.specs.Wires.{orders_in, sources_in, IsAgedBy};
 
 use crate::charges::Charges;
 use crate::desk::{SharedDesk, Supplies};
@@ -43,11 +44,12 @@ where
     C: Clock,
     R: RandomSource + Wait,
     requires map { errand.now.map < length S.catalogue.maps }
+    requires named { 0 < length errand.now.source.now }
     requires catalogue { (B.Reader.seen reader.old).catalogue ≡ S.catalogue }
     ensures outcome { IsCarriedTo S.catalogue.own S.hosts (taken_view errand.now) result
         (B.Reader.seen reader.old).known (B.Reader.seen reader.new).known }
     ensures learned { Learns (B.Reader.seen reader.old) (B.Reader.seen reader.new) }
-    ensures charged { ChargesMore (files_at result) (orders_at result) charges.old charges.new }
+    ensures charged { ChargesMore (cost_of_transfer result) charges.old charges.new }
 {
     let (group, stat) = fetch_and_install(alloc, rt, publisher, desk, reader, charges, errand);
     let addr = peer.addr;
@@ -80,11 +82,12 @@ where
     C: Clock,
     R: RandomSource + Wait,
     requires map { errand.now.map < length S.catalogue.maps }
+    requires named { 0 < length errand.now.source.now }
     requires catalogue { (B.Reader.seen reader.old).catalogue ≡ S.catalogue }
     ensures outcome { IsCarriedTo S.catalogue.own S.hosts (taken_view errand.now) result.0
         (B.Reader.seen reader.old).known (B.Reader.seen reader.new).known }
     ensures learned { Learns (B.Reader.seen reader.old) (B.Reader.seen reader.new) }
-    ensures charged { ChargesMore (files_at result.0) (orders_at result.0) charges.old charges.new }
+    ensures charged { ChargesMore (cost_of_transfer result.0) charges.old charges.new }
 {
     let name = reader.catalog().name(errand.map);
     let shown = order_of(reader.held(errand.map));
@@ -109,10 +112,12 @@ fn order_of(held: Option<&Version>) -> Option<u32>
 
 /// The group of a transfer that gave no version. An order that isn't over the one that is shown was told by the source.
 fn failed_group(fault: &XfrFault, shown: Option<u32>) -> Group
+    requires { IsAgedBy shown (Err fault.now) }
     ensures addressed { result ≢ Group.NoAddress }
     ensures shown { result ≡ Group.Reached → IsSome shown }
     ensures no_file { files_at result ≡ 0 }
     ensures orders { orders_at result ≤ orders_in (Err fault.now) }
+    ensures sources { sources_at result ≤ sources_in (Err fault.now) }
 {
     match fault {
         XfrFault::NoMemory => Group::NoMemory,
@@ -136,11 +141,12 @@ where
     D: Disk,
     B: Tell,
     R: RandomSource + Wait,
-    requires { map < length S.catalogue.maps }
+    requires map { map < length S.catalogue.maps }
+    requires fetched { 0 < charges.old.versions }
     ensures outcome { IsInstalledTo S.catalogue.own map result.0
         (B.Reader.seen reader.old).known (B.Reader.seen reader.new).known }
     ensures learned { Learns (B.Reader.seen reader.old) (B.Reader.seen reader.new) }
-    ensures charged { ChargesMore (files_at result.0) 0 charges.old charges.new }
+    ensures charged { ChargesMore (cost_of_install result.0) charges.old charges.new }
 {
     let stat = match install_shared(
         alloc,
@@ -150,7 +156,7 @@ where
         map,
         version,
         Origin::Fetched,
-        &mut charges.failures,
+        &mut charges.debits,
     ) {
         Ok(()) => XfrStat::Succ,
         Err(fault) => shared_stat(&fault),

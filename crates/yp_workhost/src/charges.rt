@@ -1,22 +1,25 @@
 //! What workers count, and what they are charged with for it.
 
 ghost use Rattle.std.specs.Prelude.{◌≡◌, ◌+◌, ◌<◌};
+ghost use Rattle.yp_board.specs.Views.{IsFront};
 ghost use Rattle.yp_workhost.specs.Charges.{IsCharged, charged_both, free_of_charge, no_totals, totals_plus};
 
-use crate::desk::{Orders, Supplies, Unread};
+use crate::desk::{Orders, Sources, Supplies, Unread};
 use crate::outcome::Totals;
 use std::marker::Model;
 use std::mem;
 use std::sync::ledger::Share;
-use yp_shared::{Accounts, Failures};
+use yp_board::Tell;
+use yp_shared::{Accounts, Debits};
 
-/// What a worker is charged with, for contracts alone: shares of the ledgers of texts that weren't read, of files that
-/// failed, and of orders that were reached.
+/// What a worker is charged with, for contracts alone: shares of the ledgers of texts that weren't read, of orders that
+/// were reached and of sources that failed, and what it is charged with as it installs versions.
 #[derive(Drop)]
 pub struct Charges<S: Accounts + Supplies> {
     pub(crate) unread: Share<Unread<S>>,
-    pub(crate) failures: Share<Failures<S>>,
     pub(crate) orders: Share<Orders<S>>,
+    pub(crate) sources: Share<Sources<S>>,
+    pub(crate) debits: Debits<S>,
 }
 
 impl<S: Accounts + Supplies> Model for Charges<S> {
@@ -28,34 +31,43 @@ impl<S: Accounts + Supplies> Model for Charges<S> {
     ghost view = { λ c. record {
       parts = c.unread.parts;
       unread = c.unread.amount;
-      failures = c.failures.amount;
+      failures = c.debits.failures;
       orders = c.orders.amount;
+      sources = c.sources.amount;
+      made = c.debits.made;
+      versions = c.debits.versions;
     } };
 
-    ghost invariant = { λ c. (0 < c.unread.parts) × (c.failures.parts ≡ c.unread.parts)
-        × (c.orders.parts ≡ c.unread.parts) };
+    ghost invariant = { λ c. (0 < c.unread.parts) × (c.orders.parts ≡ c.unread.parts)
+        × (c.sources.parts ≡ c.unread.parts) × (c.debits.parts ≡ c.unread.parts) };
 }
 
 impl<S: Accounts + Supplies> Charges<S> {
     /// Charges of these shares.
     pub fn new(
         unread: Share<Unread<S>>,
-        failures: Share<Failures<S>>,
         orders: Share<Orders<S>>,
+        sources: Share<Sources<S>>,
+        debits: Debits<S>,
     ) -> Charges<S>
         requires some { 0 < unread.parts }
-        requires same { (failures.parts ≡ unread.parts) × (orders.parts ≡ unread.parts) }
+        requires same { (orders.parts ≡ unread.parts) × (sources.parts ≡ unread.parts)
+            × (debits.parts ≡ unread.parts) }
         ensures { result ≡ record {
           parts = unread.parts;
           unread = unread.amount;
-          failures = failures.amount;
+          failures = debits.failures;
           orders = orders.amount;
+          sources = sources.amount;
+          made = debits.made;
+          versions = debits.versions;
         } }
     {
         Charges {
             unread,
-            failures,
             orders,
+            sources,
+            debits,
         }
     }
 
@@ -68,8 +80,9 @@ impl<S: Accounts + Supplies> Charges<S> {
     {
         Charges {
             unread: self.unread.split_off(1, 0),
-            failures: self.failures.split_off(1, 0),
             orders: self.orders.split_off(1, 0),
+            sources: self.sources.split_off(1, 0),
+            debits: self.debits.split_off(),
         }
     }
 
@@ -79,77 +92,102 @@ impl<S: Accounts + Supplies> Charges<S> {
     {
         let Charges {
             unread,
-            failures,
             orders,
+            sources,
+            debits,
         } = other;
         self.unread.merge(unread);
-        self.failures.merge(failures);
         self.orders.merge(orders);
+        self.sources.merge(sources);
+        self.debits.merge(debits);
     }
 
     /// The shares.
-    pub fn into_shares(self) -> (Share<Unread<S>>, Share<Failures<S>>, Share<Orders<S>>)
+    pub fn into_shares(
+        self,
+    ) -> (
+        Share<Unread<S>>,
+        Share<Orders<S>>,
+        Share<Sources<S>>,
+        Debits<S>,
+    )
         ensures unread { result.0.amount ≡ self.unread }
-        ensures failures { result.1.amount ≡ self.failures }
-        ensures orders { result.2.amount ≡ self.orders }
+        ensures orders { result.1.amount ≡ self.orders }
+        ensures sources { result.2.amount ≡ self.sources }
+        ensures failures { result.3.failures ≡ self.failures }
+        ensures made { result.3.made ≡ self.made }
+        ensures versions { result.3.versions ≡ self.versions }
     {
         let Charges {
             unread,
-            failures,
             orders,
+            sources,
+            debits,
         } = self;
-        (unread, failures, orders)
+        (unread, orders, sources, debits)
     }
 }
 
-/// What several workers have counted, and what they are charged with for it. It is seen as what they have counted.
+/// What several workers have counted, what they are charged with for it, and all that they knew as they handed it over,
+/// for contracts alone. It is seen as what they have counted and what they knew.
 #[derive(Drop)]
-pub struct Account<S: Accounts + Supplies> {
+pub struct Account<S: Accounts + Supplies, B: Tell> {
     totals: Totals,
     charges: Charges<S>,
+    front: B::Front,
 }
 
-impl<S: Accounts + Supplies> Model for Account<S> {
+impl<S: Accounts + Supplies, B: Tell> Model for Account<S, B> {
     ghost use Rattle.std.specs.Prelude.{◌<◌};
-    ghost use Rattle.yp_workhost.specs.declared.outcome.Totals.{Totals};
-    ghost use Rattle.yp_workhost.specs.Charges.{IsCharged};
+    ghost use Rattle.yp_workhost.specs.Charges.{Accounted, IsCharged};
 
-    ghost Value = { Totals };
+    ghost Value = { Accounted };
 
-    ghost view = { λ a. a.totals };
+    ghost view = { λ a. record { totals = a.totals; reached = B.kept a.front } };
 
     ghost invariant = { λ a. (1 < a.charges.parts) × IsCharged a.totals a.charges };
 }
 
-impl<S: Accounts + Supplies> Account<S> {
-    /// Nothing was counted yet.
-    pub fn new(charges: Charges<S>) -> Account<S>
+impl<S: Accounts + Supplies, B: Tell> Account<S, B> {
+    /// Nothing was counted yet, and this much known.
+    pub fn new(charges: Charges<S>, front: B::Front) -> Account<S, B>
         requires { 1 < charges.parts }
-        ensures { result ≡ no_totals }
+        ensures { result ≡ record { totals = no_totals; reached = B.kept front } }
     {
         Account {
             totals: Totals::none(),
             charges,
+            front,
         }
     }
 
-    /// Takes in what a worker has counted and is charged with for it. The worker is charged with nothing then.
-    pub(crate) fn take_in(&mut self, totals: Totals, charges: &mut Charges<S>)
+    /// Takes in what a worker has counted and is charged with for it, and what it knows. The worker is charged with
+    /// nothing then.
+    pub(crate) fn take_in(&mut self, totals: Totals, charges: &mut Charges<S>, reader: &B::Reader)
         requires { IsCharged totals charges.old }
-        ensures { self.new ≡ totals_plus self.old totals }
+        ensures totals { self.new.totals ≡ totals_plus self.old.totals totals }
+        ensures covered { IsFront (B.Reader.seen reader.now).known self.new.reached }
+        ensures kept { IsFront self.old.reached self.new.reached }
     {
         let fresh = self.charges.split_off();
         let theirs = mem::replace(charges, fresh);
         self.charges.merge(theirs);
         self.totals = self.totals.plus(totals);
+        let front = mem::replace(&mut self.front, B::known(reader));
+        self.front = B::longer(front, B::known(reader));
     }
 
-    /// What was counted, and what that is charged with.
-    pub fn into_parts(self) -> (Totals, Charges<S>)
-        ensures totals { result.0 ≡ self }
+    /// What was counted, what that is charged with, and what was known.
+    pub fn into_parts(self) -> (Totals, Charges<S>, B::Front)
+        ensures totals { result.0 ≡ self.totals }
         ensures charged { IsCharged result.0 result.1 }
+        ensures reached { B.kept result.2 ≡ self.reached }
     {
-        let Account { totals, charges } = self;
-        (totals, charges)
+        let Account {
+            totals,
+            charges,
+            front,
+        } = self;
+        (totals, charges, front)
     }
 }

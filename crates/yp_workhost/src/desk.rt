@@ -1,6 +1,7 @@
 //! A desk that threads share, under one lock.
 
-ghost use Rattle.std.specs.Prelude.{◌≡◌, ℕ, ◌+◌, ◌≤◌, ◌↔◌, None, length, option_map, IfOk, IfErr, IsNone};
+ghost use Rattle.std.specs.Prelude.{◌≡◌, ℕ, ◌+◌, ◌<◌, ◌≤◌, ◌↔◌, None, length, option_map, IfSome, IfOk, IfErr};
+ghost use Rattle.std.specs.Prelude.{IsNone};
 ghost use Rattle.std.specs.Option.{option_map_or};
 ghost use Rattle.yp_version.specs.Limits.{master_max};
 ghost use Rattle.yp_build.specs.After.{basis_of, IsOver};
@@ -13,7 +14,8 @@ ghost use Rattle.yp_server.specs.Locals.{telling_of, IsUsed, LeavesDial};
 ghost use Rattle.yp_server.specs.Anew.{IsUnbuilt};
 ghost use Rattle.yp_workhost.specs.Desks.{texts_alone, telling_texts, IsSupplied};
 ghost use Rattle.yp_workhost.specs.Charges.{CoversUnread, unread_in};
-ghost use Rattle.yp_workhost.specs.Wires.{CoversOrders, orders_in};
+ghost use Rattle.yp_workhost.specs.Wires.{CoversBy, CoversOrders, CoversSources, IsGood, IsAgedBy};
+ghost use Rattle.yp_workhost.specs.Wires.{orders_in, sources_in, versions_in};
 
 use crate::charges::Charges;
 use std::alloc::Global;
@@ -25,13 +27,14 @@ use yp_build::Kind;
 use yp_io::{Clock, Dial, Texts};
 use yp_msgs::XfrStat;
 use yp_server::{Desk, build_anew};
-use yp_shared::Accounts;
+use yp_shared::{Accounts, Versions};
 use yp_version::Version;
+use yp_xfr::laws::fetched_is_one;
 use yp_xfr::{Asker, XfrFault, fetch_from, tell_back};
 
-/// What a desk of a site has, whoever uses it: it never changes; how often its texts had failed before it was shared,
-/// and which wires its dial had; and the ledgers of what is counted since then. Each call of a program that shares a
-/// desk picks it.
+/// What a desk of a site has, whoever uses it: it never changes; how often its texts and its dial had failed before it
+/// was shared, and which wires its dial had; and the ledgers of what is counted since then. Each call of a program that
+/// shares a desk picks it.
 pub trait Supplies {
     ghost use Rattle.std.specs.Prelude.{ℕ, List, Option};
     ghost use Rattle.yp_io.specs.declared.texts.TextFile.{TextFile};
@@ -50,11 +53,17 @@ pub trait Supplies {
     /// The wires of its dial, where they were told.
     ghost wires: { Option Wires };
 
+    /// How often its dial had failed.
+    ghost dial_faults: { ℕ };
+
     /// The name of the ledger of texts that weren't read.
     ghost unread: { ℕ };
 
     /// The name of the ledger of orders that were reached.
     ghost orders: { ℕ };
+
+    /// The name of the ledger of sources that failed.
+    ghost sources: { ℕ };
 }
 
 impl Supplies for Brand {
@@ -68,9 +77,13 @@ impl Supplies for Brand {
 
     ghost wires = { None };
 
+    ghost dial_faults = { 0 };
+
     ghost unread = { 0 };
 
     ghost orders = { 0 };
+
+    ghost sources = { 0 };
 }
 
 /// The ledger of the texts of a site that weren't read.
@@ -97,20 +110,35 @@ impl<S: Accounts + Supplies> Ledger for Orders<S> {
     ghost parts = { S.shares };
 }
 
-/// A desk of a site, for a lock to keep, with the books of the texts that weren't read and of the orders that were
-/// reached since it is shared. It is seen as that desk.
+/// The ledger of the sources that failed the fetches of a site.
+#[derive(Drop)]
+pub struct Sources<S: Accounts + Supplies> {
+    of: PhantomData<S>,
+}
+
+impl<S: Accounts + Supplies> Ledger for Sources<S> {
+    ghost name = { S.sources };
+
+    ghost parts = { S.shares };
+}
+
+/// A desk of a site, for a lock to keep, with the books of the texts that weren't read, of the orders that were
+/// reached, of the sources that failed and of the versions that were fetched since it is shared. It is seen as that
+/// desk.
 #[derive(Drop)]
 pub struct SharedDesk<S: Accounts + Supplies, A: Dial, T: Texts, C: Clock> {
     desk: Desk<A, T, C>,
     unread: Book<Unread<S>>,
     orders: Book<Orders<S>>,
+    sources: Book<Sources<S>>,
+    versions: Book<Versions<S>>,
 }
 
 impl<S: Accounts + Supplies, A: Dial, T: Texts, C: Clock> Model for SharedDesk<S, A, T, C> {
     ghost use Rattle.yp_server.specs.declared.desk.Desk.{Desk};
     ghost use Rattle.yp_workhost.specs.Desks.{IsSupplied};
     ghost use Rattle.yp_workhost.specs.Charges.{CoversUnread};
-    ghost use Rattle.yp_workhost.specs.Wires.{CoversOrders};
+    ghost use Rattle.yp_workhost.specs.Wires.{CoversBy, CoversOrders, CoversSources, IsGood};
 
     ghost Value = { Desk A T C };
 
@@ -118,7 +146,9 @@ impl<S: Accounts + Supplies, A: Dial, T: Texts, C: Clock> Model for SharedDesk<S
 
     ghost invariant = { λ d. IsSupplied T.Texts S.text S.hosts d.desk
         × CoversUnread S.text_faults (T.faults d.desk.texts) d.unread.total
-        × CoversOrders S.wires (A.past d.desk.dial) d.orders.total };
+        × CoversOrders S.wires (A.past d.desk.dial) d.orders.total
+        × CoversSources S.wires (A.past d.desk.dial) S.dial_faults (A.faults d.desk.dial) d.sources.total
+        × CoversBy IsGood S.wires (A.past d.desk.dial) d.versions.total };
 }
 
 impl<S: Accounts + Supplies, A: Dial, T: Texts, C: Clock> SharedDesk<S, A, T, C> {
@@ -127,39 +157,53 @@ impl<S: Accounts + Supplies, A: Dial, T: Texts, C: Clock> SharedDesk<S, A, T, C>
         desk: Desk<A, T, C>,
         unread: Book<Unread<S>>,
         orders: Book<Orders<S>>,
+        sources: Book<Sources<S>>,
+        versions: Book<Versions<S>>,
     ) -> SharedDesk<S, A, T, C>
         requires supplied { IsSupplied T.Texts S.text S.hosts desk }
-        requires before { (T.faults desk.texts ≡ S.text_faults) × (A.past desk.dial ≡ S.wires) }
-        requires none { (unread.total ≡ 0) × (orders.total ≡ 0) }
+        requires before { (T.faults desk.texts ≡ S.text_faults) × (A.past desk.dial ≡ S.wires)
+            × (A.faults desk.dial ≡ S.dial_faults) }
+        requires none { (unread.total ≡ 0) × (orders.total ≡ 0) × (sources.total ≡ 0) × (versions.total ≡ 0) }
         ensures { result ≡ desk }
     {
         SharedDesk {
             desk,
             unread,
             orders,
+            sources,
+            versions,
         }
     }
 
     /// The desk, once the lock is left. What a caller was charged with is covered by the faults of its texts, and by
-    /// the wires of its dial.
+    /// the wires and the faults of its dial. No more versions were fetched than wires came that give one.
     pub fn close(
         self,
-        charge: &mut Share<Unread<S>>,
-        reached: &mut Share<Orders<S>>,
+        unread: &mut Share<Unread<S>>,
+        orders: &mut Share<Orders<S>>,
+        sources: &mut Share<Sources<S>>,
+        versions: &mut Share<Versions<S>>,
     ) -> Desk<A, T, C>
         ensures desk { result ≡ self }
         ensures supplied { IsSupplied T.Texts S.text S.hosts result }
-        ensures covered { CoversUnread S.text_faults (T.faults result.texts) charge.old.amount }
-        ensures orders { (orders : ℕ) → orders ≤ reached.old.amount
-            → CoversOrders S.wires (A.past result.dial) orders }
+        ensures covered { CoversUnread S.text_faults (T.faults result.texts) unread.old.amount }
+        ensures orders { (n : ℕ) → n ≤ orders.old.amount → CoversOrders S.wires (A.past result.dial) n }
+        ensures sources { (n : ℕ) → n ≤ sources.old.amount
+            → CoversSources S.wires (A.past result.dial) S.dial_faults (A.faults result.dial) n }
+        ensures versions { (n : ℕ) → n ≤ versions.old.amount → CoversBy IsGood S.wires (A.past result.dial) n }
     {
+        let mut shared = self;
+        shared.unread.audit(unread);
+        shared.orders.audit(orders);
+        shared.sources.audit(sources);
+        shared.versions.audit(versions);
         let SharedDesk {
             desk,
-            mut unread,
-            mut orders,
-        } = self;
-        unread.audit(charge);
-        orders.audit(reached);
+            unread: _,
+            orders: _,
+            sources: _,
+            versions: _,
+        } = shared;
         desk
     }
 
@@ -190,7 +234,7 @@ impl<S: Accounts + Supplies, A: Dial, T: Texts, C: Clock> SharedDesk<S, A, T, C>
     }
 
     /// Fetches a map from a source, and gives the wire back, or answers `None` exactly where the source has no address.
-    /// An order that is reached is charged.
+    /// An order that is reached is charged, and so is a source that failed, and a version that came.
     pub(crate) fn fetch(
         &mut self,
         alloc: Global,
@@ -200,13 +244,18 @@ impl<S: Accounts + Supplies, A: Dial, T: Texts, C: Clock> SharedDesk<S, A, T, C>
         shown: Option<u32>,
         charges: &mut Charges<S>,
     ) -> Option<Result<Version, XfrFault>>
-        requires domain { length name.now.domain.items ≤ name_max }
-        requires map { length name.now.map.items ≤ name_max }
+        requires named { 0 < length source.now }
+        requires domain { (0 < length name.now.domain.items) × (length name.now.domain.items ≤ name_max) }
+        requires map { (0 < length name.now.map.items) × (length name.now.map.items ≤ name_max) }
         ensures none { IsNone result ↔ (find source.now S.hosts ≡ None) }
+        ensures aged { IfSome result (IsAgedBy shown) }
         ensures charged { charges.new ≡ record charges.old {
           orders = charges.old.orders + option_map_or orders_in result 0;
+          sources = charges.old.sources + option_map_or sources_in result 0;
+          versions = charges.old.versions + option_map_or versions_in result 0;
         } }
     {
+        fetched_is_one();
         self.desk.hosts.find(source)?;
         let fetched = fetch_from(
             alloc,
@@ -220,6 +269,8 @@ impl<S: Accounts + Supplies, A: Dial, T: Texts, C: Clock> SharedDesk<S, A, T, C>
             false,
         );
         self.orders.add(&mut charges.orders, orders_in(&fetched));
+        self.sources.add(&mut charges.sources, sources_in(&fetched));
+        charge_version(&mut self.versions, charges, &fetched);
         Some(fetched)
     }
 
@@ -229,6 +280,22 @@ impl<S: Accounts + Supplies, A: Dial, T: Texts, C: Clock> SharedDesk<S, A, T, C>
             (dial_tells A.past A.letters A.faults self.old.dial) (dial_tells A.past A.letters A.faults self.new.dial) }
     {
         tell_back(&mut self.desk.dial, asker, stat);
+    }
+}
+
+/// Charges a version, where one was fetched.
+fn charge_version<S: Accounts + Supplies>(
+    book: &mut Book<Versions<S>>,
+    charges: &mut Charges<S>,
+    fetched: &Result<Version, XfrFault>,
+)
+    ensures total { book.new.total ≡ book.old.total + versions_in fetched.now }
+    ensures charged { charges.new ≡ record charges.old {
+      versions = charges.old.versions + versions_in fetched.now;
+    } }
+{
+    if fetched.is_ok() {
+        charges.debits.fetched(book);
     }
 }
 
@@ -249,5 +316,15 @@ fn orders_in(fetched: &Result<Version, XfrFault>) -> u64
     match fetched {
         Ok(_) | Err(XfrFault::Age { .. }) => 1,
         Err(_) => 0,
+    }
+}
+
+/// How many sources failed in a fetch.
+fn sources_in(fetched: &Result<Version, XfrFault>) -> u64
+    ensures { result ≡ sources_in fetched.now }
+{
+    match fetched {
+        Ok(_) | Err(XfrFault::Age { .. } | XfrFault::NoMemory) => 0,
+        Err(_) => 1,
     }
 }

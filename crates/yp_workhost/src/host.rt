@@ -4,6 +4,7 @@ ghost use Rattle.std.specs.Prelude.{◌≡◌, OnErr};
 ghost use Rattle.std.proofs.Common.{ap};
 ghost use Rattle.yp_shared.specs.Shares.{Learns};
 ghost use Rattle.yp_workhost.specs.Desks.{texts_alone};
+ghost use Rattle.yp_workhost.specs.Makings.{Builds};
 ghost use Rattle.yp_workhost.specs.Workers.{counts_of, Stepped, Made, Carried};
 ghost use Rattle.yp_workhost.specs.Charges.{no_totals, totals_of, totals_plus};
 
@@ -11,7 +12,7 @@ use crate::carrying::carry_out;
 use crate::charges::{Account, Charges};
 use crate::desk::{SharedDesk, Supplies};
 use crate::making::make_shared;
-use crate::outcome::{Outcomes, Totals, files_after};
+use crate::outcome::{Outcomes, Totals, files_after, made_after};
 use std::alloc::Global;
 use std::marker::Model;
 use std::random::RandomSource;
@@ -27,7 +28,8 @@ use yp_worker::{CatchUp, HandsOver};
 
 /// The host of a worker. What it knows is what its reader knows.
 ///
-/// It is seen as its reader, how often it answered FILE, how many transfers it carried out, and what they came to.
+/// It is seen as its reader, how often it answered FILE and how often SUCC where a map was to be made, how many
+/// transfers it carried out, and what they came to.
 #[derive(Drop)]
 pub struct WorkerHost<
     'a,
@@ -61,17 +63,20 @@ impl<
     ghost use Rattle.std.specs.Prelude.{◌≡◌};
     ghost use Rattle.yp_workhost.specs.Workers.{Worker};
     ghost use Rattle.yp_workhost.specs.Charges.{IsCharged};
+    ghost use Rattle.yp_workhost.specs.Makings.{Builds};
 
     ghost Value = { Worker B.Reader };
 
     ghost view = { λ h. record {
       reader = h.reader;
       files = h.totals.files;
+      made = h.totals.made;
       transfers = h.totals.transfers;
       outcomes = h.totals.outcomes;
     } };
 
-    ghost invariant = { λ h. ((B.Reader.seen h.reader).catalogue ≡ S.catalogue) × IsCharged h.totals h.charges };
+    ghost invariant = { λ h. ((B.Reader.seen h.reader).catalogue ≡ S.catalogue) × IsCharged h.totals h.charges
+        × Builds S.text S.catalogue.own S.built };
 }
 
 impl<
@@ -84,8 +89,9 @@ impl<
     C: Clock,
     R: RandomSource + Wait,
 > WorkerHost<'a, S, D, B, A, T, C, R> {
-    /// A host with this reader of the maps of its site, which is charged by these. Its memory is taken by `alloc`, the
-    /// tables of its builds are made with the randomness of `rt`, and it waits for the locks by that.
+    /// A host with this reader of the maps of its site, which is charged by these. What it builds has to be what the
+    /// site says of a built version. Its memory is taken by `alloc`, the tables of its builds are made with the
+    /// randomness of `rt`, and it waits for the locks by that.
     pub fn new(
         alloc: Global,
         rt: R,
@@ -94,10 +100,12 @@ impl<
         desk: &'a Mutex<SharedDesk<S, A, T, C>>,
         charges: Charges<S>,
     ) -> WorkerHost<'a, S, D, B, A, T, C, R>
-        requires { (B.Reader.seen reader).catalogue ≡ S.catalogue }
+        requires catalogue { (B.Reader.seen reader).catalogue ≡ S.catalogue }
+        requires builds { Builds S.text S.catalogue.own S.built }
         ensures { result ≡ record {
           reader = reader;
           files = 0;
+          made = 0;
           transfers = 0;
           outcomes = record { no_address = 0; no_memory = 0; file = 0; source = 0; reached = 0 };
         } }
@@ -203,6 +211,7 @@ impl<
             job,
         );
         self.totals.files = files_after(self.totals.files, stat);
+        self.totals.made = made_after(self.totals.made, stat);
         stat
     }
 
@@ -252,16 +261,22 @@ impl<
     C: Clock,
     R: RandomSource + Wait,
 > HandsOver for WorkerHost<'a, S, D, B, A, T, C, R> {
-    type Sum = Account<S>;
+    type Count = Totals;
+
+    type Sum = Account<S, B>;
 
     ghost counted = { totals_of };
+
+    ghost summed = { λ account. account.totals };
+
+    ghost reached = { λ account. account.reached };
 
     ghost none = { no_totals };
 
     ghost plus = { totals_plus };
 
-    fn hand_over(&mut self, sum: &mut Account<S>) {
-        sum.take_in(self.totals, &mut self.charges);
+    fn hand_over(&mut self, sum: &mut Account<S, B>) {
+        sum.take_in(self.totals, &mut self.charges, &self.reader);
         self.totals = Totals::none();
     }
 }

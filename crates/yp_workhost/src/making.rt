@@ -4,8 +4,8 @@ ghost use Rattle.std.specs.Prelude.{◌≡◌, ◌<◌, None, length, IfSome};
 ghost use Rattle.std.specs.Option.{option_map_or};
 ghost use Rattle.yp_shared.specs.Shares.{Learns};
 ghost use Rattle.yp_workhost.specs.Desks.{texts_alone};
-ghost use Rattle.yp_workhost.specs.Makings.{IsMadeSo, IsOvertaken};
-ghost use Rattle.yp_workhost.specs.Charges.{ChargesMore, files_in};
+ghost use Rattle.yp_workhost.specs.Makings.{Builds, IsMadeSo, IsOvertaken};
+ghost use Rattle.yp_workhost.specs.Charges.{ChargesMore, cost_of_make, no_cost};
 
 use crate::charges::Charges;
 use crate::desk::{SharedDesk, Supplies};
@@ -40,12 +40,13 @@ where
     T: Texts,
     C: Clock,
     R: RandomSource + Wait,
+    requires builds { Builds S.text S.catalogue.own S.built }
     requires map { job.map < length S.catalogue.maps }
     requires catalogue { (B.Reader.seen reader.old).catalogue ≡ S.catalogue }
     ensures made { IsMadeSo (texts_alone S.text) S.catalogue.own job result
         (B.Reader.seen reader.old).known (B.Reader.seen reader.new).known }
     ensures learned { Learns (B.Reader.seen reader.old) (B.Reader.seen reader.new) }
-    ensures charged { ChargesMore (files_in result) 0 charges.old charges.new }
+    ensures charged { ChargesMore (cost_of_make result) charges.old charges.new }
 {
     if let Err(NoMemory) = tell_shared(rt, publisher, reader) {
         return XfrStat::Rsrc;
@@ -76,6 +77,7 @@ where
     T: Texts,
     C: Clock,
     R: RandomSource + Wait,
+    requires builds { Builds S.text S.catalogue.own S.built }
     requires map { job.map < length S.catalogue.maps }
     requires catalogue { (B.Reader.seen reader.old).catalogue ≡ S.catalogue }
     ensures made { IfSome result (λ stat. IsMadeSo (texts_alone S.text) S.catalogue.own job stat
@@ -83,7 +85,7 @@ where
     ensures overtaken { result ≡ None → IsOvertaken job.map
         (B.Reader.seen reader.old).known (B.Reader.seen reader.new).known }
     ensures learned { Learns (B.Reader.seen reader.old) (B.Reader.seen reader.new) }
-    ensures charged { ChargesMore (option_map_or files_in result 0) 0 charges.old charges.new }
+    ensures charged { ChargesMore (option_map_or cost_of_make result no_cost) charges.old charges.new }
 {
     let own = reader.catalog().own();
     let version = match desk.build(alloc, rt, job.kind, own, reader.held(job.map), charges) {
@@ -100,7 +102,7 @@ where
         job.map,
         version,
         Origin::Built,
-        &mut charges.failures,
+        &mut charges.debits,
     ) {
         Ok(()) => Some(XfrStat::Succ),
         Err(fault) => match shared_stat(&fault) {

@@ -2,7 +2,7 @@
 
 ghost use Rattle.std.specs.Prelude.{◌≡◌};
 ghost use Rattle.yp_workhost.specs.Outcomes.{counted_in, group_of, shared_stat};
-ghost use Rattle.yp_workhost.specs.Workers.{files_after};
+ghost use Rattle.yp_workhost.specs.Workers.{files_after, made_after};
 ghost use Rattle.yp_workhost.specs.Charges.{no_outcomes, no_totals, outcomes_plus, totals_plus};
 
 use yp_msgs::XfrStat;
@@ -81,6 +81,8 @@ impl Outcomes {
 pub struct Totals {
     /// How often FILE was answered, where a map was to be made.
     pub files: u64,
+    /// How often SUCC was.
+    pub made: u64,
     /// How many transfers were carried out.
     pub transfers: u64,
     /// What they came to.
@@ -94,6 +96,7 @@ impl Totals {
     {
         Totals {
             files: 0,
+            made: 0,
             transfers: 0,
             outcomes: Outcomes::none(),
         }
@@ -105,6 +108,7 @@ impl Totals {
     {
         Totals {
             files: self.files.saturating_add(other.files),
+            made: self.made.saturating_add(other.made),
             transfers: self.transfers.saturating_add(other.transfers),
             outcomes: self.outcomes.plus(other.outcomes),
         }
@@ -145,5 +149,15 @@ pub(crate) fn files_after(files: u64, stat: XfrStat) -> u64
     match stat {
         XfrStat::File => files.saturating_add(1),
         _ => files,
+    }
+}
+
+/// How often SUCC was answered, once a map was made with this status, up to 2^64 - 1.
+pub(crate) fn made_after(made: u64, stat: XfrStat) -> u64
+    ensures { result ≡ made_after made stat }
+{
+    match stat {
+        XfrStat::Succ => made.saturating_add(1),
+        _ => made,
     }
 }

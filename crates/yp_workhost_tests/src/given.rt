@@ -50,7 +50,7 @@ fn wire_of(alloc: Global, input: Vec<u8>) -> MemWire
 }
 
 /// A desk with a text of hosts, at the moment 100, whose reads with these numbers fail. Its dial has one wire, with
-/// this input, and it has the address of one host.
+/// this input, and the calls of it with these numbers fail. It has the address of one host.
 pub fn desk_of(
     rt: &impl Abort,
     alloc: Global,
@@ -58,17 +58,19 @@ pub fn desk_of(
     failing: &[u64],
     host: &[u8],
     input: Vec<u8>,
+    refused: &[u64],
 ) -> MemDesk {
     let text = Vec::from_slice(alloc, text).expect(rt, "a text");
     let texts = vec![in alloc; (TextFile::Hosts, text)].expect(rt, "a text");
     let failing = Vec::from_slice(alloc, failing).expect(rt, "numbers");
+    let refused = Vec::from_slice(alloc, refused).expect(rt, "numbers");
     let name = Vec::from_slice(alloc, host).expect(rt, "a name");
     let mut wires = Vec::new(alloc);
     wires.push(wire_of(alloc, input)).expect(rt, "a wire");
     let mut hosts = Hosts::new(alloc);
     hosts.add(name, SOURCE).expect(rt, "a host");
     Desk {
-        dial: MemDial::new(alloc, wires, Vec::new(alloc)),
+        dial: MemDial::new(alloc, wires, refused),
         texts: MemTexts::new(texts, failing),
         clock: SetClock { moment: 100 },
         hosts,

@@ -32,7 +32,7 @@ const LAST_ORDER: &[&str] = &[CELLS, "00000001 ffffffff", REST];
 const LAST_STORED: &[&str] = &[LAST_GENERATION, "00000001 00000064", REST];
 
 // A host's own name, a file, the reads of the text that fail, what is done, what comes of it, and how often that is
-// FILE.
+// FILE and how often SUCC.
 struct Row {
     name: &'static str,
     own: &'static [u8],
@@ -41,6 +41,7 @@ struct Row {
     acts: &'static [(bool, Act)],
     came: &'static [Came],
     files: u64,
+    made: u64,
 }
 
 const FIRST: bool = true;
@@ -55,6 +56,7 @@ const EMPTY: Row = Row {
     acts: &[(FIRST, Act::Make)],
     came: &[(Some(XfrStat::Succ), Some(100))],
     files: 0,
+    made: 1,
 };
 
 const ROWS: &[Row] = &[
@@ -81,6 +83,7 @@ const ROWS: &[Row] = &[
             (None, Some(102)),
             (None, Some(102)),
         ],
+        made: 3,
         ..EMPTY
     },
     Row {
@@ -107,6 +110,7 @@ const ROWS: &[Row] = &[
         name: "the orders are spent",
         file: LAST_ORDER,
         came: &[(Some(XfrStat::Age), Some(u32::MAX))],
+        made: 0,
         ..EMPTY
     },
     Row {
@@ -114,6 +118,7 @@ const ROWS: &[Row] = &[
         own: b"m2",
         file: ORDER_100,
         came: &[(Some(XfrStat::Refused), Some(100))],
+        made: 0,
         ..EMPTY
     },
     Row {
@@ -132,6 +137,7 @@ const ROWS: &[Row] = &[
         file: LAST_STORED,
         came: &[(Some(XfrStat::File), Some(100))],
         files: 1,
+        made: 0,
         ..EMPTY
     },
 ];
@@ -140,7 +146,7 @@ const ROWS: &[Row] = &[
 fn came_of<R: RandomSource + Wait + Abort>(rt: &R, alloc: Global, row: &Row) -> Played {
     let file = bytes(rt, alloc, row.file);
     let disk = MemDisk::new(alloc, file, None, Vec::new(alloc));
-    let desk = desk_of(rt, alloc, TEXT, row.failing, b"m1", Vec::new(alloc));
+    let desk = desk_of(rt, alloc, TEXT, row.failing, b"m1", Vec::new(alloc), &[]);
     let catalog = catalog_of(rt, alloc, row.own);
     let script = Script {
         acts: row.acts,
@@ -153,7 +159,7 @@ fn came_of<R: RandomSource + Wait + Abort>(rt: &R, alloc: Global, row: &Row) -> 
 fn made_maps(rt: HostRuntime) {
     for row in ROWS {
         let (came, totals, _) = came_of(&rt, rt.alloc(), row);
-        let found = (came.as_slice(), totals.files, totals.transfers);
-        assert_same(&rt, &found, &(row.came, row.files, 0), row.name);
+        let found = (came.as_slice(), totals.files, totals.made, totals.transfers);
+        assert_same(&rt, &found, &(row.came, row.files, row.made, 0), row.name);
     }
 }

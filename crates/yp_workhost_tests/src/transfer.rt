@@ -63,14 +63,15 @@ const UNKNOWN: Outcomes = Outcomes {
     ..NONE
 };
 
-// The own name, the file, what the source sends, what the first worker then holds, what its transfer came to, and the
-// status that is posted.
+// The own name, the file, what the source sends, the calls of the dial that fail, what the first worker then holds,
+// what its transfer came to, and the status that is posted.
 struct Row {
     name: &'static str,
     own: &'static [u8],
     source: &'static [u8],
     file: &'static [&'static str],
     replies: &'static [&'static str],
+    refused: &'static [u64],
     held: Option<u32>,
     outcomes: Outcomes,
     stat: &'static str,
@@ -82,6 +83,7 @@ const FETCHED: Row = Row {
     source: b"m1",
     file: &[],
     replies: &[ORDER_MASTER_ALL, ORDER_100],
+    refused: &[],
     held: Some(100),
     outcomes: REACHED,
     stat: SUCC,
@@ -112,6 +114,14 @@ const ROWS: &[Row] = &[
         ..FETCHED
     },
     Row {
+        name: "a source that is not reached",
+        refused: &[0],
+        held: None,
+        outcomes: FAILED,
+        stat: RPC,
+        ..FETCHED
+    },
+    Row {
         name: "a source without an address",
         source: b"m2",
         held: None,
@@ -132,7 +142,7 @@ fn came_of<R: RandomSource + Wait + Abort>(rt: &R, alloc: Global, row: &Row) -> 
     let file = bytes(rt, alloc, row.file);
     let disk = MemDisk::new(alloc, file, None, Vec::new(alloc));
     let replies = bytes(rt, alloc, row.replies);
-    let desk = desk_of(rt, alloc, b"", &[], b"m1", replies);
+    let desk = desk_of(rt, alloc, b"", &[], b"m1", replies, row.refused);
     let catalog = catalog_of(rt, alloc, row.own);
     let script = Script {
         acts: &[(true, Act::Transfer)],
@@ -148,6 +158,7 @@ fn wanted_of(rt: &impl Abort, alloc: Global, row: &Row) -> Played {
     let posted = vec![in alloc; letter].expect(rt, "a letter");
     let totals = Totals {
         files: 0,
+        made: 0,
         transfers: 1,
         outcomes: row.outcomes,
     };

@@ -1,15 +1,21 @@
-use Rattle.std.proofs.Common.{◌≡◌, List, map, length, Option, sym, ap, ◌∙◌}
+use Rattle.std.proofs.Common.{List, length, Option, sym, ap, subst, ◌∙◌}
 use Rattle.std.specs.Prelude.{option_map}
 use Rattle.std.specs.Arc.{arc_value}
 use Rattle.std.proofs.lemmas.List.{length-map}
 use Rattle.yp_version.specs.Versions.{MapVersion}
 use Rattle.yp_board.specs.Catalogues.{Catalogue}
 use Rattle.yp_board.specs.Logs.{starts}
-use Rattle.yp_publish.specs.Standing.{Kept, Published, versions}
+use Rattle.yp_publish.specs.Standing.{Kept, Published}
 use Rattle.yp_readers.specs.Boards.{Written}
 use Rattle.yp_server.specs.declared.desk.Desk.{Desk}
+use Rattle.yp_publish.specs.Rising.{moment_of}
+use Rattle.yp_shared.specs.Failures.{disks_of}
+use Rattle.yp_turns.specs.Turns.{box_of}
+use Rattle.yp_worker.specs.Receptions.{opening_of}
+use Rattle.yp_serve.specs.Counting.{FilesAreCovered}
+use Rattle.yp_hosting.specs.Hosting.{place_of, supply_of}
 use Rattle.yp_hosting.proofs.Served.{served_as, leaves_count}
-use Rattle.yp_hosting.proofs.Starts.{at_start}
+use Rattle.yp_hosting.proofs.Starts.{at_start, first_as}
 use Rattle.yp_hosting.proofs.stock.host_shown.Goals as goal
 
 pub board-requires-clause-starts : goal.board-requires-clause-starts
@@ -41,16 +47,46 @@ pub returns-in-Ok-serve-clause-hosted : goal.returns-in-Ok-serve-clause-hosted
 returns-in-Ok-serve-clause-hosted g c =
     let did = c.in-Ok-serve.ensures in
     let made = c.publisher_of-publisher.ensures in
-    served_as g.D.Disk.history c.args.loaded _ _ _ c.in-Ok-serve.served.disks.items c.in-Ok-serve.served.writer.log
+    let here = opening_of g.L.Listen.past g.L.Listen.most g.L.Listen.accepted g.L.Listen.faults in
+    let letters = box_of g.I.Inbox.past g.I.Inbox.turns g.I.Inbox.quiets in
+    let given = supply_of (g.T.Texts.faults c.shared-desk.result.texts) (g.A.Dial.past c.shared-desk.result.dial)
+    (g.A.Dial.faults c.shared-desk.result.dial) in
+    let left = supply_of (g.T.Texts.faults c.in-Ok-serve.served.desk.texts)
+    (g.A.Dial.past c.in-Ok-serve.served.desk.dial) (g.A.Dial.faults c.in-Ok-serve.served.desk.dial) in
+    served_as g.D.Disk.history g.D.Disk.faults c.args.loaded _ _ _
+    (place_of (here c.args.listen) (letters c.args.inbox) given)
+    (place_of (here c.in-Ok-serve.served.listen) (letters c.in-Ok-serve.served.inbox) left)
+    c.in-Ok-serve.served.disks.items c.in-Ok-serve.served.writer.log
     c.args.spec.now.turns c.args.catalog c.publisher_of-publisher.result.catalogue _ _ _ _
-    c.publisher_of-publisher.result.board.log c.args.spec.now.most
+    (moment_of (λ (w : Written). w.log) c.publisher_of-publisher.result) c.args.spec.now.most
+    (ap (λ (d : Desk g.row.A.Denot g.row.T.Denot g.row.C.Denot). place_of (here c.args.listen) (letters c.args.inbox)
+    (supply_of (g.T.Texts.faults d.texts) (g.A.Dial.past d.dial) (g.A.Dial.faults d.dial))) c.shared-desk.ensures)
+    (ap (λ (d : Desk g.row.A.Denot g.row.T.Denot g.row.C.Denot). place_of (here c.in-Ok-serve.served.listen)
+    (letters c.in-Ok-serve.served.inbox)
+    (supply_of (g.T.Texts.faults d.texts) (g.A.Dial.past d.dial) (g.A.Dial.faults d.dial))) (sym c.unshared.ensures.desk))
     (ap (λ (p : Published g.row.D.Denot Written). p.catalogue) made.publisher)
     (ap (λ (d : Desk g.row.A.Denot g.row.T.Denot g.row.C.Denot). g.T.Texts.text d.texts) c.shared-desk.ensures)
     (ap (λ (d : Desk g.row.A.Denot g.row.T.Denot g.row.C.Denot). d.hosts) c.shared-desk.ensures)
-    (ap (λ (p : Published g.row.D.Denot Written). p.board.log) made.publisher
-    ∙ ap (λ (w : Written). w.log) c.in-Ok.ensures.writer
-    ∙ ap (λ (l : List (Option MapVersion)). starts 0 l) c.requires.start)
-    c.requires.most did.grown did.served did.datagrams did.maps (did.rises made.start)
+    (first_as c.publisher_of-publisher.result c.args.catalog c.args.loaded c.in-Ok.writer made.publisher
+    (ap (λ (w : Written). w.log) c.in-Ok.ensures.writer
+    ∙ ap (λ (l : List (Option MapVersion)). starts 0 l) c.requires.start))
+    c.requires.most (
+      did.grown,
+      did.served,
+      did.datagrams,
+      did.maps,
+      record {
+        counted = did.counted;
+        files = subst (λ (m : List (Kept g.row.D.Denot)). FilesAreCovered g.D.Disk.history g.D.Disk.faults
+            (g.T.Texts.faults c.shared-desk.result.texts) (g.T.Texts.faults c.in-Ok-serve.served.desk.texts) (disks_of m)
+            c.in-Ok-serve.served.disks.items c.in-Ok-serve.served.totals)
+            (ap (λ (p : Published g.row.D.Denot Written). p.maps) made.publisher) did.files;
+        orders = did.orders;
+        sources = did.sources;
+        origins = did.origins made.start;
+      },
+    )
+    (did.rises made.start)
 
 pub returns-in-Ok-serve-clause-count : goal.returns-in-Ok-serve-clause-count
 returns-in-Ok-serve-clause-count g c =

@@ -1,5 +1,5 @@
-use Rattle.std.proofs.Common.{◌≡◌, sym, ap, ◌∙◌}
-use Rattle.yp_board.specs.Logs.{Log, shown}
+use Rattle.std.proofs.Common.{ap, ◌∙◌}
+use Rattle.yp_board.specs.Logs.{shown}
 use Rattle.yp_publish.specs.Standing.{Published, versions}
 use Rattle.yp_hosting.proofs.Starts.{start_of}
 use Rattle.yp_hosting.proofs.stock.publisher_of.Goals as goal

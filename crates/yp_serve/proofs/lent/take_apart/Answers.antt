@@ -2,14 +2,24 @@ use Rattle.std.proofs.Common.{sym, subst}
 use Rattle.yp_publish.specs.Rising.{IsRisingLog}
 use Rattle.yp_publish.specs.Grown.{AreTold}
 use Rattle.yp_serve.proofs.Covering.{covered}
+use Rattle.yp_serve.proofs.Stemming.{stems}
 use Rattle.yp_serve.proofs.lent.take_apart.Goals as goal
 
 pub returns-clause-covered : goal.returns-clause-covered
 returns-clause-covered g c =
-    covered g.D.Disk.history g.D.Disk.faults g.S.Accounts.disk_faults c.args.charge.now.amount c.close.result.maps
-    c.disassemble.result.0.items c.disassemble.ensures.disks c.disassemble.ensures.numbered c.close.ensures.covered
+    covered g.D.Disk.history g.D.Disk.faults g.S.Accounts.disk_faults c.args.charge.now.failures c.close-publisher.result.0.maps
+    c.disassemble-disks.result.0.items c.disassemble-disks.ensures.disks c.disassemble-disks.ensures.numbered
+    c.close-publisher.ensures.covered
 
 pub returns-clause-rises : goal.returns-clause-rises
 returns-clause-rises g c = λ start told.
-    subst (λ board. IsRisingLog (g.B.Show.log board)) (sym c.disassemble.ensures.board)
-    (c.close.ensures.rises start (subst (AreTold g.D.Disk.history) c.disassemble.ensures.disks told))
+    subst (λ board. IsRisingLog (g.B.Show.log board)) (sym c.disassemble-disks.ensures.board)
+    (c.close-publisher.ensures.rises start (subst (AreTold g.D.Disk.history) c.disassemble-disks.ensures.disks told))
+
+pub returns-clause-sourced : goal.returns-clause-sourced
+returns-clause-sourced g c = λ made low start told.
+    stems g.D.Disk.history g.S.Accounts.built g.S.Accounts.first g.S.Site.catalogue g.B.Show.log c.close-publisher.result.0
+    c.disassemble-disks.result.1 c.disassemble-disks.result.0.items made c.close-publisher.result.1.amount
+    c.close-publisher.ensures.catalogue c.disassemble-disks.ensures.board c.disassemble-disks.ensures.stand.0
+    c.disassemble-disks.ensures.stand.1
+    (c.close-publisher.ensures.sourced made low start (subst (AreTold g.D.Disk.history) c.disassemble-disks.ensures.disks told))

@@ -1,5 +1,7 @@
 use Rattle.yp_serve.specs.Serving.{IsAtStart}
 use Rattle.yp_serve.proofs.Rows.{all_before, all_last}
+use Rattle.yp_worker.specs.Receptions.{opening_of}
+use Rattle.yp_serve.proofs.Closing.{all_accepted}
 use Rattle.yp_serve.proofs.serving.serve.Goals as goal
 
 pub under_locks-requires-clause-know : goal.under_locks-requires-clause-know
@@ -11,3 +13,9 @@ pub under_locks-requires-clause-spare : goal.under_locks-requires-clause-spare
 under_locks-requires-clause-spare g c κs within =
     all_last (λ reader. IsAtStart c.args.publisher.catalogue (g.B.Show.log c.args.publisher.board)
     (g.B.Reader.View.seen reader)) _ _ _ c.in-Ok.ensures.all c.requires.starts
+
+pub returns-clause-all : goal.returns-clause-all
+returns-clause-all g c =
+    let tells = opening_of g.L.Listen.past g.L.Listen.most g.L.Listen.accepted g.L.Listen.faults in
+    all_accepted c.under_locks.result _ _ (tells c.args.listen) (λ s. tells s.listen) (λ s. s.tally.connections)
+    (λ s. s.tally.calls) (λ s. s.tally.listen_fault) c.under_locks.ensures.served

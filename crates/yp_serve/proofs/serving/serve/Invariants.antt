@@ -1,6 +1,7 @@
 use Rattle.yp_worker.specs.Receptions.{opening_of}
 use Rattle.yp_publish.specs.Rising.{moment_of}
 use Rattle.yp_shared.specs.Failures.{disks_of, faults_over}
+use Rattle.yp_workhost.specs.Makings.{IsBuilt}
 use Rattle.yp_serve.proofs.serving.serve.Given as goal
 
 -- what is lent, as it is before the first connection
@@ -20,8 +21,10 @@ ghosts-under_locks-J-Supplies g a = record {
   hosts = a.lent.desk.hosts;
   text_faults = g.T.Texts.faults a.lent.desk.texts;
   wires = g.A.Dial.past a.lent.desk.dial;
-  unread = a.unread.name;
-  orders = a.orders.name;
+  dial_faults = g.A.Dial.faults a.lent.desk.dial;
+  unread = a.blanks.unread.name;
+  orders = a.blanks.orders.name;
+  sources = a.blanks.sources.name;
 }
 
 abbrev pub ghosts-under_locks-J-Ledger : goal.ghosts-under_locks-J-Ledger
@@ -32,8 +35,11 @@ ghosts-under_locks-E-Ledger g a = record { name = a.ended.name; parts = a.ended.
 
 abbrev pub ghosts-under_locks-J-Accounts : goal.ghosts-under_locks-J-Accounts
 ghosts-under_locks-J-Accounts g a = record {
+  built = IsBuilt (g.T.Texts.text a.lent.desk.texts) a.lent.publisher.catalogue.own;
   first = moment_of g.B.Show.log a.lent.publisher;
   disk_faults = faults_over g.D.Disk.faults (disks_of a.lent.publisher.maps);
-  failures = a.failures.name;
-  shares = a.failures.parts;
+  failures = a.blanks.failures.name;
+  made = a.blanks.made.name;
+  versions = a.blanks.versions.name;
+  shares = a.blanks.failures.parts;
 }

@@ -1,9 +1,10 @@
 use Rattle.std.proofs.Common.{◌≤◌, arith, ◌∙◌, ap}
 use Rattle.yp_board.specs.Catalogues.{Catalogue}
+use Rattle.yp_board.specs.Logs.{shown}
 use Rattle.yp_build.specs.Builds.{order_max}
 use Rattle.yp_workhost.specs.Desks.{texts_alone}
 use Rattle.yp_server.specs.Locals.{telling_of}
-use Rattle.yp_workhost.proofs.Causing.{unmade, shown_last, unfit}
+use Rattle.yp_workhost.proofs.Causing.{unmade, built_there, shown_last, unfit}
 use Rattle.yp_workhost.proofs.Charging.{charged_so}
 use Rattle.yp_workhost.proofs.making.make_behind.Goals as goal
 
@@ -12,6 +13,15 @@ returns-in-Err-clause-made g c =
     let own = c.own-own.ensures.own ∙ ap (λ (k : Catalogue). k.own) (c.catalog.ensures ∙ c.requires.catalogue) in
     unmade g.S.Supplies.text (telling_of g.T.Texts g.C.Clock g.A.Dial.past g.A.Dial.letters g.A.Dial.faults) _ c.args.job _ c.in-Err.stat _ _
     (rw (own, c.held.ensures) at c.in-Err.ensures.unbuilt)
+
+pub install_shared-requires-clause-built : goal.install_shared-requires-clause-built
+install_shared-requires-clause-built g c =
+    let own = c.own-own.ensures.own ∙ ap (λ (k : Catalogue). k.own) (c.catalog.ensures ∙ c.requires.catalogue) in
+    let below = c.order-order.ensures.version.order in
+    let most : c.in-Ok.version.order ≤ order_max = omega (arith, below) in
+    built_there c.built_is_built_behind.ensures g.S.Supplies.text g.S.Site.catalogue.own c.args.job.kind
+    (shown c.args.job.map (g.B.Reader.View.seen c.args.reader.now).known) c.in-Ok.version
+    (rw (own, c.held.ensures) at c.in-Ok.ensures.anew) most g.S.Accounts.built c.requires.builds
 
 pub returns-in-Ok-install_shared-clause-made : goal.returns-in-Ok-install_shared-clause-made
 returns-in-Ok-install_shared-clause-made g c =
@@ -27,6 +37,6 @@ returns g c = record {
       c.in-Err-install_shared.fault _ _ c.in-Err-install_shared.ensures.reason (λ e. c.in_default.not-Age (c.shared_stat.ensures ∙ e)));
   overtaken = λ e. absurd (cc);
   learned = c.install_shared.ensures.learned;
-  charged = charged_so c.in-Err-install_shared.fault c.shared_stat.result c.args.charges.now c.build.new.charges _ _ _ _ _
-      c.in-Ok.ensures.charged c.charges.view_is c.in-Err-install_shared.ensures.charged c.shared_stat.ensures;
+  charged = charged_so c.in-Err-install_shared.fault c.shared_stat.result c.args.charges.now _ _ _ _ _ _ _ _
+      (c.charges.view_is ∙ c.in-Ok.ensures.charged) c.in-Err-install_shared.ensures.charged c.shared_stat.ensures;
 }

@@ -3,13 +3,13 @@ use Rattle.std.proofs.Common.{◌+◌, ◌-◌}
 use Rattle.yp_build.specs.Builds.{order_max}
 use Rattle.yp_shared.specs.Shares.{Learns}
 use Rattle.yp_workhost.specs.Makings.{height}
-use Rattle.yp_workhost.specs.Charges.{ChargesMore}
+use Rattle.yp_workhost.specs.Charges.{ChargesMore, no_cost}
 use Rattle.yp_workhost.proofs.making.make_shared.Given as goal
 
 abbrev pub invariant-rounds : goal.invariant-rounds
 invariant-rounds g l = record {
   learned : Learns (g.B.Reader.View.seen l.fn.reader) (g.B.Reader.View.seen l.reader);
-  charged : ChargesMore 0 0 l.fn.charges l.charges;
+  charged : ChargesMore no_cost l.fn.charges l.charges;
 }
 
 abbrev pub decreases-rounds : goal.decreases-rounds

@@ -4,6 +4,7 @@ use Rattle.yp_io.specs.MemDisk.{Platter}
 use Rattle.yp_publish.specs.Rising.{moment_of}
 use Rattle.yp_readers.specs.Boards.{Written}
 use Rattle.yp_shared.specs.Failures.{disks_of, faults_over}
+use Rattle.yp_workhost.specs.Makings.{IsBuilt}
 use Rattle.yp_workhost_tests.proofs.stage.staged.Given as goal
 
 abbrev pub ghosts-under_locks-S-Site : goal.ghosts-under_locks-S-Site
@@ -11,10 +12,13 @@ ghosts-under_locks-S-Site g a = record { catalogue = a.publisher.catalogue }
 
 abbrev pub ghosts-under_locks-S-Accounts : goal.ghosts-under_locks-S-Accounts
 ghosts-under_locks-S-Accounts g a = record {
+  built = IsBuilt (g.T.Texts.text a.desk.texts) a.publisher.catalogue.own;
   first = moment_of (λ (w : Written). w.log) a.publisher;
   disk_faults = faults_over (λ (p : Platter). p.faults) (disks_of a.publisher.maps);
-  failures = a.failures.name;
-  shares = a.failures.parts;
+  failures = a.blanks.failures.name;
+  made = a.blanks.made.name;
+  versions = a.blanks.versions.name;
+  shares = 4;
 }
 
 abbrev pub ghosts-under_locks-S-Supplies : goal.ghosts-under_locks-S-Supplies
@@ -23,6 +27,8 @@ ghosts-under_locks-S-Supplies g a = record {
   hosts = a.desk.hosts;
   text_faults = g.T.Texts.faults a.desk.texts;
   wires = wires_of a.desk.dial;
-  unread = a.unread.name;
-  orders = a.orders.name;
+  dial_faults = a.desk.dial.faults;
+  unread = a.blanks.unread.name;
+  orders = a.blanks.orders.name;
+  sources = a.blanks.sources.name;
 }

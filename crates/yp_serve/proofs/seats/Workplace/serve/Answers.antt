@@ -1,12 +1,12 @@
 use Rattle.std.proofs.Common.{refl, [], ◌∷◌, ◌++◌, ap, ◌∙◌, arith}
 use Rattle.yp_turns.specs.Turns.{box_of}
-use Rattle.yp_worker.specs.Receptions.{Passed}
 use Rattle.yp_workhost.specs.Workers.{counts_of}
 use Rattle.yp_workhost.specs.Charges.{totals_of}
 use Rattle.yp_serve.specs.declared.crew.Post.TheVariants.{Datagrams}
 use Rattle.yp_serve.specs.Serving.{at_work, conduct_at}
 use Rattle.yp_serve.specs.Counting.{count_totals}
-use Rattle.yp_serve.proofs.Fronts.{mailed, mail_fails}
+use Rattle.yp_worker.specs.Receptions.{Passed, terms_of}
+use Rattle.yp_serve.proofs.Fronts.{mailed, mail_fails, sums_further}
 use Rattle.yp_serve.proofs.Posted.{manned, worked}
 use Rattle.yp_serve.proofs.seats.Workplace.serve.Goals as goal
 
@@ -39,18 +39,21 @@ returns-clause-counted g c =
     let all = worked _ mailman c.seat_all.new.posts.items c.run_all-posts.result.items first c.run_all-posts.ensures.count
     c.run_all-posts.ensures.works in
     let seen = g.B.Reader.View.seen in record {
-      connections = c.close-listen.result.2;
+      connections = c.close-listen.result.2.totals;
       datagrams = totals_of c.into_parts-inbox.result.1;
-      of_connections = c.close-listen.ensures.summed;
+      of_connections = sums_further (conduct_at seen g.B.Reader.View.stepped g.J.Supplies.text g.J.Supplies.hosts)
+          count_totals (terms_of g.J.Site.catalogue g.J.Reception.starts g.J.Reception.most)
+          c.close-listen.result.2.reached c.hand_over.new.sum.reached c.hand_over.ensures.kept g.J.Reception.opening.past
+          (g.L.Listen.past c.close-listen.result.0) c.close-listen.result.2.totals c.close-listen.ensures.summed;
       of_datagrams = mailed (conduct_at seen g.B.Reader.View.stepped g.J.Supplies.text g.J.Supplies.hosts)
           (box_of g.I.Inbox.past g.I.Inbox.turns g.I.Inbox.quiets) g.I.Inbox.faults g.J.Site.catalogue g.J.Reception.starts
-          (seen c.into_reader.result).known c.args.bag.turns c.into_parts-inbox.result.2 mailman all.0 c.gather.result
+          c.hand_over.new.sum.reached c.args.bag.turns c.into_parts-inbox.result.2 mailman all.0 c.gather.result
           c.new-host.result c.into_parts-inbox.result.1 c.args.bag.inbox c.into_parts-inbox.result.0 all.1
           (c.gather.ensures.mailman all.0 all.2) c.new-mailman.ensures.inbox c.new-mailman.ensures.server
           c.new-mailman.ensures.turns c.into_parts-inbox.ensures.inbox c.into_parts-inbox.ensures.host
           c.into_parts-inbox.ensures.fault count_totals (totals_of c.into_parts-inbox.result.1)
           (rw c.new-host.ensures c.requires.bag) (ap counts_of c.new-host.ensures)
-          (ap (λ v. (seen v).known) c.into_reader.ensures ∙ ap (λ s. s.known) c.hand_over.ensures.seen)
+          c.hand_over.ensures.covered
           (ap totals_of c.new-host.ensures) refl;
       all_is = c.hand_over.ensures.added;
     }
@@ -65,7 +68,7 @@ returns-clause-cause g c =
     let seen = g.B.Reader.View.seen in
     mail_fails (conduct_at seen g.B.Reader.View.stepped g.J.Supplies.text g.J.Supplies.hosts)
     (box_of g.I.Inbox.past g.I.Inbox.turns g.I.Inbox.quiets) g.I.Inbox.faults g.J.Site.catalogue g.J.Reception.starts
-    (seen c.into_reader.result).known c.args.bag.turns c.into_parts-inbox.result.2 mailman all.0 c.gather.result
+    c.hand_over.new.sum.reached c.args.bag.turns c.into_parts-inbox.result.2 mailman all.0 c.gather.result
     c.new-host.result c.into_parts-inbox.result.1 c.args.bag.inbox c.into_parts-inbox.result.0 all.1
     (c.gather.ensures.mailman all.0 all.2) c.new-mailman.ensures.inbox c.new-mailman.ensures.server
     c.new-mailman.ensures.turns c.into_parts-inbox.ensures.inbox c.into_parts-inbox.ensures.host

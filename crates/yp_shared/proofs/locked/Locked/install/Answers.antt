@@ -1,7 +1,9 @@
-use Rattle.std.proofs.Common.{◌<◌, length, ◌∙◌}
+use Rattle.std.proofs.Common.{◌<◌, length, ◌∙◌, ap}
+use Rattle.yp_board.specs.Catalogues.{Catalogue}
 use Rattle.yp_publish.specs.Keeping.{keeping_of}
 use Rattle.yp_shared.proofs.Failing.{covers_after}
 use Rattle.yp_shared.proofs.Leading.{led_after}
+use Rattle.yp_shared.proofs.Sourcing.{sourced_after}
 use Rattle.yp_shared.proofs.locked.Locked.install.Goals as goal
 
 pub invariant_of-self : goal.invariant_of-self
@@ -17,4 +19,11 @@ invariant_of-self g c =
       led_after (keeping_of g.D.Disk.history g.D.Disk.faults g.B.Show.log) g.S.Accounts.first c.args.map c.args.version
           c.args.origin c.self.inside.publisher step.new.publisher step.result within step.ensures.installed
           step.ensures.refused c.self.invariant.2,
+      rw (c.add-2.ensures.total, c.made_by.ensures, c.transfer.ensures.amount_given, c.fetched_in.ensures) (sourced_after
+          (keeping_of g.D.Disk.history g.D.Disk.faults g.B.Show.log) g.S.Accounts.built g.S.Accounts.first c.args.map
+          c.args.version c.args.origin g.S.Site.catalogue.own c.self.inside.made.total c.self.inside.versions.amount
+          c.self.inside.publisher step.new.publisher step.result within
+          (ap (λ (served : Catalogue). served.own) c.self.invariant.0) c.requires.built step.ensures.installed
+          step.ensures.refused c.self.invariant.3),
+      rw c.transfer.ensures.parts_given c.self.invariant.4,
     )

@@ -1,16 +1,32 @@
 use Rattle.std.proofs.Common.{false}
 use Rattle.yp_io.specs.Dials.{dialing_of}
 use Rattle.yp_xfr.specs.Fetching.{wanted_of}
-use Rattle.yp_workhost.proofs.Dialing.{fetched_orders}
+use Rattle.yp_workhost.proofs.Reaching.{fetched_orders}
+use Rattle.yp_workhost.proofs.Sourcing.{fetched_sources, fetched_versions}
+use Rattle.yp_workhost.proofs.Aging.{fetched_aged}
 use Rattle.yp_workhost.proofs.desk.SharedDesk.fetch.Goals as goal
 
 pub invariant_of-self : goal.invariant_of-self
 invariant_of-self g c =
-    let dialing = dialing_of g.A.Dial.past g.A.Dial.faults in (
+    let dialing = dialing_of g.A.Dial.past g.A.Dial.faults in
+    let wanted = wanted_of c.deref.result.now c.deref-2.result.now c.args.shown false in
+    let fetched = c.fetch_from-fetched.result in
+    let old = dialing c.self.inside.desk.dial in
+    let new = dialing c.fetch_from-fetched.new.dial in
+    let fetches = c.fetch_from-fetched.ensures.fetches in (
       record { texts_are = c.self.invariant.0.texts_are; hosts_are = c.self.invariant.0.hosts_are },
       c.self.invariant.1,
-      rw (c.add.ensures.total, c.orders_in.ensures) (fetched_orders g.S.Supplies.wires c.self.inside.orders.total
-          (wanted_of c.deref.result.now c.deref-2.result.now c.args.shown false)
-          c.fetch_from-fetched.result (dialing c.self.inside.desk.dial) (dialing c.fetch_from-fetched.new.dial)
-          c.self.invariant.2 c.self.inside.desk.hosts c.args.source.now c.fetch_from-fetched.ensures.fetches),
+      rw (c.add.ensures.total, c.orders_in.ensures) (fetched_orders g.S.Supplies.wires c.self.inside.orders.total wanted fetched old new
+          c.self.invariant.2 c.self.inside.desk.hosts c.args.source.now fetches),
+      rw (c.add-2.ensures.total, c.sources_in.ensures) (fetched_sources c.fetched_is_one.ensures g.S.Supplies.wires
+          g.S.Supplies.dial_faults c.self.inside.sources.total wanted fetched old new c.self.invariant.3 c.self.inside.desk.hosts
+          c.args.source.now (rw c.deref.ensures.value c.requires.domain.0) (rw c.deref-2.ensures.value c.requires.map.0)
+          c.requires.named c.in_ok-find.field-0 c.in_ok-find.ensures fetches),
+      rw c.charge_version.ensures.total (fetched_versions g.S.Supplies.wires c.self.inside.versions.total wanted fetched old new
+          c.self.invariant.4 c.self.inside.desk.hosts c.args.source.now fetches),
     )
+
+pub returns-clause-aged : goal.returns-clause-aged
+returns-clause-aged g c =
+    fetched_aged c.deref.result.now c.deref-2.result.now c.args.shown c.fetch_from-fetched.result _ _ c.self.inside.desk.hosts
+    c.args.source.now c.fetch_from-fetched.ensures.fetches

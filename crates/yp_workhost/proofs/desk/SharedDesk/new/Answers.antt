@@ -1,5 +1,7 @@
 use Rattle.std.proofs.Common.{arith}
+use Rattle.yp_workhost.specs.Wires.{BeginsWithOrder, IsGood}
 use Rattle.yp_workhost.proofs.Dialing.{covers_none}
+use Rattle.yp_workhost.proofs.Sourcing.{sources_none}
 use Rattle.yp_workhost.proofs.desk.SharedDesk.new.Goals as goal
 
 pub invariant_of-result : goal.invariant_of-result
@@ -8,5 +10,7 @@ invariant_of-result g c =
     let before = c.requires.before.0 in (
       c.requires.supplied,
       λ below. omega (arith, none, before),
-      rw (c.requires.none.1, c.requires.before.1) (covers_none g.S.Supplies.wires),
+      rw (c.requires.none.1, c.requires.before.1) (covers_none BeginsWithOrder g.S.Supplies.wires),
+      rw (c.requires.none.2, c.requires.before.1, c.requires.before.2) (sources_none g.S.Supplies.wires g.S.Supplies.dial_faults),
+      rw (c.requires.none.3, c.requires.before.1) (covers_none IsGood g.S.Supplies.wires),
     )

@@ -4,7 +4,7 @@ use Rattle.std.specs.List.{All}
 use Rattle.std.proofs.lemmas.List.Elements.{All-push}
 use Rattle.yp_listen.specs.MemListen.{IsNew}
 use Rattle.yp_listen.specs.Trails.{MemConnection}
-use Rattle.yp_hosting_tests.proofs.stage.listener.Goals as goal
+use Rattle.yp_stage.proofs.outside.listener_of.Goals as goal
 
 -- one more connection that has met no fault and taken nothing, where there is memory for it
 added : (calls : List MemConnection) (call : MemConnection) (pushed : Bool) → All IsNew calls → IsNew call
@@ -12,7 +12,7 @@ added : (calls : List MemConnection) (call : MemConnection) (pushed : Bool) → 
 added calls call true all fresh = All-push IsNew calls call all fresh
 added calls call false all fresh = all
 
-pub loop-input-preserved : goal.loop-input-preserved
-loop-input-preserved g c =
+pub loop-words-preserved : goal.loop-words-preserved
+loop-words-preserved c =
     subst (All IsNew) (sym c.push.ensures.items)
-    (added c.loop-input.arrivals.items c.call.result (is_ok c.push.result) c.loop-input.invariant c.call.ensures)
+    (added c.loop-words.calls.items c.in_ok-call.call (is_ok c.push.result) c.loop-words.invariant c.in_ok-call.ensures)
