@@ -1,8 +1,8 @@
 //! A host of two maps, on which others show versions of the first.
 
-ghost use Rattle.std.specs.Prelude.{◌≡◌, ◌+◌, ◌<◌, None, length, min};
+ghost use Rattle.std.specs.Prelude.{◌≡◌, ◌<◌, None, length};
 ghost use Rattle.std.proofs.Common.{ap};
-ghost use Rattle.yp_io.specs.Counts.{last_count, next_count};
+ghost use Rattle.yp_io.specs.Counts.{next_count};
 
 use crate::given::assert_same;
 use std::alloc::Global;
@@ -15,7 +15,7 @@ use yp_io::{NoMemory, Peer};
 use yp_msgs::XfrStat;
 use yp_session::Host;
 use yp_version::{Version, VersionBuilder};
-use yp_worker::{CatchUp, HandsOver};
+use yp_worker::CatchUp;
 
 /// It makes no map: memory runs out. A transfer is counted.
 #[derive(Drop)]
@@ -76,21 +76,6 @@ impl CatchUp for TestHost {
     }
 }
 
-impl HandsOver for TestHost {
-    type Sum = u64;
-
-    ghost counted = { λ host. host.transfers };
-
-    ghost none = { 0 };
-
-    ghost plus = { λ sum more. min (sum + more) last_count };
-
-    fn hand_over(&mut self, sum: &mut u64) {
-        *sum = sum.saturating_add(self.transfers);
-        self.transfers = 0;
-    }
-}
-
 impl TestHost {
     /// How many transfers were carried out.
     pub fn transfers(&self) -> u64 {
@@ -99,7 +84,7 @@ impl TestHost {
 }
 
 /// A version of this order, in which `alpha` has this value.
-fn version<R: RandomSource + Abort>(
+pub fn version<R: RandomSource + Abort>(
     rt: &R,
     alloc: Global,
     order: u32,
@@ -112,8 +97,8 @@ fn version<R: RandomSource + Abort>(
     Arc::new(alloc, version).expect(rt, "a shared version")
 }
 
-// As many things as a catalogue has maps.
-fn assert_fits(rt: &impl Abort, count: usize, catalog: &Catalog)
+/// As many things as a catalogue has maps.
+pub fn assert_fits(rt: &impl Abort, count: usize, catalog: &Catalog)
     ensures { count ≡ length catalog.now.maps }
 {
     assert_eq!(rt; count, catalog.len() as usize);
@@ -139,9 +124,7 @@ pub fn catalog(rt: &impl Abort, alloc: Global) -> Catalog {
 }
 
 // A board of these maps, on which this version is shown of the first.
-fn board(rt: &impl Abort, alloc: Global, catalog: Catalog, version: Arc<Version>) -> PlainBoard
-    ensures { result.catalogue ≡ catalog }
-{
+fn board(rt: &impl Abort, alloc: Global, catalog: Catalog, version: Arc<Version>) -> PlainBoard {
     let start = vec![in alloc; Some(version), None].expect(rt, "versions");
     assert_fits(rt, start.len(), &catalog);
     PlainBoard::new(alloc, catalog, start).expect(rt, "a board")
@@ -158,41 +141,13 @@ fn waiting<R: RandomSource + Abort>(rt: &R, alloc: Global, values: &[&[u8]]) -> 
     waiting
 }
 
-/// A host of these maps that knows the value `alpha:1`, and behind which others show each of these values.
-pub fn host_on<R: RandomSource + Abort>(
-    rt: &R,
-    alloc: Global,
-    catalog: Catalog,
-    values: &[&[u8]],
-) -> TestHost
-    ensures catalogue { result.board.catalogue ≡ catalog }
-    ensures none { result.transfers ≡ 0 }
-{
+/// A host of passwd.byname that knows the value `alpha:1`, and behind which others show each of these values.
+pub fn host_of<R: RandomSource + Abort>(rt: &R, alloc: Global, values: &[&[u8]]) -> TestHost {
     let first = version(rt, alloc, 7, b"alpha:1");
     let waiting = waiting(rt, alloc, values);
     TestHost {
-        board: board(rt, alloc, catalog, first),
+        board: board(rt, alloc, catalog(rt, alloc), first),
         waiting,
         transfers: 0,
     }
-}
-
-/// The same of passwd.byname.
-pub fn host_of<R: RandomSource + Abort>(rt: &R, alloc: Global, values: &[&[u8]]) -> TestHost
-    ensures { result.transfers ≡ 0 }
-{
-    host_on(rt, alloc, catalog(rt, alloc), values)
-}
-
-/// Two hosts of the same maps, behind which nothing is shown.
-pub fn two_hosts<R: RandomSource + Abort>(rt: &R, alloc: Global) -> (TestHost, TestHost)
-    ensures catalogue { result.1.board.catalogue ≡ result.0.board.catalogue }
-    ensures none { (result.0.transfers ≡ 0) × (result.1.transfers ≡ 0) }
-{
-    let first = catalog(rt, alloc);
-    let second = first.copy(alloc).expect(rt, "a catalogue");
-    (
-        host_on(rt, alloc, first, &[]),
-        host_on(rt, alloc, second, &[]),
-    )
 }

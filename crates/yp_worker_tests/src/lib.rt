@@ -14,4 +14,6 @@ mod mail;
 #[cfg(test)]
 mod one;
 #[cfg(test)]
+mod reader;
+#[cfg(test)]
 mod run;

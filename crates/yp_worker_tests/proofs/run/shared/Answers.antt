@@ -6,7 +6,7 @@ pub run_beside-pass-requires-clause-first : goal.run_beside-pass-requires-clause
 run_beside-pass-requires-clause-first g c κs within =
     rw (c.worker.ensures, c.requires.starts) (record {
       catalogue = c.requires.first;
-      knows = (c.args.hosts.0.board.known, refl);
+      knows = (_, refl);
       most = c.requires.most;
     })
 
@@ -14,6 +14,6 @@ pub run_beside-pass-requires-clause-second : goal.run_beside-pass-requires-claus
 run_beside-pass-requires-clause-second g c κs within =
     rw (c.worker-2.ensures, c.requires.starts) (record {
       catalogue = c.requires.second;
-      knows = (c.args.hosts.1.board.known, refl);
+      knows = (_, refl);
       most = c.requires.most;
     })
