@@ -41,8 +41,14 @@ const UNACCEPTED: Row = Row {
     ..TWO_CONNECTIONS
 };
 
-static LISTENS: [Row; 5] = [
-    TWO_CONNECTIONS,
+static TWO: [Row; 1] = [TWO_CONNECTIONS];
+
+#[test]
+fn two_connections(rt: HostRuntime) {
+    try_rows(&rt, rt.alloc(), &TWO, &[]);
+}
+
+static LISTENS: [Row; 4] = [
     UNACCEPTED,
     Row {
         name: "the second accept fails",
@@ -64,7 +70,7 @@ static LISTENS: [Row; 5] = [
 ];
 
 #[test]
-fn each_accept_fails(rt: HostRuntime) {
+fn listen_fault(rt: HostRuntime) {
     try_rows(&rt, rt.alloc(), &LISTENS, &[]);
 }
 
@@ -80,6 +86,22 @@ const DATAGRAM: Row = Row {
     turns: 2,
     ..FAIR
 };
+
+/// Nobody is to connect.
+static ALONE: [Row; 1] = [Row {
+    name: "a datagram and a quiet turn",
+    words: &["serve", "m1", "7001", "1", "0", "2", "lab/hosts.byname"],
+    calls: &[],
+    most: 0,
+    output: "connections 0 calls 0\n",
+    takes: &[],
+    ..DATAGRAM
+}];
+
+#[test]
+fn datagram_null(rt: HostRuntime) {
+    try_rows(&rt, rt.alloc(), &ALONE, &[]);
+}
 
 /// A call of the inbox fails. The connection is served.
 const UNHEARD: Row = Row {

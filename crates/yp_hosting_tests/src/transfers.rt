@@ -111,8 +111,14 @@ static AFTER: [After; 2] = [FETCHED_ANEW, HAS_IT];
 
 // ---- the dial and its wire
 
-static DIALS: [Row; 4] = [
-    FETCHED,
+static WHOLE: [Row; 1] = [FETCHED];
+
+#[test]
+fn worker_transfer(rt: HostRuntime) {
+    try_rows(&rt, rt.alloc(), &WHOLE, &AFTER);
+}
+
+static DIALS: [Row; 3] = [
     Row {
         name: "no wire",
         dials: 0,
