@@ -1,5 +1,5 @@
 -- What a worker of datagrams knew, in the log of the writer.
-use Rattle.std.proofs.Common.{◌≡◌, Bool, true, ℕ, ◌++◌, get_or, Option, Some, None, Result, sym, ap, ◌∙◌, subst, append_assoc}
+use Rattle.std.proofs.Common.{◌≡◌, Bool, true, ℕ, ◌++◌, Option, Result, sym, ap, ◌∙◌, subst, append_assoc}
 use Rattle.std.specs.Prelude.{is_err}
 use Rattle.yp_io.specs.Counts.{HasRisen}
 use Rattle.yp_io.specs.declared.stream.Failed.{Failed}
@@ -13,13 +13,13 @@ use Rattle.yp_mailserve.specs.Mailing.{Mailing, Awaited}
 use Rattle.yp_mailserve.specs.Serving.{ServesMail}
 use Rattle.yp_serve.specs.declared.mail.Mailman.{Mailman}
 use Rattle.yp_serve.specs.Posts.{Mails}
-use Rattle.yp_worker.specs.Receptions.{Terms, Stay}
-use Rattle.yp_worker.specs.Summing.{Counting, CountsUpTo, SumsUp}
+use Rattle.yp_worker.specs.Receptions.{Terms}
+use Rattle.yp_worker.specs.Summing.{Counting}
 use Rattle.yp_listen.specs.Calls.{Calls}
 use Rattle.yp_serve.specs.Serving.{at_rest, no_counts, IsAtStart}
 use Rattle.yp_serve.specs.Counting.{CountsDatagrams, CountsAll}
 
-front_then : (a b c : Log) → IsFront a b → IsFront b c → IsFront a c
+pub front_then : (a b c : Log) → IsFront a b → IsFront b c → IsFront a c
 front_then a b c first second =
     (first.0 ++ second.0, second.1 ∙ ap (λ (l : Log). l ++ second.0) first.1 ∙ append_assoc a first.0 second.0)
 
@@ -49,65 +49,15 @@ answered {H} conduct counting catalogue starts log turns fault end old new first
       counted = counted;
     }
 
--- what was known in connections is a front of a longer log, too
-module _ {H T : Type 0} (conduct : Conduct H) (counting : Counting H T) (terms : Terms) (known log : Log)
-    (front : IsFront known log) where
-  further : (stay : Stay) (count : T) → CountsUpTo conduct counting terms stay count known
-      → CountsUpTo conduct counting terms stay count log
-  further stay count is = record {
-    served = is.served;
-    from_none = is.from_none;
-    counted = is.counted;
-    front = front_then (conduct.seen is.served.new.host).known known log is.front front;
-  }
-
-  pub sums_further : (door door' : Option Calls) (sum : T) → SumsUp conduct counting terms door door' sum known
-      → SumsUp conduct counting terms door door' sum log
-  sums_further None door' sum sums = tt
-  sums_further (Some old) None sum sums = tt
-  sums_further (Some old) (Some now) sum sums = record {
-    stays = sums.stays;
-    more_back = sums.more_back;
-    each = λ k d low. further (get_or sums.stays k d).0 (get_or sums.stays k d).1 (sums.each k d low);
-    sum_is = sums.sum_is;
-  }
-
+-- the log of the writer begins with what was shown at the start
 module _ {H T : Type 0} (conduct : Conduct H) (counting : Counting H T) (terms : Terms) (door door' : Option Calls)
-    (known log : Log) (turns : ℕ) (fault : Bool) (before after : Box) (all : T)
-    (counts : CountsAll conduct counting terms door door' known turns fault before after all)
-    (front : IsFront known log) where
-  -- a longer log
-  pub counted_in : CountsAll conduct counting terms door door' log turns fault before after all
-  counted_in =
-      let mail = counts.of_datagrams in record {
-        connections = counts.connections;
-        datagrams = counts.datagrams;
-        of_connections = sums_further conduct counting terms known log front door door' counts.connections
-            counts.of_connections;
-        of_datagrams = record {
-          served = record {
-            old = mail.served.old;
-            new = mail.served.new;
-            start = mail.served.start;
-            fresh = mail.served.fresh;
-            end = mail.served.end;
-            fault_is = mail.served.fault_is;
-            serves = mail.served.serves;
-            shown = front_then (conduct.seen mail.served.new).known known log mail.served.shown front;
-          };
-          from_none = mail.from_none;
-          counted = mail.counted;
-        };
-        all_is = counts.all_is;
-      }
-
-  -- it begins with what was shown at the start
+    (log : Log) (turns : ℕ) (fault : Bool) (before after : Box) (all : T)
+    (counts : CountsAll conduct counting terms door door' log turns fault before after all) where
   pub starts_in : IsFront terms.starts log
   starts_in =
       let mail = counts.of_datagrams.served in
       let begun = subst (λ (l : Log). IsFront l (conduct.seen mail.new).known) mail.start.known mail.serves.grown in
-      front_then terms.starts (conduct.seen mail.new).known log begun
-      (front_then (conduct.seen mail.new).known known log mail.shown front)
+      front_then terms.starts (conduct.seen mail.new).known log begun mail.shown
 
 -- what a worker of datagrams made of its turns, from a host that knew the start
 module _ {I H : Type 0} (conduct : Conduct H) (box : I → Box) (faults : I → ℕ) (catalogue : Catalogue)

@@ -3,6 +3,8 @@
 ghost use Rattle.std.specs.Prelude.{◌≡◌, ◌≤◌, ◌<◌, ◌+◌, [], length, true, vec_capacity};
 ghost use Rattle.std.specs.List.{All};
 ghost use Rattle.yp_io.specs.Counts.{HasRisen};
+ghost use Rattle.yp_board.specs.Logs.{Log};
+ghost use Rattle.yp_board.specs.Views.{IsFront};
 ghost use Rattle.yp_session.specs.Hosts.{conduct_of};
 ghost use Rattle.yp_worker.specs.Receptions.{IsFair, IsKept, IsUnder, opening_of, terms_of};
 ghost use Rattle.yp_workhost.specs.Makings.{Builds};
@@ -24,6 +26,7 @@ use yp_io::{Clock, Dial, Disk, Inbox, Texts};
 use yp_listen::Listen;
 use yp_session::{CALLS_MAX, Session};
 use yp_shared::{Accounts, Locked};
+use yp_worker::laws::sums_reach_further;
 use yp_worker::{Gate, HandsOver, Listening, Pass, Reception, Tally, Worker};
 use yp_workhost::{Account, Charges, SharedDesk, Supplies, WorkerHost};
 
@@ -198,9 +201,10 @@ impl<
             (terms_of J.catalogue J.starts J.most) J.opening
             (opening_of L.past L.most L.accepted L.faults result.0)
             result.1.connections result.1.calls result.1.listen_fault 0 1 }
-        ensures counted { CountsAll (conduct_at B.Reader.seen B.Reader.stepped J.text J.hosts) count_totals
+        ensures counted { (log : Log) → IsFront result.3.reached log
+            → CountsAll (conduct_at B.Reader.seen B.Reader.stepped J.text J.hosts) count_totals
             (terms_of J.catalogue J.starts J.most) J.opening.past (L.past result.0)
-            result.3.reached bag.turns result.2.fault
+            log bag.turns result.2.fault
             (box_of I.past I.turns I.quiets bag.inbox) (box_of I.past I.turns I.quiets result.2.inbox)
             result.3.totals }
         ensures cause { result.2.fault ≡ true → HasRisen (I.faults bag.inbox) (I.faults result.2.inbox) }
@@ -238,6 +242,7 @@ impl<
         let (inbox, mut host, fault) = gather(&mut pass, posts).into_parts();
         let (listen, tally, mut account) = listening.into_inner().close(&mut pass);
         host.hand_over(&mut account);
+        sums_reach_further::<WorkerHost<'a, J, D, B, A, T, C, &'a R>>();
         (listen, tally, Mailed { inbox, fault }, account)
     }
 }

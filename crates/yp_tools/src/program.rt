@@ -11,7 +11,7 @@ ghost use Rattle.yp_office.specs.Status.{note, IsTellable};
 ghost use Rattle.yp_worker.specs.Receptions.{IsFair, opening_of};
 ghost use Rattle.yp_hosting.specs.Serve.{ServeDoes, order_view, serve_may_end};
 ghost use Rattle.yp_tools.specs.Commands.{IsAlone, AloneDoes, CommandDoes, Does, MayEnd, may_end, office_of};
-ghost use Rattle.yp_tools.specs.Commands.{parse_status};
+ghost use Rattle.yp_tools.specs.Commands.{IsServer, AsksServer, parse_status};
 
 use crate::ask::ask;
 use crate::transferring::transfer;
@@ -280,7 +280,7 @@ where
     R: Threads + Wait + RandomSource + Sync,
     requires names { HasNames (meaning command) }
     requires disks { names_of outside.disks.items ≡ stores_of (meaning command) }
-    requires fair { IsFair (L.past outside.listen) }
+    requires fair { IsServer (meaning command) → IsFair (L.past outside.listen) }
     ensures does { CommandDoes (seeing S.Source K.Sink D.Disk C.Clock A.Dial I.Inbox T.Texts) (meaning command) result.0
         (office_of outside) (office_of result.1) (opening_of L.past L.most L.accepted L.faults outside.listen)
         (opening_of L.past L.most L.accepted L.faults result.1.listen) (W.wires witness.old) (W.wires witness.new) }
@@ -322,7 +322,7 @@ where
     W: Witness<S, K>,
     R: Threads + Wait + RandomSource + Sync,
     requires disks { names_of outside.disks.items ≡ disk_names (texts words.now) }
-    requires fair { IsFair (L.past outside.listen) }
+    requires fair { AsksServer (command_of (texts words.now)) → IsFair (L.past outside.listen) }
     ensures does { Does (seeing S.Source K.Sink D.Disk C.Clock A.Dial I.Inbox T.Texts)
         (command_of (texts words.now)) result.0 (office_of outside) (office_of result.1)
         (opening_of L.past L.most L.accepted L.faults outside.listen)
@@ -380,7 +380,7 @@ where
     T: Texts + Send + Drop,
     R: Threads + Wait + RandomSource + Sync,
     requires disks { names_of outside.disks.items ≡ disk_names (texts words.now) }
-    requires fair { IsFair (L.past outside.listen) }
+    requires fair { AsksServer (command_of (texts words.now)) → IsFair (L.past outside.listen) }
 
     // What is done for the words, by the one relation of their command, over the wires that a witness of the run saw
     // behind its answered records.

@@ -1,24 +1,26 @@
 use Rattle.std.proofs.Common.{arith, subst}
 use Rattle.yp_board.specs.Views.{IsFront}
-use Rattle.yp_serve.proofs.Fronts.{counted_in, starts_in}
+use Rattle.yp_serve.proofs.Fronts.{starts_in}
 use Rattle.yp_serve.proofs.serving.under_locks.Goals as goal
 
 pub returns-clause-datagrams : goal.returns-clause-datagrams
 returns-clause-datagrams g c =
-    (counted_in _ _ _ _ _ _ _ _ _ _ _ _ c.serve-listen.ensures.counted (subst (λ l. IsFront l (g.B.Show.log c.take_apart-disks.result.1)) c.into_parts-charges.ensures.reached
+    (c.serve-listen.ensures.counted (g.B.Show.log c.take_apart-disks.result.1)
+    (subst (λ l. IsFront l (g.B.Show.log c.take_apart-disks.result.1)) c.into_parts-charges.ensures.reached
     c.take_apart-disks.ensures.grown)).of_datagrams.served
 
 pub returns-clause-grown : goal.returns-clause-grown
 returns-clause-grown g c =
-    starts_in _ _ _ _ _ _ _ _ _ _ _ _ c.serve-listen.ensures.counted (subst (λ l. IsFront l (g.B.Show.log c.take_apart-disks.result.1)) c.into_parts-charges.ensures.reached
-    c.take_apart-disks.ensures.grown)
+    starts_in _ _ _ _ _ _ _ _ _ _ _ (c.serve-listen.ensures.counted (g.B.Show.log c.take_apart-disks.result.1)
+    (subst (λ l. IsFront l (g.B.Show.log c.take_apart-disks.result.1)) c.into_parts-charges.ensures.reached
+    c.take_apart-disks.ensures.grown))
 
 pub returns-clause-rises : goal.returns-clause-rises
 returns-clause-rises g c = c.take_apart-disks.ensures.rises
 
 pub returns-clause-counted : goal.returns-clause-counted
 returns-clause-counted g c =
-    rw c.into_parts-charges.ensures.totals (counted_in _ _ _ _ _ _ _ _ _ _ _ _ c.serve-listen.ensures.counted
+    rw c.into_parts-charges.ensures.totals (c.serve-listen.ensures.counted (g.B.Show.log c.take_apart-disks.result.1)
     (subst (λ l. IsFront l (g.B.Show.log c.take_apart-disks.result.1)) c.into_parts-charges.ensures.reached
     c.take_apart-disks.ensures.grown))
 
