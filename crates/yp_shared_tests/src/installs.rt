@@ -1,6 +1,6 @@
 //! Installs and tellings under one lock, in one thread.
 
-ghost use Rattle.std.specs.Prelude.{◌≡◌, ◌<◌, ◌≤◌, length, Option};
+ghost use Rattle.std.specs.Prelude.{◌≡◌, ◌+◌, ◌<◌, ◌≤◌, length, Option};
 ghost use Rattle.yp_io.specs.MemDisk.{Platter};
 ghost use Rattle.yp_version.specs.Versions.{MapVersion};
 ghost use Rattle.yp_publish.specs.Rising.{moment_of};
@@ -124,7 +124,7 @@ fn played<J: Naming, R: Wait + RandomSource + Abort>(
     let disk = disk(rt, alloc, failing);
     let (maps, mut readers) = publisher_of::<J, R>(rt, alloc, opened, disk, 1);
     let mut reader = one_of(rt, &mut readers);
-    let (failures, made, versions) = (Blank::new(3), Blank::new(3), Blank::new(3));
+    let (failures, made, versions) = (Blank::new(2), Blank::new(2), Blank::new(3));
     play_all::<J, Brand, R>(rt, alloc, maps, failures, made, versions, &mut reader, rows);
 }
 
@@ -145,8 +145,8 @@ fn play_all<'r, J: Naming, S: Site + Accounts, R: Wait + RandomSource + Abort>(
     requires first { moment_of (λ (w : Written). w.log) maps ≡ S.first }
     requires disks { faults_over (λ (p : Platter). p.faults) (disks_of maps.maps) ≡ S.disk_faults }
     requires names { (failures.name ≡ S.failures) × (made.name ≡ S.made) × (versions.name ≡ S.versions) }
-    requires parts { (failures.parts ≡ S.shares) × (made.parts ≡ S.shares) × (versions.parts ≡ S.shares) }
-    requires three { S.shares ≡ 3 }
+    requires parts { (failures.parts ≡ S.shares) × (made.parts ≡ S.shares) × (versions.parts ≡ S.shares + 1) }
+    requires two { S.shares ≡ 2 }
 {
     let (locked, mut charge, mut fetches) = open_all::<J, S, R>(maps, failures, made, versions);
     let shared = Mutex::new(locked);
@@ -170,17 +170,15 @@ fn open_all<'r, J: Naming, S: Site + Accounts, R: Wait + RandomSource + Abort>(
     requires first { moment_of (λ (w : Written). w.log) maps ≡ S.first }
     requires disks { faults_over (λ (p : Platter). p.faults) (disks_of maps.maps) ≡ S.disk_faults }
     requires names { (failures.name ≡ S.failures) × (made.name ≡ S.made) × (versions.name ≡ S.versions) }
-    requires parts { (failures.parts ≡ S.shares) × (made.parts ≡ S.shares) × (versions.parts ≡ S.shares) }
-    requires three { S.shares ≡ 3 }
+    requires parts { (failures.parts ≡ S.shares) × (made.parts ≡ S.shares) × (versions.parts ≡ S.shares + 1) }
+    requires two { S.shares ≡ 2 }
     ensures { result.1.parts ≡ 2 }
 {
-    let (failed, mut failures) = failures.open::<Failures<S>>();
-    let (shown, mut made) = made.open::<Made<S>>();
+    let (failed, failures) = failures.open::<Failures<S>>();
+    let (shown, made) = made.open::<Made<S>>();
     let (fetches, mut versions) = versions.open::<Versions<S>>();
-    // One part of the last stays under the lock, so one of each other isn't used.
+    // One part of the last stays under the lock.
     let kept = versions.split_off(1, 0);
-    let _ = failures.split_off(1, 0);
-    let _ = made.split_off(1, 0);
     let locked = Locked::new(maps, failed, shown, kept);
     (locked, Debits::new(failures, made, versions), fetches)
 }
@@ -259,7 +257,7 @@ fn told<J: Naming, R: Wait + RandomSource + Abort>(
     let (maps, mut readers) = publisher_of::<J, R>(rt, alloc, opened, disk, 2);
     let mut first = one_of(rt, &mut readers);
     let mut second = one_of(rt, &mut readers);
-    let (failures, made, versions) = (Blank::new(3), Blank::new(3), Blank::new(3));
+    let (failures, made, versions) = (Blank::new(2), Blank::new(2), Blank::new(3));
     tell_second::<J, Brand, R>(
         rt,
         alloc,
@@ -288,8 +286,8 @@ fn tell_second<'r, J: Naming, S: Site + Accounts, R: Wait + RandomSource + Abort
     requires first { moment_of (λ (w : Written). w.log) maps ≡ S.first }
     requires disks { faults_over (λ (p : Platter). p.faults) (disks_of maps.maps) ≡ S.disk_faults }
     requires names { (failures.name ≡ S.failures) × (made.name ≡ S.made) × (versions.name ≡ S.versions) }
-    requires parts { (failures.parts ≡ S.shares) × (made.parts ≡ S.shares) × (versions.parts ≡ S.shares) }
-    requires three { S.shares ≡ 3 }
+    requires parts { (failures.parts ≡ S.shares) × (made.parts ≡ S.shares) × (versions.parts ≡ S.shares + 1) }
+    requires two { S.shares ≡ 2 }
 {
     let (locked, mut charge, _fetches) = open_all::<J, S, R>(maps, failures, made, versions);
     let shared = Mutex::new(locked);
