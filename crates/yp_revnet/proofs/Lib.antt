@@ -8,3 +8,4 @@ mod Leading
 pub mod Joining
 mod Drafting
 mod Keyed
+mod Handing

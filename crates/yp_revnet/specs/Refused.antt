@@ -79,3 +79,13 @@ pub record IsSoFar (rows : List Row) (field : Field) (start draft : Draft) (keys
   pub whole : (key group : List ℕ) → Contains keys key → IsListed rows field key group
       → Contains (keys_of draft.rows) key
   pub within : (key : List ℕ) → Contains (keys_of draft.rows) key → Contains keys key
+
+-- each key that a group has is among these
+abbrev pub HasAllKeys : List Row → Field → List (List ℕ) → Type 0
+HasAllKeys rows field keys = (key group : List ℕ) → IsListed rows field key group → Contains keys key
+
+-- the rows of all keys are put, one behind the other
+pub record HasAllRows (rows : List Row) (field : Field) (start draft : Draft) : Type 0 where
+  pub keys : List (List ℕ)
+  pub so_far : IsSoFar rows field start draft keys
+  pub all : HasAllKeys rows field keys

@@ -1,18 +1,18 @@
 //! A netgroup map, reversed.
 
-ghost use Rattle.std.specs.Prelude.{◌≡◌, ◌≤◌, None, length, IfOk, IfErr};
+ghost use Rattle.std.specs.Prelude.{◌≡◌, ◌≤◌, [], None, length, IfOk, IfErr, OnOk};
 ghost use Rattle.yp_version.specs.Limits.{master_max};
 ghost use Rattle.yp_version.specs.Drafts.{first_refused, empty_draft};
 ghost use Rattle.yp_version.specs.Versions.{unmarked};
 ghost use Rattle.yp_revnet.specs.Reverse.{IsReverse};
-ghost use Rattle.yp_revnet.specs.Refused.{IsCause};
+ghost use Rattle.yp_revnet.specs.Refused.{IsCause, HasAllRows};
 
 use crate::fault::RevFault;
 use crate::field::Field;
 use crate::keys::{keys_of, listed};
 use crate::links::naming;
 use crate::rising::rising;
-use crate::rows::put_row;
+use crate::rows::put_rows;
 use std::alloc::Global;
 use std::random::RandomSource;
 use yp_version::laws::rising_stays;
@@ -39,13 +39,26 @@ pub fn reverse(
     ensures cause { IfErr result (λ fault. IsCause netgroup.now.rows field (empty_draft order master.now) fault) }
 {
     rising_stays();
+    let mut builder = VersionBuilder::new(alloc, rt, order, master)?;
+    put_all(alloc, rt, netgroup, field, &mut builder)?;
+    Ok(builder.finish()?)
+}
+
+// Puts the rows of all keys into a builder that has none.
+fn put_all(
+    alloc: Global,
+    rt: &impl RandomSource,
+    netgroup: &Version,
+    field: Field,
+    builder: &mut VersionBuilder,
+) -> Result<(), RevFault>
+    requires none { builder.old.rows ≡ [] }
+    ensures all { OnOk result (HasAllRows netgroup.now.rows field builder.old builder.new) }
+    ensures cause { IfErr result (λ fault. IsCause netgroup.now.rows field builder.old fault) }
+{
     let named = naming(alloc, rt, netgroup)?;
     let listings = field.listings(alloc, netgroup)?;
     let listed = listed(alloc, rt, &listings)?;
     let keys = rising(keys_of(alloc, &listings)?);
-    let mut builder = VersionBuilder::new(alloc, rt, order, master)?;
-    for key in &keys {
-        put_row(alloc, rt, &named, &listed, *key, &mut builder)?;
-    }
-    Ok(builder.finish()?)
+    put_rows(alloc, rt, &named, &listed, &keys, builder)
 }

@@ -1,13 +1,15 @@
 //! The rows of a reverse map, put one behind the other.
 
-ghost use Rattle.std.specs.Prelude.{◌≡◌, ◌⊎◌, List, IfOk, IfErr, OnOk};
-ghost use Rattle.yp_version.specs.Rows.{Row};
+ghost use Rattle.std.specs.Prelude.{◌≡◌, ◌⊎◌, List, [], IfErr, OnOk};
+ghost use Rattle.std.specs.List.Sorted.{IsStrictlySortedBy};
+ghost use Rattle.yp_version.specs.Rows.{Row, key_cmp};
+ghost use Rattle.yp_version.specs.Drafts.{Draft};
 ghost use Rattle.yp_revnet.specs.declared.field.Field.{Field};
 ghost use Rattle.yp_revnet.specs.declared.fault.RevFault.TheVariants.{NoMemory as WithoutMemory};
 ghost use Rattle.yp_revnet.specs.Links.{bytes_in};
 ghost use Rattle.yp_revnet.specs.Reverse.{IsReversed};
 ghost use Rattle.yp_revnet.specs.Groups.{IsGroups, IsKeptOf};
-ghost use Rattle.yp_revnet.specs.Refused.{IsPut, IsRefusal};
+ghost use Rattle.yp_revnet.specs.Refused.{IsPut, IsRefusal, IsCause, IsSoFar, HasAllKeys};
 
 use crate::fault::{RevFault, fault_of};
 use crate::groups::{commas, groups_of};
@@ -50,7 +52,7 @@ fn put_groups(
 }
 
 // Puts the row of a key behind those of lower keys, where a group has it.
-pub(crate) fn put_row(
+fn put_row(
     alloc: Global,
     rt: &impl RandomSource,
     named: &Links<'_>,
@@ -65,4 +67,27 @@ pub(crate) fn put_row(
 {
     let groups = groups_of(alloc, rt, named, listed, key)?;
     put_groups(alloc, key, &groups, builder)
+}
+
+// Puts the rows of keys, of each that a group has, one behind the other.
+pub(crate) fn put_rows(
+    alloc: Global,
+    rt: &impl RandomSource,
+    named: &Links<'_>,
+    listed: &Links<'_>,
+    keys: &[&[u8]],
+    builder: &mut VersionBuilder,
+) -> Result<(), RevFault>
+    requires rising { IsStrictlySortedBy key_cmp (bytes_in keys.now) }
+    ensures ok { OnOk result ((rows : List Row) (field : Field) (start : Draft)
+        → IsKeptOf rows field named.now listed.now → IsSoFar rows field start builder.old []
+        → IsSoFar rows field start builder.new (bytes_in keys.now)) }
+    ensures err { IfErr result (λ fault. (rows : List Row) (field : Field) (start : Draft)
+        → IsKeptOf rows field named.now listed.now → IsSoFar rows field start builder.old []
+        → HasAllKeys rows field (bytes_in keys.now) → IsCause rows field start fault) }
+{
+    for key in keys {
+        put_row(alloc, rt, named, listed, *key, builder)?;
+    }
+    Ok(())
 }

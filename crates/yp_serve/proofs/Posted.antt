@@ -80,6 +80,14 @@ module _ {J E H G I M N : Type 0} where
           },
         )
 
+    -- the one that was found then has made that of them
+    pub came_of : (mailman found : Mailman I H) (old new : List (Post J E H G I M N)) → IsManned mailman at_work old
+        → length new ≡ length old → AllWork mails old new
+        → ((last : Mailman I H) → IsManned last gone_home new → found ≡ last) → mails mailman found
+    came_of mailman found old new was len works is =
+        let all = worked mailman old new was len works in
+        subst (mails mailman) (sym (is all.0 all.2)) all.1
+
   -- the last of manned posts is that of the worker of datagrams, or of one of connections, behind manned posts
   pub popped : (mailman : Mailman I H) (held : Passed) (all front : List (Post J E H G I M N)) (last : Post J E H G I M N)
       → IsManned mailman held all → all ≡ front ++ last ∷ []

@@ -16,7 +16,8 @@ use Rattle.yp_worker.specs.Summing.{Counting, SumsUp, counting_of}
 use Rattle.yp_workhost.specs.declared.outcome.Totals.{Totals}
 use Rattle.yp_workhost.specs.Workers.{Worker}
 use Rattle.yp_workhost.specs.Charges.{no_totals, totals_plus, totals_of}
-use Rattle.yp_serve.specs.Serving.{ServesDatagrams}
+use Rattle.yp_serve.specs.declared.mail.Mailman.{Mailman}
+use Rattle.yp_serve.specs.Serving.{at_rest, no_counts, IsAtStart, ServesDatagrams}
 
 -- how the hosts of workers count
 abbrev pub count_totals : {V : Type 0} → Counting (Worker V) Totals
@@ -28,6 +29,15 @@ pub record CountsDatagrams {H T : Type 0} (conduct : Conduct H) (counting : Coun
   pub served : ServesDatagrams conduct catalogue starts log turns fault before after
   pub from_none : counting.counted served.old ≡ counting.none
   pub counted : counting.counted served.new ≡ count
+
+-- A worker of datagrams has a host that knows what was shown at the start, and has counted nothing yet.
+pub record BeginsMail {I H T : Type 0} (conduct : Conduct H) (counting : Counting H T) (catalogue : Catalogue)
+    (starts : Log) (mailman : Mailman I H) : Type 0 where
+  pub host : H
+  pub server_is : mailman.server ≡ at_rest host
+  pub start : IsAtStart catalogue starts (conduct.seen host)
+  pub fresh : conduct.counts host ≡ no_counts
+  pub from_none : counting.counted host ≡ counting.none
 
 -- What all hosts counted: in each connection that the listener got back, where it tells them, and in the turns of the
 -- datagrams. What was known at the end of each is a front of this log.

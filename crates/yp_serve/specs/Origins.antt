@@ -18,8 +18,8 @@ pub record Stems {D : Type 0} (history : D → Option History) (Is : Building) (
       fetched
 
 -- The same, and those that weren't built are at most the wires that came of the dial and give a version.
-pub record ComesFrom {D : Type 0} (history : D → Option History) (Is : Building) (first : Moment) (catalogue : Catalogue)
-    (log : Log) (disks : List D) (made : ℕ) (past past' : Option Wires) : Type 0 where
+pub record ComesFrom {D : Type 0} (history : D → Option History) (Is : Building) (first : Moment)
+    (catalogue : Catalogue) (log : Log) (disks : List D) (made : ℕ) (past past' : Option Wires) : Type 0 where
   pub fetched : ℕ
   pub stems : Stems history Is first catalogue log disks made fetched
   pub good : CoversBy IsGood past past' fetched

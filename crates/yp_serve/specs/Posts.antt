@@ -1,5 +1,5 @@
 -- The places at which a server works, side by side.
-use Rattle.std.specs.Prelude.{◌≡◌, ℕ, ◌+◌, ◌<◌, List, ◌∷◌, ◌++◌, length, slice_index_or, Result, is_err, true}
+use Rattle.std.specs.Prelude.{◌≡◌, ℕ, ◌+◌, ◌<◌, List, ◌∷◌, ◌++◌, length, slice_index_or, Result, is_err, true, false}
 use Rattle.std.specs.List.{All}
 use Rattle.yp_io.specs.Counts.{HasRisen}
 use Rattle.yp_io.specs.declared.stream.Failed.{Failed}
@@ -8,9 +8,22 @@ use Rattle.yp_turns.specs.Turns.{Box}
 use Rattle.yp_turns.specs.declared.turns.Ended.{Ended}
 use Rattle.yp_mailserve.specs.Serving.{ServesMail}
 use Rattle.yp_worker.specs.Receptions.{Passed}
+use Rattle.yp_workhost.specs.Workers.{Worker}
+use Rattle.yp_serve.specs.declared.mail.Mailbag.{Mailbag}
 use Rattle.yp_serve.specs.declared.mail.Mailman.{Mailman}
 use Rattle.yp_serve.specs.declared.crew.Post.{Post}
 use Rattle.yp_serve.specs.declared.crew.Post.TheVariants.{Connections, Datagrams}
+use Rattle.yp_serve.specs.Serving.{at_rest, fresh_worker}
+
+-- a worker of datagrams with what is in this bag, before its first turn
+abbrev pub mailman_of : {I V : Type 0} → Mailbag I V → Mailman I (Worker V)
+mailman_of bag = record {
+  inbox = bag.inbox;
+  server = at_rest (fresh_worker bag.reader);
+  room = bag.room;
+  turns = bag.turns;
+  fault = false;
+}
 
 -- what a worker of datagrams made of its turns
 pub record Mails {I H : Type 0} (conduct : Conduct H) (box : I → Box) (faults : I → ℕ) (old new : Mailman I H)
@@ -21,8 +34,8 @@ pub record Mails {I H : Type 0} (conduct : Conduct H) (box : I → Box) (faults 
   pub cause : new.fault ≡ true → HasRisen (faults old.inbox) (faults new.inbox)
 
 -- what work leaves of a post: a worker of connections has ended, and a worker of datagrams has made this of them
-abbrev pub Works : {J E H G I M N : Type 0} → (Mailman I H → Mailman I H → Type 0) → Post J E H G I M N → Post J E H G I M N
-    → Type 0
+abbrev pub Works : {J E H G I M N : Type 0} → (Mailman I H → Mailman I H → Type 0) → Post J E H G I M N
+    → Post J E H G I M N → Type 0
 Works mails (Connections old) (Connections new) = new ≡ record old { ended = old.ended + 1 }
 Works mails (Datagrams old) (Datagrams new) = mails old new
 Works mails old new = ⊥

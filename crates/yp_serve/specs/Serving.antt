@@ -31,6 +31,16 @@ conduct_at seen stepped text hosts =
     conduct_of (λ host. seen host.reader) (λ host. texts_alone text) counts_of (Stepped stepped) (Made seen text)
     (λ taken peer. Carried seen hosts taken)
 
+-- a host that has counted nothing yet
+abbrev pub fresh_worker : {V : Type 0} → V → Worker V
+fresh_worker reader = record {
+  reader = reader;
+  files = 0;
+  made = 0;
+  transfers = 0;
+  outcomes = record { no_address = 0; no_memory = 0; file = 0; source = 0; reached = 0 };
+}
+
 -- A reader of these maps knows what was shown at the start.
 pub record IsAtStart (catalogue : Catalogue) (starts : Log) (seen : Seen) : Type 0 where
   pub catalogue_is : seen.catalogue ≡ catalogue

@@ -1,13 +1,18 @@
 //! Workers that run side by side.
 
-ghost use Rattle.std.specs.Prelude.{◌≡◌, ◌+◌, length};
+ghost use Rattle.std.specs.Prelude.{◌≡◌, ◌<◌, ◌+◌, length, true};
+ghost use Rattle.yp_io.specs.Counts.{HasRisen};
+ghost use Rattle.yp_board.specs.Logs.{Log};
+ghost use Rattle.yp_board.specs.Views.{IsFront};
 ghost use Rattle.yp_session.specs.Hosts.{conduct_of};
-ghost use Rattle.yp_worker.specs.Receptions.{IsUnder, terms_of};
+ghost use Rattle.yp_worker.specs.Receptions.{IsKept, IsUnder, opening_of, terms_of};
+ghost use Rattle.yp_worker.specs.Summing.{counting_of};
 ghost use Rattle.yp_turns.specs.Turns.{box_of};
-ghost use Rattle.yp_serve.specs.Serving.{gone_home};
+ghost use Rattle.yp_serve.specs.Counting.{BeginsMail, CountsAll};
+ghost use Rattle.yp_serve.specs.Serving.{at_work, gone_home};
 ghost use Rattle.yp_serve.specs.Posts.{Mails, Works, AllWork, IsManned};
 
-use crate::mail::Mailman;
+use crate::mail::{Mailed, Mailman};
 use crate::spec::WORKERS_MAX;
 use std::marker::Model;
 use std::sync::ledger::Ledger;
@@ -15,7 +20,8 @@ use std::sync::{Mutex, Wait};
 use std::thread::{Threads, for_each_mut};
 use yp_io::Inbox;
 use yp_listen::Listen;
-use yp_worker::{Gate, HandsOver, Listening, Pass, Reception, Worker};
+use yp_worker::laws::sums_reach_further;
+use yp_worker::{Gate, HandsOver, Listening, Pass, Reception, Tally, Worker};
 
 /// A worker of a listener, with what it holds of that. It is seen as this.
 #[derive(Drop)]
@@ -86,8 +92,53 @@ impl<J: Reception, E: Ledger, H: HandsOver, G: Gate + Copy, I: Inbox> Post<J, E,
     }
 }
 
+/// Serves the connections of a listener at all posts but the first, and the datagrams of an inbox at the first, side by
+/// side, until all have ended. What came of the connections and of the datagrams, and the sum of what was counted.
+pub(crate) fn serve_posts<J, E, H, G, L, I, R: Threads + Wait + Sync>(
+    rt: &R,
+    listening: Listening<J, E, H, L>,
+    posts: Vec<Post<J, E, H, G, I>>,
+    mut pass: Pass<J, E>,
+) -> (L, Tally, Mailed<I>, H::Sum)
+where
+    J: Reception + Send + Sync,
+    E: Ledger + Send + Sync,
+    H: HandsOver + Send + Drop,
+    H::Sum: Send,
+    G: Gate + Copy + Send + Drop,
+    I: Inbox + Send + Drop,
+    L: Listen + Send,
+    L::In: Send,
+    L::Out: Send,
+    requires manned { (mailman : Mailman I H) × IsManned mailman at_work posts.items }
+    requires some { 1 < length posts.items }
+    requires parts { length posts.items ≡ J.parts }
+    requires pass { pass ≡ at_work }
+    ensures kept { IsKept (conduct_of H.seen H.told H.counts H.stepped H.made H.carried)
+        (terms_of J.catalogue J.starts J.most) J.opening (opening_of L.past L.most L.accepted L.faults result.0)
+        result.1.connections result.1.calls result.1.listen_fault 0 1 }
+    ensures counted { (mailman : Mailman I H) → IsManned mailman at_work posts.items
+        → BeginsMail (conduct_of H.seen H.told H.counts H.stepped H.made H.carried)
+        (counting_of H.counted H.none H.plus) J.catalogue J.starts mailman
+        → (log : Log) → IsFront (H.reached result.3) log
+        → CountsAll (conduct_of H.seen H.told H.counts H.stepped H.made H.carried)
+        (counting_of H.counted H.none H.plus) (terms_of J.catalogue J.starts J.most) J.opening.past (L.past result.0)
+        log mailman.turns result.2.fault (box_of I.past I.turns I.quiets mailman.inbox)
+        (box_of I.past I.turns I.quiets result.2.inbox) (H.summed result.3) }
+    ensures cause { (mailman : Mailman I H) → IsManned mailman at_work posts.items
+        → result.2.fault ≡ true → HasRisen (I.faults mailman.inbox) (I.faults result.2.inbox) }
+{
+    let listening = Mutex::new(listening);
+    let posts = run_all(rt, &listening, posts);
+    let mailman = gather(&mut pass, posts);
+    let (listen, tally, mut sum) = listening.into_inner().close(&mut pass);
+    let mailed = mailman.hand_over(&mut sum);
+    sums_reach_further::<H>();
+    (listen, tally, mailed, sum)
+}
+
 /// Works at all posts side by side, and hands them back.
-pub(crate) fn run_all<J, E, H, G, L, I, R: Threads + Wait + Sync>(
+fn run_all<J, E, H, G, L, I, R: Threads + Wait + Sync>(
     rt: &R,
     listening: &Mutex<Listening<J, E, H, L>>,
     mut posts: Vec<Post<J, E, H, G, I>>,
@@ -140,7 +191,7 @@ where
 }
 
 /// Takes in what each worker of connections holds, and answers the worker of datagrams, once all have ended.
-pub(crate) fn gather<J, E, H, G, I>(
+fn gather<J, E, H, G, I>(
     pass: &mut Pass<J, E>,
     mut posts: Vec<Post<J, E, H, G, I>>,
 ) -> Mailman<I, H>

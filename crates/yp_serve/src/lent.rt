@@ -1,6 +1,6 @@
 //! What workers are lent, and how it comes back.
 
-ghost use Rattle.std.specs.Prelude.{◌≡◌, ℕ, ◌+◌, ◌-◌, ◌^◌, ◌<◌, ◌≤◌, [], ◌∷◌, ◌++◌, length, vec_len, IfOk};
+ghost use Rattle.std.specs.Prelude.{◌≡◌, ℕ, ◌+◌, ◌≤◌, [], ◌∷◌, ◌++◌, length, vec_len, IfOk};
 ghost use Rattle.yp_board.specs.Views.{IsFront};
 ghost use Rattle.yp_serve.specs.Serving.{Leaves};
 ghost use Rattle.yp_serve.specs.Counting.{IsWell};
@@ -9,20 +9,18 @@ ghost use Rattle.yp_publish.specs.Standing.{OfMap, IsNumbered};
 ghost use Rattle.yp_publish.specs.Rising.{IsStart, IsRisingLog};
 ghost use Rattle.yp_publish.specs.Grown.{AreTold};
 ghost use Rattle.yp_shared.specs.Failures.{disks_of, faults_over};
-ghost use Rattle.yp_workhost.specs.Charges.{free_of_charge};
 ghost use Rattle.yp_serve.specs.Origins.{Stems};
 
 use crate::spec::ServeRefused;
 use std::alloc::Global;
-use std::sync::ledger::{Blank, Book, Share};
+use std::sync::ledger::Share;
 use yp_board::{Show, Tell};
 use yp_io::{Disk, NoMemory};
 use yp_publish::Publisher;
 use yp_server::Desk;
 use yp_session::Session;
-use yp_shared::{Accounts, Debits, Failures, Locked, Made, Site, Versions};
+use yp_shared::{Accounts, Debits, Locked, Site, Versions};
 use yp_turns::Room;
-use yp_workhost::{Charges, Orders, Sources, Supplies, Unread};
 
 /// What all workers share.
 #[derive(Drop)]
@@ -89,90 +87,6 @@ pub(crate) fn take_apart<S: Site + Accounts, D: Disk, B: Tell>(
     let (publisher, versions) = locked.close(charge);
     let (disks, board) = disassemble(publisher);
     (disks, board, versions)
-}
-
-/// Ledgers that nothing stands for yet, of what is counted under the locks.
-#[derive(Drop)]
-pub(crate) struct Blanks {
-    pub(crate) unread: Blank,
-    pub(crate) orders: Blank,
-    pub(crate) sources: Blank,
-    pub(crate) failures: Blank,
-    pub(crate) made: Blank,
-    pub(crate) versions: Blank,
-}
-
-impl Blanks {
-    /// Ledgers in so many parts, but for one part more of fetched versions, which lies with the publisher.
-    pub(crate) fn new(parts: u64) -> Blanks
-        requires { parts < 2 ^ 64 - 1 }
-        ensures unread { result.unread.parts ≡ parts }
-        ensures orders { result.orders.parts ≡ parts }
-        ensures sources { result.sources.parts ≡ parts }
-        ensures failures { result.failures.parts ≡ parts }
-        ensures made { result.made.parts ≡ parts }
-        ensures versions { result.versions.parts ≡ parts + 1 }
-    {
-        Blanks {
-            unread: Blank::new(parts),
-            orders: Blank::new(parts),
-            sources: Blank::new(parts),
-            failures: Blank::new(parts),
-            made: Blank::new(parts),
-            versions: Blank::new(parts + 1),
-        }
-    }
-}
-
-/// The books of what is counted under the locks.
-#[derive(Drop)]
-pub(crate) struct Books<S: Accounts + Supplies> {
-    pub(crate) unread: Book<Unread<S>>,
-    pub(crate) orders: Book<Orders<S>>,
-    pub(crate) sources: Book<Sources<S>>,
-    pub(crate) fetched: Book<Versions<S>>,
-    pub(crate) failures: Book<Failures<S>>,
-    pub(crate) made: Book<Made<S>>,
-    /// What stands for fetched versions that are installed: none yet.
-    pub(crate) versions: Share<Versions<S>>,
-}
-
-impl<S: Accounts + Supplies> Books<S> {
-    /// The books of these ledgers, and what all workers are charged by.
-    pub(crate) fn open(blanks: Blanks) -> (Books<S>, Charges<S>)
-        requires unread { (blanks.unread.name ≡ S.unread) × (blanks.unread.parts ≡ S.shares) }
-        requires orders { (blanks.orders.name ≡ S.orders) × (blanks.orders.parts ≡ S.shares) }
-        requires sources { (blanks.sources.name ≡ S.sources) × (blanks.sources.parts ≡ S.shares) }
-        requires failures { (blanks.failures.name ≡ S.failures) × (blanks.failures.parts ≡ S.shares) }
-        requires made { (blanks.made.name ≡ S.made) × (blanks.made.parts ≡ S.shares) }
-        requires versions { (blanks.versions.name ≡ S.versions) × (blanks.versions.parts ≡ S.shares + 1) }
-        requires some { 0 < S.shares }
-        ensures desk { (result.0.unread.total ≡ 0) × (result.0.orders.total ≡ 0) × (result.0.sources.total ≡ 0)
-            × (result.0.fetched.total ≡ 0) }
-        ensures publisher { (result.0.failures.total ≡ 0) × (result.0.made.total ≡ 0)
-            × (result.0.versions.parts ≡ 1) }
-        ensures charges { result.1 ≡ free_of_charge S.shares }
-    {
-        let (unread, own_unread) = blanks.unread.open::<Unread<S>>();
-        let (orders, own_orders) = blanks.orders.open::<Orders<S>>();
-        let (sources, own_sources) = blanks.sources.open::<Sources<S>>();
-        let (failures, own_failures) = blanks.failures.open::<Failures<S>>();
-        let (made, own_made) = blanks.made.open::<Made<S>>();
-        let (fetched, mut own_versions) = blanks.versions.open::<Versions<S>>();
-        let versions = own_versions.split_off(1, 0);
-        let debits = Debits::new(own_failures, own_made, own_versions);
-        let charges = Charges::new(own_unread, own_orders, own_sources, debits);
-        let books = Books {
-            unread,
-            orders,
-            sources,
-            fetched,
-            failures,
-            made,
-            versions,
-        };
-        (books, charges)
-    }
 }
 
 /// What workers work with: the memory of a session and a reader for each, and what the worker of datagrams works with.

@@ -9,6 +9,7 @@
 
 mod crew;
 mod lent;
+mod locks;
 mod mail;
 mod seats;
 mod serving;

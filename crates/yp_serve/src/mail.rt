@@ -1,6 +1,7 @@
 //! The datagrams of an inbox, answered beside the connections.
 
 ghost use Rattle.std.specs.Prelude.{◌≡◌, false};
+ghost use Rattle.yp_board.specs.Views.{IsFront};
 ghost use Rattle.yp_session.specs.Hosts.{conduct_of};
 ghost use Rattle.yp_turns.specs.Turns.{box_of};
 ghost use Rattle.yp_serve.specs.Serving.{at_rest};
@@ -9,7 +10,7 @@ ghost use Rattle.yp_serve.specs.Posts.{Mails};
 use yp_io::Inbox;
 use yp_mailserve::{MailServer, serve_mail};
 use yp_turns::Room;
-use yp_worker::CatchUp;
+use yp_worker::{CatchUp, HandsOver};
 
 /// What the worker of datagrams works with: an inbox, the most turns of it, a reader of the maps, and the memory of a
 /// datagram and of its reply.
@@ -41,9 +42,13 @@ pub(crate) struct Mailman<I, H: CatchUp> {
 impl<I: Inbox, H: CatchUp> Mailman<I, H> {
     /// A worker with this host, which has taken no turn yet.
     pub(crate) fn new(inbox: I, host: H, room: Room, turns: u32) -> Mailman<I, H>
-        ensures inbox { result.inbox ≡ inbox }
-        ensures server { result.server ≡ at_rest host }
-        ensures turns { result.turns ≡ turns }
+        ensures { result ≡ record {
+          inbox = inbox;
+          server = at_rest host;
+          room = room;
+          turns = turns;
+          fault = false;
+        } }
     {
         Mailman {
             inbox,
@@ -67,12 +72,15 @@ impl<I: Inbox, H: CatchUp> Mailman<I, H> {
         );
         self.fault = ended.is_err();
     }
+}
 
-    /// The inbox, the host, and whether the inbox has failed.
-    pub(crate) fn into_parts(self) -> (I, H, bool)
-        ensures inbox { result.0 ≡ self.inbox }
-        ensures host { result.1 ≡ self.server.host }
-        ensures fault { result.2 ≡ self.fault }
+impl<I, H: HandsOver + Drop> Mailman<I, H> {
+    /// Adds what its host has counted to a sum, and hands back what came of the inbox.
+    pub(crate) fn hand_over(self, sum: &mut H::Sum) -> Mailed<I>
+        ensures mailed { (result.inbox ≡ self.inbox) × (result.fault ≡ self.fault) }
+        ensures added { H.summed sum.new ≡ H.plus (H.summed sum.old) (H.counted self.server.host) }
+        ensures covered { IsFront (H.seen self.server.host).known (H.reached sum.new) }
+        ensures kept { IsFront (H.reached sum.old) (H.reached sum.new) }
     {
         let Mailman {
             inbox,
@@ -81,6 +89,8 @@ impl<I: Inbox, H: CatchUp> Mailman<I, H> {
             turns: _,
             fault,
         } = self;
-        (inbox, server.into_host(), fault)
+        let mut host = server.into_host();
+        host.hand_over(sum);
+        Mailed { inbox, fault }
     }
 }

@@ -5,16 +5,15 @@ ghost use Rattle.std.specs.List.{All};
 ghost use Rattle.yp_io.specs.Counts.{HasRisen};
 ghost use Rattle.yp_board.specs.Logs.{Log};
 ghost use Rattle.yp_board.specs.Views.{IsFront};
-ghost use Rattle.yp_session.specs.Hosts.{conduct_of};
 ghost use Rattle.yp_worker.specs.Receptions.{IsFair, IsKept, IsUnder, opening_of, terms_of};
 ghost use Rattle.yp_workhost.specs.Makings.{Builds};
-ghost use Rattle.yp_workhost.specs.Charges.{free_of_charge, no_totals, totals_of};
+ghost use Rattle.yp_workhost.specs.Charges.{no_totals, totals_of};
 ghost use Rattle.yp_turns.specs.Turns.{box_of};
 ghost use Rattle.yp_serve.specs.Serving.{at_work, conduct_at, IsAtStart};
+ghost use Rattle.yp_serve.specs.Posts.{IsManned, IsSeated, mailman_of};
 ghost use Rattle.yp_serve.specs.Counting.{CountsAll, count_totals};
-ghost use Rattle.yp_serve.specs.Posts.{IsSeated};
 
-use crate::crew::{Post, Seat, gather, run_all};
+use crate::crew::{Post, Seat, serve_posts};
 use crate::mail::{Mailbag, Mailed, Mailman};
 use std::alloc::Global;
 use std::random::RandomSource;
@@ -26,8 +25,7 @@ use yp_io::{Clock, Dial, Disk, Inbox, Texts};
 use yp_listen::Listen;
 use yp_session::{CALLS_MAX, Session};
 use yp_shared::{Accounts, Locked};
-use yp_worker::laws::sums_reach_further;
-use yp_worker::{Gate, HandsOver, Listening, Pass, Reception, Tally, Worker};
+use yp_worker::{Gate, Listening, Pass, Reception, Tally, Worker};
 use yp_workhost::{Account, Charges, SharedDesk, Supplies, WorkerHost};
 
 /// What each worker is lent: the locks of the publisher and of the desk, the gate, and the most records of a
@@ -150,6 +148,48 @@ impl<
             posts.push_reserved(Post::Connections(seat));
         }
     }
+
+    /// Makes the worker of the datagrams, and behind it a worker of each reader.
+    fn post_all<E: Ledger, I: Inbox>(
+        &self,
+        posts: &mut Vec<Post<J, E, WorkerHost<'a, J, D, B, A, T, C, &'a R>, &'a G, I>>,
+        sessions: Vec<Session>,
+        readers: Vec<B::Reader>,
+        bag: Mailbag<I, B::Reader>,
+        charges: &mut Charges<J>,
+        out: &mut Share<J>,
+        ended: &mut Share<E>,
+    )
+    where
+        B::Reader: Drop,
+        requires most { (self.now.most ≡ J.most) × (self.now.most ≤ CALLS_MAX) }
+        requires readers { length readers.items ≡ length sessions.items }
+        requires knows { All (λ reader. IsAtStart J.catalogue J.starts (B.Reader.seen reader)) readers.items }
+        requires bag { IsAtStart J.catalogue J.starts (B.Reader.seen bag.reader) }
+        requires builds { Builds J.text J.catalogue.own J.built }
+        requires none { posts.old.items ≡ [] }
+        requires room { length sessions.items + 1 ≤ vec_capacity posts.old }
+        requires out { (out.old.parts ≡ length sessions.items + 1) × (out.old.amount ≡ 0) }
+        requires ended { (ended.old.parts ≡ length sessions.items + 1) × (ended.old.amount ≡ 0) }
+        requires charges { length sessions.items + 3 ≡ charges.old.parts }
+        ensures manned { IsManned (mailman_of bag) at_work posts.new.items }
+        ensures count { length posts.new.items ≡ length sessions.items + 1 }
+        ensures out { (out.new.parts ≡ 1) × (out.new.amount ≡ 0) }
+        ensures ended { (ended.new.parts ≡ 1) × (ended.new.amount ≡ 0) }
+        ensures charges { charges.new.parts ≡ 2 }
+    {
+        let host = WorkerHost::new(
+            self.alloc,
+            self.rt,
+            bag.reader,
+            self.publisher,
+            self.desk,
+            charges.split_off(),
+        );
+        let mailman = Mailman::new(bag.inbox, host, bag.room, bag.turns);
+        posts.push_reserved(Post::Datagrams(mailman));
+        self.seat_all(posts, sessions, readers, charges, out, ended);
+    }
 }
 
 impl<
@@ -173,7 +213,7 @@ impl<
         listen: L,
         out: Blank,
         ended: Blank,
-        charges: Charges<J>,
+        mut charges: Charges<J>,
         bag: Mailbag<I, B::Reader>,
     ) -> (L, Tally, Mailed<I>, Account<J, B>)
     where
@@ -211,38 +251,17 @@ impl<
     {
         let (book, mut share) = out.open::<J>();
         let (ends, mut mine) = ended.open::<E>();
-        let mut charges = charges;
         let front = B::known(&bag.reader);
-        let host = WorkerHost::new(
-            self.alloc,
-            self.rt,
-            bag.reader,
-            self.publisher,
-            self.desk,
-            charges.split_off(),
-        );
-        let mailman = Mailman::new(bag.inbox, host, bag.room, bag.turns);
-        posts.push_reserved(Post::Datagrams(mailman));
-        self.seat_all(
+        self.post_all(
             &mut posts,
             sessions,
             readers,
+            bag,
             &mut charges,
             &mut share,
             &mut mine,
         );
-        let listening = Mutex::new(Listening::<
-            J,
-            E,
-            WorkerHost<'a, J, D, B, A, T, C, &'a R>,
-            L,
-        >::new(listen, book, ends, Account::new(charges, front)));
-        let posts = run_all(self.rt, &listening, posts);
-        let mut pass = Pass::new(share, mine);
-        let (inbox, mut host, fault) = gather(&mut pass, posts).into_parts();
-        let (listen, tally, mut account) = listening.into_inner().close(&mut pass);
-        host.hand_over(&mut account);
-        sums_reach_further::<WorkerHost<'a, J, D, B, A, T, C, &'a R>>();
-        (listen, tally, Mailed { inbox, fault }, account)
+        let listening = Listening::new(listen, book, ends, Account::new(charges, front));
+        serve_posts(self.rt, listening, posts, Pass::new(share, mine))
     }
 }

@@ -16,15 +16,16 @@ ghost use Rattle.yp_workhost.specs.Wires.{CoversOrders, CoversSources};
 ghost use Rattle.yp_serve.specs.Counting.{count_totals, CountsAll, FilesAreCovered};
 ghost use Rattle.yp_serve.specs.Origins.{ComesFrom};
 
-use crate::lent::{Blanks, Books, Lent, Staff, refuse, take_apart};
+use crate::lent::{Lent, Staff, refuse};
+use crate::locks::{Blanks, lock_up, unlock};
 use crate::mail::Mailbag;
 use crate::seats::Workplace;
 use crate::spec::{ServeRefused, ServeSpec, Served};
 use std::alloc::Global;
 use std::marker::Brand;
 use std::random::RandomSource;
+use std::sync::Wait;
 use std::sync::ledger::{Blank, Ledger};
-use std::sync::{Mutex, Wait};
 use std::thread::Threads;
 use yp_board::Tell;
 use yp_io::{Clock, Dial, Disk, Inbox, Texts};
@@ -32,9 +33,9 @@ use yp_listen::Listen;
 use yp_publish::Publisher;
 use yp_server::Desk;
 use yp_session::CALLS_MAX;
-use yp_shared::{Accounts, Locked};
+use yp_shared::Accounts;
 use yp_worker::{Gate, Reception};
-use yp_workhost::{SharedDesk, Supplies};
+use yp_workhost::Supplies;
 
 /// Serves the connections of a listener and the datagrams of an inbox, over maps and a desk that all workers share:
 /// connections until as many were accepted as are to be or an accept has failed, datagrams until all turns are taken or
@@ -253,18 +254,7 @@ where
         spare,
         room,
     } = staff;
-    let (books, charges) = Books::<J>::open(blanks);
-    let Books {
-        unread,
-        orders,
-        sources,
-        fetched,
-        failures,
-        made,
-        versions,
-    } = books;
-    let publisher = Mutex::new(Locked::<J, D, B>::new(lent.publisher, failures, made, versions));
-    let desk = Mutex::new(SharedDesk::new(lent.desk, unread, orders, sources, fetched));
+    let (publisher, desk, charges) = lock_up::<J, D, B, A, T, C>(lent.publisher, lent.desk, blanks);
     let place = Workplace {
         alloc,
         rt,
@@ -289,12 +279,7 @@ where
         charges,
         bag,
     );
-    let (totals, charges, front) = account.into_parts();
-    let (mut unread, mut reached, mut failed, mut debits) = charges.into_shares();
-    let (disks, writer, mut versions) = take_apart(publisher.into_inner(), &front, &mut debits);
-    let desk = desk
-        .into_inner()
-        .close(&mut unread, &mut reached, &mut failed, &mut versions);
+    let (disks, writer, desk, totals) = unlock(publisher, desk, account);
     Ok(Served {
         disks,
         desk,

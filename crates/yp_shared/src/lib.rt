@@ -5,8 +5,8 @@
 //! reader, which the lock's writer tells of all that was shown, stands on [`install_shared`]; what a crash leaves of
 //! each map at any moment under the lock, on [`Locked::install`]. What is said of all installs stands on
 //! [`Locked::close`]: how many files failed is at most what the counts of the disks rose by; as many versions as were
-//! charged as built are shown, each built behind the last one of its map; and the others that are shown, with those that
-//! maps are behind, are no more than were fetched.
+//! charged as built are shown, each built behind the last one of its map; and the others that are shown, with those
+//! that maps are behind, are no more than were fetched.
 #![tactic(auto)]
 
 mod debits;

@@ -141,8 +141,8 @@ pub enum ShareFault {
 }
 
 /// A publisher of the maps that are served, for a lock to keep, with the books of the files that failed and of the
-/// built versions that were shown since it is shared, and with what stands for the fetched versions that were installed.
-/// It is seen as that publisher.
+/// built versions that were shown since it is shared, and with what stands for the fetched versions that were
+/// installed. It is seen as that publisher.
 #[derive(Drop)]
 pub struct Locked<S: Site + Accounts, D: Disk, B: Show> {
     publisher: Publisher<D, B>,

@@ -1,0 +1,63 @@
+use Rattle.std.proofs.Common.{ap, arith}
+use Rattle.yp_session.specs.Hosts.{conduct_of}
+use Rattle.yp_turns.specs.Turns.{box_of}
+use Rattle.yp_worker.specs.Receptions.{Passed, terms_of}
+use Rattle.yp_worker.specs.Summing.{counting_of}
+use Rattle.yp_serve.specs.Posts.{Mails}
+use Rattle.yp_serve.proofs.Fronts.{front_then, mailed, mail_fails}
+use Rattle.yp_serve.proofs.Posted.{came_of, worked}
+use Rattle.yp_serve.proofs.crew.serve_posts.Goals as goal
+
+pub gather-mailman-requires : goal.gather-mailman-requires
+gather-mailman-requires g c =
+    let all = worked _ c.requires.manned.0 c.args.posts.items c.run_all-posts.result.items c.requires.manned.1
+    c.run_all-posts.ensures.count c.run_all-posts.ensures.works in
+    (all.0, all.2)
+
+pub close-listen-requires-clause-all : goal.close-listen-requires-clause-all
+close-listen-requires-clause-all g c =
+    let begun = ap (λ (p : Passed). p.parts) c.requires.pass in
+    omega (arith, c.gather-mailman.ensures.parts, begun, c.run_all-posts.ensures.count, c.requires.parts)
+
+pub close-listen-requires-clause-none_out : goal.close-listen-requires-clause-none_out
+close-listen-requires-clause-none_out g c =
+    let begun = ap (λ (p : Passed). p.out) c.requires.pass in
+    omega (arith, c.gather-mailman.ensures.out, begun)
+
+pub close-listen-requires-clause-ended : goal.close-listen-requires-clause-ended
+close-listen-requires-clause-ended g c =
+    omega (arith, c.gather-mailman.ensures.ended, c.run_all-posts.ensures.count, c.requires.some)
+
+pub returns-clause-counted : goal.returns-clause-counted
+returns-clause-counted g c = λ mailman manned begins log reaches.
+    let conduct = conduct_of g.H.View.seen g.H.Host.told g.H.Host.counts g.H.View.stepped g.H.Host.made g.H.Host.carried in
+    let box = box_of g.I.Inbox.past g.I.Inbox.turns g.I.Inbox.quiets in
+    let mails = came_of (Mails conduct box g.I.Inbox.faults) mailman c.gather-mailman.result c.args.posts.items c.run_all-posts.result.items manned
+    c.run_all-posts.ensures.count c.run_all-posts.ensures.works c.gather-mailman.ensures.mailman in
+    let reached = g.H.HandsOver.reached c.hand_over-mailed.new.sum in
+    let closed = c.close-listen.result.2 in record {
+      connections = g.H.HandsOver.summed closed;
+      datagrams = g.H.HandsOver.counted c.gather-mailman.result.server.host;
+      of_connections = c.sums_reach_further.ensures (terms_of g.J.Site.catalogue g.J.Reception.starts g.J.Reception.most)
+          g.J.Reception.opening.past (g.L.Listen.past c.close-listen.result.0) (g.H.HandsOver.summed closed)
+          (g.H.HandsOver.reached closed) log c.close-listen.ensures.summed
+          (front_then (g.H.HandsOver.reached closed) reached log c.hand_over-mailed.ensures.kept reaches);
+      of_datagrams = mailed conduct box g.I.Inbox.faults mailman
+          c.gather-mailman.result mails c.hand_over-mailed.result.fault c.hand_over-mailed.ensures.mailed.1
+          c.hand_over-mailed.result.inbox c.hand_over-mailed.ensures.mailed.0
+          (counting_of g.H.HandsOver.counted g.H.HandsOver.none g.H.HandsOver.plus) g.J.Site.catalogue g.J.Reception.starts
+          log begins
+          (front_then (g.H.View.seen c.gather-mailman.result.server.host).known reached log c.hand_over-mailed.ensures.covered
+          reaches);
+      all_is = c.hand_over-mailed.ensures.added;
+    }
+
+pub returns-clause-cause : goal.returns-clause-cause
+returns-clause-cause g c = λ mailman manned.
+    let conduct = conduct_of g.H.View.seen g.H.Host.told g.H.Host.counts g.H.View.stepped g.H.Host.made g.H.Host.carried in
+    let box = box_of g.I.Inbox.past g.I.Inbox.turns g.I.Inbox.quiets in
+    let mails = came_of (Mails conduct box g.I.Inbox.faults) mailman c.gather-mailman.result c.args.posts.items c.run_all-posts.result.items manned
+    c.run_all-posts.ensures.count c.run_all-posts.ensures.works c.gather-mailman.ensures.mailman in
+    mail_fails conduct box g.I.Inbox.faults mailman c.gather-mailman.result
+    mails c.hand_over-mailed.result.fault c.hand_over-mailed.ensures.mailed.1 c.hand_over-mailed.result.inbox
+    c.hand_over-mailed.ensures.mailed.0

@@ -1,0 +1,207 @@
+//! The two locks under which workers share what they are lent.
+
+ghost use Rattle.std.specs.Prelude.{◌≡◌, ◌+◌, ◌-◌, ◌^◌, ◌<◌, ◌≤◌};
+ghost use Rattle.std.specs.List.{All};
+ghost use Rattle.yp_io.specs.Counts.{last_count};
+ghost use Rattle.yp_board.specs.Views.{IsFront};
+ghost use Rattle.yp_publish.specs.Grown.{AreTold};
+ghost use Rattle.yp_publish.specs.Rising.{moment_of, IsStart, IsRisingLog};
+ghost use Rattle.yp_shared.specs.Debits.{no_debit};
+ghost use Rattle.yp_shared.specs.Failures.{disks_of, faults_over};
+ghost use Rattle.yp_workhost.specs.Charges.{free_of_charge};
+ghost use Rattle.yp_workhost.specs.Desks.{IsSupplied};
+ghost use Rattle.yp_workhost.specs.Wires.{CoversOrders, CoversSources};
+ghost use Rattle.yp_serve.specs.Counting.{IsWell};
+ghost use Rattle.yp_serve.specs.Origins.{ComesFrom};
+ghost use Rattle.yp_serve.specs.Serving.{Leaves};
+
+use crate::lent::take_apart;
+use std::sync::Mutex;
+use std::sync::ledger::{Blank, Book, Share};
+use yp_board::Tell;
+use yp_io::{Clock, Dial, Disk, Texts};
+use yp_publish::Publisher;
+use yp_server::Desk;
+use yp_shared::{Accounts, Debits, Failures, Locked, Made, Site, Versions};
+use yp_workhost::{Account, Charges, Orders, SharedDesk, Sources, Supplies, Totals, Unread};
+
+/// Ledgers that nothing stands for yet, of what is counted under the locks.
+#[derive(Drop)]
+pub(crate) struct Blanks {
+    pub(crate) unread: Blank,
+    pub(crate) orders: Blank,
+    pub(crate) sources: Blank,
+    pub(crate) failures: Blank,
+    pub(crate) made: Blank,
+    pub(crate) versions: Blank,
+}
+
+impl Blanks {
+    /// Ledgers in so many parts, but for one part more of fetched versions, which lies with the publisher.
+    pub(crate) fn new(parts: u64) -> Blanks
+        requires { parts < 2 ^ 64 - 1 }
+        ensures unread { result.unread.parts ≡ parts }
+        ensures orders { result.orders.parts ≡ parts }
+        ensures sources { result.sources.parts ≡ parts }
+        ensures failures { result.failures.parts ≡ parts }
+        ensures made { result.made.parts ≡ parts }
+        ensures versions { result.versions.parts ≡ parts + 1 }
+    {
+        Blanks {
+            unread: Blank::new(parts),
+            orders: Blank::new(parts),
+            sources: Blank::new(parts),
+            failures: Blank::new(parts),
+            made: Blank::new(parts),
+            versions: Blank::new(parts + 1),
+        }
+    }
+}
+
+/// The locks of the publisher and of the desk, and what all workers are charged by.
+pub(crate) fn lock_up<S, D, B, A, T, C>(
+    publisher: Publisher<D, B>,
+    desk: Desk<A, T, C>,
+    blanks: Blanks,
+) -> (
+    Mutex<Locked<S, D, B>>,
+    Mutex<SharedDesk<S, A, T, C>>,
+    Charges<S>,
+)
+where
+    S: Site + Accounts + Supplies,
+    D: Disk,
+    B: Tell,
+    A: Dial,
+    T: Texts,
+    C: Clock,
+    requires site { publisher.catalogue ≡ S.catalogue }
+    requires first { moment_of B.log publisher ≡ S.first }
+    requires disks { faults_over D.faults (disks_of publisher.maps) ≡ S.disk_faults }
+    requires supplied { IsSupplied T.Texts S.text S.hosts desk }
+    requires texts { T.faults desk.texts ≡ S.text_faults }
+    requires dial { (A.past desk.dial ≡ S.wires) × (A.faults desk.dial ≡ S.dial_faults) }
+    requires unread { (blanks.unread.name ≡ S.unread) × (blanks.unread.parts ≡ S.shares) }
+    requires orders { (blanks.orders.name ≡ S.orders) × (blanks.orders.parts ≡ S.shares) }
+    requires sources { (blanks.sources.name ≡ S.sources) × (blanks.sources.parts ≡ S.shares) }
+    requires failures { (blanks.failures.name ≡ S.failures) × (blanks.failures.parts ≡ S.shares) }
+    requires made { (blanks.made.name ≡ S.made) × (blanks.made.parts ≡ S.shares) }
+    requires versions { (blanks.versions.name ≡ S.versions) × (blanks.versions.parts ≡ S.shares + 1) }
+    requires some { 0 < S.shares }
+    ensures charges { result.2 ≡ free_of_charge S.shares }
+{
+    let (fetched, mut own) = blanks.versions.open::<Versions<S>>();
+    let installed = own.split_off(1, 0);
+    let (publisher, debits) = lock_publisher(
+        publisher,
+        blanks.failures,
+        blanks.made,
+        installed,
+        own,
+    );
+    let (desk, charges) = lock_desk(
+        desk,
+        blanks.unread,
+        blanks.orders,
+        blanks.sources,
+        fetched,
+        debits,
+    );
+    (publisher, desk, charges)
+}
+
+/// The lock of the publisher, with what stands for the fetched versions that are installed, none yet, and what all
+/// workers are charged by as they install versions.
+fn lock_publisher<S: Site + Accounts, D: Disk, B: Tell>(
+    publisher: Publisher<D, B>,
+    failures: Blank,
+    made: Blank,
+    installed: Share<Versions<S>>,
+    versions: Share<Versions<S>>,
+) -> (Mutex<Locked<S, D, B>>, Debits<S>)
+    requires site { publisher.catalogue ≡ S.catalogue }
+    requires first { moment_of B.log publisher ≡ S.first }
+    requires disks { faults_over D.faults (disks_of publisher.maps) ≡ S.disk_faults }
+    requires failures { (failures.name ≡ S.failures) × (failures.parts ≡ S.shares) }
+    requires made { (made.name ≡ S.made) × (made.parts ≡ S.shares) }
+    requires installed { installed.parts ≡ 1 }
+    requires versions { (versions.parts ≡ S.shares) × (versions.amount ≡ 0) }
+    requires some { 0 < S.shares }
+    ensures { result.1 ≡ no_debit S.shares }
+{
+    let (failures, own_failures) = failures.open::<Failures<S>>();
+    let (made, own_made) = made.open::<Made<S>>();
+    let locked = Locked::new(publisher, failures, made, installed);
+    (
+        Mutex::new(locked),
+        Debits::new(own_failures, own_made, versions),
+    )
+}
+
+/// The lock of the desk, and what all workers are charged by.
+fn lock_desk<S: Accounts + Supplies, A: Dial, T: Texts, C: Clock>(
+    desk: Desk<A, T, C>,
+    unread: Blank,
+    orders: Blank,
+    sources: Blank,
+    fetched: Book<Versions<S>>,
+    debits: Debits<S>,
+) -> (Mutex<SharedDesk<S, A, T, C>>, Charges<S>)
+    requires supplied { IsSupplied T.Texts S.text S.hosts desk }
+    requires texts { T.faults desk.texts ≡ S.text_faults }
+    requires dial { (A.past desk.dial ≡ S.wires) × (A.faults desk.dial ≡ S.dial_faults) }
+    requires unread { (unread.name ≡ S.unread) × (unread.parts ≡ S.shares) }
+    requires orders { (orders.name ≡ S.orders) × (orders.parts ≡ S.shares) }
+    requires sources { (sources.name ≡ S.sources) × (sources.parts ≡ S.shares) }
+    requires fetched { fetched.total ≡ 0 }
+    requires debits { debits ≡ no_debit S.shares }
+    requires some { 0 < S.shares }
+    ensures { result.1 ≡ free_of_charge S.shares }
+{
+    let (unread, own_unread) = unread.open::<Unread<S>>();
+    let (orders, own_orders) = orders.open::<Orders<S>>();
+    let (sources, own_sources) = sources.open::<Sources<S>>();
+    let shared = SharedDesk::new(desk, unread, orders, sources, fetched);
+    (
+        Mutex::new(shared),
+        Charges::new(own_unread, own_orders, own_sources, debits),
+    )
+}
+
+/// The disks, the writer, the desk and what was counted, once nobody works under the locks any more. What was counted
+/// is covered: FILEs by the faults of texts and disks, orders and failed sources by the wires and faults of the dial,
+/// and what was shown by the makes and by the wires that gave a version.
+pub(crate) fn unlock<S, D, B, A, T, C>(
+    publisher: Mutex<Locked<S, D, B>>,
+    desk: Mutex<SharedDesk<S, A, T, C>>,
+    account: Account<S, B>,
+) -> (Vec<D>, B, Desk<A, T, C>, Totals)
+where
+    S: Site + Accounts + Supplies,
+    D: Disk,
+    B: Tell,
+    A: Dial,
+    T: Texts,
+    C: Clock,
+    ensures totals { result.3 ≡ account.totals }
+    ensures stand { Leaves D.history S.catalogue (B.log result.1) result.0.items }
+    ensures grown { IsFront account.reached (B.log result.1) }
+    ensures rises { IsStart S.first → AreTold D.history result.0.items → IsRisingLog (B.log result.1) }
+    ensures desk { IsSupplied T.Texts S.text S.hosts result.2 }
+    ensures files { T.faults result.2.texts < last_count → All (IsWell D.history D.faults) result.0.items
+        → result.3.files + result.3.outcomes.file + (S.text_faults + S.disk_faults)
+        ≤ T.faults result.2.texts + faults_over D.faults result.0.items }
+    ensures orders { CoversOrders S.wires (A.past result.2.dial) result.3.outcomes.reached }
+    ensures sources { CoversSources S.wires (A.past result.2.dial) S.dial_faults (A.faults result.2.dial)
+        result.3.outcomes.source }
+    ensures origins { IsStart S.first → AreTold D.history result.0.items → ComesFrom D.history S.built S.first
+        S.catalogue (B.log result.1) result.0.items result.3.made S.wires (A.past result.2.dial) }
+{
+    let (totals, charges, front) = account.into_parts();
+    let (mut unread, mut reached, mut failed, mut debits) = charges.into_shares();
+    let (disks, writer, mut versions) = take_apart(publisher.into_inner(), &front, &mut debits);
+    let desk = desk
+        .into_inner()
+        .close(&mut unread, &mut reached, &mut failed, &mut versions);
+    (disks, writer, desk, totals)
+}
