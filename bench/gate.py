@@ -31,14 +31,16 @@ def content(path):
 
 
 def started_by():
-    """The processes that run and the seconds of processor time of each, by the process that started them."""
+    """The processes that run, each as its number and when it began, since numbers come again, and the seconds of
+    processor time of each, by the number of the process that started them."""
     found = {}
     for pid in filter(str.isdigit, os.listdir("/proc")):
-        # Behind the name, which is in brackets: the state, who started it, and so on; its times are fields 14 and 15.
+        # Behind the name, which is in brackets: the state, who started it, and so on; its times are fields 14 and 15,
+        # and when it began is field 22.
         fields = content(f"/proc/{pid}/stat").rpartition(b")")[2].split()
         if fields:
             seconds = (int(fields[11]) + int(fields[12])) / TICKS
-            found.setdefault(int(fields[1]), []).append((int(pid), seconds))
+            found.setdefault(int(fields[1]), []).append(((int(pid), int(fields[19])), seconds))
     return found
 
 
@@ -46,7 +48,7 @@ def below(pid, found):
     """All processes that a process has started, and those that these have."""
     for child, seconds in found.get(pid, ()):
         yield child, seconds
-        yield from below(child, found)
+        yield from below(child[0], found)
 
 
 def work_of(pid):
@@ -72,15 +74,15 @@ class Minutes:
     def watch(self, pid):
         while not self.ended.wait(SECONDS):
             for child, seconds in below(pid, started_by()):
-                work = self.works.get(child) or work_of(child)
+                work = self.works.get(child) or work_of(child[0])
                 if work:
                     self.works[child], self.seconds[child] = work, seconds
 
     def rows(self):
         """The minutes of each crate by parts, the dearest crate first."""
         rows = {}
-        for pid, (crate, part) in self.works.items():
-            rows.setdefault(crate, dict.fromkeys(PARTS, 0.0))[part] += self.seconds[pid] / 60
+        for child, (crate, part) in self.works.items():
+            rows.setdefault(crate, dict.fromkeys(PARTS, 0.0))[part] += self.seconds[child] / 60
         return sorted(rows.items(), key=lambda row: -sum(row[1].values()))
 
 
