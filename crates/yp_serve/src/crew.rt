@@ -97,7 +97,7 @@ impl<J: Reception, E: Ledger, H: HandsOver, G: Gate + Copy, I: Inbox> Post<J, E,
 pub(crate) fn serve_posts<J, E, H, G, L, I, R: Threads + Wait + Sync>(
     rt: &R,
     listening: Listening<J, E, H, L>,
-    posts: Vec<Post<J, E, H, G, I>>,
+    mut posts: Vec<Post<J, E, H, G, I>>,
     mut pass: Pass<J, E>,
 ) -> (L, Tally, Mailed<I>, H::Sum)
 where
@@ -129,36 +129,12 @@ where
         → result.2.fault ≡ true → HasRisen (I.faults mailman.inbox) (I.faults result.2.inbox) }
 {
     let listening = Mutex::new(listening);
-    let posts = run_all(rt, &listening, posts);
+    work_all(rt, &listening, &mut posts);
     let mailman = gather(&mut pass, posts);
     let (listen, tally, mut sum) = listening.into_inner().close(&mut pass);
     let mailed = mailman.hand_over(&mut sum);
     sums_reach_further::<H>();
     (listen, tally, mailed, sum)
-}
-
-/// Works at all posts side by side, and hands them back.
-fn run_all<J, E, H, G, L, I, R: Threads + Wait + Sync>(
-    rt: &R,
-    listening: &Mutex<Listening<J, E, H, L>>,
-    mut posts: Vec<Post<J, E, H, G, I>>,
-) -> Vec<Post<J, E, H, G, I>>
-where
-    J: Reception + Send + Sync,
-    E: Ledger + Send + Sync,
-    H: HandsOver + Send + Drop,
-    H::Sum: Send,
-    G: Gate + Copy + Send + Drop,
-    I: Inbox + Send + Drop,
-    L: Listen + Send,
-    L::In: Send,
-    L::Out: Send,
-    ensures count { length result.items ≡ length posts.items }
-    ensures works { AllWork (Mails (conduct_of H.seen H.told H.counts H.stepped H.made H.carried)
-        (box_of I.past I.turns I.quiets) I.faults) posts.items result.items }
-{
-    work_all(rt, listening, &mut posts);
-    posts
 }
 
 /// Works at all posts side by side, at each in a thread of its own, until all have ended. Where a thread can't be

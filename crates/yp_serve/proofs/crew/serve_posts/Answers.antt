@@ -1,23 +1,29 @@
-use Rattle.std.proofs.Common.{ap, arith}
+use Rattle.std.proofs.Common.{length, ap, sym, subst, arith}
+use Rattle.std.proofs.lemmas.List.{with_items_is}
 use Rattle.yp_session.specs.Hosts.{conduct_of}
 use Rattle.yp_turns.specs.Turns.{box_of}
 use Rattle.yp_worker.specs.Receptions.{Passed, terms_of}
 use Rattle.yp_worker.specs.Summing.{counting_of}
-use Rattle.yp_serve.specs.Posts.{Mails}
+use Rattle.yp_serve.specs.Posts.{IsManned, Mails}
+use Rattle.yp_serve.specs.Serving.{at_work, gone_home}
 use Rattle.yp_serve.proofs.Fronts.{front_then, mailed, mail_fails}
 use Rattle.yp_serve.proofs.Posted.{came_of, worked}
 use Rattle.yp_serve.proofs.crew.serve_posts.Goals as goal
 
 pub gather-mailman-requires : goal.gather-mailman-requires
 gather-mailman-requires g c =
-    let all = worked _ c.requires.manned.0 c.args.posts.items c.run_all-posts.result.items c.requires.manned.1
-    c.run_all-posts.ensures.count c.run_all-posts.ensures.works in
-    (all.0, all.2)
+    let posts = c.work_all.new.posts in
+    let same = with_items_is c.args.posts posts (omega (arith, c.work_all.ensures.count, c.deref_mut.ensures.len)) in
+    let first = subst (IsManned c.requires.manned.0 at_work) (sym c.deref_mut.ensures.value) c.requires.manned.1 in
+    let all = worked _ c.requires.manned.0 c.deref_mut.result.now posts first c.work_all.ensures.count c.work_all.ensures.works in
+    (all.0, subst (IsManned all.0 gone_home) (sym same) all.2)
 
 pub close-listen-requires-clause-all : goal.close-listen-requires-clause-all
 close-listen-requires-clause-all g c =
+    let posts = c.work_all.new.posts in
+    let same = with_items_is c.args.posts posts (omega (arith, c.work_all.ensures.count, c.deref_mut.ensures.len)) in
     let begun = ap (λ (p : Passed). p.parts) c.requires.pass in
-    omega (arith, c.gather-mailman.ensures.parts, begun, c.run_all-posts.ensures.count, c.requires.parts)
+    omega (arith, c.gather-mailman.ensures.parts, begun, ap length same, c.work_all.ensures.count, c.deref_mut.ensures.len, c.requires.parts)
 
 pub close-listen-requires-clause-none_out : goal.close-listen-requires-clause-none_out
 close-listen-requires-clause-none_out g c =
@@ -26,14 +32,20 @@ close-listen-requires-clause-none_out g c =
 
 pub close-listen-requires-clause-ended : goal.close-listen-requires-clause-ended
 close-listen-requires-clause-ended g c =
-    omega (arith, c.gather-mailman.ensures.ended, c.run_all-posts.ensures.count, c.requires.some)
+    let posts = c.work_all.new.posts in
+    let same = with_items_is c.args.posts posts (omega (arith, c.work_all.ensures.count, c.deref_mut.ensures.len)) in
+    omega (arith, c.gather-mailman.ensures.ended, ap length same, c.work_all.ensures.count, c.deref_mut.ensures.len, c.requires.some)
 
 pub returns-clause-counted : goal.returns-clause-counted
 returns-clause-counted g c = λ mailman manned begins log reaches.
     let conduct = conduct_of g.H.View.seen g.H.Host.told g.H.Host.counts g.H.View.stepped g.H.Host.made g.H.Host.carried in
     let box = box_of g.I.Inbox.past g.I.Inbox.turns g.I.Inbox.quiets in
-    let mails = came_of (Mails conduct box g.I.Inbox.faults) mailman c.gather-mailman.result c.args.posts.items c.run_all-posts.result.items manned
-    c.run_all-posts.ensures.count c.run_all-posts.ensures.works c.gather-mailman.ensures.mailman in
+    let posts = c.work_all.new.posts in
+    let same = with_items_is c.args.posts posts (omega (arith, c.work_all.ensures.count, c.deref_mut.ensures.len)) in
+    let first = subst (IsManned mailman at_work) (sym c.deref_mut.ensures.value) manned in
+    let mails = came_of (Mails conduct box g.I.Inbox.faults) mailman c.gather-mailman.result c.deref_mut.result.now posts first
+    c.work_all.ensures.count c.work_all.ensures.works
+    (λ last h. c.gather-mailman.ensures.mailman last (subst (IsManned last gone_home) (sym same) h)) in
     let reached = g.H.HandsOver.reached c.hand_over-mailed.new.sum in
     let closed = c.close-listen.result.2 in record {
       connections = g.H.HandsOver.summed closed;
@@ -56,8 +68,12 @@ pub returns-clause-cause : goal.returns-clause-cause
 returns-clause-cause g c = λ mailman manned.
     let conduct = conduct_of g.H.View.seen g.H.Host.told g.H.Host.counts g.H.View.stepped g.H.Host.made g.H.Host.carried in
     let box = box_of g.I.Inbox.past g.I.Inbox.turns g.I.Inbox.quiets in
-    let mails = came_of (Mails conduct box g.I.Inbox.faults) mailman c.gather-mailman.result c.args.posts.items c.run_all-posts.result.items manned
-    c.run_all-posts.ensures.count c.run_all-posts.ensures.works c.gather-mailman.ensures.mailman in
+    let posts = c.work_all.new.posts in
+    let same = with_items_is c.args.posts posts (omega (arith, c.work_all.ensures.count, c.deref_mut.ensures.len)) in
+    let first = subst (IsManned mailman at_work) (sym c.deref_mut.ensures.value) manned in
+    let mails = came_of (Mails conduct box g.I.Inbox.faults) mailman c.gather-mailman.result c.deref_mut.result.now posts first
+    c.work_all.ensures.count c.work_all.ensures.works
+    (λ last h. c.gather-mailman.ensures.mailman last (subst (IsManned last gone_home) (sym same) h)) in
     mail_fails conduct box g.I.Inbox.faults mailman c.gather-mailman.result
     mails c.hand_over-mailed.result.fault c.hand_over-mailed.ensures.mailed.1 c.hand_over-mailed.result.inbox
     c.hand_over-mailed.ensures.mailed.0
