@@ -3,8 +3,7 @@
 use crate::given::{assert_same, listed, owned, sent};
 use std::alloc::Global;
 use std::process::Abort;
-use yp_io::{Failed, Inbox, Letter, Mail, Peer};
-use yp_mem::MemInbox;
+use yp_io::{Failed, Inbox, Letter, Mail, MemInbox, Peer};
 
 const PEER: Peer = Peer {
     addr: [10, 0, 0, 1],

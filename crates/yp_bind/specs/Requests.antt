@@ -6,11 +6,11 @@ use Rattle.yp_xdr.specs.declared.fault.XdrFault.{XdrFault}
 use Rattle.yp_xdr.specs.Kind.{Value}
 use Rattle.yp_xdr.specs.Reading.{Unread, reading}
 use Rattle.yp_rpc.specs.declared.call.CallHead.{CallHead}
-use Rattle.yp_judge.specs.declared.judging.Judged.{Judged}
-use Rattle.yp_judge.specs.declared.judging.Judged.TheVariants.{Ignored, Refused, Admitted}
+use Rattle.yp_rpc.specs.declared.judging.Judged.{Judged}
+use Rattle.yp_rpc.specs.declared.judging.Judged.TheVariants.{Ignored, Refused, Admitted}
 use Rattle.yp_rpc.specs.declared.reply.ReplyHead.{ReplyHead}
 use Rattle.yp_rpc.specs.declared.reply.ReplyHead.TheVariants.{Success, ProcUnavail, GarbageArgs}
-use Rattle.yp_judge.specs.Judging.{judged}
+use Rattle.yp_rpc.specs.Judging.{judged}
 use Rattle.yp_msgs.specs.Numbers.{bind_program, bind_version, bind_null_procedure, bind_domain_procedure}
 use Rattle.yp_msgs.specs.Numbers.{setdom_procedure}
 use Rattle.yp_msgs.specs.Messages.{req_domain, req_domain_view}

@@ -6,10 +6,9 @@ ghost use Rattle.yp_bind.specs.Requests.{server_of};
 ghost use Rattle.yp_bind.specs.Requests.{asked_view, asked_by, procedure_asked};
 
 use yp_io::Peer;
-use yp_judge::{Judged, judge};
 use yp_msgs::protocol::{BIND_DOMAIN, BIND_NULL, BINDPROG, BINDVERS, SETDOM};
 use yp_msgs::{ReadMessage, ReqDomain, SetDom};
-use yp_rpc::{CallHead, ReplyHead};
+use yp_rpc::{CallHead, Judged, ReplyHead, judge};
 use yp_xdr::Cursor;
 
 /// What a datagram asks of the binder.

@@ -8,3 +8,4 @@ pub mod All
 pub mod Windows
 pub mod Listed
 pub mod Lent
+pub mod Questions

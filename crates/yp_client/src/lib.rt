@@ -2,8 +2,10 @@
 //!
 //! Each call sends one record, reads the whole record of its reply, and answers what the bytes of that say, or the
 //! first refusal that they meet. The promise stands on the calls of [`Client`], which all have one contract at
-//! different kinds
-//! of results.
+//! different kinds of results.
+//!
+//! A [`Question`] is what a client command asks of a server. The words of the command line make it, and a query asks it.
+//! That its names and its key fit into a call stands on [`Question::is_within`].
 #![tactic(auto)]
 
 mod all;
@@ -13,8 +15,10 @@ mod exchange;
 mod fault;
 pub mod limits;
 mod procedures;
+mod question;
 
 pub use answers::{Row, read_found, read_master, read_order};
 pub use client::{Client, ClientRefused};
 pub use exchange::{Called, set_call};
 pub use fault::ClientFault;
+pub use question::Question;

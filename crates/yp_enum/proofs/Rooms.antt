@@ -4,7 +4,7 @@ use Rattle.std.proofs.Common.{arith, refl, sym, ap}
 use Rattle.std.proofs.lemmas.Bool.{le-ltb, lt-ltb}
 use Rattle.std.proofs.lemmas.List.{length-append, length-replicate}
 use Rattle.std.specs.Prelude.{nat_lt}
-use Rattle.yp_turns.specs.Turns.{mail_max}
+use Rattle.yp_rpc.specs.Turns.{mail_max}
 use Rattle.yp_xdr.specs.Spelling.{word, padding_len, padding, spelling, opaque, fixed}
 use Rattle.yp_rpc.specs.Call.{front_kind, procedure_kind}
 use Rattle.yp_rpc.specs.Called.{front, heading}

@@ -1,6 +1,6 @@
 -- What the code keeps of a walk.
 use Rattle.std.specs.Prelude.{ℕ, ◌+◌, ◌≤◌, List, length, Result, Ok, Err, ⊤}
-use Rattle.yp_turns.specs.Turns.{mail_max}
+use Rattle.yp_rpc.specs.Turns.{mail_max}
 use Rattle.yp_xdr.specs.Spelling.{spelling}
 use Rattle.yp_msgs.specs.Numbers.{name_max, key_max}
 use Rattle.yp_msgs.specs.Messages.{req_key}

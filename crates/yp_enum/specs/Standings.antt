@@ -1,7 +1,7 @@
 -- What a walk asks of its source, and what comes of each reply: ORDER, MASTER, FIRST, NEXT behind each row, and ORDER.
 use Rattle.std.specs.Prelude.{◌≡◌, ℕ, ◌⊎◌, List, length, Option, Some, None, Result, Ok, Err, is_some, nat_lt}
 use Rattle.std.specs.Prelude.{if◌then◌else◌, ⊤, []}
-use Rattle.yp_turns.specs.Turns.{mail_max}
+use Rattle.yp_rpc.specs.Turns.{mail_max}
 use Rattle.yp_msgs.specs.declared.stat.YpStat.TheVariants.{Nomore, Nokey}
 use Rattle.yp_version.specs.Rows.{Row, value_of}
 use Rattle.yp_version.specs.Drafts.{Draft, empty_draft, refused, with_row}

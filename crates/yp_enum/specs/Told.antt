@@ -11,7 +11,7 @@ use Rattle.yp_client.specs.declared.fault.ClientFault.TheVariants.{Yp}
 use Rattle.yp_client.specs.Results.{order_of, master_of, row_of}
 use Rattle.yp_xfr.specs.declared.fault.XfrFault.{XfrFault}
 use Rattle.yp_xfr.specs.declared.fault.XfrFault.TheVariants.{Dbm}
-use Rattle.yp_turns.specs.Turns.{mail_max}
+use Rattle.yp_rpc.specs.Turns.{mail_max}
 use Rattle.yp_xfr.specs.Fetching.{Wanted, against_order, against_master}
 use Rattle.yp_enum.specs.Standings.{Standing, AsksOrder, AsksMaster, AsksFirst, AsksNext, AsksAgain, HasEnded}
 use Rattle.yp_enum.specs.Standings.{next_len}

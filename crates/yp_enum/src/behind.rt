@@ -12,7 +12,7 @@ use crate::stage::{Asked, Stage};
 use std::random::RandomSource;
 use yp_client::{ClientFault, Row, read_found, read_master, read_order};
 use yp_msgs::{Message, ReqKey, YpStat};
-use yp_turns::MAIL_MAX;
+use yp_rpc::MAIL_MAX;
 use yp_version::{VersionBuilder, VersionFault};
 use yp_xfr::{XfrFault, against_order, begin};
 

@@ -2,7 +2,7 @@
 
 ghost use Rattle.std.specs.Prelude.{◌≡◌, ◌≤◌, length, take};
 ghost use Rattle.yp_msgs.specs.Numbers.{name_max};
-ghost use Rattle.yp_turns.specs.Turns.{mail_max};
+ghost use Rattle.yp_rpc.specs.Turns.{mail_max};
 ghost use Rattle.yp_xfr.specs.Fetching.{wanted_of};
 ghost use Rattle.yp_enum.specs.Standings.{IsAsking};
 ghost use Rattle.yp_enum.specs.Schedules.{outstanding, Hears, AddsDelivery, answers, is_awaited, told};

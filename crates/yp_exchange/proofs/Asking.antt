@@ -21,13 +21,13 @@ use Rattle.yp_client.specs.All.{AllSaid, all_said, IsSaid, SaysAll}
 use Rattle.yp_client.specs.Asked.{all_call, match_call, master_call, order_call, maplist_call}
 use Rattle.yp_client.specs.Calls.{Calls}
 use Rattle.yp_query.specs.declared.fault.QueryFault.TheVariants.{Dial}
-use Rattle.yp_question.specs.declared.question.Question.TheVariants.{Cat, Catk, Match, Which, Poll, Maps as MapsOf}
-use Rattle.yp_question.specs.declared.question.Question.TheVariants.{Innetgr}
+use Rattle.yp_client.specs.declared.question.Question.TheVariants.{Cat, Catk, Match, Which, Poll, Maps as MapsOf}
+use Rattle.yp_client.specs.declared.question.Question.TheVariants.{Innetgr}
 use Rattle.yp_query.specs.Lines.{line, lines, standing_text}
 use Rattle.yp_query.specs.Faults.{query_fault, match_fault}
 use Rattle.yp_query.specs.Asked.{Outcome, told_by, no_rows, TakesRows, MakesMaster, MakesCalls}
 use Rattle.yp_query.specs.Asked.{rows_told, membership_told, netgroup}
-use Rattle.yp_question.specs.Questions.{ByteQuestion, QuestionIsWithin}
+use Rattle.yp_client.specs.Questions.{ByteQuestion, QuestionIsWithin}
 use Rattle.yp_query.specs.Complete.{HasCome}
 use Rattle.yp_query.specs.Scenes.{Exchanges}
 use Rattle.yp_answer.specs.Maps.{Maps, map_check, row_check}

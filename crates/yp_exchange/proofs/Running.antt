@@ -15,10 +15,10 @@ use Rattle.yp_client.specs.Limits.{reply_max, all_max}
 use Rattle.yp_client.specs.Results.{value_of, master_of, order_of, maps_of}
 use Rattle.yp_client.specs.All.{all_said}
 use Rattle.yp_client.specs.Asked.{all_call, match_call, master_call, order_call, maplist_call}
-use Rattle.yp_question.specs.declared.question.Question.TheVariants.{Cat, Catk, Match, Which, Poll, Maps as MapsOf}
-use Rattle.yp_question.specs.declared.question.Question.TheVariants.{Innetgr}
+use Rattle.yp_client.specs.declared.question.Question.TheVariants.{Cat, Catk, Match, Which, Poll, Maps as MapsOf}
+use Rattle.yp_client.specs.declared.question.Question.TheVariants.{Innetgr}
 use Rattle.yp_query.specs.Asked.{no_rows, netgroup}
-use Rattle.yp_question.specs.Questions.{ByteQuestion, QuestionIsWithin}
+use Rattle.yp_client.specs.Questions.{ByteQuestion, QuestionIsWithin}
 use Rattle.yp_answer.specs.declared.procedure.Path.TheVariants.{Stream}
 use Rattle.yp_answer.specs.Maps.{Maps, map_check, row_check}
 use Rattle.yp_answer.specs.Reply.{Bytes, reply}

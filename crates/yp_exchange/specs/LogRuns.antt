@@ -10,7 +10,7 @@ use Rattle.yp_answer.specs.Reply.{Bytes, reply}
 use Rattle.yp_answer.specs.Served.{AreServed, maps_on}
 use Rattle.yp_session.specs.Hosts.{Turn}
 use Rattle.yp_session.specs.LogRuns.{LogRun}
-use Rattle.yp_question.specs.Questions.{ByteQuestion}
+use Rattle.yp_client.specs.Questions.{ByteQuestion}
 use Rattle.yp_exchange.specs.Runs.{calls_made}
 
 -- the records that were answered, and the replies of those that got one

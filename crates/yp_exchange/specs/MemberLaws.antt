@@ -4,7 +4,7 @@ use Rattle.yp_io.specs.declared.stream.Peer.{Peer}
 use Rattle.yp_version.specs.Versions.{MapVersion}
 use Rattle.yp_netgroup.specs.Reach.{Asked, IsMember}
 use Rattle.yp_query.specs.declared.fault.QueryFault.TheVariants.{NotMember}
-use Rattle.yp_question.specs.declared.question.Question.TheVariants.{Innetgr}
+use Rattle.yp_client.specs.declared.question.Question.TheVariants.{Innetgr}
 use Rattle.yp_query.specs.Lines.{membership_text}
 use Rattle.yp_query.specs.Asked.{Outcome, netgroup}
 use Rattle.yp_answer.specs.Maps.{Maps, row_check}

@@ -7,7 +7,7 @@ use Rattle.yp_answer.specs.Maps.{Maps}
 use Rattle.yp_answer.specs.Served.{AreServed, maps_on}
 use Rattle.yp_client.specs.States.{ClientState, IsFirst}
 use Rattle.yp_query.specs.declared.fault.QueryFault.{QueryFault}
-use Rattle.yp_question.specs.Questions.{ByteQuestion, QuestionIsWithin}
+use Rattle.yp_client.specs.Questions.{ByteQuestion, QuestionIsWithin}
 use Rattle.yp_query.specs.Asked.{Outcome, Converses}
 use Rattle.yp_query.specs.Complete.{HasCome, HasAnswer}
 use Rattle.yp_query.specs.Scenes.{Scene, Asks}

@@ -10,7 +10,7 @@ use Rattle.yp_session.specs.LogRuns.{LogRun}
 use Rattle.yp_client.specs.Asked.{domain_call, match_call, first_call, next_call, all_call, master_call, order_call}
 use Rattle.yp_client.specs.Asked.{maplist_call}
 use Rattle.yp_query.specs.declared.fault.QueryFault.{QueryFault}
-use Rattle.yp_question.specs.Questions.{ByteQuestion, QuestionIsWithin}
+use Rattle.yp_client.specs.Questions.{ByteQuestion, QuestionIsWithin}
 use Rattle.yp_query.specs.Complete.{HasCome}
 use Rattle.yp_query.specs.Scenes.{Scene, Asks}
 use Rattle.yp_exchange.specs.Laws.{ForDomain, ForMap, ForKey}

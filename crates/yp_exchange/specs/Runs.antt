@@ -12,9 +12,9 @@ use Rattle.yp_client.specs.declared.fault.ClientFault.{ClientFault}
 use Rattle.yp_client.specs.Results.{order_of}
 use Rattle.yp_client.specs.Asked.{all_call, match_call, master_call, order_call, maplist_call}
 use Rattle.yp_query.specs.declared.fault.QueryFault.{QueryFault}
-use Rattle.yp_question.specs.declared.question.Question.TheVariants.{Cat, Catk, Match, Which, Poll, Maps as MapsOf}
-use Rattle.yp_question.specs.declared.question.Question.TheVariants.{Innetgr}
-use Rattle.yp_question.specs.Questions.{ByteQuestion}
+use Rattle.yp_client.specs.declared.question.Question.TheVariants.{Cat, Catk, Match, Which, Poll, Maps as MapsOf}
+use Rattle.yp_client.specs.declared.question.Question.TheVariants.{Innetgr}
+use Rattle.yp_client.specs.Questions.{ByteQuestion}
 use Rattle.yp_query.specs.Asked.{netgroup}
 use Rattle.yp_exchange.specs.Answered.{text_told, PrintsTold}
 

@@ -1,7 +1,7 @@
 //! Clients that ask a server in memory: calls written out by hand, from RFC 5531 and yp.x, what the server replies to
 //! them, and what the client makes of that.
 
-ghost use Rattle.yp_question.specs.Questions.{bytes_of, QuestionIsWithin};
+ghost use Rattle.yp_client.specs.Questions.{bytes_of, QuestionIsWithin};
 
 use crate::given::{assert_same, bytes};
 use crate::server::{Given, add_record, add_reply, board, show};
@@ -9,11 +9,10 @@ use crate::told;
 use std::alloc::Global;
 use std::process::Abort;
 use std::random::RandomSource;
-use yp_client::{Client, ClientFault, Row};
+use yp_client::{Client, ClientFault, Question, Row};
 use yp_io::{MemDial, MemSink, MemSource, Pair, Peer};
 use yp_msgs::{MapList, YpStat};
 use yp_query::QueryFault;
-use yp_question::Question;
 use yp_version::VersionBuilder;
 
 const SERVER: Peer = Peer {

@@ -8,7 +8,7 @@ ghost use Rattle.yp_rpc.specs.Laws.{IsWord};
 ghost use Rattle.yp_msgs.specs.Numbers.{name_max, key_max};
 ghost use Rattle.yp_board.specs.Catalogues.{Catalogue, serves};
 ghost use Rattle.yp_board.specs.Logs.{Log};
-ghost use Rattle.yp_question.specs.Questions.{bytes_of, QuestionIsWithin};
+ghost use Rattle.yp_client.specs.Questions.{bytes_of, QuestionIsWithin};
 ghost use Rattle.yp_query.specs.Complete.{HasCome, IsAnswered};
 ghost use Rattle.yp_answer.specs.Maps.{Maps, row_check};
 ghost use Rattle.yp_answer.specs.Served.{AreServed, maps_on};
@@ -27,12 +27,11 @@ ghost use Rattle.yp_exchange.specs.Runs.{RepliesInTurn, sent_all, calls_made, Pr
 
 use std::alloc::Global;
 use std::random::RandomSource;
-use yp_client::{Client, ClientFault, Row};
+use yp_client::{Client, ClientFault, Question, Row};
 use yp_exchange::laws;
 use yp_io::{Dial, Peer, Sink, Source};
 use yp_msgs::MapList;
 use yp_query::QueryFault;
-use yp_question::Question;
 use yp_version::VersionBuilder;
 
 /// DOMAIN: whether it is served.

@@ -14,7 +14,7 @@ use Rattle.yp_publish.specs.Grown.{AreTold}
 use Rattle.yp_xfr.specs.HostTable.{HostList}
 use Rattle.yp_session.specs.Hosts.{Conduct}
 use Rattle.yp_session.specs.declared.session.TheConstants.{CALLS_MAX}
-use Rattle.yp_turns.specs.Turns.{Box}
+use Rattle.yp_rpc.specs.Turns.{Box}
 use Rattle.yp_shared.specs.Failures.{disks_of}
 use Rattle.yp_workhost.specs.Workers.{Worker}
 use Rattle.yp_workhost.specs.Makings.{IsBuilt}

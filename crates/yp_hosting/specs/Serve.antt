@@ -16,7 +16,7 @@ use Rattle.yp_board.specs.declared.catalog.MapName.{MapName}
 use Rattle.yp_publish.specs.Begins.{IsUnwritten}
 use Rattle.yp_publish.specs.Opens.{IsStopped}
 use Rattle.yp_xfr.specs.HostTable.{HostList}
-use Rattle.yp_turns.specs.Turns.{box_of}
+use Rattle.yp_rpc.specs.Turns.{box_of}
 use Rattle.yp_worker.specs.Receptions.{Opening, capped}
 use Rattle.yp_words.specs.Words.{host_view}
 use Rattle.yp_words.specs.declared.command.ServeJob.{ServeJob}

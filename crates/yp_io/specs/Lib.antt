@@ -11,3 +11,7 @@ pub mod MemDiskLaws
 pub mod MemSteps
 pub mod Streams
 pub mod Texts
+pub mod MemInbox
+pub mod Calls
+pub mod Trails
+pub mod MemListen

@@ -1,32 +1,42 @@
 //! What the program reaches outside itself, as traits, with forms in memory for tests.
 //!
 //! A source gives bytes and a sink takes them; a disk keeps bytes through a crash; texts and a clock are read; a dial
-//! opens wires and sends datagrams; an inbox receives datagrams at a port, and sends them from there. Each says what it
-//! holds, has taken or shows where that can be known, and all but the clock count their faults, so that a failure
-//! always has a cause. These promises stand on the clauses of
-//! [`Source`], [`Sink`], [`Disk`], [`Texts`], [`Clock`], [`Dial`] and [`Inbox`], and on [`write_all`] and [`read_all`].
+//! opens wires and sends datagrams; an inbox receives datagrams at a port, and sends them from there; a [`Listen`] hands
+//! out the connections that come, each with its caller, up to a number that is stated, and gets them back. Each says
+//! what it holds, has taken or shows where that can be known, and all but the clock count their faults, so that a
+//! failure always has a cause. These promises stand on the clauses of [`Source`], [`Sink`], [`Disk`], [`Texts`],
+//! [`Clock`], [`Dial`], [`Inbox`] and [`Listen`], and on [`write_all`] and [`read_all`].
 #![tactic(auto)]
 
+mod called;
 mod clock;
 mod dial;
 mod disk;
 mod inbox;
+mod listen;
 mod mem;
 mod mem_dial;
 mod mem_disk;
+mod mem_inbox;
+mod mem_listen;
 mod mem_texts;
 mod plan;
 mod stream;
 mod texts;
+mod trail;
 mod whole;
 
+pub use called::Called;
 pub use clock::{Clock, SetClock};
 pub use dial::{Dial, Letter};
 pub use disk::Disk;
 pub use inbox::{Inbox, Mail};
+pub use listen::{Arrival, Listen};
 pub use mem::{MemSink, MemSource, MemWire};
 pub use mem_dial::{MemDial, MemDialed};
 pub use mem_disk::MemDisk;
+pub use mem_inbox::MemInbox;
+pub use mem_listen::{MemCall, MemListen};
 pub use mem_texts::MemTexts;
 pub use plan::Plan;
 pub use stream::{

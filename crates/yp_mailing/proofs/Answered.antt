@@ -6,9 +6,9 @@ use Rattle.std.proofs.lemmas.Bool.{le-leb, lt-leb}
 use Rattle.yp_io.specs.declared.stream.Failed.{Failed}
 use Rattle.yp_io.specs.declared.stream.Peer.{Peer}
 use Rattle.yp_io.specs.Inboxes.{Post, Arrived, Silent, Sent}
-use Rattle.yp_turns.specs.declared.turns.Ended.{Ended}
-use Rattle.yp_turns.specs.Turns.{Want, Letter, Turn, Nothing, Meets, Runs, mail_max}
-use Rattle.yp_turns.specs.Turns as turns
+use Rattle.yp_rpc.specs.declared.turns.Ended.{Ended}
+use Rattle.yp_rpc.specs.Turns.{Want, Letter, Turn, Nothing, Meets, Runs, mail_max}
+use Rattle.yp_rpc.specs.Turns as turns
 use Rattle.yp_portmap.specs.Asking.{port_read}
 use Rattle.yp_mailing.specs.declared.getport.Asking.{Asking}
 use Rattle.yp_mailing.specs.Getport.{Answer, is_answer, wanted, sent, heard, asking_ways, first_answer}

@@ -1,7 +1,7 @@
 -- What a question to a port mapper goes on to.
 use Rattle.std.proofs.Common.{◌≡◌, Bool, true, false, ℕ, List, Option, Some, None, refl, ap}
 use Rattle.std.specs.Prelude.{is_some}
-use Rattle.yp_turns.specs.Turns.{Letter}
+use Rattle.yp_rpc.specs.Turns.{Letter}
 use Rattle.yp_mailing.specs.declared.getport.Asking.{Asking}
 use Rattle.yp_mailing.specs.Getport.{Answer, call_of, wanted, sent}
 

@@ -12,7 +12,7 @@ use Rattle.yp_slot.specs.Loads.{Loads}
 use Rattle.yp_slot.specs.Stands.{Stands, Stored, stands}
 use Rattle.yp_board.specs.Catalogues.{Name}
 use Rattle.yp_board.specs.declared.catalog.MapName.{MapName}
-use Rattle.yp_turns.specs.declared.turns.Ended.{Ended}
+use Rattle.yp_rpc.specs.declared.turns.Ended.{Ended}
 use Rattle.yp_push.specs.Ledgers.{Ledger, slaves_max}
 use Rattle.yp_pushing.specs.Kept.{slave_view, request_view}
 use Rattle.yp_pushing.specs.Sendings.{Request}

@@ -13,8 +13,8 @@ use Rattle.yp_rpc.specs.Called.{call_of}
 use Rattle.yp_rpc.specs.Read.{reply_at}
 use Rattle.yp_msgs.specs.Messages.{req_domain}
 use Rattle.yp_msgs.specs.Numbers.{program, version, domain_nonack_procedure}
-use Rattle.yp_turns.specs.declared.turns.Ended.{Ended}
-use Rattle.yp_turns.specs.Turns.{Want, Letter, Turn, Ways, ways_of, TakesTurns}
+use Rattle.yp_rpc.specs.declared.turns.Ended.{Ended}
+use Rattle.yp_rpc.specs.Turns.{Want, Letter, Turn, Ways, ways_of, TakesTurns}
 use Rattle.yp_bind.specs.declared.binder.Ping.{Ping}
 use Rattle.yp_bind.specs.declared.binder.Policy.{Policy}
 use Rattle.yp_bind.specs.declared.event.Event.TheVariants.{Called, Offered, Quiet}

@@ -9,9 +9,9 @@ use Rattle.yp_xdr.specs.declared.fault.XdrFault.{XdrFault}
 use Rattle.yp_xdr.specs.Faults.{fault_place}
 use Rattle.yp_rpc.specs.declared.reply.ReplyHead.{ReplyHead}
 use Rattle.yp_rpc.specs.declared.reply.ReplyHead.TheVariants.{Success}
-use Rattle.yp_turns.specs.declared.turns.Ended.{Ended}
+use Rattle.yp_rpc.specs.declared.turns.Ended.{Ended}
 use Rattle.yp_io.specs.Inboxes.{Post, Arrived, Silent, Sent}
-use Rattle.yp_turns.specs.Turns.{Want, Letter, Turn, Nothing, Ways, ways_of, TakesTurns, mail_max}
+use Rattle.yp_rpc.specs.Turns.{Want, Letter, Turn, Nothing, Ways, ways_of, TakesTurns, mail_max}
 use Rattle.yp_bind.specs.Rounds.{is_same_peer}
 use Rattle.yp_portmap.specs.declared.asking.PortReply.{PortReply}
 use Rattle.yp_portmap.specs.Asking.{getport_call, port_read}

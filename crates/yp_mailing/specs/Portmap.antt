@@ -3,8 +3,8 @@ use Rattle.std.specs.Prelude.{◌≡◌, ◌⊎◌, ℕ, Bool, true, false, List
 use Rattle.std.specs.Prelude.{Result, Ok, Err, codes, decimal}
 use Rattle.yp_io.specs.declared.stream.Failed.{Failed}
 use Rattle.yp_io.specs.declared.stream.Peer.{Peer}
-use Rattle.yp_turns.specs.declared.turns.Ended.{Ended}
-use Rattle.yp_turns.specs.Turns.{Want, Turn, Ways, ways_of, TakesTurns}
+use Rattle.yp_rpc.specs.declared.turns.Ended.{Ended}
+use Rattle.yp_rpc.specs.Turns.{Want, Turn, Ways, ways_of, TakesTurns}
 use Rattle.yp_portmap.specs.declared.mapping.Mapping.{Mapping}
 use Rattle.yp_portmap.specs.Replies.{reply as reply_to, after}
 use Rattle.yp_office.specs.declared.status.Status.{Status}

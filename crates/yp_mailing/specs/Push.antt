@@ -9,8 +9,8 @@ use Rattle.yp_slot.specs.Stands.{Stands, Stored, stands}
 use Rattle.yp_board.specs.Catalogues.{Name, name_view}
 use Rattle.yp_board.specs.declared.catalog.MapName.{MapName}
 use Rattle.yp_xfr.specs.HostTable.{HostList}
-use Rattle.yp_turns.specs.declared.turns.Ended.{Ended}
-use Rattle.yp_turns.specs.Turns.{TakesTurns, Box}
+use Rattle.yp_rpc.specs.declared.turns.Ended.{Ended}
+use Rattle.yp_rpc.specs.Turns.{TakesTurns, Box}
 use Rattle.yp_push.specs.Ledgers.{Ledger, slaves_max}
 use Rattle.yp_pushing.specs.Kept.{slave_view, request_view, IsWithin}
 use Rattle.yp_pushing.specs.Sendings.{Request}

@@ -2,7 +2,7 @@
 use Rattle.std.specs.Prelude.{◌≡◌, ◌⊎◌, ℕ, List, [], ◌∷◌, Option}
 use Rattle.std.specs.Io.KnownBytes.{Appends}
 use Rattle.yp_io.specs.Streams.{AppendsFront}
-use Rattle.yp_turns.specs.Turns.{Box, box_of}
+use Rattle.yp_rpc.specs.Turns.{Box, box_of}
 use Rattle.yp_office.specs.declared.status.Status.{Status}
 use Rattle.yp_office.specs.declared.status.Status.TheVariants.{WriteFault, InboxFault}
 use Rattle.yp_office.specs.declared.office.Office.{Office}

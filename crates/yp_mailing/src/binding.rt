@@ -26,8 +26,7 @@ use yp_io::{Clock, Dial, Disk, Failed, Inbox, NoMemory, Peer, Sink, Source, Text
 use yp_msgs::protocol::{DOMAIN_NONACK, YPPROG, YPVERS};
 use yp_msgs::{Message, ReqDomain};
 use yp_office::{LINE_MAX, Line, Office, Status, add, add_number};
-use yp_rpc::{ReplyHead, read_reply_at, write_call};
-use yp_turns::{Errand, MAIL_MAX, Room, Wish, take_turns};
+use yp_rpc::{Errand, MAIL_MAX, ReplyHead, Room, Wish, read_reply_at, take_turns, write_call};
 use yp_words::HostWord;
 use yp_xdr::{Cursor, NoRoom, laws};
 

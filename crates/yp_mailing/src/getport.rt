@@ -15,8 +15,7 @@ use yp_bind::is_same_peer;
 use yp_io::{Clock, Dial, Disk, Failed, Inbox, Peer, Sink, Source, Texts};
 use yp_office::{Line, Office, Status, add, add_number};
 use yp_portmap::{PortReply, ask_port, read_port};
-use yp_rpc::ReplyHead;
-use yp_turns::{Errand, Room, Wish, take_turns};
+use yp_rpc::{Errand, ReplyHead, Room, Wish, take_turns};
 use yp_xdr::{NoRoom, XdrFault};
 
 /// The number of each call.

@@ -14,7 +14,7 @@ use std::alloc::Global;
 use yp_io::{Clock, Dial, Disk, Failed, Inbox, NoMemory, Peer, Sink, Source, Texts};
 use yp_office::{Line, Office, Status, add, add_number};
 use yp_portmap::{Mapping, Registry};
-use yp_turns::{Errand, Room, Wish, take_turns};
+use yp_rpc::{Errand, Room, Wish, take_turns};
 
 /// What a port mapper knows, as what its turns change.
 #[derive(Drop)]

@@ -4,7 +4,7 @@ ghost use Rattle.std.specs.Prelude.{◌≡◌, ◌≢◌, ◌⊎◌, ◌<◌, �
 ghost use Rattle.yp_io.specs.Counts.{HasRisen};
 ghost use Rattle.yp_io.specs.Dials.{dial_tells};
 ghost use Rattle.yp_board.specs.Catalogues.{name_view, name_max};
-ghost use Rattle.yp_turns.specs.Turns.{box_of};
+ghost use Rattle.yp_rpc.specs.Turns.{box_of};
 ghost use Rattle.yp_pushing.specs.Kept.{slave_view};
 ghost use Rattle.yp_pushing.specs.Slaves.{slaves_of};
 ghost use Rattle.yp_words.specs.Words.{IsNamed, with_ypservers, host_view};
@@ -22,7 +22,7 @@ use yp_io::{Clock, Dial, Disk, Failed, Inbox, NoMemory, Sink, Source, Texts};
 use yp_office::{NamedDisk, Office, ROWS_RULE, Status, table_of};
 use yp_push::{Push, SLAVES_MAX};
 use yp_pushing::{Order, Pusher, Slave, all_have_map, slaves_of, text_of};
-use yp_turns::{Room, take_turns};
+use yp_rpc::{Room, take_turns};
 use yp_words::{HostWord, PushJob};
 
 /// What is to be pushed, and to whom.

@@ -14,7 +14,7 @@ use Rattle.yp_answer.specs.Transfer.{Taken}
 use Rattle.yp_answer.specs.Reply.{Response, Silence, Bytes, Takes, Open, reply, asks, make_reply}
 use Rattle.yp_answer.specs.Answers.{StepsWhere}
 use Rattle.yp_session.specs.Hosts.{Counts, Conduct, Fulfils, CarriesOut, Turn, CarriesWhere, Carries, Link, counts_where, counts_behind}
-use Rattle.yp_turns.specs.Turns.{reply_of}
+use Rattle.yp_rpc.specs.Turns.{reply_of}
 use Rattle.yp_mailserve.specs.Mailing.{CarriesAwaited, AnswersMail}
 
 -- a reply of some bytes at the front of a buffer

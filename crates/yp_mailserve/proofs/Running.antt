@@ -5,9 +5,9 @@ use Rattle.yp_io.specs.declared.stream.Peer.{Peer}
 use Rattle.yp_io.specs.declared.stream.Failed.{Failed}
 use Rattle.yp_io.specs.Inboxes.{Post, Arrived, Silent, Sent}
 use Rattle.yp_session.specs.Hosts.{Counts, Conduct, counts_over}
-use Rattle.yp_turns.specs.Turns.{Meets, drops, listens, replies, is_quiet, Runs, is_spent, is_done, sends, loses_letter, takes, loses_turn, loses_reply, Box, mail_max, TakesTurns}
-use Rattle.yp_turns.specs.declared.turns.Ended.{Ended}
-use Rattle.yp_turns.specs.declared.turns.Ended.TheVariants.{Done, Spent}
+use Rattle.yp_rpc.specs.Turns.{Meets, drops, listens, replies, is_quiet, Runs, is_spent, is_done, sends, loses_letter, takes, loses_turn, loses_reply, Box, mail_max, TakesTurns}
+use Rattle.yp_rpc.specs.declared.turns.Ended.{Ended}
+use Rattle.yp_rpc.specs.declared.turns.Ended.TheVariants.{Done, Spent}
 use Rattle.yp_mailserve.specs.Mailing.{Awaited, Mailing, AnswersMail, CarriesAwaited, Clears, Hears, Closes, mail_ways}
 use Rattle.yp_mailserve.specs.Serving.{MailTurn, Dropped, Rested, Answered, reply_posts, posts_in, posts_over, answered_turns, DoesTurn, DoesTurns, LosesAnswer, EndsTurns, ServesPosts, ServesMail}
 use Rattle.yp_mailserve.proofs.Answering.{Later, later_then, same, sent, answers_sent}

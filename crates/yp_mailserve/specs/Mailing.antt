@@ -8,8 +8,8 @@ use Rattle.yp_answer.specs.declared.procedure.Path.TheVariants.{Datagram}
 use Rattle.yp_answer.specs.Transfer.{Taken}
 use Rattle.yp_shared.specs.Shares.{Learns}
 use Rattle.yp_session.specs.Hosts.{Conduct, Turn, Link, CarriesOut, counts_behind}
-use Rattle.yp_turns.specs.Turns.{Want, Turn as Taking, Ways, ways_of}
-use Rattle.yp_turns.specs.declared.turns.Ended.{Ended}
+use Rattle.yp_rpc.specs.Turns.{Want, Turn as Taking, Ways, ways_of}
+use Rattle.yp_rpc.specs.declared.turns.Ended.{Ended}
 use Rattle.yp_mailserve.specs.declared.server.Waiting.{Waiting}
 
 -- a transfer that was taken and isn't yet carried out, and its caller

@@ -6,9 +6,9 @@ use Rattle.yp_io.specs.declared.stream.Failed.{Failed}
 use Rattle.yp_io.specs.Inboxes.{Post, Arrived, Silent, Sent}
 use Rattle.yp_board.specs.Views.{IsFront}
 use Rattle.yp_session.specs.Hosts.{Conduct, Turn, counts_over}
-use Rattle.yp_turns.specs.Turns.{Box, Runs, Sees, mail_max}
-use Rattle.yp_turns.specs.declared.turns.Ended.{Ended}
-use Rattle.yp_turns.specs.declared.turns.Ended.TheVariants.{Done, Spent}
+use Rattle.yp_rpc.specs.Turns.{Box, Runs, Sees, mail_max}
+use Rattle.yp_rpc.specs.declared.turns.Ended.{Ended}
+use Rattle.yp_rpc.specs.declared.turns.Ended.TheVariants.{Done, Spent}
 use Rattle.yp_mailserve.specs.Mailing.{Mailing, AnswersMail, CarriesAwaited, Closes, mail_ways}
 
 -- what a server makes of a turn: a datagram that is too long is dropped, any other is answered, and a quiet turn is

@@ -2,12 +2,12 @@
 
 ghost use Rattle.yp_io.specs.Counts.{CountsFaults};
 ghost use Rattle.yp_session.specs.Hosts.{conduct_of};
-ghost use Rattle.yp_turns.specs.Turns.{box_of};
+ghost use Rattle.yp_rpc.specs.Turns.{box_of};
 ghost use Rattle.yp_mailserve.specs.Serving.{ServesMail};
 
 use crate::server::MailServer;
 use yp_io::{Failed, Inbox};
-use yp_turns::{Ended, Room, take_turns};
+use yp_rpc::{Ended, Room, take_turns};
 use yp_worker::CatchUp;
 
 /// Takes turns of an inbox, at most so many, and answers each datagram to its sender before the next turn. It ends

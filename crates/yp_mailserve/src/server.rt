@@ -5,7 +5,7 @@ ghost use Rattle.yp_answer.specs.Numbers.{datagram_max};
 ghost use Rattle.yp_answer.specs.declared.procedure.Path.TheVariants as paths;
 ghost use Rattle.yp_answer.specs.Transfer.{taken_view};
 ghost use Rattle.yp_session.specs.Hosts.{Turn, Link, conduct_of};
-ghost use Rattle.yp_turns.specs.Turns.{reply_of};
+ghost use Rattle.yp_rpc.specs.Turns.{reply_of};
 ghost use Rattle.yp_mailserve.specs.Mailing.{awaited_of, IsDue, Clears, Goes, Hears, Rests};
 
 use arrayvec::ArrayVec;
@@ -13,8 +13,8 @@ use std::marker::Model;
 use yp_answer::{Answered, Errand as Transfer, answer_datagram, make_reply};
 use yp_io::Peer;
 use yp_msgs::protocol::NAME_MAX;
+use yp_rpc::{Errand, Wish};
 use yp_session::Host;
-use yp_turns::{Errand, Wish};
 use yp_worker::CatchUp;
 
 /// The most bytes of the name of a host that a map is fetched from.

@@ -4,10 +4,10 @@ use Rattle.yp_xdr.specs.declared.fault.XdrFault.{XdrFault}
 use Rattle.yp_xdr.specs.Kind.{Value}
 use Rattle.yp_xdr.specs.Reading.{Unread, reading}
 use Rattle.yp_rpc.specs.declared.call.CallHead.{CallHead}
-use Rattle.yp_judge.specs.declared.judging.Judged.{Judged}
-use Rattle.yp_judge.specs.declared.judging.Judged.TheVariants.{Ignored, Refused, Admitted}
+use Rattle.yp_rpc.specs.declared.judging.Judged.{Judged}
+use Rattle.yp_rpc.specs.declared.judging.Judged.TheVariants.{Ignored, Refused, Admitted}
 use Rattle.yp_rpc.specs.declared.reply.ReplyHead.TheVariants.{Success, ProcUnavail, GarbageArgs}
-use Rattle.yp_judge.specs.Judging.{judged}
+use Rattle.yp_rpc.specs.Judging.{judged}
 use Rattle.yp_portmap.specs.declared.mapping.Mapping.{Mapping}
 use Rattle.yp_portmap.specs.declared.request.Request.{Request}
 use Rattle.yp_portmap.specs.declared.request.Request.TheVariants.{Nothing, Answer, Set, Unset, GetPort, Dump}

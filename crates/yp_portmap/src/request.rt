@@ -5,9 +5,8 @@ ghost use Rattle.yp_portmap.specs.Requests.{asked_by, procedure_asked};
 
 use crate::mapping::Mapping;
 use crate::protocol::{DUMP, GETPORT, NULL, PROGRAM, SET, UNSET, VERSION};
-use yp_judge::{Judged, judge};
 use yp_msgs::ReadMessage;
-use yp_rpc::{CallHead, ReplyHead};
+use yp_rpc::{CallHead, Judged, ReplyHead, judge};
 use yp_xdr::Cursor;
 
 /// What a datagram asks of the port mapper.

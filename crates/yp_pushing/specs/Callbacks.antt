@@ -5,11 +5,11 @@ use Rattle.yp_xdr.specs.declared.fault.XdrFault.{XdrFault}
 use Rattle.yp_xdr.specs.Kind.{Value}
 use Rattle.yp_xdr.specs.Reading.{Unread, reading}
 use Rattle.yp_rpc.specs.declared.call.CallHead.{CallHead}
-use Rattle.yp_judge.specs.declared.judging.Judged.{Judged}
-use Rattle.yp_judge.specs.declared.judging.Judged.TheVariants.{Ignored, Refused, Admitted}
+use Rattle.yp_rpc.specs.declared.judging.Judged.{Judged}
+use Rattle.yp_rpc.specs.declared.judging.Judged.TheVariants.{Ignored, Refused, Admitted}
 use Rattle.yp_rpc.specs.declared.reply.ReplyHead.{ReplyHead}
 use Rattle.yp_rpc.specs.declared.reply.ReplyHead.TheVariants.{Success, ProcUnavail, GarbageArgs}
-use Rattle.yp_judge.specs.Judging.{judged}
+use Rattle.yp_rpc.specs.Judging.{judged}
 use Rattle.yp_rpc.specs.Reply.{reply_head}
 use Rattle.yp_msgs.specs.declared.push.PushStat.{PushStat}
 use Rattle.yp_msgs.specs.Numbers.{push_version, push_null_procedure, xfrresp_procedure}

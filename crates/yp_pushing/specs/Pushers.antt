@@ -2,7 +2,7 @@
 use Rattle.std.specs.Prelude.{◌≡◌, ◌⊎◌, ℕ, Bool, true, false, List, [], Option, Some, None, slice_index_or}
 use Rattle.yp_io.specs.declared.stream.Peer.{Peer}
 use Rattle.yp_io.specs.Dials.{DialTells}
-use Rattle.yp_turns.specs.Turns.{Want, Letter, Turn, Nothing, Ways, ways_of}
+use Rattle.yp_rpc.specs.Turns.{Want, Letter, Turn, Nothing, Ways, ways_of}
 use Rattle.yp_push.specs.declared.event.Event.TheVariants.{Sent, Quiet}
 use Rattle.yp_push.specs.declared.ledger.Sending.{Sending}
 use Rattle.yp_push.specs.Ledgers.{Ledger, with_event, next_sending, IsDone}

@@ -1,15 +1,13 @@
 //! What a datagram tells a push, and its reply.
 
 ghost use Rattle.std.specs.Prelude.{◌≡◌, ◌≤◌, length};
-ghost use Rattle.yp_turns.specs.Turns.{mail_max, reply_of};
+ghost use Rattle.yp_rpc.specs.Turns.{mail_max, reply_of};
 ghost use Rattle.yp_pushing.specs.Callbacks.{program, asked_view, asked_by, procedure_asked, reply_to, IsTold};
 
-use yp_judge::{Judged, judge};
 use yp_msgs::protocol::{PUSH_NULL, PUSHVERS, XFRRESP};
 use yp_msgs::{PushResp, ReadMessage};
 use yp_push::Push;
-use yp_rpc::{CallHead, ReplyHead, write_reply};
-use yp_turns::MAIL_MAX;
+use yp_rpc::{CallHead, Judged, MAIL_MAX, ReplyHead, judge, write_reply};
 use yp_xdr::{Cursor, NoRoom};
 
 /// The program that slaves call, of those numbers that are used for a while (RFC 5531 section 8.3).

@@ -14,7 +14,7 @@ use yp_board::MapName;
 use yp_io::{Dial, Peer};
 use yp_msgs::ReqXfr;
 use yp_push::{Outcome, Push, Sending};
-use yp_turns::{Errand, Wish};
+use yp_rpc::{Errand, Wish};
 
 /// A slave.
 #[derive(Debug, Drop)]

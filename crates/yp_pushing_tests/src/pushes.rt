@@ -4,7 +4,7 @@ use crate::stage::{Row, try_row};
 use std::alloc::Global;
 use std::process::Abort;
 use yp_io::Failed;
-use yp_turns::Ended;
+use yp_rpc::Ended;
 
 /// Replies to XFR: SUCC with each transaction, REFUSED, and one that is cut.
 const FIRST: &[&str] = &[

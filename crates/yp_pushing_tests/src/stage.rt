@@ -8,11 +8,10 @@ use crate::given::{assert_same, bytes, listed};
 use std::alloc::Global;
 use std::process::Abort;
 use yp_board::MapName;
-use yp_io::{Failed, Letter, MemDial, MemSink, MemSource, MemWire, Pair, Peer};
-use yp_mem::MemInbox;
+use yp_io::{Failed, Letter, MemDial, MemInbox, MemSink, MemSource, MemWire, Pair, Peer};
 use yp_push::Push;
 use yp_pushing::{Order, Pusher, Slave, all_have_map, text_of};
-use yp_turns::{Ended, Room, take_turns};
+use yp_rpc::{Ended, Room, take_turns};
 
 /// A datagram, or a quiet turn.
 pub type Brings = Option<&'static [&'static str]>;

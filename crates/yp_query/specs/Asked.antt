@@ -12,8 +12,8 @@ use Rattle.yp_client.specs.States.{ClientState}
 use Rattle.yp_client.specs.Calls.{Calls}
 use Rattle.yp_query.specs.declared.fault.QueryFault.{QueryFault}
 use Rattle.yp_query.specs.declared.fault.QueryFault.TheVariants.{NoMemory, NotMember}
-use Rattle.yp_question.specs.declared.question.Question.TheVariants.{Cat, Catk, Match, Which, Poll, Maps, Innetgr}
-use Rattle.yp_question.specs.Questions.{ByteQuestion}
+use Rattle.yp_client.specs.declared.question.Question.TheVariants.{Cat, Catk, Match, Which, Poll, Maps, Innetgr}
+use Rattle.yp_client.specs.Questions.{ByteQuestion}
 use Rattle.yp_netgroup.specs.Reach.{Asked}
 use Rattle.yp_netgroup.specs.Decided.{is_member}
 use Rattle.yp_query.specs.Lines.{line, lines, rows_text, standing_text, membership_text}

@@ -11,8 +11,8 @@ use Rattle.yp_client.specs.Results.{value_of, master_of, order_of, maps_of}
 use Rattle.yp_client.specs.All.{all_said}
 use Rattle.yp_query.specs.declared.fault.QueryFault.{QueryFault}
 use Rattle.yp_query.specs.declared.fault.QueryFault.TheVariants.{NoKey, NotMember, NoMemory}
-use Rattle.yp_question.specs.declared.question.Question.TheVariants.{Cat, Catk, Match, Which, Poll, Maps, Innetgr}
-use Rattle.yp_question.specs.Questions.{ByteQuestion}
+use Rattle.yp_client.specs.declared.question.Question.TheVariants.{Cat, Catk, Match, Which, Poll, Maps, Innetgr}
+use Rattle.yp_client.specs.Questions.{ByteQuestion}
 use Rattle.yp_query.specs.Asked.{no_rows}
 
 -- Bytes begin with a whole reply of at most so many bytes, and P holds of it and of what is behind.

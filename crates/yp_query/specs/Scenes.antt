@@ -8,7 +8,7 @@ use Rattle.yp_client.specs.declared.fault.ClientFault.TheVariants.{ReadFault, Wr
 use Rattle.yp_client.specs.States.{ClientState, IsFirst}
 use Rattle.yp_query.specs.declared.fault.QueryFault.{QueryFault}
 use Rattle.yp_query.specs.declared.fault.QueryFault.TheVariants.{NotMember, Client, Dial, Output, NoMemory}
-use Rattle.yp_question.specs.Questions.{ByteQuestion}
+use Rattle.yp_client.specs.Questions.{ByteQuestion}
 use Rattle.yp_io.specs.Streams.{AppendsFront}
 use Rattle.yp_query.specs.Lines.{membership_text}
 use Rattle.yp_query.specs.Asked.{Outcome, Converses}

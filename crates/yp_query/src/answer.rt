@@ -9,7 +9,7 @@ ghost use Rattle.yp_client.specs.Said.{SaysBytes, SaysNames};
 ghost use Rattle.yp_client.specs.Asked.{match_call, master_call, maplist_call};
 ghost use Rattle.yp_client.specs.States.{state_of};
 ghost use Rattle.yp_query.specs.Lines.{line, lines};
-ghost use Rattle.yp_question.specs.Questions.{bytes_of, QuestionIsWithin};
+ghost use Rattle.yp_client.specs.Questions.{bytes_of, QuestionIsWithin};
 ghost use Rattle.yp_query.specs.Faults.{query_fault, match_fault};
 ghost use Rattle.yp_query.specs.Asked.{Outcome, meant_by, CallIsMade, TakesRows, Polls, IsUnlessMemory, Converses};
 ghost use Rattle.yp_query.specs.Asked.{rows_told, membership_told, netgroup};
@@ -19,12 +19,11 @@ ghost use Rattle.yp_query.specs.Answers.{outcome_of, version_outcome};
 use crate::fault::{QueryFault, of_match};
 use std::alloc::Global;
 use std::random::RandomSource;
-use yp_client::Client;
+use yp_client::{Client, Question};
 use yp_io::{NoMemory, Sink, Source};
 use yp_msgs::Names;
 use yp_netgroup::laws::membership_is_decided;
 use yp_netgroup::{Who, innetgr};
-use yp_question::Question;
 use yp_version::{Version, VersionBuilder};
 
 /// The whole answer to a question.

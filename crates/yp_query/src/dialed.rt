@@ -4,7 +4,7 @@ ghost use Rattle.std.specs.Prelude.{◌≡◌, ◌≢◌, ℕ, ◌≤◌, List, 
 ghost use Rattle.yp_io.specs.Counts.{HasRisen, last_count};
 ghost use Rattle.yp_client.specs.States.{state_of, unspent, Held};
 ghost use Rattle.yp_query.specs.Faults.{IsTellable};
-ghost use Rattle.yp_question.specs.Questions.{bytes_of, QuestionIsWithin};
+ghost use Rattle.yp_client.specs.Questions.{bytes_of, QuestionIsWithin};
 ghost use Rattle.yp_query.specs.Asked.{Converses};
 ghost use Rattle.yp_query.specs.Answers.{outcome_of};
 ghost use Rattle.yp_query.specs.Complete.{HasAnswer, HasCome, IsAnswered};
@@ -15,9 +15,8 @@ use crate::fault::QueryFault;
 use crate::print::print;
 use std::alloc::Global;
 use std::random::RandomSource;
-use yp_client::Client;
+use yp_client::{Client, Question};
 use yp_io::{Dial, Failed, Pair, Peer, Sink, Source};
-use yp_question::Question;
 use yp_rpc::laws;
 
 /// The number of the first call on a wire.

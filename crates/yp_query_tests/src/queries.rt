@@ -1,17 +1,16 @@
 //! Questions over wires in memory: calls and replies written out by hand, from RFC 5531 and yp.x.
 
 ghost use Rattle.std.specs.Prelude.{◌<◌};
-ghost use Rattle.yp_question.specs.Questions.{bytes_of, QuestionIsWithin};
+ghost use Rattle.yp_client.specs.Questions.{bytes_of, QuestionIsWithin};
 
 use crate::given::{assert_same, bytes};
 use std::alloc::Global;
 use std::process::Abort;
 use std::random::RandomSource;
-use yp_client::ClientFault;
+use yp_client::{ClientFault, Question};
 use yp_io::{MemDial, MemDialed, MemSink, MemSource, Pair, Peer};
 use yp_msgs::YpStat;
 use yp_query::{QueryFault, query};
-use yp_question::Question;
 use yp_rpc::ReplyHead;
 use yp_version::VersionFault;
 

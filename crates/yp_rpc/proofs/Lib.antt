@@ -12,3 +12,5 @@ pub mod Sending
 pub mod Stream
 pub mod Whole
 pub mod Words
+mod Seeing
+mod Leading

@@ -8,3 +8,5 @@ pub mod Call
 pub mod Called
 pub mod Reply
 pub mod Read
+pub mod Judging
+pub mod Turns

@@ -5,14 +5,14 @@ use Rattle.yp_board.specs.Catalogues.{Catalogue}
 use Rattle.yp_board.specs.Logs.{Log}
 use Rattle.yp_board.specs.Views.{IsFront}
 use Rattle.yp_session.specs.Hosts.{Conduct}
-use Rattle.yp_turns.specs.Turns.{Box}
+use Rattle.yp_rpc.specs.Turns.{Box}
 use Rattle.yp_mailserve.specs.Mailing.{Mailing, Awaited}
 use Rattle.yp_mailserve.specs.Serving.{ServesMail}
 use Rattle.yp_serve.specs.declared.mail.Mailman.{Mailman}
 use Rattle.yp_serve.specs.Posts.{Mails}
 use Rattle.yp_worker.specs.Receptions.{Terms}
 use Rattle.yp_worker.specs.Summing.{Counting}
-use Rattle.yp_listen.specs.Calls.{Calls}
+use Rattle.yp_io.specs.Calls.{Calls}
 use Rattle.yp_serve.specs.Serving.{at_rest}
 use Rattle.yp_serve.specs.Counting.{BeginsMail, CountsDatagrams, CountsAll}
 

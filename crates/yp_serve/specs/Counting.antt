@@ -8,8 +8,8 @@ use Rattle.yp_slot.specs.Slots.{HasGeneration}
 use Rattle.yp_board.specs.Catalogues.{Catalogue}
 use Rattle.yp_board.specs.Logs.{Log}
 use Rattle.yp_session.specs.Hosts.{Conduct}
-use Rattle.yp_turns.specs.Turns.{Box}
-use Rattle.yp_listen.specs.Calls.{Calls}
+use Rattle.yp_rpc.specs.Turns.{Box}
+use Rattle.yp_io.specs.Calls.{Calls}
 use Rattle.yp_shared.specs.Failures.{faults_over}
 use Rattle.yp_worker.specs.Receptions.{Terms}
 use Rattle.yp_worker.specs.Summing.{Counting, SumsUp, counting_of}

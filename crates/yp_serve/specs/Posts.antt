@@ -4,8 +4,8 @@ use Rattle.std.specs.List.{All}
 use Rattle.yp_io.specs.Counts.{HasRisen}
 use Rattle.yp_io.specs.declared.stream.Failed.{Failed}
 use Rattle.yp_session.specs.Hosts.{Conduct}
-use Rattle.yp_turns.specs.Turns.{Box}
-use Rattle.yp_turns.specs.declared.turns.Ended.{Ended}
+use Rattle.yp_rpc.specs.Turns.{Box}
+use Rattle.yp_rpc.specs.declared.turns.Ended.{Ended}
 use Rattle.yp_mailserve.specs.Serving.{ServesMail}
 use Rattle.yp_worker.specs.Receptions.{Passed}
 use Rattle.yp_workhost.specs.Workers.{Worker}

@@ -9,8 +9,8 @@ use Rattle.yp_board.specs.Views.{Seen, IsFront}
 use Rattle.yp_publish.specs.Standing.{Kept, OfMap, IsStanding, Shows, versions}
 use Rattle.yp_xfr.specs.HostTable.{HostList}
 use Rattle.yp_session.specs.Hosts.{Counts, Conduct, conduct_of}
-use Rattle.yp_turns.specs.Turns.{Box}
-use Rattle.yp_turns.specs.declared.turns.Ended.{Ended}
+use Rattle.yp_rpc.specs.Turns.{Box}
+use Rattle.yp_rpc.specs.declared.turns.Ended.{Ended}
 use Rattle.yp_mailserve.specs.Mailing.{Mailing}
 use Rattle.yp_mailserve.specs.Serving.{ServesMail}
 use Rattle.yp_workhost.specs.Desks.{texts_alone}

@@ -7,7 +7,7 @@ ghost use Rattle.yp_board.specs.Views.{IsFront};
 ghost use Rattle.yp_session.specs.Hosts.{conduct_of};
 ghost use Rattle.yp_worker.specs.Receptions.{IsKept, IsUnder, opening_of, terms_of};
 ghost use Rattle.yp_worker.specs.Summing.{counting_of};
-ghost use Rattle.yp_turns.specs.Turns.{box_of};
+ghost use Rattle.yp_rpc.specs.Turns.{box_of};
 ghost use Rattle.yp_serve.specs.Counting.{BeginsMail, CountsAll};
 ghost use Rattle.yp_serve.specs.Serving.{at_work, gone_home};
 ghost use Rattle.yp_serve.specs.Posts.{Mails, Works, AllWork, IsManned};
@@ -18,8 +18,7 @@ use std::marker::Model;
 use std::sync::ledger::Ledger;
 use std::sync::{Mutex, Wait};
 use std::thread::{Threads, for_each_mut};
-use yp_io::Inbox;
-use yp_listen::Listen;
+use yp_io::{Inbox, Listen};
 use yp_worker::laws::sums_reach_further;
 use yp_worker::{Gate, HandsOver, Listening, Pass, Reception, Tally, Worker};
 

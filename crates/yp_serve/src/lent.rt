@@ -17,10 +17,10 @@ use std::sync::ledger::Share;
 use yp_board::{Show, Tell};
 use yp_io::{Disk, NoMemory};
 use yp_publish::Publisher;
+use yp_rpc::Room;
 use yp_server::Desk;
 use yp_session::Session;
 use yp_shared::{Accounts, Debits, Locked, Site, Versions};
-use yp_turns::Room;
 
 /// What all workers share.
 #[derive(Drop)]

@@ -3,13 +3,13 @@
 ghost use Rattle.std.specs.Prelude.{◌≡◌, false};
 ghost use Rattle.yp_board.specs.Views.{IsFront};
 ghost use Rattle.yp_session.specs.Hosts.{conduct_of};
-ghost use Rattle.yp_turns.specs.Turns.{box_of};
+ghost use Rattle.yp_rpc.specs.Turns.{box_of};
 ghost use Rattle.yp_serve.specs.Serving.{at_rest};
 ghost use Rattle.yp_serve.specs.Posts.{Mails};
 
 use yp_io::Inbox;
 use yp_mailserve::{MailServer, serve_mail};
-use yp_turns::Room;
+use yp_rpc::Room;
 use yp_worker::{CatchUp, HandsOver};
 
 /// What the worker of datagrams works with: an inbox, the most turns of it, a reader of the maps, and the memory of a

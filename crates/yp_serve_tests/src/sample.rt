@@ -4,7 +4,7 @@
 ghost use Rattle.std.specs.Prelude.{◌≡◌, ◌≤◌, length, map, option_map};
 ghost use Rattle.std.specs.List.{All};
 ghost use Rattle.std.specs.Arc.{arc_value};
-ghost use Rattle.yp_listen.specs.MemListen.{IsNew, calls_of};
+ghost use Rattle.yp_io.specs.MemListen.{IsNew, calls_of};
 ghost use Rattle.yp_publish.specs.Standing.{versions};
 ghost use Rattle.yp_serve.specs.Serving.{IsAtStart};
 ghost use Rattle.yp_worker.specs.Receptions.{IsFair};
@@ -16,10 +16,9 @@ use std::random::RandomSource;
 use std::sync::{Arc, Wait};
 use yp_board::{Catalog, MapName};
 use yp_io::{
-    Letter, MemDial, MemDisk, MemSink, MemSource, MemTexts, Pair, Peer, SetClock, TextFile,
+    Called, Letter, MemCall, MemDial, MemDisk, MemInbox, MemListen, MemSink, MemSource, MemTexts,
+    Pair, Peer, SetClock, TextFile,
 };
-use yp_listen::{Called, MemCall, MemListen};
-use yp_mem::MemInbox;
 use yp_publish::laws::starts_are_shown;
 use yp_publish::{Loaded, Publisher, load_all};
 use yp_readers::{Naming, Opened, Reader, Writer, board};

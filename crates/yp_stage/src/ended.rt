@@ -4,8 +4,7 @@ use crate::outside::{Memory, bytes_of};
 use crate::row::{Datagram, Row, Stands, Words};
 use std::alloc::{AllocError, Global};
 use std::random::RandomSource;
-use yp_io::{Letter, MemDial, MemDisk, Peer};
-use yp_listen::MemListen;
+use yp_io::{Letter, MemDial, MemDisk, MemListen, Peer};
 use yp_slot::Slot;
 use yp_tools::{NamedDisk, Status};
 

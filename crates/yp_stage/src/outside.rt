@@ -2,7 +2,7 @@
 
 ghost use Rattle.std.specs.Prelude.{◌≡◌, All, IfOk};
 ghost use Rattle.yp_io.specs.MemDial.{IsNew};
-ghost use Rattle.yp_listen.specs.MemListen.{IsNew as IsNewCall, calls_of};
+ghost use Rattle.yp_io.specs.MemListen.{IsNew as IsNewCall, calls_of};
 ghost use Rattle.yp_worker.specs.Receptions.{IsFair};
 ghost use Rattle.yp_words.specs.Words.{disk_names, texts};
 ghost use Rattle.yp_office.specs.Disks.{names_of};
@@ -11,11 +11,9 @@ use crate::row::{Datagram, NEVER, Row};
 use std::alloc::{AllocError, Global};
 use yp_board::MapName;
 use yp_io::{
-    Letter, MemDial, MemDisk, MemSink, MemSource, MemTexts, MemWire, OWN_HOST, Pair, Peer,
-    SetClock, TextFile,
+    Called, Letter, MemCall, MemDial, MemDisk, MemInbox, MemListen, MemSink, MemSource, MemTexts,
+    MemWire, OWN_HOST, Pair, Peer, SetClock, TextFile,
 };
-use yp_listen::{Called, MemCall, MemListen};
-use yp_mem::MemInbox;
 use yp_tools::{NamedDisk, Outside, disk_names, named_disks};
 
 /// The outside in memory.

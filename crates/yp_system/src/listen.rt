@@ -5,7 +5,7 @@ ghost use Rattle.std.specs.Net.Addr.{ipv4_octets};
 ghost use Rattle.std.specs.Net.Socket.{v4_ip, v4_port};
 ghost use Rattle.yp_io.specs.Dials.{IsFresh};
 ghost use Rattle.yp_io.specs.Counts.{next_count};
-ghost use Rattle.yp_listen.specs.Calls.{IsFreshCall, Returns, ended_by};
+ghost use Rattle.yp_io.specs.Calls.{IsFreshCall, Returns, ended_by};
 
 use crate::caller::Caller;
 use crate::inbox::peer_of;
@@ -15,8 +15,7 @@ use std::io::ErrorKind;
 use std::net::{Ipv4Addr, Net, SocketAddr, SocketAddrV4, TcpListener, TcpStream};
 use std::time::Duration;
 use std::{io, rt, thread};
-use yp_io::{Failed, Pair, Sink, Source, count_fault};
-use yp_listen::{Arrival, Called, Listen};
+use yp_io::{Arrival, Called, Failed, Listen, Pair, Sink, Source, count_fault};
 
 /// How long an accepted connection may bring no byte, or take none, in seconds. Then it fails, so that a silent caller
 /// keeps nobody waiting for longer.

@@ -14,7 +14,7 @@ use Rattle.yp_session.specs.Hosts.{Conduct, Turn}
 use Rattle.yp_session.specs.LogRuns.{LogRun}
 use Rattle.yp_session.specs.Runs.{Dialogue, Chain, Ends, Runs, sent_reply, unsent}
 use Rattle.yp_server.specs.Connections.{Service, Connection, Serves, log_of}
-use Rattle.yp_question.specs.Questions.{ByteQuestion}
+use Rattle.yp_client.specs.Questions.{ByteQuestion}
 use Rattle.yp_exchange.specs.Runs.{calls_made, sent_all}
 use Rattle.yp_exchange.specs.LogRuns.{records_of, replies_of, AnswersCalls}
 use Rattle.yp_office.specs.Seeing.{Seeing}

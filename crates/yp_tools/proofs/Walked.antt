@@ -10,8 +10,8 @@ use Rattle.yp_version.specs.Rows.{listed}
 use Rattle.yp_version.specs.Versions.{MapVersion, unmarked}
 use Rattle.yp_version.specs.Drafts.{Draft}
 use Rattle.yp_board.specs.Catalogues.{Catalogue}
-use Rattle.yp_turns.specs.declared.turns.Ended.{Ended}
-use Rattle.yp_turns.specs.Turns.{GainsAll}
+use Rattle.yp_rpc.specs.declared.turns.Ended.{Ended}
+use Rattle.yp_rpc.specs.Turns.{GainsAll}
 use Rattle.yp_xfr.specs.declared.fault.XfrFault.{XfrFault}
 use Rattle.yp_xfr.specs.declared.fault.XfrFault.TheVariants as fault
 use Rattle.yp_xfr.specs.Fetching.{Outcome}

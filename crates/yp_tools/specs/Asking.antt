@@ -7,7 +7,7 @@ use Rattle.yp_session.specs.Hosts.{Turn}
 use Rattle.yp_client.specs.declared.fault.ClientFault.TheVariants as client
 use Rattle.yp_query.specs.declared.fault.QueryFault.{QueryFault}
 use Rattle.yp_query.specs.declared.fault.QueryFault.TheVariants as fault
-use Rattle.yp_question.specs.Questions.{ByteQuestion}
+use Rattle.yp_client.specs.Questions.{ByteQuestion}
 use Rattle.yp_query.specs.Scenes.{Scene, Asks, scene_of}
 use Rattle.yp_query.specs.Complete.{HasAnswer, HasCome}
 use Rattle.yp_exchange.specs.Runs.{sent_all, PrintsOnLogs}

@@ -7,7 +7,7 @@ use Rattle.yp_session.specs.Wires.{Wire}
 use Rattle.yp_session.specs.declared.session.End.{End}
 use Rattle.yp_session.specs.declared.session.End.TheVariants.{WriteFault}
 use Rattle.yp_server.specs.Connections.{Service, Connection, Serves, log_of}
-use Rattle.yp_question.specs.Questions.{ByteQuestion}
+use Rattle.yp_client.specs.Questions.{ByteQuestion}
 use Rattle.yp_query.specs.Complete.{HasCome}
 use Rattle.yp_exchange.specs.Runs.{calls_made, PrintsOnLogs}
 use Rattle.yp_exchange.specs.LogRuns.{records_of, replies_of}

@@ -1,7 +1,7 @@
 //! The client commands: a server is asked, and its answer printed.
 
 ghost use Rattle.std.specs.Prelude.{◌≡◌, IsTrue, Err};
-ghost use Rattle.yp_question.specs.Questions.{bytes_of, QuestionIsWithin};
+ghost use Rattle.yp_client.specs.Questions.{bytes_of, QuestionIsWithin};
 ghost use Rattle.yp_query.specs.Faults.{IsTellable as MayBeTold};
 ghost use Rattle.yp_office.specs.Seeing.{seeing, IsPassedOn};
 ghost use Rattle.yp_office.specs.Status.{IsTellable};
@@ -9,12 +9,11 @@ ghost use Rattle.yp_tools.specs.Asking.{AskDoes, ask_may_end, status_of};
 
 use std::alloc::Global;
 use std::random::RandomSource;
-use yp_client::ClientFault;
+use yp_client::{ClientFault, Question};
 use yp_exchange::laws;
 use yp_io::{Clock, Dial, Disk, Inbox, Peer, Sink, Source, Texts};
 use yp_office::{Office, Status, status_of_row};
 use yp_query::{QueryFault, query};
-use yp_question::Question;
 
 /// The status of a call that was refused.
 fn status_of_call(fault: ClientFault) -> Status

@@ -7,8 +7,7 @@ use std::process::Abort;
 use std::random::RandomSource;
 use std::sync::Wait;
 use std::thread::Threads;
-use yp_io::{MemDial, MemDisk, MemSink, MemSource, MemTexts, SetClock};
-use yp_mem::MemInbox;
+use yp_io::{MemDial, MemDisk, MemInbox, MemSink, MemSource, MemTexts, SetClock};
 use yp_stage::{FAIR, Row, try_reads, try_row, try_writes};
 use yp_tools::laws;
 

@@ -3,7 +3,7 @@
 ghost use Rattle.std.specs.Prelude.{if◌then◌else◌};
 
 use yp_io::Peer;
-use yp_turns::{Errand, Wish};
+use yp_rpc::{Errand, Wish};
 
 /// A datagram that begins with this byte is no answer.
 pub const NO_ANSWER: u8 = 0;

@@ -4,9 +4,8 @@ use crate::asker::{Asker, NO_ANSWER};
 use crate::given::{assert_same, letter, listed};
 use std::alloc::Global;
 use std::process::Abort;
-use yp_io::{Failed, Letter, Peer};
-use yp_mem::MemInbox;
-use yp_turns::{Ended, Room, take_turns};
+use yp_io::{Failed, Letter, MemInbox, Peer};
+use yp_rpc::{Ended, Room, take_turns};
 
 const PEER: Peer = Peer {
     addr: [10, 0, 0, 1],

@@ -3,7 +3,7 @@ use Rattle.std.proofs.Common.{◌≡◌, ℕ, ◌+◌, ◌<◌, ◌≤◌, Bool,
 use Rattle.std.proofs.Common.{Result, Ok, Err, refl, ap, arith, nat_le}
 use Rattle.std.proofs.lemmas.List.{length-append}
 use Rattle.std.specs.Prelude.{is_some, nat_lt}
-use Rattle.yp_turns.specs.Turns.{mail_max}
+use Rattle.yp_rpc.specs.Turns.{mail_max}
 use Rattle.yp_version.specs.Limits.{key_max, value_max, rows_max, body_max}
 use Rattle.yp_version.specs.Rows.{Row, row_len, value_of}
 use Rattle.yp_version.specs.Drafts.{Draft, draft_len, refused, with_row, with_new}

@@ -4,7 +4,7 @@ use Rattle.std.proofs.Common.{Some, None, Result, Ok, Err, refl, sym, ap, subst,
 use Rattle.std.specs.Prelude.{nat_lt}
 use Rattle.std.proofs.lemmas.List.Elements.{All-head, All-tail}
 use Rattle.yp_io.specs.declared.stream.Peer.{Peer}
-use Rattle.yp_turns.specs.Turns.{mail_max}
+use Rattle.yp_rpc.specs.Turns.{mail_max}
 use Rattle.yp_msgs.specs.declared.stat.YpStat.{YpStat}
 use Rattle.yp_msgs.specs.declared.stat.YpStat.TheVariants as stats
 use Rattle.yp_answer.specs.Numbers.{datagram_max}

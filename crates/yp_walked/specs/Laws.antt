@@ -13,7 +13,7 @@ use Rattle.yp_answer.specs.Served.{AreServed, maps_on}
 use Rattle.yp_xfr.specs.declared.fault.XfrFault.TheVariants.{Skew}
 use Rattle.yp_xfr.specs.Fetching.{Wanted, against_order}
 use Rattle.yp_source.specs.Replies.{IsShown, unsecured}
-use Rattle.yp_turns.specs.Turns.{mail_max}
+use Rattle.yp_rpc.specs.Turns.{mail_max}
 use Rattle.yp_enum.specs.Standings.{HasEnded, next_len}
 use Rattle.yp_enum.specs.Schedules.{Walking, Delivery, begun, walk_by}
 use Rattle.yp_enum.specs.Told.{draft_with}

@@ -9,7 +9,7 @@ use Rattle.yp_slot.specs.declared.fault.SlotFault.TheVariants as slot
 use Rattle.yp_board.specs.declared.catalog.MapName.{MapName}
 use Rattle.yp_board.specs.Catalogues.{Name, name_view}
 use Rattle.yp_publish.specs.declared.install.Installed.{Installed}
-use Rattle.yp_turns.specs.Turns.{Box}
+use Rattle.yp_rpc.specs.Turns.{Box}
 use Rattle.yp_xfr.specs.declared.fault.XfrFault.{XfrFault}
 use Rattle.yp_xfr.specs.Fetching.{Wanted, wanted_of, Outcome}
 use Rattle.yp_office.specs.declared.disks.NamedDisk.{NamedDisk}

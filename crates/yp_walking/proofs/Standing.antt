@@ -7,10 +7,10 @@ use Rattle.std.proofs.lemmas.List.{append-nil}
 use Rattle.yp_io.specs.declared.stream.Failed.{Failed}
 use Rattle.yp_io.specs.declared.stream.Peer.{Peer}
 use Rattle.yp_io.specs.Inboxes.{Post, Arrived, Silent, Sent}
-use Rattle.yp_turns.specs.declared.turns.Ended.{Ended}
-use Rattle.yp_turns.specs.declared.turns.Ended.TheVariants.{Done as IsDone, Spent as AllTaken}
-use Rattle.yp_turns.specs.Turns.{Want, Letter, Turn, Nothing, Meets, Runs, mail_max}
-use Rattle.yp_turns.specs.Turns as turns
+use Rattle.yp_rpc.specs.declared.turns.Ended.{Ended}
+use Rattle.yp_rpc.specs.declared.turns.Ended.TheVariants.{Done as IsDone, Spent as AllTaken}
+use Rattle.yp_rpc.specs.Turns.{Want, Letter, Turn, Nothing, Meets, Runs, mail_max}
+use Rattle.yp_rpc.specs.Turns as turns
 use Rattle.yp_xfr.specs.declared.fault.XfrFault.{XfrFault}
 use Rattle.yp_xfr.specs.declared.fault.XfrFault.TheVariants as fault
 use Rattle.yp_xfr.specs.Fetching.{Wanted}
@@ -23,7 +23,7 @@ use Rattle.yp_walking.specs.Turns.{Awaiting, is_on, goes_on, wish, sent, GoesOn,
 use Rattle.yp_walking.specs.Turns.{walker_ways, heard_of, StandsFor, first_of, Gave, IsCame, WalksTo}
 use Rattle.yp_walking.specs.declared.walker.Came.{Came}
 use Rattle.yp_walking.specs.declared.walker.Came.TheVariants.{Outcome as HasOutcome, Spent, Failed as HasFailed}
-use Rattle.yp_turns.specs.Turns.{Box, TakesTurns}
+use Rattle.yp_rpc.specs.Turns.{Box, TakesTurns}
 use Rattle.yp_xfr.specs.Fetching.{Outcome}
 use Rattle.yp_enum.specs.Standings.{IsAsking}
 use Rattle.yp_enum.specs.Schedules.{outstanding}

@@ -4,9 +4,9 @@ use Rattle.std.specs.Prelude.{Option, None, Result, Ok, Err}
 use Rattle.yp_io.specs.declared.stream.Failed.{Failed}
 use Rattle.yp_io.specs.declared.stream.Peer.{Peer}
 use Rattle.yp_io.specs.Inboxes.{Post, Arrived, Silent, Sent}
-use Rattle.yp_turns.specs.declared.turns.Ended.{Ended}
-use Rattle.yp_turns.specs.declared.turns.Ended.TheVariants.{Spent as AllTaken}
-use Rattle.yp_turns.specs.Turns.{Want, Letter, Turn, Nothing, Ways, ways_of, Box, TakesTurns, mail_max}
+use Rattle.yp_rpc.specs.declared.turns.Ended.{Ended}
+use Rattle.yp_rpc.specs.declared.turns.Ended.TheVariants.{Spent as AllTaken}
+use Rattle.yp_rpc.specs.Turns.{Want, Letter, Turn, Nothing, Ways, ways_of, Box, TakesTurns, mail_max}
 use Rattle.yp_xfr.specs.declared.fault.XfrFault.{XfrFault}
 use Rattle.yp_xfr.specs.declared.fault.XfrFault.TheVariants.{NoMemory}
 use Rattle.yp_xfr.specs.Fetching.{Wanted, Outcome}

@@ -6,7 +6,7 @@ use Rattle.yp_slot.specs.declared.fault.SlotFault.{SlotFault}
 use Rattle.yp_board.specs.Catalogues.{Name}
 use Rattle.yp_board.specs.declared.catalog.MapName.{MapName}
 use Rattle.yp_publish.specs.declared.install.Installed.{Installed}
-use Rattle.yp_turns.specs.Turns.{Box}
+use Rattle.yp_rpc.specs.Turns.{Box}
 use Rattle.yp_xfr.specs.declared.fault.XfrFault.{XfrFault}
 use Rattle.yp_xfr.specs.Fetching.{Outcome}
 use Rattle.yp_office.specs.declared.office.Office.{Office}

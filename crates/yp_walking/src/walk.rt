@@ -6,7 +6,7 @@ ghost use Rattle.yp_io.specs.Counts.{HasRisen};
 ghost use Rattle.yp_board.specs.Catalogues.{catalog_fault, name_view};
 ghost use Rattle.yp_board.specs.Logs.{shown};
 ghost use Rattle.yp_words.specs.Words.{IsNamed};
-ghost use Rattle.yp_turns.specs.Turns.{Box, box_of};
+ghost use Rattle.yp_rpc.specs.Turns.{Box, box_of};
 ghost use Rattle.yp_publish.specs.Begins.{BeginsLevel};
 ghost use Rattle.yp_xfr.specs.Fetching.{wanted_of};
 ghost use Rattle.yp_office.specs.Disks.{names_of, history_of, faults_of, only_history, total_faults};
@@ -26,11 +26,11 @@ use yp_board::{Catalog, MapName, PlainBoard};
 use yp_io::{Clock, Dial, Disk, Inbox, NoMemory, Sink, Source, Texts};
 use yp_office::{Apart, NamedDisk, Office, Status, put_together, take_apart};
 use yp_publish::{Installed, Publisher};
+use yp_rpc::Room;
 use yp_slot::SlotFault;
 use yp_storing::{
     XfrStop, catalog_of, hand_back, open_only, shown_order, store_fetched, tell_transfer,
 };
-use yp_turns::Room;
 use yp_words::WalkJob;
 
 /// Why a map isn't fetched and stored.

@@ -22,8 +22,8 @@ use Rattle.yp_words.specs.Words.{walk, walk_flagged, revnet, AreMaps as MakeMaps
 use Rattle.yp_words.specs.Words.{match_key, maps, innetgr, asking, sentences, further_fitting}
 use Rattle.yp_words.specs.Words.{serving_fitting, joins, is_new_store, served, fitting, is_whole, asked, name_of}
 use Rattle.yp_words.specs.Words.{kind_of, joins_servers, servers_fitting, peer_word, host_of, IsNamed, HasNames}
-use Rattle.yp_question.specs.declared.question.Question.TheVariants.{Cat, Catk, Which, Poll}
-use Rattle.yp_question.specs.Questions.{ByteQuestion, QuestionIsWithin}
+use Rattle.yp_client.specs.declared.question.Question.TheVariants.{Cat, Catk, Which, Poll}
+use Rattle.yp_client.specs.Questions.{ByteQuestion, QuestionIsWithin}
 
 -- words have these forms, in turn
 HaveForms : List Form → List (List ℕ) → Type 0

@@ -16,9 +16,9 @@ use Rattle.yp_bind.specs.Rounds.{is_same_peer}
 use Rattle.yp_board.specs.Catalogues.{Name, name_max, maps_max, name_view, is_same, catalog_fault}
 use Rattle.yp_build.specs.declared.kind.Kind.{Kind}
 use Rattle.yp_build.specs.Kinds.{kinds, name_of as kind_name}
-use Rattle.yp_question.specs.declared.question.Question.{Question}
-use Rattle.yp_question.specs.declared.question.Question.TheVariants.{Cat, Catk, Match, Which, Poll, Maps, Innetgr}
-use Rattle.yp_question.specs.Questions.{ByteQuestion, bytes_of, question_map, QuestionIsWithin}
+use Rattle.yp_client.specs.declared.question.Question.{Question}
+use Rattle.yp_client.specs.declared.question.Question.TheVariants.{Cat, Catk, Match, Which, Poll, Maps, Innetgr}
+use Rattle.yp_client.specs.Questions.{ByteQuestion, bytes_of, question_map, QuestionIsWithin}
 use Rattle.yp_words.specs.declared.command.KeyValue.{KeyValue}
 use Rattle.yp_words.specs.declared.command.HostWord.{HostWord}
 use Rattle.yp_words.specs.declared.command.Command.{Command}

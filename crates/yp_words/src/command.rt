@@ -2,8 +2,8 @@
 
 use yp_bind::Policy;
 use yp_board::MapName;
+use yp_client::Question;
 use yp_io::Peer;
-use yp_question::Question;
 
 /// A row that the words give.
 #[derive(Debug, Drop)]

@@ -9,7 +9,7 @@ ghost use Rattle.yp_words.specs.Words.{sentence_view, servers_fitting, texts};
 
 use crate::form::Form;
 use crate::serving::{has_store, joins, joins_servers};
-use yp_question::Question;
+use yp_client::Question;
 
 /// What the words of a sentence ask for.
 #[derive(Clone, Copy)]

@@ -2,7 +2,7 @@
 
 ghost use Rattle.std.specs.Prelude.{◌≡◌, [], ◌∷◌, drop, map, option_map, Ok, IfOk, IfErr, OnErr};
 ghost use Rattle.yp_board.specs.Catalogues.{name_view};
-ghost use Rattle.yp_question.specs.Questions.{bytes_of};
+ghost use Rattle.yp_client.specs.Questions.{bytes_of};
 ghost use Rattle.yp_words.specs.Words.{name_of, row_of, value_of, peer_of, host_of, served, known, word_at};
 ghost use Rattle.yp_words.specs.Words.{given_at, question_of};
 ghost use Rattle.yp_words.specs.Words.{command_of, disk_names, stores_of, port_of, row_view, host_view, meaning, texts};
@@ -23,8 +23,8 @@ use std::alloc::{AllocError, Global};
 use yp_bind::Policy;
 use yp_board::{MapName, copy_names};
 use yp_build::Kind;
+use yp_client::Question;
 use yp_io::{NoMemory, Peer};
-use yp_question::Question;
 
 /// The map of the servers of a domain.
 const YPSERVERS: &[u8] = b"ypservers";

@@ -6,8 +6,8 @@ use crate::given::assert_same;
 use std::alloc::Global;
 use std::process::Abort;
 use yp_board::MapName;
+use yp_client::Question;
 use yp_io::Peer;
-use yp_question::Question;
 use yp_words::{Command, HostWord, KeyValue, ParseFault, XfrJob, disk_names, parse};
 
 fn strings(rt: &impl Abort, alloc: Global, words: &[&str]) -> Vec<String> {

@@ -6,10 +6,10 @@ use Rattle.std.proofs.lemmas.List.Sums.{fold-append}
 use Rattle.yp_io.specs.Counts.{HasRisen}
 use Rattle.yp_io.specs.Dials.{Dialed}
 use Rattle.yp_session.specs.Hosts.{Conduct}
-use Rattle.yp_listen.specs.Calls.{Calls, Ended, Accepting, Comes, Returns, GainsCall, IfCame}
-use Rattle.yp_listen.specs.declared.called.Called.{Called}
-use Rattle.yp_listen.specs.declared.listen.Arrival.{Arrival}
-use Rattle.yp_listen.specs.declared.listen.Arrival.TheVariants.{Came}
+use Rattle.yp_io.specs.Calls.{Calls, Ended, Accepting, Comes, Returns, GainsCall, IfCame}
+use Rattle.yp_io.specs.declared.called.Called.{Called}
+use Rattle.yp_io.specs.declared.listen.Arrival.{Arrival}
+use Rattle.yp_io.specs.declared.listen.Arrival.TheVariants.{Came}
 use Rattle.yp_worker.specs.Receptions.{Terms, Stay, WasServed, capped, Gains, Tells, IsFair, Opening, IsOver, IsKept, stay_of}
 
 -- what a listener tells, as it was before the first connection

@@ -7,7 +7,7 @@ use Rattle.yp_io.specs.Dials.{Dialed}
 use Rattle.yp_board.specs.Logs.{Log}
 use Rattle.yp_board.specs.Views.{IsFront}
 use Rattle.yp_session.specs.Hosts.{Conduct}
-use Rattle.yp_listen.specs.Calls.{Calls, Ended, Returns, GainsCall}
+use Rattle.yp_io.specs.Calls.{Calls, Ended, Returns, GainsCall}
 use Rattle.yp_worker.specs.Receptions.{Terms, Stay, Tells, stay_of}
 use Rattle.yp_worker.specs.Summing.{Counting, CountsUpTo, SumsUp}
 use Rattle.yp_worker.proofs.Growing.{front_then}

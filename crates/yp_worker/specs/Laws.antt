@@ -3,7 +3,7 @@ use Rattle.std.specs.Prelude.{Option}
 use Rattle.yp_board.specs.Logs.{Log}
 use Rattle.yp_board.specs.Views.{IsFront}
 use Rattle.yp_session.specs.Hosts.{Conduct}
-use Rattle.yp_listen.specs.Calls.{Calls}
+use Rattle.yp_io.specs.Calls.{Calls}
 use Rattle.yp_worker.specs.Receptions.{Terms}
 use Rattle.yp_worker.specs.Summing.{Counting, SumsUp}
 

@@ -10,8 +10,8 @@ use Rattle.yp_board.specs.Views.{IsFront}
 use Rattle.yp_session.specs.declared.session.End.{End}
 use Rattle.yp_session.specs.Wires.{Wire}
 use Rattle.yp_session.specs.Hosts.{Conduct}
-use Rattle.yp_listen.specs.Calls.{Calls, Ended}
-use Rattle.yp_listen.specs.declared.called.Called.{Called}
+use Rattle.yp_io.specs.Calls.{Calls, Ended}
+use Rattle.yp_io.specs.declared.called.Called.{Called}
 use Rattle.yp_worker.specs.declared.listening.Admission.{Admission}
 use Rattle.yp_worker.specs.declared.listening.Admission.TheVariants.{Came, Closed, Failed}
 use Rattle.yp_worker.specs.Working.{Working, Attends}

@@ -4,7 +4,7 @@ use Rattle.std.specs.List.{All}
 use Rattle.yp_board.specs.Logs.{Log}
 use Rattle.yp_board.specs.Views.{IsFront}
 use Rattle.yp_session.specs.Hosts.{Conduct}
-use Rattle.yp_listen.specs.Calls.{Calls}
+use Rattle.yp_io.specs.Calls.{Calls}
 use Rattle.yp_worker.specs.Receptions.{Terms, Stay, WasServed}
 
 -- how hosts count: what one has counted since it handed that over, the sum of nothing, and a sum and more

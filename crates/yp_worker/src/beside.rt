@@ -12,7 +12,7 @@ use crate::worker::Worker;
 use std::sync::ledger::Ledger;
 use std::sync::{Mutex, Wait};
 use std::thread::{Threads, join};
-use yp_listen::Listen;
+use yp_io::Listen;
 
 /// Runs two workers side by side, each in a thread of its own, until both have ended. Their passes come back with what
 /// each counted.

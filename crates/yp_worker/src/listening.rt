@@ -3,7 +3,7 @@
 ghost use Rattle.std.specs.Prelude.{◌≡◌, ◌<◌, ◌≤◌, ◌+◌, false, ℕ, true};
 ghost use Rattle.yp_io.specs.Counts.{HasRisen};
 ghost use Rattle.yp_io.specs.declared.stream.Peer.{Peer};
-ghost use Rattle.yp_listen.specs.Calls.{IsFreshCall, ended_by};
+ghost use Rattle.yp_io.specs.Calls.{IsFreshCall, ended_by};
 ghost use Rattle.yp_session.specs.Hosts.{conduct_of};
 ghost use Rattle.yp_worker.specs.Receptions.{Admits, IsFair, IsKept, stay_of};
 ghost use Rattle.yp_worker.specs.Receptions.{opening_of, terms_of};
@@ -14,8 +14,7 @@ use crate::tally::Tally;
 use crate::worker::Worker;
 use std::marker::{Brand, Model};
 use std::sync::ledger::{Book, Ledger, Share};
-use yp_io::Failed;
-use yp_listen::{Arrival, Called, Listen};
+use yp_io::{Arrival, Called, Failed, Listen};
 use yp_shared::Site;
 
 /// What every connection of a listener gets, and how the listener was before the first. Each call of a program that

@@ -2,7 +2,7 @@
 
 ghost use Rattle.std.specs.Prelude.{◌≡◌, ◌<◌, ◌+◌, IfErr};
 ghost use Rattle.yp_board.specs.Views.{IsFront};
-ghost use Rattle.yp_listen.specs.Calls.{IsFreshCall};
+ghost use Rattle.yp_io.specs.Calls.{IsFreshCall};
 ghost use Rattle.yp_session.specs.Hosts.{conduct_of};
 ghost use Rattle.yp_worker.specs.Receptions.{Admits, IsUnder, terms_of};
 
@@ -13,7 +13,7 @@ use crate::tally::Tally;
 use crate::worker::Worker;
 use std::sync::ledger::Ledger;
 use std::sync::{Mutex, Wait};
-use yp_listen::{Called, Listen};
+use yp_io::{Called, Listen};
 
 impl<H: HandsOver, G: Gate + Copy> Worker<H, G> {
     /// Serves connections, one after another, until as many were accepted as are to be, or an accept has failed. It

@@ -1,13 +1,12 @@
 //! A listener in memory: connections up to a number, those that are given back, and accepts that fail.
 
-ghost use Rattle.yp_listen.specs.MemListen.{IsNew, calls_of};
+ghost use Rattle.yp_io.specs.MemListen.{IsNew, calls_of};
 ghost use Rattle.yp_worker.specs.Receptions.{IsFair};
 
 use crate::given::{assert_same, bytes};
 use std::alloc::Global;
 use std::process::Abort;
-use yp_io::{Failed, MemSink, MemSource, Pair, Peer};
-use yp_listen::{Arrival, Called, Listen, MemCall, MemListen};
+use yp_io::{Arrival, Called, Failed, Listen, MemCall, MemListen, MemSink, MemSource, Pair, Peer};
 
 /// A connection of this port, with this input.
 pub fn call(rt: &impl Abort, alloc: Global, port: u16, input: &[&str]) -> MemCall

@@ -7,10 +7,9 @@ use crate::host::{TestHost, host_of};
 use std::alloc::Global;
 use std::process::Abort;
 use std::random::RandomSource;
-use yp_io::{Failed, Letter, Peer};
+use yp_io::{Failed, Letter, MemInbox, Peer};
 use yp_mailserve::{MailServer, serve_mail};
-use yp_mem::MemInbox;
-use yp_turns::{Ended, Errand, MAIL_MAX, Room};
+use yp_rpc::{Ended, Errand, MAIL_MAX, Room};
 
 const OWN_HOST: [u8; 4] = [127, 0, 0, 1];
 

@@ -2,7 +2,7 @@
 
 ghost use Rattle.std.specs.Prelude.{◌≡◌, ◌<◌, []};
 ghost use Rattle.yp_board.specs.Views.{IsFront};
-ghost use Rattle.yp_listen.specs.MemListen.{Door, calls_of};
+ghost use Rattle.yp_io.specs.MemListen.{Door, calls_of};
 ghost use Rattle.yp_session.specs.Hosts.{conduct_of};
 ghost use Rattle.yp_worker.specs.Receptions.{IsFair, opening_of, terms_of};
 ghost use Rattle.yp_worker.specs.Summing.{SumsUp, counting_of};
@@ -18,7 +18,7 @@ use std::sync::ledger::{Blank, Ledger};
 use std::sync::{Mutex, Wait};
 use std::thread::Threads;
 use yp_board::Tell;
-use yp_listen::{Listen, MemListen};
+use yp_io::{Listen, MemListen};
 use yp_readers::{Naming, Opened, Writer};
 use yp_session::Session;
 use yp_worker::{HandsOver, Listening, OpenGate, Pass, Reception, Tally, Worker, laws, run_beside};

@@ -1,4 +1,4 @@
-use Rattle.yp_question.specs.Questions.{bytes_of}
+use Rattle.yp_client.specs.Questions.{bytes_of}
 use Rattle.yp_query.specs.Scenes.{Scene, scene_of}
 use Rattle.yp_exchange_tests.proofs.told.query_told.Goals as goal
 

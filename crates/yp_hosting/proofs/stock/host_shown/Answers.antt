@@ -10,7 +10,7 @@ use Rattle.yp_readers.specs.Boards.{Written}
 use Rattle.yp_server.specs.declared.desk.Desk.{Desk}
 use Rattle.yp_publish.specs.Rising.{moment_of}
 use Rattle.yp_shared.specs.Failures.{disks_of}
-use Rattle.yp_turns.specs.Turns.{box_of}
+use Rattle.yp_rpc.specs.Turns.{box_of}
 use Rattle.yp_worker.specs.Receptions.{opening_of}
 use Rattle.yp_serve.specs.Counting.{FilesAreCovered}
 use Rattle.yp_hosting.specs.Hosting.{place_of, supply_of}

@@ -1,8 +1,8 @@
 use Rattle.std.proofs.Common.{Result, sym, subst}
 use Rattle.yp_io.specs.declared.stream.Failed.{Failed}
 use Rattle.yp_session.specs.Hosts.{conduct_of}
-use Rattle.yp_turns.specs.Turns.{box_of}
-use Rattle.yp_turns.specs.declared.turns.Ended.{Ended}
+use Rattle.yp_rpc.specs.Turns.{box_of}
+use Rattle.yp_rpc.specs.declared.turns.Ended.{Ended}
 use Rattle.yp_mailserve.specs.Mailing.{Closes}
 use Rattle.yp_mailserve.proofs.Running.{serves_mail}
 use Rattle.yp_mailserve.proofs.serve.serve_mail.Goals as goal

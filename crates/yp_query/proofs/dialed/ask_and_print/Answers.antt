@@ -1,4 +1,4 @@
-use Rattle.yp_question.specs.Questions.{bytes_of}
+use Rattle.yp_client.specs.Questions.{bytes_of}
 use Rattle.yp_query.specs.Scenes.{scene_of}
 use Rattle.yp_query.proofs.Telling.{answer_asks}
 use Rattle.yp_query.proofs.dialed.ask_and_print.Goals as goal

@@ -1,6 +1,6 @@
 use Rattle.std.proofs.Common.{refl, sym, subst, inr}
 use Rattle.yp_client.specs.States.{state_of, unspent, Held}
-use Rattle.yp_question.specs.Questions.{bytes_of}
+use Rattle.yp_client.specs.Questions.{bytes_of}
 use Rattle.yp_query.specs.Asked.{Converses}
 use Rattle.yp_query.specs.Answers.{outcome_of}
 use Rattle.yp_query.proofs.dialed.ask_over.Goals as goal

@@ -1,4 +1,4 @@
-use Rattle.yp_question.specs.Questions.{bytes_of}
+use Rattle.yp_client.specs.Questions.{bytes_of}
 use Rattle.yp_query.specs.Scenes.{scene_of}
 use Rattle.yp_query.proofs.Completing.{query_completes}
 use Rattle.yp_query.proofs.dialed.query.Goals as goal

@@ -1,7 +1,7 @@
 use Rattle.std.proofs.Common.{length, ap, sym, subst, arith}
 use Rattle.std.proofs.lemmas.List.{with_items_is}
 use Rattle.yp_session.specs.Hosts.{conduct_of}
-use Rattle.yp_turns.specs.Turns.{box_of}
+use Rattle.yp_rpc.specs.Turns.{box_of}
 use Rattle.yp_worker.specs.Receptions.{Passed, terms_of}
 use Rattle.yp_worker.specs.Summing.{counting_of}
 use Rattle.yp_serve.specs.Posts.{IsManned, Mails}

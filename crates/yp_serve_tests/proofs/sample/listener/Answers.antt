@@ -2,8 +2,8 @@ use Rattle.std.proofs.Common.{Bool, true, false, List, [], ◌∷◌, ◌++◌, 
 use Rattle.std.specs.Prelude.{if◌then◌else◌, is_ok}
 use Rattle.std.specs.List.{All}
 use Rattle.std.proofs.lemmas.List.Elements.{All-push}
-use Rattle.yp_listen.specs.MemListen.{IsNew}
-use Rattle.yp_listen.specs.Trails.{MemConnection}
+use Rattle.yp_io.specs.MemListen.{IsNew}
+use Rattle.yp_io.specs.Trails.{MemConnection}
 use Rattle.yp_serve_tests.proofs.sample.listener.Goals as goal
 
 -- one more connection that has met no fault and taken nothing, where there is memory for it

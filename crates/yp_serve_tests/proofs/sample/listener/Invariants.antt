@@ -1,5 +1,5 @@
 use Rattle.std.specs.List.{All}
-use Rattle.yp_listen.specs.MemListen.{IsNew}
+use Rattle.yp_io.specs.MemListen.{IsNew}
 use Rattle.yp_serve_tests.proofs.sample.listener.Given as goal
 
 abbrev pub invariant-loop-input : goal.invariant-loop-input

@@ -1,5 +1,5 @@
 use Rattle.std.proofs.Common.{rules, refl, Ok, Err}
-use Rattle.yp_question.specs.Questions.{bytes_of}
+use Rattle.yp_client.specs.Questions.{bytes_of}
 use Rattle.yp_office.specs.Seeing.{seeing}
 use Rattle.yp_tools.specs.Asking.{scene}
 use Rattle.yp_tools.proofs.ask.ask.Goals as goal

@@ -1,6 +1,6 @@
 use Rattle.std.proofs.Common.{◌∙◌, List, map, ap, sym, refl}
 use Rattle.yp_board.specs.Catalogues.{name_view}
-use Rattle.yp_question.specs.Questions.{bytes_of}
+use Rattle.yp_client.specs.Questions.{bytes_of}
 use Rattle.yp_words.specs.declared.command.KeyValue.{KeyValue}
 use Rattle.yp_words.specs.Words.{Once, Session, Check, Build, Xfr, Walk, Sample, Push, Bind}
 use Rattle.yp_words.specs.Words.{Portmap, Getport, Ask, meaning, row_view, host_view, Revnet}

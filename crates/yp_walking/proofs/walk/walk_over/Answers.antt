@@ -2,7 +2,7 @@ use Rattle.std.proofs.Common.{ℕ, Option, Ok, Err, sym, subst}
 use Rattle.yp_board.specs.Catalogues.{Catalogue}
 use Rattle.yp_board.specs.Logs.{shown}
 use Rattle.yp_publish.specs.Begins.{BeginsLevel}
-use Rattle.yp_turns.specs.Turns.{box_of}
+use Rattle.yp_rpc.specs.Turns.{box_of}
 use Rattle.yp_xfr.specs.Fetching.{wanted_of}
 use Rattle.yp_office.specs.Disks.{only_history, total_faults}
 use Rattle.yp_storing.specs.Xfr.{order_view}

@@ -1,5 +1,5 @@
 use Rattle.std.proofs.Common.{ℕ, List, ap, ◌∙◌}
-use Rattle.yp_turns.specs.Turns.{box_of}
+use Rattle.yp_rpc.specs.Turns.{box_of}
 use Rattle.yp_xfr.specs.Fetching.{wanted_of}
 use Rattle.yp_enum.specs.Schedules.{begun}
 use Rattle.yp_walking.proofs.Standing.{walks_begun, walks_lost}

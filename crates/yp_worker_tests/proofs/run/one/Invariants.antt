@@ -1,4 +1,4 @@
-use Rattle.yp_listen.specs.MemListen.{calls_of}
+use Rattle.yp_io.specs.MemListen.{calls_of}
 use Rattle.yp_worker.specs.Receptions.{opening_of}
 use Rattle.yp_worker_tests.proofs.run.one.Given as goal
 

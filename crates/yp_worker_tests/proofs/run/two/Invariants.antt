@@ -1,5 +1,5 @@
 use Rattle.std.specs.Prelude.{[]}
-use Rattle.yp_listen.specs.MemListen.{calls_of}
+use Rattle.yp_io.specs.MemListen.{calls_of}
 use Rattle.yp_worker.specs.Receptions.{opening_of}
 use Rattle.yp_worker_tests.proofs.run.two.Given as goal
 

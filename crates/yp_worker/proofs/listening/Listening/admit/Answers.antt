@@ -1,6 +1,6 @@
 use Rattle.std.proofs.Common.{inl, inr, true, refl, ap}
 use Rattle.yp_session.specs.Hosts.{conduct_of}
-use Rattle.yp_listen.specs.Calls.{Accepting}
+use Rattle.yp_io.specs.Calls.{Accepting}
 use Rattle.yp_worker.specs.Receptions.{opening_of, terms_of}
 use Rattle.yp_worker.specs.Summing.{counting_of}
 use Rattle.yp_worker.proofs.Receiving.{came_one, kept_came, kept_none_more}

@@ -1,5 +1,5 @@
 use Rattle.std.proofs.Common.{sym}
-use Rattle.yp_listen.specs.Calls.{ended_by}
+use Rattle.yp_io.specs.Calls.{ended_by}
 use Rattle.yp_session.specs.Hosts.{conduct_of}
 use Rattle.yp_worker.specs.Receptions.{opening_of, terms_of}
 use Rattle.yp_worker.specs.Summing.{counting_of}

@@ -1,0 +1,186 @@
+//! A listener in memory.
+
+ghost use Rattle.std.specs.Prelude.{◌≡◌, ℕ, ◌+◌, ◌<◌, ◌≤◌, false, [], ◌∷◌, ◌++◌, length, Some, All, Contains, IsErr};
+ghost use Rattle.std.specs.Prelude.{IfSome, IfNone, IfOk, OnErr};
+ghost use Rattle.yp_io.specs.Counts.{CountsFaults, next_count, faults_after};
+ghost use Rattle.yp_io.specs.Calls.{Comes, IsClosed, Returns, IfCame, OnClosed, accepting_of};
+ghost use Rattle.yp_io.specs.MemListen.{Door, IsNew, dialed_of, ended_of, calls_of};
+
+use crate::called::Called;
+use crate::listen::{Arrival, Listen};
+use crate::trail::Trail;
+use crate::{Failed, MemSink, MemSource, Plan, count_fault};
+use std::alloc::Global;
+use std::marker::Model;
+
+/// A connection in memory.
+pub type MemCall = Called<MemSource, MemSink>;
+
+/// A listener in memory, which tells its connections.
+#[derive(Drop)]
+pub struct MemListen {
+    waiting: Vec<MemCall>,
+    came: Trail,
+    // has room for as many connections as were accepted
+    back: Vec<MemCall>,
+    lost: bool,
+    most: u32,
+    accepted: u32,
+    returned: u64,
+    plan: Plan,
+}
+
+impl Model for MemListen {
+    ghost use Rattle.std.specs.Prelude.{◌≡◌, ◌≤◌, length, All, vec_capacity};
+    ghost use Rattle.yp_io.specs.MemListen.{Door, IsNew};
+
+    ghost Value = { Door };
+
+    ghost view = { λ l. record {
+      waiting = l.waiting.items;
+      came = l.came;
+      back = l.back.items;
+      lost = l.lost;
+      most = l.most;
+      accepted = l.accepted;
+      returned = l.returned;
+      failing = l.plan.failing.items;
+      calls = l.plan.calls;
+      faults = l.plan.faults;
+    } };
+
+    ghost invariant = { λ l. (All IsNew l.waiting.items) × (l.accepted ≤ vec_capacity l.back)
+        × (l.accepted ≤ l.most) × (length l.came ≡ l.accepted) };
+}
+
+impl MemListen {
+    /// Gives these connections in turn, `most` of them; an accept under that number with none left is a fault. A call
+    /// whose number, from 0, stands in `failing` fails. The wires have met no fault and taken nothing.
+    pub fn new(alloc: Global, arrivals: Vec<MemCall>, most: u32, failing: Vec<u64>) -> MemListen
+        requires { All IsNew arrivals.items }
+        ensures { result ≡ record {
+          waiting = arrivals.items;
+          came = [];
+          back = [];
+          lost = false;
+          most = most;
+          accepted = 0;
+          returned = 0;
+          failing = failing.items;
+          calls = 0;
+          faults = 0;
+        } }
+    {
+        MemListen {
+            waiting: arrivals,
+            came: Trail::new(),
+            back: Vec::new(alloc),
+            lost: false,
+            most,
+            accepted: 0,
+            returned: 0,
+            plan: Plan::new(failing),
+        }
+    }
+
+    /// The connections that were given back.
+    pub fn past(&self) -> &[MemCall]
+        ensures { result.now ≡ self.now.back }
+    {
+        &self.back
+    }
+
+    /// How many connections were accepted.
+    pub fn accepted(&self) -> u32
+        ensures { result ≡ self.now.accepted }
+    {
+        self.accepted
+    }
+
+    // The next connection, unless none is left or memory has run out.
+    fn next_call(&mut self) -> Option<MemCall>
+        requires { self.old.accepted < self.old.most }
+        ensures fresh { IfSome result IsNew }
+        ensures first { IfSome result (λ call. self.old.waiting ≡ call ∷ self.new.waiting) }
+        ensures came { IfSome result (λ call. self.new ≡ record self.old {
+          waiting = self.new.waiting;
+          came = self.old.came ++ call ∷ [];
+          accepted = self.old.accepted + 1;
+        }) }
+        ensures none { IfNone result (self.new ≡ self.old) }
+    {
+        if self.waiting.is_empty() {
+            return None;
+        }
+        self.back.reserve(self.accepted as usize + 1).ok()?;
+        let call = self.waiting.remove(0);
+        self.came.push(&call);
+        self.accepted += 1;
+        Some(call)
+    }
+}
+
+impl Listen for MemListen {
+    type In = MemSource;
+
+    type Out = MemSink;
+
+    ghost past = { calls_of };
+
+    ghost most = { λ l. l.most };
+
+    ghost accepted = { λ l. l.accepted };
+
+    ghost returned = { λ l. l.returned };
+
+    ghost faults = { λ l. l.faults };
+
+    /// It also fails where memory has run out.
+    fn accept(&mut self) -> Result<Arrival<MemSource, MemSink>, Failed>
+        ensures came { IfOk result (IfCame (λ call. Comes (dialed_of call)
+            (accepting_of calls_of (λ (l : Door). l.most) (λ (l : Door). l.accepted) self.old)
+            (accepting_of calls_of (λ (l : Door). l.most) (λ (l : Door). l.accepted) self.new))) }
+        ensures fresh { IfOk result (IfCame IsNew) }
+        ensures closed { IfOk result (OnClosed (IsClosed
+            (accepting_of calls_of (λ (l : Door). l.most) (λ (l : Door). l.accepted) self.old)
+            (accepting_of calls_of (λ (l : Door). l.most) (λ (l : Door). l.accepted) self.new))) }
+        ensures none { OnErr result
+            (accepting_of calls_of (λ (l : Door). l.most) (λ (l : Door). l.accepted) self.new
+            ≡ accepting_of calls_of (λ (l : Door). l.most) (λ (l : Door). l.accepted) self.old) }
+        ensures returned { self.new.returned ≡ self.old.returned }
+        ensures cause { CountsFaults self.old.faults self.new.faults result }
+        ensures fails { Contains self.old.failing self.old.calls → IsErr result }
+        ensures first { IfOk result (IfCame (λ call. self.old.waiting ≡ call ∷ self.new.waiting)) }
+        ensures others { self.new ≡ record self.old {
+          waiting = self.new.waiting;
+          came = self.new.came;
+          accepted = self.new.accepted;
+          calls = next_count self.old.calls;
+          faults = faults_after self.old.faults result;
+        } }
+    {
+        self.plan.start_call()?;
+        if self.accepted == self.most {
+            return Ok(Arrival::Closed);
+        }
+        match self.next_call() {
+            Some(call) => Ok(Arrival::Came(call)),
+            None => Err(count_fault(&mut self.plan.faults)),
+        }
+    }
+
+    fn back(&mut self, call: MemCall)
+        ensures past { Returns (ended_of call) (calls_of self.old) (calls_of self.new) }
+        ensures most { self.new.most ≡ self.old.most }
+        ensures accepted { self.new.accepted ≡ self.old.accepted }
+        ensures returned { self.new.returned ≡ next_count self.old.returned }
+        ensures faults { self.new.faults ≡ self.old.faults }
+    {
+        self.returned = self.returned.saturating_add(1);
+        if self.back.len() < self.accepted as usize {
+            self.back.push_reserved(call);
+        } else {
+            self.lost = true;
+        }
+    }
+}

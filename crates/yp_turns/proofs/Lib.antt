@@ -1,2 +1,0 @@
-mod Seeing
-mod Leading
