@@ -2,7 +2,7 @@
 //! mappings of a port mapper, and `getport`, which asks one for a port.
 //!
 //! Each takes the office of the outside, and ensures the one relation that says what it does to it: [`bind_domain`],
-//! [`serve_ports`] and [`ask_mapper`]. Each brings an errand alone; the turns of the inbox are those of `yp_turns`.
+//! [`serve_ports`] and [`ask_mapper`]. Each brings an errand alone; the turns of the inbox are those of `yp_rpc`.
 #![tactic(auto)]
 
 mod binding;

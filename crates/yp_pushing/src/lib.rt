@@ -1,6 +1,6 @@
 //! A push in its turns: slaves are asked to fetch a map, and tell how it went (yppush).
 //!
-//! The promise stands on [`Pusher`], an errand for the turns of `yp_turns`: before each turn all slaves are asked that
+//! The promise stands on [`Pusher`], an errand for the turns of `yp_rpc`: before each turn all slaves are asked that
 //! the ledger of `yp_push` lets be asked, each over a wire of its own, and each datagram has the one reply of the push
 //! response program. What is told of it at the end stands on [`text_of`] and [`all_have_map`], and
 //! who the slaves are on [`slaves_of`].

@@ -1,7 +1,7 @@
 //! The real outside of the program: standard streams, files, the clock, connections over TCP, dialed and accepted,
 //! datagrams at a port, and texts in a folder.
 //!
-//! Each is proved to keep the trait of `yp_io` or `yp_listen` that it stands for. Which bytes the system gives them no
+//! Each is proved to keep the trait of `yp_io` that it stands for. Which bytes the system gives them no
 //! contract says, so they are done with care: a failed sync is never trusted again, a file has one writer, and each
 //! wire that is dialed or accepted has a limit of time.
 #![tactic(auto)]
