@@ -6,11 +6,18 @@ The words are those of rt ci, where the kit's takes some. One that keeps what it
 ends with the status of rt ci.
 
 Twice a second it looks at the provers that run. The processor time of each is what it had at the last look, so it is
-short by half a second at most. The proof of a crate's must-fail edits is theirs, and so is the proof of the crate that
-they begin with. The last lines have all that ran, as the system counts it, and the time from beginning to end.
+short by half a second at most. The copies that a prover makes of itself are processes of their own, and each counts by
+its own time; so does all else that a prover starts, for the prover's crate and part. The proof of a crate's must-fail
+edits is theirs, and so is the proof of the crate that they begin with. The column wall has the minutes, by the clock,
+during which at least one prover worked on the crate.
+
+The last lines have all that ran, as the system counts it, the time from beginning to end, the processors and the kit.
+The system leaves out what was killed before its parent had waited for it. So where rt ci is stopped, as by Ctrl-C, the
+sum of the table can be above it.
 """
 
 import os
+import signal
 import subprocess
 import sys
 import threading
@@ -31,8 +38,8 @@ def content(path):
 
 
 def started_by():
-    """The processes that run, each as its number and when it began, since numbers come again, and the seconds of
-    processor time of each, by the number of the process that started them."""
+    """The processes, each as its number and when it began, since numbers come again, the seconds of processor time of
+    each and whether it still runs, by the number of the process that started them."""
     found = {}
     for pid in filter(str.isdigit, os.listdir("/proc")):
         # Behind the name, which is in brackets: the state, who started it, and so on; its times are fields 14 and 15,
@@ -40,15 +47,8 @@ def started_by():
         fields = content(f"/proc/{pid}/stat").rpartition(b")")[2].split()
         if fields:
             seconds = (int(fields[11]) + int(fields[12])) / TICKS
-            found.setdefault(int(fields[1]), []).append(((int(pid), int(fields[19])), seconds))
+            found.setdefault(int(fields[1]), []).append(((int(pid), int(fields[19])), seconds, fields[0] != b"Z"))
     return found
-
-
-def below(pid, found):
-    """All processes that a process has started, and those that these have."""
-    for child, seconds in found.get(pid, ()):
-        yield child, seconds
-        yield from below(child[0], found)
 
 
 def work_of(pid):
@@ -65,18 +65,32 @@ def work_of(pid):
 
 
 class Minutes:
-    """What each prover has worked on, and for how long."""
+    """What each prover, and each process that one has started, has worked on and for how long, and for how long each
+    crate was worked on."""
 
     def __init__(self):
-        self.works, self.seconds = {}, {}
+        self.works, self.seconds, self.wall = {}, {}, {}
         self.ended = threading.Event()
 
+    def look(self, pid, found, work=None):
+        """Takes the times of all that a process has started, whose own work is given, and returns the crates that these
+        work on now."""
+        crates = set()
+        for child, seconds, runs in found.get(pid, ()):
+            of_child = self.works.get(child) or work_of(child[0]) or work
+            if of_child:
+                self.works[child], self.seconds[child] = of_child, seconds
+                crates |= {of_child[0]} if runs else set()
+            crates |= self.look(child[0], found, of_child)
+        return crates
+
     def watch(self, pid):
+        last = time.monotonic()
         while not self.ended.wait(SECONDS):
-            for child, seconds in below(pid, started_by()):
-                work = self.works.get(child) or work_of(child[0])
-                if work:
-                    self.works[child], self.seconds[child] = work, seconds
+            crates, now = self.look(pid, started_by()), time.monotonic()
+            for crate in crates:
+                self.wall[crate] = self.wall.get(crate, 0.0) + (now - last) / 60
+            last = now
 
     def rows(self):
         """The minutes of each crate by parts, the dearest crate first."""
@@ -87,25 +101,29 @@ class Minutes:
 
 
 def shown(name, minutes):
-    """A row of the table."""
+    """A row of the table, without its last column."""
     return f"{name:20}" + "".join(f"{minutes[part]:8.1f}" for part in PARTS) + f"{sum(minutes.values()):8.1f}"
 
 
 def main(*words):
     start, minutes = time.monotonic(), Minutes()
+    kit = subprocess.run(["rt", "version"], stdout=subprocess.PIPE, text=True, check=False).stdout.strip()
     gate = subprocess.Popen(["rt", "ci", *words])
+    # Ctrl-C ends rt ci, and what it had done is still told.
+    signal.signal(signal.SIGINT, signal.SIG_IGN)
     watcher = threading.Thread(target=minutes.watch, args=[gate.pid])
     watcher.start()
     _, status, used = os.wait4(gate.pid, 0)
     minutes.ended.set()
     watcher.join()
     rows = minutes.rows()
-    print(f"{'processor minutes':20}" + "".join(f"{part:>8}" for part in PARTS) + f"{'all':>8}")
+    print(f"{'processor minutes':20}" + "".join(f"{part:>8}" for part in PARTS) + f"{'all':>8}{'wall':>8}")
     for crate, parts in rows:
-        print(shown(crate, parts))
+        print(shown(crate, parts) + f"{minutes.wall.get(crate, 0.0):8.1f}")
     print(shown("all", {part: sum(parts[part] for _, parts in rows) for part in PARTS}))
     print(f"processor minutes by the system: {(used.ru_utime + used.ru_stime) / 60:.1f}")
-    print(f"minutes from beginning to end: {(time.monotonic() - start) / 60:.1f}, on {os.cpu_count()} processors")
+    print(f"minutes from beginning to end: {(time.monotonic() - start) / 60:.1f}")
+    print(f"on {len(os.sched_getaffinity(0))} processors, by {kit}")
     return os.waitstatus_to_exitcode(status)
 
 
