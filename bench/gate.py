@@ -3,7 +3,8 @@
 
 The words are those of rt ci, where the kit's takes some. One that keeps what it proved does all from nothing with
 --anew; one that takes no words always does. From nothing, on a machine that does nothing else, is what to measure. It
-ends with the status of rt ci.
+ends with the status of rt ci. With the word --beside it runs nothing, and looks at the rt ci that the script which
+started it runs, as .ci/run does.
 
 Twice a second it looks at the provers that run. The processor time of each is what it had at the last look, so it is
 short by half a second at most. The copies that a prover makes of itself are processes of their own, and each counts by
@@ -11,16 +12,15 @@ its own time; so does all else that a prover starts, for the prover's crate and 
 edits is theirs, and so is the proof of the crate that they begin with. The column wall has the minutes, by the clock,
 during which at least one prover worked on the crate.
 
-The last lines have all that ran, as the system counts it, the time from beginning to end, the processors and the kit.
-The system leaves out what was killed before its parent had waited for it. So where rt ci is stopped, as by Ctrl-C, the
-sum of the table can be above it.
+The last lines have all that ran, as the system counted it at the last look, the time from beginning to end, the
+processors and the kit. The system leaves out what was killed before its parent had waited for it. So where rt ci is
+stopped, as by Ctrl-C, the sum of the table can be above it.
 """
 
 import os
 import signal
 import subprocess
 import sys
-import threading
 import time
 
 PARTS = ("proof", "tests", "edits")
@@ -70,7 +70,7 @@ class Minutes:
 
     def __init__(self):
         self.works, self.seconds, self.wall = {}, {}, {}
-        self.ended = threading.Event()
+        self.last = time.monotonic()
 
     def look(self, pid, found, work=None):
         """Takes the times of all that a process has started, whose own work is given, and returns the crates that these
@@ -84,13 +84,13 @@ class Minutes:
             crates |= self.look(child[0], found, of_child)
         return crates
 
-    def watch(self, pid):
-        last = time.monotonic()
-        while not self.ended.wait(SECONDS):
-            crates, now = self.look(pid, started_by()), time.monotonic()
-            for crate in crates:
-                self.wall[crate] = self.wall.get(crate, 0.0) + (now - last) / 60
-            last = now
+    def look_at(self, pid):
+        """Looks at all that a process has started, half a second after the last look."""
+        time.sleep(SECONDS)
+        crates, now = self.look(pid, started_by()), time.monotonic()
+        for crate in crates:
+            self.wall[crate] = self.wall.get(crate, 0.0) + (now - self.last) / 60
+        self.last = now
 
     def rows(self):
         """The minutes of each crate by parts, the dearest crate first."""
@@ -105,26 +105,43 @@ def shown(name, minutes):
     return f"{name:20}" + "".join(f"{minutes[part]:8.1f}" for part in PARTS) + f"{sum(minutes.values()):8.1f}"
 
 
+def gate_of(script):
+    """The number of the rt ci that a script runs, which has a minute to start it, or nothing."""
+    for _ in range(120):
+        for (child, _), _, _ in started_by().get(script, ()):
+            words = content(f"/proc/{child}/cmdline").split(b"\0")
+            if b"ci" in words and b"rt" in map(os.path.basename, words):
+                return child
+        time.sleep(SECONDS)
+    return None
+
+
+def used_by(pid):
+    """The seconds of processor time of a process that runs and of all that it has waited for, or nothing where it has
+    ended."""
+    fields = content(f"/proc/{pid}/stat").rpartition(b")")[2].split()
+    return sum(map(int, fields[11:15])) / TICKS if fields and fields[0] != b"Z" else None
+
+
 def main(*words):
-    start, minutes = time.monotonic(), Minutes()
     kit = subprocess.run(["rt", "version"], stdout=subprocess.PIPE, text=True, check=False).stdout.strip()
-    gate = subprocess.Popen(["rt", "ci", *words])
+    start, minutes, used = time.monotonic(), Minutes(), 0.0
+    gate = None if words == ("--beside",) else subprocess.Popen(["rt", "ci", *words])
+    pid = gate.pid if gate else gate_of(os.getppid())
     # Ctrl-C ends rt ci, and what it had done is still told.
     signal.signal(signal.SIGINT, signal.SIG_IGN)
-    watcher = threading.Thread(target=minutes.watch, args=[gate.pid])
-    watcher.start()
-    _, status, used = os.wait4(gate.pid, 0)
-    minutes.ended.set()
-    watcher.join()
+    while pid and (seconds := used_by(pid)) is not None:
+        used = seconds
+        minutes.look_at(pid)
     rows = minutes.rows()
-    print(f"{'processor minutes':20}" + "".join(f"{part:>8}" for part in PARTS) + f"{'all':>8}{'wall':>8}")
-    for crate, parts in rows:
-        print(shown(crate, parts) + f"{minutes.wall.get(crate, 0.0):8.1f}")
-    print(shown("all", {part: sum(parts[part] for _, parts in rows) for part in PARTS}))
-    print(f"processor minutes by the system: {(used.ru_utime + used.ru_stime) / 60:.1f}")
-    print(f"minutes from beginning to end: {(time.monotonic() - start) / 60:.1f}")
-    print(f"on {len(os.sched_getaffinity(0))} processors, by {kit}")
-    return os.waitstatus_to_exitcode(status)
+    lines = [f"{'processor minutes':20}" + "".join(f"{part:>8}" for part in PARTS) + f"{'all':>8}{'wall':>8}"]
+    lines += [shown(crate, parts) + f"{minutes.wall.get(crate, 0.0):8.1f}" for crate, parts in rows]
+    lines += [shown("all", {part: sum(parts[part] for _, parts in rows) for part in PARTS})]
+    lines += [f"processor minutes by the system: {used / 60:.1f}"]
+    lines += [f"minutes from beginning to end: {(time.monotonic() - start) / 60:.1f}"]
+    lines += [f"on {len(os.sched_getaffinity(0))} processors, by {kit}"]
+    print("\n".join(lines), flush=True)
+    return gate.wait() if gate else 0
 
 
 if __name__ == "__main__":
