@@ -1,4 +1,4 @@
-//! Tests of `yp_answer`.
+//! Tests of `yp_answer` and `yp_session`: the answers to calls, and sessions of them.
 #![tactic(auto)]
 
 #[cfg(test)]
@@ -15,3 +15,5 @@ mod refusals;
 mod sample;
 #[cfg(test)]
 mod secure;
+#[cfg(test)]
+mod session;

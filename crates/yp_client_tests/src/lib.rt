@@ -1,4 +1,4 @@
-//! Tests of `yp_client`.
+//! Tests of `yp_client`, `yp_query` and `yp_exchange`: clients, and clients that ask servers.
 #![tactic(auto)]
 
 #[cfg(test)]
@@ -6,6 +6,10 @@ mod all;
 #[cfg(test)]
 mod calls;
 #[cfg(test)]
+mod exchange;
+#[cfg(test)]
 mod given;
 #[cfg(test)]
 mod lent;
+#[cfg(test)]
+mod queries;

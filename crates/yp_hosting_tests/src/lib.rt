@@ -1,5 +1,6 @@
-//! Tests of the command `serve`, as `yp_tools` runs it, over memory: what it serves, and what comes where each call
-//! outside fails in turn.
+//! Tests of commands as `yp_tools` runs them over memory: of `serve` what it serves, and what comes where each call
+//! outside fails in turn; of `bind`, `portmap`, `getport`, `push` and `walk` what comes to an inbox and goes out from
+//! there, what is stored, and calls that fail.
 #![tactic(auto)]
 
 #[cfg(test)]
@@ -7,8 +8,12 @@ mod bytes;
 #[cfg(test)]
 mod given;
 #[cfg(test)]
+mod mailing;
+#[cfg(test)]
 mod makes;
 #[cfg(test)]
 mod serve;
 #[cfg(test)]
 mod transfers;
+#[cfg(test)]
+mod walking;

@@ -1,7 +1,7 @@
 //! A map that callers make: each call of its text, of its disk and of a connection fails in turn.
 
 use crate::bytes::{ADDRESS, FILE, FIRST, MADE, MAKE, MATCH, NEXT, NOMAP, UNMADE, VERSION_100};
-use crate::given::{try_all, try_each, try_rows};
+use crate::given::{try_all, try_each, try_rows_after};
 use yp_stage::{After, DiskCalls, FAIR, Row, Stands, Words};
 
 /// The file with both versions, of order 100 at generation 1, and of order 101 at generation 2.
@@ -170,7 +170,7 @@ static MADE_AFTER: [After; 2] = [MADE_OVER, MADE_OVER_NEXT];
 
 #[test]
 fn each_read_of_the_text_fails(rt: HostRuntime) {
-    try_rows(&rt, rt.alloc(), &TEXTS, &MADE_AFTER);
+    try_rows_after(&rt, rt.alloc(), &TEXTS, &MADE_AFTER);
 }
 
 // ---- the disk
@@ -198,7 +198,7 @@ static DAMAGED: [Row; 1] = [Row {
 
 #[test]
 fn damaged_file(rt: HostRuntime) {
-    try_rows(&rt, rt.alloc(), &DAMAGED, &[]);
+    try_rows_after(&rt, rt.alloc(), &DAMAGED, &[]);
 }
 
 /// Two calls load the empty file, nine install the first version, and five the second one. Where one of these fails
@@ -483,5 +483,5 @@ static SERVED_AFTER: [After; 2] = [SERVED_ANEW, SERVED_OVER];
 
 #[test]
 fn each_call_of_a_connection_fails(rt: HostRuntime) {
-    try_rows(&rt, rt.alloc(), &CONNECTIONS, &SERVED_AFTER);
+    try_rows_after(&rt, rt.alloc(), &CONNECTIONS, &SERVED_AFTER);
 }

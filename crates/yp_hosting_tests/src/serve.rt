@@ -1,7 +1,7 @@
 //! What is served, and how a server ends of which the listener, the inbox, the output or the note fails.
 
 use crate::bytes::{FILE, FIRST, MADE, MAKE, NULL, NULL_REPLY, SENDER};
-use crate::given::try_rows;
+use crate::given::try_rows_after;
 use yp_stage::{Datagram, FAIR, Row, Words};
 
 /// NULL and its reply as records.
@@ -45,7 +45,7 @@ static TWO: [Row; 1] = [TWO_CONNECTIONS];
 
 #[test]
 fn two_connections(rt: HostRuntime) {
-    try_rows(&rt, rt.alloc(), &TWO, &[]);
+    try_rows_after(&rt, rt.alloc(), &TWO, &[]);
 }
 
 static LISTENS: [Row; 4] = [
@@ -71,7 +71,7 @@ static LISTENS: [Row; 4] = [
 
 #[test]
 fn listen_fault(rt: HostRuntime) {
-    try_rows(&rt, rt.alloc(), &LISTENS, &[]);
+    try_rows_after(&rt, rt.alloc(), &LISTENS, &[]);
 }
 
 const DATAGRAM: Row = Row {
@@ -100,7 +100,7 @@ static ALONE: [Row; 1] = [Row {
 
 #[test]
 fn datagram_null(rt: HostRuntime) {
-    try_rows(&rt, rt.alloc(), &ALONE, &[]);
+    try_rows_after(&rt, rt.alloc(), &ALONE, &[]);
 }
 
 /// A call of the inbox fails. The connection is served.
@@ -166,7 +166,7 @@ static INBOXES: [Row; 7] = [
 
 #[test]
 fn each_call_of_the_inbox_fails(rt: HostRuntime) {
-    try_rows(&rt, rt.alloc(), &INBOXES, &[]);
+    try_rows_after(&rt, rt.alloc(), &INBOXES, &[]);
 }
 
 /// The line takes a write and a flush.
@@ -216,5 +216,5 @@ static ENDS: [Row; 6] = [
 
 #[test]
 fn ends(rt: HostRuntime) {
-    try_rows(&rt, rt.alloc(), &ENDS, &[]);
+    try_rows_after(&rt, rt.alloc(), &ENDS, &[]);
 }

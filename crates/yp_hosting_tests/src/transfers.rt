@@ -1,7 +1,7 @@
 //! A map that a caller has fetched: each call of the dial, its wire, the disk and the connection fails in turn.
 
 use crate::bytes::{ADDRESS, FILE, FIRST, MATCH, NOMAP};
-use crate::given::{try_all, try_each, try_rows};
+use crate::given::{try_all, try_each, try_rows_after};
 use yp_io::Peer;
 use yp_stage::{After, Datagram, DiskCalls, FAIR, Row, Words, try_reads, try_writes};
 
@@ -115,7 +115,7 @@ static WHOLE: [Row; 1] = [FETCHED];
 
 #[test]
 fn worker_transfer(rt: HostRuntime) {
-    try_rows(&rt, rt.alloc(), &WHOLE, &AFTER);
+    try_rows_after(&rt, rt.alloc(), &WHOLE, &AFTER);
 }
 
 static DIALS: [Row; 3] = [
@@ -140,7 +140,7 @@ static DIALS: [Row; 3] = [
 
 #[test]
 fn each_call_of_the_dial_fails(rt: HostRuntime) {
-    try_rows(&rt, rt.alloc(), &DIALS, &AFTER);
+    try_rows_after(&rt, rt.alloc(), &DIALS, &AFTER);
 }
 
 static IN_PIECES: Row = Row {
@@ -349,5 +349,5 @@ static SERVED_AFTER: [After; 2] = [SERVED_ANEW, SERVED_OVER];
 
 #[test]
 fn each_call_of_the_connection_fails(rt: HostRuntime) {
-    try_rows(&rt, rt.alloc(), &CONNECTIONS, &SERVED_AFTER);
+    try_rows_after(&rt, rt.alloc(), &CONNECTIONS, &SERVED_AFTER);
 }

@@ -1,10 +1,15 @@
-//! Tests of `yp_version`, `yp_slot` and `yp_board`.
+//! Tests of `yp_version`, `yp_slot`, `yp_board`, `yp_build`, `yp_netgroup` and `yp_revnet`: maps, and what they are made
+//! of.
 #![tactic(auto)]
 
+#[cfg(test)]
+mod build;
 #[cfg(test)]
 mod catalog;
 #[cfg(test)]
 mod given;
+#[cfg(test)]
+mod netgroup;
 #[cfg(test)]
 mod plain;
 #[cfg(test)]

@@ -1,4 +1,5 @@
-//! Tests of `yp_server`.
+//! Tests of `yp_server`, `yp_worker`, `yp_mailserve`, `yp_workhost` and `yp_serve`: connections and datagrams that are
+//! served, by one and by workers in threads.
 #![tactic(auto)]
 
 #[cfg(test)]
@@ -10,4 +11,10 @@ mod host;
 #[cfg(test)]
 mod sample;
 #[cfg(test)]
+mod serve;
+#[cfg(test)]
 mod transfer;
+#[cfg(test)]
+mod worker;
+#[cfg(test)]
+mod workhost;

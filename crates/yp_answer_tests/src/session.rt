@@ -1,0 +1,7 @@
+//! Sessions over wires in memory.
+
+mod host;
+mod make;
+mod runs;
+mod sample;
+mod transfer;

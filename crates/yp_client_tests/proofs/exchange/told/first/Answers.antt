@@ -1,0 +1,21 @@
+use Rattle.std.proofs.Common.{refl}
+use Rattle.yp_exchange.specs.Told.{told, of_version, first_in}
+use Rattle.yp_answer.specs.Maps.{row_check}
+use Rattle.yp_client.specs.Limits.{reply_max}
+use Rattle.yp_client.specs.Asked.{first_call}
+use Rattle.yp_client.specs.Results.{row_of}
+use Rattle.yp_client.specs.States.{state_of}
+use Rattle.yp_client_tests.proofs.exchange.told.first.Goals as goal
+
+pub returns : goal.returns
+returns g c =
+    let state = state_of g.S.Source g.K.Sink in (
+      (
+        refl,
+        λ _. tt,
+        λ maps peer rest served word next.
+            c.answers_are_told.ensures.row maps peer reply_max (first_call c.args.domain.now c.args.map.now) row_of (told (of_version first_in (row_check maps peer.port c.args.domain.now c.args.map.now))) rest c.first.result (state c.args.client.now) (state c.first.follows.lender-at-none) next
+            (c.first_tells.ensures maps peer c.args.client.now.xid c.args.domain.now served word c.requires.domain c.args.map.now c.requires.map) c.first.follows.holds-at-none,
+      ),
+      tt,
+    )

@@ -1,0 +1,6 @@
+//! Clients that ask servers.
+
+mod exchanges;
+mod server;
+mod told;
+mod worked;

@@ -1,0 +1,6 @@
+//! The words of the command line.
+
+mod mailing;
+mod sentences;
+mod serving;
+mod walking;

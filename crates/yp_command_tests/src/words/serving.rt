@@ -1,0 +1,118 @@
+//! Words of `serve`, and the port and the maps that they name.
+
+use crate::given::assert_same;
+use crate::words::sentences::{Names, check_names, check_wrong, host_of, names_of, parsed};
+use yp_io::Peer;
+use yp_words::{Command, ServeJob, port_of};
+
+/// Words that are no sentence, and the word that is wrong: those up to the numbers.
+const WRONG_NUMBERS: [(&[&str], usize); 8] = [
+    (&["serve"], 1),
+    (&["serve", "m@1", "7001", "1", "0", "0", "lab/a"], 1),
+    (&["serve", "m1", "0", "1", "0", "0", "lab/a"], 2),
+    (&["serve", "m1", "65536", "1", "0", "0", "lab/a"], 2),
+    (&["serve", "m1", "7001", "0", "0", "0", "lab/a"], 3),
+    (&["serve", "m1", "7001", "9", "0", "0", "lab/a"], 3),
+    (&["serve", "m1", "7001", "1", "4294967296", "0", "lab/a"], 4),
+    (&["serve", "m1", "7001", "1", "0", "00", "lab/a"], 5),
+];
+
+/// The same of the maps and hosts behind them.
+const WRONG_MAPS: [(&[&str], usize); 5] = [
+    (&["serve", "m1", "7001", "1", "0"], 5),
+    (&["serve", "m1", "7001", "1", "0", "0"], 6),
+    (&["serve", "m1", "7001", "1", "0", "0", "m2@127.0.0.1:7"], 7),
+    (&["serve", "m1", "7001", "1", "0", "0", "lab/a", "lab/a"], 7),
+    (
+        &[
+            "serve",
+            "m1",
+            "7001",
+            "1",
+            "0",
+            "0",
+            "lab/a",
+            "m2@127.0.0.1",
+        ],
+        7,
+    ),
+];
+
+#[test]
+fn wrong_serving_numbers(rt: HostRuntime) {
+    for (words, word) in &WRONG_NUMBERS {
+        check_wrong(&rt, rt.alloc(), *words, *word);
+    }
+}
+
+#[test]
+fn wrong_served_maps(rt: HostRuntime) {
+    for (words, word) in &WRONG_MAPS {
+        check_wrong(&rt, rt.alloc(), *words, *word);
+    }
+}
+
+/// The own name, the port, how many workers, connections and turns there are, two maps and a host.
+type Serving<'a> = (
+    &'a [u8],
+    Option<u16>,
+    (u32, u32, u32),
+    [Names<'a>; 2],
+    (&'a [u8], Peer),
+);
+
+fn served<'a>(port: Option<u16>, job: &'a ServeJob) -> Option<Serving<'a>> {
+    match (job.stores.as_slice(), job.hosts.as_slice()) {
+        ([first, second], [host]) => Some((
+            &job.name,
+            port,
+            (job.workers, job.connections, job.turns),
+            [names_of(first), names_of(second)],
+            host_of(host),
+        )),
+        _ => None,
+    }
+}
+
+fn serving(command: &Command) -> Option<Serving<'_>> {
+    match command {
+        Command::Serve(job) => served(port_of(command), job),
+        _ => None,
+    }
+}
+
+const WORDS: [&str; 9] = [
+    "serve",
+    "m1",
+    "7001",
+    "8",
+    "4294967295",
+    "0",
+    "lab/a",
+    "m2@127.0.0.1:7001",
+    "dom/a",
+];
+
+const HOST: Peer = Peer {
+    addr: [127, 0, 0, 1],
+    port: 7_001,
+};
+
+#[test]
+fn serve_parsed(rt: HostRuntime) {
+    let command = parsed(&rt, rt.alloc(), &WORDS);
+    let wanted: Serving = (
+        b"m1",
+        Some(7_001),
+        (8, 4_294_967_295, 0),
+        [(b"lab", b"a"), (b"dom", b"a")],
+        (b"m2", HOST),
+    );
+    assert_same(&rt, &serving(&command), &Some(wanted), "serve");
+}
+
+#[test]
+fn serve_names_its_maps(rt: HostRuntime) {
+    let words = &["serve", "m1", "7001", "1", "0", "0", "lab/a"];
+    check_names(&rt, rt.alloc(), words, Some((b"lab", b"a")));
+}

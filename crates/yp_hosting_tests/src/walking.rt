@@ -1,0 +1,4 @@
+//! `walk` over an inbox in memory.
+
+mod source;
+mod walks;

@@ -1,0 +1,5 @@
+//! Texts, and the versions that are built of them.
+
+mod kinds;
+mod rows;
+mod versions;

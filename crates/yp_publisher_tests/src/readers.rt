@@ -1,0 +1,6 @@
+//! A writer, and readers in threads.
+
+mod boards;
+mod newest;
+mod notes;
+mod threads;

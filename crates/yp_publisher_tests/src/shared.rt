@@ -1,0 +1,4 @@
+//! Maps under one lock.
+
+mod installs;
+mod maps;

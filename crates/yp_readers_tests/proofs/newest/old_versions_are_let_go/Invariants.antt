@@ -1,5 +1,0 @@
-use Rattle.yp_readers_tests.proofs.newest.old_versions_are_let_go.Given as goal
-
--- the book that was just opened
-abbrev pub ghosts-owners : goal.ghosts-owners
-ghosts-owners g a = record { book = a.opened }

@@ -1,5 +1,0 @@
-use Rattle.yp_readers_tests.proofs.newest.refresh_newest.Given as goal
-
--- the book that was just opened
-abbrev pub ghosts-newest : goal.ghosts-newest
-ghosts-newest g a = record { book = a.opened }

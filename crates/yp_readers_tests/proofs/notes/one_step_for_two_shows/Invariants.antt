@@ -1,5 +1,0 @@
-use Rattle.yp_readers_tests.proofs.notes.one_step_for_two_shows.Given as goal
-
--- the book that was just opened
-abbrev pub ghosts-lagged : goal.ghosts-lagged
-ghosts-lagged g a = record { book = a.opened }

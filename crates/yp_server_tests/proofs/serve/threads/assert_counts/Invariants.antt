@@ -1,0 +1,5 @@
+use Rattle.yp_server_tests.proofs.serve.threads.assert_counts.Given as goal
+
+-- the book that was just opened
+abbrev pub ghosts-served : goal.ghosts-served
+ghosts-served g a = record { book = a.opened }

@@ -1,0 +1,34 @@
+-- The catalogue, and what the publisher and the desk have before they are shared.
+use Rattle.yp_io.specs.MemDial.{wires_of}
+use Rattle.yp_io.specs.MemDisk.{Platter}
+use Rattle.yp_publish.specs.Rising.{moment_of}
+use Rattle.yp_readers.specs.Boards.{Written}
+use Rattle.yp_shared.specs.Failures.{disks_of, faults_over}
+use Rattle.yp_workhost.specs.Makings.{IsBuilt}
+use Rattle.yp_server_tests.proofs.workhost.stage.staged.Given as goal
+
+abbrev pub ghosts-under_locks-S-Site : goal.ghosts-under_locks-S-Site
+ghosts-under_locks-S-Site g a = record { catalogue = a.publisher.catalogue }
+
+abbrev pub ghosts-under_locks-S-Accounts : goal.ghosts-under_locks-S-Accounts
+ghosts-under_locks-S-Accounts g a = record {
+  built = IsBuilt (g.T.Texts.text a.desk.texts) a.publisher.catalogue.own;
+  first = moment_of (λ (w : Written). w.log) a.publisher;
+  disk_faults = faults_over (λ (p : Platter). p.faults) (disks_of a.publisher.maps);
+  failures = a.blanks.failures.name;
+  made = a.blanks.made.name;
+  versions = a.blanks.versions.name;
+  shares = 4;
+}
+
+abbrev pub ghosts-under_locks-S-Supplies : goal.ghosts-under_locks-S-Supplies
+ghosts-under_locks-S-Supplies g a = record {
+  text = g.T.Texts.text a.desk.texts;
+  hosts = a.desk.hosts;
+  text_faults = g.T.Texts.faults a.desk.texts;
+  wires = wires_of a.desk.dial;
+  dial_faults = a.desk.dial.faults;
+  unread = a.blanks.unread.name;
+  orders = a.blanks.orders.name;
+  sources = a.blanks.sources.name;
+}

@@ -1,0 +1,9 @@
+//! Workers over a listener, and datagrams of a server.
+
+mod gate;
+mod host;
+mod listener;
+mod mail;
+mod one;
+mod reader;
+mod run;

@@ -1,0 +1,112 @@
+//! Connections one after another by one worker, and the points of its gate.
+
+use crate::given::{assert_same, bytes};
+use crate::worker::gate::Recorder;
+use crate::worker::host::{TestHost, host_of};
+use std::alloc::Global;
+use std::process::Abort;
+use std::random::RandomSource;
+use yp_io::{MemSink, MemSource, MemWire, Pair, Peer};
+use yp_session::{End, Session};
+use yp_worker::{Gate, OpenGate, Point, Worker};
+
+const PEER: Peer = Peer {
+    addr: [127, 0, 0, 1],
+    port: 700,
+};
+
+// MATCH of `alpha` in passwd.byname of `d` (yp.x), and the replies with the values `alpha:1` and `alpha:2`.
+const MATCH: &str = "80000050 00000001 00000000 00000002 000186a4 00000002 00000003
+    00000000 00000000 00000000 00000000 00000001 64000000
+    0000000d 70617373 77642e62 796e616d 65000000 00000005 616c7068 61000000";
+
+const ONE: &str =
+    "80000028 00000001 00000001 00000000 00000000 00000000 00000000 00000001 00000007 616c7068 613a3100";
+
+const TWO: &str =
+    "80000028 00000001 00000001 00000000 00000000 00000000 00000000 00000001 00000007 616c7068 613a3200";
+
+// A wire with this input. Its sink takes at most 30 bytes in a write.
+fn wire(rt: &impl Abort, alloc: Global, input: &[&str]) -> MemWire {
+    Pair {
+        source: MemSource::new(bytes(rt, alloc, input), 1000, Vec::new(alloc)),
+        sink: MemSink::new(alloc, 30, Vec::new(alloc)),
+    }
+}
+
+// What came of a connection: its end, how many records were read, and what it wrote.
+type Came = (End, u64, Vec<u8>);
+
+// Serves a connection with this input, numbered so.
+fn serve<G: Gate + Copy>(
+    rt: &impl Abort,
+    alloc: Global,
+    worker: &mut Worker<TestHost, G>,
+    connection: u64,
+    input: &[&str],
+) -> Came {
+    let (wire, end) = worker.one(wire(rt, alloc, input), PEER, connection);
+    let output = Vec::from_slice(alloc, wire.sink.taken()).expect(rt, "bytes");
+    (end, worker.calls(), output)
+}
+
+// Two connections one after the other, behind which others show these values, each before the worker catches up.
+fn served<R: RandomSource + Abort>(rt: &R, alloc: Global, values: &[&[u8]]) -> (Came, Came) {
+    let session = Session::new(alloc).expect(rt, "a session");
+    let mut worker = Worker::new(host_of(rt, alloc, values), session, OpenGate, 9);
+    let first = serve(rt, alloc, &mut worker, 1, &[MATCH]);
+    let second = serve(rt, alloc, &mut worker, 2, &[MATCH, MATCH]);
+    (first, second)
+}
+
+// What others show, the reply on the first connection, and both on the second. Where none is shown, memory runs out
+// for the worker, which goes on with what it knew.
+const ROWS: &[(&[&[u8]], &str, &str)] = &[
+    (&[], ONE, ONE),
+    (&[b"alpha:2"], TWO, TWO),
+    (&[b"alpha:1", b"alpha:2"], ONE, TWO),
+];
+
+#[test]
+fn two_connections(rt: HostRuntime) {
+    let alloc = rt.alloc();
+    for &(values, first, second) in ROWS {
+        let one = (End::Clean, 1, bytes(&rt, alloc, &[first]));
+        let two = (End::Clean, 2, bytes(&rt, alloc, &[second, second]));
+        let came = served(&rt, alloc, values);
+        assert_same(&rt, &came, &(one, two), "two connections");
+    }
+}
+
+// The points of a worker that serves two connections.
+fn points<R: RandomSource + Abort>(rt: &R, alloc: Global) -> Vec<Point> {
+    let gate = Recorder::new(alloc);
+    pass(rt, alloc, &gate);
+    gate.into_points()
+}
+
+fn pass<R: RandomSource + Abort>(rt: &R, alloc: Global, gate: &Recorder) {
+    let session = Session::new(alloc).expect(rt, "a session");
+    let mut worker = Worker::new(host_of(rt, alloc, &[]), session, gate, 9);
+    serve(rt, alloc, &mut worker, 1, &[MATCH]);
+    serve(rt, alloc, &mut worker, 2, &[]);
+}
+
+#[test]
+fn points_of_a_gate(rt: HostRuntime) {
+    // A reply of 44 bytes is two writes and a flush.
+    let wanted = [
+        Point::Accepted { connection: 1 },
+        Point::Piece { connection: 1 },
+        Point::Piece { connection: 1 },
+        Point::Replied { connection: 1 },
+        Point::Accepted { connection: 2 },
+    ];
+    let came = points(&rt, rt.alloc());
+    assert_same(
+        &rt,
+        &came.as_slice(),
+        &wanted.as_slice(),
+        "the points of two connections",
+    );
+}

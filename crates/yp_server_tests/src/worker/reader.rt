@@ -1,0 +1,120 @@
+//! A host of a board that threads share, which hands over what it counted and what it knew.
+
+ghost use Rattle.std.specs.Prelude.{◌≡◌, ◌+◌, None, min};
+ghost use Rattle.std.proofs.Common.{ap};
+ghost use Rattle.yp_io.specs.Counts.{last_count};
+
+use crate::worker::host::{assert_fits, catalog, version};
+use std::alloc::Global;
+use std::mem;
+use std::process::Abort;
+use std::random::RandomSource;
+use std::sync::Wait;
+use yp_answer::{Errand, Job};
+use yp_board::{Catalog, Tell, View};
+use yp_io::{NoMemory, Peer};
+use yp_msgs::XfrStat;
+use yp_readers::{Naming, Opened, Reader, Writer, board};
+use yp_session::Host;
+use yp_version::Version;
+use yp_worker::{CatchUp, HandsOver};
+
+/// It makes no map: memory runs out. A transfer is counted. Others show nothing.
+#[derive(Drop)]
+pub struct ReaderHost<B: Tell> {
+    pub reader: B::Reader,
+    pub transfers: u64,
+}
+
+impl<B: Tell> View for ReaderHost<B> {
+    ghost seen = { λ host. B.Reader.seen host.reader };
+
+    ghost stepped = { λ old new. (new.transfers ≡ old.transfers) × B.Reader.stepped old.reader new.reader };
+
+    fn catalog(&self) -> &Catalog {
+        self.reader.catalog()
+    }
+
+    fn refresh(&mut self) {
+        self.reader.refresh();
+    }
+
+    fn held(&self, map: u32) -> Option<&Version> {
+        self.reader.held(map)
+    }
+}
+
+impl<B: Tell> Host for ReaderHost<B> {
+    ghost told = { λ host. record { text = λ file. None; moment = None } };
+
+    ghost counts = { λ host. record { files = 0; transfers = host.transfers } };
+
+    ghost made = { λ job stat old new. Unit {0} };
+
+    fn make(&mut self, _job: Job) -> XfrStat {
+        XfrStat::Rsrc
+    }
+
+    ghost carried = { λ taken peer old new. Unit {0} };
+
+    fn transfer(&mut self, _errand: &Errand<'_>, _peer: Peer) {
+        self.transfers = self.transfers.saturating_add(1);
+    }
+
+    ghost step_counts_nothing = { λ old new h. ap (λ count. record { files = 0; transfers = count }) h.0 };
+}
+
+impl<B: Tell> CatchUp for ReaderHost<B> {
+    fn catch_up(&mut self) -> Result<(), NoMemory> {
+        Ok(())
+    }
+}
+
+/// The transfers of hosts, and the longest front that one of them knew.
+#[derive(Drop)]
+pub struct Handed<B: Tell> {
+    pub transfers: u64,
+    pub front: B::Front,
+}
+
+impl<B: Tell> HandsOver for ReaderHost<B> {
+    type Count = u64;
+
+    type Sum = Handed<B>;
+
+    ghost counted = { λ host. host.transfers };
+
+    ghost summed = { λ sum. sum.transfers };
+
+    ghost reached = { λ sum. B.kept sum.front };
+
+    ghost none = { 0 };
+
+    ghost plus = { λ sum more. min (sum + more) last_count };
+
+    fn hand_over(&mut self, sum: &mut Handed<B>) {
+        sum.transfers = sum.transfers.saturating_add(self.transfers);
+        self.transfers = 0;
+        let before = mem::replace(&mut sum.front, B::known(&self.reader));
+        sum.front = B::longer(before, B::known(&self.reader));
+    }
+}
+
+/// A board of the maps of a test host, of which the first shows `alpha:1`, with two readers.
+pub fn two_readers<'r, N: Naming, R: Wait + RandomSource + Abort>(
+    rt: &'r R,
+    alloc: Global,
+    opened: Opened,
+) -> (Writer<N, &'r R>, Reader<N>, Reader<N>)
+    requires { opened ≡ N.book }
+    ensures { result.2.catalogue ≡ result.1.catalogue }
+{
+    let catalog = catalog(rt, alloc);
+    let first = version(rt, alloc, 7, b"alpha:1");
+    let start = vec![in alloc; Some(first), None].expect(rt, "versions");
+    assert_fits(rt, start.len(), &catalog);
+    let (writer, mut readers) = board(alloc, rt, opened, catalog, start, 2).expect(rt, "a board");
+    let first = readers.pop().expect(rt, "a reader");
+    let second = readers.pop().expect(rt, "a reader");
+    (writer, first, second)
+}

@@ -1,0 +1,302 @@
+//! A worker that serves the connections of a listener in memory.
+
+ghost use Rattle.std.specs.Prelude.{◌≡◌, ◌<◌, []};
+ghost use Rattle.yp_board.specs.Views.{IsFront};
+ghost use Rattle.yp_io.specs.MemListen.{Door, calls_of};
+ghost use Rattle.yp_session.specs.Hosts.{conduct_of};
+ghost use Rattle.yp_worker.specs.Receptions.{IsFair, opening_of, terms_of};
+ghost use Rattle.yp_worker.specs.Summing.{SumsUp, counting_of};
+
+use crate::given::{assert_same, bytes};
+use crate::worker::listener::door;
+use crate::worker::reader::{Handed, ReaderHost, two_readers};
+use std::alloc::Global;
+use std::marker::Brand;
+use std::process::Abort;
+use std::random::RandomSource;
+use std::sync::ledger::{Blank, Ledger};
+use std::sync::{Mutex, Wait};
+use std::thread::Threads;
+use yp_board::Tell;
+use yp_io::{Listen, MemListen};
+use yp_readers::{Naming, Opened, Writer};
+use yp_session::Session;
+use yp_worker::{HandsOver, Listening, OpenGate, Pass, Reception, Tally, Worker, laws, run_beside};
+
+// NULL of YP (RFC 5531 section 9, yp.x), and its reply.
+const NULL: &str = "80000028 00000001 00000000 00000002 000186a4 00000002 00000000
+    00000000 00000000 00000000 00000000";
+
+const NULL_REPLY: &str = "80000018 00000001 00000001 00000000 00000000 00000000 00000000";
+
+// What a run counted, what the lock kept, how many transfers its host carried out, how many connections were accepted,
+// and what each that went back had taken.
+type Came = (Tally, Tally, u64, u32, Vec<u8>);
+
+// What the lock kept, how many connections were accepted, and what each that went back had taken.
+type Shared = (Tally, u32, Vec<u8>);
+
+// Runs a worker that reads a board over a listener to the end.
+fn served<J: Reception, E: Ledger, B: Tell, R: Wait + RandomSource + Abort>(
+    rt: &R,
+    alloc: Global,
+    out: Blank,
+    ended: Blank,
+    listen: MemListen,
+    writer: &mut B,
+    reader: B::Reader,
+) -> Came
+where
+    B::Reader: Drop,
+    requires out { (out.name ≡ J.name) × (out.parts ≡ J.parts) × (0 < out.parts) }
+    requires ended { (ended.name ≡ E.name) × (ended.parts ≡ E.parts) × (0 < ended.parts) }
+    requires opening { opening_of calls_of (λ (l : Door). l.most) (λ (l : Door). l.accepted)
+        (λ (l : Door). l.faults) listen ≡ J.opening }
+    requires fair { IsFair J.opening.past }
+    requires catalogue { (B.Reader.seen reader).catalogue ≡ J.catalogue }
+    requires knows { IsFront J.starts (B.Reader.seen reader).known }
+    requires most { 9 ≡ J.most }
+{
+    let (book, share) = out.open::<J>();
+    let (ends, mine) = ended.open::<E>();
+    let mut pass = Pass::new(share, mine);
+    let none = none_of::<B>(&reader);
+    let mut worker = worker::<B>(rt, alloc, reader);
+    let listening = Mutex::new(Listening::<J, E, ReaderHost<B>, MemListen>::new(
+        listen, book, ends, none,
+    ));
+    let own = worker.run(rt, &listening, &mut pass);
+    let (listen, all, sum) = listening.into_inner().close(&mut pass);
+    cover::<J, ReaderHost<B>, MemListen, B>(writer, &listen, &sum, &sum.front);
+    (
+        own,
+        all,
+        sum.transfers,
+        listen.accepted(),
+        taken(rt, alloc, &listen),
+    )
+}
+
+// Runs two workers that read a board, each in a thread, over a listener to the end.
+fn shared<J, E, B, R: Threads + Wait + Sync + RandomSource + Abort>(
+    rt: &R,
+    alloc: Global,
+    out: Blank,
+    ended: Blank,
+    listen: MemListen,
+    writer: &mut B,
+    readers: (B::Reader, B::Reader),
+) -> Shared
+where
+    J: Reception + Send + Sync,
+    E: Ledger + Send + Sync,
+    B: Tell + Send,
+    B::Reader: Send + Drop,
+    B::Front: Send,
+    requires out { (out.name ≡ J.name) × (out.parts ≡ J.parts) × (out.parts ≡ 2) }
+    requires ended { (ended.name ≡ E.name) × (ended.parts ≡ E.parts) × (ended.parts ≡ 2) }
+    requires opening { opening_of calls_of (λ (l : Door). l.most) (λ (l : Door). l.accepted)
+        (λ (l : Door). l.faults) listen ≡ J.opening }
+    requires fair { IsFair J.opening.past }
+    requires first { (B.Reader.seen readers.0).catalogue ≡ J.catalogue }
+    requires second { (B.Reader.seen readers.1).catalogue ≡ J.catalogue }
+    requires starts { J.starts ≡ [] }
+    requires most { 9 ≡ J.most }
+{
+    let (book, mut mine) = out.open::<J>();
+    let (ends, mut my_ends) = ended.open::<E>();
+    let (theirs, their_ends) = (mine.split_off(1, 0), my_ends.split_off(1, 0));
+    let none = none_of::<B>(&readers.0);
+    let listening = Mutex::new(Listening::<J, E, ReaderHost<B>, MemListen>::new(
+        listen, book, ends, none,
+    ));
+    let first = (worker::<B>(rt, alloc, readers.0), Pass::new(mine, my_ends));
+    let second = (
+        worker::<B>(rt, alloc, readers.1),
+        Pass::new(theirs, their_ends),
+    );
+    let ((mut pass, _), (other, _)) = run_beside(rt, &listening, first, second);
+    pass.merge(other);
+    let (listen, tally, sum) = listening.into_inner().close(&mut pass);
+    cover::<J, ReaderHost<B>, MemListen, B>(writer, &listen, &sum, &sum.front);
+    (tally, listen.accepted(), taken(rt, alloc, &listen))
+}
+
+// What nobody has counted, with what this reader knows.
+fn none_of<B: Tell>(reader: &B::Reader) -> Handed<B>
+    ensures { result.transfers ≡ 0 }
+{
+    Handed {
+        transfers: 0,
+        front: B::known(reader),
+    }
+}
+
+// A worker with this reader, which answers at most 9 records of a connection.
+fn worker<B: Tell>(
+    rt: &impl Abort,
+    alloc: Global,
+    reader: B::Reader,
+) -> Worker<ReaderHost<B>, OpenGate>
+    ensures { result ≡ record {
+      host = record { reader = reader; transfers = 0 };
+      most = 9;
+      progress = result.progress;
+    } }
+{
+    let session = Session::new(alloc).expect(rt, "a session");
+    let host = ReaderHost {
+        reader,
+        transfers: 0,
+    };
+    Worker::new(host, session, OpenGate, 9)
+}
+
+// Covers what each connection was answered on: it is a front of what is shown.
+fn cover<J: Reception, H: HandsOver, L: Listen, B: Tell>(
+    writer: &mut B,
+    listen: &L,
+    sum: &H::Sum,
+    front: &B::Front,
+)
+    requires reached { H.reached sum.now ≡ B.kept front.now }
+    requires summed { SumsUp (conduct_of H.seen H.told H.counts H.stepped H.made H.carried)
+        (counting_of H.counted H.none H.plus) (terms_of J.catalogue J.starts J.most) J.opening.past
+        (L.past listen.now) (H.summed sum.now) (H.reached sum.now) }
+    ensures { SumsUp (conduct_of H.seen H.told H.counts H.stepped H.made H.carried)
+        (counting_of H.counted H.none H.plus) (terms_of J.catalogue J.starts J.most) J.opening.past
+        (L.past listen.now) (H.summed sum.now) (B.log writer.new) }
+{
+    writer.covers(front);
+    laws::sums_reach_further::<H>();
+}
+
+// What the connections that went back had taken, one after the other.
+fn taken(rt: &impl Abort, alloc: Global, listen: &MemListen) -> Vec<u8> {
+    let mut all = Vec::new(alloc);
+    for call in listen.past() {
+        all.extend_from_slice(call.wire.sink.taken())
+            .expect(rt, "memory for bytes");
+    }
+    all
+}
+
+// XFR of hosts.byname of `d` from the host `m2` (yp.x), and its reply with SUCC.
+const XFR: &str = "80000058 00000005 00000000 00000002 000186a4 00000002 00000006
+    00000000 00000000 00000000 00000000 00000001 64000000
+    0000000c 686f7374 732e6279 6e616d65 00000000 00000002 6d320000
+    00000009 40000000 00000400";
+
+const TAKEN: &str =
+    "80000020 00000005 00000001 00000000 00000000 00000000 00000000 00000009 00000001";
+
+const SERVED: Tally = Tally {
+    connections: 2,
+    calls: 4,
+    listen_fault: false,
+};
+
+// What both connections ask, the calls of the listener that fail, what was counted, how many transfers were carried
+// out, how many connections were accepted, and what was written.
+const ROWS: &[(&[&str], &[u64], Tally, u64, u32, &[&str])] = &[
+    (
+        &[NULL, NULL],
+        &[],
+        SERVED,
+        0,
+        2,
+        &[NULL_REPLY, NULL_REPLY, NULL_REPLY, NULL_REPLY],
+    ),
+    (
+        &[NULL, XFR],
+        &[],
+        SERVED,
+        2,
+        2,
+        &[NULL_REPLY, TAKEN, NULL_REPLY, TAKEN],
+    ),
+    (
+        &[NULL, NULL],
+        &[0],
+        Tally {
+            connections: 0,
+            calls: 0,
+            listen_fault: true,
+        },
+        0,
+        0,
+        &[],
+    ),
+    (
+        &[NULL, NULL],
+        &[1],
+        Tally {
+            connections: 1,
+            calls: 2,
+            listen_fault: true,
+        },
+        0,
+        1,
+        &[NULL_REPLY, NULL_REPLY],
+    ),
+];
+
+// Runs a worker that reads a board over this listener.
+fn one<N: Naming, R: Wait + RandomSource + Abort>(
+    rt: &R,
+    alloc: Global,
+    opened: Opened,
+    listen: MemListen,
+) -> Came
+    requires board { opened ≡ N.book }
+    requires fair { IsFair (calls_of listen) }
+{
+    let (mut writer, reader, _) = two_readers::<N, R>(rt, alloc, opened);
+    let (out, ended) = (Blank::new(1), Blank::new(1));
+    served::<Brand, Brand, Writer<N, &R>, R>(rt, alloc, out, ended, listen, &mut writer, reader)
+}
+
+#[test]
+fn all_connections_of_a_listener(rt: HostRuntime) {
+    let alloc = rt.alloc();
+    for &(input, failing, tally, transfers, accepted, output) in ROWS {
+        let listen = door(&rt, alloc, input, 2, failing);
+        let came = one::<Brand, _>(&rt, alloc, Opened::new(), listen);
+        let wanted = (tally, tally, transfers, accepted, bytes(&rt, alloc, output));
+        assert_same(&rt, &came, &wanted, "the connections of a listener");
+    }
+}
+
+// Runs two workers that read one board, each in a thread, over this listener.
+fn two<N: Naming + Send + Sync, R: Threads + Wait + Sync + RandomSource + Abort>(
+    rt: &R,
+    alloc: Global,
+    opened: Opened,
+    listen: MemListen,
+) -> Shared
+    requires board { opened ≡ N.book }
+    requires fair { IsFair (calls_of listen) }
+{
+    let (mut writer, first, second) = two_readers::<N, R>(rt, alloc, opened);
+    let (out, ended) = (Blank::new(2), Blank::new(2));
+    let readers = (first, second);
+    shared::<Brand, Brand, Writer<N, &R>, R>(rt, alloc, out, ended, listen, &mut writer, readers)
+}
+
+#[test]
+fn two_workers_in_threads(rt: HostRuntime) {
+    let alloc = rt.alloc();
+    let listen = door(&rt, alloc, &[NULL, NULL], 2, &[]);
+    let came = two::<Brand, _>(&rt, alloc, Opened::new(), listen);
+    let output = bytes(
+        &rt,
+        alloc,
+        &[NULL_REPLY, NULL_REPLY, NULL_REPLY, NULL_REPLY],
+    );
+    assert_same(
+        &rt,
+        &came,
+        &(SERVED, 2, output),
+        "the connections of two workers",
+    );
+}

@@ -1,0 +1,6 @@
+//! Maps that workers make and fetch.
+
+mod desks;
+mod make;
+mod stage;
+mod transfer;

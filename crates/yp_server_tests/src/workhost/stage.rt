@@ -1,0 +1,326 @@
+//! Two workers over one map.
+
+ghost use Rattle.std.specs.Prelude.{◌≡◌, All};
+ghost use Rattle.yp_io.specs.MemDisk.{Platter};
+ghost use Rattle.yp_io.specs.MemDial.{wires_of};
+ghost use Rattle.yp_publish.specs.Rising.{moment_of};
+ghost use Rattle.yp_readers.specs.Boards.{Written};
+ghost use Rattle.yp_shared.specs.Failures.{disks_of, faults_over};
+ghost use Rattle.yp_workhost.specs.Desks.{IsSupplied};
+ghost use Rattle.yp_workhost.specs.Makings.{Builds};
+
+use crate::given::{assert_same, bytes};
+use crate::workhost::desks::*;
+use std::alloc::Global;
+use std::marker::Brand;
+use std::process::Abort;
+use std::random::RandomSource;
+use std::sync::ledger::Blank;
+use std::sync::{Mutex, Wait};
+use yp_answer::{Errand, Job};
+use yp_board::{Catalog, Tell, View};
+use yp_build::Kind;
+use yp_io::{MemDial, MemDisk, Peer, SetClock, Texts};
+use yp_msgs::XfrStat;
+use yp_publish::laws::starts_are_shown;
+use yp_publish::{Publisher, load_all};
+use yp_readers::{Naming, Opened, Reader, Writer, board};
+use yp_server::Desk;
+use yp_session::Host;
+use yp_shared::{Accounts, Debits, Failures, Locked, Made, Site, Versions};
+use yp_worker::{CatchUp, HandsOver};
+use yp_workhost::{
+    Account, Charges, Orders, SharedDesk, Sources, Supplies, Totals, Unread, WorkerHost,
+};
+
+/// The locks of a map and its desk.
+type Maps<S, J, R> = Mutex<Locked<S, MemDisk, Writer<J, R>>>;
+
+type Tools<S, T> = Mutex<SharedDesk<S, MemDial, T, SetClock>>;
+
+type Worker<'a, S, J, T, R> = WorkerHost<'a, S, MemDisk, Writer<J, R>, MemDial, T, SetClock, R>;
+
+/// What a worker does.
+#[derive(Clone, Copy, Debug)]
+pub enum Act {
+    Make,
+    Transfer,
+    CatchUp,
+    Refresh,
+}
+
+/// What came of it: the status of a making, and the order that the worker holds then.
+pub type Came = (Option<XfrStat>, Option<u32>);
+
+/// A publisher of the one map of a catalogue, with its file on a disk, and two readers of its board.
+fn open<'r, J: Naming, R: RandomSource + Wait + Abort>(
+    rt: &'r R,
+    alloc: Global,
+    opened: Opened,
+    catalog: &Catalog,
+    disk: MemDisk,
+) -> (Publisher<MemDisk, Writer<J, &'r R>>, Vec<Reader<J>>)
+    requires { opened ≡ J.book }
+    ensures publisher { result.0.catalogue ≡ catalog.now }
+    ensures readers { All (λ reader. reader.catalogue ≡ catalog.now) result.1.items }
+{
+    let disks = vec![in alloc; disk].expect(rt, "a disk");
+    assert_fits(rt, disks.len(), catalog);
+    let loaded = load_all(alloc, rt, disks).expect(rt, "loaded disks");
+    let shown = loaded.shown(alloc).expect(rt, "what is shown");
+    assert_fits(rt, shown.len(), catalog);
+    let seen = catalog.copy(alloc).expect(rt, "a catalogue");
+    let kept = catalog.copy(alloc).expect(rt, "a catalogue");
+    let (writer, readers) = board(alloc, rt, opened, seen, shown, 2).expect(rt, "a board");
+    starts_are_shown();
+    (Publisher::new(loaded, kept, writer), readers)
+}
+
+/// The last two readers of a board.
+fn two_of<J: Naming>(
+    rt: &impl Abort,
+    readers: Vec<Reader<J>>,
+    catalog: &Catalog,
+) -> (Reader<J>, Reader<J>)
+    requires { All (λ reader. reader.catalogue ≡ catalog.now) readers.items }
+    ensures first { result.0.catalogue ≡ catalog.now }
+    ensures second { result.1.catalogue ≡ catalog.now }
+{
+    let mut readers = readers;
+    let second = readers.pop().expect(rt, "a reader");
+    let first = readers.pop().expect(rt, "a reader");
+    (first, second)
+}
+
+/// Does one thing.
+fn done_by<
+    S: Site + Accounts + Supplies,
+    J: Naming,
+    T: Texts + Drop,
+    R: RandomSource + Wait + Drop,
+>(host: &mut Worker<'_, S, J, T, R>, act: Act, source: &[u8]) -> Came {
+    if host.catalog().len() == 0 || source.is_empty() || source.len() > 64 {
+        return (None, None);
+    }
+    let stat = match act {
+        Act::Make => Some(host.make(Job {
+            map: 0,
+            kind: Kind::HostsByname,
+        })),
+        Act::Transfer => {
+            let errand = Errand {
+                map: 0,
+                source,
+                transid: 9,
+                prog: 0x4000_0000,
+                port: 7_002,
+            };
+            host.transfer(&errand, CALLER);
+            None
+        }
+        Act::CatchUp => {
+            let _ = host.catch_up();
+            None
+        }
+        Act::Refresh => {
+            host.refresh();
+            None
+        }
+    };
+    (stat, host.held(0).map(|version| version.order()))
+}
+
+/// Who asks for a transfer.
+const CALLER: Peer = Peer {
+    addr: [127, 0, 0, 1],
+    port: 40_000,
+};
+
+/// What is done, by the first of two workers or by the second, and the host that transfers fetch from.
+#[derive(Clone, Copy, Debug)]
+pub struct Script<'a> {
+    pub acts: &'a [(bool, Act)],
+    pub source: &'a [u8],
+}
+
+/// What two workers do in turn.
+fn play<
+    'r,
+    S: Site + Accounts + Supplies,
+    J: Naming,
+    T: Texts + Drop,
+    R: RandomSource + Wait + Abort,
+>(
+    rt: &'r R,
+    alloc: Global,
+    first: &mut Worker<'_, S, J, T, &'r R>,
+    second: &mut Worker<'_, S, J, T, &'r R>,
+    script: Script<'_>,
+) -> Vec<Came> {
+    let mut came = Vec::new(alloc);
+    for (by_first, what) in script.acts {
+        let one = if *by_first {
+            done_by(first, *what, script.source)
+        } else {
+            done_by(second, *what, script.source)
+        };
+        came.push(one).expect(rt, "what came");
+    }
+    came
+}
+
+/// Two workers, made of their readers and the locks, play.
+fn meet<
+    'r,
+    S: Site + Accounts + Supplies,
+    J: Naming,
+    T: Texts + Drop,
+    R: RandomSource + Wait + Abort,
+>(
+    rt: &'r R,
+    alloc: Global,
+    maps: &Maps<S, J, &'r R>,
+    tools: &Tools<S, T>,
+    readers: (Reader<J>, Reader<J>),
+    charges: Charges<S>,
+    script: Script<'_>,
+) -> (Vec<Came>, Account<S, Writer<J, &'r R>>)
+    requires builds { Builds S.text S.catalogue.own S.built }
+    requires first { readers.0.catalogue ≡ S.catalogue }
+    requires second { readers.1.catalogue ≡ S.catalogue }
+    requires charges { charges.parts ≡ 4 }
+{
+    let mut charges = charges;
+    let (one, other) = (charges.split_off(), charges.split_off());
+    let front = Writer::<J, &'r R>::known(&readers.0);
+    let mut first = WorkerHost::new(alloc, rt, readers.0, maps, tools, one);
+    let mut second = WorkerHost::new(alloc, rt, readers.1, maps, tools, other);
+    let mut account = Account::new(charges, front);
+    let came = play(rt, alloc, &mut first, &mut second, script);
+    first.hand_over(&mut account);
+    second.hand_over(&mut account);
+    (came, account)
+}
+
+/// What came of a stage: of each act, what both workers counted, and what was posted.
+pub type Played = (Vec<Came>, Totals, Vec<(Peer, Vec<u8>)>);
+
+/// What came of a script over a map with its file on a disk.
+pub fn staged<J: Naming, T: Texts + Drop, R: RandomSource + Wait + Abort>(
+    rt: &R,
+    alloc: Global,
+    opened: Opened,
+    catalog: Catalog,
+    disk: MemDisk,
+    desk: Desk<MemDial, T, SetClock>,
+    script: Script<'_>,
+) -> Played
+    requires { opened ≡ J.book }
+{
+    let (publisher, readers) = open(rt, alloc, opened, &catalog, disk);
+    let readers = two_of(rt, readers, &catalog);
+    under_locks::<Brand, J, T, R>(rt, alloc, publisher, readers, desk, Blanks::new(), script)
+}
+
+/// What the ledgers of a stage are opened from.
+struct Blanks {
+    unread: Blank,
+    failures: Blank,
+    orders: Blank,
+    sources: Blank,
+    made: Blank,
+    versions: Blank,
+}
+
+impl Blanks {
+    /// Four parts each, and of the one of fetched versions one more, for the publisher.
+    fn new() -> Blanks
+        ensures unread { result.unread.parts ≡ 4 }
+        ensures failures { result.failures.parts ≡ 4 }
+        ensures orders { result.orders.parts ≡ 4 }
+        ensures sources { result.sources.parts ≡ 4 }
+        ensures made { result.made.parts ≡ 4 }
+        ensures versions { result.versions.parts ≡ 5 }
+    {
+        Blanks {
+            unread: Blank::new(4),
+            failures: Blank::new(4),
+            orders: Blank::new(4),
+            sources: Blank::new(4),
+            made: Blank::new(4),
+            versions: Blank::new(5),
+        }
+    }
+}
+
+/// What came of it, once the publisher and the desk are under their locks.
+fn under_locks<
+    'r,
+    S: Site + Accounts + Supplies,
+    J: Naming,
+    T: Texts + Drop,
+    R: RandomSource + Wait + Abort,
+>(
+    rt: &'r R,
+    alloc: Global,
+    publisher: Publisher<MemDisk, Writer<J, &'r R>>,
+    readers: (Reader<J>, Reader<J>),
+    desk: Desk<MemDial, T, SetClock>,
+    blanks: Blanks,
+    script: Script<'_>,
+) -> Played
+    requires site { publisher.catalogue ≡ S.catalogue }
+    requires stood { moment_of (λ (w : Written). w.log) publisher ≡ S.first }
+    requires disks { faults_over (λ (p : Platter). p.faults) (disks_of publisher.maps) ≡ S.disk_faults }
+    requires builds { Builds S.text S.catalogue.own S.built }
+    requires first { readers.0.catalogue ≡ S.catalogue }
+    requires second { readers.1.catalogue ≡ S.catalogue }
+    requires supplied { IsSupplied T.Texts S.text S.hosts desk }
+    requires before { (T.faults desk.texts ≡ S.text_faults) × (wires_of desk.dial ≡ S.wires)
+        × (desk.dial.faults ≡ S.dial_faults) }
+    requires parts { S.shares ≡ 4 }
+    requires unread { (blanks.unread.name ≡ S.unread) × (blanks.unread.parts ≡ 4) }
+    requires failures { (blanks.failures.name ≡ S.failures) × (blanks.failures.parts ≡ 4) }
+    requires orders { (blanks.orders.name ≡ S.orders) × (blanks.orders.parts ≡ 4) }
+    requires sources { (blanks.sources.name ≡ S.sources) × (blanks.sources.parts ≡ 4) }
+    requires made { (blanks.made.name ≡ S.made) × (blanks.made.parts ≡ 4) }
+    requires versions { (blanks.versions.name ≡ S.versions) × (blanks.versions.parts ≡ 5) }
+{
+    let Blanks {
+        unread,
+        failures,
+        orders,
+        sources,
+        made,
+        versions,
+    } = blanks;
+    let (unread, own_unread) = unread.open::<Unread<S>>();
+    let (failures, own_failures) = failures.open::<Failures<S>>();
+    let (orders, own_orders) = orders.open::<Orders<S>>();
+    let (sources, own_sources) = sources.open::<Sources<S>>();
+    let (made, own_made) = made.open::<Made<S>>();
+    let (versions, mut own_versions) = versions.open::<Versions<S>>();
+    let publishers = own_versions.split_off(1, 0);
+    let debits = Debits::new(own_failures, own_made, own_versions);
+    let charges = Charges::new(own_unread, own_orders, own_sources, debits);
+    let maps: Maps<S, J, &R> = Mutex::new(Locked::new(publisher, failures, made, publishers));
+    let tools: Tools<S, T> = Mutex::new(SharedDesk::new(desk, unread, orders, sources, versions));
+    let (came, account) = meet(rt, alloc, &maps, &tools, readers, charges, script);
+    let (totals, charges, _) = account.into_parts();
+    let (mut unread, mut orders, mut sources, mut debits) = charges.into_shares();
+    let (_, mut versions) = maps.into_inner().close(&mut debits);
+    let desk = tools
+        .into_inner()
+        .close(&mut unread, &mut orders, &mut sources, &mut versions);
+    (came, totals, posted_by(rt, alloc, &desk.dial))
+}
+
+// What was posted: to whom, and the bytes.
+fn posted_by(rt: &impl Abort, alloc: Global, dial: &MemDial) -> Vec<(Peer, Vec<u8>)> {
+    let mut posted = Vec::new(alloc);
+    for letter in dial.letters() {
+        let bytes = Vec::from_slice(alloc, &letter.bytes).expect(rt, "bytes");
+        posted.push((letter.peer, bytes)).expect(rt, "a letter");
+    }
+    posted
+}

@@ -1,0 +1,176 @@
+//! Maps that workers fetch.
+
+use crate::given::{assert_same, bytes};
+use crate::workhost::desks::*;
+use crate::workhost::stage::*;
+use std::alloc::Global;
+use std::marker::Brand;
+use std::process::Abort;
+use std::random::RandomSource;
+use std::sync::Wait;
+use yp_io::{MemDisk, Peer};
+use yp_readers::Opened;
+use yp_workhost::{Outcomes, Totals};
+
+// What is posted of the transaction 9 to the program 0x40000000, with its status: 48 bytes.
+const CALL_BACK: &str = "00000009 00000000 00000002 40000000 00000001 00000001
+    00000000 00000000 00000000 00000000 00000009";
+
+const SUCC: &str = "00000001";
+
+const AGE: &str = "00000002";
+
+const SKEW: &str = "fffffff6";
+
+const MADDR: &str = "fffffffb";
+
+const RPC: &str = "fffffffc";
+
+// What the source sends: order 100, master `m1`, the row `alpha`, and the order 100 or 101.
+const ORDER_MASTER_ALL: &str =
+    "80000020 00000001 00000001 00000000 00000000 00000000 00000000 00000001 00000064
+    80000024 00000002 00000001 00000000 00000000 00000000 00000000 00000001 00000002 6d310000
+    80000044 00000003 00000001 00000000 00000000 00000000 00000000 00000001 00000001
+    0000000e 31302e30 2e302e31 20616c70 68610000 00000005 616c7068 61000000 00000000";
+
+const ORDER_100: &str =
+    "80000020 00000004 00000001 00000000 00000000 00000000 00000000 00000001 00000064";
+
+const ORDER_101: &str =
+    "80000020 00000004 00000001 00000000 00000000 00000000 00000000 00000001 00000065";
+
+// A file of order 100 by the master `m1`.
+const FILE: &[&str] = &[
+    "01000000 00000000 00000000 00000001 00000000 00000040 00000000 00000034",
+    "00000000 00000000 00000000 00000000 00000000 00000000 00000000 00000000",
+    "00000001 00000064 00000002 6d310000 00000001 00000005 616c7068 61000000",
+    "0000000e 31302e30 2e302e31 20616c70 68610000",
+];
+
+const NONE: Outcomes = Outcomes {
+    no_address: 0,
+    no_memory: 0,
+    file: 0,
+    source: 0,
+    reached: 0,
+};
+
+const REACHED: Outcomes = Outcomes { reached: 1, ..NONE };
+
+const FAILED: Outcomes = Outcomes { source: 1, ..NONE };
+
+const UNKNOWN: Outcomes = Outcomes {
+    no_address: 1,
+    ..NONE
+};
+
+// The own name, the file, what the source sends, the calls of the dial that fail, what the first worker then holds,
+// what its transfer came to, and the status that is posted.
+struct Row {
+    name: &'static str,
+    own: &'static [u8],
+    source: &'static [u8],
+    file: &'static [&'static str],
+    replies: &'static [&'static str],
+    refused: &'static [u64],
+    held: Option<u32>,
+    outcomes: Outcomes,
+    stat: &'static str,
+}
+
+const FETCHED: Row = Row {
+    name: "a map that is fetched",
+    own: b"s1",
+    source: b"m1",
+    file: &[],
+    replies: &[ORDER_MASTER_ALL, ORDER_100],
+    refused: &[],
+    held: Some(100),
+    outcomes: REACHED,
+    stat: SUCC,
+};
+
+const ROWS: &[Row] = &[
+    FETCHED,
+    Row {
+        name: "one that is shown already",
+        file: FILE,
+        stat: AGE,
+        ..FETCHED
+    },
+    Row {
+        name: "a source that changes meanwhile",
+        replies: &[ORDER_MASTER_ALL, ORDER_101],
+        held: None,
+        outcomes: FAILED,
+        stat: SKEW,
+        ..FETCHED
+    },
+    Row {
+        name: "a source that sends nothing",
+        replies: &[],
+        held: None,
+        outcomes: FAILED,
+        stat: RPC,
+        ..FETCHED
+    },
+    Row {
+        name: "a source that is not reached",
+        refused: &[0],
+        held: None,
+        outcomes: FAILED,
+        stat: RPC,
+        ..FETCHED
+    },
+    Row {
+        name: "a source without an address",
+        source: b"m2",
+        held: None,
+        outcomes: UNKNOWN,
+        stat: MADDR,
+        ..FETCHED
+    },
+];
+
+// The program of the caller.
+const PROGRAM: Peer = Peer {
+    addr: [127, 0, 0, 1],
+    port: 7_002,
+};
+
+// What comes of a row.
+fn came_of<R: RandomSource + Wait + Abort>(rt: &R, alloc: Global, row: &Row) -> Played {
+    let file = bytes(rt, alloc, row.file);
+    let disk = MemDisk::new(alloc, file, None, Vec::new(alloc));
+    let replies = bytes(rt, alloc, row.replies);
+    let desk = desk_of(rt, alloc, b"", &[], b"m1", replies, row.refused);
+    let catalog = catalog_of(rt, alloc, row.own);
+    let script = Script {
+        acts: &[(true, Act::Transfer)],
+        source: row.source,
+    };
+    staged::<Brand, _, R>(rt, alloc, Opened::new(), catalog, disk, desk, script)
+}
+
+// What is wanted of a row.
+fn wanted_of(rt: &impl Abort, alloc: Global, row: &Row) -> Played {
+    let came = vec![in alloc; (None, row.held)].expect(rt, "what came");
+    let letter = (PROGRAM, bytes(rt, alloc, &[CALL_BACK, row.stat]));
+    let posted = vec![in alloc; letter].expect(rt, "a letter");
+    let totals = Totals {
+        files: 0,
+        made: 0,
+        transfers: 1,
+        outcomes: row.outcomes,
+    };
+    (came, totals, posted)
+}
+
+#[test]
+fn worker_transfer(rt: HostRuntime) {
+    for row in ROWS {
+        let wanted = wanted_of(&rt, rt.alloc(), row);
+        let came = came_of(&rt, rt.alloc(), row);
+        assert_same(&rt, &came, &wanted, row.name);
+    }
+}
