@@ -1,47 +1,63 @@
 //! What comes of a run, and what a row wants of it.
 
 use crate::outside::{Memory, bytes_of};
-use crate::row::{Datagram, Row, Stands, Words};
+use crate::row::{Datagram, Row, Stands};
 use std::alloc::{AllocError, Global};
 use std::random::RandomSource;
-use yp_io::{Letter, MemDial, MemDisk, MemListen, Peer};
+use yp_io::{MemDial, MemDisk, Peer};
 use yp_slot::Slot;
 use yp_tools::{NamedDisk, Status};
 
-/// What came of a run: the status, the output and the note; the letters and the turns of the inbox; the letters and the
-/// wires of the dial, and how many bytes the first wire took; what each connection had taken that went back; and what
-/// the first file stands for, and its bytes.
-#[derive(Debug, PartialEq, Eq, Drop)]
+/// What came of a run, or what a row wants, as a text with a line for each thing that a row looks at, in one order: the
+/// status, the output and the note; the letters and the turns of the inbox; the letters and the wires of the dial, and
+/// how many bytes the first wire took; what each connection had taken that went back; and what the first file stands
+/// for, and its bytes.
+#[derive(Drop)]
 pub struct Ended {
-    pub code: u8,
-    pub output: Vec<u8>,
-    pub note: Vec<u8>,
-    pub sent: Vec<(Peer, Vec<u8>)>,
-    pub turns: u64,
-    pub posted: Vec<(Peer, Vec<u8>)>,
-    pub wires: usize,
-    pub asked: usize,
-    pub taken: Vec<Vec<u8>>,
-    pub stands: Stands,
-    pub file: Vec<u8>,
+    text: String,
 }
 
-fn letters_of(alloc: Global, letters: &[Letter]) -> Result<Vec<(Peer, Vec<u8>)>, AllocError> {
-    let mut all = Vec::new(alloc);
-    for letter in letters {
-        let bytes = Vec::from_slice(alloc, &letter.bytes)?;
-        all.push((letter.peer, bytes))?;
+impl Ended {
+    fn new(alloc: Global) -> Ended {
+        Ended {
+            text: String::new(alloc),
+        }
     }
-    Ok(all)
-}
 
-fn datagrams_of(alloc: Global, datagrams: &[Datagram]) -> Result<Vec<(Peer, Vec<u8>)>, AllocError> {
-    let mut all = Vec::new(alloc);
-    for datagram in datagrams {
-        let bytes = bytes_of(alloc, datagram.bytes)?;
-        all.push((datagram.peer, bytes))?;
+    pub fn text(&self) -> &str {
+        &self.text
     }
-    Ok(all)
+
+    fn number(&mut self, alloc: Global, name: &str, number: u64) -> Result<(), AllocError> {
+        let line = format!(in alloc; "{name} {number}\n")?;
+        self.text.push_str(&line)
+    }
+
+    // No two lists of bytes have one line.
+    fn bytes(&mut self, alloc: Global, name: &str, bytes: &[u8]) -> Result<(), AllocError> {
+        let line = format!(in alloc; "{name} {}\n", bytes.escape_ascii())?;
+        self.text.push_str(&line)
+    }
+
+    fn letter(
+        &mut self,
+        alloc: Global,
+        name: &str,
+        to: Peer,
+        bytes: &[u8],
+    ) -> Result<(), AllocError> {
+        let line = format!(in alloc; "to {:?} port {} ", to.addr, to.port)?;
+        self.text.push_str(&line)?;
+        self.bytes(alloc, name, bytes)
+    }
+
+    fn stands(&mut self, alloc: Global, stands: &Stands) -> Result<(), AllocError> {
+        let line = match stands {
+            Some((order, rows, secure)) => format!(in alloc; "stands {order} {rows} {secure}\n"),
+            None => format!(in alloc; "stands for none\n"),
+        }?;
+        self.text.push_str(&line)
+    }
 }
 
 /// How many bytes the first wire took that was given back, where a row looks at them.
@@ -50,26 +66,6 @@ fn asked_of(dial: &MemDial, row: &Row) -> usize {
         [wire, ..] if row.asked > 0 => wire.sink.taken().len(),
         _ => 0,
     }
-}
-
-/// What each connection had taken that went back.
-fn taken_of(alloc: Global, listen: &MemListen) -> Result<Vec<Vec<u8>>, AllocError> {
-    let mut all = Vec::new(alloc);
-    for call in listen.past() {
-        let bytes = Vec::from_slice(alloc, call.wire.sink.taken())?;
-        all.push(bytes)?;
-    }
-    Ok(all)
-}
-
-/// What each is to have taken.
-fn takes_of(alloc: Global, takes: &[Words]) -> Result<Vec<Vec<u8>>, AllocError> {
-    let mut all = Vec::new(alloc);
-    for words in takes {
-        let bytes = bytes_of(alloc, *words)?;
-        all.push(bytes)?;
-    }
-    Ok(all)
 }
 
 /// The bytes of the first file.
@@ -90,6 +86,32 @@ pub fn stands_of(alloc: Global, rt: &impl RandomSource, file: &[u8]) -> Result<S
     }
 }
 
+fn put_came(
+    ended: &mut Ended,
+    alloc: Global,
+    rt: &impl RandomSource,
+    row: &Row,
+    outside: &Memory,
+) -> Result<(), AllocError> {
+    ended.bytes(alloc, "output", outside.output.taken())?;
+    ended.bytes(alloc, "note", outside.notes.taken())?;
+    for letter in outside.inbox.letters() {
+        ended.letter(alloc, "sent", letter.peer, &letter.bytes)?;
+    }
+    ended.number(alloc, "turns", outside.inbox.turns())?;
+    for letter in outside.dial.letters() {
+        ended.letter(alloc, "posted", letter.peer, &letter.bytes)?;
+    }
+    ended.number(alloc, "wires", outside.dial.came().len() as u64)?;
+    ended.number(alloc, "asked", asked_of(&outside.dial, row) as u64)?;
+    for call in outside.listen.past() {
+        ended.bytes(alloc, "taken", call.wire.sink.taken())?;
+    }
+    let file = first_file(&outside.disks);
+    ended.stands(alloc, &stands_of(alloc, rt, file)?)?;
+    ended.bytes(alloc, "file", if row.torn { &[] } else { file })
+}
+
 /// What came of a run, as far as a row looks at it.
 pub fn ended_of(
     alloc: Global,
@@ -98,57 +120,61 @@ pub fn ended_of(
     status: &Status,
     outside: &Memory,
 ) -> Result<Ended, AllocError> {
-    let file = first_file(&outside.disks);
-    let stands = stands_of(alloc, rt, file)?;
-    let looked: &[u8] = if row.torn { &[] } else { file };
-    let file = Vec::from_slice(alloc, looked)?;
-    let output = Vec::from_slice(alloc, outside.output.taken())?;
-    let note = Vec::from_slice(alloc, outside.notes.taken())?;
-    let sent = letters_of(alloc, outside.inbox.letters())?;
-    let posted = letters_of(alloc, outside.dial.letters())?;
-    let taken = taken_of(alloc, &outside.listen)?;
-    Ok(Ended {
-        code: status.code(),
-        output,
-        note,
-        sent,
-        turns: outside.inbox.turns(),
-        posted,
-        wires: outside.dial.came().len(),
-        asked: asked_of(&outside.dial, row),
-        taken,
-        stands,
-        file,
-    })
+    let mut ended = Ended::new(alloc);
+    ended.number(alloc, "status", status.code() as u64)?;
+    put_came(&mut ended, alloc, rt, row, outside)?;
+    Ok(ended)
 }
 
-/// The bytes of the first file that a row wants, where it looks at them.
-fn left_of(alloc: Global, row: &Row) -> Result<Vec<u8>, AllocError> {
-    if row.torn {
-        return Ok(Vec::new(alloc));
+// Words as a line of bytes.
+fn put_words(
+    ended: &mut Ended,
+    alloc: Global,
+    name: &str,
+    words: &[&str],
+) -> Result<(), AllocError> {
+    let bytes = bytes_of(alloc, words)?;
+    ended.bytes(alloc, name, &bytes)
+}
+
+fn put_datagram(
+    ended: &mut Ended,
+    alloc: Global,
+    name: &str,
+    datagram: &Datagram,
+) -> Result<(), AllocError> {
+    let bytes = bytes_of(alloc, datagram.bytes)?;
+    ended.letter(alloc, name, datagram.peer, &bytes)
+}
+
+fn put_wanted(
+    ended: &mut Ended,
+    alloc: Global,
+    row: &Row,
+    output: &[u8],
+) -> Result<(), AllocError> {
+    ended.bytes(alloc, "output", output.get(..row.cut).unwrap_or(output))?;
+    ended.bytes(alloc, "note", row.note.as_bytes())?;
+    for datagram in row.sends {
+        put_datagram(ended, alloc, "sent", datagram)?;
     }
-    bytes_of(alloc, row.left)
+    ended.number(alloc, "turns", row.turns)?;
+    for datagram in row.posts {
+        put_datagram(ended, alloc, "posted", datagram)?;
+    }
+    ended.number(alloc, "wires", row.wires as u64)?;
+    ended.number(alloc, "asked", row.asked as u64)?;
+    for words in row.takes {
+        put_words(ended, alloc, "taken", *words)?;
+    }
+    ended.stands(alloc, &row.stands)?;
+    put_words(ended, alloc, "file", if row.torn { &[] } else { row.left })
 }
 
 /// What a row wants, with this output.
 pub fn wanted_of(alloc: Global, row: &Row, output: &[u8]) -> Result<Ended, AllocError> {
-    let file = left_of(alloc, row)?;
-    let output = Vec::from_slice(alloc, output.get(..row.cut).unwrap_or(output))?;
-    let note = Vec::from_slice(alloc, row.note.as_bytes())?;
-    let sent = datagrams_of(alloc, row.sends)?;
-    let posted = datagrams_of(alloc, row.posts)?;
-    let taken = takes_of(alloc, row.takes)?;
-    Ok(Ended {
-        code: row.code,
-        output,
-        note,
-        sent,
-        turns: row.turns,
-        posted,
-        wires: row.wires,
-        asked: row.asked,
-        taken,
-        stands: row.stands,
-        file,
-    })
+    let mut ended = Ended::new(alloc);
+    ended.number(alloc, "status", row.code as u64)?;
+    put_wanted(&mut ended, alloc, row, output)?;
+    Ok(ended)
 }

@@ -125,10 +125,11 @@ fn play<R: Threads + Wait + RandomSource + Sync>(
 
 /// Tells what came, where it isn't what is wanted.
 fn compare(alloc: Global, came: &Ended, wanted: &Ended) -> Result<(), Wrong> {
+    let (came, wanted) = (came.text(), wanted.text());
     if came == wanted {
         return Ok(());
     }
-    let text = format!(in alloc; "{came:?} came, not {wanted:?}")?;
+    let text = format!(in alloc; "{came}came, not\n{wanted}")?;
     Err(Wrong::Came(text))
 }
 
