@@ -47,7 +47,7 @@ struct Case {
     words: &'static [&'static str],
 }
 
-const ON_BOTH_PATHS: &[Case] = &[
+static ON_BOTH_PATHS: [Case; 41] = [
     Case {
         row: "NULL",
         procedure: NULL,
@@ -315,13 +315,13 @@ fn assert_case(
 fn answers(rt: HostRuntime) {
     let alloc = rt.alloc();
     let mut board = two_domains(&rt, alloc);
-    for case in ON_BOTH_PATHS {
+    for case in &ON_BOTH_PATHS {
         assert_case(&rt, alloc, &mut board, case, case.words);
     }
 }
 
 // Calls of ALL, which a datagram can't have.
-const ALL_OF: &[Case] = &[
+static ALL_OF: [Case; 6] = [
     Case {
         row: "one row",
         procedure: ALL,
@@ -375,7 +375,7 @@ const ALL_OF: &[Case] = &[
 fn answers_all(rt: HostRuntime) {
     let alloc = rt.alloc();
     let mut board = two_domains(&rt, alloc);
-    for case in ALL_OF {
+    for case in &ALL_OF {
         assert_case(&rt, alloc, &mut board, case, &[PROC_UNAVAIL]);
     }
 }

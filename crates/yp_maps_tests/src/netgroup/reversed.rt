@@ -3,6 +3,7 @@
 use crate::given::assert_same;
 use crate::netgroup::groups::{Row, version};
 use std::alloc::Global;
+use std::process::Abort;
 use std::random::RandomSource;
 use yp_netgroup::{Who, innetgr};
 use yp_revnet::{Field, listed_in, reverse, split};
@@ -27,7 +28,7 @@ const DOTTED: &[Row<'static>] = &[(b"g", b"(a,,b.c)")];
 
 const STARS: &[Row<'static>] = &[(b"x", b"(,u,*)"), (b"y", b"(*,v,)"), (b"z", b"y y y")];
 
-const CASES: [Case; 6] = [
+static CASES: [Case; 6] = [
     Case {
         row: "groups that name each other",
         groups: CYCLE,
@@ -109,29 +110,23 @@ fn has_reverse<R: RandomSource>(
     }
 }
 
-// What is told of a case: whether its reverses have its rows, and whether they are split.
-fn told_of<R: RandomSource>(
-    rt: &R,
-    alloc: Global,
-    netgroup: &Version,
-    case: &Case,
-) -> (bool, bool, Option<bool>, Option<bool>) {
-    (
-        has_reverse(rt, alloc, netgroup, Field::User, case.by_user),
-        has_reverse(rt, alloc, netgroup, Field::Host, case.by_host),
-        split(alloc, netgroup, Field::User).ok(),
-        split(alloc, netgroup, Field::Host).ok(),
-    )
+// Looks at whether the reverses of a case have its rows, and whether they are split.
+fn check_case<R: RandomSource + Abort>(rt: &R, alloc: Global, case: &Case) {
+    let netgroup = version(rt, alloc, case.groups);
+    let by_user = has_reverse(rt, alloc, &netgroup, Field::User, case.by_user);
+    assert_same(rt, &by_user, &true, case.row);
+    let by_host = has_reverse(rt, alloc, &netgroup, Field::Host, case.by_host);
+    assert_same(rt, &by_host, &true, case.row);
+    let users = split(alloc, &netgroup, Field::User).ok();
+    assert_same(rt, &users, &Some(case.split.0), case.row);
+    let hosts = split(alloc, &netgroup, Field::Host).ok();
+    assert_same(rt, &hosts, &Some(case.split.1), case.row);
 }
 
 #[test]
 fn reversed_by_hand(rt: HostRuntime) {
-    let alloc = rt.alloc();
     for case in &CASES {
-        let netgroup = version(&rt, alloc, case.groups);
-        let told = told_of(&rt, alloc, &netgroup, case);
-        let wanted = (true, true, Some(case.split.0), Some(case.split.1));
-        assert_same(&rt, &told, &wanted, case.row);
+        check_case(&rt, rt.alloc(), case);
     }
 }
 
@@ -145,7 +140,7 @@ struct Asked {
     told: (bool, bool),
 }
 
-const LOOK_UPS: [Asked; 8] = [
+static LOOK_UPS: [Asked; 8] = [
     Asked {
         groups: CYCLE,
         field: Field::User,
@@ -223,13 +218,16 @@ fn looked_up<R: RandomSource>(
     }
 }
 
+fn check_look_up<R: RandomSource + Abort>(rt: &R, alloc: Global, asked: &Asked) {
+    let netgroup = version(rt, alloc, asked.groups);
+    let (listed, member) = looked_up(rt, alloc, &netgroup, asked);
+    assert_same(rt, &listed, &Some(asked.told.0), "who is listed");
+    assert_same(rt, &member, &Some(asked.told.1), "who is a member");
+}
+
 #[test]
 fn looked_up_by_hand(rt: HostRuntime) {
-    let alloc = rt.alloc();
     for asked in &LOOK_UPS {
-        let netgroup = version(&rt, alloc, asked.groups);
-        let came = looked_up(&rt, alloc, &netgroup, asked);
-        let wanted = (Some(asked.told.0), Some(asked.told.1));
-        assert_same(&rt, &came, &wanted, "a look-up");
+        check_look_up(&rt, rt.alloc(), asked);
     }
 }
