@@ -3,14 +3,15 @@ use Rattle.std.proofs.Common.{◌≡◌, ℕ, Bool, true, false, cond, List, [],
 use Rattle.std.specs.Prelude.{◌↔◌}
 use Rattle.std.specs.Borrow.{Bor}
 use Rattle.std.specs.List.Sorted.{IsStrictlySortedBy}
-use Rattle.yp_version.specs.Rows.{Row, IsRising, key_cmp}
+use Rattle.yp_version.specs.Rows.{Row, key_cmp}
 use Rattle.yp_netgroup.specs.Reach.{members_of}
 use Rattle.yp_revnet.specs.declared.field.Field.{Field}
 use Rattle.yp_revnet.specs.declared.keys.Listing.{Listing}
-use Rattle.yp_revnet.specs.Links.{Link, LinkTable, bytes_in, under, sources, naming, listing, key_in}
+use Rattle.yp_revnet.specs.Links.{Link, LinkTable, bytes_in, under, sources, listing, key_in}
 use Rattle.yp_revnet.specs.Listings.{link_of}
+use Rattle.yp_revnet.specs.Refused.{HasAllKeys}
 use Rattle.yp_revnet.specs.Reverse.{IsListed}
-use Rattle.yp_revnet.specs.Groups.{IsKeptOf}
+use Rattle.yp_revnet.specs.Groups.{IsKeptOf, IsReadOf}
 use Rattle.yp_revnet.proofs.Dots.{same}
 use Rattle.yp_revnet.proofs.Leading.{names_link, key_picked}
 use Rattle.yp_revnet.proofs.Meeting.{contains-none}
@@ -45,31 +46,28 @@ listed_key rows field listings keys are all key group listed =
     let named = source_name key via (listing field rows) link in
     (all key).1 (subst (λ names. Contains names key) (sym (ap (map name_of_link) are) ∙ link_names listings) named)
 
--- ---- what is kept of a map
+-- ---- what is read of a map
 
-module _ (rows : List Row) (field : Field) (listings lent : List Listing) (rising : IsRising rows) (same_listings : lent ≡ listings)
-    (are : map link_of listings ≡ listing field rows) where
-  pub lent_links : map link_of lent ≡ listing field rows
-  lent_links = ap (map link_of) same_listings ∙ are
-
-  pub kept_of : (named by_key : LinkTable) → ((name : Name) → under named name ≡ sources name (naming rows))
-      → ((key : Name) → under by_key key ≡ sources key (map link_of lent)) → IsKeptOf rows field named by_key
-  kept_of named by_key names keys = record {
-    rising = rising;
-    by_name = names;
-    by_key = λ key. keys key ∙ ap (sources key) lent_links;
+module _ (rows : List Row) (field : Field) (named : LinkTable) (listings : List Listing)
+    (read : IsReadOf rows field named (map link_of listings)) where
+  -- and kept of it
+  pub kept_of : (by_key : LinkTable) → ((key : Name) → under by_key key ≡ sources key (map link_of listings)) → IsKeptOf rows field named by_key
+  kept_of by_key keys = record {
+    rising = read.rising;
+    by_name = read.by_name;
+    by_key = λ key. keys key ∙ ap (sources key) read.all;
   }
 
-  pub keys_whole : (put sorted read : List (Bor (List ℕ))) (again : List Listing) → again ≡ listings
-      → bytes_in put ≡ map (λ (listing : Listing). listing.key.items) again → read ≡ sorted
+  -- names in order that are those of the listings have all keys
+  pub keys_whole : (put sorted lent : List (Bor (List ℕ)))
+      → bytes_in put ≡ map (λ (listing : Listing). listing.key.items) listings → lent ≡ sorted
       → ((name : Name) → Contains (bytes_in sorted) name ↔ Contains (bytes_in put) name)
-      → (key group : Name) → IsListed rows field key group → Contains (bytes_in read) key
-  keys_whole put sorted read again same_again puts same_read moved key group listed =
+      → HasAllKeys rows field (bytes_in lent)
+  keys_whole put sorted lent puts same_lent moved key group listed =
       let from : (name : Name) → Contains (bytes_in sorted) name ↔ Contains (map (λ (listing : Listing). listing.key.items) listings) name =
-      subst (λ names. (name : Name) → Contains (bytes_in sorted) name ↔ Contains names name)
-      (puts ∙ ap (map (λ (listing : Listing). listing.key.items)) same_again) moved in
-      subst (λ names. Contains (bytes_in names) key) (sym same_read)
-      (listed_key rows field listings (bytes_in sorted) are from key group listed)
+      subst (λ names. (name : Name) → Contains (bytes_in sorted) name ↔ Contains names name) puts moved in
+      subst (λ names. Contains (bytes_in names) key) (sym same_lent)
+      (listed_key rows field listings (bytes_in sorted) read.all from key group listed)
 
 pub sorted_keys : (sorted read : List (Bor (List ℕ))) → read ≡ sorted → IsStrictlySortedBy key_cmp (bytes_in sorted)
     → IsStrictlySortedBy key_cmp (bytes_in read)

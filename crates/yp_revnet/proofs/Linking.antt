@@ -114,3 +114,14 @@ row_more of_row other old new rows i row there put before =
     ∙ ap (λ (l : List (List ℕ)). old ++ l) (sym (sources-append other (of_row row) rest)
     ∙ ap (λ (left : List Row). sources other (flat_map of_row left)) (sym (drop_at rows i row there)))
     ∙ before
+
+-- the piece of one more item
+pub piece_more : {X Y Z : Type 0} (f : X → Y) (piece : Y → List Z) (old new whole : List Z) (items : List X) (i : ℕ) (item : X)
+    → drop i items ≡ item ∷ drop (suc i) items → new ≡ old ++ piece (f item)
+    → old ++ flat_map piece (map f (drop i items)) ≡ whole
+    → new ++ flat_map piece (map f (drop (i + 1) items)) ≡ whole
+piece_more {X} {Y} {Z} f piece old new whole items i item there put before =
+    let rest = flat_map piece (map f (drop (i + 1) items)) in
+    let next : drop i items ≡ item ∷ drop (i + 1) items = there ∙ ap (λ n. item ∷ drop n items) (sym (add-one i)) in
+    ap (λ (l : List Z). l ++ rest) put ∙ append_assoc old (piece (f item)) rest
+    ∙ ap (λ (left : List X). old ++ flat_map piece (map f left)) (sym next) ∙ before

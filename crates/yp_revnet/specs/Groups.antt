@@ -3,8 +3,15 @@ use Rattle.std.specs.Prelude.{◌≡◌, ℕ, List, Contains, ◌↔◌}
 use Rattle.std.specs.List.Sorted.{IsStrictlySortedBy}
 use Rattle.yp_version.specs.Rows.{Row, IsRising, key_cmp}
 use Rattle.yp_revnet.specs.declared.field.Field.{Field}
-use Rattle.yp_revnet.specs.Links.{LinkTable, under, sources, naming, listing}
+use Rattle.yp_revnet.specs.Links.{Link, LinkTable, under, sources, naming, listing}
 use Rattle.yp_revnet.specs.Reverse.{IsListed}
+
+-- What is read of a map, whose rows rise: under each name the groups that name it, and a link for each triple that
+-- counts, from its key to the group that lists it.
+pub record IsReadOf (rows : List Row) (field : Field) (named : LinkTable) (listings : List Link) : Type 0 where
+  pub rising : IsRising rows
+  pub by_name : (name : List ℕ) → under named name ≡ sources name (naming rows)
+  pub all : listings ≡ listing field rows
 
 -- What is kept of a map, whose rows rise: under each name the groups that name it, and under each key those that list
 -- it.

@@ -47,8 +47,29 @@ fn meet_under<'a>(links: &Links<'a>, name: &[u8], seen: &mut Seen<'a>) -> Result
     }
 }
 
-// All groups from which one of those under a key is reached. Each is met once, and those that name it are met when its
-// turn comes.
+// Meets all groups from which one of those under a key is reached, where none is met yet. Each is met once, and those
+// that name it are met when its turn comes.
+fn meet_leading<'a>(
+    named: &Links<'a>,
+    listed: &Links<'a>,
+    key: &[u8],
+    seen: &mut Seen<'a>,
+) -> Result<(), NoMemory>
+    requires { bytes_in seen.old.keys ≡ [] }
+    ensures { OnOk result ((name : List ℕ) →
+        Contains (bytes_in seen.new.keys) name ↔ Leads (under named.now) (under listed.now key.now) name) }
+{
+    meet_under(listed, key, seen)?;
+    let mut next = 0;
+    while next < seen.len() {
+        let group = seen.as_slice()[next];
+        meet_under(named, group, seen)?;
+        next += 1;
+    }
+    Ok(())
+}
+
+// All groups from which one of those under a key is reached.
 pub(crate) fn leading<'a>(
     alloc: Global,
     rt: &impl RandomSource,
@@ -60,12 +81,6 @@ pub(crate) fn leading<'a>(
         Contains (bytes_in seen.keys) name ↔ Leads (under named.now) (under listed.now key.now) name) }
 {
     let mut seen = none_met(alloc, rt)?;
-    meet_under(listed, key, &mut seen)?;
-    let mut next = 0;
-    while next < seen.len() {
-        let group = seen.as_slice()[next];
-        meet_under(named, group, &mut seen)?;
-        next += 1;
-    }
+    meet_leading(named, listed, key, &mut seen)?;
     Ok(seen)
 }

@@ -1,15 +1,16 @@
 //! The groups of a key, and the value that they make.
 
-ghost use Rattle.std.specs.Prelude.{◌≡◌, ℕ, List, IfOk, filter};
+ghost use Rattle.std.specs.Prelude.{◌≡◌, ◌↔◌, ◌++◌, ℕ, List, [], ◌∷◌, Contains, IfOk, OnOk, filter};
 ghost use Rattle.std.specs.List.{join_with_byte};
-ghost use Rattle.yp_version.specs.Rows.{Row};
+ghost use Rattle.std.specs.List.Sorted.{IsStrictlySortedBy};
+ghost use Rattle.yp_version.specs.Rows.{Row, key_cmp};
 ghost use Rattle.yp_netgroup.specs.Parts.{is_name_byte};
 ghost use Rattle.yp_revnet.specs.declared.field.Field.{Field};
 ghost use Rattle.yp_revnet.specs.Links.{bytes_in};
 ghost use Rattle.yp_revnet.specs.Reverse.{is_name};
 ghost use Rattle.yp_revnet.specs.Groups.{IsKeptOf, IsGroups};
 
-use crate::back::{Seen, leading};
+use crate::back::leading;
 use crate::links::Links;
 use crate::rising::rising;
 use std::alloc::Global;
@@ -36,17 +37,28 @@ fn is_name(name: &[u8]) -> bool
     !name.is_empty()
 }
 
-// The names among groups.
-fn spelled<'a>(alloc: Global, groups: &Seen<'a>) -> Result<Vec<&'a [u8]>, NoMemory>
-    ensures { IfOk result (λ names. bytes_in names.items ≡ filter is_name (bytes_in groups.now.keys)) }
+// Puts the names among groups behind one another.
+fn put_names<'a>(groups: &[&'a [u8]], names: &mut Vec<&'a [u8]>) -> Result<(), NoMemory>
+    requires { names.old.items ≡ [] }
+    ensures { OnOk result (bytes_in names.new.items ≡ filter is_name (bytes_in groups.now)) }
 {
-    let mut names = Vec::new(alloc);
-    for group in groups.as_slice() {
-        if is_name(*group) {
-            names.push(*group).map_err(|_| NoMemory)?;
+    for group in groups {
+        if is_name(*group) && names.push(*group).is_err() {
+            return Err(NoMemory);
         }
     }
-    Ok(names)
+    Ok(())
+}
+
+// The names among groups, in rising order.
+fn names_of<'a>(alloc: Global, groups: &[&'a [u8]]) -> Result<Vec<&'a [u8]>, NoMemory>
+    ensures rising { IfOk result (λ names. IsStrictlySortedBy key_cmp (bytes_in names.items)) }
+    ensures same { IfOk result (λ names. (name : List ℕ) →
+        Contains (bytes_in names.items) name ↔ Contains (filter is_name (bytes_in groups.now)) name) }
+{
+    let mut names = Vec::new(alloc);
+    put_names(groups, &mut names)?;
+    Ok(rising(names))
 }
 
 // The groups of a key, in rising order.
@@ -62,20 +74,32 @@ pub(crate) fn groups_of<'a>(
 {
     rising_is_distinct();
     let seen = leading(alloc, rt, named, listed, key)?;
-    Ok(rising(spelled(alloc, &seen)?))
+    names_of(alloc, seen.as_slice())
 }
 
-// Names with commas between.
-pub(crate) fn commas(alloc: Global, names: &[&[u8]]) -> Result<Vec<u8>, NoMemory>
-    ensures { IfOk result (λ value. value.items ≡ join_with_byte 44 (bytes_in names.now)) }
+// Puts a comma and a name behind a value.
+fn put_comma(name: &[u8], value: &mut Vec<u8>) -> Result<(), NoMemory>
+    ensures { OnOk result (value.new.items ≡ value.old.items ++ 44 ∷ name.now) }
+{
+    if value.push(b',').is_err() || value.extend_from_slice(name).is_err() {
+        return Err(NoMemory);
+    }
+    Ok(())
+}
+
+// Puts names with commas between into a value that is empty.
+pub(crate) fn put_commas(names: &[&[u8]], value: &mut Vec<u8>) -> Result<(), NoMemory>
+    requires { value.old.items ≡ [] }
+    ensures { OnOk result (value.new.items ≡ join_with_byte 44 (bytes_in names.now)) }
 {
     let Some((first, rest)) = names.split_first() else {
-        return Ok(Vec::new(alloc));
+        return Ok(());
     };
-    let mut value = Vec::from_slice(alloc, first).map_err(|_| NoMemory)?;
+    let Ok(()) = value.extend_from_slice(*first) else {
+        return Err(NoMemory);
+    };
     for name in rest {
-        value.push(b',').map_err(|_| NoMemory)?;
-        value.extend_from_slice(*name).map_err(|_| NoMemory)?;
+        put_comma(*name, value)?;
     }
-    Ok(value)
+    Ok(())
 }

@@ -1,7 +1,8 @@
 //! The keys of a map's triples, and the groups that list them.
 
-ghost use Rattle.std.specs.Prelude.{◌≡◌, ◌++◌, ℕ, List, IfOk, OnOk, map, option_map};
+ghost use Rattle.std.specs.Prelude.{◌≡◌, ◌++◌, ℕ, List, [], IfOk, OnOk, map, option_map};
 ghost use Rattle.yp_netgroup.specs.Member.{part_of as member_of};
+ghost use Rattle.yp_netgroup.specs.Parts.{parts};
 ghost use Rattle.yp_version.specs.Rows.{IsRising};
 ghost use Rattle.yp_revnet.specs.Links.{bytes_in, key_in, listing, listing_members, sources, under};
 ghost use Rattle.yp_revnet.specs.Listings.{link_of};
@@ -60,6 +61,41 @@ impl Field {
         Ok(())
     }
 
+    // Puts the keys in a group's text behind others.
+    fn put_text<'a>(
+        self,
+        alloc: Global,
+        text: &'a [u8],
+        group: &'a [u8],
+        listings: &mut Vec<Listing<'a>>,
+    ) -> Result<(), NoMemory>
+        ensures { OnOk result (map link_of listings.new.items ≡ map link_of listings.old.items
+            ++ listing_members self (parts text.now) group.now) }
+    {
+        let members = members(alloc, text)?;
+        self.put_keys(alloc, &members, group, listings)
+    }
+
+    // Puts the keys of all triples of a map that count, where there are none yet.
+    fn put_texts<'a>(
+        self,
+        alloc: Global,
+        netgroup: &'a Version,
+        listings: &mut Vec<Listing<'a>>,
+    ) -> Result<(), NoMemory>
+        requires { listings.old.items ≡ [] }
+        ensures listings { OnOk result (map link_of listings.new.items ≡ listing self netgroup.now.rows) }
+        ensures rising { OnOk result (IsRising netgroup.now.rows) }
+    {
+        for i in 0..netgroup.len() {
+            let Some((group, text)) = netgroup.row(i) else {
+                unreachable!()
+            };
+            self.put_text(alloc, text, group, listings)?;
+        }
+        Ok(())
+    }
+
     // The keys of all triples of a map that count.
     pub(crate) fn listings<'a>(
         self,
@@ -70,14 +106,24 @@ impl Field {
         ensures rising { IfOk result (λ listings. IsRising netgroup.now.rows) }
     {
         let mut listings = Vec::new(alloc);
-        for i in 0..netgroup.len() {
-            let Some((group, text)) = netgroup.row(i) else {
-                unreachable!()
-            };
-            self.put_keys(alloc, &members(alloc, text)?, group, &mut listings)?;
-        }
+        self.put_texts(alloc, netgroup, &mut listings)?;
         Ok(listings)
     }
+}
+
+// Puts the group of each listing under its key, where nothing is under a key yet.
+fn put_listings<'a>(
+    alloc: Global,
+    links: &mut Links<'a>,
+    listings: &'a [Listing<'a>],
+) -> Result<(), NoMemory>
+    requires { (key : List ℕ) → under links.old key ≡ [] }
+    ensures { OnOk result ((key : List ℕ) → under links.new key ≡ sources key (map link_of listings.now)) }
+{
+    for listing in listings {
+        put(alloc, links, &listing.key, listing.group)?;
+    }
+    Ok(())
 }
 
 // Under each key the groups that list it.
@@ -89,9 +135,7 @@ pub(crate) fn listed<'a>(
     ensures { IfOk result (λ links. (key : List ℕ) → under links key ≡ sources key (map link_of listings.now)) }
 {
     let mut links = no_links(alloc, rt)?;
-    for listing in listings {
-        put(alloc, &mut links, &listing.key, listing.group)?;
-    }
+    put_listings(alloc, &mut links, listings)?;
     Ok(links)
 }
 

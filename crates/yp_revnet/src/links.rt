@@ -37,11 +37,17 @@ pub(crate) fn put<'a>(
     ensures { OnOk result ((other : List ℕ) →
         under links.new other ≡ under links.old other ++ source other (name.now, group.now)) }
 {
-    let before = links.insert(name, Vec::new(alloc)).map_err(|_| NoMemory)?;
+    let Ok(before) = links.insert(name, Vec::new(alloc)) else {
+        return Err(NoMemory);
+    };
     let mut groups = before.unwrap_or(Vec::new(alloc));
-    groups.push(group).map_err(|_| NoMemory)?;
-    links.insert(name, groups).map_err(|_| NoMemory)?;
-    Ok(())
+    let Ok(()) = groups.push(group) else {
+        return Err(NoMemory);
+    };
+    match links.insert(name, groups) {
+        Ok(_) => Ok(()),
+        Err(_) => Err(NoMemory),
+    }
 }
 
 // Puts a group under the names among its members.
@@ -62,6 +68,38 @@ fn put_names<'a>(
     Ok(())
 }
 
+// Puts a group under the names in its text.
+fn put_text<'a>(
+    alloc: Global,
+    links: &mut Links<'a>,
+    text: &'a [u8],
+    group: &'a [u8],
+) -> Result<(), NoMemory>
+    ensures { OnOk result ((name : List ℕ) →
+        under links.new name ≡ under links.old name ++ sources name (naming_text text.now group.now)) }
+{
+    let members = members(alloc, text)?;
+    put_names(alloc, links, &members, group)
+}
+
+// Puts each group of a map under the names in its text, where nothing is under a name yet.
+fn put_texts<'a>(
+    alloc: Global,
+    links: &mut Links<'a>,
+    netgroup: &'a Version,
+) -> Result<(), NoMemory>
+    requires { (name : List ℕ) → under links.old name ≡ [] }
+    ensures { OnOk result ((name : List ℕ) → under links.new name ≡ sources name (naming netgroup.now.rows)) }
+{
+    for i in 0..netgroup.len() {
+        let Some((group, text)) = netgroup.row(i) else {
+            unreachable!()
+        };
+        put_text(alloc, links, text, group)?;
+    }
+    Ok(())
+}
+
 // Under each name the groups whose texts have it.
 pub(crate) fn naming<'a>(
     alloc: Global,
@@ -71,11 +109,6 @@ pub(crate) fn naming<'a>(
     ensures { IfOk result (λ links. (name : List ℕ) → under links name ≡ sources name (naming netgroup.now.rows)) }
 {
     let mut links = no_links(alloc, rt)?;
-    for i in 0..netgroup.len() {
-        let Some((group, text)) = netgroup.row(i) else {
-            unreachable!()
-        };
-        put_names(alloc, &mut links, &members(alloc, text)?, group)?;
-    }
+    put_texts(alloc, &mut links, netgroup)?;
     Ok(links)
 }

@@ -7,7 +7,7 @@ ghost use Rattle.yp_version.specs.Rows.{value_of};
 ghost use Rattle.yp_netgroup.specs.Parts.{is_comma, parts, triples};
 ghost use Rattle.yp_netgroup.specs.Member.{part_of as member_of};
 ghost use Rattle.yp_revnet.specs.Keys.{folded, dotted};
-ghost use Rattle.yp_revnet.specs.Listed.{has_group, has_dot, is_mixed, is_listed, is_split};
+ghost use Rattle.yp_revnet.specs.Listed.{has_group, has_dot, keys_for, is_mixed, is_listed, is_split};
 
 use crate::field::{ANY, Field, dotted, is_dash, lowered};
 use std::alloc::Global;
@@ -42,6 +42,25 @@ fn stands(
     }
 }
 
+// Whether a group stands under a name and a domain, or under any in place of either.
+fn stands_for(
+    alloc: Global,
+    reverse: &Version,
+    group: &[u8],
+    name: &[u8],
+    domain: &[u8],
+) -> Result<bool, NoMemory>
+    ensures { IfOk result (λ stands. stands
+        ≡ list_any (λ key. has_group group.now (value_of key reverse.now.rows)) (keys_for name.now domain.now)) }
+{
+    Ok(
+        stands(alloc, reverse, group, name, domain)?
+            || stands(alloc, reverse, group, name, ANY)?
+            || stands(alloc, reverse, group, ANY, domain)?
+            || stands(alloc, reverse, group, ANY, ANY)?,
+    )
+}
+
 /// Whether a group is listed in a reverse map under a user, or a host, and a domain, or under any in place of either.
 /// Of domains and hosts, upper and lower case of ASCII letters are one. It takes the memory of these names and of one
 /// key.
@@ -59,12 +78,7 @@ pub fn listed_in(
 {
     let name = field.folded(alloc, name)?;
     let domain = lowered(alloc, domain)?;
-    Ok(
-        stands(alloc, reverse, group, &name, &domain)?
-            || stands(alloc, reverse, group, &name, ANY)?
-            || stands(alloc, reverse, group, ANY, &domain)?
-            || stands(alloc, reverse, group, ANY, ANY)?,
-    )
+    stands_for(alloc, reverse, group, &name, &domain)
 }
 
 // Whether a dot is in a name.

@@ -1,16 +1,21 @@
 //! A netgroup map, reversed.
 
-ghost use Rattle.std.specs.Prelude.{◌≡◌, ◌≤◌, [], None, length, IfOk, IfErr, OnOk};
+ghost use Rattle.std.specs.Prelude.{◌≡◌, ◌≤◌, ℕ, List, [], None, length, map, IfOk, IfErr, OnOk};
 ghost use Rattle.yp_version.specs.Limits.{master_max};
+ghost use Rattle.yp_version.specs.Rows.{Row};
 ghost use Rattle.yp_version.specs.Drafts.{first_refused, empty_draft};
 ghost use Rattle.yp_version.specs.Versions.{unmarked};
+ghost use Rattle.yp_revnet.specs.declared.field.Field.{Field};
+ghost use Rattle.yp_revnet.specs.Groups.{IsReadOf};
+ghost use Rattle.yp_revnet.specs.Links.{naming, sources, under};
+ghost use Rattle.yp_revnet.specs.Listings.{link_of};
 ghost use Rattle.yp_revnet.specs.Reverse.{IsReverse};
 ghost use Rattle.yp_revnet.specs.Refused.{IsCause, HasAllRows};
 
 use crate::fault::RevFault;
 use crate::field::Field;
-use crate::keys::{keys_of, listed};
-use crate::links::naming;
+use crate::keys::{Listing, keys_of, listed};
+use crate::links::{Links, naming};
 use crate::rising::rising;
 use crate::rows::put_rows;
 use std::alloc::Global;
@@ -57,8 +62,61 @@ fn put_all(
     ensures cause { IfErr result (λ fault. IsCause netgroup.now.rows field builder.old fault) }
 {
     let named = naming(alloc, rt, netgroup)?;
+    put_named(alloc, rt, netgroup, field, &named, builder)
+}
+
+// Puts the rows of all keys, where the groups that name others are known.
+fn put_named(
+    alloc: Global,
+    rt: &impl RandomSource,
+    netgroup: &Version,
+    field: Field,
+    named: &Links<'_>,
+    builder: &mut VersionBuilder,
+) -> Result<(), RevFault>
+    requires names { (name : List ℕ) → under named.now name ≡ sources name (naming netgroup.now.rows) }
+    requires none { builder.old.rows ≡ [] }
+    ensures all { OnOk result (HasAllRows netgroup.now.rows field builder.old builder.new) }
+    ensures cause { IfErr result (λ fault. IsCause netgroup.now.rows field builder.old fault) }
+{
     let listings = field.listings(alloc, netgroup)?;
-    let listed = listed(alloc, rt, &listings)?;
-    let keys = rising(keys_of(alloc, &listings)?);
-    put_rows(alloc, rt, &named, &listed, &keys, builder)
+    put_listings(alloc, rt, named, &listings, builder)
+}
+
+// Puts the rows of the keys of all listings.
+fn put_listings<'a>(
+    alloc: Global,
+    rt: &impl RandomSource,
+    named: &Links<'_>,
+    listings: &'a [Listing<'a>],
+    builder: &mut VersionBuilder,
+) -> Result<(), RevFault>
+    requires none { builder.old.rows ≡ [] }
+    ensures all { OnOk result ((rows : List Row) (field : Field)
+        → IsReadOf rows field named.now (map link_of listings.now) → HasAllRows rows field builder.old builder.new) }
+    ensures cause { IfErr result (λ fault. (rows : List Row) (field : Field)
+        → IsReadOf rows field named.now (map link_of listings.now) → IsCause rows field builder.old fault) }
+{
+    let listed = listed(alloc, rt, listings)?;
+    put_keys(alloc, rt, named, &listed, listings, builder)
+}
+
+// Puts the rows of the keys of all listings, where the groups under each key are known.
+fn put_keys(
+    alloc: Global,
+    rt: &impl RandomSource,
+    named: &Links<'_>,
+    listed: &Links<'_>,
+    listings: &[Listing<'_>],
+    builder: &mut VersionBuilder,
+) -> Result<(), RevFault>
+    requires keys { (key : List ℕ) → under listed.now key ≡ sources key (map link_of listings.now) }
+    requires none { builder.old.rows ≡ [] }
+    ensures all { OnOk result ((rows : List Row) (field : Field)
+        → IsReadOf rows field named.now (map link_of listings.now) → HasAllRows rows field builder.old builder.new) }
+    ensures cause { IfErr result (λ fault. (rows : List Row) (field : Field)
+        → IsReadOf rows field named.now (map link_of listings.now) → IsCause rows field builder.old fault) }
+{
+    let keys = rising(keys_of(alloc, listings)?);
+    put_rows(alloc, rt, named, listed, &keys, builder)
 }

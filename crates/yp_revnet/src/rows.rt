@@ -12,7 +12,7 @@ ghost use Rattle.yp_revnet.specs.Groups.{IsGroups, IsKeptOf};
 ghost use Rattle.yp_revnet.specs.Refused.{IsPut, IsRefusal, IsCause, IsSoFar, HasAllKeys};
 
 use crate::fault::{RevFault, fault_of};
-use crate::groups::{commas, groups_of};
+use crate::groups::{groups_of, put_commas};
 use crate::links::Links;
 use std::alloc::Global;
 use std::random::RandomSource;
@@ -47,7 +47,8 @@ fn put_groups(
     if groups.is_empty() {
         return Ok(());
     }
-    let value = commas(alloc, groups)?;
+    let mut value = Vec::new(alloc);
+    put_commas(groups, &mut value)?;
     push_row(key, &value, builder)
 }
 

@@ -6,21 +6,21 @@ use yp_client::Question;
 use yp_io::Peer;
 
 /// A row that the words give.
-#[derive(Debug, Drop)]
+#[derive(Drop)]
 pub struct KeyValue {
     pub key: Vec<u8>,
     pub value: Vec<u8>,
 }
 
 /// A host that the words name, and its address.
-#[derive(Debug, Drop)]
+#[derive(Drop)]
 pub struct HostWord {
     pub name: Vec<u8>,
     pub peer: Peer,
 }
 
 /// A map that is to be fetched and stored.
-#[derive(Debug, Drop)]
+#[derive(Drop)]
 pub struct XfrJob {
     /// The name of the host that stores the map.
     pub name: Vec<u8>,
@@ -35,7 +35,7 @@ pub struct XfrJob {
 }
 
 /// A map that is to be fetched in datagrams and stored.
-#[derive(Debug, Drop)]
+#[derive(Drop)]
 pub struct WalkJob {
     /// What is fetched of which host, and how it is stored.
     pub xfr: XfrJob,
@@ -46,7 +46,7 @@ pub struct WalkJob {
 }
 
 /// Maps that are served to many callers.
-#[derive(Debug, Drop)]
+#[derive(Drop)]
 pub struct ServeJob {
     /// The name of the host that answers.
     pub name: Vec<u8>,
@@ -65,7 +65,7 @@ pub struct ServeJob {
 }
 
 /// A map that slaves are to fetch.
-#[derive(Debug, Drop)]
+#[derive(Drop)]
 pub struct PushJob {
     /// The own name, which is no slave's, and from which the slaves fetch.
     pub name: Vec<u8>,
@@ -82,7 +82,7 @@ pub struct PushJob {
 }
 
 /// What the words of the command line ask for.
-#[derive(Debug, Drop)]
+#[derive(Drop)]
 pub enum Command {
     /// Answers the calls of the input on one map of these rows.
     Once {

@@ -59,7 +59,7 @@ struct Sentence {
 }
 
 /// All sentences.
-const SENTENCES: [Sentence; 23] = [
+static SENTENCES: [Sentence; 23] = [
     Sentence {
         task: Task::Once,
         forms: &[Form::Exactly("once"), Form::Store],

@@ -57,11 +57,11 @@ refused_by (Err fault) key value names before some is h = λ rows field are. h r
 pub returns-clause-ok : goal.returns-clause-ok
 returns-clause-ok c =
     let some : 0 < length c.args.groups.now = grind arith in
-    let value : c.deref.result.now ≡ join_with_byte 44 (bytes_in c.args.groups.now) = c.deref.ensures.value ∙ c.in_ok-value.ensures in
+    let value : c.deref.result.now ≡ join_with_byte 44 (bytes_in c.args.groups.now) = c.deref.ensures.value ∙ c.in_ok-put_commas.ensures in
     pushed c.push_row.result c.args.key.now c.deref.result.now c.args.groups.now c.args.builder.now c.push_row.new.builder some value c.push_row.ensures.ok
 
 pub returns-clause-err : goal.returns-clause-err
 returns-clause-err c =
     let some : 0 < length c.args.groups.now = grind arith in
-    let value : c.deref.result.now ≡ join_with_byte 44 (bytes_in c.args.groups.now) = c.deref.ensures.value ∙ c.in_ok-value.ensures in
+    let value : c.deref.result.now ≡ join_with_byte 44 (bytes_in c.args.groups.now) = c.deref.ensures.value ∙ c.in_ok-put_commas.ensures in
     refused_by c.push_row.result c.args.key.now c.deref.result.now c.args.groups.now c.args.builder.now some value c.push_row.ensures.err

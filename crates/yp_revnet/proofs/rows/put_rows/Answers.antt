@@ -1,4 +1,4 @@
-use Rattle.std.proofs.Common.{◌≡◌, ◌<◌, ◌≤◌, [], List, ℕ, length, get_or, take, refl, sym, subst, arith, inl, inr}
+use Rattle.std.proofs.Common.{◌<◌, ◌≤◌, [], List, ℕ, length, get_or, take, refl, sym, subst, arith, inl, inr}
 use Rattle.std.proofs.lemmas.List.{length-map}
 use Rattle.yp_revnet.specs.Links.{bytes_in}
 use Rattle.yp_revnet.specs.Refused.{IsCause, IsPut, IsRefusal, IsSoFar}

@@ -4,18 +4,18 @@ use Rattle.indexmap.specs.IndexSet.{insert_all}
 use Rattle.yp_revnet.specs.Links.{bytes_in, under}
 use Rattle.yp_revnet.specs.Back.{IsMet}
 use Rattle.yp_revnet.proofs.Meeting.{bytes, name-at, met-first, met-next, met-whole}
-use Rattle.yp_revnet.proofs.back.leading.Goals as goal
+use Rattle.yp_revnet.proofs.back.meet_leading.Goals as goal
 
 pub loop-next-init : goal.loop-next-init
-loop-next-init g c =
+loop-next-init c =
     let led = under c.args.named.now in
     let starts = under c.args.listed.now c.args.key.now in
     let met : bytes_in c.meet_under.new.seen.keys ≡ insert_all bytes_eq [] starts =
-    c.in_ok-meet_under.ensures ∙ ap (λ before. insert_all bytes_eq before starts) c.in_ok-seen.ensures in
+    c.in_ok-meet_under.ensures ∙ ap (λ before. insert_all bytes_eq before starts) c.requires in
     subst (λ names. IsMet led starts names 0) (sym met) (met-first led starts)
 
 pub loop-next-preserved : goal.loop-next-preserved
-loop-next-preserved g c =
+loop-next-preserved c =
     let led = under c.args.named.now in
     let starts = under c.args.listed.now c.args.key.now in
     let met = bytes_in c.loop-next.seen.keys in
@@ -29,7 +29,7 @@ loop-next-preserved g c =
     (met-next led starts met c.loop-next.next name c.loop-next.invariant there refl)
 
 pub returns : goal.returns
-returns g c = λ name.
+returns c = λ name.
     let over : length (bytes_in c.loop-next.seen.keys) ≤ c.loop-next.next =
     omega (arith, c.len.ensures.len, c.loop-next-test.false, length-map c.loop-next.seen.keys bytes) in (
       c.loop-next.invariant.reached name,

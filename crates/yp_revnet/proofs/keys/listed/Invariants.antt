@@ -1,8 +1,0 @@
-use Rattle.std.proofs.Common.{◌≡◌, ◌++◌, ℕ, List, map, drop}
-use Rattle.yp_revnet.specs.Links.{sources, under}
-use Rattle.yp_revnet.specs.Listings.{link_of}
-use Rattle.yp_revnet.proofs.keys.listed.Given as goal
-
-abbrev pub invariant-loop-listing : goal.invariant-loop-listing
-invariant-loop-listing g l = (other : List ℕ)
-    → under l.links other ++ sources other (map link_of (drop l.listing-index l.listings)) ≡ sources other (map link_of l.listings)
