@@ -1,10 +1,10 @@
 //! A version of rows that are made of numbers, for tests and measurements.
 
-ghost use Rattle.std.specs.Prelude.{◌≡◌, ◌+◌, ◌<◌, ◌≤◌, ◌⊎◌, ◌↔◌, length, Err, IfOk, IfErr, OnOk};
+ghost use Rattle.std.specs.Prelude.{◌≡◌, ◌+◌, ◌<◌, ◌≤◌, ◌⊎◌, ◌↔◌, length, codes, Err, IfOk, IfErr, OnOk};
 ghost use Rattle.std.specs.Char.Escape.{hex_digit_at};
 ghost use Rattle.yp_version.specs.Limits.{rows_max};
-ghost use Rattle.yp_version.specs.Drafts.{with_row, draft_len};
-ghost use Rattle.yp_build.specs.Samples.{samples_len, number_after, sample_key, sample_value, sampled};
+ghost use Rattle.yp_version.specs.Drafts.{with_row, with_rows, empty_draft, draft_len};
+ghost use Rattle.yp_build.specs.Samples.{samples, samples_len, number_after, sample_key, sample_value, sampled};
 
 use crate::fault::BuildFault;
 use crate::push::push_row;
@@ -78,6 +78,27 @@ fn push_sample(
     push_row(i + 1, &sample_key(x), value.as_slice(), into)
 }
 
+/// Pushes `n` rows after the number `start` into a builder that has none.
+fn push_samples(
+    alloc: Global,
+    start: u32,
+    n: u32,
+    into: &mut VersionBuilder,
+) -> Result<(), BuildFault>
+    requires few { n ≤ rows_max }
+    requires none { into.old ≡ empty_draft 1 (codes "sample") }
+    ensures rows { OnOk result (into.new ≡ with_rows into.old (samples 0 start n)) }
+    ensures cause { IfErr result (λ fault. fault ≡ BuildFault.NoMemory) }
+{
+    let mut value = Vec::new(alloc);
+    let mut x = start;
+    for i in 0..n {
+        x = number_after(x);
+        push_sample(i, x, &mut value, into)?;
+    }
+    Ok(())
+}
+
 /// A version of `n` rows after the number `start`, with order 1 and master `sample`, with a table of its keys.
 ///
 /// Row `i`, from 0, has the key `k` with the next number in eight hexadecimal digits, and the value `v` with `i` in
@@ -99,11 +120,6 @@ pub fn sample(
         });
     }
     let mut builder = VersionBuilder::new(alloc, rt, 1, b"sample")?;
-    let mut value = Vec::new(alloc);
-    let mut x = start;
-    for i in 0..n {
-        x = number_after(x);
-        push_sample(i, x, &mut value, &mut builder)?;
-    }
+    push_samples(alloc, start, n, &mut builder)?;
     Ok(builder.finish()?.indexed(alloc))
 }
