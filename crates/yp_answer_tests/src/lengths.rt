@@ -5,35 +5,23 @@ use crate::sample::*;
 use std::alloc::Global;
 use std::process::Abort;
 use std::random::RandomSource;
-use yp_board::PlainBoard;
 
 // What calls of MATCH have in the place of `alpha`: a length, the bytes behind it, and the reply.
-static LONG_KEYS: [(&str, usize, &[&str]); 3] = [
+const LONG_KEYS: &[(&str, usize, &[&str])] = &[
     ("00000401", 1_028, &[SUCCESS, YP_NOKEY, EMPTY]),
     ("00010000", 65_536, &[SUCCESS, YP_NOKEY, EMPTY]),
     ("00010001", 65_540, &[GARBAGE_ARGS]),
 ];
 
-fn check_long_key(
-    rt: &impl Abort,
-    alloc: Global,
-    board: &mut PlainBoard,
-    length: &str,
-    count: usize,
-    texts: &[&str],
-) {
-    let mut call = call(rt, alloc, MATCH, &[LAB, HOSTS, length]);
-    extend_with(rt, alloc, &mut call, 0, count);
-    let came = record_reply(rt, alloc, board, OPEN_PORT, &call);
-    assert_same(rt, &came, &reply(rt, alloc, texts), length);
-}
-
 #[test]
 fn long_keys(rt: HostRuntime) {
     let alloc = rt.alloc();
     let mut board = board_of(&rt, alloc, version(&rt, alloc, &[HOST]));
-    for (length, count, texts) in &LONG_KEYS {
-        check_long_key(&rt, alloc, &mut board, length, *count, *texts);
+    for &(length, count, texts) in LONG_KEYS {
+        let mut call = call(&rt, alloc, MATCH, &[LAB, HOSTS, length]);
+        extend_with(&rt, alloc, &mut call, 0, count);
+        let came = record_reply(&rt, alloc, &mut board, OPEN_PORT, &call);
+        assert_same(&rt, &came, &reply(&rt, alloc, texts), length);
     }
 }
 
@@ -57,37 +45,25 @@ fn replies_on_value<R: RandomSource + Abort>(
 }
 
 // A value: its length, as a word and as a number, its padding, the length of the reply, and whether a datagram has it.
-static VALUES: [(&str, usize, &str, usize, bool); 3] = [
+const VALUES: &[(&str, usize, &str, usize, bool)] = &[
     ("00001fe0", 8_160, "", 8_192, true),
     ("00001fe1", 8_161, "000000", 8_196, false),
     ("00010000", 65_536, "", 65_568, false),
 ];
 
-fn check_value<R: RandomSource + Abort>(
-    rt: &R,
-    alloc: Global,
-    row: &(&str, usize, &str, usize, bool),
-) {
-    let (length, count, padding, len, fits) = *row;
-    let call = call(rt, alloc, MATCH, &[LAB, HOSTS, ALPHA]);
-    let value = filled(rt, alloc, b'x', count);
-    let whole = value_reply(rt, alloc, length, count, padding);
-    let [by_record, by_datagram] = replies_on_value(rt, alloc, &value, &call);
-    assert_same(rt, &whole.len(), &len, length);
-    // The replies are long, and so only whether they are as wanted is told.
-    assert_same(rt, &(by_record == whole), &true, length);
-    if fits {
-        assert_same(rt, &(by_datagram == whole), &true, length);
-    } else {
-        let refused = reply(rt, alloc, &[SUCCESS, YP_YPERR, EMPTY]);
-        assert_same(rt, &(by_datagram == refused), &true, length);
-    }
-}
-
 #[test]
 fn values_too_long_for_a_datagram(rt: HostRuntime) {
-    for row in &VALUES {
-        check_value(&rt, rt.alloc(), row);
+    let alloc = rt.alloc();
+    let call = call(&rt, alloc, MATCH, &[LAB, HOSTS, ALPHA]);
+    let refused = reply(&rt, alloc, &[SUCCESS, YP_YPERR, EMPTY]);
+    for &(length, count, padding, len, fits) in VALUES {
+        let value = filled(&rt, alloc, b'x', count);
+        let whole = value_reply(&rt, alloc, length, count, padding);
+        let [by_record, by_datagram] = replies_on_value(&rt, alloc, &value, &call);
+        let wanted = if fits { &whole } else { &refused };
+        // The length of the reply, and whether it came by record and by datagram.
+        let came = (whole.len(), by_record == whole, &by_datagram == wanted);
+        assert_same(&rt, &came, &(len, true, true), length);
     }
 }
 

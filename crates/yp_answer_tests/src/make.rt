@@ -114,7 +114,7 @@ fn make_of(rt: &impl Abort, alloc: Global, arguments: &[&str]) -> Vec<u8> {
 }
 
 // Who calls, what is asked for, and the status of the reply.
-static REFUSED_MAKES: [(&str, [u8; 4], &[&str], &str); 13] = [
+const REFUSED_MAKES: &[(&str, [u8; 4], &[&str], &str)] = &[
     ("another host", OTHER_HOST, &[LAB, HOSTS_KIND], REFUSED),
     (
         "another host of the own net",
@@ -179,14 +179,14 @@ static REFUSED_MAKES: [(&str, [u8; 4], &[&str], &str); 13] = [
 fn refused_makes(rt: HostRuntime) {
     let alloc = rt.alloc();
     let mut board = two_domains(&rt, alloc);
-    for &(row, addr, arguments, stat) in &REFUSED_MAKES {
+    for &(row, addr, arguments, stat) in REFUSED_MAKES {
         let call = make_of(&rt, alloc, arguments);
         assert_replies(&rt, alloc, &mut board, addr, row, &call, &[MADE, stat]);
     }
 }
 
 // Whole calls of the make program, and the replies to them.
-static OTHER_CALLS: [(&str, &str, &str); 7] = [
+const OTHER_CALLS: &[(&str, &str, &str)] = &[
     (
         "NULL, whose arguments aren't read",
         "00000002 00000000 00000002 20004e49 00000001 00000000 00000000 00000000 00000000 00000000",
@@ -224,25 +224,15 @@ static OTHER_CALLS: [(&str, &str, &str); 7] = [
     ),
 ];
 
-fn check_other_call(
-    rt: &impl Abort,
-    alloc: Global,
-    board: &mut PlainBoard,
-    row: &str,
-    call: &str,
-    reply: &str,
-) {
-    let call = bytes(rt, alloc, &[call]);
-    assert_replies(rt, alloc, board, OWN_HOST, row, &call, &[reply]);
-    assert_replies(rt, alloc, board, OTHER_HOST, row, &call, &[reply]);
-}
-
 #[test]
 fn other_calls_of_the_make_program(rt: HostRuntime) {
     let alloc = rt.alloc();
     let mut board = two_domains(&rt, alloc);
-    for (row, call, reply) in &OTHER_CALLS {
-        check_other_call(&rt, alloc, &mut board, row, call, reply);
+    for &(row, call, reply) in OTHER_CALLS {
+        let call = bytes(&rt, alloc, &[call]);
+        for addr in [OWN_HOST, OTHER_HOST] {
+            assert_replies(&rt, alloc, &mut board, addr, row, &call, &[reply]);
+        }
     }
 }
 
@@ -276,7 +266,7 @@ fn open_make(
 }
 
 // The arguments of calls that are left open, as words, and the number of the map that each asks for.
-static OPEN: [(&str, &[&str], u32); 3] = [
+const OPEN: &[(&str, &[&str], u32)] = &[
     ("in lab", &[LAB, HOSTS_KIND], 0),
     (
         "with bytes behind the arguments, which aren't read",
@@ -286,34 +276,22 @@ static OPEN: [(&str, &[&str], u32); 3] = [
     ("in zoo", &[ZOO, HOSTS_KIND], 1),
 ];
 
-fn check_open(
-    rt: &impl Abort,
-    alloc: Global,
-    board: &mut PlainBoard,
-    row: &str,
-    arguments: &[&str],
-    map: u32,
-) {
-    let call = make_of(rt, alloc, arguments);
-    let kind = Kind::HostsByname;
-    let wanted = (2, Job { map, kind });
-    let by_record = open_make(rt, alloc, Path::Stream, board, &call);
-    assert_same(rt, &by_record, &wanted, row);
-    let by_datagram = open_make(rt, alloc, Path::Datagram, board, &call);
-    assert_same(rt, &by_datagram, &wanted, row);
-}
-
 #[test]
 fn open_makes(rt: HostRuntime) {
     let alloc = rt.alloc();
     let mut board = two_domains(&rt, alloc);
-    for (row, arguments, map) in &OPEN {
-        check_open(&rt, alloc, &mut board, row, *arguments, *map);
+    for &(row, arguments, map) in OPEN {
+        let call = make_of(&rt, alloc, arguments);
+        let kind = Kind::HostsByname;
+        let wanted = [(2, Job { map, kind }), (2, Job { map, kind })];
+        let by_record = open_make(&rt, alloc, Path::Stream, &mut board, &call);
+        let by_datagram = open_make(&rt, alloc, Path::Datagram, &mut board, &call);
+        assert_same(&rt, &[by_record, by_datagram], &wanted, row);
     }
 }
 
 // The statuses of a MAKE that was tried.
-static STATUSES: [(&str, XfrStat, &str); 6] = [
+const STATUSES: &[(&str, XfrStat, &str)] = &[
     ("SUCC", XfrStat::Succ, "00000001"),
     ("AGE", XfrStat::Age, "00000002"),
     ("RSRC", XfrStat::Rsrc, "fffffffd"),
@@ -332,7 +310,7 @@ fn made(rt: &impl Abort, alloc: Global, stat: XfrStat) -> Vec<u8> {
 #[test]
 fn replies_to_makes(rt: HostRuntime) {
     let alloc = rt.alloc();
-    for &(row, stat, word) in &STATUSES {
+    for &(row, stat, word) in STATUSES {
         let wanted = bytes(&rt, alloc, &[MADE, word]);
         assert_same(&rt, &made(&rt, alloc, stat), &wanted, row);
     }

@@ -47,7 +47,7 @@ struct Case {
     words: &'static [&'static str],
 }
 
-static ON_BOTH_PATHS: [Case; 41] = [
+const ON_BOTH_PATHS: &[Case] = &[
     Case {
         row: "NULL",
         procedure: NULL,
@@ -315,13 +315,13 @@ fn assert_case(
 fn answers(rt: HostRuntime) {
     let alloc = rt.alloc();
     let mut board = two_domains(&rt, alloc);
-    for case in &ON_BOTH_PATHS {
+    for case in ON_BOTH_PATHS {
         assert_case(&rt, alloc, &mut board, case, case.words);
     }
 }
 
 // Calls of ALL, which a datagram can't have.
-static ALL_OF: [Case; 6] = [
+const ALL_OF: &[Case] = &[
     Case {
         row: "one row",
         procedure: ALL,
@@ -375,7 +375,7 @@ static ALL_OF: [Case; 6] = [
 fn answers_all(rt: HostRuntime) {
     let alloc = rt.alloc();
     let mut board = two_domains(&rt, alloc);
-    for case in &ALL_OF {
+    for case in ALL_OF {
         assert_case(&rt, alloc, &mut board, case, &[PROC_UNAVAIL]);
     }
 }

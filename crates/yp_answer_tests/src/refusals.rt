@@ -9,7 +9,7 @@ use yp_board::PlainBoard;
 // A record, and the whole reply to it.
 type Row = (&'static str, &'static str, &'static str);
 
-static REFUSED: [Row; 13] = [
+const REFUSED: &[Row] = &[
     ("under 12 bytes", "00000002 00000000", ""),
     ("a reply", "00000002 00000001 00000003", ""),
     (
@@ -70,7 +70,7 @@ static REFUSED: [Row; 13] = [
 ];
 
 // MATCH of `alpha` in hosts.byname of `lab`, with a wrong byte or two.
-static HOSTILE: [Row; 3] = [
+const HOSTILE: &[Row] = &[
     (
         "a domain of 4,294,967,295 bytes",
         "00000001 00000000 00000002 000186a4 00000002 00000003 00000000 00000000 00000000 00000000 \
@@ -110,10 +110,10 @@ fn assert_refused(
 fn refusal_heads(rt: HostRuntime) {
     let alloc = rt.alloc();
     let mut board = board_of(&rt, alloc, version(&rt, alloc, &[HOST]));
-    for &(row, record, reply) in &REFUSED {
+    for &(row, record, reply) in REFUSED {
         assert_refused(&rt, alloc, &mut board, row, record, reply);
     }
-    for &(row, record, reply) in &HOSTILE {
+    for &(row, record, reply) in HOSTILE {
         assert_refused(&rt, alloc, &mut board, row, record, reply);
     }
 }

@@ -16,7 +16,7 @@ struct Case {
     reserved: &'static [&'static str],
 }
 
-static SECURE: [Case; 7] = [
+const SECURE: &[Case] = &[
     Case {
         row: "MATCH",
         procedure: MATCH,
@@ -87,7 +87,7 @@ fn assert_shown(
 fn secure_rows(rt: HostRuntime) {
     let alloc = rt.alloc();
     let mut board = board_of(&rt, alloc, version(&rt, alloc, &[HOST]).marked(true));
-    for case in &SECURE {
+    for case in SECURE {
         assert_shown(&rt, alloc, &mut board, case, 1_024, case.open);
         assert_shown(&rt, alloc, &mut board, case, 65_535, case.open);
         assert_shown(&rt, alloc, &mut board, case, 1_023, case.reserved);

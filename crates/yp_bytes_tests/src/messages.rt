@@ -28,10 +28,10 @@ fn assert_written<R: Abort, M: Message>(
 {
     let bytes = bytes(rt, alloc, parts);
     let mut buf = [9; 96];
-    assert_same(rt, &message.len(), &bytes.len(), row);
+    let len = message.len();
     let end = message.write(&mut buf, 0);
-    assert_same(rt, &end, &Ok(bytes.len()), row);
-    assert_same(rt, &buf.starts_with(&bytes), &true, row);
+    let came = (len, end, buf.starts_with(&bytes));
+    assert_same(rt, &came, &(bytes.len(), Ok(bytes.len()), true), row);
 }
 
 #[test]
@@ -153,7 +153,7 @@ fn read_bound(bytes: &[u8]) -> Bound<'_> {
 }
 
 // Answers of the binder: their words, and what is read of them.
-static BOUND: [(&str, Bound<'static>); 7] = [
+const BOUND: [(&str, Bound<'static>); 7] = [
     (
         "00000001 0a000002 03420000",
         Ok((Some((b"\x0a\x00\x00\x02", b"\x03\x42")), 0)),
@@ -166,20 +166,16 @@ static BOUND: [(&str, Bound<'static>); 7] = [
     ("00000002 0000", Err(XdrFault::Short { at: 4 })),
 ];
 
-fn check_bound(rt: &impl Abort, alloc: Global, words: &str, wanted: &Bound<'_>) {
-    let bytes = bytes(rt, alloc, &[words]);
-    assert_same(rt, &read_bound(&bytes), wanted, words);
-}
-
 #[test]
 fn bindings_read(rt: HostRuntime) {
     for (words, wanted) in &BOUND {
-        check_bound(&rt, rt.alloc(), words, wanted);
+        let bytes = bytes(&rt, rt.alloc(), &[words]);
+        assert_same(&rt, &read_bound(&bytes), wanted, words);
     }
 }
 
 // What the caller of a transfer is told: the words, and what is read of them.
-static TOLD: [(&str, Result<PushResp, XdrFault>); 3] = [
+const TOLD: [(&str, Result<PushResp, XdrFault>); 3] = [
     (
         "000001f4 00000001",
         Ok(PushResp {
@@ -197,50 +193,28 @@ static TOLD: [(&str, Result<PushResp, XdrFault>); 3] = [
     ("000001f4 00000007", Err(XdrFault::BadEnum { at: 4 })),
 ];
 
-fn check_told(rt: &impl Abort, alloc: Global, words: &str, wanted: &Result<PushResp, XdrFault>) {
-    let bytes = bytes(rt, alloc, &[words]);
-    let read = PushResp::read(&mut Cursor::new(&bytes));
-    assert_same(rt, &read, wanted, words);
-}
-
 #[test]
 fn pushes_read(rt: HostRuntime) {
     for (words, wanted) in &TOLD {
-        check_told(&rt, rt.alloc(), words, wanted);
+        let bytes = bytes(&rt, rt.alloc(), &[words]);
+        let read = PushResp::read(&mut Cursor::new(&bytes));
+        assert_same(&rt, &read, wanted, words);
     }
-}
-
-fn check_set_dom(rt: &impl Abort, bytes: &[u8]) {
-    let asked = SetDom::read(&mut Cursor::new(bytes)).expect(rt, "a server for a domain");
-    assert_same(rt, &asked.domain, &b"lab".as_slice(), "the domain");
-    let addr = b"\x0a\x00\x00\x02".as_slice();
-    assert_same(rt, &asked.addr, &addr, "the address");
-    assert_same(rt, &asked.port, &b"\x03\x42".as_slice(), "the port");
-    assert_same(rt, &asked.vers, &2, "the version");
 }
 
 #[test]
 fn domain_to_set(rt: HostRuntime) {
     let words = "00000003 6c616200 0a000002 03420000 00000002";
     let bytes = bytes(&rt, rt.alloc(), &[words]);
-    check_set_dom(&rt, &bytes);
-}
-
-// A row, whose value stands before its key, and the end of all.
-fn check_items(rt: &impl Abort, bytes: &[u8]) {
-    let mut cursor = Cursor::new(bytes);
-    match AllItem::read(&mut cursor) {
-        Ok(AllItem::More(row)) => {
-            assert_same(rt, &row.stat, &YpStat::True, "the status");
-            let val = b"10.0.0.1 alpha".as_slice();
-            assert_same(rt, &row.val, &val, "the value");
-            assert_same(rt, &row.key, &b"alpha".as_slice(), "the key");
-        }
-        _ => assert!(rt; false, "no row"),
-    }
-    let is_end = matches!(AllItem::read(&mut cursor), Ok(AllItem::End));
-    assert_same(rt, &is_end, &true, "the end");
-    assert_same(rt, &cursor.at(), &44, "the place");
+    let asked = SetDom::read(&mut Cursor::new(&bytes));
+    let came = asked.map(|asked| (asked.domain, asked.addr, asked.port, asked.vers));
+    let wanted = (
+        b"lab".as_slice(),
+        b"\x0a\x00\x00\x02".as_slice(),
+        b"\x03\x42".as_slice(),
+        2,
+    );
+    assert_same(&rt, &came, &Ok(wanted), "a server for a domain");
 }
 
 #[test]
@@ -248,59 +222,67 @@ fn value_before_key(rt: HostRuntime) {
     let items =
         "00000001 00000001 0000000e 31302e30 2e302e31 20616c70 68610000 00000005 616c7068 61000000 00000000";
     let bytes = bytes(&rt, rt.alloc(), &[items]);
-    check_items(&rt, &bytes);
-}
-
-static STATUSES: [(YpStat, &str); 11] = [
-    (YpStat::True, "00000001"),
-    (YpStat::Nomore, "00000002"),
-    (YpStat::False, "00000000"),
-    (YpStat::Nomap, "ffffffff"),
-    (YpStat::Nodom, "fffffffe"),
-    (YpStat::Nokey, "fffffffd"),
-    (YpStat::Badop, "fffffffc"),
-    (YpStat::Baddb, "fffffffb"),
-    (YpStat::Yperr, "fffffffa"),
-    (YpStat::Badargs, "fffffff9"),
-    (YpStat::Vers, "fffffff8"),
-];
-
-fn check_status(rt: &impl Abort, alloc: Global, text: &str, wanted: Result<YpStat, XdrFault>) {
-    let bytes = bytes(rt, alloc, &[text]);
-    let read = YpStat::read(&mut Cursor::new(&bytes));
-    assert_same(rt, &read, &wanted, text);
+    let mut cursor = Cursor::new(&bytes);
+    let row = match AllItem::read(&mut cursor) {
+        Ok(AllItem::More(row)) => Some((row.stat, row.val, row.key)),
+        _ => None,
+    };
+    let is_end = matches!(AllItem::read(&mut cursor), Ok(AllItem::End));
+    let wanted = (
+        YpStat::True,
+        b"10.0.0.1 alpha".as_slice(),
+        b"alpha".as_slice(),
+    );
+    let came = (row, is_end, cursor.at());
+    assert_same(&rt, &came, &(Some(wanted), true, 44), "a row and the end");
 }
 
 #[test]
 fn statuses(rt: HostRuntime) {
-    let alloc = rt.alloc();
-    for (stat, text) in &STATUSES {
-        check_status(&rt, alloc, text, Ok(*stat));
+    for (stat, text) in [
+        (YpStat::True, "00000001"),
+        (YpStat::Nomore, "00000002"),
+        (YpStat::False, "00000000"),
+        (YpStat::Nomap, "ffffffff"),
+        (YpStat::Nodom, "fffffffe"),
+        (YpStat::Nokey, "fffffffd"),
+        (YpStat::Badop, "fffffffc"),
+        (YpStat::Baddb, "fffffffb"),
+        (YpStat::Yperr, "fffffffa"),
+        (YpStat::Badargs, "fffffff9"),
+        (YpStat::Vers, "fffffff8"),
+    ] {
+        let bytes = bytes(&rt, rt.alloc(), &[text]);
+        let read = YpStat::read(&mut Cursor::new(&bytes));
+        assert_same(&rt, &read, &Ok(stat), text);
     }
-    let fault = XdrFault::BadEnum { at: 0 };
-    check_status(&rt, alloc, "00000003", Err(fault));
-    check_status(&rt, alloc, "fffffff7", Err(fault));
+    for text in ["00000003", "fffffff7"] {
+        let bytes = bytes(&rt, rt.alloc(), &[text]);
+        let read = YpStat::read(&mut Cursor::new(&bytes));
+        assert_same(&rt, &read, &Err(XdrFault::BadEnum { at: 0 }), text);
+    }
 }
 
-fn check_two_names(rt: &impl Abort, alloc: Global, bytes: &[u8]) {
-    let mut cursor = Cursor::new(bytes);
-    let list = MapList::read(alloc, &mut cursor).expect(rt, "a list");
-    assert_same(rt, &list.stat, &YpStat::True, "the status");
-    assert_same(rt, &list.maps.len(), &2, "the count of names");
-    let first = Some(b"m1".as_slice());
-    assert_same(rt, &list.maps.get(0), &first, "the first name");
-    let second = Some(b"hosts.byname".as_slice());
-    assert_same(rt, &list.maps.get(1), &second, "the second name");
-    assert_same(rt, &list.maps.get(2), &None, "no third name");
-    assert_same(rt, &cursor.at(), &40, "the place behind the list");
+// The status of a list, how many names it has, and the first three.
+type Listed = (YpStat, usize, [Option<Vec<u8>>; 3]);
+
+// The name with this number.
+fn name(alloc: Global, list: &MapList, i: usize) -> Option<Vec<u8>> {
+    list.maps.get(i).and_then(|name| name.to_vec(alloc).ok())
 }
 
-fn check_short_list(rt: &impl Abort, alloc: Global, bytes: &[u8]) {
+// A list of maps, and how far the cursor is then.
+fn read_list(alloc: Global, bytes: &[u8]) -> (Result<Listed, MapListFault>, usize) {
     let mut cursor = Cursor::new(bytes);
-    let fault = MapList::read(alloc, &mut cursor).err();
-    let wanted = MapListFault::Xdr(XdrFault::Short { at: 16 });
-    assert_same(rt, &fault, &Some(wanted), "a list that isn't ended");
-    assert_same(rt, &cursor.at(), &0, "the place of the refusal");
+    let listed = MapList::read(alloc, &mut cursor).map(|list| {
+        let names = [
+            name(alloc, &list, 0),
+            name(alloc, &list, 1),
+            name(alloc, &list, 2),
+        ];
+        (list.stat, list.maps.len(), names)
+    });
+    (listed, cursor.at())
 }
 
 #[test]
@@ -309,38 +291,39 @@ fn names_of_maps(rt: HostRuntime) {
     let items =
         "00000001 00000001 00000002 6d310000 00000001 0000000c 686f7374 732e6279 6e616d65 00000000";
     let whole = bytes(&rt, alloc, &[items]);
-    check_two_names(&rt, alloc, &whole);
+    let first = b"m1".to_vec(alloc).expect(&rt, "a name");
+    let second = b"hosts.byname".to_vec(alloc).expect(&rt, "a name");
+    let names = [Some(first), Some(second), None];
+    let wanted = (Ok((YpStat::True, 2, names)), 40);
+    assert_same(&rt, &read_list(alloc, &whole), &wanted, "two names");
+
     let short = bytes(&rt, alloc, &["00000001 00000001 00000002 6d310000"]);
-    check_short_list(&rt, alloc, &short);
-}
-
-fn check_limit_of_a_name(rt: &impl Abort, alloc: Global) {
-    let bytes = bytes(rt, alloc, &["00000041"]);
-    let fault = ReqDomain::read(&mut Cursor::new(&bytes)).err();
-    let wanted = XdrFault::TooLong { at: 0, len: 65 };
-    assert_same(rt, &fault, &Some(wanted), "a name of 65 bytes");
-}
-
-fn check_limit_of_a_key(rt: &impl Abort, alloc: Global) {
-    let words = "00000003 6c616200 00000002 6d310000 00010001";
-    let bytes = bytes(rt, alloc, &[words]);
-    let fault = ReqKey::read(&mut Cursor::new(&bytes)).err();
-    let wanted = XdrFault::TooLong {
-        at: 16,
-        len: 65_537,
-    };
-    assert_same(rt, &fault, &Some(wanted), "a key of 65,537 bytes");
+    let fault = MapListFault::Xdr(XdrFault::Short { at: 16 });
+    let came = read_list(alloc, &short);
+    assert_same(&rt, &came, &(Err(fault), 0), "a list that isn't ended");
 }
 
 #[test]
 fn limits(rt: HostRuntime) {
-    check_limit_of_a_name(&rt, rt.alloc());
-    check_limit_of_a_key(&rt, rt.alloc());
+    let name = bytes(&rt, rt.alloc(), &["00000041"]);
+    let fault = ReqDomain::read(&mut Cursor::new(&name)).err();
+    let wanted = XdrFault::TooLong { at: 0, len: 65 };
+    assert_same(&rt, &fault, &Some(wanted), "a name of 65 bytes");
+    let key = bytes(
+        &rt,
+        rt.alloc(),
+        &["00000003 6c616200 00000002 6d310000 00010001"],
+    );
+    let fault = ReqKey::read(&mut Cursor::new(&key)).err();
+    let wanted = XdrFault::TooLong {
+        at: 16,
+        len: 65_537,
+    };
+    assert_same(&rt, &fault, &Some(wanted), "a key of 65,537 bytes");
     let mut buf = [9; 7];
     let asked = ReqDomain { domain: b"lab" };
-    let end = asked.write(&mut buf, 0);
-    assert_same(&rt, &end, &Err(NoRoom), "one byte too few");
-    assert_same(&rt, &buf, &[9; 7], "nothing is written");
+    let came = (asked.write(&mut buf, 0), buf);
+    assert_same(&rt, &came, &(Err(NoRoom), [9; 7]), "one byte too few");
 }
 
 #[test]

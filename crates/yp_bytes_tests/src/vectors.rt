@@ -71,14 +71,12 @@ fn is_row(record: Vec<u8>, alloc: Global, xid: u32, key: &[u8], value: &[u8]) ->
     }
 }
 
-fn check_reply(rt: &impl Abort, alloc: Global, xid: u32, wanted: bool) {
-    let record = bytes(rt, alloc, &[FIRST_REPLY]);
-    let is = is_row(record, alloc, xid, b"alpha", b"10.0.0.1 alpha");
-    assert_same(rt, &is, &wanted, "the reply to FIRST");
-}
-
 #[test]
 fn first_reply(rt: HostRuntime) {
-    check_reply(&rt, rt.alloc(), 5, true);
-    check_reply(&rt, rt.alloc(), 6, false);
+    let alloc = rt.alloc();
+    for (xid, wanted) in &[(5, true), (6, false)] {
+        let record = bytes(&rt, alloc, &[FIRST_REPLY]);
+        let is = is_row(record, alloc, *xid, b"alpha", b"10.0.0.1 alpha");
+        assert_same(&rt, &is, wanted, "the reply to FIRST");
+    }
 }

@@ -129,77 +129,72 @@ fn fetch_twice(client: &mut MemClient, into: &mut VersionBuilder) -> [Fetched; 2
     [fetch(client, into), fetch(client, into)]
 }
 
+// The value of a key.
+fn value_of(alloc: Global, version: &Version, key: &[u8]) -> Option<Vec<u8>> {
+    match version.get(key) {
+        Some(value) => value.to_vec(alloc).ok(),
+        None => None,
+    }
+}
+
+// How many rows it has, and the values of the keys that are empty, `k` and `lmnop`.
+fn look(alloc: Global, version: &Version) -> (usize, [Option<Vec<u8>>; 3]) {
+    let values = [
+        value_of(alloc, version, b""),
+        value_of(alloc, version, b"k"),
+        value_of(alloc, version, b"lmnop"),
+    ];
+    (version.len(), values)
+}
+
 fn fetch_hosts(client: &mut MemClient, into: &mut VersionBuilder) -> Result<(), ClientFault> {
     client.all(b"lab", b"hosts.byname", into)
-}
-
-// The call of ALL for `hosts.byname` in `lab`.
-const HOSTS_CALL: &str =
-    "80000040 00000008 00000000 00000002 000186a4 00000002 00000008 00000000 00000000 \
-    00000000 00000000 00000003 6c616200 0000000c 686f7374 732e6279 6e616d65";
-
-// The rows below. The key `k` comes again, and its first value stands.
-fn check_three<R: Abort>(rt: &R, version: &Version, row: &str) {
-    assert_same(rt, &version.len(), &3, row);
-    assert_same(rt, &version.get(b""), &Some(b"ww".as_slice()), row);
-    assert_same(rt, &version.get(b"k"), &Some(b"v".as_slice()), row);
-    assert_same(rt, &version.get(b"lmnop"), &Some(b"".as_slice()), row);
-}
-
-// The reply comes in fragments of so many bytes.
-fn check_rows<R: RandomSource + Abort>(
-    rt: &R,
-    alloc: Global,
-    record: &[u8],
-    size: usize,
-    row: &str,
-) {
-    let wire = wire(alloc, cut(rt, alloc, record, size), 5);
-    let (said, sent, ()) = with_version(rt, alloc, wire, fetch_hosts, |version| {
-        check_three(rt, version, row);
-    });
-    assert_same(rt, &said, &Ok(()), row);
-    assert_same(rt, &sent, &bytes(rt, alloc, &[HOSTS_CALL]), row);
 }
 
 #[test]
 fn rows_in_any_fragments(rt: HostRuntime) {
     let alloc = rt.alloc();
+    // The key `k` comes again, and its first value stands.
     let items = "00000001 00000001 00000002 77770000 00000000 \
         00000001 00000001 00000001 78000000 00000001 6b000000 \
         00000001 00000001 00000000 00000005 6c6d6e6f 70000000 \
         00000000";
+    let call = "80000040 00000008 00000000 00000002 000186a4 00000002 00000008 00000000 00000000 \
+        00000000 00000000 00000003 6c616200 0000000c 686f7374 732e6279 6e616d65";
     let record = bytes(&rt, alloc, &[HEAD, ROW, items]);
-    check_rows(&rt, alloc, &record, 1, "fragments of 1 byte");
-    check_rows(&rt, alloc, &record, 3, "fragments of 3 bytes");
-    check_rows(&rt, alloc, &record, 8192, "fragments of 8192 bytes");
-    check_rows(&rt, alloc, &record, 1_000_000, "one fragment");
-}
-
-// Each of these keys has its own bytes as its value, and `k` has `v`.
-fn check_seven<R: Abort>(rt: &R, version: &Version, keys: &[Vec<u8>], row: &str) {
-    assert_same(rt, &version.len(), &8, row);
-    for key in keys {
-        let is_held = version.get(key) == Some(key.as_slice());
-        assert_same(rt, &is_held, &true, row);
+    let values = [
+        Some(b"ww".to_vec(alloc).expect(&rt, "a value")),
+        Some(b"v".to_vec(alloc).expect(&rt, "a value")),
+        Some(Vec::new(alloc)),
+    ];
+    let wanted = (Ok(()), bytes(&rt, alloc, &[call]), (3, values));
+    for (size, row) in [
+        (1, "fragments of 1 byte"),
+        (3, "fragments of 3 bytes"),
+        (8192, "fragments of 8192 bytes"),
+        (1_000_000, "one fragment"),
+    ] {
+        let wire = wire(alloc, cut(&rt, alloc, &record, size), 5);
+        let came = with_version(
+            &rt,
+            alloc,
+            wire,
+            fetch_hosts,
+            |version| look(alloc, version),
+        );
+        assert_same(&rt, &came, &wanted, row);
     }
-    assert_same(rt, &version.get(b"k"), &Some(b"v".as_slice()), row);
 }
 
-fn check_long<R: RandomSource + Abort>(
-    rt: &R,
-    alloc: Global,
-    record: &[u8],
-    keys: &[Vec<u8>],
-    size: usize,
-    row: &str,
-) {
-    let wire = wire(alloc, cut(rt, alloc, record, size), 50_000);
-    let ((said, rows), _sent, ()) = with_version(rt, alloc, wire, fetch, |version| {
-        check_seven(rt, version, keys, row);
-    });
-    assert_same(rt, &said, &Ok(()), row);
-    assert_same(rt, &rows, &8, row);
+// How many rows a version has, whether each of these keys has its own bytes as its value, and the value of `k`.
+type LongRows = (usize, [bool; 7], Option<Vec<u8>>);
+
+fn look_for_long(alloc: Global, version: &Version, keys: &[Vec<u8>]) -> LongRows {
+    let mut are_held = [false; 7];
+    for (key, is_held) in keys.iter().zip(are_held.iter_mut()) {
+        *is_held = version.get(key) == Some(key.as_slice());
+    }
+    (version.len(), are_held, value_of(alloc, version, b"k"))
 }
 
 #[test]
@@ -212,148 +207,113 @@ fn reply_longer_than_the_buffer(rt: HostRuntime) {
         keys.push(longest(&rt, alloc, byte)).expect(&rt, "room");
     }
     add(&rt, &mut record, &bytes(&rt, alloc, &[ROW, "00000000"]));
-    check_long(&rt, alloc, &record, &keys, 8192, "fragments of 8192 bytes");
-    check_long(&rt, alloc, &record, &keys, 10_000_000, "one fragment");
-}
-
-// Items, what ALL says, and how many rows the builder has.
-static ENDS: [(&str, Result<(), ClientFault>, usize); 8] = [
-    ("00000000", Ok(()), 0),
-    (ROW, Err(ClientFault::BadReply { at: 48 }), 1),
-    // NOMORE is a good end, another status is the server's refusal, and what is behind either is skipped.
-    ("00000001 00000002", Ok(()), 0),
-    ("00000001 00000002 00000000 00000000 00000000", Ok(()), 0),
-    (
-        "00000001 fffffffe 00000000 00000000 00000000",
-        Err(ClientFault::Yp(YpStat::Nodom)),
-        0,
-    ),
-    ("00000001 ffffffff", Err(ClientFault::Yp(YpStat::Nomap)), 0),
-    // Behind FALSE too.
-    ("00000000 00000001 00000001 00", Ok(()), 0),
-    ("00000000 00000009 ffffffff ffffffff", Ok(()), 0),
-];
-
-fn check_end<R: RandomSource + Abort>(
-    rt: &R,
-    alloc: Global,
-    items: &str,
-    said: &Result<(), ClientFault>,
-    rows: usize,
-) {
-    let next = match said {
-        Err(ClientFault::BadReply { .. }) => Err(ClientFault::Spent),
-        _ => Ok(7),
-    };
-    let wire = wire(alloc, stream(rt, alloc, items, ""), 5);
-    let ((came, count), order) = with_builder(rt, alloc, wire, fetch_and_order);
-    assert_same(rt, &came, said, items);
-    assert_same(rt, &count, &rows, items);
-    assert_same(rt, &order, &next, items);
+    let value = b"v".to_vec(alloc).expect(&rt, "a value");
+    let wanted = ((Ok(()), 8), (8, [true; 7], Some(value)));
+    for (size, row) in [
+        (8192, "fragments of 8192 bytes"),
+        (10_000_000, "one fragment"),
+    ] {
+        let wire = wire(alloc, cut(&rt, alloc, &record, size), 50_000);
+        let (fetched, _sent, long) = with_version(&rt, alloc, wire, fetch, |version| {
+            look_for_long(alloc, version, &keys)
+        });
+        assert_same(&rt, &(fetched, long), &wanted, row);
+    }
 }
 
 #[test]
 fn ends_of_rows(rt: HostRuntime) {
-    for (items, said, rows) in &ENDS {
-        check_end(&rt, rt.alloc(), items, said, *rows);
+    let alloc = rt.alloc();
+    for (items, said, rows) in [
+        ("00000000", Ok(()), 0),
+        (ROW, Err(ClientFault::BadReply { at: 48 }), 1),
+        // NOMORE is a good end, another status is the server's refusal, and what is behind either is skipped.
+        ("00000001 00000002", Ok(()), 0),
+        ("00000001 00000002 00000000 00000000 00000000", Ok(()), 0),
+        (
+            "00000001 fffffffe 00000000 00000000 00000000",
+            Err(ClientFault::Yp(YpStat::Nodom)),
+            0,
+        ),
+        ("00000001 ffffffff", Err(ClientFault::Yp(YpStat::Nomap)), 0),
+        // Behind FALSE too.
+        ("00000000 00000001 00000001 00", Ok(()), 0),
+        ("00000000 00000009 ffffffff ffffffff", Ok(()), 0),
+    ] {
+        let next = match said {
+            Err(ClientFault::BadReply { .. }) => Err(ClientFault::Spent),
+            _ => Ok(7),
+        };
+        let wire = wire(alloc, stream(&rt, alloc, items, ""), 5);
+        let came = with_builder(&rt, alloc, wire, fetch_and_order);
+        assert_same(&rt, &came, &((said, rows), next), items);
     }
-}
-
-// Items behind a good row, so that each begins at 48, and where it is bad.
-static BAD_ITEMS: [(&str, usize); 12] = [
-    // A boolean, and a status.
-    ("00000002", 48),
-    ("00000001 00000003", 52),
-    // A value: its length, and the first byte of its padding that isn't zero.
-    ("00000001 00000001 00010001", 56),
-    ("00000001 00000001 00000001 76000001", 63),
-    // A key.
-    ("00000001 00000001 00000001 76000000 00010001", 64),
-    ("00000001 00000001 00000001 76000000 00000001 6b010100", 69),
-    // What is cut short.
-    ("", 48),
-    ("0000", 48),
-    ("00000001", 52),
-    ("00000001 00000001", 56),
-    ("00000001 00000001 00000005 76767676 760000", 56),
-    ("00000001 00000001 00000001 76000000 00000002 6b", 64),
-];
-
-fn check_bad_item<R: RandomSource + Abort>(rt: &R, alloc: Global, item: &str, at: usize) {
-    let wire = wire(alloc, stream(rt, alloc, ROW, item), 5);
-    let [first, second] = with_builder(rt, alloc, wire, fetch_twice);
-    let fault = ClientFault::BadReply { at };
-    assert_same(rt, &first, &(Err(fault), 1), item);
-    assert_same(rt, &second, &(Err(ClientFault::Spent), 1), item);
 }
 
 #[test]
 fn places_of_bad_items(rt: HostRuntime) {
-    for (item, at) in &BAD_ITEMS {
-        check_bad_item(&rt, rt.alloc(), item, *at);
+    let alloc = rt.alloc();
+    // A good row goes before each, so that the item begins at 48.
+    for (item, at) in [
+        // A boolean, and a status.
+        ("00000002", 48),
+        ("00000001 00000003", 52),
+        // A value: its length, and the first byte of its padding that isn't zero.
+        ("00000001 00000001 00010001", 56),
+        ("00000001 00000001 00000001 76000001", 63),
+        // A key.
+        ("00000001 00000001 00000001 76000000 00010001", 64),
+        ("00000001 00000001 00000001 76000000 00000001 6b010100", 69),
+        // What is cut short.
+        ("", 48),
+        ("0000", 48),
+        ("00000001", 52),
+        ("00000001 00000001", 56),
+        ("00000001 00000001 00000005 76767676 760000", 56),
+        ("00000001 00000001 00000001 76000000 00000002 6b", 64),
+    ] {
+        let wire = wire(alloc, stream(&rt, alloc, ROW, item), 5);
+        let came = with_builder(&rt, alloc, wire, fetch_twice);
+        let wanted = [
+            (Err(ClientFault::BadReply { at }), 1),
+            (Err(ClientFault::Spent), 1),
+        ];
+        assert_same(&rt, &came, &wanted, item);
     }
-}
-
-// Replies, what comes behind them, and what ALL and then ORDER say.
-static REFUSED: [(&str, &str, ClientFault, Result<u32, ClientFault>); 7] = [
-    (
-        "80000018 00000007 00000001 00000000 00000000 00000000 00000000",
-        "",
-        ClientFault::BadXid { want: 8, got: 7 },
-        Err(ClientFault::Spent),
-    ),
-    (
-        "80000008 00000008 00000000",
-        "",
-        ClientFault::BadReply { at: 4 },
-        Err(ClientFault::Spent),
-    ),
-    (
-        "80000018 00000008 00000001 00000000 00000000 00000000 00000003",
-        NEXT_REPLY,
-        ClientFault::Denied(ReplyHead::ProcUnavail),
-        Ok(7),
-    ),
-    ("", "", ClientFault::Torn { at: 0 }, Err(ClientFault::Spent)),
-    (
-        "8000",
-        "",
-        ClientFault::Torn { at: 0 },
-        Err(ClientFault::Spent),
-    ),
-    // 33,554,432 bytes may be named, and no byte more.
-    (
-        "02000000 000000",
-        "",
-        ClientFault::Torn { at: 0 },
-        Err(ClientFault::Spent),
-    ),
-    (
-        "82000001",
-        "",
-        ClientFault::TooLong { at: 0 },
-        Err(ClientFault::Spent),
-    ),
-];
-
-fn check_refused<R: RandomSource + Abort>(
-    rt: &R,
-    alloc: Global,
-    reply: &str,
-    behind: &str,
-    fault: ClientFault,
-    next: &Result<u32, ClientFault>,
-) {
-    let wire = wire(alloc, bytes(rt, alloc, &[reply, behind]), 5);
-    let (fetched, order) = with_builder(rt, alloc, wire, fetch_and_order);
-    assert_same(rt, &fetched, &(Err(fault), 0), reply);
-    assert_same(rt, &order, next, reply);
 }
 
 #[test]
 fn refused_heads(rt: HostRuntime) {
-    for (reply, behind, fault, next) in &REFUSED {
-        check_refused(&rt, rt.alloc(), reply, behind, *fault, next);
+    let alloc = rt.alloc();
+    let spent = Err(ClientFault::Spent);
+    for (reply, behind, fault, next) in [
+        (
+            "80000018 00000007 00000001 00000000 00000000 00000000 00000000",
+            "",
+            ClientFault::BadXid { want: 8, got: 7 },
+            spent,
+        ),
+        (
+            "80000008 00000008 00000000",
+            "",
+            ClientFault::BadReply { at: 4 },
+            spent,
+        ),
+        (
+            "80000018 00000008 00000001 00000000 00000000 00000000 00000003",
+            NEXT_REPLY,
+            ClientFault::Denied(ReplyHead::ProcUnavail),
+            Ok(7),
+        ),
+        ("", "", ClientFault::Torn { at: 0 }, spent),
+        ("8000", "", ClientFault::Torn { at: 0 }, spent),
+        // 33,554,432 bytes may be named, and no byte more.
+        ("02000000 000000", "", ClientFault::Torn { at: 0 }, spent),
+        ("82000001", "", ClientFault::TooLong { at: 0 }, spent),
+    ] {
+        let wire = wire(alloc, bytes(&rt, alloc, &[reply, behind]), 5);
+        let came = with_builder(&rt, alloc, wire, fetch_and_order);
+        assert_same(&rt, &came, &((Err(fault), 0), next), reply);
     }
 }
 
@@ -364,39 +324,26 @@ fn fetch_and_ping(client: &mut MemClient, into: &mut VersionBuilder) -> AllAndNu
     (client.all(b"d", b"m", into), client.ping())
 }
 
-// So many empty fragments go before the reply.
-fn check_hollow<R: RandomSource + Abort>(
-    rt: &R,
-    alloc: Global,
-    empty: usize,
-    said: Result<(), ClientFault>,
-) {
-    let wire = wire(alloc, hollow(rt, alloc, empty), 4096);
-    let (came, _rows) = with_builder(rt, alloc, wire, fetch);
-    assert_same(rt, &(empty, came), &(empty, said), "empty fragments");
-}
-
-// The reply ends behind so many bytes, of which the last are in the middle of the second row.
-fn check_torn<R: RandomSource + Abort>(rt: &R, alloc: Global, len: usize) {
-    let input = torn(rt, alloc, len);
-    assert_same(rt, &input.len(), &len, "bytes of it");
-    let wire = wire(alloc, input, 4096);
-    let (fetched, pinged) = with_builder(rt, alloc, wire, fetch_and_ping);
-    let fault = Err(ClientFault::Torn { at: 0 });
-    assert_same(rt, &(len, fetched), &(len, fault), "a torn reply");
-    assert_same(rt, &pinged, &Err(ClientFault::Spent), "behind it");
-}
-
 #[test]
 fn torn_and_failing_records(rt: HostRuntime) {
     let alloc = rt.alloc();
-    check_hollow(&rt, alloc, 0, Ok(()));
-    check_hollow(&rt, alloc, 1024, Ok(()));
-    check_hollow(&rt, alloc, 1025, Err(ClientFault::TooLong { at: 0 }));
-    check_torn(&rt, alloc, 1);
-    check_torn(&rt, alloc, 30);
-    check_torn(&rt, alloc, 90);
-    check_torn(&rt, alloc, 107);
+    // Empty fragments go before the reply, which ends in the middle of the second row.
+    for (empty, said) in [
+        (0, Ok(())),
+        (1024, Ok(())),
+        (1025, Err(ClientFault::TooLong { at: 0 })),
+    ] {
+        let input = hollow(&rt, alloc, empty);
+        let came = with_builder(&rt, alloc, wire(alloc, input, 4096), fetch);
+        assert_same(&rt, &(empty, came.0), &(empty, said), "empty fragments");
+    }
+    for len in [1, 30, 90, 107] {
+        let input = torn(&rt, alloc, len);
+        let input_len = input.len();
+        let came = with_builder(&rt, alloc, wire(alloc, input, 4096), fetch_and_ping);
+        let wanted = (Err(ClientFault::Torn { at: 0 }), Err(ClientFault::Spent));
+        assert_same(&rt, &(input_len, came), &(len, wanted), "bytes of it");
+    }
 }
 
 // Whether a builder has added all rows that it was given first, and what came of ALL and of ORDER.
@@ -429,18 +376,16 @@ fn row_that_is_refused(rt: HostRuntime) {
     // 255 rows of 65,548 bytes leave room for 62,456 more, of 16,777,216.
     let value = longest(&rt, alloc, 0);
     let wire = wire(alloc, short_rows_and_a_long(&rt, alloc), 4096);
-    let (are_added, (said, rows), next) = with_builder(&rt, alloc, wire, |client, into| {
+    let came = with_builder(&rt, alloc, wire, |client, into| {
         fetch_behind(client, into, &value)
     });
-    assert_same(&rt, &are_added, &true, "the rows before");
     // The third row is refused, though the second has the key of the first.
     let fault = ClientFault::Rows {
         row: 3,
         fault: VersionFault::TooBig,
     };
-    assert_same(&rt, &said, &Err(fault), "a row too many");
-    assert_same(&rt, &rows, &256, "the rows then");
-    assert_same(&rt, &next, &Ok(7), "the next call");
+    let wanted = (true, (Err(fault), 256), Ok(7));
+    assert_same(&rt, &came, &wanted, "a row too many");
 }
 
 // What came of ALL into a new builder.
@@ -455,16 +400,18 @@ fn one_map_after_another(rt: HostRuntime) {
     let replies = "80000034 00000008 00000001 00000000 00000000 00000000 00000000 \
         00000001 00000001 00000001 76000000 00000001 6b000000 00000000 \
         8000001c 00000009 00000001 00000000 00000000 00000000 00000000 00000000";
+    let wanted = [
+        (Ok(()), 1),
+        (Ok(()), 0),
+        (Err(ClientFault::Torn { at: 88 }), 0),
+    ];
     let wire = wire(alloc, bytes(&rt, alloc, &[replies]), 5);
-    let ([first, second, third], _sent) = with_client(&rt, alloc, wire, 8, |client| {
+    let came = with_client(&rt, alloc, wire, 8, |client| {
         [
             fetch_anew(&rt, alloc, client),
             fetch_anew(&rt, alloc, client),
             fetch_anew(&rt, alloc, client),
         ]
     });
-    assert_same(&rt, &first, &(Ok(()), 1), "the first map");
-    assert_same(&rt, &second, &(Ok(()), 0), "the second map");
-    let torn = Err(ClientFault::Torn { at: 88 });
-    assert_same(&rt, &third, &(torn, 0), "the third map");
+    assert_same(&rt, &came.0, &wanted, "three maps");
 }

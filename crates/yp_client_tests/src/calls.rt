@@ -141,7 +141,7 @@ const NEXT_REPLY: &str =
     "80000020 00000009 00000001 00000000 00000000 00000000 00000000 00000001 00000007";
 
 // Replies to call 8 that refuse it, and whether the client goes on.
-static REFUSALS: [(&str, ClientFault, bool); 13] = [
+const REFUSALS: [(&str, ClientFault, bool); 13] = [
     // Another call's reply, and one that can't be read.
     (
         "80000020 00000009 00000001 00000000 00000000 00000000 00000000 00000001 00000064",
@@ -210,54 +210,43 @@ fn orders(client: &mut MemClient) -> [Result<u32, ClientFault>; 2] {
     [client.order(b"d", b"m"), client.order(b"d", b"m")]
 }
 
-fn check_refusal(rt: &impl Abort, alloc: Global, reply: &str, fault: ClientFault, goes_on: bool) {
-    let next = if goes_on {
-        Ok(7)
-    } else {
-        Err(ClientFault::Spent)
-    };
-    let wire = fair_wire(alloc, bytes(rt, alloc, &[reply, NEXT_REPLY]));
-    let ([first, second], _sent) = with_client(rt, alloc, wire, 8, orders);
-    assert_same(rt, &first, &Err(fault), reply);
-    assert_same(rt, &second, &next, reply);
-}
-
 #[test]
 fn client_refusals(rt: HostRuntime) {
+    let alloc = rt.alloc();
     for (reply, fault, goes_on) in &REFUSALS {
-        check_refusal(&rt, rt.alloc(), reply, *fault, *goes_on);
+        let next = if *goes_on {
+            Ok(7)
+        } else {
+            Err(ClientFault::Spent)
+        };
+        let wire = fair_wire(alloc, bytes(&rt, alloc, &[*reply, NEXT_REPLY]));
+        let came = with_client(&rt, alloc, wire, 8, orders);
+        assert_same(&rt, &came.0, &[Err(*fault), next], *reply);
     }
-}
-
-// The input, the reads and the writes that fail, the answer, and how many bytes were taken. A call has 60 bytes.
-static FAILING: [(&str, u64, u64, ClientFault, usize); 7] = [
-    ("", 9, 99, ClientFault::Torn { at: 0 }, 60),
-    ("80000020 00000008", 99, 99, ClientFault::Torn { at: 0 }, 60),
-    (NEXT_REPLY, 0, 99, ClientFault::ReadFault, 60),
-    (NEXT_REPLY, 3, 99, ClientFault::ReadFault, 60),
-    (NEXT_REPLY, 99, 0, ClientFault::WriteFault, 0),
-    (NEXT_REPLY, 99, 2, ClientFault::WriteFault, 14),
-    // The flush behind nine writes of at most seven bytes.
-    (NEXT_REPLY, 99, 9, ClientFault::WriteFault, 60),
-];
-
-fn check_failing(rt: &impl Abort, alloc: Global, row: &(&str, u64, u64, ClientFault, usize)) {
-    let (input, reads, writes, fault, taken) = *row;
-    let bytes = bytes(rt, alloc, &[input]);
-    let failing_reads = vec![in alloc; reads].expect(rt, "a list");
-    let failing_writes = vec![in alloc; writes].expect(rt, "a list");
-    let wire = wire(alloc, bytes, failing_reads, failing_writes);
-    let ([first, second], sent) = with_client(rt, alloc, wire, 8, orders);
-    let wanted = (reads, writes, Err(fault));
-    assert_same(rt, &(reads, writes, first), &wanted, input);
-    assert_same(rt, &second, &Err(ClientFault::Spent), input);
-    assert_same(rt, &sent.len(), &taken, input);
 }
 
 #[test]
 fn one_failing_call(rt: HostRuntime) {
-    for row in &FAILING {
-        check_failing(&rt, rt.alloc(), row);
+    let alloc = rt.alloc();
+    // The input, the reads and the writes that fail, the answer, and how many bytes were taken. A call has 60 bytes.
+    for (input, reads, writes, fault, taken) in [
+        ("", 9, 99, ClientFault::Torn { at: 0 }, 60),
+        ("80000020 00000008", 99, 99, ClientFault::Torn { at: 0 }, 60),
+        (NEXT_REPLY, 0, 99, ClientFault::ReadFault, 60),
+        (NEXT_REPLY, 3, 99, ClientFault::ReadFault, 60),
+        (NEXT_REPLY, 99, 0, ClientFault::WriteFault, 0),
+        (NEXT_REPLY, 99, 2, ClientFault::WriteFault, 14),
+        // The flush behind nine writes of at most seven bytes.
+        (NEXT_REPLY, 99, 9, ClientFault::WriteFault, 60),
+    ] {
+        let bytes = bytes(&rt, alloc, &[input]);
+        let failing_reads = vec![in alloc; reads].expect(&rt, "a list");
+        let failing_writes = vec![in alloc; writes].expect(&rt, "a list");
+        let wire = wire(alloc, bytes, failing_reads, failing_writes);
+        let (said, sent) = with_client(&rt, alloc, wire, 8, orders);
+        let came = (reads, writes, said, sent.len());
+        let faults = [Err(fault), Err(ClientFault::Spent)];
+        assert_same(&rt, &came, &(reads, writes, faults, taken), input);
     }
 }
 
@@ -297,16 +286,15 @@ fn other_procedures(rt: HostRuntime) {
         8000001c 00000004 00000001 00000000 00000000 00000000 00000000 00000000 \
         80000020 00000005 00000001 00000000 00000000 00000000 00000000 00000009 fffffff2 \
         8000001c 00000006 00000001 00000000 00000000 00000000 00000000 00000002";
+    let wanted = (
+        [Ok(()), Ok(())],
+        [Ok(true), Ok(false)],
+        Ok(XfrStat::Refused),
+        Err(ClientFault::BadReply { at: 24 }),
+    );
     let wire = fair_wire(alloc, bytes(&rt, alloc, &[replies]));
-    let (said, _sent) = with_client(&rt, alloc, wire, 1, make_others);
-    let ([null, clear], [lab, other], xfr, last) = said;
-    assert_same(&rt, &null, &Ok(()), "NULL");
-    assert_same(&rt, &clear, &Ok(()), "CLEAR");
-    assert_same(&rt, &lab, &Ok(true), "DOMAIN of lab");
-    assert_same(&rt, &other, &Ok(false), "DOMAIN of zzz");
-    assert_same(&rt, &xfr, &Ok(XfrStat::Refused), "XFR");
-    let fault = ClientFault::BadReply { at: 24 };
-    assert_same(&rt, &last, &Err(fault), "DOMAIN again");
+    let came = with_client(&rt, alloc, wire, 1, make_others);
+    assert_same(&rt, &came.0, &wanted, "others");
 }
 
 #[test]

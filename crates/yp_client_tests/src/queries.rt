@@ -216,68 +216,50 @@ const MAPS_CALL: &str =
     "80000030 00000001 00000000 00000002 000186a4 00000002 0000000b 00000000 00000000 \
     00000000 00000000 00000003 6c616200";
 
-const NO_ROWS_REPLY: &str =
-    "8000001c 00000001 00000001 00000000 00000000 00000000 00000000 00000000";
-
-const MASTER_REPLY: &str =
-    "80000024 00000001 00000001 00000000 00000000 00000000 00000000 00000001 00000002 6d310000";
-
-const POLL_REPLIES: &str =
-    "80000020 00000001 00000001 00000000 00000000 00000000 00000000 00000001 00000064 \
-    80000024 00000002 00000001 00000000 00000000 00000000 00000000 00000001 00000002 6d310000";
-
-const MAPS_REPLY: &str = "80000038 00000001 00000001 00000000 00000000 00000000 00000000 00000001 \
-    00000001 00000001 62000000 00000001 00000001 61000000 00000000";
-
-const NO_MAPS_REPLY: &str =
-    "80000020 00000001 00000001 00000000 00000000 00000000 00000000 00000001 00000000";
-
-const BINARY_REPLY: &str =
-    "80000024 00000001 00000001 00000000 00000000 00000000 00000000 00000001 00000003 000aff00";
-
-/// A question, the replies, the calls, and what is printed.
-static ANSWERS: [(&str, Fixed, &str, &str, &[u8]); 9] = [
-    ("values", CAT, ROWS_REPLY, ALL_CALL, b"1\n2\n"),
-    ("rows", CATK, ROWS_REPLY, ALL_CALL, b"a 1\nb 2\n"),
-    ("no rows", CATK, NO_ROWS_REPLY, ALL_CALL, b""),
-    (
-        "a value",
-        ALPHA,
-        ALPHA_REPLY,
-        ALPHA_CALL,
-        b"10.0.0.1 alpha\n",
-    ),
-    ("bytes", ALPHA, BINARY_REPLY, ALPHA_CALL, b"\x00\n\xff\n"),
-    ("a master", WHICH, MASTER_REPLY, MASTER_CALL, b"m1\n"),
-    (
-        "a standing",
-        POLL,
-        POLL_REPLIES,
-        POLL_CALLS,
-        b"order 100\nmaster m1\n",
-    ),
-    ("maps", MAPS, MAPS_REPLY, MAPS_CALL, b"b\na\n"),
-    ("no maps", MAPS, NO_MAPS_REPLY, MAPS_CALL, b""),
-];
-
-fn check_answer<R: RandomSource + Abort>(
-    rt: &R,
-    alloc: Global,
-    row: &(&str, Fixed, &str, &str, &[u8]),
-) {
-    let (name, question, input, calls, text) = row;
-    let input = bytes(rt, alloc, &[*input]);
-    let (result, wires, sent, printed) = ask(rt, alloc, question, input, 4, FAIR);
-    assert_same(rt, &result, &Ok(()), *name);
-    assert_same(rt, &wires, &1, *name);
-    assert_same(rt, &sent, &bytes(rt, alloc, &[*calls]), *name);
-    assert_same(rt, &printed.as_slice(), text, *name);
-}
-
 #[test]
 fn answers_are_printed(rt: HostRuntime) {
-    for row in &ANSWERS {
-        check_answer(&rt, rt.alloc(), row);
+    let alloc = rt.alloc();
+    let no_rows = "8000001c 00000001 00000001 00000000 00000000 00000000 00000000 00000000";
+    let master =
+        "80000024 00000001 00000001 00000000 00000000 00000000 00000000 00000001 00000002 6d310000";
+    let standing =
+        "80000020 00000001 00000001 00000000 00000000 00000000 00000000 00000001 00000064 \
+        80000024 00000002 00000001 00000000 00000000 00000000 00000000 00000001 00000002 6d310000";
+    let maps = "80000038 00000001 00000001 00000000 00000000 00000000 00000000 00000001 \
+        00000001 00000001 62000000 00000001 00000001 61000000 00000000";
+    let no_maps =
+        "80000020 00000001 00000001 00000000 00000000 00000000 00000000 00000001 00000000";
+    let binary =
+        "80000024 00000001 00000001 00000000 00000000 00000000 00000000 00000001 00000003 000aff00";
+    let cases: [(&str, Fixed, &str, &str, &[u8]); 9] = [
+        ("values", CAT, ROWS_REPLY, ALL_CALL, b"1\n2\n"),
+        ("rows", CATK, ROWS_REPLY, ALL_CALL, b"a 1\nb 2\n"),
+        ("no rows", CATK, no_rows, ALL_CALL, b""),
+        (
+            "a value",
+            ALPHA,
+            ALPHA_REPLY,
+            ALPHA_CALL,
+            b"10.0.0.1 alpha\n",
+        ),
+        ("bytes", ALPHA, binary, ALPHA_CALL, b"\x00\n\xff\n"),
+        ("a master", WHICH, master, MASTER_CALL, b"m1\n"),
+        (
+            "a standing",
+            POLL,
+            standing,
+            POLL_CALLS,
+            b"order 100\nmaster m1\n",
+        ),
+        ("maps", MAPS, maps, MAPS_CALL, b"b\na\n"),
+        ("no maps", MAPS, no_maps, MAPS_CALL, b""),
+    ];
+    for (row, question, input, calls, printed) in &cases {
+        let input = bytes(&rt, alloc, &[*input]);
+        let printed = printed.to_vec(alloc).expect(&rt, "a text");
+        let wanted = (Ok(()), 1, bytes(&rt, alloc, &[*calls]), printed);
+        let asked = ask(&rt, alloc, question, input, 4, FAIR);
+        assert_same(&rt, &asked, &wanted, *row);
     }
 }
 
@@ -319,62 +301,54 @@ fn told_of(is_member: bool) -> (Result<(), QueryFault>, &'static [u8]) {
     }
 }
 
-/// A group, and perhaps a host and a user.
-type Member = (&'static [u8], Option<&'static [u8]>, Option<&'static [u8]>);
-
-/// The reply of ALL, who is asked for, and whether they are a member.
-static MEMBERS: [(&str, &str, Member, bool); 6] = [
-    ("a user", GROUPS_REPLY, (b"a", None, Some(b"joe")), true),
-    (
-        "a dash for the host",
-        GROUPS_REPLY,
-        (b"a", Some(b"h1"), Some(b"joe")),
-        false,
-    ),
-    ("no such group", GROUPS_REPLY, (b"c", None, None), false),
-    (
-        "a user in capitals",
-        GROUPS_REPLY,
-        (b"a", None, Some(b"Joe")),
-        false,
-    ),
-    (
-        "the first of equal keys",
-        REPEATED_REPLY,
-        (b"a", Some(b"H1"), None),
-        true,
-    ),
-    (
-        "the second",
-        REPEATED_REPLY,
-        (b"a", Some(b"h2"), None),
-        false,
-    ),
-];
-
-fn check_member<R: RandomSource + Abort>(
-    rt: &R,
-    alloc: Global,
-    input: &str,
-    member: &Member,
-    is_member: bool,
-    row: &str,
-) {
-    let (group, host, user) = *member;
-    let question = innetgr_of(group, host, user);
-    let input = bytes(rt, alloc, &[input]);
-    let (result, wires, sent, printed) = ask(rt, alloc, &question, input, 4, FAIR);
-    let (told, line) = told_of(is_member);
-    assert_same(rt, &result, &told, row);
-    assert_same(rt, &wires, &1, row);
-    assert_same(rt, &sent, &bytes(rt, alloc, &[GROUPS_CALL]), row);
-    assert_same(rt, &printed.as_slice(), &line, row);
-}
-
 #[test]
 fn members_of_groups(rt: HostRuntime) {
-    for (row, input, member, is_member) in &MEMBERS {
-        check_member(&rt, rt.alloc(), input, member, *is_member, row);
+    let alloc = rt.alloc();
+    let cases: [(&str, &str, Fixed, bool); 6] = [
+        (
+            "a user",
+            GROUPS_REPLY,
+            innetgr_of(b"a", None, Some(b"joe")),
+            true,
+        ),
+        (
+            "a dash for the host",
+            GROUPS_REPLY,
+            innetgr_of(b"a", Some(b"h1"), Some(b"joe")),
+            false,
+        ),
+        (
+            "no such group",
+            GROUPS_REPLY,
+            innetgr_of(b"c", None, None),
+            false,
+        ),
+        (
+            "a user in capitals",
+            GROUPS_REPLY,
+            innetgr_of(b"a", None, Some(b"Joe")),
+            false,
+        ),
+        (
+            "the first of equal keys",
+            REPEATED_REPLY,
+            innetgr_of(b"a", Some(b"H1"), None),
+            true,
+        ),
+        (
+            "the second",
+            REPEATED_REPLY,
+            innetgr_of(b"a", Some(b"h2"), None),
+            false,
+        ),
+    ];
+    for (row, input, question, is_member) in &cases {
+        let input = bytes(&rt, alloc, &[*input]);
+        let calls = bytes(&rt, alloc, &[GROUPS_CALL]);
+        let (result, line) = told_of(*is_member);
+        let wanted = (result, 1, calls, text(&rt, alloc, line));
+        let asked = ask(&rt, alloc, question, input, 4, FAIR);
+        assert_same(&rt, &asked, &wanted, *row);
     }
 }
 
@@ -406,36 +380,25 @@ fn asked<R: RandomSource + Abort>(
     one_peer(dial.came())
 }
 
-const OTHER: Peer = Peer {
-    addr: [192, 168, 7, 254],
-    port: 65_535,
-};
-
-static QUESTIONS: [(&str, Fixed); 6] = [
-    ("CAT", CAT),
-    ("CATK", CATK),
-    ("MATCH", ALPHA),
-    ("WHICH", WHICH),
-    ("POLL", POLL),
-    ("MAPS", MAPS),
-];
-
-fn check_asked<R: RandomSource + Abort>(
-    rt: &R,
-    alloc: Global,
-    question: &Fixed,
-    to: Peer,
-    row: &str,
-) {
-    let peer = asked(rt, alloc, question, to);
-    assert_same(rt, &peer, &Some(to), row);
-}
-
 #[test]
 fn server_that_is_asked(rt: HostRuntime) {
-    for (row, question) in &QUESTIONS {
-        check_asked(&rt, rt.alloc(), question, SERVER, row);
-        check_asked(&rt, rt.alloc(), question, OTHER, row);
+    let other = Peer {
+        addr: [192, 168, 7, 254],
+        port: 65_535,
+    };
+    for (row, question) in &[
+        ("CAT", CAT),
+        ("CATK", CATK),
+        ("MATCH", ALPHA),
+        ("WHICH", WHICH),
+        ("POLL", POLL),
+        ("MAPS", MAPS),
+    ] {
+        let peers = [
+            asked(&rt, rt.alloc(), question, SERVER),
+            asked(&rt, rt.alloc(), question, other),
+        ];
+        assert_same(&rt, &peers, &[Some(SERVER), Some(other)], *row);
     }
 }
 
@@ -473,167 +436,83 @@ const TORN: QueryFault = QueryFault::Client(ClientFault::Torn { at: 0 });
 
 const TORN_BEHIND_ORDER: QueryFault = QueryFault::Client(ClientFault::Torn { at: 36 });
 
-/// The question, the input, the fault, and how many bytes were sent. A call has 68 bytes, or 80 with the key.
-static REFUSALS: [(&str, Fixed, &str, QueryFault, usize); 11] = [
-    ("CAT, no map", CAT, NOMAP_ROWS_REPLY, NO_MAP, 68),
-    ("CATK, torn", CATK, TORN_REPLY, TORN, 68),
-    ("MATCH, no key", ALPHA, NOKEY_REPLY, QueryFault::NoKey, 80),
-    ("MATCH, no map", ALPHA, NOMAP_REPLY, NO_MAP, 80),
-    ("WHICH, no key", WHICH, NOKEY_REPLY, NO_KEY, 68),
-    ("POLL, no map", POLL, NOMAP_REPLY, NO_MAP, 68),
-    ("POLL, torn", POLL, ORDER_REPLY, TORN_BEHIND_ORDER, 136),
-    ("POLL, other reply", POLL, OTHER_REPLY, OTHER_XID, 68),
-    ("MAPS, torn", MAPS, "", TORN, 52),
-    ("MAPS, denied", MAPS, DENIED_REPLY, DENIED, 52),
-    ("MAPS, no key", MAPS, NOKEY_REPLY, NO_KEY, 52),
-];
-
-fn check_refusal<R: RandomSource + Abort>(
-    rt: &R,
-    alloc: Global,
-    row: &(&str, Fixed, &str, QueryFault, usize),
-) {
-    let (name, question, input, fault, len) = row;
-    let input = bytes(rt, alloc, &[*input]);
-    let (result, wires, sent, printed) = ask(rt, alloc, question, input, 4, FAIR);
-    assert_same(rt, &result, &Err(*fault), *name);
-    assert_same(rt, &wires, &1, *name);
-    assert_same(rt, &sent.len(), len, *name);
-    assert_same(rt, &printed.len(), &0, *name);
-}
-
 #[test]
 fn refusals_print_nothing(rt: HostRuntime) {
-    for row in &REFUSALS {
-        check_refusal(&rt, rt.alloc(), row);
+    let alloc = rt.alloc();
+    // The question, the input, the fault, and how many bytes were sent. A call has 68 bytes, or 80 with the key.
+    for (row, question, input, fault, sent) in &[
+        ("CAT, no map", CAT, NOMAP_ROWS_REPLY, NO_MAP, 68),
+        ("CATK, torn", CATK, TORN_REPLY, TORN, 68),
+        ("MATCH, no key", ALPHA, NOKEY_REPLY, QueryFault::NoKey, 80),
+        ("MATCH, no map", ALPHA, NOMAP_REPLY, NO_MAP, 80),
+        ("WHICH, no key", WHICH, NOKEY_REPLY, NO_KEY, 68),
+        ("POLL, no map", POLL, NOMAP_REPLY, NO_MAP, 68),
+        ("POLL, torn", POLL, ORDER_REPLY, TORN_BEHIND_ORDER, 136),
+        ("POLL, other reply", POLL, OTHER_REPLY, OTHER_XID, 68),
+        ("MAPS, torn", MAPS, "", TORN, 52),
+        ("MAPS, denied", MAPS, DENIED_REPLY, DENIED, 52),
+        ("MAPS, no key", MAPS, NOKEY_REPLY, NO_KEY, 52),
+    ] {
+        let input = bytes(&rt, alloc, &[*input]);
+        let asked = ask(&rt, alloc, question, input, 4, FAIR);
+        let came = (asked.0, asked.1, asked.2.len(), asked.3.len());
+        assert_same(&rt, &came, &(Err(*fault), 1, *sent, 0), *row);
     }
 }
 
-/// That these calls of the sink that is printed to fail.
-fn prints(failing: &[u64]) -> Weather<'_> {
+/// That these calls of the dial fail, and so on.
+const fn dials(failing: &[u64]) -> Weather<'_> {
+    Weather {
+        dials: failing,
+        ..FAIR
+    }
+}
+
+const fn reads(failing: &[u64]) -> Weather<'_> {
+    Weather {
+        reads: failing,
+        ..FAIR
+    }
+}
+
+const fn writes(failing: &[u64]) -> Weather<'_> {
+    Weather {
+        writes: failing,
+        ..FAIR
+    }
+}
+
+const fn prints(failing: &[u64]) -> Weather<'_> {
     Weather {
         prints: failing,
         ..FAIR
     }
 }
 
-const READ_FAULT: QueryFault = QueryFault::Client(ClientFault::ReadFault);
-
-const WRITE_FAULT: QueryFault = QueryFault::Client(ClientFault::WriteFault);
-
-const OUTPUT: QueryFault = QueryFault::Output;
-
-/// The text goes out in four writes of at most four bytes, and a flush.
-static FAILING: [(&str, Weather<'static>, QueryFault, usize, &[u8]); 9] = [
-    (
-        "the dial",
-        Weather {
-            dials: &[0],
-            ..FAIR
-        },
-        QueryFault::Dial,
-        0,
-        b"",
-    ),
-    (
-        "the first read",
-        Weather {
-            reads: &[0],
-            ..FAIR
-        },
-        READ_FAULT,
-        1,
-        b"",
-    ),
-    (
-        "the fifth read",
-        Weather {
-            reads: &[4],
-            ..FAIR
-        },
-        READ_FAULT,
-        1,
-        b"",
-    ),
-    (
-        "the first write",
-        Weather {
-            writes: &[0],
-            ..FAIR
-        },
-        WRITE_FAULT,
-        1,
-        b"",
-    ),
-    (
-        "the fourth write",
-        Weather {
-            writes: &[3],
-            ..FAIR
-        },
-        WRITE_FAULT,
-        1,
-        b"",
-    ),
-    (
-        "the first print",
-        Weather {
-            prints: &[0],
-            ..FAIR
-        },
-        OUTPUT,
-        1,
-        b"",
-    ),
-    (
-        "the second print",
-        Weather {
-            prints: &[1],
-            ..FAIR
-        },
-        OUTPUT,
-        1,
-        b"10.0",
-    ),
-    (
-        "the fourth print",
-        Weather {
-            prints: &[3],
-            ..FAIR
-        },
-        OUTPUT,
-        1,
-        b"10.0.0.1 alp",
-    ),
-    (
-        "the flush",
-        Weather {
-            prints: &[4],
-            ..FAIR
-        },
-        OUTPUT,
-        1,
-        b"10.0.0.1 alpha\n",
-    ),
-];
-
-fn check_failing<R: RandomSource + Abort>(
-    rt: &R,
-    alloc: Global,
-    row: &(&str, Weather<'_>, QueryFault, usize, &[u8]),
-) {
-    let (name, weather, fault, count, text) = row;
-    let input = bytes(rt, alloc, &[ALPHA_REPLY]);
-    let (result, wires, _sent, printed) = ask(rt, alloc, &ALPHA, input, 4, *weather);
-    assert_same(rt, &result, &Err(*fault), *name);
-    assert_same(rt, &wires, count, *name);
-    assert_same(rt, &printed.as_slice(), text, *name);
-}
-
 #[test]
 fn one_failing_call(rt: HostRuntime) {
-    for row in &FAILING {
-        check_failing(&rt, rt.alloc(), row);
+    let alloc = rt.alloc();
+    let read_fault = QueryFault::Client(ClientFault::ReadFault);
+    let write_fault = QueryFault::Client(ClientFault::WriteFault);
+    let output = QueryFault::Output;
+    // The text goes out in four writes of at most four bytes, and a flush.
+    let cases: [(&str, Weather<'_>, QueryFault, usize, &[u8]); 9] = [
+        ("the dial", dials(&[0]), QueryFault::Dial, 0, b""),
+        ("the first read", reads(&[0]), read_fault, 1, b""),
+        ("the fifth read", reads(&[4]), read_fault, 1, b""),
+        ("the first write", writes(&[0]), write_fault, 1, b""),
+        ("the fourth write", writes(&[3]), write_fault, 1, b""),
+        ("the first print", prints(&[0]), output, 1, b""),
+        ("the second print", prints(&[1]), output, 1, b"10.0"),
+        ("the fourth print", prints(&[3]), output, 1, b"10.0.0.1 alp"),
+        ("the flush", prints(&[4]), output, 1, b"10.0.0.1 alpha\n"),
+    ];
+    for (row, weather, fault, wires, printed) in &cases {
+        let input = bytes(&rt, alloc, &[ALPHA_REPLY]);
+        let printed = printed.to_vec(alloc).expect(&rt, "a text");
+        let asked = ask(&rt, alloc, &ALPHA, input, 4, *weather);
+        let came = (asked.0, asked.1, asked.3);
+        assert_same(&rt, &came, &(Err(*fault), *wires, printed), *row);
     }
 }
 
@@ -641,66 +520,48 @@ fn add<R: Abort>(rt: &R, input: &mut Vec<u8>, bytes: &[u8]) {
     input.extend_from_slice(bytes).expect(rt, "room");
 }
 
-// The reply with a value as long as the buffer, behind which the line feed has no room.
-fn long_reply<R: Abort>(rt: &R, alloc: Global) -> Vec<u8> {
-    let head = "80010020 00000001 00000001 00000000 00000000 00000000 00000000 00000001 00010000";
-    let value = vec![in alloc; b'v'; 65_536].expect(rt, "a value");
-    let mut reply = bytes(rt, alloc, &[head]);
-    add(rt, &mut reply, &value);
-    reply
-}
-
-/// The prints that fail, what comes of the question, and how many bytes were printed.
-static LONG: [(&str, &[u64], Result<(), QueryFault>, usize); 4] = [
-    ("none", &[], Ok(()), 65_537),
-    ("the first print", &[0], Err(OUTPUT), 0),
-    ("the second print", &[1], Err(OUTPUT), 65_536),
-    ("the flush", &[2], Err(OUTPUT), 65_537),
-];
-
-fn check_long<R: RandomSource + Abort>(
-    rt: &R,
-    alloc: Global,
-    failing: &[u64],
-    wanted: &Result<(), QueryFault>,
-    len: usize,
-    row: &str,
-) {
-    let input = long_reply(rt, alloc);
-    let (result, _, _, printed) = ask(rt, alloc, &ALPHA, input, 100_000, prints(failing));
-    assert_same(rt, &result, wanted, row);
-    assert_same(rt, &printed.len(), &len, row);
-}
-
 #[test]
 fn long_text_in_full_buffers(rt: HostRuntime) {
-    for (row, failing, result, printed) in &LONG {
-        check_long(&rt, rt.alloc(), *failing, result, *printed, row);
+    let alloc = rt.alloc();
+    // A value as long as the buffer, behind which the line feed has no room.
+    let head = "80010020 00000001 00000001 00000000 00000000 00000000 00000000 00000001 00010000";
+    let value = vec![in alloc; b'v'; 65_536].expect(&rt, "a value");
+    let mut reply = bytes(&rt, alloc, &[head]);
+    add(&rt, &mut reply, &value);
+    let cases: [(&str, &[u64], Result<(), QueryFault>, usize); 4] = [
+        ("none", &[], Ok(()), 65_537),
+        ("the first print", &[0], Err(QueryFault::Output), 0),
+        ("the second print", &[1], Err(QueryFault::Output), 65_536),
+        ("the flush", &[2], Err(QueryFault::Output), 65_537),
+    ];
+    for (row, failing, result, printed) in &cases {
+        let input = reply.to_vec(alloc).expect(&rt, "a reply");
+        let asked = ask(&rt, alloc, &ALPHA, input, 100_000, prints(*failing));
+        let came = (asked.0, asked.3.len());
+        assert_same(&rt, &came, &(*result, *printed), *row);
     }
-}
-
-// One row more than a version may have, of 20 bytes each.
-fn many_rows<R: Abort>(rt: &R, alloc: Global) -> Vec<u8> {
-    let head = "80500030 00000001 00000001 00000000 00000000 00000000 00000000";
-    let front = [0, 0, 0, 1, 0, 0, 0, 1, 0, 0, 0, 0, 0, 0, 0, 4];
-    let mut input = bytes(rt, alloc, &[head]);
-    for i in 0..262_145u32 {
-        add(rt, &mut input, &front);
-        add(rt, &mut input, &i.to_be_bytes());
-    }
-    add(rt, &mut input, &[0; 4]);
-    input
 }
 
 #[test]
 fn first_row_that_no_version_takes(rt: HostRuntime) {
     let alloc = rt.alloc();
-    let input = many_rows(&rt, alloc);
-    let (result, _, _, printed) = ask(&rt, alloc, &CAT, input, 100_000, FAIR);
+    // One row more than a version may have, of 20 bytes each.
+    let head = "80500030 00000001 00000001 00000000 00000000 00000000 00000000";
+    let mut input = bytes(&rt, alloc, &[head]);
+    for i in 0..262_145u32 {
+        add(
+            &rt,
+            &mut input,
+            &[0, 0, 0, 1, 0, 0, 0, 1, 0, 0, 0, 0, 0, 0, 0, 4],
+        );
+        add(&rt, &mut input, &i.to_be_bytes());
+    }
+    add(&rt, &mut input, &[0; 4]);
+    let asked = ask(&rt, alloc, &CAT, input, 100_000, FAIR);
     let fault = QueryFault::Client(ClientFault::Rows {
         row: 262_145,
         fault: VersionFault::TooManyRows,
     });
-    assert_same(&rt, &result, &Err(fault), "a row too many");
-    assert_same(&rt, &printed.len(), &0, "nothing is printed");
+    let came = (asked.0, asked.3.len());
+    assert_same(&rt, &came, &(Err(fault), 0), "a row too many");
 }

@@ -66,7 +66,7 @@ const LAB: &str = "00000003 6c616200";
 const ZZZ: &str = "00000003 7a7a7a00";
 
 // Datagrams to a binder of lab that is unbound: their words, and those of the replies.
-static CALLS: [([&str; 4], [&str; 2]); 12] = [
+const CALLS: [([&str; 4], [&str; 2]); 12] = [
     ([BIND, "00000000", NONE, ""], [DONE, ""]),
     ([BIND, "00000001", NONE, LAB], [DONE, "00000002 00000002"]),
     ([BIND, "00000001", NONE, ZZZ], [DONE, "00000002 00000001"]),
@@ -120,26 +120,15 @@ static CALLS: [([&str; 4], [&str; 2]); 12] = [
     ),
 ];
 
-fn check_call(
-    rt: &impl Abort,
-    alloc: Global,
-    binder: &mut Binder,
-    call: &[&str],
-    reply: &[&str],
-    row: &str,
-) {
-    let datagram = bytes(rt, alloc, call);
-    let wanted = bytes(rt, alloc, reply);
-    let is = replies(binder, &datagram, STRANGER, &wanted);
-    assert_same(rt, &is, &true, row);
-}
-
 #[test]
 fn datagrams_answered(rt: HostRuntime) {
     let alloc = rt.alloc();
     let mut binder = lab_binder(&rt, alloc, &[SERVER], Policy::Fixed);
     for (call, reply) in &CALLS {
-        check_call(&rt, alloc, &mut binder, call, reply, call[1]);
+        let datagram = bytes(&rt, alloc, call);
+        let wanted = bytes(&rt, alloc, reply);
+        let is = replies(&mut binder, &datagram, STRANGER, &wanted);
+        assert_same(&rt, &is, &true, call[1]);
     }
 }
 
@@ -215,7 +204,7 @@ fn binder_turns(rt: HostRuntime) {
 }
 
 // SETDOM of lab to a server, by policy, caller and version: what lab is bound to then.
-static SETDOMS: [(Policy, Peer, &str, Option<Peer>); 6] = [
+const SETDOMS: [(Policy, Peer, &str, Option<Peer>); 6] = [
     (Policy::Fixed, SELF, "00000002", None),
     (Policy::Ypsetme, SELF, "00000002", Some(OTHER)),
     (Policy::Ypsetme, STRANGER, "00000002", None),
@@ -224,27 +213,17 @@ static SETDOMS: [(Policy, Peer, &str, Option<Peer>); 6] = [
     (Policy::Ypsetme, SELF, "00000003", None),
 ];
 
-fn check_setdom(
-    rt: &impl Abort,
-    alloc: Global,
-    policy: Policy,
-    from: Peer,
-    version: &str,
-    server: Option<Peer>,
-) {
-    let words = [BIND, "00000002", NONE, LAB, "0a000007 03430000", version];
-    let datagram = bytes(rt, alloc, &words);
-    let wanted = bytes(rt, alloc, &[DONE]);
-    let mut binder = lab_binder(rt, alloc, &[SERVER], policy);
-    let is = replies(&mut binder, &datagram, from, &wanted);
-    assert_same(rt, &is, &true, version);
-    assert_same(rt, &bound(&binder), &server, version);
-}
-
 #[test]
 fn setdom_by_policy(rt: HostRuntime) {
+    let alloc = rt.alloc();
+    let wanted = bytes(&rt, alloc, &[DONE]);
     for (policy, from, version, server) in &SETDOMS {
-        check_setdom(&rt, rt.alloc(), *policy, *from, version, *server);
+        let words = [BIND, "00000002", NONE, LAB, "0a000007 03430000", *version];
+        let datagram = bytes(&rt, alloc, &words);
+        let mut binder = lab_binder(&rt, alloc, &[SERVER], *policy);
+        let is = replies(&mut binder, &datagram, *from, &wanted);
+        let came = (is, bound(&binder));
+        assert_same(&rt, &came, &(true, *server), version);
     }
 }
 

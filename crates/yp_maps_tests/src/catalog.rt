@@ -7,7 +7,7 @@ use std::process::Abort;
 use yp_board::*;
 
 // Maps that a catalogue of `MAPS` doesn't have.
-static ABSENT: [Pair<'static>; 5] = [
+const ABSENT: &[Pair<'static>] = &[
     (b"e", b"b"),
     (b"", b"a"),
     (b"e", b""),
@@ -16,7 +16,7 @@ static ABSENT: [Pair<'static>; 5] = [
 ];
 
 // Domains, and whether it serves them.
-static DOMAINS: [(&[u8], bool); 6] = [
+const DOMAINS: &[(&[u8], bool)] = &[
     (b"d", true),
     (b"e", true),
     (b"", false),
@@ -29,11 +29,11 @@ static DOMAINS: [(&[u8], bool); 6] = [
 fn looks_up_maps(rt: HostRuntime) {
     let catalog = catalog_of(&rt, rt.alloc(), MAPS);
     assert_looks_up(&rt, &catalog);
-    for (domain, map) in &ABSENT {
+    for (domain, map) in ABSENT {
         let came = (*domain, *map, catalog.find(*domain, *map));
         assert_same(&rt, &came, &(*domain, *map, None), "a map that is absent");
     }
-    for (domain, served) in &DOMAINS {
+    for (domain, served) in DOMAINS {
         let came = (*domain, catalog.serves(*domain));
         assert_same(&rt, &came, &(*domain, *served), "a domain");
     }
@@ -50,11 +50,14 @@ fn copies_a_catalogue(rt: HostRuntime) {
 #[test]
 fn serves_no_map(rt: HostRuntime) {
     let catalog = catalog_of(&rt, rt.alloc(), &[]);
-    assert_same(&rt, &catalog.is_empty(), &true, "no map");
-    assert_same(&rt, &catalog.len(), &0, "how many maps there are");
-    assert_same(&rt, &catalog.listed().len(), &0, "no map is listed");
-    assert_same(&rt, &catalog.find(b"d", b"m"), &None, "no map is found");
-    assert_same(&rt, &catalog.serves(b"d"), &false, "no domain");
+    let found = (catalog.find(b"d", b"m"), catalog.serves(b"d"));
+    let came = (
+        catalog.is_empty(),
+        catalog.len(),
+        catalog.listed().len(),
+        found,
+    );
+    assert_same(&rt, &came, &(true, 0, 0, (None, false)), "no map");
 }
 
 // How many maps a catalogue of a host has, or why there is none.
@@ -76,7 +79,7 @@ const LONG: &[u8] = &[b'n'; 65];
 const FULL: &[u8] = &[b'n'; 64];
 
 // An own name, maps, and how many there are or the fault that they have.
-static FAULTS: [(&str, &[u8], &[Pair<'static>], Result<u32, CatalogFault>); 9] = [
+const FAULTS: &[(&str, &[u8], &[Pair<'static>], Result<u32, CatalogFault>)] = &[
     (
         "no own name, before a bad one",
         b"",
@@ -128,23 +131,13 @@ static FAULTS: [(&str, &[u8], &[Pair<'static>], Result<u32, CatalogFault>); 9] =
     ),
 ];
 
-fn check_made(
-    rt: &impl Abort,
-    alloc: Global,
-    own: &[u8],
-    pairs: &[Pair<'_>],
-    wanted: &Result<u32, CatalogFault>,
-    row: &str,
-) {
-    let maps = names(rt, alloc, pairs);
-    let made = count_or_fault(rt, alloc, own, maps);
-    assert_same(rt, &made, wanted, row);
-}
-
 #[test]
 fn refuses_maps(rt: HostRuntime) {
-    for (row, own, pairs, wanted) in &FAULTS {
-        check_made(&rt, rt.alloc(), *own, *pairs, wanted, row);
+    let alloc = rt.alloc();
+    for (row, own, pairs, wanted) in FAULTS {
+        let maps = names(&rt, alloc, *pairs);
+        let made = count_or_fault(&rt, alloc, *own, maps);
+        assert_same(&rt, &made, wanted, *row);
     }
 }
 

@@ -60,35 +60,23 @@ fn held_orders(rt: &impl Abort, board: &PlainBoard) -> [Option<u32>; 5] {
     ]
 }
 
-// A map and the order of a version that is shown of it, and the orders that are held then.
-static STEPS: [(u32, u32, [Option<u32>; 5]); 3] = [
-    (1, 6, [None, Some(6), None, Some(8), None]),
-    (4, 9, [None, Some(6), None, Some(8), Some(9)]),
-    (1, 10, [None, Some(10), None, Some(8), Some(9)]),
-];
-
-fn check_shown<R: RandomSource + Abort>(
-    rt: &R,
-    alloc: Global,
-    board: &mut PlainBoard,
-    map: u32,
-    order: u32,
-    held: [Option<u32>; 5],
-) {
-    assert_has(rt, board.catalog(), map);
-    board
-        .show(map, version(rt, alloc, order))
-        .expect(rt, "memory");
-    board.refresh();
-    let came = (order, held_orders(rt, board));
-    assert_same(rt, &came, &(order, held), "the order that is shown");
-}
-
 fn assert_shows<R: RandomSource + Abort>(rt: &R, alloc: Global, board: &mut PlainBoard) {
     let before = [None, Some(7), None, Some(8), None];
     assert_same(rt, &held_orders(rt, board), &before, "before");
-    for (map, order, held) in &STEPS {
-        check_shown(rt, alloc, board, *map, *order, *held);
+    // A map and the order of a version that is shown of it, and the orders that are held then.
+    let steps: [(u32, u32, [Option<u32>; 5]); 3] = [
+        (1, 6, [None, Some(6), None, Some(8), None]),
+        (4, 9, [None, Some(6), None, Some(8), Some(9)]),
+        (1, 10, [None, Some(10), None, Some(8), Some(9)]),
+    ];
+    for (map, order, held) in steps {
+        assert_has(rt, board.catalog(), map);
+        board
+            .show(map, version(rt, alloc, order))
+            .expect(rt, "memory");
+        board.refresh();
+        let came = (order, held_orders(rt, board));
+        assert_same(rt, &came, &(order, held), "the order that is shown");
     }
     assert_looks_up(rt, board.catalog());
 }

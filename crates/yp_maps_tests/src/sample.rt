@@ -53,18 +53,22 @@ fn assert_finds(rt: &impl Abort, catalog: &Catalog, number: u32, pair: Pair<'_>)
     assert_has(rt, catalog, number);
     let found = catalog.find(domain, map);
     let name = catalog.name(number);
-    assert_same(rt, &found, &Some(number), "a map");
-    assert_same(rt, &name.domain.as_slice(), &domain, "its domain");
-    assert_same(rt, &name.map.as_slice(), &map, "its name");
+    let came = (found, name.domain.as_slice(), name.map.as_slice());
+    let wanted = (Some(number), domain, map);
+    assert_same(rt, &came, &wanted, "a map and its name");
 }
 
 // What is looked up in a catalogue of `MAPS`.
 pub fn assert_looks_up(rt: &impl Abort, catalog: &Catalog) {
-    assert_same(rt, &catalog.own(), &b"m1".as_slice(), "the own name");
-    assert_same(rt, &catalog.is_empty(), &false, "it has maps");
-    assert_same(rt, &catalog.len(), &5, "how many maps there are");
+    let came = (
+        catalog.own(),
+        catalog.is_empty(),
+        catalog.len(),
+        catalog.listed(),
+    );
     let listed = [4, 3, 1, 2, 0];
-    assert_same(rt, &catalog.listed(), &listed.as_slice(), "its list");
+    let wanted = (b"m1".as_slice(), false, 5, listed.as_slice());
+    assert_same(rt, &came, &wanted, "five maps");
     for (place, pair) in MAPS.iter().enumerate() {
         assert_finds(rt, catalog, place as u32, *pair);
     }

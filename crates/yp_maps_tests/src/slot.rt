@@ -224,65 +224,55 @@ fn three_commits<R: RandomSource + Abort>(
     (commits, bytes, found)
 }
 
-// Looks at how many of three commits are done by a disk that stops at a call.
-fn check_done<R: RandomSource + Abort>(rt: &R, alloc: Global, stop: u64, done: u32) {
-    let (commits, _bytes, _found) = three_commits(rt, alloc, Some(stop));
-    assert_same(rt, &(stop, commits), &(stop, done), "a disk that stops");
-}
-
-// The same, and at what the disk has then.
-fn check_first<R: RandomSource + Abort>(rt: &R, alloc: Global, stop: u64, done: u32) {
-    let file = bytes(rt, alloc, &[HOSTS_FILE]);
-    let (commits, bytes, _found) = three_commits(rt, alloc, Some(stop));
-    assert_same(rt, &(stop, commits), &(stop, done), "a disk that stops");
-    assert_same(rt, &bytes, &file, "the bytes of the first version");
-}
-
 #[test]
 fn first_commit(rt: HostRuntime) {
+    let alloc = rt.alloc();
+    let file = bytes(&rt, alloc, &[HOSTS_FILE]);
     // Two calls to load, and nine to commit.
-    check_first(&rt, rt.alloc(), 10, 0);
-    check_first(&rt, rt.alloc(), 11, 1);
-}
-
-fn check_never_stopped<R: RandomSource + Abort>(rt: &R, alloc: Global) {
-    let file = bytes(rt, alloc, &[THIRD_FILE]);
-    let (commits, bytes, _found) = three_commits(rt, alloc, None);
-    assert_same(rt, &commits, &3, "never stopped");
-    assert_same(rt, &bytes, &file, "the bytes of the third version");
-}
-
-// The call that a disk stops at, and how many commits are done.
-static STOPS: [(u64, u32); 6] = [(10, 0), (11, 1), (15, 1), (16, 2), (22, 2), (23, 3)];
-
-#[test]
-fn three_installs(rt: HostRuntime) {
-    check_never_stopped(&rt, rt.alloc());
-    // Two calls to load, nine for the first commit, five for the second and seven for the third.
-    for (stop, done) in &STOPS {
-        check_done(&rt, rt.alloc(), *stop, *done);
+    for (stop, done) in [(10, 0), (11, 1)] {
+        let (commits, bytes, _found) = three_commits(&rt, alloc, Some(stop));
+        let came = (stop, commits, bytes.as_slice());
+        let wanted = (stop, done, file.as_slice());
+        assert_same(&rt, &came, &wanted, "the call that it stops at");
     }
 }
 
-// Looks at what crashes leave of a disk that stops at a call.
-fn check_found<R: RandomSource + Abort>(rt: &R, alloc: Global, stop: u64, wanted: [Found; 4]) {
-    let (_commits, _bytes, found) = three_commits(rt, alloc, Some(stop));
-    assert_same(rt, &(stop, found), &(stop, wanted), "a disk that stops");
+#[test]
+fn three_installs(rt: HostRuntime) {
+    let alloc = rt.alloc();
+    let file = bytes(&rt, alloc, &[THIRD_FILE]);
+    let (commits, bytes, _found) = three_commits(&rt, alloc, None);
+    let came = (commits, bytes.as_slice());
+    assert_same(&rt, &came, &(3, file.as_slice()), "never stopped");
+    // Two calls to load, nine for the first commit, five for the second and seven for the third.
+    for (stop, done) in [(10, 0), (11, 1), (15, 1), (16, 2), (22, 2), (23, 3)] {
+        let (commits, _bytes, _found) = three_commits(&rt, alloc, Some(stop));
+        let came = (stop, commits);
+        assert_same(&rt, &came, &(stop, done), "the call that it stops at");
+    }
 }
 
 #[test]
 fn third_install_stopped(rt: HostRuntime) {
-    let alloc = rt.alloc();
     let (second, third) = (stored(101, 2), stored(102, 3));
     // The calls of the third commit have the numbers 16 to 22. The last would sync the write that opens the cell.
-    for stop in 16..22 {
-        check_found(&rt, alloc, stop, [second; 4]);
+    for stop in 16..23 {
+        let wanted = match stop {
+            22 => [second, third, second, third],
+            _ => [second; 4],
+        };
+        let (_commits, _bytes, found) = three_commits(&rt, rt.alloc(), Some(stop));
+        assert_same(
+            &rt,
+            &(stop, found),
+            &(stop, wanted),
+            "the call that it stops at",
+        );
     }
-    check_found(&rt, alloc, 22, [second, third, second, third]);
 }
 
 // What stands after so many commits.
-static STANDS: [Found; 5] = [
+const STANDS: [Found; 5] = [
     NOTHING,
     Ok(Some((100, false, 1))),
     Ok(Some((101, false, 2))),
@@ -290,22 +280,18 @@ static STANDS: [Found; 5] = [
     Ok(Some((103, false, 4))),
 ];
 
-// After each crash the file stands for the commits that are done, or for one more.
-fn check_stop<R: RandomSource + Abort>(rt: &R, alloc: Global, stop: u64) {
-    let (commits, _bytes, found) = three_commits(rt, alloc, Some(stop));
-    assert!(rt; commits <= 3, "{commits} commits before the call {stop}");
-    let before = STANDS[commits as usize];
-    let after = STANDS[commits as usize + 1];
-    for kept in &found {
-        let is_either = *kept == before || *kept == after;
-        assert_same(rt, &(stop, is_either), &(stop, true), "a crash");
-    }
-}
-
 #[test]
 fn every_stop(rt: HostRuntime) {
     for stop in 0..24 {
-        check_stop(&rt, rt.alloc(), stop);
+        let (commits, _bytes, found) = three_commits(&rt, rt.alloc(), Some(stop));
+        let before = STANDS.get(commits as usize);
+        let after = STANDS.get(commits as usize + 1);
+        let is_either = found
+            .iter()
+            .all(|kept| Some(kept) == before || Some(kept) == after);
+        let came = (stop, commits <= 3, is_either, found);
+        let wanted = (stop, true, true, found);
+        assert_same(&rt, &came, &wanted, "the call that it stops at");
     }
 }
 

@@ -37,7 +37,7 @@ const KEYS: [Row; 9] = [
 ];
 
 // The rows by rising keys: the number of each, its key and value, and what comes next.
-static IN_ORDER: [(usize, Row, Next); 9] = [
+const IN_ORDER: [(usize, Row, Next); 9] = [
     (0, (b"a", b"1"), Next::Row(b"ab", b"2")),
     (1, (b"ab", b"2"), Next::Row(b"b", b"3")),
     (2, (b"b", b"3"), Next::Row(b"b\x00", b"")),
@@ -50,7 +50,7 @@ static IN_ORDER: [(usize, Row, Next); 9] = [
 ];
 
 // Keys of no row, and what a test calls them.
-static ABSENT: [(&[u8], &str); 6] = [
+const ABSENT: [(&[u8], &str); 6] = [
     (b"", "no byte"),
     (b"aa", "aa"),
     (b"abc", "abc"),
@@ -59,16 +59,11 @@ static ABSENT: [(&[u8], &str); 6] = [
     (b"\xff\x01", "ff 01"),
 ];
 
-fn check_row<R: Abort>(rt: &R, version: &Version, i: usize, row: Row<'_>, next: &Next<'_>) {
-    let (key, value) = row;
-    assert_same(rt, &(i, version.row(i)), &(i, Some(row)), "a row");
-    assert_same(rt, &(i, version.get(key)), &(i, Some(value)), "its value");
-    assert_same(rt, &version.next(key), next, "the next row");
-}
-
 fn assert_rows<R: Abort>(rt: &R, version: &Version) {
-    for (i, row, next) in &IN_ORDER {
-        check_row(rt, version, *i, *row, next);
+    for (i, (key, value), next) in &IN_ORDER {
+        let came = (*i, version.row(*i), version.get(*key), version.next(*key));
+        let wanted = (*i, Some((*key, *value)), Some(*value), *next);
+        assert_same(rt, &came, &wanted, "a row");
     }
 }
 
@@ -85,10 +80,9 @@ fn assert_absent<R: Abort>(rt: &R, version: &Version) {
 }
 
 fn assert_ends<R: Abort>(rt: &R, version: &Version) {
-    assert_same(rt, &version.len(), &9, "how many rows there are");
+    let came = (version.len(), version.first(), version.row(9));
     let first = (b"a".as_slice(), b"1".as_slice());
-    assert_same(rt, &version.first(), &Some(first), "the first row");
-    assert_same(rt, &version.row(9), &None, "no row behind the last");
+    assert_same(rt, &came, &(9, Some(first), None), "ends");
 }
 
 #[test]
@@ -115,13 +109,16 @@ const TWO: [Row; 2] = [(b"alpha", b"1"), (b"", b"four")];
 
 // What a version of order 7 and two rows answers.
 fn assert_marked<R: Abort>(rt: &R, version: &Version, secure: bool, row: &str) {
-    assert_same(rt, &version.row(0), &Some(TWO[1]), row);
-    assert_same(rt, &version.row(1), &Some(TWO[0]), row);
-    assert_same(rt, &version.secure(), &secure, row);
-    assert_same(rt, &version.order(), &7, row);
-    assert_same(rt, &version.master(), &b"m1".as_slice(), row);
-    let len = 20 + (8 + 8 + 4) + (8 + 4);
-    assert_same(rt, &version.body_len(), &len, row);
+    let rows = [version.row(0), version.row(1)];
+    let facts = (
+        version.secure(),
+        version.order(),
+        version.master(),
+        version.body_len(),
+    );
+    let wanted = (secure, 7, b"m1".as_slice(), 20 + (8 + 8 + 4) + (8 + 4));
+    let wanted = ([Some(TWO[1]), Some(TWO[0])], wanted);
+    assert_same(rt, &(rows, facts), &wanted, row);
 }
 
 #[test]
@@ -133,27 +130,33 @@ fn marked_version(rt: HostRuntime) {
     assert_marked(&rt, &secure.marked(false), false, "plain again");
 }
 
-fn check_long<R: Abort>(rt: &R, builder: &mut VersionBuilder, over: &[u8], longest: &[u8]) {
-    let key_long = Err(VersionFault::KeyLong { len: 65_537 });
-    assert_same(rt, &builder.push(over, over), &key_long, "a long key");
-    let value_long = Err(VersionFault::ValueLong { len: 65_537 });
-    let pushed = builder.push(b"alpha", over);
-    assert_same(rt, &pushed, &value_long, "a long value");
-    let pushed = builder.push(longest, longest);
-    assert_same(rt, &pushed, &Ok(true), "the longest row");
-    assert_same(rt, &builder.push(b"alpha", b"one"), &Ok(true), "alpha");
-    let pushed = builder.push(b"alpha", b"two");
-    assert_same(rt, &pushed, &Ok(false), "alpha again");
-    assert_same(rt, &builder.len(), &2, "how many rows there are");
+// What a push answers.
+type Pushed = Result<bool, VersionFault>;
+
+fn push_long(builder: &mut VersionBuilder, over: &[u8], longest: &[u8]) -> ([Pushed; 5], usize) {
+    let answers = [
+        builder.push(over, over),
+        builder.push(b"alpha", over),
+        builder.push(longest, longest),
+        builder.push(b"alpha", b"one"),
+        builder.push(b"alpha", b"two"),
+    ];
+    (answers, builder.len())
 }
 
 // The same of a new builder, of whose version one value is looked at.
-fn check_limits<R: RandomSource + Abort>(rt: &R, alloc: Global, over: &[u8], longest: &[u8]) {
+fn pushed_long<R: RandomSource + Abort>(
+    rt: &R,
+    alloc: Global,
+    over: &[u8],
+    longest: &[u8],
+) -> ([Pushed; 5], usize) {
     let mut builder = builder(rt, alloc);
-    check_long(rt, &mut builder, over, longest);
+    let came = push_long(&mut builder, over, longest);
     let version = builder.finish().expect(rt, "a version");
     let value = Some(b"one".as_slice());
     assert_same(rt, &version.get(b"alpha"), &value, "alpha");
+    came
 }
 
 #[test]
@@ -161,7 +164,15 @@ fn builder_limits(rt: HostRuntime) {
     let alloc = rt.alloc();
     let over = vec![in alloc; b'k'; 65_537].expect(&rt, "a key");
     let longest = vec![in alloc; b'k'; 65_536].expect(&rt, "a key");
-    check_limits(&rt, alloc, &over, &longest);
+    let wanted = [
+        Err(VersionFault::KeyLong { len: 65_537 }),
+        Err(VersionFault::ValueLong { len: 65_537 }),
+        Ok(true),
+        Ok(true),
+        Ok(false),
+    ];
+    let came = pushed_long(&rt, alloc, &over, &longest);
+    assert_same(&rt, &came, &(wanted, 2), "long rows");
 }
 
 // Puts so many rows whose keys are the numbers from 0 on.
@@ -172,56 +183,64 @@ fn put_numbers<R: Abort>(rt: &R, builder: &mut VersionBuilder, count: u32, value
     }
 }
 
-fn check_at_most_rows<R: Abort>(rt: &R, builder: &mut VersionBuilder, count: usize) {
-    let too_many = Err(VersionFault::TooManyRows);
-    let pushed = builder.push(b"alpha", b"");
-    assert_same(rt, &pushed, &too_many, "a row too many");
-    let pushed = builder.push(&[0, 0, 0, 0], b"");
-    assert_same(rt, &pushed, &Ok(false), "the first row again");
-    assert_same(rt, &builder.len(), &count, "how many rows there are");
+fn push_at_most_rows(builder: &mut VersionBuilder) -> ([Pushed; 2], usize) {
+    let answers = [
+        builder.push(b"alpha", b""),
+        builder.push(&[0, 0, 0, 0], b""),
+    ];
+    (answers, builder.len())
 }
 
-// Pushes into a builder of as many rows as there may be, of whose version two rows are looked at.
-fn check_most_rows<R: RandomSource + Abort>(rt: &R, alloc: Global) {
+// What pushes into a builder of so many rows answer, of whose version two rows are looked at.
+fn pushed_at<R: RandomSource + Abort>(rt: &R, alloc: Global, count: u32) -> ([Pushed; 2], usize) {
     let mut builder = builder(rt, alloc);
-    put_numbers(rt, &mut builder, 262_144, b"");
-    check_at_most_rows(rt, &mut builder, 262_144);
+    put_numbers(rt, &mut builder, count, b"");
+    let came = push_at_most_rows(&mut builder);
     let version = builder.finish().expect(rt, "a version");
     let next = Next::Row(&[0, 3, 255, 255], b"");
     assert_same(rt, &version.next(&[0, 3, 255, 254]), &next, "the last row");
+    came
 }
 
 #[test]
 fn too_many_rows(rt: HostRuntime) {
-    check_most_rows(&rt, rt.alloc());
+    let wanted = [Err(VersionFault::TooManyRows), Ok(false)];
+    let came = pushed_at(&rt, rt.alloc(), 262_144);
+    assert_same(&rt, &came, &(wanted, 262_144), "a row too many");
 }
 
-fn check_at_most_bytes<R: Abort>(rt: &R, builder: &mut VersionBuilder) {
-    let too_big = Err(VersionFault::TooBig);
-    let pushed = builder.push(b"more", &[b'v'; 1_024]);
-    assert_same(rt, &pushed, &too_big, "a row too big");
-    let pushed = builder.push(&[0, 0, 0, 0], &[b'v'; 1_024]);
-    assert_same(rt, &pushed, &Ok(false), "the first row again");
-    let pushed = builder.push(b"more", &[b'v'; 200]);
-    assert_same(rt, &pushed, &Ok(true), "the last bytes");
-    assert_same(rt, &builder.push(b"", b""), &too_big, "a byte too many");
+fn push_at_most_bytes(builder: &mut VersionBuilder) -> [Pushed; 4] {
+    [
+        builder.push(b"more", &[b'v'; 1_024]),
+        builder.push(&[0, 0, 0, 0], &[b'v'; 1_024]),
+        builder.push(b"more", &[b'v'; 200]),
+        builder.push(b"", b""),
+    ]
 }
 
-// With the head of 20 bytes, 16,194 rows of 1,036 bytes take 16,777,004 of 16,777,216.
-fn check_most_bytes<R: RandomSource + Abort>(rt: &R, alloc: Global) {
+// What pushes into a builder of so many rows of 1,036 bytes answer, and how long the body of its version is.
+fn pushed_over<R: RandomSource + Abort>(rt: &R, alloc: Global, count: u32) -> ([Pushed; 4], usize) {
     let mut builder = builder(rt, alloc);
-    put_numbers(rt, &mut builder, 16_194, &[b'v'; 1_024]);
-    check_at_most_bytes(rt, &mut builder);
+    put_numbers(rt, &mut builder, count, &[b'v'; 1_024]);
+    let came = push_at_most_bytes(&mut builder);
     let version = builder.finish().expect(rt, "a version");
-    assert_same(rt, &version.body_len(), &16_777_216, "all bytes");
+    (came, version.body_len())
 }
 
 #[test]
 fn too_big(rt: HostRuntime) {
-    check_most_bytes(&rt, rt.alloc());
+    // With the head of 20 bytes, 16,194 rows of 1,036 bytes take 16,777,004 of 16,777,216.
+    let wanted = [
+        Err(VersionFault::TooBig),
+        Ok(false),
+        Ok(true),
+        Err(VersionFault::TooBig),
+    ];
+    let came = pushed_over(&rt, rt.alloc(), 16_194);
+    assert_same(&rt, &came, &(wanted, 16_777_216), "a byte too many");
 }
 
-static FAULTS: [(VersionFault, &str); 5] = [
+const FAULTS: [(VersionFault, &str); 5] = [
     (
         VersionFault::KeyLong { len: 65_537 },
         "key of 65537 bytes is over the limit",
@@ -285,27 +304,28 @@ fn many_rows<R: RandomSource + Abort>(rt: &R, alloc: Global, factor: u32) -> Ver
 fn assert_many<R: Abort>(rt: &R, version: &Version, factor: u32, order: &str) {
     for step in 0..MANY {
         let value = step.to_be_bytes();
-        let came = (step, version.get(&key_of(step, factor)));
-        assert_same(rt, &came, &(step, Some(value.as_slice())), order);
+        let wanted = (step, Some(value.as_slice()));
+        assert_same(
+            rt,
+            &(step, version.get(&key_of(step, factor))),
+            &wanted,
+            order,
+        );
     }
-    assert_same(rt, &version.next(&[0, 0, 63, 255]), &Next::Last, order);
-    assert_same(rt, &version.next(&[0, 0, 64, 0]), &Next::Absent, order);
+    let ends = [version.next(&[0, 0, 63, 255]), version.next(&[0, 0, 64, 0])];
+    assert_same(rt, &ends, &[Next::Last, Next::Absent], order);
 }
 
 // By an odd factor each number comes once: by 1 they rise, and by one less than all they fall but for the first.
-static ORDERS: [(u32, &str); 3] = [(1, "rising"), (16_383, "falling"), (10_007, "mixed")];
-
-fn check_order<R: RandomSource + Abort>(rt: &R, alloc: Global, factor: u32, order: &str) {
-    let version = many_rows(rt, alloc, factor);
-    assert_many(rt, &version, factor, order);
-    let version = version.indexed(alloc);
-    assert_many(rt, &version, factor, order);
-}
+const ORDERS: [(u32, &str); 3] = [(1, "rising"), (16_383, "falling"), (10_007, "mixed")];
 
 #[test]
 fn many_rows_in_any_order(rt: HostRuntime) {
     for (factor, order) in &ORDERS {
-        check_order(&rt, rt.alloc(), *factor, order);
+        let version = many_rows(&rt, rt.alloc(), *factor);
+        assert_many(&rt, &version, *factor, *order);
+        let version = version.indexed(rt.alloc());
+        assert_many(&rt, &version, *factor, *order);
     }
 }
 
@@ -322,7 +342,7 @@ impl RandomSource for Zeros {
 // By SipHash-1-3 with both keys 0 the hash of each of these is between 0.15 and 0.2 of 2^64, so they share one of 4, 8
 // and 20 buckets: those of a table of one row and of five while they are pushed, and of a version of them. Those of
 // `cen` and `dmq` also have the same lowest 13 bits.
-static COLLIDING: [Row; 8] = [
+const COLLIDING: [Row; 8] = [
     (b"dmq", b"7"),
     (b"ap", b"0"),
     (b"cen", b"6"),

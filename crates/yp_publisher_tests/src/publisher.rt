@@ -355,69 +355,50 @@ fn order_of<R: RandomSource + Abort>(rt: &R, alloc: Global, file: Vec<u8>) -> Ve
     loaded_orders(rt, alloc, one_disk(rt, alloc, disk))
 }
 
-// Looks at the order that a crash leaves, which keeps these writes of a disk that stops at a call.
-fn check_left<R: RandomSource + Abort>(rt: &R, alloc: Global, stop: u64, kept: u64, order: u32) {
-    let found = order_of(rt, alloc, stopped(rt, alloc, stop, kept));
-    assert_same(
-        rt,
-        &(stop, kept, found.as_slice()),
-        &(stop, kept, [Some(order)].as_slice()),
-        "a stop, what is kept, and the order",
-    );
-}
-
 #[test]
 fn third_install_stopped(rt: HostRuntime) {
     let alloc = rt.alloc();
     // Two calls load an empty disk. Nine, five and seven calls install a version.
-    for stop in 16..22 {
-        check_left(&rt, alloc, stop, 0, 101);
-        check_left(&rt, alloc, stop, 1, 101);
-        check_left(&rt, alloc, stop, 2, 101);
-        check_left(&rt, alloc, stop, 3, 101);
+    for stop in 16..23 {
+        for kept in 0..4 {
+            let found = order_of(&rt, alloc, stopped(&rt, alloc, stop, kept));
+            let third = stop == 22 && kept % 2 == 1;
+            let order = if third { 102 } else { 101 };
+            assert_same(
+                &rt,
+                &(stop, kept, found.as_slice()),
+                &(stop, kept, [Some(order)].as_slice()),
+                "a stop, what is kept, and the order",
+            );
+        }
     }
-    check_left(&rt, alloc, 22, 0, 101);
-    check_left(&rt, alloc, 22, 1, 102);
-    check_left(&rt, alloc, 22, 2, 101);
-    check_left(&rt, alloc, 22, 3, 102);
-}
-
-// A call of the third install fails, which leaves this order and generation, and the map is opened again.
-fn check_reopened<R: RandomSource + Abort>(
-    rt: &R,
-    alloc: Global,
-    failing: u64,
-    order: u32,
-    generation: u64,
-    next: u64,
-) {
-    let behind = ("a build behind", Call::Build(103), Answer::Behind, FAULT.3);
-    let level = (Some(order), generation, Standing::Level);
-    let rows = [
-        LOOKED,
-        FIRST,
-        SECOND,
-        FAULT,
-        behind,
-        ("a reopen", Call::Reopen, Answer::Reopened, level),
-        (
-            "the next build",
-            Call::Build(103),
-            Answer::Done {
-                order: 103,
-                generation: next,
-            },
-            (Some(103), next, Standing::Level),
-        ),
-    ];
-    play_failing(rt, alloc, &[failing], &rows);
 }
 
 #[test]
 fn reopens_behind(rt: HostRuntime) {
+    let behind = ("a build behind", Call::Build(103), Answer::Behind, FAULT.3);
     // The first call of the third install fails, which writes nothing, or its last sync does.
-    check_reopened(&rt, rt.alloc(), 16, 101, 2, 3);
-    check_reopened(&rt, rt.alloc(), 22, 102, 3, 4);
+    for (failing, order, generation, next) in [(16, 101, 2, 3), (22, 102, 3, 4)] {
+        let level = (Some(order), generation, Standing::Level);
+        let rows = [
+            LOOKED,
+            FIRST,
+            SECOND,
+            FAULT,
+            behind,
+            ("a reopen", Call::Reopen, Answer::Reopened, level),
+            (
+                "the next build",
+                Call::Build(103),
+                Answer::Done {
+                    order: 103,
+                    generation: next,
+                },
+                (Some(103), next, Standing::Level),
+            ),
+        ];
+        play_failing(&rt, rt.alloc(), &[failing], &rows);
+    }
 }
 
 #[test]
@@ -454,7 +435,7 @@ const BUILT: Origin = Origin::Built;
 
 const FETCHED: Origin = Origin::Fetched;
 
-static OFFERS: [Offered; 14] = [
+const OFFERS: [Offered; 14] = [
     (b"m1", HOSTS_FILE, BUILT, 101, false, Outcome::Installs),
     (b"m1", HOSTS_FILE, BUILT, 100, false, Outcome::Ages),
     (b"m1", HOSTS_FILE, BUILT, 99, false, Outcome::Ages),

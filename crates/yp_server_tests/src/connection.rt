@@ -331,7 +331,7 @@ fn assert_failed(
 // body and its entry, syncs, and writes and syncs the gate; the second finds the cells made and the other one closed.
 // So they make the calls from 2 to 10 and from 11 to 15. After a failed first one the file is opened again in the
 // second.
-static ONCE_FAILING: [Failing<'static>; 5] = [
+const ONCE_FAILING: &[Failing<'static>] = &[
     Failing {
         first: 2,
         last: 9,
@@ -364,23 +364,20 @@ static ONCE_FAILING: [Failing<'static>; 5] = [
     },
 ];
 
-fn check_failing<R: RandomSource + Abort>(rt: &R, alloc: Global, wanted: &Failing<'_>, call: u64) {
-    let output = bytes(rt, alloc, wanted.output);
-    let input = bytes(rt, alloc, TWICE);
-    let (came, orders) = served_from_one(rt, alloc, None, call, input);
-    assert_failed(rt, &came, &orders, &output, wanted, call);
-}
-
 #[test]
 fn each_disk_call_fails_once(rt: HostRuntime) {
-    for wanted in &ONCE_FAILING {
-        for failing in wanted.first..=wanted.last {
-            check_failing(&rt, rt.alloc(), wanted, failing);
+    let alloc = rt.alloc();
+    for wanted in ONCE_FAILING {
+        let output = bytes(&rt, alloc, wanted.output);
+        for failing in wanted.first..wanted.last + 1 {
+            let input = bytes(&rt, alloc, TWICE);
+            let (came, orders) = served_from_one(&rt, alloc, None, failing, input);
+            assert_failed(&rt, &came, &orders, &output, wanted, failing);
         }
     }
 }
 
-static STOPPED: [Failing<'static>; 5] = [
+const STOPPED: &[Failing<'static>] = &[
     Failing {
         first: 2,
         last: 9,
@@ -413,36 +410,30 @@ static STOPPED: [Failing<'static>; 5] = [
     },
 ];
 
-fn check_stopped<R: RandomSource + Abort>(rt: &R, alloc: Global, wanted: &Failing<'_>, stop: u64) {
-    let output = bytes(rt, alloc, wanted.output);
-    let input = bytes(rt, alloc, TWICE);
-    let (came, orders) = served_from_one(rt, alloc, Some(stop), NEVER, input);
-    assert_failed(rt, &came, &orders, &output, wanted, stop);
-}
-
 #[test]
 fn disk_stops_at_each_call(rt: HostRuntime) {
-    for wanted in &STOPPED {
-        for stop in wanted.first..=wanted.last {
-            check_stopped(&rt, rt.alloc(), wanted, stop);
+    let alloc = rt.alloc();
+    for wanted in STOPPED {
+        let output = bytes(&rt, alloc, wanted.output);
+        for stop in wanted.first..wanted.last + 1 {
+            let input = bytes(&rt, alloc, TWICE);
+            let (came, orders) = served_from_one(&rt, alloc, Some(stop), NEVER, input);
+            assert_failed(&rt, &came, &orders, &output, wanted, stop);
         }
     }
 }
 
-// The disk isn't opened where this call fails: nothing is read or written, and its file stays empty.
-fn check_not_opened<R: RandomSource + Abort>(rt: &R, alloc: Global, failing: u64, row: &str) {
-    let input = bytes(rt, alloc, TWICE);
-    let (came, _) = served_from_one(rt, alloc, None, failing, input);
-    let (end, written, left, files) = came;
-    let fault = SlotFault::DiskFault;
-    assert_same(rt, &end, &Err(OpenFault::Refused { map: 0, fault }), row);
-    assert_same(rt, &written.len(), &0, row);
-    assert_same(rt, &left, &bytes(rt, alloc, TWICE), row);
-    assert_same(rt, &files.as_slice(), &[Vec::new(alloc)].as_slice(), row);
-}
-
 #[test]
 fn disk_that_is_not_opened(rt: HostRuntime) {
-    check_not_opened(&rt, rt.alloc(), 0, "call 0 fails");
-    check_not_opened(&rt, rt.alloc(), 1, "call 1 fails");
+    let alloc = rt.alloc();
+    let fault = SlotFault::DiskFault;
+    let end = Err(OpenFault::Refused { map: 0, fault });
+    let left = bytes(&rt, alloc, TWICE);
+    let files = vec![in alloc; Vec::new(alloc)].expect(&rt, "files");
+    let wanted = (end, Vec::new(alloc), left, files);
+    for (row, failing) in [("call 0 fails", 0), ("call 1 fails", 1)] {
+        let input = bytes(&rt, alloc, TWICE);
+        let (came, _) = served_from_one(&rt, alloc, None, failing, input);
+        assert_same(&rt, &came, &wanted, row);
+    }
 }

@@ -107,19 +107,14 @@ fn came_of(rt: &impl Abort, runtime: HostRuntime, alloc: Global, making: &Making
     (made, looked_up, stored)
 }
 
-fn check_making(rt: &impl Abort, runtime: HostRuntime, alloc: Global, making: &Making<'_>) {
-    let (made, looked_up, stored) = came_of(rt, runtime, alloc, making);
-    let reply = bytes(rt, alloc, &["8000001c 00000002", MADE, making.stat]);
-    assert_same(rt, &made, &(End::Clean, reply), making.row);
-    let reply = bytes(rt, alloc, making.answer);
-    assert_same(rt, &looked_up, &(End::Clean, reply), making.row);
-    assert_same(rt, &stored, &making.stored, making.row);
-}
-
 // Makes maps, each over a host of its own, and compares what comes.
 fn assert_makes(rt: &impl Abort, runtime: HostRuntime, alloc: Global, makings: &[Making<'_>]) {
     for making in makings {
-        check_making(rt, runtime, alloc, making);
+        let made = bytes(rt, alloc, &["8000001c 00000002", MADE, making.stat]);
+        let looked_up = bytes(rt, alloc, making.answer);
+        let wanted = ((End::Clean, made), (End::Clean, looked_up), making.stored);
+        let came = came_of(rt, runtime, alloc, making);
+        assert_same(rt, &came, &wanted, making.row);
     }
 }
 

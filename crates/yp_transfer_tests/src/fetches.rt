@@ -90,41 +90,30 @@ fn hosts_version<R: Abort>(rt: &R, alloc: Global) -> Seen {
     )
 }
 
-// A name, the order that is shown, whether the fetch is forced, its fault, if any, and how many calls it makes.
-type Aged = (&'static str, Option<u32>, bool, Option<XfrFault>, usize);
-
-const OLDER: XfrFault = XfrFault::Age {
-    shown: 100,
-    offered: 100,
-};
-
-static AGED: [Aged; 5] = [
-    ("nothing is shown", None, false, None, 4),
-    ("an older one is shown", Some(99), false, None, 4),
-    ("the same is shown", Some(100), false, Some(OLDER), 1),
-    ("the same, forced", Some(100), true, None, 4),
-    ("a newer one, forced", Some(101), true, None, 4),
-];
-
-fn check_aged<R: RandomSource + Abort>(rt: &R, alloc: Global, row: &Aged) {
-    let (name, shown, force, fault, calls) = *row;
-    let outcome = match fault {
-        None => Ok(hosts_version(rt, alloc)),
-        Some(fault) => Err(fault),
-    };
-    let replies = [ORDER_REPLY, MASTER_REPLY, ALL_REPLY, SECOND_REPLY];
-    let input = bytes(rt, alloc, &replies);
-    let (came, wires, sent) = fetch_by(rt, alloc, input, FAIR, shown, force);
-    assert_same(rt, &came, &outcome, name);
-    assert_same(rt, &wires, &1, name);
-    let asked = CALLS.get(..calls).unwrap_or(&[]);
-    assert_same(rt, &sent, &bytes(rt, alloc, asked), name);
-}
-
 #[test]
 fn age_and_force(rt: HostRuntime) {
-    for row in &AGED {
-        check_aged(&rt, rt.alloc(), row);
+    let alloc = rt.alloc();
+    let replies = [ORDER_REPLY, MASTER_REPLY, ALL_REPLY, SECOND_REPLY];
+    let older = XfrFault::Age {
+        shown: 100,
+        offered: 100,
+    };
+    let cases: [(&str, Option<u32>, bool, Option<XfrFault>, usize); 5] = [
+        ("nothing is shown", None, false, None, 4),
+        ("an older one is shown", Some(99), false, None, 4),
+        ("the same is shown", Some(100), false, Some(older), 1),
+        ("the same, forced", Some(100), true, None, 4),
+        ("a newer one, forced", Some(101), true, None, 4),
+    ];
+    for (name, shown, force, fault, calls) in &cases {
+        let outcome = match *fault {
+            None => Ok(hosts_version(&rt, alloc)),
+            Some(fault) => Err(fault),
+        };
+        let wanted = (outcome, 1, bytes(&rt, alloc, &CALLS[..*calls]));
+        let input = bytes(&rt, alloc, &replies);
+        let came = fetch_by(&rt, alloc, input, FAIR, *shown, *force);
+        assert_same(&rt, &came, &wanted, *name);
     }
 }
 
@@ -173,7 +162,7 @@ const SKEW: XfrFault = XfrFault::Skew {
 /// What a source sends, the fault, and how many calls were made.
 type Hostile = (&'static str, &'static [&'static str], XfrFault, usize);
 
-static HOSTILE: [Hostile; 13] = [
+const HOSTILE: [Hostile; 13] = [
     ("no such map", &[NOMAP], XfrFault::Nomap, 1),
     ("no such domain", &[NODOM], XfrFault::Nodom, 1),
     (
@@ -315,22 +304,19 @@ fn failing<R: RandomSource + Abort>(rt: &R, alloc: Global, weather: Weather<'_>)
     false
 }
 
-fn check_failing<R: RandomSource + Abort>(rt: &R, alloc: Global, weather: Weather<'_>) {
-    let failed = failing(rt, alloc, weather);
-    assert!(rt; failed, "{weather:?}");
-}
-
 #[test]
 fn one_failing_call(rt: HostRuntime) {
     let alloc = rt.alloc();
     // Each reply takes two reads or more, and each call two writes and a flush.
     for call in 0..8 {
         let reads: &[u64] = &[call];
-        check_failing(&rt, alloc, Weather { reads, ..FAIR });
+        let failed = failing(&rt, alloc, Weather { reads, ..FAIR });
+        assert!(rt; failed, "a read {call}");
     }
     for call in 0..12 {
         let writes: &[u64] = &[call];
-        check_failing(&rt, alloc, Weather { writes, ..FAIR });
+        let failed = failing(&rt, alloc, Weather { writes, ..FAIR });
+        assert!(rt; failed, "a write {call}");
     }
     let late = Weather {
         reads: &[99],

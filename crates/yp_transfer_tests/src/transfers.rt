@@ -164,7 +164,7 @@ type Transferred = (
     &'static [&'static str],
 );
 
-static TRANSFERS: [Transferred; 8] = [
+const TRANSFERS: [Transferred; 8] = [
     (
         "an empty file",
         FIRST,
@@ -238,23 +238,37 @@ static TRANSFERS: [Transferred; 8] = [
     ),
 ];
 
-fn check_transfer<R: RandomSource + Abort>(rt: &R, alloc: Global, row: &Transferred) {
-    let (name, case, result, secure, file) = row;
-    let (came, is_secure, left) = play(rt, alloc, case);
-    assert_same(rt, &came, result, *name);
-    assert_same(rt, &is_secure, secure, *name);
-    assert_same(rt, &left, &bytes(rt, alloc, *file), *name);
-}
-
 #[test]
 fn transfers(rt: HostRuntime) {
-    for row in &TRANSFERS {
-        check_transfer(&rt, rt.alloc(), row);
+    let alloc = rt.alloc();
+    for (name, case, result, secure, file) in &TRANSFERS {
+        let left = bytes(&rt, alloc, *file);
+        let came = play(&rt, alloc, case);
+        assert_same(&rt, &came, &(*result, *secure, left), *name);
     }
 }
 
-// A transfer where this call of the disk fails.
-fn check_failing<R: RandomSource + Abort>(rt: &R, alloc: Global, call: u64) {
+#[test]
+fn failing_disk(rt: HostRuntime) {
+    let alloc = rt.alloc();
+    // The first two calls load the empty file; the install makes nine.
+    for call in 2..11 {
+        let at: &[u64] = &[call];
+        let came = play_failing(&rt, alloc, at);
+        assert_same(
+            &rt,
+            &came,
+            &(Err(XfrFault::File), None),
+            "a disk that fails",
+        );
+    }
+}
+
+fn play_failing<R: RandomSource + Abort>(
+    rt: &R,
+    alloc: Global,
+    failing: &[u64],
+) -> (Result<(u32, u64), XfrFault>, Option<bool>) {
     let input = bytes(
         rt,
         alloc,
@@ -262,18 +276,8 @@ fn check_failing<R: RandomSource + Abort>(rt: &R, alloc: Global, call: u64) {
     );
     let mut dial = dial(rt, alloc, input, FAIR);
     let hosts = table(rt, alloc);
-    let mut maps = published(rt, alloc, b"s1", &[], &[call]);
-    let (came, secure) = transfer_over(rt, alloc, &mut maps, &mut dial, &hosts, false, None);
-    assert_same(rt, &came, &Err(XfrFault::File), "a disk that fails");
-    assert_same(rt, &secure, &None, "nothing is shown");
-}
-
-#[test]
-fn failing_disk(rt: HostRuntime) {
-    // The first two calls load the empty file; the install makes nine.
-    for call in 2..11 {
-        check_failing(&rt, rt.alloc(), call);
-    }
+    let mut maps = published(rt, alloc, b"s1", &[], failing);
+    transfer_over(rt, alloc, &mut maps, &mut dial, &hosts, false, None)
 }
 
 const ASKER: Asker = Asker {
@@ -296,7 +300,7 @@ const TOLD_SKEW: &str = "00000009 00000000 00000002 40000000 00000001 00000001
     00000000 00000000 00000000 00000000 00000009 fffffff6";
 
 /// A caller, the reply to the second ORDER, and the letter that it gets, if it does.
-static CALLERS: [(&str, Asker, &str, Option<&str>); 5] = [
+const CALLERS: [(&str, Asker, &str, Option<&str>); 5] = [
     ("stored", ASKER, SECOND_REPLY, Some(TOLD_SUCC)),
     ("skewed", ASKER, SKEWED_REPLY, Some(TOLD_SKEW)),
     ("no program", Asker { prog: 0, ..ASKER }, SECOND_REPLY, None),
@@ -338,20 +342,12 @@ fn wanted<R: Abort>(rt: &R, alloc: Global, letter: Option<&str>) -> Vec<(Peer, V
     wanted
 }
 
-fn check_caller<R: RandomSource + Abort>(
-    rt: &R,
-    alloc: Global,
-    row: &(&str, Asker, &str, Option<&str>),
-) {
-    let (name, asker, last, letter) = *row;
-    let wanted = wanted(rt, alloc, letter);
-    let came = told(rt, alloc, asker, last);
-    assert_same(rt, &came, &wanted, name);
-}
-
 #[test]
 fn callers(rt: HostRuntime) {
-    for row in &CALLERS {
-        check_caller(&rt, rt.alloc(), row);
+    let alloc = rt.alloc();
+    for (name, asker, last, letter) in &CALLERS {
+        let wanted = wanted(&rt, alloc, *letter);
+        let came = told(&rt, alloc, *asker, *last);
+        assert_same(&rt, &came, &wanted, *name);
     }
 }

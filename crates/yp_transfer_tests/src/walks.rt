@@ -67,7 +67,7 @@ const BODY: &str = "00000001 00000064 00000002 6d310000 00000001 00000005 616c70
 
 // What came of a walk: how many mails were ignored and how many led on, how it ended, and the call that is then
 // outstanding.
-#[derive(Drop)]
+#[derive(Debug, PartialEq, Drop)]
 struct Came {
     ignored: usize,
     onward: usize,
@@ -194,18 +194,17 @@ struct Row {
     end: Wanted,
 }
 
-fn check_row<R: RandomSource + Abort>(rt: &R, alloc: Global, row: &Row) {
-    let mails = mails_of(rt, alloc, row.mails);
-    let walk = hosts_walk(rt, alloc, None, false);
-    let came = come_of(rt, alloc, walk, &mails);
-    assert_same(rt, &came.ignored, &row.ignored, row.name);
-    assert_same(rt, &came.onward, &row.onward, row.name);
-    assert_same(rt, &came.end, &end_of(rt, alloc, row.end), row.name);
-}
-
 fn check_rows<R: RandomSource + Abort>(rt: &R, alloc: Global, rows: &[Row]) {
     for row in rows {
-        check_row(rt, alloc, row);
+        let mails = mails_of(rt, alloc, row.mails);
+        let wanted = Came {
+            ignored: row.ignored,
+            onward: row.onward,
+            end: end_of(rt, alloc, row.end),
+        };
+        let walk = hosts_walk(rt, alloc, None, false);
+        let came = come_of(rt, alloc, walk, &mails);
+        assert_same(rt, &came, &wanted, row.name);
     }
 }
 
@@ -514,40 +513,30 @@ fn refused(rt: HostRuntime) {
     check_rows(&rt, rt.alloc(), &REFUSED);
 }
 
-const OLDER: XfrFault = XfrFault::Age {
-    shown: 100,
-    offered: 100,
-};
-
-// The order that is shown, whether the walk is forced, and how it ends behind the first reply.
-static AGED: [(&str, Option<u32>, bool, Wanted); 4] = [
-    ("an older one is shown", Some(99), false, Wanted::Asks(64)),
-    (
-        "the same is shown",
-        Some(100),
-        false,
-        Wanted::Refuses(OLDER),
-    ),
-    ("the same, forced", Some(100), true, Wanted::Asks(64)),
-    ("a newer one, forced", Some(101), true, Wanted::Asks(64)),
-];
-
-fn check_aged<R: RandomSource + Abort>(
-    rt: &R,
-    alloc: Global,
-    row: &(&str, Option<u32>, bool, Wanted),
-) {
-    let (name, shown, force, end) = *row;
-    let mails = mails_of(rt, alloc, &[REPLY_1]);
-    let walk = hosts_walk(rt, alloc, shown, force);
-    let came = come_of(rt, alloc, walk, &mails);
-    assert_same(rt, &came.end, &end_of(rt, alloc, end), name);
-}
-
 #[test]
 fn age_and_force(rt: HostRuntime) {
-    for row in &AGED {
-        check_aged(&rt, rt.alloc(), row);
+    let alloc = rt.alloc();
+    let older = XfrFault::Age {
+        shown: 100,
+        offered: 100,
+    };
+    let cases = [
+        ("an older one is shown", Some(99), false, Wanted::Asks(64)),
+        (
+            "the same is shown",
+            Some(100),
+            false,
+            Wanted::Refuses(older),
+        ),
+        ("the same, forced", Some(100), true, Wanted::Asks(64)),
+        ("a newer one, forced", Some(101), true, Wanted::Asks(64)),
+    ];
+    for (name, shown, force, end) in &cases {
+        let mails = mails_of(&rt, alloc, &[REPLY_1]);
+        let walk = hosts_walk(&rt, alloc, *shown, *force);
+        let came = come_of(&rt, alloc, walk, &mails);
+        let wanted = end_of(&rt, alloc, *end);
+        assert_same(&rt, &came.end, &wanted, *name);
     }
 }
 
@@ -557,7 +546,7 @@ const FRONT: &str = "00000000 00000002 000186a4 00000002";
 const BEHIND: &str =
     "00000000 00000000 00000000 00000000 00000003 6c616200 0000000c 686f7374 732e6279 6e616d65";
 
-static CALLS: [(&[Mail], [&str; 5]); 5] = [
+const CALLS: [(&[Mail], [&str; 5]); 5] = [
     (&[], ["00000001", FRONT, "0000000a", BEHIND, ""]),
     (&[REPLY_1], ["00000002", FRONT, "00000009", BEHIND, ""]),
     (
@@ -591,24 +580,15 @@ fn asks<R: RandomSource>(rt: &R, walk: Walk, mails: &[(Peer, Vec<u8>)], call: &[
     buf.get(..len) == Some(call)
 }
 
-fn check_call<R: RandomSource + Abort>(
-    rt: &R,
-    alloc: Global,
-    mails: &[Mail],
-    words: &[&str],
-    row: &str,
-) {
-    let mails = mails_of(rt, alloc, mails);
-    let call = bytes(rt, alloc, words);
-    let walk = hosts_walk(rt, alloc, None, false);
-    let is = asks(rt, walk, &mails, &call);
-    assert_same(rt, &is, &true, row);
-}
-
 #[test]
 fn calls_asked(rt: HostRuntime) {
+    let alloc = rt.alloc();
     for (mails, words) in &CALLS {
-        check_call(&rt, rt.alloc(), *mails, words, words[0]);
+        let mails = mails_of(&rt, alloc, *mails);
+        let call = bytes(&rt, alloc, words);
+        let walk = hosts_walk(&rt, alloc, None, false);
+        let is = asks(&rt, walk, &mails, &call);
+        assert_same(&rt, &is, &true, words[0]);
     }
 }
 
@@ -622,32 +602,33 @@ fn long_row<R: Abort>(rt: &R, alloc: Global, len: u32) -> (Peer, Vec<u8>) {
     (SOURCE, mail)
 }
 
-// A walk with a key of so many bytes behind two replies.
-fn check_long_key<R: RandomSource + Abort>(rt: &R, alloc: Global, len: u32, end: &End) {
-    let mut mails = mails_of(rt, alloc, &[REPLY_1, REPLY_2]);
-    let row = long_row(rt, alloc, len);
-    mails.push(row).expect(rt, "a list");
-    let walk = hosts_walk(rt, alloc, None, false);
-    let came = come_of(rt, alloc, walk, &mails);
-    assert_same(rt, &came.end, end, "a long key");
-}
-
 #[test]
 fn longest_key(rt: HostRuntime) {
-    check_long_key(&rt, rt.alloc(), 8_124, &End::Asks(8_192));
-    check_long_key(&rt, rt.alloc(), 8_128, &End::Refuses(XfrFault::Dbm));
-}
-
-fn check_empty_name(rt: &impl Abort, alloc: Global, domain: &[u8], map: &[u8]) {
-    let fault = match Walk::new(alloc, SOURCE, domain, map, None, false) {
-        Ok(_) => None,
-        Err(fault) => Some(fault),
-    };
-    assert_same(rt, &fault, &Some(XfrFault::Badargs), "an empty name");
+    let alloc = rt.alloc();
+    let cases = [
+        (8_124, Wanted::Asks(8_192)),
+        (8_128, Wanted::Refuses(XfrFault::Dbm)),
+    ];
+    for (len, end) in &cases {
+        let mut mails = mails_of(&rt, alloc, &[REPLY_1, REPLY_2]);
+        let row = long_row(&rt, alloc, *len);
+        mails.push(row).expect(&rt, "a list");
+        let walk = hosts_walk(&rt, alloc, None, false);
+        let came = come_of(&rt, alloc, walk, &mails);
+        let wanted = end_of(&rt, alloc, *end);
+        assert_same(&rt, &came.end, &wanted, "a long key");
+    }
 }
 
 #[test]
 fn empty_names(rt: HostRuntime) {
-    check_empty_name(&rt, rt.alloc(), b"", b"hosts.byname");
-    check_empty_name(&rt, rt.alloc(), b"lab", b"");
+    let alloc = rt.alloc();
+    let cases: [(&[u8], &[u8]); 2] = [(b"", b"hosts.byname"), (b"lab", b"")];
+    for (domain, map) in &cases {
+        let fault = match Walk::new(alloc, SOURCE, *domain, *map, None, false) {
+            Ok(_) => None,
+            Err(fault) => Some(fault),
+        };
+        assert_same(&rt, &fault, &Some(XfrFault::Badargs), "an empty name");
+    }
 }

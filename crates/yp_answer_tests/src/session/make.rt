@@ -45,7 +45,7 @@ fn unmade<R: RandomSource + Abort>(rt: &R, runtime: HostRuntime, alloc: Global) 
 }
 
 // The kind, the status, and how often a map was to be made and had FILE by then.
-static STATUSES: [(&str, &str, u64, u64); 7] = [
+const STATUSES: &[(&str, &str, u64, u64)] = &[
     ("00000001", "00000001", 1, 0),
     ("00000002", "fffffff2", 2, 0),
     ("00000003", "00000002", 3, 0),
@@ -56,25 +56,13 @@ static STATUSES: [(&str, &str, u64, u64); 7] = [
     ("00000007", "ffffffff", 6, 1),
 ];
 
-fn check_status(
-    rt: &impl Abort,
-    alloc: Global,
-    session: &mut Session,
-    host: &mut TestHost,
-    row: &(&str, &str, u64, u64),
-) {
-    let (kind, stat, makes, files) = *row;
-    let input = bytes(rt, alloc, &[MAKE, kind]);
-    let output = bytes(rt, alloc, &[MADE, stat]);
-    let came = run(rt, alloc, session, host, PEER, input, UNBOUNDED);
-    assert_same(rt, &came, &(End::Clean, 1, 0, output), kind);
-    assert_same(rt, &host.makes, &makes, kind);
-    assert_same(rt, &host.files, &files, kind);
-}
-
 fn assert_statuses(rt: &impl Abort, alloc: Global, session: &mut Session, host: &mut TestHost) {
-    for row in &STATUSES {
-        check_status(rt, alloc, session, host, row);
+    for &(kind, stat, makes, files) in STATUSES {
+        let input = bytes(rt, alloc, &[MAKE, kind]);
+        let output = bytes(rt, alloc, &[MADE, stat]);
+        let came = run(rt, alloc, session, host, PEER, input, UNBOUNDED);
+        let wanted = ((End::Clean, 1, 0, output), makes, files);
+        assert_same(rt, &(came, host.makes, host.files), &wanted, kind);
     }
 }
 
@@ -128,7 +116,7 @@ fn make_from_another_host(rt: HostRuntime) {
 }
 
 // A reply of 32 bytes is four writes and a flush. The call of the sink that fails, and what it took.
-static LOST: [(u64, &str); 4] = [
+const LOST: &[(u64, &str)] = &[
     (0, ""),
     (1, "8000001c 00000002 0000"),
     (
@@ -141,30 +129,16 @@ static LOST: [(u64, &str); 4] = [
     ),
 ];
 
-fn check_lost<R: RandomSource + Abort>(
-    rt: &R,
-    runtime: HostRuntime,
-    alloc: Global,
-    write: u64,
-    taken: &str,
-) {
-    let input = bytes(rt, alloc, &[MAKE, "00000001", MATCH]);
-    let bounds = Bounds { write, ..UNBOUNDED };
-    let (came, makes, shown) = run_unmade(rt, runtime, alloc, PEER, input, bounds);
-    let (end, calls, left, output) = came;
-    let wanted = (write, End::WriteFault);
-    assert_same(rt, &(write, end), &wanted, "call that fails");
-    assert_same(rt, &calls, &1, "records");
-    // The record of MATCH, of 84 bytes, isn't read.
-    assert_same(rt, &left, &84, "bytes that are left");
-    assert_same(rt, &output, &bytes(rt, alloc, &[taken]), "bytes taken");
-    assert_same(rt, &makes, &1, "makes");
-    assert_same(rt, &shown, &true, "what is shown");
-}
-
 #[test]
 fn make_whose_reply_is_lost(rt: HostRuntime) {
-    for (write, taken) in &LOST {
-        check_lost(&rt, rt, rt.alloc(), *write, taken);
+    let alloc = rt.alloc();
+    for &(write, taken) in LOST {
+        let input = bytes(&rt, alloc, &[MAKE, "00000001", MATCH]);
+        let output = bytes(&rt, alloc, &[taken]);
+        let bounds = Bounds { write, ..UNBOUNDED };
+        let came = run_unmade(&rt, rt, alloc, PEER, input, bounds);
+        // The record of MATCH, of 84 bytes, isn't read.
+        let wanted = ((End::WriteFault, 1, 84, output), 1, true);
+        assert_same(&rt, &(write, came), &(write, wanted), "call that fails");
     }
 }

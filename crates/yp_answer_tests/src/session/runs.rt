@@ -53,7 +53,7 @@ const CLEAN: Row = Row {
     output: &[NULL_REPLY, DOMAIN_REPLY],
 };
 
-static ROWS: [Row; 14] = [
+const ROWS: &[Row] = &[
     CLEAN,
     Row {
         name: "no record",
@@ -192,23 +192,13 @@ static ROWS: [Row; 14] = [
     },
 ];
 
-fn check_end(
-    rt: &impl Abort,
-    alloc: Global,
-    session: &mut Session,
-    host: &mut TestHost,
-    row: &Row,
-) {
-    let input = bytes(rt, alloc, row.input);
-    let output = bytes(rt, alloc, row.output);
-    let came = run(rt, alloc, session, host, PEER, input, row.bounds);
-    let wanted = (row.end, row.calls, row.left, output);
-    assert_same(rt, &came, &wanted, row.name);
-}
-
 fn assert_ends(rt: &impl Abort, alloc: Global, session: &mut Session, host: &mut TestHost) {
-    for row in &ROWS {
-        check_end(rt, alloc, session, host, row);
+    for row in ROWS {
+        let input = bytes(rt, alloc, row.input);
+        let output = bytes(rt, alloc, row.output);
+        let came = run(rt, alloc, session, host, PEER, input, row.bounds);
+        let wanted = (row.end, row.calls, row.left, output);
+        assert_same(rt, &came, &wanted, row.name);
     }
 }
 
@@ -229,7 +219,7 @@ fn step(session: &mut Session, host: &mut TestHost, wire: &mut MemWire) -> Stepp
 }
 
 // The steps over a wire of three records and a torn one.
-static STEPS: [Stepped; 4] = [
+const STEPS: &[Stepped] = &[
     (Step::Answered, 1, 28),
     (Step::Answered, 2, 28),
     (Step::Answered, 3, 60),
@@ -237,7 +227,7 @@ static STEPS: [Stepped; 4] = [
 ];
 
 fn assert_steps(rt: &impl Abort, session: &mut Session, host: &mut TestHost, wire: &mut MemWire) {
-    for wanted in &STEPS {
+    for wanted in STEPS {
         assert_same(rt, &step(session, host, wire), wanted, "a step");
     }
 }
@@ -320,46 +310,23 @@ fn all_in_two_fragments(rt: HostRuntime) {
 }
 
 // The call of a first sink that fails, how its session ends, and how many bytes of its 60 were taken.
-static FIRST_WIRES: [(&str, u64, End, usize); 2] = [
+const FIRST_WIRES: &[(&str, u64, End, usize)] = &[
     ("behind a torn wire", NEVER, End::Torn { at: 96 }, 60),
     ("behind a failed write", 6, End::WriteFault, 48),
 ];
 
-fn check_first_wire(
-    rt: &impl Abort,
-    alloc: Global,
-    session: &mut Session,
-    host: &mut TestHost,
-    row: &(&str, u64, End, usize),
-) {
-    let (name, write, wanted, taken) = *row;
-    let input = bytes(rt, alloc, &[NULL, DOMAIN, "80"]);
-    let bounds = Bounds { write, ..UNBOUNDED };
-    let (end, calls, _, output) = run(rt, alloc, session, host, PEER, input, bounds);
-    assert_same(rt, &end, &wanted, name);
-    assert_same(rt, &calls, &2, name);
-    assert_same(rt, &output.len(), &taken, name);
-}
-
-// Nothing of the first wire is left in the session.
-fn check_second_wire(
-    rt: &impl Abort,
-    alloc: Global,
-    session: &mut Session,
-    host: &mut TestHost,
-    row: &str,
-) {
-    let input = bytes(rt, alloc, &[DOMAIN, "80"]);
-    let reply = bytes(rt, alloc, &[DOMAIN_REPLY]);
-    let came = run(rt, alloc, session, host, PEER, input, UNBOUNDED);
-    let wanted = (End::Torn { at: 52 }, 1, 0, reply);
-    assert_same(rt, &came, &wanted, row);
-}
-
 fn assert_two_wires(rt: &impl Abort, alloc: Global, session: &mut Session, host: &mut TestHost) {
-    for row in &FIRST_WIRES {
-        check_first_wire(rt, alloc, session, host, row);
-        check_second_wire(rt, alloc, session, host, row.0);
+    // Nothing of the first wire is left in the session.
+    let reply = bytes(rt, alloc, &[DOMAIN_REPLY]);
+    let wanted = (End::Torn { at: 52 }, 1, 0, reply);
+    for &(row, write, end, taken) in FIRST_WIRES {
+        let first = bytes(rt, alloc, &[NULL, DOMAIN, "80"]);
+        let second = bytes(rt, alloc, &[DOMAIN, "80"]);
+        let bounds = Bounds { write, ..UNBOUNDED };
+        let (first_end, calls, _, output) = run(rt, alloc, session, host, PEER, first, bounds);
+        assert_same(rt, &(first_end, calls, output.len()), &(end, 2, taken), row);
+        let came = run(rt, alloc, session, host, PEER, second, UNBOUNDED);
+        assert_same(rt, &came, &wanted, row);
     }
 }
 

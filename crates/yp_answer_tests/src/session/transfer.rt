@@ -52,7 +52,7 @@ const TWO: Row = Row {
 };
 
 // A reply of 36 bytes is four writes and a flush.
-static ROWS: [Row; 4] = [
+const ROWS: &[Row] = &[
     TWO,
     Row {
         name: "a map of the host's own",
@@ -97,17 +97,12 @@ fn play<R: RandomSource + Abort>(rt: &R, runtime: HostRuntime, alloc: Global, ro
     (end, calls, output, (host.transfers, host.transactions))
 }
 
-fn check_row<R: RandomSource + Abort>(rt: &R, runtime: HostRuntime, alloc: Global, row: &Row) {
-    let (end, calls, output, transfers) = play(rt, runtime, alloc, row);
-    assert_same(rt, &end, &row.end, row.name);
-    assert_same(rt, &calls, &row.calls, row.name);
-    assert_same(rt, &output, &bytes(rt, alloc, row.output), row.name);
-    assert_same(rt, &transfers, &row.transfers, row.name);
-}
-
 #[test]
 fn transfers_behind_replies(rt: HostRuntime) {
-    for row in &ROWS {
-        check_row(&rt, rt, rt.alloc(), row);
+    let alloc = rt.alloc();
+    for row in ROWS {
+        let output = bytes(&rt, alloc, row.output);
+        let wanted = (row.end, row.calls, output, row.transfers);
+        assert_same(&rt, &play(&rt, rt, alloc, row), &wanted, row.name);
     }
 }

@@ -80,13 +80,19 @@ fn one_letter(letters: &[Letter]) -> Option<(Peer, &[u8])> {
 // Compares what four calls and two letters answer, the wires that came and what they have taken, and the letter that
 // was sent.
 fn check_dial(rt: &impl Abort, dial: &mut MemDial) {
+    let calls = [
+        call(dial, PEER),
+        call(dial, PEER),
+        call(dial, OTHER),
+        call(dial, PEER),
+    ];
+    let posts = [dial.post(PEER, b"lost"), dial.post(PEER, b"kept")];
     // The second call is listed, and no wire is left for the fourth. The first letter is a call that is listed.
-    assert_same(rt, &call(dial, PEER), &Ok(*b"on"), "the first call");
-    assert_same(rt, &call(dial, PEER), &Err(Failed), "the second call");
-    assert_same(rt, &call(dial, OTHER), &Ok(*b"tw"), "the third call");
-    assert_same(rt, &call(dial, PEER), &Err(Failed), "the fourth call");
-    assert_same(rt, &dial.post(PEER, b"lost"), &Err(Failed), "a letter");
-    assert_same(rt, &dial.post(PEER, b"kept"), &Ok(()), "another letter");
+    let answers = (
+        [Ok(*b"on"), Err(Failed), Ok(*b"tw"), Err(Failed)],
+        [Err(Failed), Ok(())],
+    );
+    assert_same(rt, &(calls, posts), &answers, "calls and letters");
     let peers = Some((PEER, OTHER));
     assert_same(rt, &two_peers(dial.came()), &peers, "the peers");
     let inputs = Some((b"one".as_slice(), b"two".as_slice()));

@@ -1,7 +1,6 @@
 //! Disks in memory, what a crash leaves of them, and disks that stop.
 
 use crate::given::{assert_same, bytes, listed, owned, sent};
-use std::alloc::Global;
 use std::process::Abort;
 use yp_io::{Disk, Failed, MemDisk};
 
@@ -27,7 +26,7 @@ fn read_three(disk: &mut MemDisk, at: u64) -> Result<[u8; 3], Failed> {
 const WRITTEN: &str = "ff02aabb ccdddd ee";
 
 // The writes that a crash keeps, as bits, and what it leaves.
-static CRASHES: [(u64, &str); 6] = [
+const CRASHES: [(u64, &str); 6] = [
     (0, "0102aabb cc"),
     (1, "ff02aabb cc"),
     (2, "0102aabb ccdddd"),
@@ -38,46 +37,52 @@ static CRASHES: [(u64, &str); 6] = [
 
 // Compares what calls answer in turn, what the disk has then, and what a crash leaves.
 fn check_crash(rt: &impl Abort, disk: &mut MemDisk, kept: u64, written: &[u8], left: &[u8]) {
-    assert_same(rt, &disk.len(), &Ok(4), "the length");
-    assert_same(rt, &disk.len(), &Err(Failed), "the call that fails");
-    let first = write(disk, 2, b"\xaa\xbb\xcc");
-    assert_same(rt, &first, &Ok(()), "the write that is synced");
-    assert_same(rt, &disk.sync(), &Ok(()), "its sync");
-    assert_same(rt, &write(disk, 0, b"\xff"), &Ok(()), "the first write");
-    assert_same(rt, &write(disk, 5, b"\xdd\xdd"), &Ok(()), "the second");
-    assert_same(rt, &write(disk, 7, b"\xee"), &Ok(()), "the third");
-    let read = Ok([0xcc, 0xdd, 0xdd]);
-    assert_same(rt, &read_three(disk, 4), &read, "a read");
+    let lens = [disk.len(), disk.len()];
+    let synced = [write(disk, 2, b"\xaa\xbb\xcc"), disk.sync()];
+    let writes = [
+        write(disk, 0, b"\xff"),
+        write(disk, 5, b"\xdd\xdd"),
+        write(disk, 7, b"\xee"),
+    ];
+    let read = read_three(disk, 4);
     let crashed = disk.crashed(kept).expect(rt, "memory for a file");
-    assert_same(rt, &disk.bytes(), &written, "the bytes");
     assert_same(
         rt,
-        &(kept, crashed.as_slice()),
-        &(kept, left),
-        "the writes that are kept, and what is left",
+        &(kept, lens, synced, writes, read),
+        &(
+            kept,
+            [Ok(4), Err(Failed)],
+            [Ok(()); 2],
+            [Ok(()); 3],
+            Ok([0xcc, 0xdd, 0xdd]),
+        ),
+        "the writes that are kept, and the answers",
     );
-}
-
-fn check_kept(rt: &impl Abort, alloc: Global, kept: u64, left: &str) {
-    let written = bytes(rt, alloc, &[WRITTEN]);
-    let left = bytes(rt, alloc, &[left]);
-    let file = owned(rt, alloc, b"\x01\x02\x03\x04");
-    let failing = listed(rt, alloc, &[1]);
-    let mut disk = sent(MemDisk::new(alloc, file, None, failing));
-    check_crash(rt, &mut disk, kept, &written, &left);
+    assert_same(
+        rt,
+        &(kept, disk.bytes(), crashed.as_slice()),
+        &(kept, written, left),
+        "the writes that are kept, and the bytes",
+    );
 }
 
 #[test]
 fn disk_in_memory(rt: HostRuntime) {
+    let alloc = rt.alloc();
+    let written = bytes(&rt, alloc, &[WRITTEN]);
     for (kept, left) in &CRASHES {
-        check_kept(&rt, rt.alloc(), *kept, left);
+        let left = bytes(&rt, alloc, &[*left]);
+        let file = owned(&rt, alloc, b"\x01\x02\x03\x04");
+        let failing = listed(&rt, alloc, &[1]);
+        let mut disk = sent(MemDisk::new(alloc, file, None, failing));
+        check_crash(&rt, &mut disk, *kept, &written, &left);
     }
 }
 
 // Up to which call a disk works, which call fails, how many of its calls are done, and what a crash leaves.
 type Stop = (u64, u64, u32, &'static str);
 
-static STOPS: [Stop; 5] = [
+const STOPS: [Stop; 5] = [
     (9, 9, 8, "03"),
     (0, 9, 0, ""),
     (3, 9, 3, "00"),
@@ -96,24 +101,20 @@ fn check_stop(rt: &impl Abort, disk: &mut MemDisk, row: &Stop, wanted: &[u8]) {
     let (stop, failing, calls, _) = *row;
     assert_same(
         rt,
-        &(stop, failing, done),
-        &(stop, failing, calls),
-        "the stop, the call that fails, and those that are done",
+        &(stop, failing, done, crashed.as_slice()),
+        &(stop, failing, calls, wanted),
+        "the stop, the call that fails, those that are done, and the bytes",
     );
-    assert_same(rt, &crashed.as_slice(), &wanted, "the bytes");
-}
-
-fn check_stopped(rt: &impl Abort, alloc: Global, row: &Stop) {
-    let (stop, failing, _, left) = *row;
-    let left = bytes(rt, alloc, &[left]);
-    let failing = listed(rt, alloc, &[failing]);
-    let mut disk = MemDisk::new(alloc, Vec::new(alloc), Some(stop), failing);
-    check_stop(rt, &mut disk, row, &left);
 }
 
 #[test]
 fn disk_stops(rt: HostRuntime) {
+    let alloc = rt.alloc();
     for row in &STOPS {
-        check_stopped(&rt, rt.alloc(), row);
+        let (stop, failing, _, left) = *row;
+        let left = bytes(&rt, alloc, &[left]);
+        let failing = listed(&rt, alloc, &[failing]);
+        let mut disk = MemDisk::new(alloc, Vec::new(alloc), Some(stop), failing);
+        check_stop(&rt, &mut disk, row, &left);
     }
 }

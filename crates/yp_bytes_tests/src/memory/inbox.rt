@@ -47,19 +47,24 @@ fn one_letter(letters: &[Letter]) -> Option<(Peer, &[u8])> {
 
 // Compares what five turns and two letters answer. The second call and the fifth fail.
 fn check_inbox(rt: &impl Abort, inbox: &mut MemInbox) {
-    let long = Ok(Mail::Came { len: 4, from: PEER });
-    assert_same(rt, &next(inbox), &(long, *b"long"), "the first turn");
-    assert_same(rt, &next(inbox), &(Err(Failed), *b"...."), "the second");
-    assert_same(rt, &inbox.send(OTHER, b"kept"), &Ok(()), "a letter");
-    let quiet = Ok(Mail::Quiet);
-    assert_same(rt, &next(inbox).0.is_ok(), &true, "the third turn");
-    assert_same(rt, &inbox.send(OTHER, b"lost"), &Err(Failed), "another");
-    let short = Ok(Mail::Came {
+    let first = [next(inbox), next(inbox)];
+    let posts = [
+        inbox.send(OTHER, b"kept"),
+        next(inbox).0.map(|_| ()),
+        inbox.send(OTHER, b"lost"),
+    ];
+    let last = [next(inbox), next(inbox)];
+    let long = Mail::Came { len: 4, from: PEER };
+    let short = Mail::Came {
         len: 2,
         from: OTHER,
-    });
-    assert_same(rt, &next(inbox), &(short, *b"ab.."), "the fourth turn");
-    assert_same(rt, &next(inbox), &(quiet, *b"...."), "the fifth");
+    };
+    let answers = (
+        [(Ok(long), *b"long"), (Err(Failed), *b"....")],
+        [Ok(()), Ok(()), Err(Failed)],
+        [(Ok(short), *b"ab.."), (Ok(Mail::Quiet), *b"....")],
+    );
+    assert_same(rt, &(first, posts, last), &answers, "turns and letters");
     assert_same(rt, &inbox.turns(), &4, "the count of turns");
     let letter = Some((OTHER, b"kept".as_slice()));
     assert_same(rt, &one_letter(inbox.letters()), &letter, "the letter");

@@ -70,20 +70,19 @@ fn give_back(listen: &mut MemListen, out: &mut Vec<MemCall>) -> Outcome {
     Outcome::Returned
 }
 
-fn check_step(rt: &impl Abort, listen: &mut MemListen, out: &mut Vec<MemCall>, row: &Row) {
-    let (step, outcome, accepted, back) = *row;
-    let came = match step {
-        Step::Accept => accept(rt, listen, out),
-        Step::Back => give_back(listen, out),
-    };
-    assert_same(rt, &came, &outcome, "a call of a listener");
-    assert_same(rt, &listen.accepted(), &accepted, "those accepted");
-    assert_same(rt, &listen.past().len(), &back, "those given back");
-}
-
 fn play(rt: &impl Abort, listen: &mut MemListen, out: &mut Vec<MemCall>, rows: &[Row]) {
-    for row in rows {
-        check_step(rt, listen, out, row);
+    for (step, outcome, accepted, back) in rows {
+        let came = match step {
+            Step::Accept => accept(rt, listen, out),
+            Step::Back => give_back(listen, out),
+        };
+        let found = (came, listen.accepted(), listen.past().len());
+        assert_same(
+            rt,
+            &found,
+            &(*outcome, *accepted, *back),
+            "a call of a listener",
+        );
     }
 }
 

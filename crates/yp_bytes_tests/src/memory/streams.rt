@@ -7,41 +7,51 @@ use std::alloc::Global;
 use std::process::Abort;
 use yp_io::*;
 
-// What seven reads answer, and the buffer after each.
-static SEVEN: [Read; 7] = [
-    (Ok(2), *b"ab"),
-    (Err(Failed), [0, 0]),
-    (Ok(2), *b"cd"),
-    (Ok(2), *b"ef"),
-    (Ok(1), [b'g', 0]),
-    (Ok(0), [0, 0]),
-    (Ok(0), [0, 0]),
-];
-
-fn check_reads(rt: &impl Abort, source: &mut MemSource) {
-    for wanted in &SEVEN {
-        assert_same(rt, &read_two(source), wanted, "seven reads");
+fn seven_reads(source: &mut MemSource) -> [Read; 7] {
+    let mut reads = [(Ok(0), [0; 2]); 7];
+    for read in &mut reads {
+        *read = read_two(source);
     }
+    reads
 }
 
 #[test]
 fn source_in_memory(rt: HostRuntime) {
+    let answers = [
+        (Ok(2), *b"ab"),
+        (Err(Failed), [0, 0]),
+        (Ok(2), *b"cd"),
+        (Ok(2), *b"ef"),
+        (Ok(1), [b'g', 0]),
+        (Ok(0), [0, 0]),
+        (Ok(0), [0, 0]),
+    ];
     // It gives at most three bytes at a time.
     let input = owned(&rt, rt.alloc(), b"abcdefg");
     let mut source = MemSource::new(input, 3, listed(&rt, rt.alloc(), &[1]));
-    check_reads(&rt, &mut source);
+    let came = seven_reads(&mut source);
+    assert_same(&rt, &came, &answers, "seven reads");
 }
 
 // Compares what four writes and two flushes answer, and what was taken.
 fn check_sink(rt: &impl Abort, sink: &mut MemSink) {
-    assert_same(rt, &sink.write(b"abcd"), &Ok(3), "the first write");
-    assert_same(rt, &sink.write(b"d"), &Err(Failed), "the second write");
-    assert_same(rt, &sink.write(b"d"), &Ok(1), "the third write");
-    assert_same(rt, &sink.write(b"ef"), &Ok(2), "the fourth write");
-    assert_same(rt, &sink.flush(), &Err(Failed), "the first flush");
-    assert_same(rt, &sink.flush(), &Ok(()), "the second flush");
-    let taken = b"abcdef".as_slice();
-    assert_same(rt, &sink.taken(), &taken, "what was taken");
+    let writes = [
+        sink.write(b"abcd"),
+        sink.write(b"d"),
+        sink.write(b"d"),
+        sink.write(b"ef"),
+    ];
+    let flushes = [sink.flush(), sink.flush()];
+    assert_same(
+        rt,
+        &(writes, flushes, sink.taken()),
+        &(
+            [Ok(3), Err(Failed), Ok(1), Ok(2)],
+            [Err(Failed), Ok(())],
+            b"abcdef".as_slice(),
+        ),
+        "writes, flushes and what was taken",
+    );
 }
 
 #[test]
@@ -55,7 +65,7 @@ fn sink_in_memory(rt: HostRuntime) {
 // was taken.
 type Piece = (usize, u64, Result<(), Failed>, &'static [u8]);
 
-static PIECES: [Piece; 5] = [
+const PIECES: [Piece; 5] = [
     (1, 9, Ok(()), b"hello"),
     (8, 9, Ok(()), b"hello"),
     (2, 2, Err(Failed), b"hell"),
@@ -77,11 +87,10 @@ fn check_piece(rt: &impl Abort, alloc: Global, row: &Piece) {
     let answered = write_through(&mut sink, b"hello");
     assert_same(
         rt,
-        &(piece, failing, answered),
-        &(piece, failing, answer),
-        "the piece, the call that fails, and the answer",
+        &(piece, failing, answered, sink.taken()),
+        &(piece, failing, answer, taken),
+        "the piece, the call that fails, the answer, and what was taken",
     );
-    assert_same(rt, &sink.taken(), &taken, "what was taken");
 }
 
 #[test]
@@ -95,10 +104,12 @@ fn whole_pieces(rt: HostRuntime) {
 fn check_echo(rt: &impl Abort, wire: &mut MemWire) {
     let read = read_two(&mut wire.source);
     let answer = write_through(&mut wire.sink, &read.1);
-    assert_same(rt, &read, &(Ok(2), *b"hi"), "what was read");
-    assert_same(rt, &answer, &Ok(()), "the write");
-    let taken = b"hi".as_slice();
-    assert_same(rt, &wire.sink.taken(), &taken, "what was taken");
+    assert_same(
+        rt,
+        &(read, answer, wire.sink.taken()),
+        &((Ok(2), *b"hi"), Ok(()), b"hi".as_slice()),
+        "what was read, and what was taken",
+    );
 }
 
 #[test]
@@ -116,7 +127,7 @@ fn wire_in_memory(rt: HostRuntime) {
 // one read gives at most two, and what was read.
 type Whole = (usize, u64, Result<(), Unread>, &'static [u8]);
 
-static WHOLE: [Whole; 6] = [
+const WHOLE: [Whole; 6] = [
     (6, 9, Ok(()), b"abcdef"),
     (7, 4, Ok(()), b"abcdef"),
     (5, 9, Err(Unread::TooLong), b""),
@@ -137,8 +148,12 @@ fn check_whole(rt: &impl Abort, alloc: Global, row: &Whole) {
     let input = owned(rt, alloc, b"abcdef");
     let mut source = MemSource::new(input, 2, listed(rt, alloc, &[failing]));
     let (answered, came) = read_whole(alloc, &mut source, most);
-    assert_same(rt, &answered, &answer, "a whole source");
-    assert_same(rt, &came.as_slice(), &bytes, "its bytes");
+    assert_same(
+        rt,
+        &(answered, came.as_slice()),
+        &(answer, bytes),
+        "a whole source",
+    );
 }
 
 #[test]

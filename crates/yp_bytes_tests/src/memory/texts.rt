@@ -29,34 +29,22 @@ fn two_texts(
 }
 
 // Reads in turn, and what comes of them.
-static READS: [(TextFile, Result<(), TextFault>, &[u8]); 4] = [
+const READS: [(TextFile, Result<(), TextFault>, &[u8]); 4] = [
     (TextFile::Group, Ok(()), b"two"),
     (TextFile::Hosts, Err(TextFault::Failed), b""),
     (TextFile::Hosts, Ok(()), b"one"),
     (TextFile::Passwd, Err(TextFault::Failed), b""),
 ];
 
-fn check_read(
-    rt: &impl Abort,
-    alloc: Global,
-    texts: &mut MemTexts,
-    which: TextFile,
-    answer: &Result<(), TextFault>,
-    bytes: &[u8],
-) {
-    let (answered, came) = read_text(alloc, texts, which);
-    assert_same(
-        rt,
-        &(which, answered),
-        &(which, *answer),
-        "a read of a text",
-    );
-    assert_same(rt, &came.as_slice(), &bytes, "the bytes of a text");
-}
-
 fn check_reads(rt: &impl Abort, alloc: Global, texts: &mut MemTexts) {
     for (which, answer, bytes) in &READS {
-        check_read(rt, alloc, texts, *which, answer, *bytes);
+        let (answered, came) = read_text(alloc, texts, *which);
+        assert_same(
+            rt,
+            &(*which, answered, came.as_slice()),
+            &(*which, *answer, *bytes),
+            "a read of a text",
+        );
     }
 }
 

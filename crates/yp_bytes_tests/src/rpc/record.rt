@@ -98,23 +98,6 @@ fn read_one(
     RecordReader::new().next(&mut source, buf)
 }
 
-// Reads a record, and then the end, from a stream in pieces of so many bytes.
-fn check_record<R: Abort>(
-    rt: &R,
-    alloc: Global,
-    stream: &[u8],
-    piece: usize,
-    record: &[u8],
-    row: &str,
-) {
-    assert_some(rt, piece);
-    let stream = stream.to_vec(alloc).expect(rt, "a copy");
-    let (answer, read, next) = read_two(rt, alloc, stream, piece);
-    assert_same(rt, &(piece, answer), &(piece, Ok(Some(76))), row);
-    assert_same(rt, &read.as_slice(), &record, row);
-    assert_same(rt, &next, &Ok(None), row);
-}
-
 #[test]
 fn one_record(rt: HostRuntime) {
     let alloc = rt.alloc();
@@ -125,46 +108,43 @@ fn one_record(rt: HostRuntime) {
     let (head, last) = ("00000000 00000001", "00000000 80000001");
     let hollows = cut(&rt, alloc, &record, 1, head, 75, last);
     for piece in [1, 3, 80] {
-        check_record(&rt, alloc, &whole, piece, &record, "whole");
-        check_record(&rt, alloc, &shreds, piece, &record, "shreds");
-        check_record(&rt, alloc, &hollows, piece, &record, "hollows");
+        for (row, stream) in [
+            ("whole", &whole),
+            ("shreds", &shreds),
+            ("hollows", &hollows),
+        ] {
+            let stream = stream.to_vec(alloc).expect(&rt, "a copy");
+            let (answer, read, next) = read_two(&rt, alloc, stream, piece);
+            let came = (piece, answer, read.as_slice(), next);
+            let wanted = (piece, Ok(Some(76)), record.as_slice(), Ok(None));
+            assert_same(&rt, &came, &wanted, row);
+        }
     }
-}
-
-const TORN: RecordFault = RecordFault::Torn { at: 0 };
-
-const LONG: RecordFault = RecordFault::TooLong { at: 0 };
-
-// Streams, and the answer to reading a record of at most four bytes.
-static FEW: [(&str, Result<Option<usize>, RecordFault>); 11] = [
-    ("", Ok(None)),
-    ("800000", Err(TORN)),
-    ("80000002 61", Err(TORN)),
-    ("00000000", Err(TORN)),
-    ("00000001 61", Err(TORN)),
-    ("80000000", Ok(Some(0))),
-    ("00000003 616263 80000000", Ok(Some(3))),
-    ("80000004 61626364", Ok(Some(4))),
-    ("80000005 6162636465", Err(LONG)),
-    ("00000003 616263 80000002 6465", Err(LONG)),
-    ("ffffffff", Err(LONG)),
-];
-
-fn check_few<R: Abort>(
-    rt: &R,
-    alloc: Global,
-    text: &str,
-    answer: &Result<Option<usize>, RecordFault>,
-) {
-    let stream = bytes(rt, alloc, &[text]);
-    let read = read_one(stream, 80, Vec::new(alloc), &mut [0; 4]);
-    assert_same(rt, &read, answer, text);
 }
 
 #[test]
 fn few_bytes(rt: HostRuntime) {
-    for (text, answer) in &FEW {
-        check_few(&rt, rt.alloc(), text, answer);
+    let alloc = rt.alloc();
+    let torn = Err(RecordFault::Torn { at: 0 });
+    let long = Err(RecordFault::TooLong { at: 0 });
+    let cases = [
+        ("", Ok(None)),
+        ("800000", torn),
+        ("80000002 61", torn),
+        ("00000000", torn),
+        ("00000001 61", torn),
+        ("80000000", Ok(Some(0))),
+        ("00000003 616263 80000000", Ok(Some(3))),
+        ("80000004 61626364", Ok(Some(4))),
+        ("80000005 6162636465", long),
+        ("00000003 616263 80000002 6465", long),
+        ("ffffffff", long),
+    ];
+    for (text, answer) in &cases {
+        let stream = bytes(&rt, alloc, &[*text]);
+        let mut buf = [0; 4];
+        let read = read_one(stream, 80, Vec::new(alloc), &mut buf);
+        assert_same(&rt, &read, answer, *text);
     }
 }
 
@@ -175,11 +155,10 @@ fn torn_behind_a_record(rt: HostRuntime) {
     let stream = cut(&rt, alloc, &record, 76, "", 0, "8000004c");
     let parts = [stream.as_slice(), &[0x80, 0, 0]];
     let stream = parts.concat(alloc).expect(&rt, "a stream");
-    let (answer, read, next) = read_two(&rt, alloc, stream, 80);
-    assert_same(&rt, &answer, &Ok(Some(76)), "a record");
-    assert_same(&rt, &read, &record, "its bytes");
+    let came = read_two(&rt, alloc, stream, 80);
     let torn = RecordFault::Torn { at: 80 };
-    assert_same(&rt, &next, &Err(torn), "torn");
+    let wanted = (Ok(Some(76)), record, Err(torn));
+    assert_same(&rt, &came, &wanted, "torn");
 }
 
 // The answer to a record that is too long, and to reading on behind its head, and what is read then.
@@ -204,42 +183,38 @@ fn largest_record(rt: HostRuntime) {
     let record = counted(&rt, alloc, RECORD_MAX);
     let stream = cut(&rt, alloc, &record, RECORD_MAX, "", 0, "80040000");
     let (answer, read, next) = read_two(&rt, alloc, stream, 1000);
-    assert_same(&rt, &answer, &Ok(Some(RECORD_MAX)), "the most bytes");
-    assert_same(&rt, &(read == record), &true, "these bytes");
-    assert_same(&rt, &next, &Ok(None), "behind the record");
+    let came = (answer, read == record, next);
+    let wanted = (Ok(Some(RECORD_MAX)), true, Ok(None));
+    assert_same(&rt, &came, &wanted, "as many bytes as a record may have");
 
-    let stream = bytes(&rt, alloc, &["80040001 6162"]);
-    let (answer, count, behind) = read_long(&rt, alloc, stream);
-    assert_same(&rt, &answer, &Err(LONG), "one byte more");
-    assert_same(&rt, &count, &Ok(2), "what is left");
-    assert_same(&rt, &behind, b"ab\0", "its bytes");
+    let long = read_long(&rt, alloc, bytes(&rt, alloc, &["80040001 6162"]));
+    let wanted = (Err(RecordFault::TooLong { at: 0 }), Ok(2), *b"ab\0");
+    assert_same(&rt, &long, &wanted, "one byte more");
 }
 
 #[test]
 fn empty_fragments(rt: HostRuntime) {
     let alloc = rt.alloc();
-    let (answer, read, next) = read_two(&rt, alloc, hollow(&rt, alloc, 1024), 80);
-    assert_same(&rt, &answer, &Ok(Some(1)), "1024 empty fragments");
-    assert_same(&rt, &read, &bytes(&rt, alloc, &["78"]), "the record");
-    assert_same(&rt, &next, &Ok(None), "behind the record");
+    let came = read_two(&rt, alloc, hollow(&rt, alloc, 1024), 80);
+    let record = bytes(&rt, alloc, &["78"]);
+    let wanted = (Ok(Some(1)), record, Ok(None));
+    assert_same(&rt, &came, &wanted, "1024 empty fragments");
     let mut buf = [0; 80];
     let answer = read_one(hollow(&rt, alloc, 1025), 80, Vec::new(alloc), &mut buf);
     let wanted = Err(RecordFault::TooLong { at: 0 });
     assert_same(&rt, &answer, &wanted, "1025 empty fragments");
 }
 
-fn check_failing_read<R: Abort>(rt: &R, alloc: Global, failing: u64) {
-    let stream = bytes(rt, alloc, &["80000004 61626364"]);
-    let failing_reads = vec![in alloc; failing].expect(rt, "a number");
-    let answer = read_one(stream, 2, failing_reads, &mut [0; 80]);
-    let wanted = (failing, Err(RecordFault::ReadFault));
-    assert_same(rt, &(failing, answer), &wanted, "the call that fails");
-}
-
 #[test]
 fn failing_source(rt: HostRuntime) {
+    let alloc = rt.alloc();
     for failing in 0..4 {
-        check_failing_read(&rt, rt.alloc(), failing);
+        let stream = bytes(&rt, alloc, &["80000004 61626364"]);
+        let mut buf = [0; 80];
+        let failing_reads = vec![in alloc; failing].expect(&rt, "a number");
+        let answer = read_one(stream, 2, failing_reads, &mut buf);
+        let wanted = (failing, Err(RecordFault::ReadFault));
+        assert_same(&rt, &(failing, answer), &wanted, "the call that fails");
     }
 }
 
@@ -310,7 +285,7 @@ fn pieces_of_one<R: Abort>(
 }
 
 // How many bytes a read gives at most, and how many the buffer has.
-static PIECES_AND_ROOMS: [(usize, usize); 9] = [
+const PIECES_AND_ROOMS: [(usize, usize); 9] = [
     (1, 1),
     (1, 5),
     (1, 100),
@@ -322,35 +297,20 @@ static PIECES_AND_ROOMS: [(usize, usize); 9] = [
     (200, 100),
 ];
 
-// Reads a stream that has the same record twice, and a torn one, which stands at this place. `sizes` are how many bytes
-// a read gives at most, and how many the buffer has.
-fn check_thrice<R: Abort>(
-    rt: &R,
-    alloc: Global,
-    stream: &[u8],
-    at: u64,
-    sizes: (usize, usize),
-    record: &[u8],
-    row: &str,
-) {
-    let (piece, room) = sizes;
-    assert_some(rt, piece);
-    assert_some(rt, room);
-    let stream = stream.to_vec(alloc).expect(rt, "a copy");
-    let (came, [first, second, third]) = pieces_of_three(rt, alloc, stream, piece, room);
-    let answers = [Ok(()), Ok(()), Err(RecordFault::Torn { at })];
-    assert_same(rt, &(sizes, came), &(sizes, answers), row);
-    assert_same(rt, &first.as_slice(), &record, row);
-    assert_same(rt, &second.as_slice(), &record, row);
-    assert_same(rt, &third.as_slice(), &b"".as_slice(), row);
-}
-
+// Looks at what is read of a stream that has the same record twice, and a torn one.
 fn check_pieces<R: Abort>(rt: &R, alloc: Global, stream: &[u8], record: &[u8], row: &str) {
     let parts = [stream, stream, &[0x80, 0]];
     let twice = parts.concat(alloc).expect(rt, "a stream");
     let at = 2 * stream.len() as u64;
-    for sizes in &PIECES_AND_ROOMS {
-        check_thrice(rt, alloc, &twice, at, *sizes, record, row);
+    let answers = [Ok(()), Ok(()), Err(RecordFault::Torn { at })];
+    for (piece, room) in &PIECES_AND_ROOMS {
+        assert_some(rt, *piece);
+        assert_some(rt, *room);
+        let copy = twice.to_vec(alloc).expect(rt, "a copy");
+        let (came, [first, second, third]) = pieces_of_three(rt, alloc, copy, *piece, *room);
+        let read = [first.as_slice(), second.as_slice(), third.as_slice()];
+        let wanted = (*piece, *room, answers, [record, record, b""]);
+        assert_same(rt, &(*piece, *room, came, read), &wanted, row);
     }
 }
 
@@ -369,37 +329,28 @@ fn records_in_pieces(rt: HostRuntime) {
     check_pieces(&rt, alloc, &hollows, &record, "hollows");
 }
 
-// The same streams, and the answer to reading such a record in pieces.
-static FEW_IN_PIECES: [(&str, Result<(), RecordFault>); 11] = [
-    ("", Err(TORN)),
-    ("800000", Err(TORN)),
-    ("80000002 61", Err(TORN)),
-    ("00000000", Err(TORN)),
-    ("00000001 61", Err(TORN)),
-    ("80000000", Ok(())),
-    ("00000003 616263 80000000", Ok(())),
-    ("80000004 61626364", Ok(())),
-    ("80000005 6162636465", Err(LONG)),
-    ("00000003 616263 80000002 6465", Err(LONG)),
-    ("ffffffff", Err(LONG)),
-];
-
-fn check_few_in_pieces<R: Abort>(
-    rt: &R,
-    alloc: Global,
-    text: &str,
-    answer: &Result<(), RecordFault>,
-) {
-    let narrow = pieces_of_one(rt, alloc, bytes(rt, alloc, &[text]), 1, 4);
-    assert_same(rt, &narrow, answer, text);
-    let wide = pieces_of_one(rt, alloc, bytes(rt, alloc, &[text]), 80, 4);
-    assert_same(rt, &wide, answer, text);
-}
-
 #[test]
 fn few_bytes_in_pieces(rt: HostRuntime) {
-    for (text, answer) in &FEW_IN_PIECES {
-        check_few_in_pieces(&rt, rt.alloc(), text, answer);
+    let alloc = rt.alloc();
+    let torn = Err(RecordFault::Torn { at: 0 });
+    let long = Err(RecordFault::TooLong { at: 0 });
+    let cases = [
+        ("", torn),
+        ("800000", torn),
+        ("80000002 61", torn),
+        ("00000000", torn),
+        ("00000001 61", torn),
+        ("80000000", Ok(())),
+        ("00000003 616263 80000000", Ok(())),
+        ("80000004 61626364", Ok(())),
+        ("80000005 6162636465", long),
+        ("00000003 616263 80000002 6465", long),
+        ("ffffffff", long),
+    ];
+    for (text, answer) in &cases {
+        let narrow = pieces_of_one(&rt, alloc, bytes(&rt, alloc, &[*text]), 1, 4);
+        let wide = pieces_of_one(&rt, alloc, bytes(&rt, alloc, &[*text]), 80, 4);
+        assert_same(&rt, &[narrow, wide], &[*answer; 2], *text);
     }
 }
 
@@ -451,7 +402,7 @@ fn written<R: Abort>(
 }
 
 // A record by its length, the length, how many of its fragments aren't the last, and the head of the last.
-static FRAGMENTS: [(&str, usize, usize, &str); 6] = [
+const FRAGMENTS: [(&str, usize, usize, &str); 6] = [
     ("1 byte", 1, 0, "80000001"),
     ("8192 bytes", 8192, 0, "80002000"),
     ("8196 bytes", 8196, 1, "80000004"),
@@ -460,49 +411,25 @@ static FRAGMENTS: [(&str, usize, usize, &str); 6] = [
     ("200,000 bytes", 200_000, 24, "80000d40"),
 ];
 
-// Writes a record in two pieces, the first of so many bytes, and compares the stream.
-fn check_written<R: Abort>(
-    rt: &R,
-    alloc: Global,
-    writer: &mut RecordWriter,
-    record: &[u8],
-    first: usize,
-    stream: &[u8],
-    row: &str,
-)
-    requires some { 0 < length record.now }
-{
-    assert_some(rt, first);
-    let (answer, taken) = written(rt, alloc, writer, record, first, 9000, Vec::new(alloc));
-    let came = (first, answer, taken.as_slice() == stream);
-    assert_same(rt, &came, &(first, Ok(()), true), row);
-}
-
-fn check_fragments<R: Abort>(
-    rt: &R,
-    alloc: Global,
-    writer: &mut RecordWriter,
-    row: &(&str, usize, usize, &str),
-) {
-    let (name, len, full, last) = *row;
-    let record = counted(rt, alloc, len);
-    assert_some(rt, record.len());
-    let stream = cut(rt, alloc, &record, 8192, "00002000", full, last);
-    for first in [1, 8191, 8192, 65_536, 65_537] {
-        check_written(rt, alloc, writer, &record, first, &stream, name);
-    }
-}
-
 #[test]
 fn fragments_written(rt: HostRuntime) {
-    let mut writer = RecordWriter::new(rt.alloc()).expect(&rt, "a writer");
-    for row in &FRAGMENTS {
-        check_fragments(&rt, rt.alloc(), &mut writer, row);
+    let alloc = rt.alloc();
+    let mut writer = RecordWriter::new(alloc).expect(&rt, "a writer");
+    for (row, len, full, last) in &FRAGMENTS {
+        let record = counted(&rt, alloc, *len);
+        assert_some(&rt, record.len());
+        let stream = cut(&rt, alloc, &record, 8192, "00002000", *full, *last);
+        for first in [1, 8191, 8192, 65_536, 65_537] {
+            let none = Vec::new(alloc);
+            let (answer, taken) = written(&rt, alloc, &mut writer, &record, first, 9000, none);
+            let came = (first, answer, taken == stream);
+            assert_same(&rt, &came, &(first, Ok(()), true), *row);
+        }
     }
 }
 
 // What fails, the length of a record, the most bytes of a write, the call that fails, and what was taken before it.
-static FAILING: [(&str, usize, usize, u64, usize); 8] = [
+const FAILING: [(&str, usize, usize, u64, usize); 8] = [
     ("8196 bytes, at call 0", 8196, 4000, 0, 0),
     ("8196 bytes, at call 1", 8196, 4000, 1, 4000),
     ("8196 bytes, at call 2", 8196, 4000, 2, 8000),
@@ -514,36 +441,21 @@ static FAILING: [(&str, usize, usize, u64, usize); 8] = [
     ("65,537 bytes, at call 2", 65_537, 100_000, 2, 65_573),
 ];
 
-fn check_failing<R: Abort>(
-    rt: &R,
-    alloc: Global,
-    writer: &mut RecordWriter,
-    row: &(&str, usize, usize, u64, usize),
-) {
-    let (name, len, piece, failing, taken) = *row;
-    let record = counted(rt, alloc, len);
-    let failing_calls = vec![in alloc; failing].expect(rt, "a number");
-    assert_some(rt, record.len());
-    assert_some(rt, piece);
-    let (answer, torn) = written(rt, alloc, writer, &record, 1, piece, failing_calls);
-    assert_same(rt, &answer, &Err(Failed), name);
-    assert_same(rt, &torn.len(), &taken, name);
-}
-
-// A short record, which is written whole.
-fn check_short<R: Abort>(rt: &R, alloc: Global, writer: &mut RecordWriter, row: &str) {
-    let short = bytes(rt, alloc, &["80000002 6162"]);
-    let (answer, whole) = written(rt, alloc, writer, b"ab", 1, 4000, Vec::new(alloc));
-    assert_same(rt, &answer, &Ok(()), row);
-    assert_same(rt, &whole, &short, row);
-}
-
 #[test]
 fn failing_sink(rt: HostRuntime) {
-    let mut writer = RecordWriter::new(rt.alloc()).expect(&rt, "a writer");
-    for row in &FAILING {
-        check_failing(&rt, rt.alloc(), &mut writer, row);
-        check_short(&rt, rt.alloc(), &mut writer, row.0);
+    let alloc = rt.alloc();
+    let mut writer = RecordWriter::new(alloc).expect(&rt, "a writer");
+    let short = bytes(&rt, alloc, &["80000002 6162"]);
+    for (row, len, piece, failing, taken) in &FAILING {
+        let record = counted(&rt, alloc, *len);
+        let failing_calls = vec![in alloc; *failing].expect(&rt, "a number");
+        assert_some(&rt, record.len());
+        assert_some(&rt, *piece);
+        let (answer, torn) = written(&rt, alloc, &mut writer, &record, 1, *piece, failing_calls);
+        let (next, whole) = written(&rt, alloc, &mut writer, b"ab", 1, 4000, Vec::new(alloc));
+        let came = (answer, torn.len(), next, whole.as_slice());
+        let wanted = (Err(Failed), *taken, Ok(()), short.as_slice());
+        assert_same(&rt, &came, &wanted, *row);
     }
 }
 
@@ -565,61 +477,47 @@ fn sent_by<R: Abort>(
     (answer, taken.expect(rt, "a copy"))
 }
 
-fn check_sent<R: Abort>(rt: &R, alloc: Global, row: &(&str, usize, usize, &str)) {
-    let (name, len, full, last) = *row;
-    let mut writer = RecordWriter::new(alloc).expect(rt, "a writer");
-    let record = counted(rt, alloc, len);
-    assert_some(rt, record.len());
-    let stream = cut(rt, alloc, &record, 8192, "00002000", full, last);
-    let (answer, taken) = sent_by(rt, alloc, &mut writer, &record, Vec::new(alloc));
-    assert_same(rt, &answer, &Ok(()), name);
-    assert_same(rt, &(taken == stream), &true, name);
-}
-
 #[test]
 fn records_sent_at_once(rt: HostRuntime) {
-    for row in &FRAGMENTS {
-        check_sent(&rt, rt.alloc(), row);
+    let alloc = rt.alloc();
+    for (row, len, full, last) in &FRAGMENTS {
+        let mut writer = RecordWriter::new(alloc).expect(&rt, "a writer");
+        let record = counted(&rt, alloc, *len);
+        assert_some(&rt, record.len());
+        let stream = cut(&rt, alloc, &record, 8192, "00002000", *full, *last);
+        let (answer, taken) = sent_by(&rt, alloc, &mut writer, &record, Vec::new(alloc));
+        assert_same(&rt, &(answer, taken == stream), &(Ok(()), true), *row);
     }
-}
-
-// Sends a short record where this call fails, and then again. So many bytes are taken before the fault.
-fn check_failing_call<R: Abort>(rt: &R, alloc: Global, failing: u64, taken: usize, row: &str) {
-    let mut writer = RecordWriter::new(alloc).expect(rt, "a writer");
-    let record = bytes(rt, alloc, &["80000002 6162"]);
-    let failing_calls = vec![in alloc; failing].expect(rt, "a number");
-    let (answer, torn) = sent_by(rt, alloc, &mut writer, b"ab", failing_calls);
-    assert_same(rt, &answer, &Err(Failed), row);
-    assert_same(rt, &torn.len(), &taken, row);
-    let (next, whole) = sent_by(rt, alloc, &mut writer, b"ab", Vec::new(alloc));
-    assert_same(rt, &next, &Ok(()), row);
-    assert_same(rt, &whole, &record, row);
 }
 
 #[test]
 fn failing_calls_of_a_record_sent_at_once(rt: HostRuntime) {
+    let alloc = rt.alloc();
+    let record = bytes(&rt, alloc, &["80000002 6162"]);
+
     // The write fails, and then the flush behind it.
-    check_failing_call(&rt, rt.alloc(), 0, 0, "no write");
-    check_failing_call(&rt, rt.alloc(), 1, 6, "no flush");
-}
-
-static TEXTS: [(RecordFault, &str); 3] = [
-    (RecordFault::Torn { at: 80 }, "torn record at 80"),
-    (
-        RecordFault::TooLong { at: 160 },
-        "record at 160 is too long",
-    ),
-    (RecordFault::ReadFault, "read fault"),
-];
-
-fn check_text(rt: &impl Abort, alloc: Global, fault: RecordFault, text: &str) {
-    let shown = format!(in alloc; "{fault}").expect(rt, "a text");
-    assert_same(rt, &shown.as_str(), &text, text);
+    for (row, failing, taken) in [("no write", 0u64, 0), ("no flush", 1, 6)] {
+        let mut writer = RecordWriter::new(alloc).expect(&rt, "a writer");
+        let failing_calls = vec![in alloc; failing].expect(&rt, "a number");
+        let (answer, torn) = sent_by(&rt, alloc, &mut writer, b"ab", failing_calls);
+        let (next, whole) = sent_by(&rt, alloc, &mut writer, b"ab", Vec::new(alloc));
+        let came = (answer, torn.len(), next, whole.as_slice());
+        let wanted = (Err(Failed), taken, Ok(()), record.as_slice());
+        assert_same(&rt, &came, &wanted, row);
+    }
 }
 
 #[test]
 fn faults_as_text(rt: HostRuntime) {
-    for (fault, text) in &TEXTS {
-        check_text(&rt, rt.alloc(), *fault, text);
+    for (fault, text) in [
+        (RecordFault::Torn { at: 80 }, "torn record at 80"),
+        (
+            RecordFault::TooLong { at: 160 },
+            "record at 160 is too long",
+        ),
+        (RecordFault::ReadFault, "read fault"),
+    ] {
+        let shown = format!(in rt.alloc(); "{fault}").expect(&rt, "a text");
+        assert_same(&rt, &shown.as_str(), &text, text);
     }
 }

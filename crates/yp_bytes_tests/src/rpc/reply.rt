@@ -3,13 +3,11 @@
 ghost use Rattle.std.specs.Prelude.{◌≤◌};
 
 use crate::given::{assert_same, bytes};
-use std::alloc::Global;
-use std::process::Abort;
 use yp_rpc::*;
 use yp_xdr::{NoRoom, XdrFault};
 
 // Each head for a call's number, and its words.
-static HEADS: [(u32, ReplyHead, &str); 11] = [
+const HEADS: [(u32, ReplyHead, &str); 11] = [
     (
         1,
         ReplyHead::Success,
@@ -67,59 +65,48 @@ static HEADS: [(u32, ReplyHead, &str); 11] = [
     ),
 ];
 
-// Writes a head into so much room of a buffer, of which each byte was 9. It has `len` bytes.
-fn check_room(
-    rt: &impl Abort,
-    xid: u32,
-    head: &ReplyHead,
-    room: usize,
-    len: usize,
-    whole: &[u8],
-    row: &str,
-)
+// The answer to writing a head into so much room, and the whole buffer, of which each byte was 9.
+fn write_head(xid: u32, head: &ReplyHead, room: usize) -> (Result<usize, NoRoom>, [u8; 40])
     requires { room ≤ 40 }
 {
     let mut buf = [9; 40];
     let answer = write_reply(&mut buf[..room], xid, head);
-    if room < len {
-        assert_same(rt, &(room, answer), &(room, Err(NoRoom)), row);
-        assert_same(rt, &buf, &[9; 40], row);
-    } else {
-        assert_same(rt, &(room, answer), &(room, Ok(len)), row);
-        assert_same(rt, &buf.as_slice(), &whole, row);
-    }
-}
-
-fn check_head(rt: &impl Abort, alloc: Global, xid: u32, head: &ReplyHead, text: &str) {
-    let mut whole = bytes(rt, alloc, &[text]);
-    let len = whole.len();
-    whole.resize(40, 9).expect(rt, "a whole buffer");
-    for room in 0..=40 {
-        check_room(rt, xid, head, room, len, &whole, text);
-    }
+    (answer, buf)
 }
 
 #[test]
 fn heads(rt: HostRuntime) {
+    let untouched = [9; 40];
     for (xid, head, text) in &HEADS {
-        check_head(&rt, rt.alloc(), *xid, head, text);
+        let mut whole = bytes(&rt, rt.alloc(), &[*text]);
+        let len = whole.len();
+        whole.resize(40, 9).expect(&rt, "a whole buffer");
+        for room in 0..=40 {
+            let (answer, buf) = write_head(*xid, head, room);
+            let wanted = if room < len {
+                (room, Err(NoRoom), untouched.as_slice())
+            } else {
+                (room, Ok(len), whole.as_slice())
+            };
+            assert_same(&rt, &(room, answer, buf.as_slice()), &wanted, *text);
+        }
     }
-}
-
-// Reads a head, alone and with results behind it.
-fn check_read(rt: &impl Abort, alloc: Global, xid: u32, head: ReplyHead, text: &str) {
-    let mut bytes = bytes(rt, alloc, &[text]);
-    let body = bytes.len();
-    let wanted = Ok(ReplyRead { xid, head, body });
-    assert_same(rt, &read_reply(&bytes), &wanted, text);
-    bytes.extend_from_slice(&[0xff; 5]).expect(rt, "results");
-    assert_same(rt, &read_reply(&bytes), &wanted, text);
 }
 
 #[test]
 fn heads_read(rt: HostRuntime) {
     for (xid, head, text) in &HEADS {
-        check_read(&rt, rt.alloc(), *xid, *head, text);
+        let mut bytes = bytes(&rt, rt.alloc(), &[*text]);
+        let body = bytes.len();
+        let wanted = Ok(ReplyRead {
+            xid: *xid,
+            head: *head,
+            body,
+        });
+        let alone = read_reply(&bytes);
+        bytes.extend_from_slice(&[0xff; 5]).expect(&rt, "results");
+        let with_results = read_reply(&bytes);
+        assert_same(&rt, &[alone, with_results], &[wanted; 2], *text);
     }
 }
 
@@ -128,30 +115,27 @@ const ACCEPTED: &str = "00000001 00000001 00000000";
 
 const DENIED: &str = "00000001 00000001 00000001";
 
-// A reply with this verifier and so many zeros, behind which its results stand.
-fn check_verifier(rt: &impl Abort, alloc: Global, text: &str, zeros: usize, body: usize) {
-    let mut bytes = bytes(rt, alloc, &[ACCEPTED, text]);
-    let len = bytes.len().saturating_add(zeros);
-    bytes.resize(len, 0).expect(rt, "a reply");
-    let read = ReplyRead {
-        xid: 1,
-        head: ReplyHead::Success,
-        body,
-    };
-    assert_same(rt, &read_reply(&bytes), &Ok(read), text);
-}
-
 #[test]
 fn any_verifier(rt: HostRuntime) {
-    let alloc = rt.alloc();
-    let words = "00000006 00000005 01020304 05000000 00000000";
-    check_verifier(&rt, alloc, words, 0, 32);
-    // AUTH_SYS of the most bytes that there may be.
-    check_verifier(&rt, alloc, "00000001 00000190", 404, 424);
+    for (text, zeros, body) in [
+        ("00000006 00000005 01020304 05000000 00000000", 0, 32),
+        // AUTH_SYS of the most bytes that there may be.
+        ("00000001 00000190", 404, 424),
+    ] {
+        let mut bytes = bytes(&rt, rt.alloc(), &[ACCEPTED, text]);
+        let zeros = vec![in rt.alloc(); 0; zeros].expect(&rt, "zeros");
+        bytes.extend_from_slice(&zeros).expect(&rt, "a reply");
+        let read = ReplyRead {
+            xid: 1,
+            head: ReplyHead::Success,
+            body,
+        };
+        assert_same(&rt, &read_reply(&bytes), &Ok(read), text);
+    }
 }
 
 // The two parts of replies that can't be read, and why.
-static REFUSALS: [(&str, &str, XdrFault); 22] = [
+const REFUSALS: [(&str, &str, XdrFault); 22] = [
     // The number, the type of the message and reply_stat.
     ("", "", XdrFault::Short { at: 0 }),
     ("000000", "", XdrFault::Short { at: 0 }),
@@ -220,15 +204,11 @@ static REFUSALS: [(&str, &str, XdrFault); 22] = [
     (DENIED, "00000001 0000", XdrFault::Short { at: 16 }),
 ];
 
-fn check_refusal(rt: &impl Abort, alloc: Global, front: &str, text: &str, fault: XdrFault) {
-    let bytes = bytes(rt, alloc, &[front, text]);
-    let came = (front, read_reply(&bytes));
-    assert_same(rt, &came, &(front, Err(fault)), text);
-}
-
 #[test]
 fn places_of_refusals(rt: HostRuntime) {
     for (front, text, fault) in &REFUSALS {
-        check_refusal(&rt, rt.alloc(), front, text, *fault);
+        let bytes = bytes(&rt, rt.alloc(), &[*front, *text]);
+        let came = (*front, read_reply(&bytes));
+        assert_same(&rt, &came, &(*front, Err(*fault)), *text);
     }
 }

@@ -34,7 +34,7 @@ struct Row {
     outcome: Outcome,
 }
 
-static ROWS: [Row; 9] = [
+const ROWS: [Row; 9] = [
     Row {
         name: "asked again after a quiet turn, and done by an answer",
         brings: &[None, Some((NO_ANSWER, 2)), Some((ANSWER, 3))],
@@ -135,17 +135,10 @@ fn play<R: Abort>(rt: &R, alloc: Global, row: &Row) -> Outcome {
     take(&mut room, &mut inbox, row.most)
 }
 
-fn check_row(rt: &impl Abort, alloc: Global, row: &Row) {
-    let (ended, letters, turns) = play(rt, alloc, row);
-    let (wanted, sent, taken) = row.outcome;
-    assert_same(rt, &ended, &wanted, row.name);
-    assert_same(rt, &letters, &sent, row.name);
-    assert_same(rt, &turns, &taken, row.name);
-}
-
 #[test]
 fn turns_in_memory(rt: HostRuntime) {
     for row in &ROWS {
-        check_row(&rt, rt.alloc(), row);
+        let came = play(&rt, rt.alloc(), row);
+        assert_same(&rt, &came, &row.outcome, row.name);
     }
 }

@@ -6,7 +6,6 @@ ghost use Rattle.std.specs.Net.Socket.{v4_ip, v4_port};
 ghost use Rattle.yp_io.specs.Counts.{last_count};
 ghost use Rattle.yp_io.specs.Dials.{GoesBack, IsFresh};
 
-use crate::given::assert_same;
 use std::alloc::Global;
 use std::io;
 use std::io::{ErrorKind, Read, Write};
@@ -46,7 +45,7 @@ fn open<R: Net<Stream = TcpStream> + Drop>(
 }
 
 // What a write, a flush and three reads answer, with the buffers of two reads, and what the peer got.
-#[derive(Drop)]
+#[derive(Debug, PartialEq, Drop)]
 struct Talked {
     written: (Result<usize, Failed>, Result<(), Failed>),
     got: [u8; 4],
@@ -91,16 +90,13 @@ fn talk_over<R: Net<Stream = TcpStream, Listener = TcpListener> + Drop + Copy>(
 
 #[test]
 fn what_comes_and_goes_by_a_wire(rt: HostRuntime) -> Result<(), Fail> {
-    let (talked, left, faults) = talk_over(rt.alloc(), rt)?;
-    let talked = talked.expect(&rt, "a call and a reply");
-    assert_same(&rt, &talked.written, &(Ok(4), Ok(())), "a write, a flush");
-    assert_same(&rt, &talked.got, b"call", "what the peer got");
-    let [first, second] = talked.reads;
-    assert_same(&rt, &first, &(Ok(3), *b"rep"), "the first read");
-    assert_same(&rt, &second, &(Ok(2), *b"ly\0"), "the second read");
-    assert_same(&rt, &talked.end, &Ok(0), "the last read");
-    assert_same(&rt, &left, &Some(0), "what is left for the peer");
-    assert_same(&rt, &faults, &0, "the faults");
+    let talked = Talked {
+        written: (Ok(4), Ok(())),
+        got: *b"call",
+        reads: [(Ok(3), *b"rep"), (Ok(2), *b"ly\0")],
+        end: Ok(0),
+    };
+    assert_eq!(rt; talk_over(rt.alloc(), rt)?, (Some(talked), Some(0), 0));
     Ok(())
 }
 

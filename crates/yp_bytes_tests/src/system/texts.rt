@@ -3,12 +3,10 @@
 ghost use Rattle.std.specs.Prelude.{◌≡◌, ◌≤◌, [], length, None, OnOk};
 ghost use Rattle.yp_io.specs.Texts.{text_max};
 
-use crate::given::assert_same;
 use crate::system::scripted::{OneFile, unsupported};
 use std::alloc::Global;
 use std::fs::{File, Metadata, OpenFile};
 use std::io::{ErrorKind, Read, Seek, SeekFrom, Write};
-use std::process::Abort;
 use std::rt::Files;
 use std::{fs, io};
 use yp_io::TextFile::{Group, Hosts, Netgroup, Passwd, Protocols, Services, Ypservers};
@@ -107,7 +105,7 @@ type Case = (
     Result<usize, TextFault>,
 );
 
-static CASES: [Case; 9] = [
+const CASES: [Case; 9] = [
     (Passwd, "ypsrc/passwd", Some(5), 5, None, Ok(5)),
     (Group, "ypsrc/group", Some(0), 0, None, Ok(0)),
     (Hosts, "ypsrc/hosts", Some(0), TEXT_MAX, None, Ok(TEXT_MAX)),
@@ -119,31 +117,22 @@ static CASES: [Case; 9] = [
     (Ypservers, "ypsrc/ypservers", Some(9), 5, FULL, NO_MEMORY),
 ];
 
-fn check_text(rt: &impl Abort, alloc: Global, case: &Case) {
-    let (which, path, len, bytes, fault, want) = *case;
-    let file = OneFile {
-        path: Some(path),
-        len,
-        file: Reads {
-            interrupted: false,
-            bytes,
-            fault,
-        },
-    };
-    let (wanted, len, failed) = match want {
-        Ok(len) => (Ok(()), len, 0),
-        Err(TextFault::Failed) => (Err(TextFault::Failed), 0, 1),
-        Err(fault) => (Err(fault), 0, 0),
-    };
-    let (answer, came, faults) = read_text(alloc, file, which);
-    assert_same(rt, &answer, &wanted, path);
-    assert_same(rt, &came, &len, path);
-    assert_same(rt, &faults, &failed, path);
-}
-
 #[test]
 fn texts_and_what_is_none(rt: HostRuntime) {
-    for case in &CASES {
-        check_text(&rt, rt.alloc(), case);
+    for (which, path, len, bytes, fault, want) in &CASES {
+        let reads = Reads {
+            interrupted: false,
+            bytes: *bytes,
+            fault: *fault,
+        };
+        let file = OneFile {
+            path: Some(*path),
+            len: *len,
+            file: reads,
+        };
+        let came = read_text(rt.alloc(), file, *which);
+        let faults = u64::from(*want == FAILED);
+        let wanted = (want.map(|_| ()), want.unwrap_or(0), faults);
+        assert_eq!(rt; came, wanted, "{which:?} at {path}, of {len:?} bytes");
     }
 }

@@ -2,10 +2,10 @@
 
 ghost use Rattle.std.specs.Prelude.{◌<◌, IfOk, string_len};
 
-use crate::given::assert_same;
 use std::alloc::{AllocError, Global};
 use std::env::{Env, FillError};
 use std::process::Abort;
+use std::test::Fail;
 use yp_system::{WORD_MAX, read_words};
 
 // A program that was started with these words.
@@ -36,39 +36,34 @@ impl Env for Script<'_> {
 }
 
 // The word and the one behind it must have come, or where it is no text, one that is longer than any.
-fn assert_words(rt: &impl Abort, came: &[String], word: &[u8], is_text: bool, row: &str) {
+fn assert_words(rt: &impl Abort, case: usize, came: &[String], word: &[u8], is_text: bool) {
     match came {
         [first, last] if is_text => {
-            assert_same(rt, &first.as_bytes(), &word, row);
-            assert_same(rt, &last.as_str(), &"maps", row);
+            let found = (first.as_bytes(), last.as_str());
+            assert_eq!(rt; found, (word, "maps"), "in case {case}");
         }
-        [only] if !is_text => assert!(rt; only.len() > WORD_MAX, "{row}"),
-        _ => assert!(rt; false, "{row}: {} words", came.len()),
+        [only] if !is_text => assert!(rt; only.len() > WORD_MAX, "in case {case}"),
+        _ => assert!(rt; false, "{} words in case {case}", came.len()),
     }
 }
 
-fn check_word(rt: &impl Abort, alloc: Global, word: &[u8], is_text: bool, row: &str) {
-    let script = Script {
-        words: &[b"yp", word, b"maps"],
-    };
-    let came = read_words(&script, alloc).expect(rt, "memory for words");
-    assert_words(rt, &came, word, is_text, row);
-}
-
 #[test]
-fn words_and_what_is_no_text(rt: HostRuntime) {
-    let alloc = rt.alloc();
-    let long = vec![in alloc; b'k'; WORD_MAX + 1].expect(&rt, "a long word");
-    check_word(&rt, alloc, b"once", true, "a word");
-    check_word(&rt, alloc, b"", true, "no byte");
-    check_word(
-        &rt,
-        alloc,
-        "\u{e9}=1".as_bytes(),
-        true,
-        "two bytes of a sign",
-    );
-    check_word(&rt, alloc, &long[1..], true, "as long as a word may be");
-    check_word(&rt, alloc, b"k=\xff", false, "no text");
-    check_word(&rt, alloc, &long, false, "one byte too long");
+fn words_and_what_is_no_text(rt: HostRuntime) -> Result<(), Fail> {
+    let long = vec![in rt.alloc(); b'k'; WORD_MAX + 1]?;
+    let cases = [
+        (b"once".as_slice(), true),
+        (b"", true),
+        ("\u{e9}=1".as_bytes(), true),
+        (&long[1..], true),
+        (b"k=\xff", false),
+        (&long, false),
+    ];
+    for (case, (word, is_text)) in cases.iter().enumerate() {
+        let script = Script {
+            words: &[b"yp", *word, b"maps"],
+        };
+        let came = read_words(&script, rt.alloc())?;
+        assert_words(&rt, case, &came, *word, *is_text);
+    }
+    Ok(())
 }

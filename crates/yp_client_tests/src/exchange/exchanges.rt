@@ -265,7 +265,7 @@ struct Case {
     printed: &'static [u8],
 }
 
-static CASES: [Case; 12] = [
+const CASES: &[Case] = &[
     Case {
         row: "values",
         question: CAT,
@@ -375,19 +375,16 @@ static CASES: [Case; 12] = [
     },
 ];
 
-fn check_case<R: RandomSource + Abort>(rt: &R, alloc: Global, case: &Case) {
-    let input = served(rt, alloc, case.calls);
-    assert_same(rt, &input, &bytes(rt, alloc, &[case.replies]), case.row);
-    let (result, sent, printed) = ask(rt, alloc, &case.question, input);
-    assert_same(rt, &result, &case.result, case.row);
-    assert_same(rt, &sent, &records(rt, alloc, case.calls), case.row);
-    assert_same(rt, &printed.as_slice(), &case.printed, case.row);
-}
-
 #[test]
 fn queries_print_what_is_shown(rt: HostRuntime) {
-    for case in &CASES {
-        check_case(&rt, rt.alloc(), case);
+    let alloc = rt.alloc();
+    for case in CASES {
+        let printed = case.printed.to_vec(alloc).expect(&rt, "a text");
+        let wanted = (case.result, records(&rt, alloc, case.calls), printed);
+        let input = served(&rt, alloc, case.calls);
+        assert_same(&rt, &input, &bytes(&rt, alloc, &[case.replies]), case.row);
+        let asked = ask(&rt, alloc, &case.question, input);
+        assert_same(&rt, &asked, &wanted, case.row);
     }
 }
 
@@ -549,18 +546,17 @@ fn replies<R: RandomSource + Abort>(rt: &R, alloc: Global) -> Vec<u8> {
 #[test]
 fn calls_answer_what_is_shown(rt: HostRuntime) {
     let alloc = rt.alloc();
-    let (found, told) = call(&rt, alloc, replies(&rt, alloc));
-    let (served, value, [first, next, last]) = found;
-    assert_same(&rt, &served, &Ok(true), "DOMAIN");
-    assert_same(&rt, &value, &Ok(14), "MATCH");
-    assert_same(&rt, &first, &Ok((14, 5)), "FIRST");
-    assert_same(&rt, &next, &Ok((13, 4)), "NEXT");
-    let no_more = ClientFault::Yp(YpStat::Nomore);
-    assert_same(&rt, &last, &Err(no_more), "NEXT behind the last");
-    let (order, master, names, (all, rows)) = told;
-    assert_same(&rt, &order, &Ok(100), "ORDER");
-    assert_same(&rt, &master, &Ok(2), "MASTER");
-    assert_same(&rt, &names, &Ok(1), "MAPLIST");
-    assert_same(&rt, &all, &Ok(()), "ALL");
-    assert_same(&rt, &rows, &2, "the rows of ALL");
+    let found = (
+        Ok(true),
+        Ok(14),
+        [
+            Ok((14, 5)),
+            Ok((13, 4)),
+            Err(ClientFault::Yp(YpStat::Nomore)),
+        ],
+    );
+    let wanted = (found, (Ok(100), Ok(2), Ok(1), (Ok(()), 2)));
+    let input = replies(&rt, alloc);
+    let came = call(&rt, alloc, input);
+    assert_same(&rt, &came, &wanted, "calls of hosts.byname");
 }

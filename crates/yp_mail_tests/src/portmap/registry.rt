@@ -48,7 +48,7 @@ const YP_TCP: &str = "000186a4 00000002 00000006 00000342";
 const YP_UDP: &str = "000186a4 00000002 00000011 00000343";
 
 // Calls in turn: who calls, their words, and those of the replies.
-static CALLS: [(Peer, [&str; 4], [&str; 3]); 22] = [
+const CALLS: [(Peer, [&str; 4], [&str; 3]); 22] = [
     (SELF, [CALL, "00000000", NONE, ""], [DONE, "", ""]),
     (
         STRANGER,
@@ -202,27 +202,15 @@ static CALLS: [(Peer, [&str; 4], [&str; 3]); 22] = [
     (SELF, ["00000001 00000000", "", "", ""], ["", "", ""]),
 ];
 
-fn check_call(
-    rt: &impl Abort,
-    alloc: Global,
-    registry: &mut Registry,
-    from: Peer,
-    call: &[&str],
-    reply: &[&str],
-    row: &str,
-) {
-    let datagram = bytes(rt, alloc, call);
-    let wanted = bytes(rt, alloc, reply);
-    let is = replies(registry, &datagram, from, &wanted);
-    assert_same(rt, &is, &true, row);
-}
-
 #[test]
 fn calls_answered(rt: HostRuntime) {
     let alloc = rt.alloc();
     let mut registry = new_registry(&rt, alloc);
     for (from, call, reply) in &CALLS {
-        check_call(&rt, alloc, &mut registry, *from, call, reply, reply[1]);
+        let datagram = bytes(&rt, alloc, call);
+        let wanted = bytes(&rt, alloc, reply);
+        let is = replies(&mut registry, &datagram, *from, &wanted);
+        assert_same(&rt, &is, &true, reply[1]);
     }
 }
 
@@ -257,11 +245,19 @@ fn full_registry(rt: HostRuntime) {
     let is_refused = sets(&rt, &mut registry, 256, &not_set);
     let mut buf = [0; 8_192];
     let len = registry.on_call(&dump, SELF, &mut buf);
-    assert_same(&rt, &are_set, &true, "256 mappings");
-    assert_same(&rt, &is_refused, &true, "one more");
-    assert_same(&rt, &len, &5_148, "the length of the list");
-    assert_same(&rt, &registry.len(), &256, "how many there are");
     let last = registry.row(255).map(|mapping| mapping.prog);
-    assert_same(&rt, &last, &Some(255), "the last one");
-    assert_same(&rt, &registry.row(256), &None, "none behind it");
+    let came = (
+        are_set,
+        is_refused,
+        len,
+        registry.len(),
+        last,
+        registry.row(256),
+    );
+    assert_same(
+        &rt,
+        &came,
+        &(true, true, 5_148, 256, Some(255), None),
+        "full",
+    );
 }

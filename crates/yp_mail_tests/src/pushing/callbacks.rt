@@ -20,7 +20,7 @@ const NONE: &str = "00000000 00000000 00000000 00000000";
 
 const TOLD: &str = "000001f4 00000001";
 
-static ROWS: [Row; 10] = [
+const ROWS: [Row; 10] = [
     Row {
         name: "NULL",
         datagram: &[

@@ -75,7 +75,7 @@ const CALLED: Row = Row {
     came: 3,
 };
 
-static ROWS: [Row; 10] = [
+const ROWS: [Row; 10] = [
     CALLED,
     Row {
         name: "no address, and a dial that fails",

@@ -10,7 +10,7 @@ use yp_version::{Version, VersionBuilder};
 use yp_xfr::Hosts;
 
 /// The keys of a map of servers, in the order in which they were pushed.
-static SERVERS: [&[u8]; 4] = [b"s2", b"m1", b"s10", b"s1"];
+const SERVERS: [&[u8]; 4] = [b"s2", b"m1", b"s10", b"s1"];
 
 const KNOWN: Peer = Peer {
     addr: [127, 0, 0, 1],

@@ -26,7 +26,7 @@ const GROUPS: &[u8] = b"wheel:*:0:root\n#old:*:1:\n staff:*:50:ann,joe\nnone\n";
 const HOSTS: &[u8] =
     b"10.0.0.1 alpha al # first\n\t10.0.0.2\tbeta \n#10.0.0.3 gamma\n10.0.0.4\n \t \n\n10.0.0.5 alpha # again";
 
-static MADE: [Made; 22] = [
+const MADE: [Made; 22] = [
     (
         "users by name",
         Kind::PasswdByname,
@@ -248,7 +248,7 @@ type Long = (
     usize,
 );
 
-static LONG: [Long; 5] = [
+const LONG: [Long; 5] = [
     (
         "a long value",
         Kind::PasswdByname,
@@ -307,18 +307,12 @@ fn rows_told<R: RandomSource + Abort>(
     (answer, builder.len())
 }
 
-fn check_long<R: RandomSource + Abort>(rt: &R, alloc: Global, row: &Long) {
-    let (name, kind, lines, fault, rows) = *row;
-    let text = long_text(rt, alloc, lines);
-    let (answer, count) = rows_told(rt, alloc, kind, &text);
-    assert_same(rt, &answer, &Err(fault), name);
-    assert_same(rt, &count, &rows, name);
-}
-
 #[test]
 fn lines_of_faults(rt: HostRuntime) {
-    for row in &LONG {
-        check_long(&rt, rt.alloc(), row);
+    for (name, kind, lines, fault, rows) in &LONG {
+        let text = long_text(&rt, rt.alloc(), *lines);
+        let came = rows_told(&rt, rt.alloc(), *kind, &text);
+        assert_same(&rt, &came, &(Err(*fault), *rows), *name);
     }
 }
 

@@ -8,7 +8,7 @@ use yp_build::*;
 use yp_version::Version;
 
 /// The order before, the moment, and the order that follows.
-static ORDERS: [(Option<u32>, u32, Result<u32, OrderSpent>); 7] = [
+const ORDERS: [(Option<u32>, u32, Result<u32, OrderSpent>); 7] = [
     (None, 7, Ok(7)),
     (Some(100), 100, Ok(101)),
     (Some(100), 50, Ok(101)),
@@ -58,12 +58,12 @@ fn orders(rt: HostRuntime) {
     assert_same(&rt, &head(&raised), &wanted, "a raised order");
     // A spent order goes before a row that is refused.
     let text = long_text(&rt, alloc, &[(b"a", 65537)]);
-    let fault = fault_of(&rt, alloc, &text, Some(u32::MAX));
-    let spent = BuildFault::OrderSpent;
-    assert_same(&rt, &fault, &Some(spent), "a spent order");
-    let fault = fault_of(&rt, alloc, &text, Some(7));
-    let long = BuildFault::KeyLong { line: 1 };
-    assert_same(&rt, &fault, &Some(long), "a long key");
+    let came = (
+        fault_of(&rt, alloc, &text, Some(u32::MAX)),
+        fault_of(&rt, alloc, &text, Some(7)),
+    );
+    let (spent, long) = (BuildFault::OrderSpent, BuildFault::KeyLong { line: 1 });
+    assert_same(&rt, &came, &(Some(spent), Some(long)), "a spent order");
 }
 
 /// The order of the last version, its master, and whether it is secure.
@@ -78,7 +78,7 @@ enum After {
 }
 
 /// The last version, the flag, and what comes of a build by `m1` at the moment 50.
-static AFTER: [(Option<Last>, Option<bool>, After); 8] = [
+const AFTER: [(Option<Last>, Option<bool>, After); 8] = [
     (
         None,
         None,
@@ -195,7 +195,7 @@ fn size_of<R: RandomSource>(
 /// A start, how many rows there are, and the size or the fault.
 type Size = (u32, u32, Result<(usize, usize), BuildFault>);
 
-static SIZES: [Size; 6] = [
+const SIZES: [Size; 6] = [
     (0, 0, Ok((0, 24))),
     (0, 1, Ok((1, 48))),
     (0, 3, Ok((3, 96))),

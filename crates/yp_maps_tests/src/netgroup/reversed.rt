@@ -3,7 +3,6 @@
 use crate::given::assert_same;
 use crate::netgroup::groups::{Row, version};
 use std::alloc::Global;
-use std::process::Abort;
 use std::random::RandomSource;
 use yp_netgroup::{Who, innetgr};
 use yp_revnet::{Field, listed_in, reverse, split};
@@ -28,7 +27,7 @@ const DOTTED: &[Row<'static>] = &[(b"g", b"(a,,b.c)")];
 
 const STARS: &[Row<'static>] = &[(b"x", b"(,u,*)"), (b"y", b"(*,v,)"), (b"z", b"y y y")];
 
-static CASES: [Case; 6] = [
+const CASES: [Case; 6] = [
     Case {
         row: "groups that name each other",
         groups: CYCLE,
@@ -110,23 +109,29 @@ fn has_reverse<R: RandomSource>(
     }
 }
 
-// Looks at whether the reverses of a case have its rows, and whether they are split.
-fn check_case<R: RandomSource + Abort>(rt: &R, alloc: Global, case: &Case) {
-    let netgroup = version(rt, alloc, case.groups);
-    let by_user = has_reverse(rt, alloc, &netgroup, Field::User, case.by_user);
-    assert_same(rt, &by_user, &true, case.row);
-    let by_host = has_reverse(rt, alloc, &netgroup, Field::Host, case.by_host);
-    assert_same(rt, &by_host, &true, case.row);
-    let users = split(alloc, &netgroup, Field::User).ok();
-    assert_same(rt, &users, &Some(case.split.0), case.row);
-    let hosts = split(alloc, &netgroup, Field::Host).ok();
-    assert_same(rt, &hosts, &Some(case.split.1), case.row);
+// What is told of a case: whether its reverses have its rows, and whether they are split.
+fn told_of<R: RandomSource>(
+    rt: &R,
+    alloc: Global,
+    netgroup: &Version,
+    case: &Case,
+) -> (bool, bool, Option<bool>, Option<bool>) {
+    (
+        has_reverse(rt, alloc, netgroup, Field::User, case.by_user),
+        has_reverse(rt, alloc, netgroup, Field::Host, case.by_host),
+        split(alloc, netgroup, Field::User).ok(),
+        split(alloc, netgroup, Field::Host).ok(),
+    )
 }
 
 #[test]
 fn reversed_by_hand(rt: HostRuntime) {
+    let alloc = rt.alloc();
     for case in &CASES {
-        check_case(&rt, rt.alloc(), case);
+        let netgroup = version(&rt, alloc, case.groups);
+        let told = told_of(&rt, alloc, &netgroup, case);
+        let wanted = (true, true, Some(case.split.0), Some(case.split.1));
+        assert_same(&rt, &told, &wanted, case.row);
     }
 }
 
@@ -140,7 +145,7 @@ struct Asked {
     told: (bool, bool),
 }
 
-static LOOK_UPS: [Asked; 8] = [
+const LOOK_UPS: [Asked; 8] = [
     Asked {
         groups: CYCLE,
         field: Field::User,
@@ -218,16 +223,13 @@ fn looked_up<R: RandomSource>(
     }
 }
 
-fn check_look_up<R: RandomSource + Abort>(rt: &R, alloc: Global, asked: &Asked) {
-    let netgroup = version(rt, alloc, asked.groups);
-    let (listed, member) = looked_up(rt, alloc, &netgroup, asked);
-    assert_same(rt, &listed, &Some(asked.told.0), "who is listed");
-    assert_same(rt, &member, &Some(asked.told.1), "who is a member");
-}
-
 #[test]
 fn looked_up_by_hand(rt: HostRuntime) {
+    let alloc = rt.alloc();
     for asked in &LOOK_UPS {
-        check_look_up(&rt, rt.alloc(), asked);
+        let netgroup = version(&rt, alloc, asked.groups);
+        let came = looked_up(&rt, alloc, &netgroup, asked);
+        let wanted = (Some(asked.told.0), Some(asked.told.1));
+        assert_same(&rt, &came, &wanted, "a look-up");
     }
 }

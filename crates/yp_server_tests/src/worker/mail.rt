@@ -168,24 +168,19 @@ fn replies_to<R: RandomSource + Abort>(rt: &R, alloc: Global, mail: &[Mail]) -> 
     sent
 }
 
-fn check_row<R: RandomSource + Abort>(rt: &R, alloc: Global, row: &Row) {
-    let (ended, turns, transfers, sent) = play(rt, alloc, row);
-    assert_same(rt, &ended, &row.ended, row.name);
-    assert_same(rt, &turns, &row.turns, row.name);
-    assert_same(rt, &transfers, &row.transfers, row.name);
-    assert_same(rt, &sent, &bytes(rt, alloc, row.sent), row.name);
-}
-
 fn play_all<R: RandomSource + Abort>(rt: &R, alloc: Global, rows: &[Row]) {
     for row in rows {
-        check_row(rt, alloc, row);
+        let came = play(rt, alloc, row);
+        let sent = bytes(rt, alloc, row.sent);
+        let wanted = (row.ended, row.turns, row.transfers, sent);
+        assert_same(rt, &came, &wanted, row.name);
     }
 }
 
 // Datagrams, and what is sent for them in two turns.
 type Replies = (&'static str, &'static [Mail], &'static [&'static str]);
 
-static REPLIES: [Replies; 10] = [
+const REPLIES: [Replies; 10] = [
     ("NULL", &[(OWN_HOST, 700, NULL, 0)], &[TO_700, NULL_REPLY]),
     (
         "MATCH",
@@ -400,12 +395,12 @@ fn the_longest_value(rt: HostRuntime) {
     let len = longest.len() + 8_160;
     longest.resize(len, b'x').expect(&rt, "a reply");
     let refused = bytes(&rt, alloc, &[TO_700, MATCHED, ERROR]);
-    let wanted = (Ok(Ended::Spent), 1, 0, longest);
-    let came = replied(&rt, alloc, 8_160);
-    assert_same(&rt, &came, &wanted, "a value of 8,160 bytes");
-    let wanted = (Ok(Ended::Spent), 1, 0, refused);
-    let came = replied(&rt, alloc, 8_161);
-    assert_same(&rt, &came, &wanted, "a value of 8,161 bytes");
+    let came = (replied(&rt, alloc, 8_160), replied(&rt, alloc, 8_161));
+    let wanted = (
+        (Ok(Ended::Spent), 1, 0, longest),
+        (Ok(Ended::Spent), 1, 0, refused),
+    );
+    assert_same(&rt, &came, &wanted, "values of 8,160 and of 8,161 bytes");
 }
 
 // Lets a server hear a call, and go on behind the reply where that is sent.

@@ -61,30 +61,20 @@ fn served<R: RandomSource + Abort>(rt: &R, alloc: Global, values: &[&[u8]]) -> (
 
 // What others show, the reply on the first connection, and both on the second. Where none is shown, memory runs out
 // for the worker, which goes on with what it knew.
-static ROWS: [(&[&[u8]], &str, &str); 3] = [
+const ROWS: &[(&[&[u8]], &str, &str)] = &[
     (&[], ONE, ONE),
     (&[b"alpha:2"], TWO, TWO),
     (&[b"alpha:1", b"alpha:2"], ONE, TWO),
 ];
 
-fn check_two<R: RandomSource + Abort>(
-    rt: &R,
-    alloc: Global,
-    values: &[&[u8]],
-    first: &str,
-    second: &str,
-) {
-    let (one, two) = served(rt, alloc, values);
-    let wanted = (End::Clean, 1, bytes(rt, alloc, &[first]));
-    assert_same(rt, &one, &wanted, "the first connection");
-    let wanted = (End::Clean, 2, bytes(rt, alloc, &[second, second]));
-    assert_same(rt, &two, &wanted, "the second connection");
-}
-
 #[test]
 fn two_connections(rt: HostRuntime) {
-    for (values, first, second) in &ROWS {
-        check_two(&rt, rt.alloc(), *values, first, second);
+    let alloc = rt.alloc();
+    for &(values, first, second) in ROWS {
+        let one = (End::Clean, 1, bytes(&rt, alloc, &[first]));
+        let two = (End::Clean, 2, bytes(&rt, alloc, &[second, second]));
+        let came = served(&rt, alloc, values);
+        assert_same(&rt, &came, &(one, two), "two connections");
     }
 }
 

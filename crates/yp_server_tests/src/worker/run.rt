@@ -198,16 +198,7 @@ const SERVED: Tally = Tally {
 
 // What both connections ask, the calls of the listener that fail, what was counted, how many transfers were carried
 // out, how many connections were accepted, and what was written.
-type Row = (
-    &'static [&'static str],
-    &'static [u64],
-    Tally,
-    u64,
-    u32,
-    &'static [&'static str],
-);
-
-static ROWS: [Row; 4] = [
+const ROWS: &[(&[&str], &[u64], Tally, u64, u32, &[&str])] = &[
     (
         &[NULL, NULL],
         &[],
@@ -265,21 +256,14 @@ fn one<N: Naming, R: Wait + RandomSource + Abort>(
     served::<Brand, Brand, Writer<N, &R>, R>(rt, alloc, out, ended, listen, &mut writer, reader)
 }
 
-fn check_row<R: Wait + RandomSource + Abort>(rt: &R, alloc: Global, row: &Row) {
-    let (input, failing, tally, transfers, accepted, output) = *row;
-    let listen = door(rt, alloc, input, 2, failing);
-    let came = one::<Brand, R>(rt, alloc, Opened::new(), listen);
-    assert_same(rt, &came.0, &tally, "what was counted");
-    assert_same(rt, &came.1, &tally, "what was kept");
-    assert_same(rt, &came.2, &transfers, "the transfers");
-    assert_same(rt, &came.3, &accepted, "the connections");
-    assert_same(rt, &came.4, &bytes(rt, alloc, output), "what was written");
-}
-
 #[test]
 fn all_connections_of_a_listener(rt: HostRuntime) {
-    for row in &ROWS {
-        check_row(&rt, rt.alloc(), row);
+    let alloc = rt.alloc();
+    for &(input, failing, tally, transfers, accepted, output) in ROWS {
+        let listen = door(&rt, alloc, input, 2, failing);
+        let came = one::<Brand, _>(&rt, alloc, Opened::new(), listen);
+        let wanted = (tally, tally, transfers, accepted, bytes(&rt, alloc, output));
+        assert_same(&rt, &came, &wanted, "the connections of a listener");
     }
 }
 

@@ -60,7 +60,7 @@ const EMPTY: Row = Row {
     made: 1,
 };
 
-static ROWS: [Row; 9] = [
+const ROWS: &[Row] = &[
     EMPTY,
     Row {
         name: "the order rises where the clock does not",
@@ -156,17 +156,11 @@ fn came_of<R: RandomSource + Wait + Abort>(rt: &R, alloc: Global, row: &Row) -> 
     staged::<Brand, _, R>(rt, alloc, Opened::new(), catalog, disk, desk, script)
 }
 
-fn check_row<R: RandomSource + Wait + Abort>(rt: &R, alloc: Global, row: &Row) {
-    let (came, totals, _) = came_of(rt, alloc, row);
-    assert_same(rt, &came.as_slice(), &row.came, row.name);
-    assert_same(rt, &totals.files, &row.files, row.name);
-    assert_same(rt, &totals.made, &row.made, row.name);
-    assert_same(rt, &totals.transfers, &0, row.name);
-}
-
 #[test]
 fn made_maps(rt: HostRuntime) {
-    for row in &ROWS {
-        check_row(&rt, rt.alloc(), row);
+    for row in ROWS {
+        let (came, totals, _) = came_of(&rt, rt.alloc(), row);
+        let found = (came.as_slice(), totals.files, totals.made, totals.transfers);
+        assert_same(&rt, &found, &(row.came, row.files, row.made, 0), row.name);
     }
 }

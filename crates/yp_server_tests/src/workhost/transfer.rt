@@ -10,7 +10,7 @@ use std::random::RandomSource;
 use std::sync::Wait;
 use yp_io::{MemDisk, Peer};
 use yp_readers::Opened;
-use yp_workhost::Outcomes;
+use yp_workhost::{Outcomes, Totals};
 
 // What is posted of the transaction 9 to the program 0x40000000, with its status: 48 bytes.
 const CALL_BACK: &str = "00000009 00000000 00000002 40000000 00000001 00000001
@@ -90,7 +90,7 @@ const FETCHED: Row = Row {
     stat: SUCC,
 };
 
-static ROWS: [Row; 6] = [
+const ROWS: &[Row] = &[
     FETCHED,
     Row {
         name: "one that is shown already",
@@ -152,21 +152,25 @@ fn came_of<R: RandomSource + Wait + Abort>(rt: &R, alloc: Global, row: &Row) -> 
     staged::<Brand, _, R>(rt, alloc, Opened::new(), catalog, disk, desk, script)
 }
 
-fn check_row<R: RandomSource + Wait + Abort>(rt: &R, alloc: Global, row: &Row) {
-    let (came, totals, posted) = came_of(rt, alloc, row);
-    let wanted = [(None, row.held)];
-    assert_same(rt, &came.as_slice(), &wanted.as_slice(), row.name);
-    assert_same(rt, &totals.files, &0, row.name);
-    assert_same(rt, &totals.made, &0, row.name);
-    assert_same(rt, &totals.transfers, &1, row.name);
-    assert_same(rt, &totals.outcomes, &row.outcomes, row.name);
+// What is wanted of a row.
+fn wanted_of(rt: &impl Abort, alloc: Global, row: &Row) -> Played {
+    let came = vec![in alloc; (None, row.held)].expect(rt, "what came");
     let letter = (PROGRAM, bytes(rt, alloc, &[CALL_BACK, row.stat]));
-    assert_same(rt, &posted.as_slice(), &[letter].as_slice(), row.name);
+    let posted = vec![in alloc; letter].expect(rt, "a letter");
+    let totals = Totals {
+        files: 0,
+        made: 0,
+        transfers: 1,
+        outcomes: row.outcomes,
+    };
+    (came, totals, posted)
 }
 
 #[test]
 fn worker_transfer(rt: HostRuntime) {
-    for row in &ROWS {
-        check_row(&rt, rt.alloc(), row);
+    for row in ROWS {
+        let wanted = wanted_of(&rt, rt.alloc(), row);
+        let came = came_of(&rt, rt.alloc(), row);
+        assert_same(&rt, &came, &wanted, row.name);
     }
 }
