@@ -4,8 +4,8 @@
 //! first refusal that they meet. The promise stands on the calls of [`Client`], which all have one contract at
 //! different kinds of results.
 //!
-//! A [`Question`] is what a client command asks of a server. The words of the command line make it, and a query asks it.
-//! That its names and its key fit into a call stands on [`Question::is_within`].
+//! A [`Question`] is what a client command asks of a server. The words of the command line make it, and a query asks
+//! it. That its names and its key fit into a call stands on [`Question::is_within`].
 #![tactic(auto)]
 
 mod all;

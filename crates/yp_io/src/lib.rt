@@ -1,7 +1,7 @@
 //! What the program reaches outside itself, as traits, with forms in memory for tests.
 //!
 //! A source gives bytes and a sink takes them; a disk keeps bytes through a crash; texts and a clock are read; a dial
-//! opens wires and sends datagrams; an inbox receives datagrams at a port, and sends them from there; a [`Listen`] hands
+//! opens wires and sends datagrams; an inbox receives datagrams at a port, and sends them from there; a listener hands
 //! out the connections that come, each with its caller, up to a number that is stated, and gets them back. Each says
 //! what it holds, has taken or shows where that can be known, and all but the clock count their faults, so that a
 //! failure always has a cause. These promises stand on the clauses of [`Source`], [`Sink`], [`Disk`], [`Texts`],

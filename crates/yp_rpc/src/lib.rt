@@ -1,5 +1,5 @@
-//! ONC RPC version 2 (RFC 5531): records in the fragments of a stream, the heads of calls and replies, and what programs
-//! over datagrams have in common.
+//! ONC RPC version 2 (RFC 5531): records in the fragments of a stream, the heads of calls and replies, and what
+//! programs over datagrams have in common.
 //!
 //! That a stream is its records, however it is cut, stands on [`RecordReader::next`] and the laws of [`laws`]; what is
 //! sent of a record on [`RecordWriter::put`], `end` and `send`; what a record is heard as on [`read_call`]; how
