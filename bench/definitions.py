@@ -1,10 +1,10 @@
 #!/usr/bin/env python3
 """Tells what a reader of the top call has to read: bench/definitions.py [--names] [--inside] [FUNCTION]
 
-It begins with the contract of a function, `run` of yp_tools where none is named (as yp_tools::program::run), and follows
-each name in it to its definition: in specs/, or of a struct, an enum or a trait in src/ with what contracts see of it.
-It prints for each file how many definitions and lines are reached, and the sums; with --names also their names, and with
---inside the definitions of specs/ that are not reached, which private clauses and invariants alone use.
+It begins with the contract of a function, `run` of yp_tools where none is named (as yp_tools::program::run), and
+follows each name in it to its definition: in specs/, or of a struct, an enum or a trait in src/ with what contracts see
+of it. It prints for each file how many definitions and lines are reached, and the sums; with --names also their names,
+and with --inside the definitions of specs/ that are not reached, which private clauses and invariants alone use.
 
 A name counts where it is spelled, so a variable that has the name of a definition reaches it, and the sums are a
 little too high. Definitions of the kit are not followed. Lines are those of a definition and of the comment above it.
@@ -122,7 +122,9 @@ class Repository:
     def contract(self, path):
         """The contract of a function, from its name to its body."""
         crate, *modules, name = path.split("::")
-        file = f"{TOP}/crates/{crate}/src/{'/'.join(modules)}.rt"
+        # A method has its type behind the module.
+        files = (f"{TOP}/crates/{crate}/src/{'/'.join(path)}.rt" for path in (modules, modules[:-1]))
+        file = next(file for file in files if os.path.isfile(file))
         found = re.search(rf"(?m)^ *pub fn {name}\b[\s\S]*?^ *\{{$", read(file))
         return Item(file, name, found[0].split("\n"))
 
