@@ -168,7 +168,10 @@ fn put_wanted(
         put_words(ended, alloc, "taken", *words)?;
     }
     ended.stands(alloc, &row.stands)?;
-    put_words(ended, alloc, "file", if row.torn { &[] } else { row.left })
+    if row.torn {
+        return ended.bytes(alloc, "file", &[]);
+    }
+    put_words(ended, alloc, "file", row.left)
 }
 
 /// What a row wants, with this output.
