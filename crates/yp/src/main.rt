@@ -2,23 +2,23 @@
 //! clock, connections and the texts of maps.
 #![tactic(auto)]
 
-ghost use Rattle.std.specs.Prelude.{◌≡◌, IfOk};
+ghost use Rattle.std.specs.Prelude.{◌≡◌, IfOk, unwrap_or};
 ghost use Rattle.yp_office.specs.Disks.{names_of};
 ghost use Rattle.yp_office.specs.Status.{IsTellable};
-ghost use Rattle.yp_words.specs.Words.{meaning, stores_of};
+ghost use Rattle.yp_words.specs.Words.{connections_of, meaning, port_of, stores_of};
 
 use std::alloc::{AllocError, Global};
 use std::process::ExitCode;
 use yp_board::MapName;
-use yp_io::{NoMemory, Sink};
+use yp_io::{Listen, NoMemory, Sink};
 use yp_session::Trail;
 use yp_system::{
     BlockReader, DirectWriter, FileDisk, Locking, Patient, StandardStream, SystemClock, TcpDial,
     TcpListen, TextFolder, UdpInbox, read_words,
 };
 use yp_tools::{
-    Command, NamedDisk, Outside, ParseFault, Status, named_disks, parse, port_of, run_command,
-    stores_of, tell,
+    Command, NamedDisk, Outside, ParseFault, Status, connections_of, named_disks, parse, port_of,
+    run_command, stores_of, tell,
 };
 
 /// When the file of a map is locked, which a command reads or writes. A session answers from what it loaded, and may
@@ -60,18 +60,20 @@ fn ports(
     alloc: Global,
     net: HostRuntime,
     command: &Command,
-) -> (TcpListen<HostRuntime>, UdpInbox<HostRuntime>) {
-    let connections = match command {
-        Command::Serve(job) => job.connections,
-        _ => 0,
-    };
-    let port = port_of(command);
-    let mut listen = TcpListen::new(alloc, net, port.unwrap_or(0), connections);
-    let mut inbox = UdpInbox::new(net, port.unwrap_or(0));
+) -> (TcpListen<HostRuntime>, UdpInbox<HostRuntime>)
+    ensures most { ⟦<TcpListen<HostRuntime> as Listen>⟧.most result.0 ≡ connections_of (meaning command.now) }
+    ensures accepted { ⟦<TcpListen<HostRuntime> as Listen>⟧.accepted result.0 ≡ 0 }
+    ensures ports { (result.0.port ≡ unwrap_or (port_of (meaning command.now)) 0)
+        × (result.1.port ≡ unwrap_or (port_of (meaning command.now)) 0) }
+{
+    let wanted = port_of(command);
+    let port = wanted.unwrap_or(0);
+    let mut listen = TcpListen::new(alloc, net, port, connections_of(command));
+    let mut inbox = UdpInbox::new(net, port);
     if let Command::Serve(_) = command {
         listen.open();
     }
-    if port.is_some() {
+    if wanted.is_some() {
         inbox.open();
     }
     (listen, inbox)

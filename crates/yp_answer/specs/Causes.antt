@@ -45,7 +45,7 @@ build_stat OrderSpent = Age
 build_stat NoMemory = Rsrc
 build_stat _ = Dbm
 
--- a row of the text passes a limit, while the order isn't spent
+-- a row of the text passes a limit, while the order isn't spent; the text that is told fixes the fault
 pub record HasBadRowAt (told : Told) (basis : Basis) : Type 0 where
   pub material : Material
   pub of_told : IsTold told basis material
@@ -66,7 +66,7 @@ pub record IsShownAnew (told : Told) (own : List ℕ) (job : Job) (old new : Log
   pub anew : IsAnew told (basis_at own job before) version
   pub over : Between old new (λ log. IsOver (shown job.map log) version)
 
--- a row of the text passes a limit, whatever the map and the moment are
+-- a row of the text passes a limit, whatever the map and the moment are; these don't change the fault
 pub record HasBadRow (own : List ℕ) (job : Job) (text : List ℕ) : Type 0 where
   pub log : Log
   pub moment : ℕ

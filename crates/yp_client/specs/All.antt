@@ -86,7 +86,7 @@ IsSaid said draft rows (Ok done) = said ≡ record { draft = draft; rows = rows;
 IsSaid said draft rows (Err NoMemory) = ⊤
 IsSaid said draft rows (Err fault) = said ≡ record { draft = draft; rows = rows; end = Err fault }
 
--- A call answers what the reply says, and the builder is as the reply has it.
+-- A call answers what the reply says, and the builder is as the reply has it. So is the number of rows.
 abbrev pub SaysAll : Draft → Draft → ℕ → List ℕ → Result (Unit {0}) ClientFault → Type 0
 SaysAll before after xid message result = (rows : ℕ) × IsSaid (all_said before xid message) after rows result
 

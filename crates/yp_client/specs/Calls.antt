@@ -28,7 +28,7 @@ Waits (Err Spent) waited before after = ⊤
 Waits (Err WriteFault) waited before after = ⊤
 Waits result waited before after = waited ≡ wire_state before.input after.output after.flushed
 
--- The whole reply was read, and the call answers by it.
+-- The whole reply was read, and the call answers by it. What was taken of the input fixes the reply.
 pub record Hears {X : Type 0} (limit : ℕ) (answers : List ℕ → Result X ClientFault → Type 0)
     (result : Result X ClientFault) (old new : ClientState) : Type 0 where
   pub reply : List ℕ

@@ -19,10 +19,11 @@ use Rattle.yp_answer.specs.Served.{maps_on}
 use Rattle.yp_query.specs.Asked.{netgroup}
 use Rattle.yp_session.specs.Hosts.{Turn}
 use Rattle.yp_session.specs.LogRuns.{Gets, LogRun}
-use Rattle.yp_exchange.specs.Runs.{RepliesInTurn, behind_order, poll_calls, calls_made}
+use Rattle.yp_exchange.specs.Runs.{RepliesInTurn, RepliesOn, behind_order, poll_calls, calls_made}
 use Rattle.yp_exchange.specs.QueryLaws.{RunIsPrinted}
-use Rattle.yp_exchange.specs.LogRuns.{records_of, replies_of, IsRepliedTo}
-use Rattle.yp_exchange.specs.RunLaws.{MatchHasReply, AllHasReply, MasterHasReply, OrderHasReply, MaplistHasReply, RunIsInTurn, LogRunIsPrinted}
+use Rattle.yp_exchange.specs.LogRuns.{records_of, replies_of, AnsweredOn, IsRepliedTo}
+use Rattle.yp_exchange.specs.RunLaws.{MatchHasReply, AllHasReply, MasterHasReply, OrderHasReply, MaplistHasReply, RunIsInTurn, RunIsOnLogs}
+use Rattle.yp_exchange.specs.RunLaws.{LogRunIsPrinted}
 use Rattle.yp_exchange.proofs.Running.{front_then, served_before}
 
 -- ---- a run
@@ -57,6 +58,46 @@ run_is_in_turn catalogue peer (turn ∷ turns) before after served run all =
     let got = gets_bytes catalogue.own (reply Stream maps peer turn.message) has.0 turn.answer one.log run.0 has.1 one.gets in
     subst (λ (answer : Option (List ℕ)). RepliesInTurn catalogue peer (turn.message ∷ records_of turns) (cons_option answer (replies_of turns)) before after) (sym got)
     (one.log, one.begins, has.1, later)
+
+-- ---- a run with its logs
+
+later_on : (catalogue : Catalogue) (peer : Peer) (calls replies : List (List ℕ)) (logs : List Log) (first second last : Log)
+    → IsFront first second → RepliesOn catalogue peer calls replies logs second last
+    → RepliesOn catalogue peer calls replies logs first last
+later_on catalogue peer [] [] [] first second last front run = front_then first second last front run
+later_on catalogue peer [] [] (log ∷ logs) first second last front run = absurd run
+later_on catalogue peer [] (bytes ∷ replies) logs first second last front run = absurd run
+later_on catalogue peer (call ∷ calls) [] logs first second last front run = absurd run
+later_on catalogue peer (call ∷ calls) (bytes ∷ replies) [] first second last front run = absurd run
+later_on catalogue peer (call ∷ calls) (bytes ∷ replies) (log ∷ logs) first second last front run =
+    (front_then first second log front run.0, run.1, run.2)
+
+answered_front : (catalogue : Catalogue) (peer : Peer) (turns : List Turn) (logs : List Log) (before after : Log)
+    → AnsweredOn catalogue peer turns logs before after → IsFront before after
+answered_front catalogue peer [] [] before after run = ([], run ∙ sym (append-nil before))
+answered_front catalogue peer [] (log ∷ logs) before after run = absurd run
+answered_front catalogue peer (turn ∷ turns) [] before after run = absurd run
+answered_front catalogue peer (turn ∷ turns) (log ∷ logs) before after run =
+    front_then before run.0 after (front_then before run.1.log run.0 run.1.begins run.1.goes_on)
+    (answered_front catalogue peer turns logs run.0 after run.3)
+
+pub run_is_on_logs : RunIsOnLogs
+run_is_on_logs catalogue peer [] [] before after served run all = answered_front catalogue peer [] [] before after run
+run_is_on_logs catalogue peer [] (log ∷ logs) before after served run all = absurd run
+run_is_on_logs catalogue peer (turn ∷ turns) [] before after served run all = absurd run
+run_is_on_logs catalogue peer (turn ∷ turns) (log ∷ logs) before after served run all =
+    let one = run.1 in
+    let maps = maps_on catalogue one.log in
+    let behind = front_then one.log run.0 after one.goes_on (answered_front catalogue peer turns logs run.0 after run.3) in
+    let has = All-head (IsRepliedTo peer) turn.message (records_of turns) all maps (served_before catalogue one.log after behind served) in
+    let rest = run_is_on_logs catalogue peer turns logs run.0 after served run.3 (All-tail (IsRepliedTo peer) turn.message (records_of turns) all) in
+    let later = later_on catalogue peer (records_of turns) (replies_of turns) logs one.log run.0 after one.goes_on rest in
+    let got = gets_bytes catalogue.own (reply Stream maps peer turn.message) has.0 turn.answer one.log run.0 has.1 one.gets in
+    let here : RepliesOn catalogue peer (turn.message ∷ records_of turns) (has.0 ∷ replies_of turns) (one.log ∷ logs) before after =
+    (one.begins, has.1, later) in
+    subst (λ (l : Log). RepliesOn catalogue peer (turn.message ∷ records_of turns) (cons_option turn.answer (replies_of turns)) (l ∷ logs) before after) run.2
+    (subst (λ (answer : Option (List ℕ)). RepliesOn catalogue peer (turn.message ∷ records_of turns) (cons_option answer (replies_of turns)) (one.log ∷ logs) before after)
+    (sym got) here)
 
 -- ---- the calls of a question
 

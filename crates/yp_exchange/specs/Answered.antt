@@ -87,7 +87,7 @@ ComesTo expected (Err (Client ReadFault)) = ⊤
 ComesTo expected (Err (Client WriteFault)) = ⊤
 ComesTo expected outcome = outcome ≡ expected
 
--- It came to this, and what it came to was printed.
+-- It came to this, and what it came to was printed. Unless memory ran out, the result and what was expected fix it.
 pub record PrintsTold (expected : Outcome) (result : Result (Unit {0}) QueryFault) (before after : Option (List ℕ))
     : Type 0 where
   pub outcome : Outcome

@@ -1,5 +1,5 @@
 -- What a server replies in a run on logs, while others may show versions.
-use Rattle.std.specs.Prelude.{◌≡◌, ℕ, List, map}
+use Rattle.std.specs.Prelude.{◌≡◌, ℕ, List, [], ◌∷◌, map}
 use Rattle.std.specs.List.{filter_map}
 use Rattle.yp_io.specs.declared.stream.Peer.{Peer}
 use Rattle.yp_board.specs.Catalogues.{Catalogue}
@@ -9,7 +9,7 @@ use Rattle.yp_answer.specs.Maps.{Maps}
 use Rattle.yp_answer.specs.Reply.{Bytes, reply}
 use Rattle.yp_answer.specs.Served.{AreServed, maps_on}
 use Rattle.yp_session.specs.Hosts.{Turn}
-use Rattle.yp_session.specs.LogRuns.{LogRun}
+use Rattle.yp_session.specs.LogRuns.{LogRun, IsAnsweredOn}
 use Rattle.yp_client.specs.Questions.{ByteQuestion}
 use Rattle.yp_exchange.specs.Runs.{calls_made}
 
@@ -19,6 +19,15 @@ records_of turns = map (λ turn. turn.message) turns
 
 abbrev pub replies_of : List Turn → List (List ℕ)
 replies_of turns = filter_map (λ turn. turn.answer) turns
+
+-- A run on logs, with those on which its records were answered, in their order.
+abbrev pub AnsweredOn : Catalogue → Peer → List Turn → List Log → Log → Log → Type 0
+AnsweredOn catalogue peer [] [] first last = last ≡ first
+AnsweredOn catalogue peer (turn ∷ turns) (log ∷ logs) first last =
+    (next : Log) × (one : IsAnsweredOn catalogue Stream peer turn first next) × (one.log ≡ log)
+    × AnsweredOn catalogue peer turns logs next last
+AnsweredOn catalogue peer [] (log ∷ logs) first last = ⊥
+AnsweredOn catalogue peer (turn ∷ turns) [] first last = ⊥
 
 -- A server that knows these maps replies to a record at once: it isn't silent, and makes no map first.
 abbrev pub HasReply : Maps → Peer → List ℕ → Type 0

@@ -14,8 +14,8 @@ use Rattle.yp_client.specs.Questions.{ByteQuestion, QuestionIsWithin}
 use Rattle.yp_query.specs.Complete.{HasCome}
 use Rattle.yp_query.specs.Scenes.{Scene, Asks}
 use Rattle.yp_exchange.specs.Laws.{ForDomain, ForMap, ForKey}
-use Rattle.yp_exchange.specs.Runs.{RepliesInTurn, sent_all, PrintsOnLogs}
-use Rattle.yp_exchange.specs.LogRuns.{records_of, replies_of, HasReply, IsRepliedTo, AnswersCalls}
+use Rattle.yp_exchange.specs.Runs.{RepliesInTurn, RepliesOn, sent_all, PrintsOnLogs}
+use Rattle.yp_exchange.specs.LogRuns.{records_of, replies_of, AnsweredOn, HasReply, IsRepliedTo, AnswersCalls}
 
 -- each call of a client that asks for what the maps have gets one reply, at once
 abbrev pub DomainHasReply : Type 0
@@ -51,6 +51,15 @@ RunIsInTurn =
     → LogRun catalogue Stream peer turns before after
     → All (IsRepliedTo peer) (records_of turns)
     → RepliesInTurn catalogue peer (records_of turns) (replies_of turns) before after
+
+-- The same, on the logs of the run.
+abbrev pub RunIsOnLogs : Type 0
+RunIsOnLogs =
+    (catalogue : Catalogue) (peer : Peer) (turns : List Turn) (logs : List Log) (before after : Log)
+    → AreServed (maps_on catalogue after)
+    → AnsweredOn catalogue peer turns logs before after
+    → All (IsRepliedTo peer) (records_of turns)
+    → RepliesOn catalogue peer (records_of turns) (replies_of turns) logs before after
 
 -- So a question prints what the maps of a server tell, where the wire gives what that server sent in a run over the
 -- calls of the question.

@@ -28,6 +28,17 @@ RepliesInTurn catalogue peer (call ∷ calls) (bytes ∷ replies) old new =
 RepliesInTurn catalogue peer [] (bytes ∷ replies) old new = ⊥
 RepliesInTurn catalogue peer (call ∷ calls) [] old new = ⊥
 
+-- The same, with the logs on which the calls were answered, in their order.
+abbrev pub RepliesOn : Catalogue → Peer → List (List ℕ) → List (List ℕ) → List Log → Log → Log → Type 0
+RepliesOn catalogue peer [] [] [] old new = IsFront old new
+RepliesOn catalogue peer (call ∷ calls) (bytes ∷ replies) (log ∷ logs) old new =
+    IsFront old log × (reply Stream (maps_on catalogue log) peer call ≡ Bytes bytes)
+    × RepliesOn catalogue peer calls replies logs log new
+RepliesOn catalogue peer [] [] (log ∷ logs) old new = ⊥
+RepliesOn catalogue peer [] (bytes ∷ replies) logs old new = ⊥
+RepliesOn catalogue peer (call ∷ calls) [] logs old new = ⊥
+RepliesOn catalogue peer (call ∷ calls) (bytes ∷ replies) [] old new = ⊥
+
 -- what is sent of them
 abbrev pub sent_all : List (List ℕ) → List ℕ
 sent_all replies = flat_map sent replies

@@ -9,7 +9,7 @@ ghost use Rattle.yp_exchange.specs.CallLaws.{RowsAreTold};
 ghost use Rattle.yp_exchange.specs.QueryLaws.{CallsAreTold, QueryPrintsTold, RunIsPrinted, ToldIsAnswered};
 ghost use Rattle.yp_exchange.specs.RunLaws.{DomainHasReply, MatchHasReply, FirstHasReply, NextHasReply, AllHasReply};
 ghost use Rattle.yp_exchange.specs.RunLaws.{MasterHasReply, OrderHasReply, MaplistHasReply};
-ghost use Rattle.yp_exchange.specs.RunLaws.{RunIsInTurn, LogRunIsPrinted};
+ghost use Rattle.yp_exchange.specs.RunLaws.{RunIsInTurn, RunIsOnLogs, LogRunIsPrinted};
 ghost use Rattle.yp_exchange.specs.SentLaws.{SentIsWhole};
 ghost use Rattle.yp_exchange.specs.MemberLaws.{MembershipIsTold};
 
@@ -176,6 +176,11 @@ pub fn calls_have_replies()
 /// of which begins with the one before.
 pub fn run_is_in_turn()
     ensures { RunIsInTurn }
+{}
+
+/// The same, on the very logs on which the records of the run were answered.
+pub fn run_is_on_logs()
+    ensures { RunIsOnLogs }
 {}
 
 /// So a question prints the state of a server's maps, where the wire of the peer that was dialed gives what that server

@@ -1,5 +1,5 @@
 -- What is left of disks where maps weren't served, and how often they have failed.
-use Rattle.std.proofs.Common.{◌≡◌, ℕ, ◌+◌, ◌<◌, List, [], ◌∷◌, ◌++◌, length, map, Option, refl, sym, ap, ◌∙◌, arith}
+use Rattle.std.proofs.Common.{◌≡◌, ℕ, ◌+◌, ◌<◌, List, [], ◌∷◌, ◌++◌, length, map, Option, refl, sym, ap, ◌∙◌, subst, arith}
 use Rattle.std.specs.List.{AllZip}
 use Rattle.std.proofs.lemmas.List.{length-append, length-map}
 use Rattle.yp_io.specs.Counts.{HasRisen}
@@ -38,6 +38,19 @@ module _ {D : Type 0} (history : D → Option History) (faults : D → ℕ) wher
     record { moments = each.0.moments; never_falls = each.0.never_falls },
     front_written front opened old new each.1 rest,
   )
+
+  -- disks that were all opened
+  pub opened_written : (old : List D) (opened : List (Kept D)) (new : List D) → AllZip (IsOpened history faults) old opened
+      → new ≡ map (λ (k : Kept D). k.disk) opened → AllZip (IsUnwritten history faults) old new
+  opened_written old opened new each is = subst (λ (l : List D). AllZip (IsUnwritten history faults) old l) (sym is) (all old opened each)
+    where
+      all : (front : List D) (opened : List (Kept D)) → AllZip (IsOpened history faults) front opened
+          → AllZip (IsUnwritten history faults) front (map (λ (k : Kept D). k.disk) opened)
+      all [] [] each = tt
+      all [] (kept ∷ opened) each = absurd each
+      all (disk ∷ front) [] each = absurd each
+      all (disk ∷ front) (kept ∷ opened) each =
+          (record { moments = each.0.moments; never_falls = each.0.never_falls }, all front opened each.1)
 
   -- disks of which one was refused
   pub stopped_written : (old new : List D) (number : ℕ) (why : SlotFault)

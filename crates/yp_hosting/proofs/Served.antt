@@ -11,7 +11,8 @@ use Rattle.yp_publish.specs.Rising.{IsRisingLog, Moment}
 use Rattle.yp_publish.specs.Grown.{AreTold}
 use Rattle.yp_xfr.specs.HostTable.{HostList}
 use Rattle.yp_session.specs.declared.session.TheConstants.{CALLS_MAX}
-use Rattle.yp_worker.specs.Receptions.{IsKept, terms_of}
+use Rattle.yp_worker.specs.Receptions.{IsKept}
+use Rattle.yp_workhost.specs.Charges.{totals_of}
 use Rattle.yp_serve.specs.Serving.{conduct_at, ServesDatagrams, Leaves}
 use Rattle.yp_hosting.specs.declared.tally.Hosted.{Hosted}
 use Rattle.yp_hosting.specs.Hosting.{Place, IsAccounted, IsServed, first_of, house_of}
@@ -24,9 +25,8 @@ module _ {D : Type 0} (history : D → Option History) (faults : D → ℕ) (map
   abbrev Given : Catalogue → (TextFile → Option (List ℕ)) → HostList → Moment → ℕ → Place → Place → Type 0
   Given c t h f m o n =
       IsFront f.log log
-      × IsKept (conduct_at (λ (reader : Seen). reader) Refreshes t h) (terms_of c f.log m) o.door n.door
-      hosted.tally.connections hosted.tally.calls hosted.tally.listen_fault 0 1
-      × ServesDatagrams (conduct_at (λ (reader : Seen). reader) Refreshes t h) c f.log log turns hosted.inbox_fault o.box n.box
+      × IsKept o.door n.door hosted.tally.connections hosted.tally.listen_fault 0 1
+      × ServesDatagrams (conduct_at (λ (reader : Seen). reader) Refreshes t h) totals_of c f.log log turns hosted.inbox_fault o.box n.box
       × Leaves history c log disks
       × IsAccounted history faults (house_of c t h turns) f maps m hosted o n log disks
 

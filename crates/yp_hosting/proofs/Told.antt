@@ -1,6 +1,7 @@
 -- What was done, by what is told of it.
-use Rattle.std.proofs.Common.{◌≡◌, inl, inr, ⊎_elim, ℕ, List, length, Bool, true, false, Option, Some, Result, Ok, Err, refl, sym, ap, ◌∙◌, subst, arith}
+use Rattle.std.proofs.Common.{◌≡◌, inl, inr, ⊎_elim, ℕ, List, length, map, Bool, true, false, Option, Some, Result, Ok, Err, refl, sym, ap, ◌∙◌, subst, arith}
 use Rattle.std.specs.Prelude.{IfOk, IfErr, OnErr}
+use Rattle.std.specs.List.{AllZip}
 use Rattle.yp_io.specs.Counts.{HasRisen}
 use Rattle.yp_io.specs.Disk.{History}
 use Rattle.yp_io.specs.declared.texts.TextFile.{TextFile}
@@ -8,9 +9,10 @@ use Rattle.yp_slot.specs.declared.fault.SlotFault.{SlotFault}
 use Rattle.yp_slot.specs.declared.fault.SlotFault.TheVariants as fault
 use Rattle.yp_board.specs.Catalogues.{Name, Catalogue}
 use Rattle.yp_board.specs.declared.catalog.MapName.{MapName}
-use Rattle.yp_publish.specs.Opens.{IsStopped}
-use Rattle.yp_session.specs.Hosts.{Conduct}
-use Rattle.yp_worker.specs.Receptions.{Opening, IsKept, Terms, capped}
+use Rattle.yp_publish.specs.Begins.{IsUnwritten}
+use Rattle.yp_publish.specs.Opens.{IsOpened, IsStopped}
+use Rattle.yp_publish.specs.Standing.{Kept}
+use Rattle.yp_worker.specs.Receptions.{Opening, IsKept, capped}
 use Rattle.yp_office.specs.declared.office.Office.{Office}
 use Rattle.yp_office.specs.declared.status.Status.{Status}
 use Rattle.yp_office.specs.declared.status.Status.TheVariants.{Done, WriteFault, NoMemory, Damaged, DiskFault}
@@ -22,17 +24,17 @@ use Rattle.yp_hosting.specs.declared.stock.NotHosted.{NotHosted}
 use Rattle.yp_hosting.specs.declared.stock.Stock.{Stock}
 use Rattle.yp_hosting.specs.declared.stock.NotHosted.TheVariants as unhosted
 use Rattle.yp_hosting.specs.declared.tally.Hosted.{Hosted}
-use Rattle.yp_hosting.specs.Hosting.{IsHosted, IsUnhosted, LeavesStarts}
-use Rattle.yp_hosting.specs.Serve.{ServeOrder, catalogue_of, house, place, IsToAccept, ServesMaps, IsShut}
+use Rattle.yp_hosting.specs.Hosting.{IsHosted, IsUnhosted}
+use Rattle.yp_hosting.specs.Serve.{ServeOrder, house, place, IsToAccept, ServesMaps, IsShut}
 use Rattle.yp_hosting.specs.Serve.{Serves, TellsServed, TellsEnd, IsWithin, HasCauses, ServeDoes}
 use Rattle.yp_hosting.proofs.Completed.{completes}
-use Rattle.yp_hosting.proofs.Disks.{nothing_written, stopped_written, stopped_risen, stopped_count}
+use Rattle.yp_hosting.proofs.Disks.{nothing_written, opened_written, stopped_written, stopped_risen, stopped_count}
 
 -- as many connections came as were to, where no accept has failed
-pub all_came : {H : Type 0} (conduct : Conduct H) (terms : Terms) (old now : Opening) (connections calls wanted : ℕ)
-    (failed : Bool) → IsKept conduct terms old now connections calls failed 0 1 → IsToAccept wanted old
+pub all_came : (old now : Opening) (connections wanted : ℕ) (failed : Bool)
+    → IsKept old now connections failed 0 1 → IsToAccept wanted old
     → failed ≡ false → connections ≡ capped 0 wanted
-all_came conduct terms old now connections calls wanted failed kept ready fine =
+all_came old now connections wanted failed kept ready fine =
     let over : now.accepted ≡ now.most =
     ⊎_elim (λ yes. absurd (let no : true ≡ false = sym yes ∙ fine in cc)) (λ all. all) (kept.over (omega arith)) in
     let count : kept.accepts.count ≡ wanted =
@@ -44,17 +46,19 @@ module _ {S K D C A I T : Type 0} (seen : Seeing S K D C A I T) (order : ServeOr
   -- what was served is told by its status
   pub served_told : (hosted : Hosted) → IsHosted seen.disk.history seen.disk.faults (house seen order old) hosted
       (place seen old door) (place seen new door') (disks_of old.disks.items) (disks_of new.disks.items)
+      → (hosted.inbox_fault ≡ true → InboxFails seen old new)
       → TellsServed hosted status (output seen old) (output seen new)
       → Serves seen order status old new door door'
-  served_told hosted is tells = by_status status tells
+  served_told hosted is inbox tells = by_status status tells
     where
       maps : (s : Status) → TellsServed hosted s (output seen old) (output seen new)
           → ServesMaps seen order s old new door door'
       maps s told = record {
         hosted = hosted;
         is_hosted = is;
-        all = λ ready fine. all_came _ _ door door' hosted.tally.connections hosted.tally.calls order.connections
+        all = λ ready fine. all_came door door' hosted.tally.connections order.connections
             hosted.tally.listen_fault is.served.connections ready fine;
+        inbox = inbox;
         tells = told;
       }
 
@@ -67,19 +71,19 @@ module _ {S K D C A I T : Type 0} (seen : Seeing S K D C A I T) (order : ServeOr
       by_status s told = absurd told
 
   -- want of memory is told of disks that were stopped at, or were all loaded
-  pub memory_told : IsShut old new door door' → LeavesStarts seen.disk.history seen.disk.faults (catalogue_of order)
+  pub memory_told : IsShut old new door door' → AllZip (IsUnwritten seen.disk.history seen.disk.faults)
       (disks_of old.disks.items) (disks_of new.disks.items) → status ≡ NoMemory
       → Serves seen order status old new door door'
-  memory_told shut leaves is =
-      subst (λ s. Serves seen order s old new door door') (sym is) (record { disks = inr leaves; shut = shut })
+  memory_told shut unwritten is =
+      subst (λ s. Serves seen order s old new door door') (sym is) (record { disks = unwritten; shut = shut })
 
   pub stopped_told : (number : ℕ) (why : SlotFault) → IsShut old new door door'
       → IsStopped seen.disk.history seen.disk.faults (disks_of old.disks.items) (disks_of new.disks.items) number why
       → TellsOf order.stores number why status → Serves seen order status old new door door'
   stopped_told number why shut stopped (inl is) =
       subst (λ s. Serves seen order s old new door door') (sym is) (record {
-        disks = inl (stopped_written seen.disk.history seen.disk.faults (disks_of old.disks.items)
-            (disks_of new.disks.items) number why stopped);
+        disks = stopped_written seen.disk.history seen.disk.faults (disks_of old.disks.items)
+            (disks_of new.disks.items) number why stopped;
         shut = shut;
       })
   stopped_told number why shut stopped (inr (store, found, fails)) = by_fault why stopped status fails
@@ -100,8 +104,8 @@ module _ {S K D C A I T : Type 0} (seen : Seeing S K D C A I T) (order : ServeOr
         shut = shut;
       }
       by_fault fault.NoMemory stopped NoMemory fails = record {
-        disks = inl (stopped_written seen.disk.history seen.disk.faults (disks_of old.disks.items)
-            (disks_of new.disks.items) number fault.NoMemory stopped);
+        disks = stopped_written seen.disk.history seen.disk.faults (disks_of old.disks.items)
+            (disks_of new.disks.items) number fault.NoMemory stopped;
         shut = shut;
       }
       by_fault w stopped s fails = absurd fails
@@ -153,15 +157,17 @@ module _ {S K D C A I T : Type 0} (seen : Seeing S K D C A I T) (order : ServeOr
   pub end_told : (hosted : Result Hosted NotHosted)
       → IfOk hosted (λ h. IsHosted seen.disk.history seen.disk.faults (house seen order old) h (place seen old door)
       (place seen new door') (disks_of old.disks.items) (disks_of new.disks.items))
-      → IfErr hosted (λ why. IsUnhosted seen.disk.history seen.disk.faults (catalogue_of order) why
+      → IfErr hosted (λ why. IsUnhosted seen.disk.history seen.disk.faults why
       (disks_of old.disks.items) (disks_of new.disks.items))
       → OnErr hosted (IsShut old new door door')
+      → IfOk hosted (λ h. h.inbox_fault ≡ true → InboxFails seen old new)
       → TellsEnd hosted order.stores status (output seen old) (output seen new)
       → Serves seen order status old new door door'
-  end_told (Ok h) is un shut tells = served_told seen order status old new door door' h is tells
-  end_told (Err (unhosted.Unloaded number why)) is un shut tells =
+  end_told (Ok h) is un shut inbox tells = served_told seen order status old new door door' h is inbox tells
+  end_told (Err (unhosted.Unloaded number why)) is un shut inbox tells =
       stopped_told seen order status old new door door' number why shut un tells
-  end_told (Err unhosted.NoMemory) is un shut tells = memory_told seen order status old new door door' shut un tells
+  end_told (Err unhosted.NoMemory) is un shut inbox tells =
+      memory_told seen order status old new door door' shut un tells
 
   -- a failed accept is told where the listener's count rose
   pub listen_risen : (hosted : Result Hosted NotHosted)
@@ -190,7 +196,7 @@ module _ {S K D C A I T : Type 0} (seen : Seeing S K D C A I T) (order : ServeOr
 
   -- a fault of a disk is told where its count rose
   pub disk_risen : (hosted : Result Hosted NotHosted) (map : MapName)
-      → IfErr hosted (λ why. IsUnhosted seen.disk.history seen.disk.faults (catalogue_of order) why
+      → IfErr hosted (λ why. IsUnhosted seen.disk.history seen.disk.faults why
       (disks_of old.disks.items) (disks_of new.disks.items))
       → TellsEnd hosted order.stores status (output seen old) (output seen new) → status ≡ DiskFault map
       → DiskFails seen old new
@@ -205,7 +211,7 @@ pub nothing_done : {S K D C A I T : Type 0} (seen : Seeing S K D C A I T) (order
     (office : Office S K D C A I T) (door : Opening) → ServeDoes seen order NoMemory office office door door
 nothing_done seen order office door = record {
   serves = record {
-    disks = inl (nothing_written seen.disk.history seen.disk.faults (disks_of office.disks.items));
+    disks = nothing_written seen.disk.history seen.disk.faults (disks_of office.disks.items);
     shut = record { stays = refl; door_stays = refl };
   };
   complete = λ sound listen inbox disk write. inr refl;
@@ -221,13 +227,23 @@ nothing_done seen order office door = record {
   source = refl;
 }
 
+-- where memory ran out once all files were loaded, nothing was written
+pub unhosted_of : {D : Type 0} (history : D → Option History) (faults : D → ℕ) (hosted : Result Hosted NotHosted)
+    (old : List D) (opened : List (Kept D)) (new : List D) → AllZip (IsOpened history faults) old opened
+    → IfErr hosted (λ why. why ≡ unhosted.NoMemory) → OnErr hosted (new ≡ map (λ (k : Kept D). k.disk) opened)
+    → IfErr hosted (λ why. IsUnhosted history faults why old new)
+unhosted_of history faults (Ok h) old opened new each is same = tt
+unhosted_of history faults (Err why) old opened new each is same =
+    subst (λ (w : NotHosted). IsUnhosted history faults w old new) (sym is)
+    (opened_written history faults old opened new each same)
+
 -- the map whose file wasn't loaded is one of as many as there are disks
-pub number_within : {D : Type 0} (history : D → Option History) (faults : D → ℕ) (served : Catalogue)
+pub number_within : {D : Type 0} (history : D → Option History) (faults : D → ℕ)
     (hosted : Result Hosted NotHosted) (old new : List D) (count : ℕ) → length old ≡ count
-    → IfErr hosted (λ why. IsUnhosted history faults served why old new) → IfErr hosted (IsWithin count)
-number_within history faults served (Ok h) old new count e un = tt
-number_within history faults served (Err unhosted.NoMemory) old new count e un = tt
-number_within history faults served (Err (unhosted.Unloaded number why)) old new count e un =
+    → IfErr hosted (λ why. IsUnhosted history faults why old new) → IfErr hosted (IsWithin count)
+number_within history faults (Ok h) old new count e un = tt
+number_within history faults (Err unhosted.NoMemory) old new count e un = tt
+number_within history faults (Err (unhosted.Unloaded number why)) old new count e un =
     let within = (stopped_count history faults old new number why un).1 in omega (arith, within, e)
 
 -- where nobody was served, an office is as it was but for its disks
@@ -266,7 +282,7 @@ pub all_done : {S K D C A I T : Type 0} (seen : Seeing S K D C A I T) (order : S
     → apart ≡ disks_of old.disks.items → back ≡ disks_of new.disks.items
     → IfOk hosted (λ h. IsHosted seen.disk.history seen.disk.faults (house seen order old) h (place seen old door)
     (place seen new door') apart back)
-    → IfErr hosted (λ why. IsUnhosted seen.disk.history seen.disk.faults (catalogue_of order) why apart back)
+    → IfErr hosted (λ why. IsUnhosted seen.disk.history seen.disk.faults why apart back)
     → OnErr hosted (IsShut old new door door')
     → TellsEnd hosted order.stores status (output seen old) (output seen new)
     → IfOk hosted (λ h. h.inbox_fault ≡ true → InboxFails seen old new)
@@ -279,12 +295,12 @@ all_done {D = D} seen order status old new door door' hosted apart back a b is u
     let Is : List D → List D → Type 0 = λ l m. IfOk hosted (λ h. IsHosted seen.disk.history seen.disk.faults
     (house seen order old) h (place seen old door) (place seen new door') l m) in
     let Un : List D → List D → Type 0 = λ l m. IfErr hosted (λ why. IsUnhosted seen.disk.history seen.disk.faults
-    (catalogue_of order) why l m) in
+    why l m) in
     let was = disks_of old.disks.items in
     let now = disks_of new.disks.items in
     let is' : Is was now = subst (λ (m : List D). Is was m) b (subst (λ (l : List D). Is l back) a is) in
     let un' : Un was now = subst (λ (m : List D). Un was m) b (subst (λ (l : List D). Un l back) a un) in
-    let serves = end_told seen order status old new door door' hosted is' un' shut tells in
+    let serves = end_told seen order status old new door door' hosted is' un' shut inbox tells in
     let causes : HasCauses seen status old new door door' = record {
       listen_fault = λ e. listen_risen seen order status old new door door' hosted is' tells e;
       inbox_fault = λ e. inbox_risen seen order status old new door door' hosted inbox tells e;

@@ -5,6 +5,7 @@ use Rattle.std.specs.List.{AllZip}
 use Rattle.std.specs.Io.KnownBytes.{Appends}
 use Rattle.yp_io.specs.Counts.{HasRisen}
 use Rattle.yp_io.specs.Disk.{History}
+use Rattle.yp_io.specs.Dials.{dial_tells}
 use Rattle.yp_io.specs.Streams.{AppendsFront}
 use Rattle.yp_io.specs.declared.texts.TextFile.{TextFile}
 use Rattle.yp_slot.specs.declared.fault.SlotFault.{SlotFault}
@@ -30,7 +31,7 @@ use Rattle.yp_office.specs.Seeing.{Seeing, output, moment, WriteFails, DiskFails
 use Rattle.yp_hosting.specs.declared.stock.NotHosted.{NotHosted}
 use Rattle.yp_hosting.specs.declared.stock.NotHosted.TheVariants as unhosted
 use Rattle.yp_hosting.specs.declared.tally.Hosted.{Hosted}
-use Rattle.yp_hosting.specs.Hosting.{House, Place, Supply, house_of, place_of, supply_of, IsHosted, LeavesStarts}
+use Rattle.yp_hosting.specs.Hosting.{House, Place, Supply, house_of, place_of, supply_of, IsHosted}
 
 -- ---- what is asked for
 
@@ -98,7 +99,8 @@ house seen order office = house_of (catalogue_of order) (seen.texts.text office.
 -- what is told by the texts and the dial of an office
 abbrev pub supply : {S K D C A I T : Type 0} → Seeing S K D C A I T → Office S K D C A I T → Supply
 supply seen office =
-    supply_of (seen.texts.faults office.texts) (seen.dial.past office.dial) (seen.dial.faults office.dial)
+    supply_of (seen.texts.faults office.texts)
+    (dial_tells seen.dial.past seen.dial.letters seen.dial.faults office.dial)
 
 -- what is told by an inbox of an office, and by a listener beside it, and by its texts and its dial
 abbrev pub place : {S K D C A I T : Type 0} → Seeing S K D C A I T → Office S K D C A I T → Opening → Place
@@ -111,7 +113,8 @@ pub record IsToAccept (connections : ℕ) (door : Opening) : Type 0 where
   pub none : door.accepted ≡ 0
 
 -- The maps were served, and that is told. Where the listener was to accept as many connections as were asked for, and
--- no accept has failed, so many came.
+-- no accept has failed, so many came. Where the inbox failed before all its turns were taken, its count rose, whatever
+-- is told. What the listener, the inbox and the status tell fixes what came of it, but for the totals.
 pub record ServesMaps {S K D C A I T : Type 0} (seen : Seeing S K D C A I T) (order : ServeOrder) (status : Status)
     (old new : Office S K D C A I T) (door door' : Opening) : Type 0 where
   pub hosted : Hosted
@@ -119,6 +122,7 @@ pub record ServesMaps {S K D C A I T : Type 0} (seen : Seeing S K D C A I T) (or
       (place seen old door) (place seen new door') (disks_of old.disks.items) (disks_of new.disks.items)
   pub all : IsToAccept order.connections door → hosted.tally.listen_fault ≡ false
       → hosted.tally.connections ≡ capped 0 order.connections
+  pub inbox : hosted.inbox_fault ≡ true → InboxFails seen old new
   pub tells : TellsServed hosted status (output seen old) (output seen new)
 
 -- Nothing was accepted, received or told: of the office the disks alone were touched.
@@ -135,12 +139,10 @@ pub record IsUnloaded {S K D C A I T : Type 0} (seen : Seeing S K D C A I T) (or
       number why
   pub shut : IsShut old new door door'
 
--- Memory ran out, and nothing was served: nothing was written to a disk, or each stands for what its file stood for.
-pub record IsUnserved {S K D C A I T : Type 0} (seen : Seeing S K D C A I T) (order : ServeOrder)
-    (old new : Office S K D C A I T) (door door' : Opening) : Type 0 where
+-- Memory ran out, and nothing was served: nothing was written to a disk.
+pub record IsUnserved {S K D C A I T : Type 0} (seen : Seeing S K D C A I T) (old new : Office S K D C A I T)
+    (door door' : Opening) : Type 0 where
   pub disks : AllZip (IsUnwritten seen.disk.history seen.disk.faults)
-      (disks_of old.disks.items) (disks_of new.disks.items)
-      ⊎ LeavesStarts seen.disk.history seen.disk.faults (catalogue_of order)
       (disks_of old.disks.items) (disks_of new.disks.items)
   pub shut : IsShut old new door door'
 
@@ -150,7 +152,7 @@ abbrev pub Serves : {S K D C A I T : Type 0} → Seeing S K D C A I T → ServeO
 Serves seen order (Damaged map at rule) old new door door' =
     IsUnloaded seen order map (fault.Damaged at rule) old new door door'
 Serves seen order (DiskFault map) old new door door' = IsUnloaded seen order map fault.DiskFault old new door door'
-Serves seen order NoMemory old new door door' = IsUnserved seen order old new door door'
+Serves seen order NoMemory old new door door' = IsUnserved seen old new door door'
 Serves seen order status old new door door' = ServesMaps seen order status old new door door'
 
 -- the statuses with which `serve` may end

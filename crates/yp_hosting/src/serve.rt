@@ -79,8 +79,8 @@ where
     requires fair { IsFair (L.past listen) }
     ensures does { (connections : ℕ) → ServeDoes (seeing S.Source K.Sink D.Disk C.Clock A.Dial I.Inbox T.Texts)
         (serve_order catalog.own connections spec.now.turns catalog.maps hosts) result.0 office result.1
-        (opening_of L.past L.most L.accepted L.faults listen)
-        (opening_of L.past L.most L.accepted L.faults result.2) }
+        (opening_of L.past L.most L.accepted L.returned L.faults listen)
+        (opening_of L.past L.most L.accepted L.returned L.faults result.2) }
     ensures may_end { IsTrue (serve_may_end result.0) }
     ensures passed_on { IsPassedOn (seeing S.Source K.Sink D.Disk C.Clock A.Dial I.Inbox T.Texts)
         result.0 office result.1 }
@@ -167,8 +167,8 @@ where
     requires fair { IsFair (L.past listen) }
     ensures does { ServeDoes (seeing S.Source K.Sink D.Disk C.Clock A.Dial I.Inbox T.Texts)
         (order_view job) result.0 office result.1
-        (opening_of L.past L.most L.accepted L.faults listen)
-        (opening_of L.past L.most L.accepted L.faults result.2) }
+        (opening_of L.past L.most L.accepted L.returned L.faults listen)
+        (opening_of L.past L.most L.accepted L.returned L.faults result.2) }
     ensures may_end { IsTrue (serve_may_end result.0) }
     ensures passed_on { IsPassedOn (seeing S.Source K.Sink D.Disk C.Clock A.Dial I.Inbox T.Texts)
         result.0 office result.1 }

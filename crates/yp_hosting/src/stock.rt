@@ -11,7 +11,8 @@ ghost use Rattle.yp_publish.specs.Rising.{moment_of, IsStart};
 ghost use Rattle.yp_session.specs.declared.session.TheConstants.{CALLS_MAX};
 ghost use Rattle.yp_rpc.specs.Turns.{box_of};
 ghost use Rattle.yp_worker.specs.Receptions.{IsFair, opening_of};
-ghost use Rattle.yp_serve.specs.Serving.{Leaves};
+ghost use Rattle.yp_shared.specs.Failures.{disks_of};
+ghost use Rattle.yp_io.specs.Dials.{dial_tells};
 ghost use Rattle.yp_hosting.specs.Hosting.{house_of, place_of, supply_of, IsServed, IsHosted, IsUnhosted};
 
 use crate::clock::{Moment, SharedClock};
@@ -49,15 +50,6 @@ pub(crate) struct Stock<D, A, T, C, L, I> {
     pub(crate) desk: Desk<A, T, C>,
     pub(crate) listen: L,
     pub(crate) inbox: I,
-}
-
-/// The disks of maps that were loaded.
-fn unload<D: Disk>(catalog: &Catalog, loaded: Loaded<D>) -> Vec<D>
-    requires { length loaded ≡ length catalog.now.maps }
-    ensures { Leaves D.history catalog.now (starts 0 (versions loaded)) result.items }
-{
-    starts_are_shown();
-    loaded.into_disks()
 }
 
 /// A catalogue once more, and the versions of its maps, which were loaded.
@@ -155,15 +147,15 @@ where
     requires fair { IsFair (L.past stock.listen) }
     ensures hosted { IfOk result.0 (λ hosted. IsHosted D.history D.faults
         (house_of catalog (T.text stock.desk.texts) stock.desk.hosts spec.now.turns) hosted
-        (place_of (opening_of L.past L.most L.accepted L.faults stock.listen)
+        (place_of (opening_of L.past L.most L.accepted L.returned L.faults stock.listen)
         (box_of I.past I.turns I.quiets stock.inbox)
-        (supply_of (T.faults stock.desk.texts) (A.past stock.desk.dial) (A.faults stock.desk.dial)))
-        (place_of (opening_of L.past L.most L.accepted L.faults result.1.listen)
+        (supply_of (T.faults stock.desk.texts) (dial_tells A.past A.letters A.faults stock.desk.dial)))
+        (place_of (opening_of L.past L.most L.accepted L.returned L.faults result.1.listen)
         (box_of I.past I.turns I.quiets result.1.inbox)
-        (supply_of (T.faults result.1.desk.texts) (A.past result.1.desk.dial) (A.faults result.1.desk.dial)))
+        (supply_of (T.faults result.1.desk.texts) (dial_tells A.past A.letters A.faults result.1.desk.dial)))
         stock.disks.items result.1.disks.items) }
     ensures unhosted { IfErr result.0 (λ why.
-        IsUnhosted D.history D.faults catalog why stock.disks.items result.1.disks.items) }
+        IsUnhosted D.history D.faults why stock.disks.items result.1.disks.items) }
     ensures untouched { OnErr result.0 (result.1 ≡ record stock { disks = result.1.disks }) }
     ensures inbox_fault { IfOk result.0 (λ hosted. hosted.inbox_fault ≡ true
         → HasRisen (I.faults stock.inbox) (I.faults result.1.inbox)) }
@@ -223,14 +215,15 @@ where
     requires fair { IsFair (L.past listen) }
     ensures hosted { IfOk result.0 (λ hosted. IsServed D.history D.faults
         (house_of catalog (T.text desk.texts) desk.hosts spec.now.turns) loaded hosted
-        (place_of (opening_of L.past L.most L.accepted L.faults listen) (box_of I.past I.turns I.quiets inbox)
-        (supply_of (T.faults desk.texts) (A.past desk.dial) (A.faults desk.dial)))
-        (place_of (opening_of L.past L.most L.accepted L.faults result.1.listen)
+        (place_of (opening_of L.past L.most L.accepted L.returned L.faults listen)
+        (box_of I.past I.turns I.quiets inbox)
+        (supply_of (T.faults desk.texts) (dial_tells A.past A.letters A.faults desk.dial)))
+        (place_of (opening_of L.past L.most L.accepted L.returned L.faults result.1.listen)
         (box_of I.past I.turns I.quiets result.1.inbox)
-        (supply_of (T.faults result.1.desk.texts) (A.past result.1.desk.dial) (A.faults result.1.desk.dial)))
+        (supply_of (T.faults result.1.desk.texts) (dial_tells A.past A.letters A.faults result.1.desk.dial)))
         result.1.disks.items) }
     ensures unhosted { IfErr result.0 (λ why. why ≡ NotHosted.NoMemory) }
-    ensures leaves { OnErr result.0 (Leaves D.history catalog (starts 0 (versions loaded)) result.1.disks.items) }
+    ensures disks { OnErr result.0 (result.1.disks.items ≡ disks_of loaded) }
     ensures untouched { OnErr result.0
         ((result.1.desk ≡ desk) × (result.1.listen ≡ listen) × (result.1.inbox ≡ inbox)) }
     ensures inbox_fault { IfOk result.0 (λ hosted. hosted.inbox_fault ≡ true
@@ -241,7 +234,7 @@ where
 {
     let Ok((copy, start)) = starting(alloc, &catalog, &loaded) else {
         let stock = Stock {
-            disks: unload(&catalog, loaded),
+            disks: loaded.into_disks(),
             desk,
             listen,
             inbox,
@@ -293,14 +286,15 @@ where
     requires fair { IsFair (L.past listen) }
     ensures hosted { IfOk result.0 (λ hosted. IsServed D.history D.faults
         (house_of catalog (T.text desk.texts) desk.hosts spec.now.turns) loaded hosted
-        (place_of (opening_of L.past L.most L.accepted L.faults listen) (box_of I.past I.turns I.quiets inbox)
-        (supply_of (T.faults desk.texts) (A.past desk.dial) (A.faults desk.dial)))
-        (place_of (opening_of L.past L.most L.accepted L.faults result.1.listen)
+        (place_of (opening_of L.past L.most L.accepted L.returned L.faults listen)
+        (box_of I.past I.turns I.quiets inbox)
+        (supply_of (T.faults desk.texts) (dial_tells A.past A.letters A.faults desk.dial)))
+        (place_of (opening_of L.past L.most L.accepted L.returned L.faults result.1.listen)
         (box_of I.past I.turns I.quiets result.1.inbox)
-        (supply_of (T.faults result.1.desk.texts) (A.past result.1.desk.dial) (A.faults result.1.desk.dial)))
+        (supply_of (T.faults result.1.desk.texts) (dial_tells A.past A.letters A.faults result.1.desk.dial)))
         result.1.disks.items) }
     ensures unhosted { IfErr result.0 (λ why. why ≡ NotHosted.NoMemory) }
-    ensures leaves { OnErr result.0 (Leaves D.history catalog (starts 0 (versions loaded)) result.1.disks.items) }
+    ensures disks { OnErr result.0 (result.1.disks.items ≡ disks_of loaded) }
     ensures untouched { OnErr result.0
         ((result.1.desk ≡ desk) × (result.1.listen ≡ listen) × (result.1.inbox ≡ inbox)) }
     ensures inbox_fault { IfOk result.0 (λ hosted. hosted.inbox_fault ≡ true
@@ -312,7 +306,7 @@ where
     let Ok((writer, readers)) = board::<J, &R>(alloc, rt, opened, copy, start, spec.workers + 1)
     else {
         let stock = Stock {
-            disks: unload(&catalog, loaded),
+            disks: loaded.into_disks(),
             desk,
             listen,
             inbox,

@@ -12,6 +12,7 @@ pub mod MemSteps
 pub mod Streams
 pub mod Texts
 pub mod MemInbox
+pub mod Callers
 pub mod Calls
 pub mod Trails
 pub mod MemListen

@@ -26,7 +26,7 @@ mod texts;
 mod trail;
 mod whole;
 
-pub use called::Called;
+pub use called::{Called, Origin};
 pub use clock::{Clock, SetClock};
 pub use dial::{Dial, Letter};
 pub use disk::Disk;

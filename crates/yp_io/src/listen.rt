@@ -3,7 +3,7 @@
 ghost use Rattle.std.specs.Prelude.{◌≡◌, ℕ, ◌<◌, ◌≤◌, Option, IfOk, OnErr};
 ghost use Rattle.yp_io.specs.Counts.{CountsFaults, next_count};
 ghost use Rattle.yp_io.specs.Calls.{Calls, Accepting, Comes, IsClosed, Returns, ended_by, came_by};
-ghost use Rattle.yp_io.specs.Calls.{IfCame, OnClosed, accepting_of, IsFreshCall};
+ghost use Rattle.yp_io.specs.Calls.{IfCame, OnClosed, accepting_of, halves_of, IsFreshCall};
 
 use crate::called::Called;
 use crate::{Failed, Sink, Source};
@@ -41,9 +41,9 @@ pub trait Listen {
     /// Accepts the next connection. It answers `Closed` exactly where as many were accepted as are to be. After
     /// `Failed` none was accepted.
     fn accept(&mut self) -> Result<Arrival<Self::In, Self::Out>, Failed>
-        ensures came { IfOk result (IfCame (λ call. Comes (came_by Self.In.input call)
+        ensures came { IfOk result (IfCame (λ call. Comes (came_by (halves_of Self.In.Source Self.Out.Sink) call)
             (accepting_of past most accepted self.old) (accepting_of past most accepted self.new))) }
-        ensures fresh { IfOk result (IfCame (IsFreshCall Self.In.faults Self.Out.faults Self.Out.output)) }
+        ensures fresh { IfOk result (IfCame (IsFreshCall (halves_of Self.In.Source Self.Out.Sink))) }
         ensures closed { IfOk result (OnClosed (IsClosed
             (accepting_of past most accepted self.old) (accepting_of past most accepted self.new))) }
         ensures none { OnErr result (accepting_of past most accepted self.new
@@ -53,7 +53,7 @@ pub trait Listen {
 
     /// Closes a connection.
     fn back(&mut self, call: Called<Self::In, Self::Out>)
-        ensures past { Returns (ended_by Self.In.input Self.Out.output Self.Out.flushed call)
+        ensures past { Returns (ended_by (halves_of Self.In.Source Self.Out.Sink) call)
             (past self.old) (past self.new) }
         ensures most { most self.new ≡ most self.old }
         ensures accepted { accepted self.new ≡ accepted self.old }

@@ -4,7 +4,7 @@ ghost use Rattle.std.specs.Prelude.{◌≡◌, ℕ, ◌+◌, ◌<◌, ◌≤◌,
 ghost use Rattle.std.specs.Prelude.{IfSome, IfNone, IfOk, OnErr};
 ghost use Rattle.yp_io.specs.Counts.{CountsFaults, next_count, faults_after};
 ghost use Rattle.yp_io.specs.Calls.{Comes, IsClosed, Returns, IfCame, OnClosed, accepting_of};
-ghost use Rattle.yp_io.specs.MemListen.{Door, IsNew, dialed_of, ended_of, calls_of};
+ghost use Rattle.yp_io.specs.MemListen.{Door, IsNew, arrived_of, ended_of, calls_of};
 
 use crate::called::Called;
 use crate::listen::{Arrival, Listen};
@@ -137,7 +137,7 @@ impl Listen for MemListen {
 
     /// It also fails where memory has run out.
     fn accept(&mut self) -> Result<Arrival<MemSource, MemSink>, Failed>
-        ensures came { IfOk result (IfCame (λ call. Comes (dialed_of call)
+        ensures came { IfOk result (IfCame (λ call. Comes (arrived_of call)
             (accepting_of calls_of (λ (l : Door). l.most) (λ (l : Door). l.accepted) self.old)
             (accepting_of calls_of (λ (l : Door). l.most) (λ (l : Door). l.accepted) self.new))) }
         ensures fresh { IfOk result (IfCame IsNew) }

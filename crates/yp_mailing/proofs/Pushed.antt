@@ -10,14 +10,14 @@ use Rattle.yp_slot.specs.declared.fault.SlotFault.{SlotFault}
 use Rattle.yp_slot.specs.declared.fault.SlotFault.TheVariants as slot
 use Rattle.yp_slot.specs.Loads.{Loads}
 use Rattle.yp_slot.specs.Stands.{Stands, Stored, stands}
-use Rattle.yp_board.specs.Catalogues.{Name}
+use Rattle.yp_board.specs.Catalogues.{Name, name_view}
 use Rattle.yp_board.specs.declared.catalog.MapName.{MapName}
 use Rattle.yp_rpc.specs.declared.turns.Ended.{Ended}
 use Rattle.yp_push.specs.Ledgers.{Ledger, slaves_max}
 use Rattle.yp_pushing.specs.Kept.{slave_view, request_view}
 use Rattle.yp_pushing.specs.Sendings.{Request}
 use Rattle.yp_pushing.specs.Pushers.{Slave, Pushing}
-use Rattle.yp_words.specs.Words.{is_ypservers}
+use Rattle.yp_words.specs.Words.{is_ypservers, ypservers_of}
 use Rattle.yp_office.specs.declared.office.Office.{Office}
 use Rattle.yp_office.specs.declared.status.Status.{Status}
 use Rattle.yp_office.specs.declared.status.Status.TheVariants.{Done, No, WriteFault, NoMemory, InboxFault, Rows}
@@ -35,7 +35,7 @@ use Rattle.yp_mailing.specs.declared.push.Plan.{Plan}
 use Rattle.yp_mailing.specs.Finding.{Load, LoadsMaps, LoadsFrom, LoadsServers, Stops, judged, which_of}
 use Rattle.yp_mailing.specs.Push.{Job, slaves_in, ledger_of, begun, begun_by, IsPlan, Plans, PlansFrom}
 use Rattle.yp_mailing.specs.Push.{IsEnd, TellsEnd, Takes, dial_seen, IsSentBy, IsUnsent, IsSent}
-use Rattle.yp_mailing.specs.Push.{Pushes, IsFree, IsWhole, PushDoes}
+use Rattle.yp_mailing.specs.Push.{Pushes, IsFree, IsWhole, FailsAt, OwnDiskFails, PushDoes}
 use Rattle.yp_mailing.specs.Telling.{Tells, box}
 
 -- ---- statuses
@@ -79,18 +79,20 @@ whole_of status (inr (inr h)) writes hears = absurd (hears h)
 
 -- ---- reasons
 
--- the reason of a disk's fault is one
+-- the reason of a disk's fault is one, and that names the map
 of_disk : (store : Name) (fault : SlotFault) (status : Status) (map : MapName) → Fails store fault status
-    → status ≡ DiskFault map → fault ≡ slot.DiskFault
+    → status ≡ DiskFault map → (fault ≡ slot.DiskFault) × (name_view map ≡ store)
 of_disk store (slot.Damaged at rule) (Damaged map at' rule') other fails e = absurd cc
 of_disk store (slot.Damaged at rule) _ other fails e = absurd fails
-of_disk store slot.DiskFault status other fails e = refl
+of_disk store slot.DiskFault status other fails e = (refl, subst (λ (s : Status). Fails store slot.DiskFault s) e fails)
 of_disk store slot.NoMemory NoMemory other fails e = absurd cc
 of_disk store slot.NoMemory _ other fails e = absurd fails
 
--- a disk's fault is that of one of the two loads
-abbrev IsOfDisk : Load → Option Load → Type 0
-IsOfDisk file servers = IsErrOf file slot.DiskFault ⊎ ((load : Load) × (servers ≡ Some load) × IsErrOf load slot.DiskFault)
+-- a disk's fault is that of one of the two loads, whose map it names
+abbrev IsOfDisk : Name → Name → Load → Option Load → Type 0
+IsOfDisk store map file servers =
+    ((map ≡ store) × IsErrOf file slot.DiskFault)
+    ⊎ ((map ≡ ypservers_of store) × ((load : Load) × (servers ≡ Some load) × IsErrOf load slot.DiskFault))
 
 none_of_disk : (store : Name) (which : Which) (status : Status) (map : MapName) → Stops store (stop.NoVersion which) status
     → status ≡ DiskFault map → ⊥
@@ -118,17 +120,21 @@ module _ {S K D C A I T : Type 0} (seen : Seeing S K D C A I T) (job : Job) (now
   stop_no_disk which map (inr h, unsent) e = no_disk status map (inl (inr (inr h))) e
 
   unloaded_disk : (which : Which) (fault : SlotFault) (map : MapName) → Pushes seen job now (Err (stop.Unloaded which fault)) status old new
-      → status ≡ DiskFault map → fault ≡ slot.DiskFault
+      → status ≡ DiskFault map → (fault ≡ slot.DiskFault) × (name_view map ≡ which_of job.store which)
   unloaded_disk which fault map (inl h, unsent) e = of_disk (which_of job.store which) fault status map h e
   unloaded_disk which fault map (inr h, unsent) e = absurd (no_disk status map (inl (inr (inr h))) e)
 
   -- a disk's fault that is told is that of a load
   pub from_disk : (file : Load) (servers : Option Load) (map : MapName) → Pushes seen job now (judged file servers) status old new
-      → status ≡ DiskFault map → IsOfDisk file servers
-  from_disk (Err fault) servers map h e = inl (ap Err (unloaded_disk Store fault map h e))
+      → status ≡ DiskFault map → IsOfDisk job.store (name_view map) file servers
+  from_disk (Err fault) servers map h e =
+      let is = unloaded_disk Store fault map h e in
+      inl (is.1, ap Err is.0)
   from_disk (Ok None) None map h e = absurd (stop_no_disk Store map h e)
   from_disk (Ok (Some version)) None map h e = absurd (found_no_disk (found_as version.order version) map h e)
-  from_disk (Ok last) (Some (Err fault)) map h e = inr (Err fault, refl, ap Err (unloaded_disk Servers fault map h e))
+  from_disk (Ok last) (Some (Err fault)) map h e =
+      let is = unloaded_disk Servers fault map h e in
+      inr (is.1, (Err fault, refl, ap Err is.0))
   from_disk (Ok None) (Some (Ok more)) map h e = absurd (stop_no_disk Store map h e)
   from_disk (Ok (Some version)) (Some (Ok None)) map h e = absurd (stop_no_disk Servers map h e)
   from_disk (Ok (Some version)) (Some (Ok (Some named))) map h e =
@@ -223,14 +229,15 @@ module _ {S K D C A I T : Type 0} (seen : Seeing S K D C A I T) (job : Job) (now
     at_places false (Some load) one two other h =
         both (told_at seen.disk.history 0 old.disks.items) (told_at seen.disk.history 1 old.disks.items) load one two other h
 
-  disk_of : (file : Load) (servers : Option Load) → (IsErrOf file slot.DiskFault → DiskFails seen old new)
-      → IfSome servers (λ load. IsErrOf load slot.DiskFault → DiskFails seen old new) → IsOfDisk file servers
-      → DiskFails seen old new
-  disk_of file servers disk other (inl h) = disk h
-  disk_of file None disk other (inr h) = let no = h.1 in absurd cc
-  disk_of file (Some load) disk other (inr h) =
-      let same : load ≡ h.0 = let e = h.1 in cc in
-      other (same ∙ h.2)
+  disk_of : (map : Name) (file : Load) (servers : Option Load)
+      → (IsErrOf file slot.DiskFault → FailsAt seen 0 old new)
+      → IfSome servers (λ load. IsErrOf load slot.DiskFault → FailsAt seen 1 old new)
+      → IsOfDisk job.store map file servers → OwnDiskFails seen job.store map old new
+  disk_of map file servers disk other (inl h) = inl (h.0, disk h.1)
+  disk_of map file None disk other (inr h) = let no = h.1.1 in absurd cc
+  disk_of map file (Some load) disk other (inr h) =
+      let same : load ≡ h.1.0 = let e = h.1.1 in cc in
+      inr (h.0, other (same ∙ h.1.2))
 
   -- all that `push` does
   pub push_does : (loaded : Loaded)
@@ -258,7 +265,8 @@ module _ {S K D C A I T : Type 0} (seen : Seeing S K D C A I T) (job : Job) (now
       write_fault = writes;
       inbox_fault = hears;
       disk_fault = λ map e.
-          disk_of loaded.file loaded.servers loads.file_cause loads.servers_cause (from_disk loaded.file loaded.servers map pushes e);
+          disk_of (name_view map) loaded.file loaded.servers loads.file_own loads.servers_own
+          (from_disk loaded.file loaded.servers map pushes e);
     };
     told = told;
     stays = stays;

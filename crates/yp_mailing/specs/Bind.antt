@@ -131,7 +131,8 @@ bind_may_end NoMemory = true
 bind_may_end InboxFault = true
 bind_may_end _ = false
 
--- The turns were taken in which the binder asks and answers, and the server that the domain is bound to is told.
+-- The turns were taken in which the binder asks and answers, and the server that the domain is bound to is told. What
+-- happened at the inbox fixes the end and the last binder.
 pub record TellsBinding {S K D C A I T : Type 0} (seen : Seeing S K D C A I T) (turns : ℕ) (domain : List ℕ)
     (servers : List Peer) (policy : Policy) (status : Status) (old new : Office S K D C A I T) : Type 0 where
   pub end : Result Ended Failed

@@ -13,7 +13,7 @@ use Rattle.yp_words.specs.Words.{is_ypservers, ypservers_of}
 use Rattle.yp_office.specs.declared.disks.NamedDisk.{NamedDisk}
 use Rattle.yp_office.specs.declared.status.Status.{Status}
 use Rattle.yp_office.specs.declared.status.Status.TheVariants.{NoVersion}
-use Rattle.yp_office.specs.Disks.{names_of, faults_of, told_at, IsOnlyRead}
+use Rattle.yp_office.specs.Disks.{names_of, faults_of, faults_at, told_at, IsOnlyRead}
 use Rattle.yp_office.specs.Files.{Fails}
 use Rattle.yp_mailing.specs.declared.finding.Found.{Found}
 use Rattle.yp_mailing.specs.declared.finding.Loaded.{Loaded}
@@ -67,6 +67,7 @@ LoadsServers false history None = ⊥
 LoadsServers false history (Some load) = LoadsFrom history load
 
 -- The files of a map and of the servers were loaded from the first and the second disk, to which nothing was written.
+-- A fault of a disk is that of the file's own.
 pub record LoadsMaps {D : Type 0} (history : D → Option History) (faults : D → ℕ) (store : Name) (loaded : Loaded)
     (old new : List (NamedDisk D)) : Type 0 where
   pub file : LoadsFrom (told_at history 0 old) loaded.file
@@ -74,6 +75,9 @@ pub record LoadsMaps {D : Type 0} (history : D → Option History) (faults : D �
   pub file_read : IsOnlyRead (told_at history 0 old) (told_at history 0 new)
   pub servers_read : is_ypservers store ≡ false → IsOnlyRead (told_at history 1 old) (told_at history 1 new)
   pub file_cause : IsErrOf loaded.file slot.DiskFault → HasRisen (faults_of faults old) (faults_of faults new)
+  pub file_own : IsErrOf loaded.file slot.DiskFault → HasRisen (faults_at faults 0 old) (faults_at faults 0 new)
   pub servers_cause : IfSome loaded.servers
       (λ load. IsErrOf load slot.DiskFault → HasRisen (faults_of faults old) (faults_of faults new))
+  pub servers_own : IfSome loaded.servers
+      (λ load. IsErrOf load slot.DiskFault → HasRisen (faults_at faults 1 old) (faults_at faults 1 new))
   pub names : names_of new ≡ names_of old

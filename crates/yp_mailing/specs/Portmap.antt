@@ -71,7 +71,7 @@ pub record ServesPorts {S K D C A I T : Type 0} (seen : Seeing S K D C A I T) (t
     (end : Result Ended Failed) (mappings : List Mapping) (old new : Office S K D C A I T) : Type 0 where
   pub takes : TakesTurns mapper_ways turns end (mapper_of []) (mapper_of mappings) (box seen old) (box seen new)
 
--- The mappings that stand at the end are told.
+-- The mappings that stand at the end are told. What happened at the inbox fixes them.
 pub record TellsPorts {S K D C A I T : Type 0} (seen : Seeing S K D C A I T) (turns : ℕ) (status : Status)
     (old new : Office S K D C A I T) : Type 0 where
   pub end : Result Ended Failed

@@ -1,6 +1,7 @@
 -- What `push` does: it asks the slaves of a map's domain to fetch it, and tells what came of each.
 use Rattle.std.specs.Prelude.{◌≡◌, ◌⊎◌, ℕ, ◌+◌, ◌<◌, ◌≤◌, Bool, true, false, List, [], length, map, Option, Some, None}
 use Rattle.std.specs.Prelude.{Result, Ok, Err, IfSome, if◌then◌else◌, ⊤}
+use Rattle.yp_io.specs.Counts.{HasRisen}
 use Rattle.yp_io.specs.Disk.{History}
 use Rattle.yp_io.specs.Dials.{DialTells, dial_tells}
 use Rattle.yp_io.specs.declared.stream.Failed.{Failed}
@@ -17,14 +18,14 @@ use Rattle.yp_pushing.specs.Sendings.{Request}
 use Rattle.yp_pushing.specs.Slaves.{slaves_of}
 use Rattle.yp_pushing.specs.Pushers.{Slave, Pushing, pushing_ways}
 use Rattle.yp_pushing.specs.Printed.{push_text, AllHaveMap}
-use Rattle.yp_words.specs.Words.{host_view, is_ypservers}
+use Rattle.yp_words.specs.Words.{host_view, is_ypservers, ypservers_of}
 use Rattle.yp_words.specs.declared.command.PushJob.{PushJob}
 use Rattle.yp_office.specs.declared.disks.NamedDisk.{NamedDisk}
 use Rattle.yp_office.specs.declared.office.Office.{Office}
 use Rattle.yp_office.specs.declared.status.Status.{Status}
 use Rattle.yp_office.specs.declared.status.Status.TheVariants.{Done, No, WriteFault, NoMemory, InboxFault, Rows}
 use Rattle.yp_office.specs.declared.status.Status.TheVariants.{Damaged, NoVersion, DiskFault}
-use Rattle.yp_office.specs.Disks.{told_at}
+use Rattle.yp_office.specs.Disks.{told_at, faults_at}
 use Rattle.yp_office.specs.Rows.{rows_rule}
 use Rattle.yp_office.specs.Seeing.{Seeing, output, moment, WriteFails, DiskFails, InboxFails}
 use Rattle.yp_mailing.specs.declared.finding.Found.{Found}
@@ -235,12 +236,23 @@ abbrev pub servers_history : {S K D C A I T : Type 0} → Seeing S K D C A I T �
     → Option History
 servers_history seen store office = told_at seen.disk.history (servers_place store) office.disks.items
 
+-- the disk at this place failed
+abbrev pub FailsAt : {S K D C A I T : Type 0} → Seeing S K D C A I T → ℕ → (old new : Office S K D C A I T) → Type 0
+FailsAt seen place old new =
+    HasRisen (faults_at seen.disk.faults place old.disks.items) (faults_at seen.disk.faults place new.disks.items)
+
+-- The disk of a map of this name failed: of the map that is pushed, or of the servers.
+abbrev pub OwnDiskFails : {S K D C A I T : Type 0} → Seeing S K D C A I T → (store map : Name)
+    → (old new : Office S K D C A I T) → Type 0
+OwnDiskFails seen store map old new =
+    ((map ≡ store) × FailsAt seen 0 old new) ⊎ ((map ≡ ypservers_of store) × FailsAt seen 1 old new)
+
 -- A fault that is told has its cause.
-pub record HasCauses {S K D C A I T : Type 0} (seen : Seeing S K D C A I T) (status : Status)
+pub record HasCauses {S K D C A I T : Type 0} (seen : Seeing S K D C A I T) (store : Name) (status : Status)
     (old new : Office S K D C A I T) : Type 0 where
   pub write_fault : status ≡ WriteFault → WriteFails seen old new
   pub inbox_fault : status ≡ InboxFault → InboxFails seen old new
-  pub disk_fault : (map : MapName) → status ≡ DiskFault map → DiskFails seen old new
+  pub disk_fault : (map : MapName) → status ≡ DiskFault map → OwnDiskFails seen store (name_view map) old new
 
 -- the slaves were told of, or memory ran out
 abbrev pub IsWhole : Status → Type 0
@@ -248,7 +260,8 @@ IsWhole status = (status ≡ Done) ⊎ ((status ≡ No) ⊎ (status ≡ NoMemory
 
 -- What `push` does: the files of its map and of the domain's servers are read, the slaves are asked in their turns, and
 -- what came of each is told; or the first reason why not is. To the disks nothing is written. Where nothing is in the
--- way and nothing fails, what came of the slaves is told.
+-- way and nothing fails, what came of the slaves is told. The files fix what was loaded, unless a disk failed or memory
+-- ran out.
 pub record PushDoes {S K D C A I T : Type 0} (seen : Seeing S K D C A I T) (job : Job) (status : Status)
     (old new : Office S K D C A I T) : Type 0 where
   pub loaded : Loaded
@@ -259,7 +272,7 @@ pub record PushDoes {S K D C A I T : Type 0} (seen : Seeing S K D C A I T) (job 
   pub complete : IfSome (store_history seen old) (λ h. IfSome (servers_history seen job.store old) (λ s.
       IsFree job (stands h.state.reads) (stands s.state.reads)
       → ¬ DiskFails seen old new → ¬ InboxFails seen old new → ¬ WriteFails seen old new → IsWhole status))
-  pub causes : HasCauses seen status old new
+  pub causes : HasCauses seen job.store status old new
   pub told : moment seen new ≡ moment seen old
   pub stays : new ≡ record old {
     wire = record old.wire { sink = new.wire.sink };

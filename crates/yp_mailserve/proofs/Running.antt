@@ -12,9 +12,9 @@ use Rattle.yp_mailserve.specs.Mailing.{Awaited, Mailing, AnswersMail, CarriesAwa
 use Rattle.yp_mailserve.specs.Serving.{MailTurn, Dropped, Rested, Answered, reply_posts, posts_in, posts_over, answered_turns, DoesTurn, DoesTurns, LosesAnswer, EndsTurns, ServesPosts, ServesMail}
 use Rattle.yp_mailserve.proofs.Answering.{Later, later_then, same, sent, answers_sent}
 
-module _ {H : Type 0} (conduct : Conduct H) where
+module _ {H T : Type 0} (conduct : Conduct H) (counted : H → T) where
   ends_later : (most count : ℕ) (end : Result Ended Failed) (posts : List Post) (old new : H)
-      → EndsTurns conduct most count end posts old new → EndsTurns conduct (suc most) (suc count) end posts old new
+      → EndsTurns conduct counted most count end posts old new → EndsTurns conduct counted (suc most) (suc count) end posts old new
   ends_later most count (Ok Spent) posts old new ends = (ap suc ends.0, ends.1, ends.2)
   ends_later most count (Ok Done) posts old new ends = absurd ends
   ends_later most count (Err why) posts old new ends = let less = ends.0 in (omega (arith, less), ends.1)
@@ -26,38 +26,38 @@ module _ {H : Type 0} (conduct : Conduct H) where
 
   -- one turn before others
   before : (most : ℕ) (posts : List Post) (end : Result Ended Failed) (waiting old : Mailing H) (next : Mailing H) (new : H) (one : MailTurn)
-      → Clears conduct old waiting → (later : ServesPosts conduct most end posts next new) → DoesTurn conduct one waiting.host later.ready
+      → Clears conduct old waiting → (later : ServesPosts conduct counted most end posts next new) → DoesTurn conduct counted one waiting.host later.ready
       → conduct.counts later.ready ≡ counts_over (conduct.counts waiting.host) (answered_turns (one ∷ []))
-      → ServesPosts conduct (suc most) end (posts_in one ++ posts) old new
-  before most posts end waiting old next new (Dropped from bytes) clears later does counted = record {
+      → ServesPosts conduct counted (suc most) end (posts_in one ++ posts) old new
+  before most posts end waiting old next new (Dropped from bytes) clears later does counts = record {
     ready = waiting.host;
     carried = clears.carried;
     served = Dropped from bytes ∷ later.served;
     last = later.last;
     does = (later.ready, does, later.does);
-    counted = later.counted ∙ ap (λ (c : Counts). counts_over c (answered_turns later.served)) counted;
+    counts = later.counts ∙ ap (λ (c : Counts). counts_over c (answered_turns later.served)) counts;
     rest = later.rest;
     ends = ends_later most (length later.served) end later.rest later.last new later.ends;
     all = ap (λ (l : List Post). Arrived from bytes ∷ l) later.all;
   }
-  before most posts end waiting old next new Rested clears later does counted = record {
+  before most posts end waiting old next new Rested clears later does counts = record {
     ready = waiting.host;
     carried = clears.carried;
     served = Rested ∷ later.served;
     last = later.last;
     does = (later.ready, does, later.does);
-    counted = later.counted ∙ ap (λ (c : Counts). counts_over c (answered_turns later.served)) counted;
+    counts = later.counts ∙ ap (λ (c : Counts). counts_over c (answered_turns later.served)) counts;
     rest = later.rest;
     ends = ends_later most (length later.served) end later.rest later.last new later.ends;
     all = ap (λ (l : List Post). Silent ∷ l) later.all;
   }
-  before most posts end waiting old next new (Answered from turn) clears later does counted = record {
+  before most posts end waiting old next new (Answered from turn) clears later does counts = record {
     ready = waiting.host;
     carried = clears.carried;
     served = Answered from turn ∷ later.served;
     last = later.last;
     does = (later.ready, does, later.does);
-    counted = later.counted ∙ ap (λ (c : Counts). counts_over c (answered_turns later.served)) counted;
+    counts = later.counts ∙ ap (λ (c : Counts). counts_over c (answered_turns later.served)) counts;
     rest = later.rest;
     ends = ends_later most (length later.served) end later.rest later.last new later.ends;
     all = joined turn.answer;
@@ -71,22 +71,22 @@ module _ {H : Type 0} (conduct : Conduct H) where
   -- a datagram that was heard, before others
   heard_before : (most : ℕ) (posts : List Post) (end : Result Ended Failed) (old waiting next : Mailing H) (new : H)
       (from : Peer) (bytes : List ℕ) (answer : Option (List ℕ))
-      → Clears conduct old waiting → length bytes ≤ mail_max → Hears conduct from bytes answer waiting next
-      → ServesPosts conduct most end posts next new
-      → ServesPosts conduct (suc most) end (Arrived from bytes ∷ reply_posts from answer ++ posts) old new
+      → Clears conduct old waiting → length bytes ≤ mail_max → Hears conduct counted from bytes answer waiting next
+      → ServesPosts conduct counted most end posts next new
+      → ServesPosts conduct counted (suc most) end (Arrived from bytes ∷ reply_posts from answer ++ posts) old new
   heard_before most posts end old waiting next new from bytes answer clears short heard later =
       let turn = heard.turn in
-      let answers = answers_sent conduct from turn waiting.host next.host later.ready heard.unsent heard.answers
+      let answers = answers_sent conduct from counted turn waiting.host next.host later.ready heard.unsent heard.answers
       (subst (λ w. CarriesAwaited conduct w next.host later.ready) heard.waits later.carried) in
       let whole = before most posts end waiting old next new (Answered from (sent conduct from turn)) clears later
-      (subst (λ (l : List ℕ). length l ≤ mail_max) (sym heard.message_is) short, refl, answers) answers.counted in
-      subst (λ (l : List ℕ). ServesPosts conduct (suc most) end (Arrived from l ∷ reply_posts from answer ++ posts) old new) heard.message_is
-      (subst (λ (a : Option (List ℕ)). ServesPosts conduct (suc most) end (Arrived from turn.message ∷ reply_posts from a ++ posts) old new)
+      (subst (λ (l : List ℕ). length l ≤ mail_max) (sym heard.message_is) short, refl, answers) answers.counts in
+      subst (λ (l : List ℕ). ServesPosts conduct counted (suc most) end (Arrived from l ∷ reply_posts from answer ++ posts) old new) heard.message_is
+      (subst (λ (a : Option (List ℕ)). ServesPosts conduct counted (suc most) end (Arrived from turn.message ∷ reply_posts from a ++ posts) old new)
       heard.answer_is whole)
 
   met_before : (most : ℕ) (turn : Post) (answers posts : List Post) (end : Result Ended Failed) (old waiting next : Mailing H) (new : H)
-      → Clears conduct old waiting → Meets (mail_ways conduct) turn answers waiting next
-      → ServesPosts conduct most end posts next new → ServesPosts conduct (suc most) end (turn ∷ answers ++ posts) old new
+      → Clears conduct old waiting → Meets (mail_ways conduct counted) turn answers waiting next
+      → ServesPosts conduct counted most end posts next new → ServesPosts conduct counted (suc most) end (turn ∷ answers ++ posts) old new
   met_before most turn answers posts end old waiting next new clears (drops from bytes errand long) later =
       let ready = ready_is waiting.waiting waiting.host later.ready clears.cleared later.carried in
       before most posts end waiting old waiting new (Dropped from bytes) clears later (long, ready) (ap conduct.counts ready)
@@ -102,29 +102,29 @@ module _ {H : Type 0} (conduct : Conduct H) where
   -- ---- the ends
 
   none_lost : (left : ℕ) (why : Failed) (old last new : Mailing H) → Clears conduct old last → Closes conduct (Err why) last new
-      → ServesPosts conduct (suc left) (Err why) [] old new.host
+      → ServesPosts conduct counted (suc left) (Err why) [] old new.host
   none_lost left why old last new clears closes = record {
     ready = last.host;
     carried = clears.carried;
     served = [];
     last = last.host;
     does = refl;
-    counted = refl;
+    counts = refl;
     rest = [];
     ends = (omega arith, inl (refl, ap (λ (m : Mailing H). m.host) closes));
     all = refl;
   }
 
   reply_lost : (left : ℕ) (turn reply : Post) (why : Failed) (old waiting last new : Mailing H) → Clears conduct old waiting
-      → Meets (mail_ways conduct) turn (reply ∷ []) waiting last → Closes conduct (Err why) last new
-      → ServesPosts conduct (suc left) (Err why) (turn ∷ []) old new.host
+      → Meets (mail_ways conduct counted) turn (reply ∷ []) waiting last → Closes conduct (Err why) last new
+      → ServesPosts conduct counted (suc left) (Err why) (turn ∷ []) old new.host
   reply_lost left turn reply why old waiting last new clears (replies from bytes answer a b short heard) closes = record {
     ready = waiting.host;
     carried = clears.carried;
     served = [];
     last = waiting.host;
     does = refl;
-    counted = refl;
+    counts = refl;
     rest = Arrived from bytes ∷ [];
     ends = (
       omega arith,
@@ -135,21 +135,21 @@ module _ {H : Type 0} (conduct : Conduct H) where
         short = subst (λ (l : List ℕ). length l ≤ mail_max) (sym heard.message_is) short;
         reply = subst IsSome (sym heard.answer_is) refl;
         unsent = heard.unsent;
-        answers = subst (λ (h : H). AnswersMail conduct from heard.turn waiting.host h) (sym (ap (λ (m : Mailing H). m.host) closes)) heard.answers;
+        answers = subst (λ (h : H). AnswersMail conduct counted from heard.turn waiting.host h) (sym (ap (λ (m : Mailing H). m.host) closes)) heard.answers;
       }),
     );
     all = refl;
   }
 
   pub served_in : (most : ℕ) (posts : List Post) (end : Result Ended Failed) (old last new : Mailing H)
-      → Runs (mail_ways conduct) most posts end old last → Closes conduct end last new → ServesPosts conduct most end posts old new.host
+      → Runs (mail_ways conduct counted) most posts end old last → Closes conduct end last new → ServesPosts conduct counted most end posts old new.host
   served_in most posts end old last new (is_spent errand) closes = record {
     ready = new.host;
     carried = closes.carried;
     served = [];
     last = new.host;
     does = refl;
-    counted = refl;
+    counts = refl;
     rest = [];
     ends = (refl, refl, refl);
     all = refl;
@@ -174,31 +174,31 @@ module _ {H : Type 0} (conduct : Conduct H) where
   awaited_later None old new carried = same conduct old new carried
   awaited_later (Some awaited) old new carried = record { grown = carried.grown; catalogue = carried.catalogue }
 
-  turn_later : (one : MailTurn) (old new : H) → DoesTurn conduct one old new → Later (conduct.seen old) (conduct.seen new)
+  turn_later : (one : MailTurn) (old new : H) → DoesTurn conduct counted one old new → Later (conduct.seen old) (conduct.seen new)
   turn_later (Dropped from bytes) old new does = same conduct old new does.1
   turn_later Rested old new does = same conduct old new does
   turn_later (Answered from turn) old new does = record { grown = does.2.grown; catalogue = does.2.catalogue }
 
-  turns_later : (turns : List MailTurn) (old new : H) → DoesTurns conduct turns old new
+  turns_later : (turns : List MailTurn) (old new : H) → DoesTurns conduct counted turns old new
       → Later (conduct.seen old) (conduct.seen new)
   turns_later [] old new does = same conduct old new does
   turns_later (one ∷ more) old new does =
       later_then (conduct.seen old) (conduct.seen does.0) (conduct.seen new) (turn_later one old does.0 does.1)
       (turns_later more does.0 new does.2)
 
-  lost_later : (posts : List Post) (old new : H) → ((posts ≡ []) × (new ≡ old)) ⊎ LosesAnswer conduct posts old new
+  lost_later : (posts : List Post) (old new : H) → ((posts ≡ []) × (new ≡ old)) ⊎ LosesAnswer conduct counted posts old new
       → Later (conduct.seen old) (conduct.seen new)
   lost_later posts old new (inl none) = same conduct old new none.1
   lost_later posts old new (inr lost) = record { grown = lost.answers.grown; catalogue = lost.answers.catalogue }
 
   end_later : (most count : ℕ) (end : Result Ended Failed) (posts : List Post) (old new : H)
-      → EndsTurns conduct most count end posts old new → Later (conduct.seen old) (conduct.seen new)
+      → EndsTurns conduct counted most count end posts old new → Later (conduct.seen old) (conduct.seen new)
   end_later most count (Ok Spent) posts old new ends = same conduct old new ends.2
   end_later most count (Ok Done) posts old new ends = absurd ends
   end_later most count (Err why) posts old new ends = lost_later posts old new ends.1
 
   whole_later : (most : ℕ) (end : Result Ended Failed) (posts : List Post) (old : Mailing H) (new : H)
-      → ServesPosts conduct most end posts old new → Later (conduct.seen old.host) (conduct.seen new)
+      → ServesPosts conduct counted most end posts old new → Later (conduct.seen old.host) (conduct.seen new)
   whole_later most end posts old new serves =
       later_then (conduct.seen old.host) (conduct.seen serves.ready) (conduct.seen new)
       (awaited_later old.waiting old.host serves.ready serves.carried)
@@ -207,7 +207,7 @@ module _ {H : Type 0} (conduct : Conduct H) where
       (end_later most (length serves.served) end serves.rest serves.last new serves.ends))
 
   pub serves_mail : (most : ℕ) (end : Result Ended Failed) (old last new : Mailing H) (a b : Box)
-      → TakesTurns (mail_ways conduct) most end old last a b → Closes conduct end last new → ServesMail conduct most end old new a b
+      → TakesTurns (mail_ways conduct counted) most end old last a b → Closes conduct end last new → ServesMail conduct counted most end old new a b
   serves_mail most end old last new a b took closes =
       let serves = served_in most took.posts end old last new took.runs closes in
       let went = whole_later most end took.posts old new.host serves in

@@ -50,22 +50,36 @@ module _ {H : Type 0} (conduct : Conduct H) where
     pub carried : CarriesAwaited old.waiting old.host new.host
     pub cleared : new.waiting ≡ None
 
-  -- A datagram of a peer had its turn with the host. The host was told what others showed, or not, and from there on
-  -- the reply is that on what it then knows, and a map that the datagram asks for was made. A transfer that it asks for
-  -- was carried out exactly where the reply went out. What was known before is a front of what is known.
-  pub record AnswersMail (peer : Peer) (turn : Turn) (old new : H) : Type 0 where
-    pub start : H
-    pub learned : Learns (conduct.seen old) (conduct.seen start)
-    pub uncounted : conduct.counts start ≡ conduct.counts old
-    pub link : Link conduct Datagram peer turn start new
-    pub grown : IsFront (conduct.seen old).known (conduct.seen new).known
-    pub catalogue : (conduct.seen new).catalogue ≡ (conduct.seen old).catalogue
-    pub counted : conduct.counts new ≡ counts_behind (conduct.counts old) turn
-
   -- A server wants turns alone. Before each, the transfer whose reply went out is carried out.
   abbrev pub Goes : Mailing H → Want → Mailing H → Type 0
   Goes old Taking new = Clears old new
   Goes old want new = ⊥
+
+  -- A quiet turn changes nothing.
+  abbrev pub Rests : Mailing H → Mailing H → Type 0
+  Rests old new = new ≡ old
+
+  -- What is left behind the last turn: a transfer whose reply went out is carried out. Where the inbox has failed no
+  -- such reply is left, and what waits is dropped.
+  abbrev pub Closes : Result Ended Failed → Mailing H → Mailing H → Type 0
+  Closes (Ok ended) old new = Clears old new
+  Closes (Err why) old new = new ≡ record old { waiting = None }
+
+-- a host counts so
+module _ {H T : Type 0} (conduct : Conduct H) (counted : H → T) where
+  -- A datagram of a peer had its turn with the host. The host was told what others showed, or not, and from there on
+  -- the reply is that on what it then knows, and a map that the datagram asks for was made. A transfer that it asks for
+  -- was carried out exactly where the reply went out. What was known before is a front of what is known, and the host
+  -- counts on from what it had counted before.
+  pub record AnswersMail (peer : Peer) (turn : Turn) (old new : H) : Type 0 where
+    pub start : H
+    pub learned : Learns (conduct.seen old) (conduct.seen start)
+    pub uncounted : conduct.counts start ≡ conduct.counts old
+    pub carried : counted start ≡ counted old
+    pub link : Link conduct Datagram peer turn start new
+    pub grown : IsFront (conduct.seen old).known (conduct.seen new).known
+    pub catalogue : (conduct.seen new).catalogue ≡ (conduct.seen old).catalogue
+    pub counts : conduct.counts new ≡ counts_behind (conduct.counts old) turn
 
   -- A datagram of a peer is heard, with this reply or silence, which isn't out yet. A transfer that it takes waits.
   pub record Hears (peer : Peer) (message : List ℕ) (answer : Option (List ℕ)) (old new : Mailing H) : Type 0 where
@@ -76,15 +90,5 @@ module _ {H : Type 0} (conduct : Conduct H) where
     pub answers : AnswersMail peer turn old.host new.host
     pub waits : new.waiting ≡ option_map (λ taken. (taken, peer)) turn.taken
 
-  -- A quiet turn changes nothing.
-  abbrev pub Rests : Mailing H → Mailing H → Type 0
-  Rests old new = new ≡ old
-
   abbrev pub mail_ways : Ways (Mailing H)
-  mail_ways = ways_of Goes Hears Rests
-
-  -- What is left behind the last turn: a transfer whose reply went out is carried out. Where the inbox has failed no
-  -- such reply is left, and what waits is dropped.
-  abbrev pub Closes : Result Ended Failed → Mailing H → Mailing H → Type 0
-  Closes (Ok ended) old new = Clears old new
-  Closes (Err why) old new = new ≡ record old { waiting = None }
+  mail_ways = ways_of (Goes conduct) Hears (Rests conduct)

@@ -41,13 +41,13 @@ answered_turns (Dropped from bytes ∷ more) = answered_turns more
 answered_turns (Rested ∷ more) = answered_turns more
 answered_turns (Answered from turn ∷ more) = turn ∷ answered_turns more
 
-module _ {H : Type 0} (conduct : Conduct H) where
+module _ {H T : Type 0} (conduct : Conduct H) (counted : H → T) where
   -- what a turn does to the host, where its reply goes out
   abbrev pub DoesTurn : MailTurn → H → H → Type 0
   DoesTurn (Dropped from bytes) old new = (mail_max < length bytes) × (new ≡ old)
   DoesTurn Rested old new = new ≡ old
   DoesTurn (Answered from turn) old new =
-      (length turn.message ≤ mail_max) × (turn.flushed ≡ true) × AnswersMail conduct from turn old new
+      (length turn.message ≤ mail_max) × (turn.flushed ≡ true) × AnswersMail conduct counted from turn old new
 
   -- turns, one after the other
   abbrev pub DoesTurns : List MailTurn → H → H → Type 0
@@ -62,7 +62,7 @@ module _ {H : Type 0} (conduct : Conduct H) where
     pub short : length turn.message ≤ mail_max
     pub reply : IsSome turn.answer
     pub unsent : turn.flushed ≡ false
-    pub answers : AnswersMail conduct from turn old new
+    pub answers : AnswersMail conduct counted from turn old new
 
   -- What ends a run of at most so many turns behind so many: nothing behind the most, or the inbox fails, at a turn or
   -- at a reply.
@@ -72,7 +72,8 @@ module _ {H : Type 0} (conduct : Conduct H) where
   EndsTurns most count (Err why) posts old new =
       (count < most) × (((posts ≡ []) × (new ≡ old)) ⊎ LosesAnswer posts old new)
 
-  -- These posts are turns that a server made, each with its reply to its sender before the next turn, and the end.
+  -- These posts are turns that a server made, each with its reply to its sender before the next turn, and the end. The
+  -- posts fix the turns.
   pub record ServesPosts (most : ℕ) (end : Result Ended Failed) (posts : List Post) (old : Mailing H) (new : H)
       : Type 0 where
     pub ready : H
@@ -80,7 +81,7 @@ module _ {H : Type 0} (conduct : Conduct H) where
     pub served : List MailTurn
     pub last : H
     pub does : DoesTurns served ready last
-    pub counted : conduct.counts last ≡ counts_over (conduct.counts ready) (answered_turns served)
+    pub counts : conduct.counts last ≡ counts_over (conduct.counts ready) (answered_turns served)
     pub rest : List Post
     pub ends : EndsTurns most (length served) end rest last new
     pub all : posts ≡ posts_over served ++ rest
@@ -91,7 +92,7 @@ module _ {H : Type 0} (conduct : Conduct H) where
   pub record ServesMail (most : ℕ) (end : Result Ended Failed) (old new : Mailing H) (before after : Box) : Type 0 where
     pub posts : List Post
     pub last : Mailing H
-    pub runs : Runs (mail_ways conduct) most posts end old last
+    pub runs : Runs (mail_ways conduct counted) most posts end old last
     pub closes : Closes conduct end last new
     pub sees : Sees posts before after
     pub serves : ServesPosts most end posts old new.host

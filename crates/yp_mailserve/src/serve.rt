@@ -18,7 +18,7 @@ pub fn serve_mail<I: Inbox, H: CatchUp>(
     room: &mut Room,
     turns: u32,
 ) -> Result<Ended, Failed>
-    ensures serves { ServesMail (conduct_of H.seen H.told H.counts H.stepped H.made H.carried)
+    ensures serves { ServesMail (conduct_of H.seen H.told H.counts H.stepped H.made H.carried) H.counted
         turns result server.old server.new
         (box_of I.past I.turns I.quiets inbox.old) (box_of I.past I.turns I.quiets inbox.new) }
     ensures cause { CountsFaults (I.faults inbox.old) (I.faults inbox.new) result }

@@ -147,7 +147,7 @@ fn reply_to<H: Host>(
 impl<H: CatchUp> Errand for MailServer<H> {
     ghost goes = { Goes (conduct_of H.seen H.told H.counts H.stepped H.made H.carried) };
 
-    ghost hears = { Hears (conduct_of H.seen H.told H.counts H.stepped H.made H.carried) };
+    ghost hears = { Hears (conduct_of H.seen H.told H.counts H.stepped H.made H.carried) H.counted };
 
     ghost rests = { Rests (conduct_of H.seen H.told H.counts H.stepped H.made H.carried) };
 

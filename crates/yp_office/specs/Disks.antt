@@ -1,6 +1,6 @@
 -- The disks of maps, as a run has them.
 use Rattle.std.specs.Prelude.{◌≡◌, ◌⊎◌, ℕ, ◌+◌, List, [], ◌∷◌, map, Option, None, Some, slice_get}
-use Rattle.std.specs.Option.{option_and_then, option_map}
+use Rattle.std.specs.Option.{option_and_then, option_map, option_map_or}
 use Rattle.yp_io.specs.Disk.{History, LeavesOnly, MayLeave, after_sync}
 use Rattle.yp_board.specs.Catalogues.{Name, name_view}
 use Rattle.yp_office.specs.declared.disks.NamedDisk.{NamedDisk}
@@ -30,6 +30,10 @@ told_at history place disks = option_and_then history (slice_get (disks_of disks
 pub record IsOnlyRead (old new : Option History) : Type 0 where
   pub same : (new ≡ old) ⊎ (new ≡ option_map after_sync old)
   pub any_moment : LeavesOnly old new (MayLeave old)
+
+-- how often a disk has failed, of those in their order
+abbrev pub faults_at : {D : Type 0} → (D → ℕ) → ℕ → List (NamedDisk D) → ℕ
+faults_at faults place disks = option_map_or faults (slice_get (disks_of disks) place) 0
 
 -- how often disks have failed, together
 abbrev pub total_faults : {D : Type 0} → (D → ℕ) → List D → ℕ

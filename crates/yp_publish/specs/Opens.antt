@@ -40,7 +40,8 @@ pub record IsRefused {D : Type 0} (history : D → Option History) (faults : D �
   pub moments : LeavesNoMore history before after
   pub never_falls : faults before ≤ faults after
 
--- The disks in front of a map's were opened, its own was refused, and those behind it weren't called.
+-- The disks in front of a map's were opened, its own was refused, and those behind it weren't called. The two lists and
+-- its number fix the disks, and what their files stood for fixes what was opened.
 pub record IsStopped {D : Type 0} (history : D → Option History) (faults : D → ℕ) (old new : List D) (number : ℕ)
     (fault : SlotFault) : Type 0 where
   pub front : List D

@@ -56,7 +56,8 @@ IsCalled request answer first last =
     Calls reply_max (xfr_call request) (SaysStat taken_of) answer first last
     ⊎ ((answer ≡ Err NoMemory) × (last ≡ first))
 
--- One wire to this peer came, XFR was called on it, and it went back: its faults are counted as those of the dial.
+-- One wire to this peer came, XFR was called on it, and it went back: its faults are counted as those of the dial. The
+-- dial tells what its input was at first, and what it was when it went back.
 pub record IsAsked (peer : Peer) (request : Value req_xfr) (answer : Answer) (old new : DialTells) : Type 0 where
   pub first : ClientState
   pub last : ClientState
@@ -77,7 +78,8 @@ IsNoted slave (Ok stat) old new =
 IsNoted slave (Err NoMemory) old new = new ≡ old
 IsNoted slave (Err fault) old new = new ≡ with_event old (Failed slave Rpc)
 
--- A slave that has an address was asked: no wire came, or one did and has an answer.
+-- A slave that has an address was asked: no wire came, or one did and has an answer. The bytes of the wire fix the
+-- answer, unless the wire failed or memory ran out.
 pub record IsAnswered (peer : Peer) (request : Value req_xfr) (slave : ℕ) (starved : Bool) (ledger ledger' : Ledger)
     (old new : DialTells) : Type 0 where
   pub answer : Answer

@@ -37,7 +37,8 @@ abbrev pub IsInMemory : Outcome → Outcome → Type 0
 IsInMemory meant (Err NoMemory) = ⊤
 IsInMemory meant outcome = outcome ≡ meant
 
--- One call was made, whose reply has at most so many bytes, and came to this.
+-- One call was made, whose reply has at most so many bytes, and came to this. The bytes of the wire fix what was
+-- answered, unless the wire failed or memory ran out.
 pub record CallIsMade {X : Type 0} (limit : ℕ) (call : ℕ → List ℕ)
     (answers : ℕ → List ℕ → Result X ClientFault → Type 0) (means : Result X ClientFault → Outcome)
     (outcome : Outcome) (old new : ClientState) : Type 0 where
@@ -66,6 +67,7 @@ abbrev pub membership_told : List ℕ → Asked → List Row → Outcome
 membership_told group asked rows = membership_outcome (is_member rows group asked)
 
 -- ALL was made for the rows of a version, and came to what is meant by them, or to the number of a row that none takes.
+-- The reply fixes the rows.
 pub record TakesRows (means : List Row → Outcome) (domain map : List ℕ) (outcome : Outcome) (old new : ClientState)
     : Type 0 where
   pub draft : Draft
@@ -79,7 +81,8 @@ MakesMaster domain map (Ok order) outcome old new =
     (meant_by query_fault (λ master. standing_text order master.now)) outcome old new
 MakesMaster domain map (Err fault) outcome old new = (outcome ≡ Err (query_fault fault)) × (new ≡ old)
 
--- ORDER was made, and then MASTER.
+-- ORDER was made, and then MASTER. The first call fixes the order, and the client between but for its counts of
+-- faults.
 pub record Polls (domain map : List ℕ) (outcome : Outcome) (old new : ClientState) : Type 0 where
   pub order : Result ℕ ClientFault
   pub mid : ClientState

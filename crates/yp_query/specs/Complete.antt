@@ -15,7 +15,8 @@ use Rattle.yp_client.specs.declared.question.Question.TheVariants.{Cat, Catk, Ma
 use Rattle.yp_client.specs.Questions.{ByteQuestion}
 use Rattle.yp_query.specs.Asked.{no_rows}
 
--- Bytes begin with a whole reply of at most so many bytes, and P holds of it and of what is behind.
+-- Bytes begin with a whole reply of at most so many bytes, and P holds of it and of what is behind. Its heads fix where
+-- it ends.
 pub record BeginsWithReply (limit : ℕ) (stream : List ℕ) (P : List ℕ → List ℕ → Type 0) : Type 0 where
   pub reply : List ℕ
   pub bytes : List ℕ

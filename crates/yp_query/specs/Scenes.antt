@@ -25,7 +25,8 @@ scene_of past dial_faults output faults dial sink =
 
 -- ---- the dial
 
--- One wire to this peer came, the calls of a question were made on it, and it went back.
+-- One wire to this peer came, the calls of a question were made on it, and it went back. The dial tells what its input
+-- was at first, and what it was when it went back.
 pub record Exchanges (peer : Peer) (question : ByteQuestion) (outcome : Outcome) (old new : Option Wires) : Type 0 where
   pub first : ClientState
   pub last : ClientState

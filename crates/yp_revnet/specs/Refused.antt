@@ -23,7 +23,7 @@ rule_of TooBig = 4
 rule_of NoMemory = 0
 
 -- Of the rows of a reverse map, in rising order of their keys, those of a front were taken, and the one behind them is
--- refused. No key that a group has is left out up to it.
+-- refused. No key that a group has is left out up to it. So the groups fix these rows, and with the draft the refusal.
 pub record RefusesRow (rows : List Row) (field : Field) (draft : Draft) (number rule : ℕ) : Type 0 where
   pub front : List Row
   pub row : Row

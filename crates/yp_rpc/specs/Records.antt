@@ -46,7 +46,7 @@ pub record AreWithin (limit : ℕ) (pieces : List (List ℕ)) : Type 0 where
   pub empty : empties pieces ≤ empty_max
   pub short : All IsShort pieces
 
--- bytes that are the record in fragments, within the limit
+-- bytes that are the record in fragments, within the limit; the heads in them fix the pieces
 pub record Fragments (limit : ℕ) (message bytes : List ℕ) : Type 0 where
   pub pieces : List (List ℕ)
   pub last : List ℕ
@@ -61,7 +61,7 @@ IsPart limit pieces tail =
     ⊎ ((last : Bool) × (len : ℕ) × (body : List ℕ) × (tail ≡ head last len ++ body) × (length body < len)
     × (len < 2 ^ 31) × (length (joined pieces) + len ≤ limit))
 
--- a rest that ends inside its first record
+-- a rest that ends inside its first record; the heads in it fix the pieces
 pub record IsTorn (limit : ℕ) (rest : List ℕ) : Type 0 where
   pub pieces : List (List ℕ)
   pub tail : List ℕ
@@ -74,7 +74,7 @@ pub record IsTorn (limit : ℕ) (rest : List ℕ) : Type 0 where
 abbrev pub IsBegun : ℕ → List ℕ → Type 0
 IsBegun limit part = (part ≡ []) ⊎ IsTorn limit part
 
--- bytes up to the first head that names too much
+-- bytes up to the first head that names too much; the heads in them fix the pieces
 pub record IsTooLong (limit : ℕ) (front : List ℕ) : Type 0 where
   pub pieces : List (List ℕ)
   pub last : Bool
@@ -92,7 +92,7 @@ IsLong limit rest = (front more : List ℕ) × IsTooLong limit front × (rest �
 abbrev pub IsRest : ℕ → List ℕ → Type 0
 IsRest limit rest = (rest ≡ []) ⊎ IsTorn limit rest ⊎ IsLong limit rest
 
--- the stream is one spelling of each of the records, and then the rest
+-- the stream is one spelling of each of the records, and then the rest; the heads in it fix where it is cut
 abbrev pub Cut : ℕ → List ℕ → List (List ℕ) → List ℕ → Type 0
 Cut limit stream [] rest = (stream ≡ rest) × IsRest limit rest
 Cut limit stream (message ∷ messages) rest =

@@ -105,7 +105,7 @@ pub record Sees (posts : List Post) (old new : Box) : Type 0 where
   pub turns : new.turns ≡ counted (length (turns_of posts)) old.turns
   pub quiets : new.quiets ≡ counted (quiets_of posts) old.quiets
 
--- An errand had so many turns of an inbox at most, with this end.
+-- An errand had so many turns of an inbox at most, with this end. What happened meanwhile is what the inbox gained.
 pub record TakesTurns {E : Type 0} (ways : Ways E) (most : ℕ) (end : Result Ended Failed) (old new : E)
     (before after : Box) : Type 0 where
   pub posts : List Post

@@ -22,8 +22,8 @@ front_then a b c first second =
 
 -- the log of the writer begins with what was shown at the start
 module _ {H T : Type 0} (conduct : Conduct H) (counting : Counting H T) (terms : Terms) (door door' : Option Calls)
-    (log : Log) (turns : ℕ) (fault : Bool) (before after : Box) (all : T)
-    (counts : CountsAll conduct counting terms door door' log turns fault before after all) where
+    (calls : ℕ) (log : Log) (turns : ℕ) (fault : Bool) (before after : Box) (all : T)
+    (counts : CountsAll conduct counting terms door door' calls log turns fault before after all) where
   pub starts_in : IsFront terms.starts log
   starts_in =
       let mail = counts.of_datagrams.served in
@@ -31,14 +31,14 @@ module _ {H T : Type 0} (conduct : Conduct H) (counting : Counting H T) (terms :
       front_then terms.starts (conduct.seen mail.new).known log begun mail.shown
 
 -- what a worker of datagrams made of its turns, from a host that knew the start
-module _ {I H : Type 0} (conduct : Conduct H) (box : I → Box) (faults : I → ℕ) (first last : Mailman I H)
-    (mails : Mails conduct box faults first last) (fault : Bool) (fault_is : fault ≡ last.fault) (inbox : I)
+module _ {I H T : Type 0} (conduct : Conduct H) (counting : Counting H T) (box : I → Box) (faults : I → ℕ)
+    (first last : Mailman I H T) (mails : Mails conduct counting.counted box faults first last) (fault : Bool) (fault_is : fault ≡ last.fault) (inbox : I)
     (inbox_is : inbox ≡ last.inbox) where
-  pub mailed : {T : Type 0} (counting : Counting H T) (catalogue : Catalogue) (starts log : Log)
+  pub mailed : (catalogue : Catalogue) (starts log : Log)
       → BeginsMail conduct counting catalogue starts first → IsFront (conduct.seen last.server.host).known log
       → CountsDatagrams conduct counting catalogue starts log first.turns fault (box first.inbox) (box inbox)
       (counting.counted last.server.host)
-  mailed counting catalogue starts log begins front =
+  mailed catalogue starts log begins front =
       let rests : last.server ≡ at_rest last.server.host =
       ap (λ (w : Option Awaited). record { host = last.server.host; waiting = w }) mails.serves.cleared in
       let old = begins.host in
@@ -51,11 +51,11 @@ module _ {I H : Type 0} (conduct : Conduct H) (box : I → Box) (faults : I → 
           end = mails.end;
           fault_is = fault_is ∙ mails.fault_is;
           serves =
-              subst (λ (i : I). ServesMail conduct first.turns mails.end (at_rest old) (at_rest new) (box first.inbox) (box i))
+              subst (λ (i : I). ServesMail conduct counting.counted first.turns mails.end (at_rest old) (at_rest new) (box first.inbox) (box i))
               (sym inbox_is)
-              (subst (λ (m : Mailing H). ServesMail conduct first.turns mails.end m (at_rest new) (box first.inbox) (box last.inbox))
+              (subst (λ (m : Mailing H). ServesMail conduct counting.counted first.turns mails.end m (at_rest new) (box first.inbox) (box last.inbox))
               begins.server_is
-              (subst (λ (m : Mailing H). ServesMail conduct first.turns mails.end first.server m (box first.inbox) (box last.inbox))
+              (subst (λ (m : Mailing H). ServesMail conduct counting.counted first.turns mails.end first.server m (box first.inbox) (box last.inbox))
               rests mails.serves));
           shown = front;
         };

@@ -24,7 +24,7 @@ tail_of [] = []
 tail_of (x ∷ xs) = xs
 
 module _ {J E H G I M N : Type 0} where
-  abbrev mail_in : Mailman I H → Post J E H G I M N → Mailman I H
+  abbrev mail_in : Mailman I H N → Post J E H G I M N → Mailman I H N
   mail_in d (Datagrams m) = m
   mail_in d (Connections held) = d
 
@@ -32,12 +32,12 @@ module _ {J E H G I M N : Type 0} where
   held_in d (Connections held) = held
   held_in d (Datagrams m) = d
 
-  apart : (m : Mailman I H) (held : Passed) (post : Post J E H G I M N) → post ≡ Datagrams m → post ≡ Connections held → ⊥
+  apart : (m : Mailman I H N) (held : Passed) (post : Post J E H G I M N) → post ≡ Datagrams m → post ≡ Connections held → ⊥
   apart m held (Connections h) is other = absurd cc
   apart m held (Datagrams x) is other = absurd cc
 
   -- the first post, and behind it those of workers of connections
-  pub manned : (mailman : Mailman I H) (held : Passed) (old new : List (Post J E H G I M N)) → old ≡ Datagrams mailman ∷ []
+  pub manned : (mailman : Mailman I H N) (held : Passed) (old new : List (Post J E H G I M N)) → old ≡ Datagrams mailman ∷ []
       → IsSeated held old new → IsManned mailman held new
   manned mailman held old new one seated = record {
     others = seated.more;
@@ -45,7 +45,7 @@ module _ {J E H G I M N : Type 0} where
     all = seated.all;
   }
 
-  module _ (mails : Mailman I H → Mailman I H → Type 0) where
+  module _ (mails : Mailman I H N → Mailman I H N → Type 0) where
     ended : (others new : List (Post J E H G I M N)) → AllZip (Works mails) others new
         → AllByRecursion (λ post. post ≡ Connections at_work) others → AllByRecursion (λ post. post ≡ Connections gone_home) new
     ended [] [] zip all = tt
@@ -58,15 +58,15 @@ module _ {J E H G I M N : Type 0} where
         one (Datagrams m) is = absurd is
 
     -- all have ended, and the worker of datagrams has made this of them
-    pub worked : (mailman : Mailman I H) (old new : List (Post J E H G I M N)) → IsManned mailman at_work old
+    pub worked : (mailman : Mailman I H N) (old new : List (Post J E H G I M N)) → IsManned mailman at_work old
         → length new ≡ length old → AllWork mails old new
-        → (last : Mailman I H) × mails mailman last × IsManned last gone_home new
+        → (last : Mailman I H N) × mails mailman last × IsManned last gone_home new
     worked mailman old new was len works =
         let zip = zipped (Works mails) old new len works in
         by new (subst (λ (l : List (Post J E H G I M N)). AllZip (Works mails) l new) was.posts_are zip)
       where
         by : (new : List (Post J E H G I M N)) → AllZip (Works mails) (Datagrams mailman ∷ was.others) new
-            → (last : Mailman I H) × mails mailman last × IsManned last gone_home new
+            → (last : Mailman I H N) × mails mailman last × IsManned last gone_home new
         by [] zip = absurd zip
         by (Connections held ∷ ys) zip = absurd zip.0
         by (Datagrams last ∷ ys) zip = (
@@ -81,15 +81,15 @@ module _ {J E H G I M N : Type 0} where
         )
 
     -- the one that was found then has made that of them
-    pub came_of : (mailman found : Mailman I H) (old new : List (Post J E H G I M N)) → IsManned mailman at_work old
+    pub came_of : (mailman found : Mailman I H N) (old new : List (Post J E H G I M N)) → IsManned mailman at_work old
         → length new ≡ length old → AllWork mails old new
-        → ((last : Mailman I H) → IsManned last gone_home new → found ≡ last) → mails mailman found
+        → ((last : Mailman I H N) → IsManned last gone_home new → found ≡ last) → mails mailman found
     came_of mailman found old new was len works is =
         let all = worked mailman old new was len works in
         subst (mails mailman) (sym (is all.0 all.2)) all.1
 
   -- the last of manned posts is that of the worker of datagrams, or of one of connections, behind manned posts
-  pub popped : (mailman : Mailman I H) (held : Passed) (all front : List (Post J E H G I M N)) (last : Post J E H G I M N)
+  pub popped : (mailman : Mailman I H N) (held : Passed) (all front : List (Post J E H G I M N)) (last : Post J E H G I M N)
       → IsManned mailman held all → all ≡ front ++ last ∷ []
       → ((last ≡ Datagrams mailman) × (front ≡ [])) ⊎ ((last ≡ Connections held) × IsManned mailman held front)
   popped mailman held all [] last was is =
@@ -108,7 +108,7 @@ module _ {J E H G I M N : Type 0} where
       )
 
   -- where the last is that of datagrams, it is the one, and the only post
-  pub last_mail : (mailman found : Mailman I H) (held : Passed) (all front : List (Post J E H G I M N)) (last : Post J E H G I M N)
+  pub last_mail : (mailman found : Mailman I H N) (held : Passed) (all front : List (Post J E H G I M N)) (last : Post J E H G I M N)
       → IsManned mailman held all → all ≡ front ++ last ∷ [] → last ≡ Datagrams found
       → (found ≡ mailman) × (length all ≡ 1)
   last_mail mailman found held all front last was is mail = elim (popped mailman held all front last was is) [
@@ -120,7 +120,7 @@ module _ {J E H G I M N : Type 0} where
   ]
 
   -- where it is one of connections, those before it are manned
-  pub last_seat : (mailman : Mailman I H) (held found : Passed) (all front : List (Post J E H G I M N)) (last : Post J E H G I M N)
+  pub last_seat : (mailman : Mailman I H N) (held found : Passed) (all front : List (Post J E H G I M N)) (last : Post J E H G I M N)
       → IsManned mailman held all → all ≡ front ++ last ∷ [] → last ≡ Connections found
       → (found ≡ held) × IsManned mailman held front
   last_seat mailman held found all front last was is seat = elim (popped mailman held all front last was is) [
@@ -129,7 +129,7 @@ module _ {J E H G I M N : Type 0} where
   ]
 
   -- there are some
-  pub some_manned : (mailman : Mailman I H) (held : Passed) (all : List (Post J E H G I M N)) → IsManned mailman held all → 0 < length all
+  pub some_manned : (mailman : Mailman I H N) (held : Passed) (all : List (Post J E H G I M N)) → IsManned mailman held all → 0 < length all
   some_manned mailman held all was = omega (arith, ap length was.posts_are)
 
   -- nobody came yet

@@ -26,26 +26,27 @@ count_totals = counting_of totals_of no_totals totals_plus
 -- Datagrams were served by a host that had counted nothing yet, and has counted this then.
 pub record CountsDatagrams {H T : Type 0} (conduct : Conduct H) (counting : Counting H T) (catalogue : Catalogue)
     (starts log : Log) (turns : ℕ) (fault : Bool) (before after : Box) (count : T) : Type 0 where
-  pub served : ServesDatagrams conduct catalogue starts log turns fault before after
+  pub served : ServesDatagrams conduct counting.counted catalogue starts log turns fault before after
   pub from_none : counting.counted served.old ≡ counting.none
   pub counted : counting.counted served.new ≡ count
 
 -- A worker of datagrams has a host that knows what was shown at the start, and has counted nothing yet.
 pub record BeginsMail {I H T : Type 0} (conduct : Conduct H) (counting : Counting H T) (catalogue : Catalogue)
-    (starts : Log) (mailman : Mailman I H) : Type 0 where
+    (starts : Log) (mailman : Mailman I H T) : Type 0 where
   pub host : H
   pub server_is : mailman.server ≡ at_rest host
   pub start : IsAtStart catalogue starts (conduct.seen host)
   pub fresh : conduct.counts host ≡ no_counts
   pub from_none : counting.counted host ≡ counting.none
 
--- What all hosts counted: in each connection that the listener got back, where it tells them, and in the turns of the
--- datagrams. What was known at the end of each is a front of this log.
+-- What all hosts did and counted: in each connection that the listener got back, where it tells them, of which so many
+-- records were read, and in the turns of the datagrams. What was known at the end of each is a front of this log.
 pub record CountsAll {H T : Type 0} (conduct : Conduct H) (counting : Counting H T) (terms : Terms)
-    (door door' : Option Calls) (log : Log) (turns : ℕ) (fault : Bool) (before after : Box) (all : T) : Type 0 where
+    (door door' : Option Calls) (calls : ℕ) (log : Log) (turns : ℕ) (fault : Bool) (before after : Box) (all : T)
+    : Type 0 where
   pub connections : T
   pub datagrams : T
-  pub of_connections : SumsUp conduct counting terms door door' connections log
+  pub of_connections : SumsUp conduct counting terms door door' calls connections log
   pub of_datagrams : CountsDatagrams conduct counting terms.catalogue terms.starts log turns fault before after
       datagrams
   pub all_is : all ≡ counting.plus connections datagrams

@@ -58,19 +58,20 @@ no_counts = record { files = 0; transfers = 0 }
 -- datagram of at most 8,192 bytes got its reply, or silence, on what the host then knew, before the next turn. All
 -- turns were taken, or the inbox has failed, exactly where that is said. What the host knew then is a front of this
 -- log.
-pub record ServesDatagrams {H : Type 0} (conduct : Conduct H) (catalogue : Catalogue) (starts log : Log) (turns : ℕ)
-    (fault : Bool) (before after : Box) : Type 0 where
+pub record ServesDatagrams {H T : Type 0} (conduct : Conduct H) (counted : H → T) (catalogue : Catalogue)
+    (starts log : Log) (turns : ℕ) (fault : Bool) (before after : Box) : Type 0 where
   pub old : H
   pub new : H
   pub start : IsAtStart catalogue starts (conduct.seen old)
   pub fresh : conduct.counts old ≡ no_counts
   pub end : Result Ended Failed
   pub fault_is : fault ≡ is_err end
-  pub serves : ServesMail conduct turns end (at_rest old) (at_rest new) before after
+  pub serves : ServesMail conduct counted turns end (at_rest old) (at_rest new) before after
   pub shown : IsFront (conduct.seen new).known log
 
 -- Disks of maps, in their order. Whatever a crash may leave of one stands for what the log shows of its map, or, where
--- that is behind, for that or for the version whose install failed.
+-- that is behind, for that or for the version whose install failed. The versions that are kept are those that the log
+-- shows.
 pub record Leaves {D : Type 0} (history : D → Option History) (catalogue : Catalogue) (log : Log) (disks : List D)
     : Type 0 where
   pub kept : List (Kept D)

@@ -81,7 +81,7 @@ pub(crate) enum Post<J: Reception, E: Ledger, H: HandsOver, G: Gate + Copy, I> {
 impl<J: Reception, E: Ledger, H: HandsOver, G: Gate + Copy, I: Inbox> Post<J, E, H, G, I> {
     /// Works until there is nothing more to do.
     fn work<L: Listen, R: Wait>(&mut self, rt: &R, listening: &Mutex<Listening<J, E, H, L>>)
-        ensures { Works (Mails (conduct_of H.seen H.told H.counts H.stepped H.made H.carried)
+        ensures { Works (Mails (conduct_of H.seen H.told H.counts H.stepped H.made H.carried) H.counted
             (box_of I.past I.turns I.quiets) I.faults) self.old self.new }
     {
         match self {
@@ -109,22 +109,21 @@ where
     L: Listen + Send,
     L::In: Send,
     L::Out: Send,
-    requires manned { (mailman : Mailman I H) × IsManned mailman at_work posts.items }
+    requires manned { (mailman : Mailman I H H.Count) × IsManned mailman at_work posts.items }
     requires some { 1 < length posts.items }
     requires parts { length posts.items ≡ J.parts }
     requires pass { pass ≡ at_work }
-    ensures kept { IsKept (conduct_of H.seen H.told H.counts H.stepped H.made H.carried)
-        (terms_of J.catalogue J.starts J.most) J.opening (opening_of L.past L.most L.accepted L.faults result.0)
-        result.1.connections result.1.calls result.1.listen_fault 0 1 }
-    ensures counted { (mailman : Mailman I H) → IsManned mailman at_work posts.items
+    ensures kept { IsKept J.opening (opening_of L.past L.most L.accepted L.returned L.faults result.0)
+        result.1.connections result.1.listen_fault 0 1 }
+    ensures counted { (mailman : Mailman I H H.Count) → IsManned mailman at_work posts.items
         → BeginsMail (conduct_of H.seen H.told H.counts H.stepped H.made H.carried)
         (counting_of H.counted H.none H.plus) J.catalogue J.starts mailman
         → (log : Log) → IsFront (H.reached result.3) log
         → CountsAll (conduct_of H.seen H.told H.counts H.stepped H.made H.carried)
         (counting_of H.counted H.none H.plus) (terms_of J.catalogue J.starts J.most) J.opening.past (L.past result.0)
-        log mailman.turns result.2.fault (box_of I.past I.turns I.quiets mailman.inbox)
+        result.1.calls log mailman.turns result.2.fault (box_of I.past I.turns I.quiets mailman.inbox)
         (box_of I.past I.turns I.quiets result.2.inbox) (H.summed result.3) }
-    ensures cause { (mailman : Mailman I H) → IsManned mailman at_work posts.items
+    ensures cause { (mailman : Mailman I H H.Count) → IsManned mailman at_work posts.items
         → result.2.fault ≡ true → HasRisen (I.faults mailman.inbox) (I.faults result.2.inbox) }
 {
     let listening = Mutex::new(listening);
@@ -154,7 +153,7 @@ where
     L::In: Send,
     L::Out: Send,
     ensures count { length posts.new ≡ length posts.old }
-    ensures works { AllWork (Mails (conduct_of H.seen H.told H.counts H.stepped H.made H.carried)
+    ensures works { AllWork (Mails (conduct_of H.seen H.told H.counts H.stepped H.made H.carried) H.counted
         (box_of I.past I.turns I.quiets) I.faults) posts.old posts.new }
 {
     for_each_mut(
@@ -176,8 +175,8 @@ where
     H: HandsOver + Drop,
     G: Gate + Copy + Drop,
     I: Drop,
-    requires { (mailman : Mailman I H) × IsManned mailman gone_home posts.items }
-    ensures mailman { (mailman : Mailman I H) → IsManned mailman gone_home posts.items → result ≡ mailman }
+    requires { (mailman : Mailman I H H.Count) × IsManned mailman gone_home posts.items }
+    ensures mailman { (mailman : Mailman I H H.Count) → IsManned mailman gone_home posts.items → result ≡ mailman }
     ensures parts { pass.new.parts + 1 ≡ pass.old.parts + length posts.items }
     ensures out { pass.new.out ≡ pass.old.out }
     ensures ended { pass.new.ended + 1 ≡ pass.old.ended + length posts.items }

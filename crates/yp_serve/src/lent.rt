@@ -38,7 +38,7 @@ pub(crate) fn refuse<D: Disk, B: Show + Drop, A, T, C, L, I>(
     ensures desk { result.desk ≡ lent.desk }
     ensures listen { result.listen ≡ lent.listen }
     ensures inbox { result.inbox ≡ lent.inbox }
-    ensures stand { Leaves D.history lent.publisher.catalogue (B.log lent.publisher.board) result.disks.items }
+    ensures disks { result.disks.items ≡ disks_of lent.publisher.maps }
 {
     let Lent {
         publisher,

@@ -11,6 +11,8 @@ ghost use Rattle.yp_shared.specs.Failures.{disks_of, faults_over};
 ghost use Rattle.yp_workhost.specs.Charges.{free_of_charge};
 ghost use Rattle.yp_workhost.specs.Desks.{IsSupplied};
 ghost use Rattle.yp_workhost.specs.Wires.{CoversOrders, CoversSources};
+ghost use Rattle.yp_io.specs.Dials.{dial_tells};
+ghost use Rattle.yp_workhost.specs.Uses.{IsUsedForTransfers, dial_told};
 ghost use Rattle.yp_serve.specs.Counting.{IsWell};
 ghost use Rattle.yp_serve.specs.Origins.{ComesFrom};
 ghost use Rattle.yp_serve.specs.Serving.{Leaves};
@@ -80,7 +82,8 @@ where
     requires disks { faults_over D.faults (disks_of publisher.maps) ≡ S.disk_faults }
     requires supplied { IsSupplied T.Texts S.text S.hosts desk }
     requires texts { T.faults desk.texts ≡ S.text_faults }
-    requires dial { (A.past desk.dial ≡ S.wires) × (A.faults desk.dial ≡ S.dial_faults) }
+    requires dial { (A.past desk.dial ≡ S.wires) × (A.faults desk.dial ≡ S.dial_faults)
+        × (A.letters desk.dial ≡ S.letters) }
     requires unread { (blanks.unread.name ≡ S.unread) × (blanks.unread.parts ≡ S.shares) }
     requires orders { (blanks.orders.name ≡ S.orders) × (blanks.orders.parts ≡ S.shares) }
     requires sources { (blanks.sources.name ≡ S.sources) × (blanks.sources.parts ≡ S.shares) }
@@ -139,7 +142,7 @@ fn lock_publisher<S: Site + Accounts, D: Disk, B: Tell>(
 }
 
 /// The lock of the desk, and what all workers are charged by.
-fn lock_desk<S: Accounts + Supplies, A: Dial, T: Texts, C: Clock>(
+fn lock_desk<S: Site + Accounts + Supplies, A: Dial, T: Texts, C: Clock>(
     desk: Desk<A, T, C>,
     unread: Blank,
     orders: Blank,
@@ -149,7 +152,8 @@ fn lock_desk<S: Accounts + Supplies, A: Dial, T: Texts, C: Clock>(
 ) -> (Mutex<SharedDesk<S, A, T, C>>, Charges<S>)
     requires supplied { IsSupplied T.Texts S.text S.hosts desk }
     requires texts { T.faults desk.texts ≡ S.text_faults }
-    requires dial { (A.past desk.dial ≡ S.wires) × (A.faults desk.dial ≡ S.dial_faults) }
+    requires dial { (A.past desk.dial ≡ S.wires) × (A.faults desk.dial ≡ S.dial_faults)
+        × (A.letters desk.dial ≡ S.letters) }
     requires unread { (unread.name ≡ S.unread) × (unread.parts ≡ S.shares) }
     requires orders { (orders.name ≡ S.orders) × (orders.parts ≡ S.shares) }
     requires sources { (sources.name ≡ S.sources) × (sources.parts ≡ S.shares) }
@@ -196,6 +200,8 @@ where
         result.3.outcomes.source }
     ensures origins { IsStart S.first → AreTold D.history result.0.items → ComesFrom D.history S.built S.first
         S.catalogue (B.log result.1) result.0.items result.3.made S.wires (A.past result.2.dial) }
+    ensures dialed { IsUsedForTransfers S.hosts S.catalogue.maps (dial_told S.wires S.letters S.dial_faults)
+        (dial_tells A.past A.letters A.faults result.2.dial) }
 {
     let (totals, charges, front) = account.into_parts();
     let (mut unread, mut reached, mut failed, mut debits) = charges.into_shares();

@@ -61,7 +61,7 @@ impl<I: Inbox, H: CatchUp> Mailman<I, H> {
 
     /// Answers datagrams until all turns are taken or the inbox has failed. It takes no lock of a listener.
     pub(crate) fn work(&mut self)
-        ensures { Mails (conduct_of H.seen H.told H.counts H.stepped H.made H.carried)
+        ensures { Mails (conduct_of H.seen H.told H.counts H.stepped H.made H.carried) H.counted
             (box_of I.past I.turns I.quiets) I.faults self.old self.new }
     {
         let ended = serve_mail(

@@ -229,21 +229,19 @@ impl<
         requires none { posts.items ≡ [] }
         requires some { 0 < length sessions.items }
         requires room { length sessions.items + 1 ≤ vec_capacity posts }
-        requires opening { opening_of L.past L.most L.accepted L.faults listen ≡ J.opening }
+        requires opening { opening_of L.past L.most L.accepted L.returned L.faults listen ≡ J.opening }
         requires fair { IsFair J.opening.past }
         requires out { (out.name ≡ J.name) × (out.parts ≡ J.parts) × (out.parts ≡ length sessions.items + 1) }
         requires ended { (ended.name ≡ E.name) × (ended.parts ≡ E.parts)
             × (ended.parts ≡ length sessions.items + 1) }
         requires charges { charges.parts ≡ length sessions.items + 3 }
         requires bag { IsAtStart J.catalogue J.starts (B.Reader.seen bag.reader) }
-        ensures kept { IsKept (conduct_at B.Reader.seen B.Reader.stepped J.text J.hosts)
-            (terms_of J.catalogue J.starts J.most) J.opening
-            (opening_of L.past L.most L.accepted L.faults result.0)
-            result.1.connections result.1.calls result.1.listen_fault 0 1 }
+        ensures kept { IsKept J.opening (opening_of L.past L.most L.accepted L.returned L.faults result.0)
+            result.1.connections result.1.listen_fault 0 1 }
         ensures counted { (log : Log) → IsFront result.3.reached log
             → CountsAll (conduct_at B.Reader.seen B.Reader.stepped J.text J.hosts) count_totals
             (terms_of J.catalogue J.starts J.most) J.opening.past (L.past result.0)
-            log bag.turns result.2.fault
+            result.1.calls log bag.turns result.2.fault
             (box_of I.past I.turns I.quiets bag.inbox) (box_of I.past I.turns I.quiets result.2.inbox)
             result.3.totals }
         ensures cause { result.2.fault ≡ true → HasRisen (I.faults bag.inbox) (I.faults result.2.inbox) }

@@ -11,8 +11,11 @@ ghost use Rattle.yp_publish.specs.Grown.{AreTold};
 ghost use Rattle.yp_publish.specs.Rising.{moment_of, IsStart, IsRisingLog};
 ghost use Rattle.yp_shared.specs.Failures.{disks_of, faults_over};
 ghost use Rattle.yp_serve.specs.Serving.{conduct_at, IsAtStart, Leaves, ServesDatagrams};
+ghost use Rattle.yp_workhost.specs.Charges.{totals_of};
 ghost use Rattle.yp_workhost.specs.Makings.{Builds, IsBuilt};
 ghost use Rattle.yp_workhost.specs.Wires.{CoversOrders, CoversSources};
+ghost use Rattle.yp_io.specs.Dials.{dial_tells};
+ghost use Rattle.yp_workhost.specs.Uses.{IsUsedForTransfers, dial_told};
 ghost use Rattle.yp_serve.specs.Counting.{count_totals, CountsAll, FilesAreCovered};
 ghost use Rattle.yp_serve.specs.Origins.{ComesFrom};
 
@@ -76,13 +79,11 @@ where
     requires most { spec.now.most ≤ CALLS_MAX }
     requires fair { IsFair (L.past listen) }
 
-    // Each connection that went back was served, and all went back that came.
-    ensures served { IfOk result (λ served. IsKept
-        (conduct_at B.Reader.seen B.Reader.stepped (T.text desk.texts) desk.hosts)
-        (terms_of publisher.catalogue (B.log publisher.board) spec.now.most)
-        (opening_of L.past L.most L.accepted L.faults listen)
-        (opening_of L.past L.most L.accepted L.faults served.listen)
-        served.tally.connections served.tally.calls served.tally.listen_fault 0 1) }
+    // All connections went back that came.
+    ensures gone { IfOk result (λ served. IsKept
+        (opening_of L.past L.most L.accepted L.returned L.faults listen)
+        (opening_of L.past L.most L.accepted L.returned L.faults served.listen)
+        served.tally.connections served.tally.listen_fault 0 1) }
 
     // Where no accept has failed, as many were accepted as were to be.
     ensures all { IfOk result (λ served. served.tally.listen_fault ≡ false
@@ -90,7 +91,7 @@ where
 
     // What was sent of the inbox for what came, on what a worker knew that began with the start.
     ensures datagrams { IfOk result (λ served. ServesDatagrams
-        (conduct_at B.Reader.seen B.Reader.stepped (T.text desk.texts) desk.hosts)
+        (conduct_at B.Reader.seen B.Reader.stepped (T.text desk.texts) desk.hosts) totals_of
         publisher.catalogue (B.log publisher.board) (B.log served.writer) spec.now.turns served.inbox_fault
         (box_of I.past I.turns I.quiets inbox) (box_of I.past I.turns I.quiets served.inbox)) }
     ensures inbox_fault { IfOk result (λ served. served.inbox_fault ≡ true
@@ -104,13 +105,13 @@ where
         → AreTold D.history served.disks.items → IsRisingLog (B.log served.writer)) }
     ensures desk { IfOk result (λ served. IsSupplied T.Texts (T.text desk.texts) desk.hosts served.desk) }
 
-    // What all workers counted, and what covers it: FILEs by the faults of the texts and of the disks, orders that were
-    // reached by the wires that begin with one, and failed sources by the faults of the dial and the wires that give no
-    // version.
+    // What each connection that went back was served, and each datagram; what all workers counted, and what covers it:
+    // FILEs by the faults of the texts and of the disks, orders that were reached by the wires that begin with one, and
+    // failed sources by the faults of the dial and the wires that give no version.
     ensures counted { IfOk result (λ served. CountsAll
         (conduct_at B.Reader.seen B.Reader.stepped (T.text desk.texts) desk.hosts) count_totals
         (terms_of publisher.catalogue (B.log publisher.board) spec.now.most) (L.past listen) (L.past served.listen)
-        (B.log served.writer) spec.now.turns served.inbox_fault
+        served.tally.calls (B.log served.writer) spec.now.turns served.inbox_fault
         (box_of I.past I.turns I.quiets inbox) (box_of I.past I.turns I.quiets served.inbox) served.totals) }
     ensures files { IfOk result (λ served. FilesAreCovered D.history D.faults
         (T.faults desk.texts) (T.faults served.desk.texts)
@@ -126,11 +127,14 @@ where
         (IsBuilt (T.text desk.texts) publisher.catalogue.own) (moment_of B.log publisher) publisher.catalogue
         (B.log served.writer) served.disks.items served.totals.made (A.past desk.dial) (A.past served.desk.dial)) }
 
-    // Want of memory, before a connection was accepted or a turn was taken.
+    // Whom the dial asked, what for, and whom it told what: it was used for transfers of the maps alone.
+    ensures dialed { IfOk result (λ served. IsUsedForTransfers desk.hosts publisher.catalogue.maps
+        (dial_tells A.past A.letters A.faults desk.dial) (dial_tells A.past A.letters A.faults served.desk.dial)) }
+
+    // Want of memory, before a connection was accepted or a turn was taken. Nothing has changed.
     ensures refused { IfErr result (λ refused. (refused.desk ≡ desk) × (refused.listen ≡ listen)
         × (refused.inbox ≡ inbox)) }
-    ensures stand { IfErr result (λ refused. Leaves D.history publisher.catalogue (B.log publisher.board)
-        refused.disks.items) }
+    ensures disks { IfErr result (λ refused. refused.disks.items ≡ disks_of publisher.maps) }
 {
     let lent = Lent {
         publisher,
@@ -188,7 +192,7 @@ where
     requires site { lent.publisher.catalogue ≡ J.catalogue }
     requires starts { B.log lent.publisher.board ≡ J.starts }
     requires supplied { IsSupplied T.Texts J.text J.hosts lent.desk }
-    requires opening { opening_of L.past L.most L.accepted L.faults lent.listen ≡ J.opening }
+    requires opening { opening_of L.past L.most L.accepted L.returned L.faults lent.listen ≡ J.opening }
     requires fair { IsFair J.opening.past }
     requires most { (spec.now.most ≡ J.most) × (spec.now.most ≤ CALLS_MAX) }
     requires some { 0 < length staff.sessions.items }
@@ -207,15 +211,15 @@ where
     requires made { (blanks.made.name ≡ J.made) × (blanks.made.parts ≡ J.shares) }
     requires versions { (blanks.versions.name ≡ J.versions) × (blanks.versions.parts ≡ J.shares + 1) }
     requires texts { T.faults lent.desk.texts ≡ J.text_faults }
-    requires dial { (A.past lent.desk.dial ≡ J.wires) × (A.faults lent.desk.dial ≡ J.dial_faults) }
+    requires dial { (A.past lent.desk.dial ≡ J.wires) × (A.faults lent.desk.dial ≡ J.dial_faults)
+        × (A.letters lent.desk.dial ≡ J.letters) }
     requires disks { faults_over D.faults (disks_of lent.publisher.maps) ≡ J.disk_faults }
     requires first { moment_of B.log lent.publisher ≡ J.first }
-    ensures served { IfOk result (λ served. IsKept
-        (conduct_at B.Reader.seen B.Reader.stepped J.text J.hosts) (terms_of J.catalogue J.starts J.most) J.opening
-        (opening_of L.past L.most L.accepted L.faults served.listen)
-        served.tally.connections served.tally.calls served.tally.listen_fault 0 1) }
+    ensures gone { IfOk result (λ served. IsKept J.opening
+        (opening_of L.past L.most L.accepted L.returned L.faults served.listen)
+        served.tally.connections served.tally.listen_fault 0 1) }
     ensures datagrams { IfOk result (λ served. ServesDatagrams
-        (conduct_at B.Reader.seen B.Reader.stepped J.text J.hosts)
+        (conduct_at B.Reader.seen B.Reader.stepped J.text J.hosts) totals_of
         J.catalogue J.starts (B.log served.writer) spec.now.turns served.inbox_fault
         (box_of I.past I.turns I.quiets lent.inbox) (box_of I.past I.turns I.quiets served.inbox)) }
     ensures inbox_fault { IfOk result (λ served. served.inbox_fault ≡ true
@@ -228,7 +232,7 @@ where
     ensures counted { IfOk result (λ served. CountsAll
         (conduct_at B.Reader.seen B.Reader.stepped J.text J.hosts) count_totals
         (terms_of J.catalogue J.starts J.most) J.opening.past (L.past served.listen)
-        (B.log served.writer) spec.now.turns served.inbox_fault
+        served.tally.calls (B.log served.writer) spec.now.turns served.inbox_fault
         (box_of I.past I.turns I.quiets lent.inbox) (box_of I.past I.turns I.quiets served.inbox) served.totals) }
     ensures files { IfOk result (λ served. FilesAreCovered D.history D.faults
         (T.faults lent.desk.texts) (T.faults served.desk.texts)
@@ -240,9 +244,11 @@ where
     ensures origins { IfOk result (λ served. IsStart J.first → AreTold D.history served.disks.items
         → ComesFrom D.history J.built J.first J.catalogue (B.log served.writer) served.disks.items
         served.totals.made J.wires (A.past served.desk.dial)) }
+    ensures dialed { IfOk result (λ served. IsUsedForTransfers J.hosts J.catalogue.maps
+        (dial_told J.wires J.letters J.dial_faults) (dial_tells A.past A.letters A.faults served.desk.dial)) }
     ensures refused { IfErr result (λ refused. (refused.desk ≡ lent.desk) × (refused.listen ≡ lent.listen)
         × (refused.inbox ≡ lent.inbox)) }
-    ensures stand { IfErr result (λ refused. Leaves D.history J.catalogue J.starts refused.disks.items) }
+    ensures disks { IfErr result (λ refused. refused.disks.items ≡ disks_of lent.publisher.maps) }
 {
     let Ok(posts) = Vec::with_capacity(alloc, staff.sessions.len() + 1) else {
         return Err(refuse(lent));

@@ -146,7 +146,8 @@ given_for service turns desk = IsGiven service turns (service.telling.told desk)
 -- A connection was served, and ended so. From its first host to its last the records of its wire were answered in turn,
 -- and behind each the wire was one of these. At each moment a crash leaves of each map what was shown of it or what was
 -- being installed. Only versions that were made or fetched were shown, and the orders of each map rise. The catalogue
--- and all versions are within their limits.
+-- and all versions are within their limits. What the first host shows is fixed by the disks before, and the last host
+-- is the one that the run leads to.
 pub record Serves {D B E : Type 0} (service : Service D B E) (end : End) (old new : Connection D E)
     (wires : List Wire) : Type 0 where
   pub start : Local D B E

@@ -25,7 +25,7 @@ open_stat slot.NoMemory = Rsrc
 open_stat slot.DiskFault = File
 open_stat (slot.Damaged at rule) = File
 
--- The map was behind and isn't opened, with this status.
+-- The map was behind and isn't opened, with this status. The status fixes the fault.
 pub record StaysShut {D B : Type 0} (keeping : Keeping D B) (number : ℕ) (stat : XfrStat)
     (old new : Published D B) : Type 0 where
   pub fault : SlotFault
@@ -43,7 +43,8 @@ IsInstallStat install.DiskFault stat = stat ≡ File
 IsInstallStat install.NoMemory stat = stat ≡ Rsrc
 IsInstallStat _ stat = ⊥
 
--- A version that was built isn't installed, with this status.
+-- A version that was built isn't installed, with this status. The status fixes the fault, with what stands against the
+-- version.
 pub record IsUninstalled {D B : Type 0} (keeping : Keeping D B) (number : ℕ) (version : MapVersion) (stat : XfrStat)
     (old new : Published D B) : Type 0 where
   pub fault : InstallFault
@@ -69,7 +70,8 @@ Tries keeping telling job stat old new =
     ⊎ ((version : MapVersion) × IsAnew (telling.told old.desk) (site_at keeping job old.published) version
     × OffersBuilt keeping job.map version stat old.published new.published)
 
--- The map is level, where it was behind by opening its file again, and then it is tried to make it.
+-- The map is level, where it was behind by opening its file again, and then it is tried to make it. The maps between
+-- are the old ones, and where the map was behind it has what its file stood for.
 pub record OpensAndTries {D B E : Type 0} (keeping : Keeping D B) (telling : Telling E) (job : Job) (stat : XfrStat)
     (old new : Local D B E) : Type 0 where
   pub middle : Published D B

@@ -73,14 +73,15 @@ pub record Traffic : Type 0 where
 abbrev pub Takes : Traffic → List ℕ → Type 0
 Takes traffic bytes = Appends traffic.before traffic.after bytes
 
--- the records of a stream were answered up to its rest
+-- the records of a stream were answered up to its rest; the stream fixes both
 pub record AnswersUpTo (maps : Maps) (stream rest : List ℕ) (traffic : Traffic) : Type 0 where
   pub messages : List (List ℕ)
   pub cut : Cut record_max stream messages rest
   pub few : length messages < CALLS_MAX
   pub answered : Takes traffic (answers maps messages)
 
--- Records at the front of a stream were read whole, and less than a record more; the rest is left.
+-- Records at the front of a stream were read whole, and less than a record more; the rest is left. The stream and what
+-- is left of it fix the records.
 pub record AnswersSome (stream : List ℕ) (traffic : Traffic) (P : List (List ℕ) → Type 0) : Type 0 where
   pub messages : List (List ℕ)
   pub part : List ℕ
@@ -146,7 +147,8 @@ fixed_conduct =
     (λ taken peer old new. new ≡ record old { transfers = next_count old.transfers })
 
 -- The records of a wire were answered in turn on this board, by one session to this status, and behind each that was
--- answered, its reply flushed, the wire was one of these. The catalogue and all versions are within their limits.
+-- answered, its reply flushed, the wire was one of these. The catalogue and all versions are within their limits. At
+-- the end the board is the same, but for how often it was asked.
 pub record IsAnswered (board : Seen) (status : Status) (old new : Wire) (wires : List Wire) : Type 0 where
   pub end : End
   pub told : status ≡ status_of end

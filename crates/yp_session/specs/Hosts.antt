@@ -105,7 +105,7 @@ Carries conduct peer (Open xid job) turn old new =
     × Fulfils conduct job stat old new
 
 -- A host took its read step where the record asks for one, and then did what the reply on what it knows waits for or
--- takes.
+-- takes. The host between is the first or the last one, unless a transfer is carried out.
 pub record Link {H : Type 0} (conduct : Conduct H) (path : Path) (peer : Peer) (turn : Turn) (old new : H)
     : Type 0 where
   pub mid : H

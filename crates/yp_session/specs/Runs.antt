@@ -104,7 +104,7 @@ module _ {H : Type 0} (conduct : Conduct H) (peer : Peer) where
   unsent most count end old new ends = []
 
   -- A session of at most so many records, each answered before the next was read, that ended so. What came of each is
-  -- told, and so are the wires behind those that were answered.
+  -- told, and so are the wires behind those that were answered, which fix their records and replies.
   pub record Runs (most : ℕ) (end : End) (old new : Dialogue H) (wires : List Wire) : Type 0 where
     pub answered : List (Turn × Dialogue H)
     pub last : Dialogue H

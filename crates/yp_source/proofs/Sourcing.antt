@@ -9,15 +9,16 @@ use Rattle.yp_client.specs.Asked.{order_call, master_call, all_call}
 use Rattle.yp_query.specs.Complete.{HasCome}
 use Rattle.yp_board.specs.Logs.{Log}
 use Rattle.yp_answer.specs.Served.{AreServed, maps_on}
-use Rattle.yp_exchange.specs.Runs.{RepliesInTurn, sent_all}
+use Rattle.yp_exchange.specs.Runs.{RepliesOn, sent_all}
 use Rattle.yp_exchange.specs.LogRuns.{replies_of, IsRepliedTo}
-use Rattle.yp_exchange.specs.RunLaws.{AllHasReply, MasterHasReply, OrderHasReply, RunIsInTurn}
+use Rattle.yp_exchange.specs.RunLaws.{AllHasReply, MasterHasReply, OrderHasReply, RunIsOnLogs}
 use Rattle.yp_io.specs.Counts.{HasRisen}
 use Rattle.yp_xfr.specs.declared.fault.XfrFault.{XfrFault}
 use Rattle.yp_xfr.specs.declared.fault.XfrFault.TheVariants.{Rpc, NoMemory}
 use Rattle.yp_xfr.specs.Fetching.{Wanted, Outcome}
 use Rattle.yp_xfr.specs.Fetched.{place_of, Fetched}
 use Rattle.yp_xfr.specs.Dialing.{FetchesOnWire, ByAddress, sought}
+use Rattle.yp_source.specs.Replies.{IsShown}
 use Rattle.yp_source.specs.Laws.{FetchedIsShown}
 use Rattle.yp_source.specs.Turns.{fetch_calls, TurnsGiveFetch}
 use Rattle.yp_source.specs.Runs.{WireIsFetched, RunIsFetched}
@@ -116,19 +117,28 @@ module _ (laws : Replied) (peer : Peer) where
       (All-cons (IsRepliedTo peer) (all_call domain map 3) fourth all
       (All-cons (IsRepliedTo peer) (order_call domain map 4) [] (order 4 (omega arith)) (All-nil (IsRepliedTo peer)))))
 
-pub run_is_fetched : Replied → RunIsInTurn → TurnsGiveFetch → FetchedIsShown → WireIsFetched → RunIsFetched
-run_is_fetched replied in_turn turns_give shown by_wire catalogue server caller hosts name wanted turns rest before after
-    version old new d m answers came fetches =
+pub run_is_fetched : Replied → RunIsOnLogs → TurnsGiveFetch → FetchedIsShown → WireIsFetched → RunIsFetched
+run_is_fetched replied on_logs turns_give shown by_wire catalogue server caller hosts name wanted turns logs rest before
+    after version old new d m answers came fetches =
     let stream = sent_all (replies_of turns) ++ rest in
     let each = subst (λ (records : List (List ℕ)). All (IsRepliedTo caller) records) (sym answers.calls)
     (fetch_replied replied caller wanted.domain wanted.map d m) in
-    let run = subst (λ (records : List (List ℕ)). RepliesInTurn catalogue caller records (replies_of turns) before after)
-    answers.calls (in_turn catalogue caller turns before after answers.served answers.run each) in
-    let gives = turns_give catalogue caller wanted.domain wanted.map 1 (replies_of turns) rest before after
+    let run = subst (λ (records : List (List ℕ)). RepliesOn catalogue caller records (replies_of turns) logs before after)
+    answers.calls (on_logs catalogue caller turns logs before after answers.served answers.run each) in
+    let gives = turns_give catalogue caller wanted.domain wanted.map 1 (replies_of turns) rest logs before after
     answers.served answers.rises (omega arith) d m run in
     let fronts = gives.0 in
     let served = subst (λ (log : Log). AreServed (maps_on catalogue log)) (sym gives.1) answers.served in
     let fetched = version_said wanted stream version _
     (by_wire server stream hosts name wanted (Ok version) old new came fetches) in
-    let is = shown catalogue fronts caller wanted 1 0 stream version served (omega arith) d m gives.2 fetched in
-    record { fronts = fronts; of_log = gives.1; source = is.0; shown = is.1; same = is.2 }
+    let is = shown catalogue fronts caller wanted 1 0 stream version served (omega arith) d m gives.3 fetched in
+    let On : Log → Type 0 = λ log. IsShown wanted is.0 (maps_on catalogue log) in
+    record {
+      source = is.0;
+      shown = subst (λ (ls : List Log). All On ls) (sym gives.2)
+          (All-cons On fronts.first (fronts.second ∷ fronts.third ∷ fronts.fourth ∷ []) is.1.first
+          (All-cons On fronts.second (fronts.third ∷ fronts.fourth ∷ []) is.1.second
+          (All-cons On fronts.third (fronts.fourth ∷ []) is.1.third
+          (All-cons On fronts.fourth [] is.1.fourth (All-nil On)))));
+      same = is.2;
+    }

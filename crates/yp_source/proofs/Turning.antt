@@ -55,59 +55,77 @@ module _ (laws : Sent) where
       }
 
   pub turns_give : TurnsGiveFetch
-  turns_give catalogue peer domain map xid [] rest before after served rises word dlen mlen turns = absurd turns
-  turns_give catalogue peer domain map xid (a ∷ []) rest before after served rises word dlen mlen turns =
-      absurd turns.3
-  turns_give catalogue peer domain map xid (a ∷ b ∷ []) rest before after served rises word dlen mlen turns =
-      absurd turns.3.3
-  turns_give catalogue peer domain map xid (a ∷ b ∷ c ∷ []) rest before after served rises word dlen mlen turns =
-      absurd turns.3.3.3
-  turns_give catalogue peer domain map xid (a ∷ b ∷ c ∷ d ∷ e ∷ more) rest before after served rises word dlen mlen
+  turns_give catalogue peer domain map xid [] rest logs before after served rises word dlen mlen turns = absurd turns
+  turns_give catalogue peer domain map xid (a ∷ replies) rest [] before after served rises word dlen mlen turns =
+      absurd turns
+  turns_give catalogue peer domain map xid (a ∷ []) rest (f ∷ logs) before after served rises word dlen mlen turns =
+      absurd turns.2
+  turns_give catalogue peer domain map xid (a ∷ b ∷ replies) rest (f ∷ []) before after served rises word dlen mlen
       turns =
-      absurd turns.3.3.3.3
-  turns_give catalogue peer domain map xid (a ∷ b ∷ c ∷ d ∷ []) rest before after served rises word dlen mlen turns =
-      let second = turns.3 in
-      let third = second.3 in
-      let fourth = third.3 in
+      absurd turns.2
+  turns_give catalogue peer domain map xid (a ∷ b ∷ []) rest (f ∷ g ∷ logs) before after served rises word dlen mlen
+      turns =
+      absurd turns.2.2
+  turns_give catalogue peer domain map xid (a ∷ b ∷ c ∷ replies) rest (f ∷ g ∷ []) before after served rises word dlen
+      mlen turns =
+      absurd turns.2.2
+  turns_give catalogue peer domain map xid (a ∷ b ∷ c ∷ []) rest (f ∷ g ∷ h ∷ logs) before after served rises word dlen
+      mlen turns =
+      absurd turns.2.2.2
+  turns_give catalogue peer domain map xid (a ∷ b ∷ c ∷ d ∷ replies) rest (f ∷ g ∷ h ∷ []) before after served rises word
+      dlen mlen turns =
+      absurd turns.2.2.2
+  turns_give catalogue peer domain map xid (a ∷ b ∷ c ∷ d ∷ e ∷ more) rest (f ∷ g ∷ h ∷ i ∷ logs) before after served
+      rises word dlen mlen turns =
+      absurd turns.2.2.2.2
+  turns_give catalogue peer domain map xid (a ∷ b ∷ c ∷ d ∷ []) rest (f ∷ g ∷ h ∷ i ∷ j ∷ logs) before after served rises
+      word dlen mlen turns =
+      absurd turns.2.2.2.2
+  turns_give catalogue peer domain map xid (a ∷ b ∷ c ∷ d ∷ []) rest (f ∷ g ∷ h ∷ i ∷ []) before after served rises word
+      dlen mlen turns =
+      let second = turns.2 in
+      let third = second.2 in
+      let fourth = third.2 in
       let fronts : Fronts = record {
-        first = turns.0;
-        second = second.0;
-        third = third.0;
-        fourth = fourth.0;
+        first = f;
+        second = g;
+        third = h;
+        fourth = i;
         log = after;
-        begins = second.1;
-        grows = third.1;
-        goes_on = fourth.1;
-        ends = fourth.3;
+        begins = second.0;
+        grows = third.0;
+        goes_on = fourth.0;
+        ends = fourth.2;
         rises = rises;
       } in
-      let third_ends : IsFront third.0 after = front_then third.0 fourth.0 after fourth.1 fourth.3 in
-      let second_ends : IsFront second.0 after = front_then second.0 third.0 after third.1 third_ends in
-      let first_ends : IsFront turns.0 after = front_then turns.0 second.0 after second.1 second_ends in
-      let m1 = maps_on catalogue turns.0 in
-      let m2 = maps_on catalogue second.0 in
-      let m3 = maps_on catalogue third.0 in
-      let m4 = maps_on catalogue fourth.0 in
+      let third_ends : IsFront h after = front_then h i after fourth.0 fourth.2 in
+      let second_ends : IsFront g after = front_then g h after third.0 third_ends in
+      let first_ends : IsFront f after = front_then f g after second.0 second_ends in
+      let m1 = maps_on catalogue f in
+      let m2 = maps_on catalogue g in
+      let m3 = maps_on catalogue h in
+      let m4 = maps_on catalogue i in
       let x2 = next_xid xid in
       let x3 = next_xid x2 in
       let x4 = next_xid x3 in
-      let room = laws.room m3 peer.port domain map 0 [] (served_before catalogue third.0 after third_ends served)
+      let room = laws.room m3 peer.port domain map 0 [] (served_before catalogue h after third_ends served)
       (any_room (row_check m3 peer.port domain map)) in
       let gives4 : GivesSecond peer domain map (moments_on catalogue fronts) x4 (sent_all (d ∷ []) ++ rest) =
       sent_gives m4 peer reply_max (order_call domain map x4) _ _ d [] rest (λ behind. ⊤)
-      (laws.order m4 peer x4 domain (served_before catalogue fourth.0 after fourth.3 served) (next_is_word x3) dlen map
-      mlen) fourth.2 tt in
+      (laws.order m4 peer x4 domain (served_before catalogue i after fourth.2 served) (next_is_word x3) dlen map
+      mlen) fourth.1 tt in
       let gives3 : GivesAll peer domain map (moments_on catalogue fronts) x3 (sent_all (c ∷ d ∷ []) ++ rest) =
       sent_gives m3 peer all_max (all_call domain map x3) _ _ c (d ∷ []) rest _
-      (laws.all m3 peer x3 domain (served_before catalogue third.0 after third_ends served) (next_is_word x2) dlen map
-      mlen (empty_draft 0 []) room) third.2 (λ ok. gives4) in
+      (laws.all m3 peer x3 domain (served_before catalogue h after third_ends served) (next_is_word x2) dlen map
+      mlen (empty_draft 0 []) room) third.1 (λ ok. gives4) in
       let gives2 : GivesMaster peer domain map (moments_on catalogue fronts) x2 (sent_all (b ∷ c ∷ d ∷ []) ++ rest) =
       sent_gives m2 peer reply_max (master_call domain map x2) _ _ b (c ∷ d ∷ []) rest _
-      (laws.master m2 peer x2 domain (served_before catalogue second.0 after second_ends served) (next_is_word xid) dlen
-      map mlen) second.2 (λ ok. gives3) in (
+      (laws.master m2 peer x2 domain (served_before catalogue g after second_ends served) (next_is_word xid) dlen
+      map mlen) second.1 (λ ok. gives3) in (
         fronts,
         refl,
+        refl,
         sent_gives m1 peer reply_max (order_call domain map xid) _ _ a (b ∷ c ∷ d ∷ []) rest _
-            (laws.order m1 peer xid domain (served_before catalogue turns.0 after first_ends served) word dlen map mlen) turns.2
+            (laws.order m1 peer xid domain (served_before catalogue f after first_ends served) word dlen map mlen) turns.1
             (λ ok. gives2),
       )

@@ -1,5 +1,5 @@
 -- What is fetched from a server, and what that shows.
-use Rattle.std.specs.Prelude.{◌≡◌, ◌≢◌, ◌⊎◌, ℕ, ◌<◌, ◌≤◌, false, List, [], length, None, Ok}
+use Rattle.std.specs.Prelude.{◌≡◌, ◌≢◌, ◌⊎◌, ℕ, ◌<◌, ◌≤◌, false, List, [], ◌∷◌, length, None, Ok}
 use Rattle.yp_io.specs.declared.stream.Peer.{Peer}
 use Rattle.yp_rpc.specs.Laws.{IsWord}
 use Rattle.yp_msgs.specs.Numbers.{name_max}
@@ -25,6 +25,10 @@ pub record Fronts : Type 0 where
   pub goes_on : IsFront third fourth
   pub ends : IsFront fourth log
   pub rises : IsRisingLog log
+
+-- the four
+abbrev pub all_fronts : Fronts → List Log
+all_fronts fronts = fronts.first ∷ fronts.second ∷ fronts.third ∷ fronts.fourth ∷ []
 
 -- what a server with this catalogue knows then
 abbrev pub moments_on : Catalogue → Fronts → Moments

@@ -7,7 +7,7 @@ ghost use Rattle.yp_source.specs.Turns.{TurnsGiveFetch};
 ghost use Rattle.yp_source.specs.Runs.{WireIsFetched, RunIsFetched};
 
 use yp_exchange::laws::{
-    all_tells, calls_have_replies, master_tells, order_tells, room_for_version, run_is_in_turn,
+    all_tells, calls_have_replies, master_tells, order_tells, room_for_version, run_is_on_logs,
     sent_is_whole,
 };
 use yp_rpc::laws::{first_is_one, rest_is_not_whole};
@@ -57,8 +57,8 @@ pub fn shown_is_fetched()
     rising_stays();
 }
 
-/// Where a server answered the calls of a fetch in turn, what it sent gives the fetch its replies, on four fronts of
-/// its log.
+/// Where a server answered the calls of a fetch in turn, what it sent gives the fetch its replies, on the four fronts
+/// of its log on which it answered them.
 pub fn turns_give_fetch()
     ensures { TurnsGiveFetch }
 {
@@ -80,7 +80,7 @@ pub fn run_is_fetched()
     ensures { RunIsFetched }
 {
     calls_have_replies();
-    run_is_in_turn();
+    run_is_on_logs();
     turns_give_fetch();
     fetched_is_shown();
     wire_is_fetched();

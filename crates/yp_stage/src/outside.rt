@@ -11,7 +11,7 @@ use crate::row::{Datagram, NEVER, Row};
 use std::alloc::{AllocError, Global};
 use yp_board::MapName;
 use yp_io::{
-    Called, Letter, MemCall, MemDial, MemDisk, MemInbox, MemListen, MemSink, MemSource, MemTexts,
+    Called, Letter, MemCall, MemDial, MemDisk, MemInbox, MemListen, MemSink, MemSource, MemTexts, Origin,
     MemWire, OWN_HOST, Pair, Peer, SetClock, TextFile,
 };
 use yp_tools::{NamedDisk, Outside, disk_names, named_disks};
@@ -160,9 +160,10 @@ fn call_of(
     ensures { IfOk result IsNewCall }
 {
     let input = bytes_of(alloc, words)?;
+    let wire = wire_of(alloc, &input, piece, reads, writes)?;
     Ok(Called {
-        peer: CALLER,
-        wire: wire_of(alloc, &input, piece, reads, writes)?,
+        origin: Origin::new(CALLER, &wire),
+        wire,
     })
 }
 

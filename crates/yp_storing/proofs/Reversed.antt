@@ -21,13 +21,14 @@ use Rattle.yp_office.specs.declared.office.Office.{Office}
 use Rattle.yp_office.specs.declared.status.Status.{Status}
 use Rattle.yp_office.specs.declared.status.Status.TheVariants.{Done, ReadFault, WriteFault, NoMemory, Damaged, NoVersion}
 use Rattle.yp_office.specs.declared.status.Status.TheVariants.{DiskFault, Rows, OrderSpent, Refused, GenerationsSpent}
-use Rattle.yp_office.specs.Disks.{names_of, faults_of}
+use Rattle.yp_office.specs.Disks.{names_of, faults_of, faults_at}
 use Rattle.yp_office.specs.Seeing.{Seeing, output, moment, WriteFails, DiskFails}
 use Rattle.yp_storing.specs.declared.build.Built.{Built}
 use Rattle.yp_storing.specs.Build.{build_line, TellsLine, tells_stored, may_have_written}
 use Rattle.yp_storing.specs.Revnet.{Job, job_of, Site, site_of, HasOrder, Held, IsHeld, IsPlanned, IsHindered}
 use Rattle.yp_storing.specs.Revnet.{IsFree, Stops, is_stop}
 use Rattle.yp_storing.specs.Revnet.{revnet_may_end, OfMade, IsOf, line_of, Reverses, AtFiles, IsBeforeOrMade, Ends, Renews}
+use Rattle.yp_storing.specs.Revnet.{OwnDiskFails}
 use Rattle.yp_storing.specs.Revnet.{IsToldEnd, store_history, netgroup_history, AtSite, RevnetDoes}
 use Rattle.yp_storing.proofs.OnDisk.{nothing_left}
 use Rattle.yp_storing.proofs.Ending.{line_written, line_no_disk}
@@ -94,9 +95,9 @@ early_when store (Ok built) status before after P told h mild =
 early_when store (Err why) status before after P told h mild =
     h (subst (λ (s : Status). may_have_written s ≡ false) told.0 mild)
 
-disk_when : (store : Name) (result : Result Built Status) (status : Status) (before after : Option (List ℕ)) (P : Type 0)
-    (map : MapName) → IsToldEnd store result status before after
-    → IfErr result (λ why. (map : MapName) → why ≡ DiskFault map → P) → status ≡ DiskFault map → P
+disk_when : (store : Name) (result : Result Built Status) (status : Status) (before after : Option (List ℕ))
+    (P : MapName → Type 0) (map : MapName) → IsToldEnd store result status before after
+    → IfErr result (λ why. (map : MapName) → why ≡ DiskFault map → P map) → status ≡ DiskFault map → P map
 disk_when store (Ok built) status before after P map told h e =
     absurd (line_no_disk (build_line store built.order built.rows built.generation) status before after map told e)
 disk_when store (Err why) status before after P map told h e = h map (sym told.0 ∙ e)
@@ -184,6 +185,9 @@ pub record Acted {S K D C A I T : Type 0} (seen : Seeing S K D C A I T) (name : 
   pub renews : Renews (job_of name store) now result (store_history seen old) (store_history seen new)
       (netgroup_history seen old) (netgroup_history seen new)
       (faults_of seen.disk.faults old.disks.items) (faults_of seen.disk.faults new.disks.items)
+  pub own_disk : IfErr result (λ why. (map : MapName) → why ≡ DiskFault map → OwnDiskFails store (name_view map)
+      (faults_at seen.disk.faults 0 old.disks.items) (faults_at seen.disk.faults 0 new.disks.items)
+      (faults_at seen.disk.faults 1 old.disks.items) (faults_at seen.disk.faults 1 new.disks.items))
   pub stop : IfErr result (λ why. is_stop why ≡ true)
   pub ends : IsToldEnd store result status (output seen old) (output seen new)
   pub may_end : IsTrue (revnet_may_end status)
@@ -212,7 +216,7 @@ revnet_does seen name store now result status old new did =
     at_each file netgroup now (λ site. Ends job site made result) (λ site. Reverses job site made status before after)
     (λ h n ends. end_told job (site_of h n now) store made result status before after refl ends did.ends) did.renews.ends in
     let disk : (map : MapName) → status ≡ DiskFault map → DiskFails seen old new =
-    λ map e. disk_when store result status before after (DiskFails seen old new) map did.ends did.renews.cause e in
+    λ map e. disk_when store result status before after (λ map. DiskFails seen old new) map did.ends did.renews.cause e in
     record {
       made = made;
       planned = some_more made (λ version. AtFiles file netgroup now (λ site. IsPlanned job site version))
@@ -231,6 +235,12 @@ revnet_does seen name store now result status old new did =
           (λ h n is free disks writes. whole job (site_of h n now) free made status before after is (λ e. writes (did.write_fault e)) (λ map e. disks (disk map e)))
           tells);
       causes = record { read_fault = λ e. absurd (no_read status did.may_end e); write_fault = did.write_fault; disk_fault = disk };
+      own_disk = λ map e.
+          disk_when store result status before after
+          (λ map. OwnDiskFails store (name_view map)
+          (faults_at seen.disk.faults 0 old.disks.items) (faults_at seen.disk.faults 0 new.disks.items)
+          (faults_at seen.disk.faults 1 old.disks.items) (faults_at seen.disk.faults 1 new.disks.items))
+          map did.ends did.own_disk e;
       names = did.names;
       told = did.told;
       stays = did.stays;
@@ -262,6 +272,7 @@ forgone seen name store old =
           (λ now. at_all file netgroup now (λ site. IsFree job site → (DiskFails seen old old → ⊥) → (WriteFails seen old old → ⊥) → (NoMemory ≡ Done) ⊎ (NoMemory ≡ NoMemory))
           (λ h n free disks writes. inr refl));
       causes = record { read_fault = λ e. absurd cc; write_fault = λ e. absurd cc; disk_fault = λ map e. absurd cc };
+      own_disk = λ map e. absurd cc;
       names = refl;
       told = refl;
       stays = refl;

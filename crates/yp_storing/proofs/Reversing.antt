@@ -1,5 +1,5 @@
 -- What `revnet` does to its disks, by what was loaded, made and stored.
-use Rattle.std.proofs.Common.{◌≡◌, ◌⊎◌, inl, inr, ⊎_elim, ℕ, ◌+◌, ◌≤◌, true, false, List, length, Option, Some, None}
+use Rattle.std.proofs.Common.{◌≡◌, ◌⊎◌, inl, inr, ⊎_elim, ℕ, ◌+◌, ◌≤◌, true, false, List, [], ◌∷◌, ◌++◌, length, Option, Some, None}
 use Rattle.std.proofs.Common.{Result, Ok, Err, refl, sym, ap, ◌∙◌, subst, arith, option_map}
 use Rattle.std.specs.Prelude.{IfSome, IfErr, OnOk}
 use Rattle.std.specs.Result.{IsErrAnd}
@@ -25,9 +25,10 @@ use Rattle.yp_office.specs.declared.status.Status.TheVariants.{NoMemory, Damaged
 use Rattle.yp_office.specs.declared.status.Status.TheVariants.{Rows, OrderSpent, Refused, GenerationsSpent}
 use Rattle.yp_storing.specs.declared.build.Built.{Built}
 use Rattle.yp_storing.specs.Build.{LeavesFew, may_have_written}
-use Rattle.yp_office.specs.Disks.{IsOnlyRead}
+use Rattle.yp_office.specs.declared.disks.NamedDisk.{NamedDisk}
+use Rattle.yp_office.specs.Disks.{names_of, faults_at, IsOnlyRead}
 use Rattle.yp_storing.specs.Revnet.{Job, Site, site_of, IsMade, IsUnmade, Held, IsHeld, IsPlanned, IsHindered, IsSound}
-use Rattle.yp_storing.specs.Revnet.{IsSpent, Stops, StopsCommit, AtFiles, IsOf, IsBeforeOrMade, Ends, Renews}
+use Rattle.yp_storing.specs.Revnet.{OwnDiskFails, IsSpent, Stops, StopsCommit, AtFiles, IsOf, IsBeforeOrMade, Ends, Renews}
 use Rattle.yp_io.specs.DiskLaws.{counts_now}
 use Rattle.yp_storing.proofs.OnDisk.{then, nothing_left}
 
@@ -67,6 +68,39 @@ pub err_same : {T : Type 0} (result : Result T Status) (status : Status) (P : St
     → IsErrAnd result (λ other. other ≡ status) → P status → IfErr result P
 err_same (Ok x) status P is h = tt
 err_same (Err other) status P is h = subst P (sym is) h
+
+-- two disks are taken from the end of a list that has these two alone
+pub no_rest : {D : Type 0} (rest : List (NamedDisk D)) (first second : NamedDisk D) (a b : Name)
+    → names_of ((rest ++ first ∷ []) ++ second ∷ []) ≡ a ∷ b ∷ [] → rest ≡ []
+no_rest [] first second a b h = refl
+no_rest (x ∷ []) first second a b h = absurd cc
+no_rest (x ∷ y ∷ []) first second a b h = absurd cc
+no_rest (x ∷ y ∷ z ∷ more) first second a b h = absurd cc
+
+-- so each is at its place
+pub two_faults : {D : Type 0} (faults : D → ℕ) (disks middle rest : List (NamedDisk D)) (first second : NamedDisk D)
+    → disks ≡ middle ++ second ∷ [] → middle ≡ rest ++ first ∷ [] → rest ≡ []
+    → (faults_at faults 0 disks ≡ faults first.disk) × (faults_at faults 1 disks ≡ faults second.disk)
+two_faults {D} faults disks middle rest first second last before none =
+    let whole : disks ≡ first ∷ second ∷ [] = last
+    ∙ ap (λ (l : List (NamedDisk D)). l ++ second ∷ []) (before ∙ ap (λ (l : List (NamedDisk D)). l ++ first ∷ []) none) in
+    (
+      ap (λ (l : List (NamedDisk D)). faults_at faults 0 l) whole,
+      ap (λ (l : List (NamedDisk D)). faults_at faults 1 l) whole,
+    )
+
+-- the disk that is blamed, where its counts are told otherwise
+pub own_disk_as : (result : Result Built Status) (store : Name) (a a' b b' x x' y y' : ℕ)
+    → x ≡ a → x' ≡ a' → y ≡ b → y' ≡ b'
+    → IfErr result (λ why. (map : MapName) → why ≡ DiskFault map → OwnDiskFails store (name_view map) a a' b b')
+    → IfErr result (λ why. (map : MapName) → why ≡ DiskFault map → OwnDiskFails store (name_view map) x x' y y')
+own_disk_as result store a a' b b' x x' y y' first first' second second' h =
+    let Blames : ℕ → ℕ → ℕ → ℕ → Type 0 = λ p p' q q'. IfErr result
+    (λ why. (map : MapName) → why ≡ DiskFault map → OwnDiskFails store (name_view map) p p' q q') in
+    subst (λ (n : ℕ). Blames n x' y y') (sym first)
+    (subst (λ (n : ℕ). Blames a n y y') (sym first')
+    (subst (λ (n : ℕ). Blames a a' n y') (sym second)
+    (subst (λ (n : ℕ). Blames a a' b n) (sym second') h)))
 
 pub renews_err : (job : Job) (now : ℕ) (old new netgroup netgroup' : Option History) (faults faults' : ℕ)
     (result : Result Built Status) (status : Status) → IsErrAnd result (λ other. other ≡ status)
@@ -151,6 +185,23 @@ disk_fault_is store (slot.Damaged at rule) _ other fails e = absurd fails
 disk_fault_is store slot.DiskFault status other fails e = refl
 disk_fault_is store slot.NoMemory NoMemory other fails e = absurd cc
 disk_fault_is store slot.NoMemory _ other fails e = absurd fails
+
+-- and it names the map
+pub disk_fault_names : (store : Name) (fault : SlotFault) (status : Status) (map : MapName) → Fails store fault status
+    → status ≡ DiskFault map → (fault ≡ slot.DiskFault) × (name_view map ≡ store)
+disk_fault_names store fault status map fails e =
+    let is = disk_fault_is store fault status map fails e in
+    let told : Fails store fault (DiskFault map) = subst (λ (s : Status). Fails store fault s) e fails in
+    (is, subst (λ (f : SlotFault). Fails store f (DiskFault map)) is told)
+
+-- the disk of this map is blamed where nothing else is
+pub made_no_disk : (name : List ℕ) (field : Field) (now : ℕ) (last : Option MapVersion) (rows : List Row) (status : Status)
+    (map : MapName) → IsUnmade name field now last rows status → status ≡ DiskFault map → ⊥
+made_no_disk name field now last rows status map h e = subst (λ (s : Status). IsUnmade name field now last rows s) e h
+
+pub stops_names : (store : Name) (generation : ℕ) (status : Status) (map : MapName) → StopsCommit store generation status
+    → status ≡ DiskFault map → name_view map ≡ store
+stops_names store generation status map h e = subst (λ (s : Status). StopsCommit store generation s) e h
 
 -- what was loaded is what the file stands for
 pub loaded_is : (file : stood.Stands) (last : Option MapVersion) → Loads file (Ok last) → file ≡ stands_for last

@@ -27,7 +27,7 @@ use Rattle.yp_office.specs.declared.office.Office.{Office}
 use Rattle.yp_office.specs.declared.status.Status.{Status}
 use Rattle.yp_office.specs.declared.status.Status.TheVariants.{Done, WriteFault, NoMemory, Damaged, NoVersion}
 use Rattle.yp_office.specs.declared.status.Status.TheVariants.{DiskFault, Rows, OrderSpent, Refused, GenerationsSpent}
-use Rattle.yp_office.specs.Disks.{names_of, told_at, IsOnlyRead}
+use Rattle.yp_office.specs.Disks.{names_of, told_at, faults_at, IsOnlyRead}
 use Rattle.yp_office.specs.Seeing.{Seeing, output, moment, WriteFails, DiskFails, HasCauses}
 use Rattle.yp_storing.specs.declared.build.Built.{Built}
 use Rattle.yp_storing.specs.Build.{build_line, TellsLine, LeavesFew, tells_stored, may_have_written}
@@ -200,6 +200,12 @@ Ends job site made (Ok built) = OfMade made (λ version. built ≡ record {
 })
 Ends job site made (Err status) = Stops job site status
 
+-- The disk of a map of this name failed, by the counts of the disk of the map that is made and of that of the
+-- netgroups.
+abbrev pub OwnDiskFails : (store map : Name) → (faults faults' others others' : ℕ) → Type 0
+OwnDiskFails store map faults faults' others others' =
+    ((map ≡ store) × HasRisen faults faults') ⊎ ((map ≡ netgroup_of store) × HasRisen others others')
+
 -- What is done to the disks of the map and of the netgroups, and how often they have failed, before and after.
 pub record Renews (job : Job) (now : ℕ) (result : Result Built Status) (old new netgroup netgroup' : Option History)
     (faults faults' : ℕ) : Type 0 where
@@ -246,7 +252,7 @@ pub record IsFree (job : Job) (site : Site) : Type 0 where
 -- What `revnet` does: the reverse of the netgroups that stand is stored behind the version that stands, or the first
 -- reason why there is none is told. At each moment a crash leaves what it might have left before, or a file that stands
 -- for what stood or for the version that was made. To the netgroups' disk nothing is written. Where nothing is in the
--- way and nothing fails, the version is stored and told.
+-- way and nothing fails, the version is stored and told. The files and the moment fix that version.
 pub record RevnetDoes {S K D C A I T : Type 0} (seen : Seeing S K D C A I T) (name : List ℕ) (store : Name)
     (status : Status) (old new : Office S K D C A I T) : Type 0 where
   pub made : Option MapVersion
@@ -264,6 +270,9 @@ pub record RevnetDoes {S K D C A I T : Type 0} (seen : Seeing S K D C A I T) (na
   pub complete : AtSite seen old (λ site. IsFree (job_of name store) site
       → ¬ DiskFails seen old new → ¬ WriteFails seen old new → (status ≡ Done) ⊎ (status ≡ NoMemory))
   pub causes : HasCauses seen status old new
+  pub own_disk : (map : MapName) → status ≡ DiskFault map → OwnDiskFails store (name_view map)
+      (faults_at seen.disk.faults 0 old.disks.items) (faults_at seen.disk.faults 0 new.disks.items)
+      (faults_at seen.disk.faults 1 old.disks.items) (faults_at seen.disk.faults 1 new.disks.items)
   pub names : names_of new.disks.items ≡ names_of old.disks.items
   pub told : moment seen new ≡ moment seen old
   pub stays : new ≡ record old {

@@ -141,7 +141,8 @@ pub record StoresFetched (order : Order) (shows : Option MapVersion) (outcome : 
   pub few : LeavesFew old new
 
 -- What a transfer does to its dial and to the disk of its map: the four calls, or those up to the refusal, were made on
--- one wire to the host, and what came of them is stored or refused.
+-- one wire to the host, and what came of them is stored or refused. The disk tells what the file had, and the wire what
+-- came of the calls, unless it failed or memory ran out.
 pub record TransfersOn (order : Order) (result : Result Installed XfrFault) (before after : Dialing)
     (old new : Option History) (faults faults' : ℕ) : Type 0 where
   pub held : Held

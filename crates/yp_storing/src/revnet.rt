@@ -12,12 +12,12 @@ ghost use Rattle.yp_slot.specs.Slots.{is_ready};
 ghost use Rattle.yp_board.specs.Catalogues.{name_view};
 ghost use Rattle.yp_build.specs.After.{was_secure};
 ghost use Rattle.yp_words.specs.Words.{IsNamed, netgroup_of};
-ghost use Rattle.yp_office.specs.Disks.{names_of, faults_of, told_at};
+ghost use Rattle.yp_office.specs.Disks.{names_of, faults_of, faults_at, told_at};
 ghost use Rattle.yp_office.specs.Seeing.{seeing, IsPassedOn};
 ghost use Rattle.yp_office.specs.Status.{IsTellable};
 ghost use Rattle.yp_storing.specs.Build.{last_view, may_have_written, LeavesFew};
 ghost use Rattle.yp_storing.specs.Revnet.{job_of, field_of, HasOrder, IsMade, IsUnmade, is_stop};
-ghost use Rattle.yp_storing.specs.Revnet.{StopsCommit, IsOf, IsBeforeOrMade, Renews};
+ghost use Rattle.yp_storing.specs.Revnet.{StopsCommit, IsOf, IsBeforeOrMade, OwnDiskFails, Renews};
 ghost use Rattle.yp_storing.specs.Revnet.{IsToldEnd, RevnetDoes, revnet_may_end};
 
 use crate::build::{Built, tell_built};
@@ -146,6 +146,9 @@ fn renew<D: Disk>(
     ensures renews { Renews (job_of name.now (name_view names.store)) now result
         (D.history slot.old.disk) (D.history slot.new.disk) (D.history netgroup.old.disk) (D.history netgroup.new.disk)
         (D.faults slot.old.disk + D.faults netgroup.old.disk) (D.faults slot.new.disk + D.faults netgroup.new.disk) }
+    ensures own_disk { IfErr result (λ status. (map : MapName) → status ≡ Status.DiskFault map
+        → OwnDiskFails (name_view names.store) (name_view map) (D.faults slot.old.disk) (D.faults slot.new.disk)
+        (D.faults netgroup.old.disk) (D.faults netgroup.new.disk)) }
     ensures stop { IfErr result (λ status. is_stop status ≡ true) }
     ensures tellable { IfErr result IsTellable }
 {
@@ -187,6 +190,10 @@ fn renew_named<D: Disk>(
         (told_at D.history 0 disks.old.items) (told_at D.history 0 disks.new.items)
         (told_at D.history 1 disks.old.items) (told_at D.history 1 disks.new.items)
         (faults_of D.faults disks.old.items) (faults_of D.faults disks.new.items) }
+    ensures own_disk { IfErr result (λ status. (map : MapName) → status ≡ Status.DiskFault map
+        → OwnDiskFails (name_view names.store) (name_view map)
+        (faults_at D.faults 0 disks.old.items) (faults_at D.faults 0 disks.new.items)
+        (faults_at D.faults 1 disks.old.items) (faults_at D.faults 1 disks.new.items)) }
     ensures stop { IfErr result (λ status. is_stop status ≡ true) }
     ensures tellable { IfErr result IsTellable }
     ensures names { names_of disks.new.items ≡ names_of disks.old.items }

@@ -31,7 +31,8 @@ pub struct UdpInbox<R> {
 impl<R: Net> UdpInbox<R> {
     /// The inbox of a port. Nothing is opened yet.
     pub fn new(net: R, port: u16) -> UdpInbox<R>
-        ensures { ⟦<UdpInbox<R> as Inbox>⟧.faults result ≡ 0 }
+        ensures faults { ⟦<UdpInbox<R> as Inbox>⟧.faults result ≡ 0 }
+        ensures port { result.port ≡ port }
     {
         UdpInbox {
             net,
@@ -46,7 +47,8 @@ impl<R: Net> UdpInbox<R> {
     /// Opens the port ahead of the first call, so that what comes before that isn't lost. Where it can't be opened, the
     /// first call tries again, and fails.
     pub fn open(&mut self)
-        ensures { ⟦<UdpInbox<R> as Inbox>⟧.faults self.new ≡ ⟦<UdpInbox<R> as Inbox>⟧.faults self.old }
+        ensures faults { ⟦<UdpInbox<R> as Inbox>⟧.faults self.new ≡ ⟦<UdpInbox<R> as Inbox>⟧.faults self.old }
+        ensures port { self.new.port ≡ self.old.port }
     {
         let _ = opened(&self.net, self.port, &mut self.socket);
     }

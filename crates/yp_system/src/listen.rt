@@ -5,7 +5,7 @@ ghost use Rattle.std.specs.Net.Addr.{ipv4_octets};
 ghost use Rattle.std.specs.Net.Socket.{v4_ip, v4_port};
 ghost use Rattle.yp_io.specs.Dials.{IsFresh};
 ghost use Rattle.yp_io.specs.Counts.{next_count};
-ghost use Rattle.yp_io.specs.Calls.{IsFreshCall, Returns, ended_by};
+ghost use Rattle.yp_io.specs.Calls.{IsFreshCall, Returns, ended_by, halves_of};
 
 use crate::caller::Caller;
 use crate::inbox::peer_of;
@@ -15,7 +15,7 @@ use std::io::ErrorKind;
 use std::net::{Ipv4Addr, Net, SocketAddr, SocketAddrV4, TcpListener, TcpStream};
 use std::time::Duration;
 use std::{io, rt, thread};
-use yp_io::{Arrival, Called, Failed, Listen, Pair, Sink, Source, count_fault};
+use yp_io::{Arrival, Called, Failed, Listen, Origin, Pair, Sink, Source, count_fault};
 
 /// How long an accepted connection may bring no byte, or take none, in seconds. Then it fails, so that a silent caller
 /// keeps nobody waiting for longer.
@@ -55,7 +55,9 @@ impl<R: Net<Stream = TcpStream, Listener = TcpListener> + rt::Clock> TcpListen<R
     pub fn new(alloc: Global, system: R, port: u16, most: u32) -> TcpListen<R>
         ensures accepted { ⟦<TcpListen<R> as Listen>⟧.accepted result ≡ 0 }
         ensures most { ⟦<TcpListen<R> as Listen>⟧.most result ≡ most }
+        ensures returned { ⟦<TcpListen<R> as Listen>⟧.returned result ≡ 0 }
         ensures faults { ⟦<TcpListen<R> as Listen>⟧.faults result ≡ 0 }
+        ensures port { result.port ≡ port }
     {
         TcpListen::with_silence(
             alloc,
@@ -76,7 +78,9 @@ impl<R: Net<Stream = TcpStream, Listener = TcpListener> + rt::Clock> TcpListen<R
     ) -> TcpListen<R>
         ensures accepted { ⟦<TcpListen<R> as Listen>⟧.accepted result ≡ 0 }
         ensures most { ⟦<TcpListen<R> as Listen>⟧.most result ≡ most }
+        ensures returned { ⟦<TcpListen<R> as Listen>⟧.returned result ≡ 0 }
         ensures faults { ⟦<TcpListen<R> as Listen>⟧.faults result ≡ 0 }
+        ensures port { result.port ≡ port }
     {
         TcpListen {
             alloc,
@@ -96,7 +100,9 @@ impl<R: Net<Stream = TcpStream, Listener = TcpListener> + rt::Clock> TcpListen<R
     pub fn open(&mut self)
         ensures accepted { ⟦<TcpListen<R> as Listen>⟧.accepted self.new ≡ ⟦<TcpListen<R> as Listen>⟧.accepted self.old }
         ensures most { ⟦<TcpListen<R> as Listen>⟧.most self.new ≡ ⟦<TcpListen<R> as Listen>⟧.most self.old }
+        ensures returned { ⟦<TcpListen<R> as Listen>⟧.returned self.new ≡ ⟦<TcpListen<R> as Listen>⟧.returned self.old }
         ensures faults { ⟦<TcpListen<R> as Listen>⟧.faults self.new ≡ ⟦<TcpListen<R> as Listen>⟧.faults self.old }
+        ensures port { self.new.port ≡ self.old.port }
     {
         let _ = opened(&self.system, self.port, &mut self.listener);
     }
@@ -137,15 +143,14 @@ fn wire_of(alloc: Global, stream: TcpStream, silence: Duration) -> io::Result<Ca
 // Accepts one connection. A caller of which no wire can be made is let go.
 fn accept_one(alloc: Global, listener: &TcpListener, silence: Duration) -> io::Result<TcpCall>
     ensures { IfOk result (IsFreshCall
-        (⟦<BlockReader<Caller> as Source>⟧.faults)
-        (⟦<DirectWriter<TcpStream> as Sink>⟧.faults)
-        (⟦<DirectWriter<TcpStream> as Sink>⟧.output)) }
+        (halves_of ⟦<BlockReader<Caller> as Source>⟧ ⟦<DirectWriter<TcpStream> as Sink>⟧)) }
 {
     match listener.accept()? {
         (stream, SocketAddr::V4(from)) => {
             let wire = wire_of(alloc, stream, silence)?;
             let peer = peer_of(&from);
-            Ok(Called { peer, wire })
+            let origin = Origin::new(peer, &wire);
+            Ok(Called { origin, wire })
         }
         (_, SocketAddr::V6(_)) => Err(ErrorKind::Unsupported.into()),
     }
@@ -159,9 +164,7 @@ fn accept_next<R: rt::Clock>(
     silence: Duration,
 ) -> Option<TcpCall>
     ensures { IfSome result (IsFreshCall
-        (⟦<BlockReader<Caller> as Source>⟧.faults)
-        (⟦<DirectWriter<TcpStream> as Sink>⟧.faults)
-        (⟦<DirectWriter<TcpStream> as Sink>⟧.output)) }
+        (halves_of ⟦<BlockReader<Caller> as Source>⟧ ⟦<DirectWriter<TcpStream> as Sink>⟧)) }
 {
     for _ in 0..TRIES {
         match accept_one(alloc, listener, silence) {
@@ -206,11 +209,7 @@ impl<R: Net<Stream = TcpStream, Listener = TcpListener> + rt::Clock> Listen for 
 
     fn back(&mut self, call: TcpCall)
         ensures past { Returns
-            (ended_by
-            (⟦<BlockReader<Caller> as Source>⟧.input)
-            (⟦<DirectWriter<TcpStream> as Sink>⟧.output)
-            (⟦<DirectWriter<TcpStream> as Sink>⟧.flushed)
-            call)
+            (ended_by (halves_of ⟦<BlockReader<Caller> as Source>⟧ ⟦<DirectWriter<TcpStream> as Sink>⟧) call)
             (⟦<TcpListen<R> as Listen>⟧.past self.old)
             (⟦<TcpListen<R> as Listen>⟧.past self.new) }
         ensures most { ⟦<TcpListen<R> as Listen>⟧.most self.new ≡ ⟦<TcpListen<R> as Listen>⟧.most self.old }

@@ -114,16 +114,16 @@ module _ {S K D C A I T : Type 0} (seen : Seeing S K D C A I T) (order : Order) 
   stored_of P held outcome (Err why) Failed of_source is comes stored tells told =
       absurd (not_told order.store why status _ _ tells told)
 
-  module _ (catalogue : Catalogue) (after : Log) where
-    pub of_run : (caller : Peer) (turns : List Turn) (rest : List ℕ) (before : Log) → RunIsFetched
+  module _ (catalogue : Catalogue) (logs : List Log) where
+    pub of_run : (caller : Peer) (turns : List Turn) (rest : List ℕ) (before after : Log) → RunIsFetched
         → length order.store.0 ≤ 64 → length order.store.1 ≤ 64 → XfrDoes seen order status old new
-        → AnswersFetch catalogue caller order.store.0 order.store.1 turns before after
+        → AnswersFetch catalogue caller order.store.0 order.store.1 turns logs before after
         → HasCome order.host.1 (sent_all (replies_of turns) ++ rest) (seen.dial.past old.dial) (seen.dial.past new.dial)
         → IsTrue (tells_stored status)
-        → IsStored (λ asked version. IsOfSource catalogue asked after version) order (history seen old) (history seen new)
-    of_run caller turns rest before law domain map does answers came told =
-        ⊎_elim (λ did. stored_of (λ asked version. IsOfSource catalogue asked after version) did.did.held did.did.outcome did.result _ (λ version is.
-        law catalogue order.host.1 caller (order.host ∷ []) order.host.0 (wanted order did.did.held) turns rest before
+        → IsStored (λ asked version. IsOfSource catalogue asked logs version) order (history seen old) (history seen new)
+    of_run caller turns rest before after law domain map does answers came told =
+        ⊎_elim (λ did. stored_of (λ asked version. IsOfSource catalogue asked logs version) did.did.held did.did.outcome did.result _ (λ version is.
+        law catalogue order.host.1 caller (order.host ∷ []) order.host.0 (wanted order did.did.held) turns logs rest before
         after version (dialing seen old) (dialing seen new) domain map answers came
         (subst (λ (o : Outcome). FetchesFrom (order.host ∷ []) order.host.0 (wanted order did.did.held) o
         (dialing seen old) (dialing seen new)) is did.did.fetches))

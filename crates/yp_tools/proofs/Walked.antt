@@ -5,25 +5,30 @@ use Rattle.std.specs.Prelude.{IsTrue}
 use Rattle.std.proofs.lemmas.List.{append_cancel_left}
 use Rattle.yp_io.specs.declared.stream.Peer.{Peer}
 use Rattle.yp_io.specs.declared.stream.Failed.{Failed}
+use Rattle.yp_io.specs.Counts.{HasRisen}
 use Rattle.yp_io.specs.Inboxes.{Post}
+use Rattle.yp_slot.specs.declared.fault.SlotFault.{SlotFault}
+use Rattle.yp_slot.specs.declared.fault.SlotFault.TheVariants as slot
+use Rattle.yp_publish.specs.declared.install.Installed.{Installed}
 use Rattle.yp_version.specs.Rows.{listed}
 use Rattle.yp_version.specs.Versions.{MapVersion, unmarked}
 use Rattle.yp_version.specs.Drafts.{Draft}
-use Rattle.yp_board.specs.Catalogues.{Catalogue}
+use Rattle.yp_board.specs.Catalogues.{Catalogue, Name}
 use Rattle.yp_rpc.specs.declared.turns.Ended.{Ended}
 use Rattle.yp_rpc.specs.Turns.{GainsAll}
 use Rattle.yp_xfr.specs.declared.fault.XfrFault.{XfrFault}
 use Rattle.yp_xfr.specs.declared.fault.XfrFault.TheVariants as fault
-use Rattle.yp_xfr.specs.Fetching.{Outcome}
+use Rattle.yp_xfr.specs.Fetching.{Outcome, Wanted}
 use Rattle.yp_enum.specs.Standings.{Standing, HasEnded, refusal}
 use Rattle.yp_enum.specs.Schedules.{walk_by}
-use Rattle.yp_walked.specs.Laws.{AnswersWalk, IsWalkedOf, DeliveredIsOfSource}
+use Rattle.yp_walked.specs.Laws.{AnswersWalk, IsWalkedOf, IsSkewOf, DeliveredIsOfSource, DeliveredSkews}
 use Rattle.yp_office.specs.declared.office.Office.{Office}
 use Rattle.yp_office.specs.declared.status.Status.{Status}
-use Rattle.yp_office.specs.declared.status.Status.TheVariants.{Done, WriteFault, NoMemory, InboxFault, Unanswered}
+use Rattle.yp_office.specs.declared.status.Status.TheVariants.{Done, WriteFault, NoMemory, InboxFault, Unanswered, Xfr}
+use Rattle.yp_office.specs.Files.{Fails}
 use Rattle.yp_office.specs.Seeing.{Seeing, history, WriteFails, DiskFails, InboxFails}
 use Rattle.yp_storing.specs.Build.{tells_stored}
-use Rattle.yp_storing.specs.Xfr.{Order, Held, wanted, against}
+use Rattle.yp_storing.specs.Xfr.{Order, Held, Comes, Tells, wanted, against, disk_faults}
 use Rattle.yp_mailing.specs.Telling.{box}
 use Rattle.yp_walking.specs.declared.walker.Came.{Came}
 use Rattle.yp_walking.specs.declared.walker.Came.TheVariants.{Outcome as HasOutcome, Spent, Failed as HasFailed}
@@ -86,6 +91,53 @@ vain_told turns HasFailed status is told =
     let wrong : IsTrue (tells_stored InboxFault) = subst (λ (s : Status). IsTrue (tells_stored s)) is told in cc
 vain_told turns (HasOutcome outcome) status is told = is
 
+-- ---- a walk that met two orders
+
+-- they are told of that alone
+told_skew : (store : Name) (result : Result Installed XfrFault) (status : Status) (first second : ℕ)
+    (before after : Option (List ℕ)) → Tells store result status before after
+    → status ≡ Xfr (fault.Skew first second) → result ≡ Err (fault.Skew first second)
+told_skew store (Ok installed) status first second before after tells is =
+    absurd (subst (λ (s : Status). Tells store (Ok installed) s before after) is tells)
+told_skew store (Err fault.NoMemory) status first second before after tells is =
+    absurd (let wrong : NoMemory ≡ Xfr (fault.Skew first second) = sym tells.0 ∙ is in cc)
+told_skew store (Err why) status first second before after tells is =
+    let both : Xfr why ≡ Xfr (fault.Skew first second) = sym tells.0 ∙ is in
+    let same : why ≡ fault.Skew first second = cc in
+    ap (λ (w : XfrFault). Err w) same
+
+came_skew : (order : Order) (held : Held) (Failed : Type 0) (outcome : Outcome) (first second : ℕ)
+    → Comes order held Failed outcome (Err (fault.Skew first second)) → outcome ≡ Err (fault.Skew first second)
+came_skew order held Failed (Ok version) first second comes = absurd comes
+came_skew order held Failed (Err why) first second comes =
+    let same : why ≡ fault.Skew first second = cc in
+    ap (λ (w : XfrFault). Err w) same
+
+ended_skew : (end : Result Ended Failed) (standing : Standing) (first second : ℕ)
+    → IsCame end standing (HasOutcome (Err (fault.Skew first second))) → standing ≡ HasEnded (Err (fault.Skew first second))
+ended_skew (Ok end) (HasEnded (Ok draft)) first second came =
+    absurd (let wrong : fault.Skew first second ≡ fault.NoMemory = came in cc)
+ended_skew (Ok end) (HasEnded (Err why)) first second came =
+    let same : why ≡ fault.Skew first second = cc in
+    ap (λ (w : XfrFault). HasEnded (Err w)) same
+ended_skew (Ok end) _ first second came = absurd came
+ended_skew (Err why) standing first second came = absurd came
+
+vain_skew : (turns : ℕ) (came : Came) (status : Status) (why : XfrFault) → IsVain turns came status
+    → status ≡ Xfr why → ⊥
+vain_skew turns Spent status why is skew = let wrong : Unanswered turns ≡ Xfr why = sym is ∙ skew in cc
+vain_skew turns HasFailed status why is skew = let wrong : InboxFault ≡ Xfr why = sym is ∙ skew in cc
+vain_skew turns (HasOutcome outcome) status why is skew = is
+
+declined_skew : (store : Name) (cause : SlotFault) (status : Status) (why : XfrFault) → Fails store cause status
+    → status ≡ Xfr why → ⊥
+declined_skew store cause status why fails is = by cause (subst (λ (s : Status). Fails store cause s) is fails)
+  where
+    by : (c : SlotFault) → Fails store c (Xfr why) → ⊥
+    by (slot.Damaged at rule) f = f
+    by slot.DiskFault f = f
+    by slot.NoMemory f = f
+
 module _ {S K D C A I T : Type 0} (seen : Seeing S K D C A I T) (order : Order) (turns : ℕ) (status : Status)
     (old new : Office S K D C A I T) (posts : List Post) (held : Held) (told : IsToldHeld (history seen old) held)
     (happened : Happened seen posts old new) where
@@ -111,13 +163,17 @@ module _ {S K D C A I T : Type 0} (seen : Seeing S K D C A I T) (order : Order) 
       (λ out. inr out) walks.stands
 
   pub of_walk : (catalogue : Catalogue) (caller : Peer) → DeliveredIsOfSource → WalkDoes seen order turns status old new
-      → AnswersWalk catalogue caller order.host.1 (wanted order held) (heard_of posts)
-      → IsTrue (tells_stored status) → IsStored (IsWalkedOf catalogue) order (history seen old) (history seen new)
+      → (answers : AnswersWalk catalogue caller order.host.1 (wanted order held) (heard_of posts))
+      → IsTrue (tells_stored status)
+      → IsStored (λ asked version. IsWalkedOf catalogue caller order.host.1 asked (heard_of posts) answers.log
+      answers.last.front version) order (history seen old) (history seen new)
   of_walk catalogue caller law does answers tells =
+      let Of : Wanted → MapVersion → Type 0 = λ asked version. IsWalkedOf catalogue caller order.host.1 asked
+      (heard_of posts) answers.log answers.last.front version in
       ⊎_elim
       (λ (did : Walks seen order turns status old new).
       let same = held_same (history seen old) did.did.held held did.did.stores.is_held told in
-      stored_of seen order status old new (IsWalkedOf catalogue) did.did.held did.did.outcome did.result _
+      stored_of seen order status old new Of did.did.held did.did.outcome did.result _
       (λ version is.
       let walks = did.did.walks in
       let ended = with_rows walks.end walks.last.walk.standing version
@@ -127,12 +183,42 @@ module _ {S K D C A I T : Type 0} (seen : Seeing S K D C A I T) (order : Order) 
       (λ out. absurd (let wrong : refusal fault.NoMemory ≡ HasEnded (Ok ended.0) = sym out ∙ ended.1 in cc))
       (stood did.did.held (HasOutcome did.did.outcome) same walks) in
       let one = law catalogue caller order.host.1 (wanted order held) (heard_of posts) ended.0 answers here in
-      subst (λ (h : Held). IsWalkedOf catalogue (wanted order h) version) (sym same)
-      (subst (λ (v : MapVersion). IsWalkedOf catalogue (wanted order held) v) (sym ended.2) one))
+      subst (λ (h : Held). Of (wanted order h) version) (sym same)
+      (subst (λ (v : MapVersion). Of (wanted order held) v) (sym ended.2) one))
       did.did.stores.is_held did.did.stores.comes did.did.stores.stored did.tells tells)
       (λ others. ⊎_elim
       (λ (vain : WalksForNothing seen order turns status old new). absurd (vain_told turns vain.came status vain.tells tells))
       (λ declined. absurd (not_loaded order.store declined.why status declined.tells tells)) others)
+      does.does
+
+  pub of_skew : (catalogue : Catalogue) (caller : Peer) (first second : ℕ) → DeliveredSkews
+      → WalkDoes seen order turns status old new
+      → (answers : AnswersWalk catalogue caller order.host.1 (wanted order held) (heard_of posts))
+      → status ≡ Xfr (fault.Skew first second)
+      → IsSkewOf catalogue caller order.host.1 (wanted order held) (heard_of posts) answers.log answers.last.front
+      first second
+  of_skew catalogue caller first second law does answers is =
+      ⊎_elim
+      (λ (did : Walks seen order turns status old new).
+      let same = held_same (history seen old) did.did.held held did.did.stores.is_held told in
+      let walks = did.did.walks in
+      let result = told_skew order.store did.result status first second _ _ did.tells is in
+      let outcome = came_skew order did.did.held _ did.did.outcome first second
+      (subst (λ (r : Result Installed XfrFault). Comes order did.did.held
+      (HasRisen (disk_faults seen old) (disk_faults seen new)) did.did.outcome r) result did.did.stores.comes) in
+      let ended = ended_skew walks.end walks.last.walk.standing first second
+      (subst (λ (o : Outcome). IsCame walks.end walks.last.walk.standing (HasOutcome o)) outcome walks.comes) in
+      let here : (walk_by order.host.1 (wanted order held) (heard_of posts)).standing
+      ≡ HasEnded (Err (fault.Skew first second)) =
+      ⊎_elim (λ at. ap (λ walk. walk.standing) (sym at) ∙ ended)
+      (λ out. absurd (let wrong : refusal fault.NoMemory ≡ HasEnded (Err (fault.Skew first second)) = sym out ∙ ended in cc))
+      (stood did.did.held (HasOutcome did.did.outcome) same walks) in
+      law catalogue caller order.host.1 (wanted order held) (heard_of posts) first second answers here)
+      (λ others. ⊎_elim
+      (λ (vain : WalksForNothing seen order turns status old new).
+      absurd (vain_skew turns vain.came status (fault.Skew first second) vain.tells is))
+      (λ declined. absurd (declined_skew order.store declined.why status (fault.Skew first second) declined.tells is))
+      others)
       does.does
 
   pub whole : (draft : Draft) → WalkDoes seen order turns status old new

@@ -44,7 +44,8 @@ abbrev pub scene : {S K D C A I T : Type 0} → Seeing S K D C A I T → Office 
 scene seen office =
     scene_of seen.dial.past seen.dial.faults seen.sink.output seen.sink.faults office.dial office.wire.sink
 
--- A question was asked, and its answer or fault is told by this status.
+-- A question was asked, and its answer or fault is told by this status. The status and the wire that came fix the
+-- result, unless memory ran out.
 pub record AsksAs (peer : Peer) (question : ByteQuestion) (status : Status) (old new : Scene) : Type 0 where
   pub result : Result (Unit {0}) QueryFault
   pub asks : Asks peer question result old new
@@ -91,3 +92,4 @@ pub record AskDoes {S K D C A I T : Type 0} (seen : Seeing S K D C A I T) (peer 
   pub write_fault : status ≡ WriteFault → WriteFails seen old new ⊎ DialFails seen old new
   pub dial_fault : status ≡ DialFault → DialFails seen old new
   pub stays : new ≡ record old { wire = record old.wire { sink = new.wire.sink }; dial = new.dial }
+  pub letters : seen.dial.letters new.dial ≡ seen.dial.letters old.dial

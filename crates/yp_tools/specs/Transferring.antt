@@ -23,7 +23,8 @@ use Rattle.yp_storing.specs.Build.{tells_stored}
 use Rattle.yp_storing.specs.Xfr.{Order, Held, IsHeld, wanted, marked, against, XfrDoes}
 
 -- A version of which P holds, for what was wanted, is stored, marked as the order says, behind what the file of the map
--- had: a crash leaves that version now, and nothing else.
+-- had: a crash leaves that version now, and nothing else. The disk fixes what the file had and the version, but for its
+-- mark.
 pub record IsStored (P : Wanted → MapVersion → Type 0) (order : Order) (old new : Option History) : Type 0 where
   pub held : Held
   pub is_held : IsHeld old held
@@ -45,11 +46,12 @@ pub record IsToldHeld (old : Option History) (held : Held) : Type 0 where
 pub record TransferDoes {S K D C A I T : Type 0} (seen : Seeing S K D C A I T) (order : Order) (status : Status)
     (old new : Office S K D C A I T) : Type 0 where
   pub does : XfrDoes seen order status old new
-  pub of_source : (catalogue : Catalogue) (caller : Peer) (turns : List Turn) (rest : List ℕ) (before after : Log)
-      → AnswersFetch catalogue caller order.store.0 order.store.1 turns before after
+  pub of_source : (catalogue : Catalogue) (caller : Peer) (turns : List Turn) (logs : List Log) (rest : List ℕ)
+      (before after : Log)
+      → AnswersFetch catalogue caller order.store.0 order.store.1 turns logs before after
       → HasCome order.host.1 (sent_all (replies_of turns) ++ rest) (seen.dial.past old.dial) (seen.dial.past new.dial)
       → IsTrue (tells_stored status)
-      → IsStored (λ asked version. IsOfSource catalogue asked after version) order (history seen old) (history seen new)
+      → IsStored (λ asked version. IsOfSource catalogue asked logs version) order (history seen old) (history seen new)
   pub complete : (held : Held) (stream : List ℕ) (version : MapVersion) → IsToldHeld (history seen old) held
       → HasCome order.host.1 stream (seen.dial.past old.dial) (seen.dial.past new.dial)
       → Fetched (wanted order held) (place_of 1 0 stream) (Ok version) → against order held version ≡ None

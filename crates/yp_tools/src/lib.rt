@@ -14,5 +14,5 @@ mod walking;
 pub use program::{Outside, run, run_alone, run_command, run_watched, tell};
 pub use yp_office::{NamedDisk, Status, named_disks};
 pub use yp_words::{
-    Command, HostWord, KeyValue, ParseFault, disk_names, parse, port_of, stores_of,
+    Command, HostWord, KeyValue, ParseFault, connections_of, disk_names, parse, port_of, stores_of,
 };

@@ -239,8 +239,8 @@ where
     requires disks { names_of outside.disks.items ≡ stores_of (meaning (Command.Serve job)) }
     requires fair { IsFair (L.past outside.listen) }
     ensures does { ServeDoes (seeing S.Source K.Sink D.Disk C.Clock A.Dial I.Inbox T.Texts) (order_view job) result.0
-        (office_of outside) (office_of result.1) (opening_of L.past L.most L.accepted L.faults outside.listen)
-        (opening_of L.past L.most L.accepted L.faults result.1.listen) }
+        (office_of outside) (office_of result.1) (opening_of L.past L.most L.accepted L.returned L.faults outside.listen)
+        (opening_of L.past L.most L.accepted L.returned L.faults result.1.listen) }
     ensures may_end { IsTrue (serve_may_end result.0) }
     ensures passed_on { IsPassedOn (seeing S.Source K.Sink D.Disk C.Clock A.Dial I.Inbox T.Texts) result.0
         (office_of outside) (office_of result.1) }
@@ -281,8 +281,10 @@ where
     requires disks { names_of outside.disks.items ≡ stores_of (meaning command) }
     requires fair { IsServer (meaning command) → IsFair (L.past outside.listen) }
     ensures does { CommandDoes (seeing S.Source K.Sink D.Disk C.Clock A.Dial I.Inbox T.Texts) (meaning command) result.0
-        (office_of outside) (office_of result.1) (opening_of L.past L.most L.accepted L.faults outside.listen)
-        (opening_of L.past L.most L.accepted L.faults result.1.listen) (W.wires witness.old) (W.wires witness.new) }
+        (office_of outside) (office_of result.1)
+        (opening_of L.past L.most L.accepted L.returned L.faults outside.listen)
+        (opening_of L.past L.most L.accepted L.returned L.faults result.1.listen)
+        (W.wires witness.old) (W.wires witness.new) }
     ensures may_end { IsTrue (may_end (meaning command) result.0) }
     ensures disks { names_of result.1.disks.items ≡ names_of outside.disks.items }
     ensures clock { C.moment result.1.clock ≡ C.moment outside.clock }
@@ -324,8 +326,8 @@ where
     requires fair { AsksServer (command_of (texts words.now)) → IsFair (L.past outside.listen) }
     ensures does { Does (seeing S.Source K.Sink D.Disk C.Clock A.Dial I.Inbox T.Texts)
         (command_of (texts words.now)) result.0 (office_of outside) (office_of result.1)
-        (opening_of L.past L.most L.accepted L.faults outside.listen)
-        (opening_of L.past L.most L.accepted L.faults result.1.listen) (W.wires witness.old) (W.wires witness.new) }
+        (opening_of L.past L.most L.accepted L.returned L.faults outside.listen)
+        (opening_of L.past L.most L.accepted L.returned L.faults result.1.listen) (W.wires witness.old) (W.wires witness.new) }
     ensures may_end { MayEnd (command_of (texts words.now)) result.0 }
     ensures disks { names_of result.1.disks.items ≡ names_of outside.disks.items }
     ensures clock { C.moment result.1.clock ≡ C.moment outside.clock }
@@ -385,8 +387,8 @@ where
     // behind its answered records.
     ensures does { (wires : List Wire) × Does (seeing S.Source K.Sink D.Disk C.Clock A.Dial I.Inbox T.Texts)
         (command_of (texts words.now)) result.0 (office_of outside) (office_of result.1)
-        (opening_of L.past L.most L.accepted L.faults outside.listen)
-        (opening_of L.past L.most L.accepted L.faults result.1.listen) [] wires }
+        (opening_of L.past L.most L.accepted L.returned L.faults outside.listen)
+        (opening_of L.past L.most L.accepted L.returned L.faults result.1.listen) [] wires }
 
     // How it may end.
     ensures may_end { MayEnd (command_of (texts words.now)) result.0 }

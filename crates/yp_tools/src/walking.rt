@@ -12,7 +12,7 @@ use std::alloc::Global;
 use std::random::RandomSource;
 use yp_io::{Clock, Dial, Disk, Inbox, Sink, Source, Texts};
 use yp_office::{Office, Status};
-use yp_walked::laws::delivered_is_of_source;
+use yp_walked::laws::{delivered_is_of_source, delivered_is_whole, delivered_skews};
 use yp_walking::walk_map;
 use yp_words::WalkJob;
 
@@ -32,5 +32,7 @@ pub fn walk<S: Source, K: Sink, D: Disk, C: Clock, A: Dial, I: Inbox, T: Texts, 
     ensures tellable { IsTellable result }
 {
     delivered_is_of_source();
+    delivered_is_whole();
+    delivered_skews();
     walk_map(alloc, rt, job, office)
 }

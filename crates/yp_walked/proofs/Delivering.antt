@@ -1,16 +1,21 @@
 -- A walk behind all that happened is the one by what was delivered.
-use Rattle.std.proofs.Common.{◌≡◌, Bool, true, false, cond, List, [], ◌∷◌, Ok, refl, sym, ap, subst, ◌∙◌}
+use Rattle.std.proofs.Common.{◌≡◌, Bool, true, false, cond, ℕ, ◌+◌, List, [], ◌∷◌, length, map, Ok, Err, refl, sym, ap, subst, ◌∙◌}
+use Rattle.std.proofs.lemmas.List.{length-map}
 use Rattle.yp_io.specs.declared.stream.Peer.{Peer}
 use Rattle.yp_version.specs.Rows.{listed}
-use Rattle.yp_version.specs.Versions.{unmarked}
+use Rattle.yp_version.specs.Versions.{MapVersion, unmarked}
 use Rattle.yp_version.specs.Drafts.{Draft}
 use Rattle.yp_version.specs.Laws.{RisingStays}
 use Rattle.yp_board.specs.Catalogues.{Catalogue}
+use Rattle.yp_board.specs.Views.{IsFront}
+use Rattle.yp_xfr.specs.declared.fault.XfrFault.TheVariants.{Skew}
+use Rattle.yp_xfr.specs.Fetching.{Wanted}
 use Rattle.yp_enum.specs.Standings.{Standing, HasEnded}
 use Rattle.yp_enum.specs.Schedules.{Walking, Delivery, is_awaited, next_xid, gone_on, heard, awaited, came_of, begun}
 use Rattle.yp_walked.specs.Sources.{Event, Handles, Delivers, Rests, Scene, first_scene, deliveries_of, AllHappen}
-use Rattle.yp_walked.specs.Laws.{HeardIsInTurn, WalkedIsShown, HappenedIsDelivered, AnswersWalk}
-use Rattle.yp_walked.specs.Laws.{DeliveredIsOfSource}
+use Rattle.yp_walked.specs.Mails.{Made, last_front, GoesBy}
+use Rattle.yp_walked.specs.Laws.{HeardIsInTurn, WalkedIsShown, SkewIsShown, ShownIsWalked, HappenedIsDelivered}
+use Rattle.yp_walked.specs.Laws.{AnswersWalk, DeliveredIsOfSource, DeliveredIsWhole, DeliveredSkews}
 
 -- the walk by some mails
 by_mails : Walking → List Delivery → Walking
@@ -62,11 +67,60 @@ delivered_is_of_source in_turn shown is_delivered rising catalogue caller source
     ∙ ap (λ (ds : List Delivery). (by_mails (begun source wanted) ds).standing) answers.delivered ∙ done in
     let is = shown catalogue caller source wanted answers.log answers.last.front turns.0 answers.last.walk draft
     answers.is_source turns.1 turns.2 ended in
-    let source = is.0 in
+    let origin = is.0 in
     record {
       mails = turns.0;
-      source = source;
+      heard = turns.3 ∙ ap (λ (ds : List Delivery). awaited source 1 ds) answers.delivered;
+      goes = subst (λ (w : Walking). GoesBy catalogue caller turns.0 answers.log (begun source wanted) w)
+          (walk ∙ ap (λ (ds : List Delivery). by_mails (begun source wanted) ds) answers.delivered) turns.1;
+      ends = turns.2;
+      origin = origin;
       throughout = is.2;
       same = ap (λ (d : Draft). unmarked d.order d.master (listed d.rows)) is.3
-          ∙ ap (λ rows. unmarked source.order source.master rows) (rising source.rows is.1.rising);
+          ∙ ap (λ rows. unmarked origin.order origin.master rows) (rising origin.rows is.1.rising);
+    }
+
+-- what was heard of a source by these mails, and the walk that they lead to
+heard_of_source : HeardIsInTurn → HappenedIsDelivered → (catalogue : Catalogue) (caller source : Peer) (wanted : Wanted)
+    (deliveries : List Delivery) → (answers : AnswersWalk catalogue caller source wanted deliveries)
+    → (mails : List Made) × (map (λ (made : Made). made.mail) mails ≡ awaited source 1 deliveries)
+    × GoesBy catalogue caller mails answers.log (begun source wanted) answers.last.walk
+    × IsFront (last_front answers.log mails) answers.last.front
+    × (answers.last.walk ≡ by_mails (begun source wanted) deliveries)
+unfolding by_mails
+heard_of_source in_turn is_delivered catalogue caller source wanted deliveries answers =
+    let turns = in_turn catalogue caller source wanted answers.log answers.events answers.last answers.is_source
+    answers.happen in (
+      turns.0,
+      turns.3 ∙ ap (λ (ds : List Delivery). awaited source 1 ds) answers.delivered,
+      turns.1,
+      turns.2,
+      is_delivered catalogue caller source wanted answers.log answers.events answers.last answers.happen
+          ∙ ap (λ (ds : List Delivery). by_mails (begun source wanted) ds) answers.delivered,
+    )
+
+pub delivered_is_whole : HeardIsInTurn → ShownIsWalked → HappenedIsDelivered → DeliveredIsWhole
+unfolding by_mails heard_of_source
+delivered_is_whole in_turn walked is_delivered catalogue caller source wanted deliveries version answers walkable shown count =
+    let heard = heard_of_source in_turn is_delivered catalogue caller source wanted deliveries answers in
+    let many : length heard.0 ≡ length version.rows + 4 =
+    sym (length-map heard.0 (λ (made : Made). made.mail)) ∙ ap length heard.1 ∙ count in
+    ap (λ (w : Walking). w.standing) (sym heard.4)
+    ∙ walked catalogue caller source wanted answers.log answers.last.front heard.0 answers.last.walk version
+    answers.is_source heard.2 heard.3 walkable shown many
+
+pub delivered_skews : HeardIsInTurn → SkewIsShown → HappenedIsDelivered → DeliveredSkews
+unfolding by_mails heard_of_source
+delivered_skews in_turn skews is_delivered catalogue caller source wanted deliveries first second answers refused =
+    let heard = heard_of_source in_turn is_delivered catalogue caller source wanted deliveries answers in
+    let ended : answers.last.walk.standing ≡ HasEnded (Err (Skew first second)) =
+    ap (λ (w : Walking). w.standing) heard.4 ∙ refused in
+    record {
+      mails = heard.0;
+      heard = heard.1;
+      goes = subst (λ (w : Walking). GoesBy catalogue caller heard.0 answers.log (begun source wanted) w) heard.4
+          heard.2;
+      ends = heard.3;
+      two = skews catalogue caller source wanted answers.log answers.last.front heard.0 answers.last.walk first second
+          answers.is_source heard.2 heard.3 ended;
     }

@@ -1,5 +1,5 @@
 -- Whatever was delivered, what was heard is in turn.
-use Rattle.std.proofs.Common.{◌≡◌, ℕ, zero, suc, ◌<◌, ◌⊎◌, Bool, true, false, cond, List, [], ◌∷◌, ◌++◌}
+use Rattle.std.proofs.Common.{◌≡◌, ℕ, zero, suc, ◌<◌, ◌⊎◌, Bool, true, false, cond, List, [], ◌∷◌, ◌++◌, map}
 use Rattle.std.proofs.Common.{Result, Ok, refl, sym, ap, subst, ◌∙◌, append_assoc, arith, inl, inr, eqb, bytes_eq, ◌&&◌}
 use Rattle.std.specs.Prelude.{Contains, IsTrue}
 use Rattle.std.proofs.lemmas.List.{append-nil}
@@ -16,8 +16,10 @@ use Rattle.yp_answer.specs.Reply.{Response, Bytes, reply}
 use Rattle.yp_source.specs.Shown.{FrontIsServed}
 use Rattle.yp_xfr.specs.Fetching.{Wanted}
 use Rattle.yp_enum.specs.Standings.{IsAsking, asked_by}
-use Rattle.yp_enum.specs.Schedules.{Walking, Delivery, is_reply, answers, is_awaited, outstanding, gone_on, begun}
-use Rattle.yp_walked.specs.Sources.{Event, Handles, Delivers, Rests, Scene, first_scene, is_from, with_reply, hearing, AllHappen}
+use Rattle.yp_enum.specs.Schedules.{Walking, Delivery, is_reply, answers, is_awaited, awaited, outstanding, gone_on}
+use Rattle.yp_enum.specs.Schedules.{heard, next_xid, begun}
+use Rattle.yp_walked.specs.Sources.{Event, Handles, Delivers, Rests, Scene, first_scene, is_from, with_reply, hearing}
+use Rattle.yp_walked.specs.Sources.{deliveries_of, AllHappen}
 use Rattle.yp_walked.specs.Mails.{Made, last_front, GoesBy}
 use Rattle.yp_walked.specs.Laws.{IsSource, HeardIsInTurn}
 use Rattle.yp_walked.proofs.Telling.{Mails, IsNumbered, Begins, answer}
@@ -86,6 +88,29 @@ answers_one xid number mail begins is =
     ap (λ (r : Result ((ℕ × ℕ) × Unread) XdrFault). is_reply xid r) (sym begins.1) ∙ is in
     same_number number xid (left_true (eqb number xid) (eqb 1 1) read)
 
+-- the mails alone
+texts : List Made → List (List ℕ)
+texts mails = map (λ (made : Made). made.mail) mails
+
+texts_joined : (one other : List Made) → texts (one ++ other) ≡ texts one ++ texts other
+unfolding texts
+texts_joined [] other = refl
+texts_joined (made ∷ one) other = ap (λ (ms : List (List ℕ)). made.mail ∷ ms) (texts_joined one other)
+
+-- a mail is awaited, and then the others are
+awaited_more : (walk : Walking) (one : Delivery) (deliveries : List Delivery)
+    → cond (is_awaited walk.source walk.xid one) (one.1 ∷ []) []
+    ++ awaited (heard walk one).source (heard walk one).xid deliveries
+    ≡ awaited walk.source walk.xid (one ∷ deliveries)
+awaited_more walk one deliveries = by (is_awaited walk.source walk.xid one)
+  where
+    by : (b : Bool)
+        → cond b (one.1 ∷ []) []
+        ++ awaited (cond b (gone_on walk one.1) walk).source (cond b (gone_on walk one.1) walk).xid deliveries
+        ≡ cond b (one.1 ∷ awaited walk.source (next_xid walk.xid) deliveries) (awaited walk.source walk.xid deliveries)
+    by true = refl
+    by false = refl
+
 -- ---- what was asked and sent
 
 module _ (laws : Mails) (serves : FrontIsServed) (catalogue : Catalogue) (caller source : Peer) (wanted : Wanted)
@@ -104,8 +129,7 @@ module _ (laws : Mails) (serves : FrontIsServed) (catalogue : Catalogue) (caller
       × (reply Datagram (maps_on catalogue front) caller (outstanding walk) ≡ Bytes mail))
       ⊎ ((number : ℕ) × (number < walk.xid) × Begins number mail)
 
-  record Stands (scene : Scene) : Type 0 where
-    pub mails : List Made
+  record Stands (mails : List Made) (scene : Scene) : Type 0 where
     pub goes : GoesBy catalogue caller mails before (begun source wanted) scene.walk
     pub since : IsFront (last_front before mails) scene.front
     pub from : scene.walk.source ≡ source
@@ -155,16 +179,16 @@ module _ (laws : Mails) (serves : FrontIsServed) (catalogue : Catalogue) (caller
         | inr later ↦ others mail later
       ]
 
-  replied_is_sent : (scene : Scene) (stands : Stands scene) (call : List ℕ) (front : Log) → Contains scene.asked call
+  replied_is_sent : (mails : List Made) (scene : Scene) (stands : Stands mails scene) (call : List ℕ) (front : Log) → Contains scene.asked call
       → IsFront scene.front front → IsFront front log → IsAsking scene.walk.standing
       → (bytes : List ℕ) × (reply Datagram (maps_on catalogue front) caller call ≡ Bytes bytes)
-      × IsSent (last_front before stands.mails) front scene.walk bytes
+      × IsSent (last_front before mails) front scene.walk bytes
   unfolding IsAsked IsSent
-  replied_is_sent scene stands call front among grows begins asking =
+  replied_is_sent mails scene stands call front among grows begins asking =
       elim (stands.asked asking call among) [
         | inl now ↦
             let one = replied scene.walk stands.wants asking stands.numbered front begins in
-            let since = front_then (last_front before stands.mails) scene.front front stands.since grows in (
+            let since = front_then (last_front before mails) scene.front front stands.since grows in (
               one.0,
               subst (λ (c : List ℕ). reply Datagram (maps_on catalogue front) caller c ≡ Bytes one.0) (sym now) one.1,
               inl (front, since, front_itself front, one.1),
@@ -173,25 +197,24 @@ module _ (laws : Mails) (serves : FrontIsServed) (catalogue : Catalogue) (caller
             let one = earlier.2 front begins in (one.0, one.1, inr (earlier.0, earlier.1, one.2))
       ]
 
-  handled : (scene : Scene) (stands : Stands scene) (call : List ℕ) (front : Log) → Contains scene.asked call
+  handled : (mails : List Made) (scene : Scene) (stands : Stands mails scene) (call : List ℕ) (front : Log) → Contains scene.asked call
       → IsFront scene.front front → IsFront front log
-      → Stands (record scene { front = front; sent = with_reply (reply Datagram (maps_on catalogue front) caller call) scene.sent })
-  handled scene stands call front among grows begins = record {
-    mails = stands.mails;
+      → Stands mails (record scene { front = front; sent = with_reply (reply Datagram (maps_on catalogue front) caller call) scene.sent })
+  handled mails scene stands call front among grows begins = record {
     goes = stands.goes;
-    since = front_then (last_front before stands.mails) scene.front front stands.since grows;
+    since = front_then (last_front before mails) scene.front front stands.since grows;
     from = stands.from;
     wants = stands.wants;
     numbered = stands.numbered;
     asked = stands.asked;
     sent = λ asking.
-        let one = replied_is_sent scene stands call front among grows begins asking in
-        let others : (mail : List ℕ) → Contains scene.sent mail → IsSent (last_front before stands.mails) front scene.walk mail =
-        λ mail is. sent_longer (last_front before stands.mails) scene.front front scene.walk mail grows
+        let one = replied_is_sent mails scene stands call front among grows begins asking in
+        let others : (mail : List ℕ) → Contains scene.sent mail → IsSent (last_front before mails) front scene.walk mail =
+        λ mail is. sent_longer (last_front before mails) scene.front front scene.walk mail grows
         (stands.sent asking mail is) in
         subst (λ (r : Response). (mail : List ℕ) → Contains (with_reply r scene.sent) mail
-        → IsSent (last_front before stands.mails) front scene.walk mail) (sym one.1)
-        (one_more (last_front before stands.mails) front scene.walk scene.sent one.0 one.2 others);
+        → IsSent (last_front before mails) front scene.walk mail) (sym one.1)
+        (one_more (last_front before mails) front scene.walk scene.sent one.0 one.2 others);
   }
 
   -- ---- a mail is delivered
@@ -206,10 +229,9 @@ module _ (laws : Mails) (serves : FrontIsServed) (catalogue : Catalogue) (caller
         | inr later ↦ others call later
       ]
 
-  passed_by : (scene : Scene) → Stands scene
-      → Stands (record scene { asked = outstanding scene.walk ∷ scene.asked })
-  passed_by scene stands = record {
-    mails = stands.mails;
+  passed_by : (mails : List Made) (scene : Scene) → Stands mails scene
+      → Stands mails (record scene { asked = outstanding scene.walk ∷ scene.asked })
+  passed_by mails scene stands = record {
     goes = stands.goes;
     since = stands.since;
     from = stands.from;
@@ -219,7 +241,7 @@ module _ (laws : Mails) (serves : FrontIsServed) (catalogue : Catalogue) (caller
     sent = stands.sent;
   }
 
-  module _ (scene : Scene) (stands : Stands scene) (asking : IsAsking scene.walk.standing) (mail : List ℕ)
+  module _ (mails : List Made) (scene : Scene) (stands : Stands mails scene) (asking : IsAsking scene.walk.standing) (mail : List ℕ)
       (now : IsFront scene.front log) where
     next : Walking
     next = gone_on scene.walk mail
@@ -246,7 +268,7 @@ module _ (laws : Mails) (serves : FrontIsServed) (catalogue : Catalogue) (caller
         )
 
     -- and all that was sent answers earlier ones
-    was_sent : (since : Log) (other : List ℕ) → IsSent (last_front before stands.mails) scene.front scene.walk other
+    was_sent : (since : Log) (other : List ℕ) → IsSent (last_front before mails) scene.front scene.walk other
         → IsSent since scene.front next other
     unfolding IsSent next
     was_sent since other (inl made) =
@@ -263,16 +285,16 @@ module _ (laws : Mails) (serves : FrontIsServed) (catalogue : Catalogue) (caller
           earlier.2,
         )
 
-    led_on : (front : Log) → IsFront (last_front before stands.mails) front → IsFront front scene.front
+    led_on : (front : Log) → IsFront (last_front before mails) front → IsFront front scene.front
         → reply Datagram (maps_on catalogue front) caller (outstanding scene.walk) ≡ Bytes mail
-        → Stands (record scene { walk = next; asked = outstanding next ∷ scene.asked })
+        → Stands (mails ++ record { front = front; mail = mail } ∷ [])
+        (record scene { walk = next; asked = outstanding next ∷ scene.asked })
     unfolding next
     led_on front since made is =
         let one : Made = record { front = front; mail = mail } in
-        let ends : last_front before (stands.mails ++ one ∷ []) ≡ front = last_then stands.mails before one in
+        let ends : last_front before (mails ++ one ∷ []) ≡ front = last_then mails before one in
         record {
-          mails = stands.mails ++ one ∷ [];
-          goes = goes_then catalogue caller stands.mails before (begun source wanted) scene.walk one stands.goes asking
+          goes = goes_then catalogue caller mails before (begun source wanted) scene.walk one stands.goes asking
               since is;
           since = subst (λ (l : Log). IsFront l scene.front) (sym ends) made;
           from = stands.from;
@@ -280,33 +302,43 @@ module _ (laws : Mails) (serves : FrontIsServed) (catalogue : Catalogue) (caller
           numbered = next_is_numbered scene.walk.wanted scene.walk.xid scene.walk.standing mail asking stands.numbered;
           asked = λ later. asked_now next scene.asked (λ call among. was_asked call (stands.asked asking call among));
           sent = λ later other among.
-              was_sent (last_front before (stands.mails ++ one ∷ [])) other (stands.sent asking other among);
+              was_sent (last_front before (mails ++ one ∷ [])) other (stands.sent asking other among);
         }
 
-    awaited_led : answers scene.walk.xid mail ≡ true → IsSent (last_front before stands.mails) scene.front scene.walk mail
-        → Stands (record scene { walk = next; asked = outstanding next ∷ scene.asked })
-    unfolding IsSent
-    awaited_led is (inl made) = led_on made.0 made.1 made.2 made.3
+    awaited_led : answers scene.walk.xid mail ≡ true → IsSent (last_front before mails) scene.front scene.walk mail
+        → (more : List Made) × (texts more ≡ mail ∷ [])
+        × Stands (mails ++ more) (record scene { walk = next; asked = outstanding next ∷ scene.asked })
+    unfolding IsSent texts
+    awaited_led is (inl made) =
+        (record { front = made.0; mail = mail } ∷ [], refl, led_on made.0 made.1 made.2 made.3)
     awaited_led is (inr earlier) =
         absurd (omega (arith, earlier.1, answers_one scene.walk.xid earlier.0 mail earlier.2 is))
 
-  delivered : (scene : Scene) (stands : Stands scene) (one : Delivery) → IsFront scene.front log
-      → IsAsking scene.walk.standing → (IsTrue (is_from scene.walk.source one) → Contains scene.sent one.1)
-      → Stands (hearing scene one)
-  unfolding next
-  delivered scene stands one now asking was_sent_by =
+  delivered : (mails : List Made) (scene : Scene) (stands : Stands mails scene) (one : Delivery)
+      → IsFront scene.front log → IsAsking scene.walk.standing
+      → (IsTrue (is_from scene.walk.source one) → Contains scene.sent one.1)
+      → (more : List Made) × (texts more ≡ cond (is_awaited scene.walk.source scene.walk.xid one) (one.1 ∷ []) [])
+      × Stands (mails ++ more) (hearing scene one)
+  unfolding next texts
+  delivered mails scene stands one now asking was_sent_by =
       by (is_awaited scene.walk.source scene.walk.xid one) refl
     where
       by : (b : Bool) → is_awaited scene.walk.source scene.walk.xid one ≡ b
-          → Stands (record scene {
+          → (more : List Made) × (texts more ≡ cond b (one.1 ∷ []) [])
+          × Stands (mails ++ more) (record scene {
             walk = cond b (gone_on scene.walk one.1) scene.walk;
             asked = outstanding (cond b (gone_on scene.walk one.1) scene.walk) ∷ scene.asked;
           })
-      by false is = passed_by scene stands
+      by false is = (
+        [],
+        refl,
+        subst (λ (ms : List Made). Stands ms (record scene { asked = outstanding scene.walk ∷ scene.asked }))
+            (sym (append-nil mails)) (passed_by mails scene stands),
+      )
       by true is =
           let parts = both_true (bytes_eq one.0.addr scene.walk.source.addr) (eqb one.0.port scene.walk.source.port)
           (answers scene.walk.xid one.1) is in
-          awaited_led scene stands asking one.1 now parts.1
+          awaited_led mails scene stands asking one.1 now parts.1
           (stands.sent asking one.1 (was_sent_by parts.0))
 
   -- ---- one thing after the other
@@ -324,24 +356,46 @@ module _ (laws : Mails) (serves : FrontIsServed) (catalogue : Catalogue) (caller
       let here : is.0.front ≡ old.front = ap (λ (s : Scene). s.front) is.1 in
       subst (λ (l : Log). IsFront l new.front) here (grows events is.0 new is.2)
 
-  all : (events : List Event) (old new : Scene) → Stands old → AllHappen catalogue caller events old new
-      → new.front ≡ log → Stands new
-  all [] old new stands is ends = subst Stands (sym is) stands
-  all (Handles call front ∷ events) old new stands is ends =
+  all : (events : List Event) (mails : List Made) (old new : Scene) → Stands mails old
+      → AllHappen catalogue caller events old new → new.front ≡ log
+      → (more : List Made) × (texts more ≡ awaited old.walk.source old.walk.xid (deliveries_of events))
+      × Stands (mails ++ more) new
+  unfolding texts
+  all [] mails old new stands is ends = (
+    [],
+    refl,
+    subst (λ (s : Scene). Stands (mails ++ []) s) (sym is)
+        (subst (λ (ms : List Made). Stands ms old) (sym (append-nil mails)) stands),
+  )
+  all (Handles call front ∷ events) mails old new stands is ends =
       let later : IsFront is.0.front log = subst (λ (l : Log). IsFront is.0.front l) ends (grows events is.0 new is.2) in
       let here : IsFront front log = subst (λ (s : Scene). IsFront s.front log) is.1.2 later in
-      all events is.0 new (subst Stands (sym is.1.2) (handled old stands call front is.1.0 is.1.1 here)) is.2 ends
-  all (Delivers one ∷ events) old new stands is ends =
+      let rest = all events mails is.0 new
+      (subst (λ (s : Scene). Stands mails s) (sym is.1.2) (handled mails old stands call front is.1.0 is.1.1 here))
+      is.2 ends in
+      (rest.0, rest.1 ∙ ap (λ (s : Scene). awaited s.walk.source s.walk.xid (deliveries_of events)) is.1.2, rest.2)
+  all (Delivers one ∷ events) mails old new stands is ends =
       let later : IsFront is.0.front log = subst (λ (l : Log). IsFront is.0.front l) ends (grows events is.0 new is.2) in
       let here : IsFront old.front log = subst (λ (s : Scene). IsFront s.front log) is.1.2 later in
-      all events is.0 new (subst Stands (sym is.1.2) (delivered old stands one here is.1.0 is.1.1)) is.2 ends
-  all (Rests ∷ events) old new stands is ends =
-      all events is.0 new (subst Stands (sym is.1) stands) is.2 ends
+      let now = delivered mails old stands one here is.1.0 is.1.1 in
+      let rest = all events (mails ++ now.0) is.0 new
+      (subst (λ (s : Scene). Stands (mails ++ now.0) s) (sym is.1.2) now.2) is.2 ends in
+      let after : texts rest.0 ≡ awaited (heard old.walk one).source (heard old.walk one).xid (deliveries_of events) =
+      rest.1 ∙ ap (λ (s : Scene). awaited s.walk.source s.walk.xid (deliveries_of events)) is.1.2 in (
+        now.0 ++ rest.0,
+        texts_joined now.0 rest.0
+            ∙ ap (λ (ms : List (List ℕ)). ms ++ texts rest.0) now.1
+            ∙ ap (λ (ms : List (List ℕ)). cond (is_awaited old.walk.source old.walk.xid one) (one.1 ∷ []) [] ++ ms) after
+            ∙ awaited_more old.walk one (deliveries_of events),
+        subst (λ (ms : List Made). Stands ms new) (append_assoc mails now.0 rest.0) rest.2,
+      )
+  all (Rests ∷ events) mails old new stands is ends =
+      let rest = all events mails is.0 new (subst (λ (s : Scene). Stands mails s) (sym is.1) stands) is.2 ends in
+      (rest.0, rest.1 ∙ ap (λ (s : Scene). awaited s.walk.source s.walk.xid (deliveries_of events)) is.1, rest.2)
 
-  begins_standing : Stands (first_scene source wanted before)
+  begins_standing : Stands [] (first_scene source wanted before)
   unfolding IsAsked IsSent
   begins_standing = record {
-    mails = [];
     goes = refl;
     since = front_itself before;
     from = refl;
@@ -353,8 +407,9 @@ module _ (laws : Mails) (serves : FrontIsServed) (catalogue : Catalogue) (caller
   }
 
 pub heard_is_in_turn : Mails → FrontIsServed → HeardIsInTurn
+unfolding texts
 heard_is_in_turn laws serves catalogue caller source wanted log events last is_source happen =
-    let stands = all laws serves catalogue caller source wanted log last.front is_source events
+    let stands = all laws serves catalogue caller source wanted log last.front is_source events []
     (first_scene source wanted log) last
     (begins_standing laws serves catalogue caller source wanted log last.front is_source) happen refl in
-    (stands.mails, stands.goes, stands.since)
+    (stands.0, stands.2.goes, stands.2.since, stands.1)

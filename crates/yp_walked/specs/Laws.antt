@@ -1,5 +1,5 @@
 -- What a walk gives is what its source showed, under any schedule.
-use Rattle.std.specs.Prelude.{◌≡◌, ◌≢◌, ◌⊎◌, ℕ, ◌+◌, ◌<◌, ◌≤◌, false, List, [], ◌∷◌, length, None, Ok, Err, All}
+use Rattle.std.specs.Prelude.{◌≡◌, ◌≢◌, ◌⊎◌, ℕ, ◌+◌, ◌<◌, ◌≤◌, false, List, [], ◌∷◌, length, map, None, Ok, Err, All}
 use Rattle.yp_io.specs.declared.stream.Peer.{Peer}
 use Rattle.yp_msgs.specs.Numbers.{name_max}
 use Rattle.yp_version.specs.Versions.{MapVersion, IsVersion, unmarked}
@@ -15,7 +15,7 @@ use Rattle.yp_xfr.specs.Fetching.{Wanted, against_order}
 use Rattle.yp_source.specs.Replies.{IsShown, unsecured}
 use Rattle.yp_rpc.specs.Turns.{mail_max}
 use Rattle.yp_enum.specs.Standings.{HasEnded, next_len}
-use Rattle.yp_enum.specs.Schedules.{Walking, Delivery, begun, walk_by}
+use Rattle.yp_enum.specs.Schedules.{Walking, Delivery, begun, awaited, walk_by}
 use Rattle.yp_enum.specs.Told.{draft_with}
 use Rattle.yp_walked.specs.Sources.{Event, Scene, first_scene, AllHappen, deliveries_of}
 use Rattle.yp_walked.specs.Mails.{Made, last_front, GoesBy}
@@ -28,7 +28,7 @@ pub record IsSource (catalogue : Catalogue) (wanted : Wanted) (log : Log) : Type
   pub map : length wanted.map ≤ name_max
 
 -- What was heard of a source, whatever its network did, is a reply to each call in turn, on fronts of its log that
--- never go back.
+-- never go back: these are exactly the awaited mails among those that were delivered.
 abbrev pub HeardIsInTurn : Type 0
 HeardIsInTurn =
     (catalogue : Catalogue) (caller source : Peer) (wanted : Wanted) (log : Log) (events : List Event) (last : Scene)
@@ -36,6 +36,7 @@ HeardIsInTurn =
     → AllHappen catalogue caller events (first_scene source wanted log) last
     → (mails : List Made) × GoesBy catalogue caller mails log (begun source wanted) last.walk
     × IsFront (last_front log mails) last.front
+    × (map (λ made. made.mail) mails ≡ awaited source 1 (deliveries_of events))
 
 -- A source shows a version at each moment from the first of some mails to the last.
 pub record ShowsThroughout (catalogue : Catalogue) (wanted : Wanted) (version : MapVersion) (mails : List Made)
@@ -122,17 +123,55 @@ pub record AnswersWalk (catalogue : Catalogue) (caller source : Peer) (wanted : 
   pub happen : AllHappen catalogue caller events (first_scene source wanted log) last
   pub delivered : deliveries_of events ≡ deliveries
 
--- The source showed a version from the first of the awaited mails to the last, and this is it, but for its mark.
-pub record IsWalkedOf (catalogue : Catalogue) (wanted : Wanted) (version : MapVersion) : Type 0 where
+-- The awaited mails among those that were delivered are the replies of a source to the calls of a walk in turn, made as
+-- its log grew from one to another. It showed a version from the first of them to the last, and this is it, but for its
+-- mark. The mails are fixed by what was delivered, but for the moments at which they were made, and the version by what
+-- was shown at the first of them.
+pub record IsWalkedOf (catalogue : Catalogue) (caller source : Peer) (wanted : Wanted) (deliveries : List Delivery)
+    (before last : Log) (version : MapVersion) : Type 0 where
   pub mails : List Made
-  pub source : MapVersion
-  pub throughout : ShowsThroughout catalogue wanted source mails
-  pub same : version ≡ unsecured source
+  pub heard : map (λ made. made.mail) mails ≡ awaited source 1 deliveries
+  pub goes : GoesBy catalogue caller mails before (begun source wanted) (walk_by source wanted deliveries)
+  pub ends : IsFront (last_front before mails) last
+  pub origin : MapVersion
+  pub throughout : ShowsThroughout catalogue wanted origin mails
+  pub same : version ≡ unsecured origin
 
 -- So what a walk by these mails gives is what that source showed.
 abbrev pub DeliveredIsOfSource : Type 0
 DeliveredIsOfSource =
     (catalogue : Catalogue) (caller source : Peer) (wanted : Wanted) (deliveries : List Delivery) (draft : Draft)
-    → AnswersWalk catalogue caller source wanted deliveries
+    → (answers : AnswersWalk catalogue caller source wanted deliveries)
     → (walk_by source wanted deliveries).standing ≡ HasEnded (Ok draft)
-    → IsWalkedOf catalogue wanted (unmarked draft.order draft.master (listed draft.rows))
+    → IsWalkedOf catalogue caller source wanted deliveries answers.log answers.last.front
+    (unmarked draft.order draft.master (listed draft.rows))
+
+-- Where that source shows one version throughout, against which nothing stands, and a mail for each of its rows and
+-- four more are awaited among those that were delivered, the walk by these is done with that version.
+abbrev pub DeliveredIsWhole : Type 0
+DeliveredIsWhole =
+    (catalogue : Catalogue) (caller source : Peer) (wanted : Wanted) (deliveries : List Delivery) (version : MapVersion)
+    → (answers : AnswersWalk catalogue caller source wanted deliveries)
+    → IsWalkable caller wanted version
+    → ((front : Log) → IsFront answers.log front → IsFront front answers.last.front
+    → IsShown wanted version (maps_on catalogue front))
+    → length (awaited source 1 deliveries) ≡ length version.rows + 4
+    → (walk_by source wanted deliveries).standing ≡ HasEnded (Ok (draft_with version version.rows))
+
+-- The awaited mails among those that were delivered are the replies of a source, as above, which showed versions of
+-- these two orders at the first of them and at the last.
+pub record IsSkewOf (catalogue : Catalogue) (caller source : Peer) (wanted : Wanted) (deliveries : List Delivery)
+    (before last : Log) (first second : ℕ) : Type 0 where
+  pub mails : List Made
+  pub heard : map (λ made. made.mail) mails ≡ awaited source 1 deliveries
+  pub goes : GoesBy catalogue caller mails before (begun source wanted) (walk_by source wanted deliveries)
+  pub ends : IsFront (last_front before mails) last
+  pub two : ShowsTwo catalogue wanted first second mails
+
+-- A walk by these mails is refused for two orders only where that source showed both.
+abbrev pub DeliveredSkews : Type 0
+DeliveredSkews =
+    (catalogue : Catalogue) (caller source : Peer) (wanted : Wanted) (deliveries : List Delivery) (first second : ℕ)
+    → (answers : AnswersWalk catalogue caller source wanted deliveries)
+    → (walk_by source wanted deliveries).standing ≡ HasEnded (Err (Skew first second))
+    → IsSkewOf catalogue caller source wanted deliveries answers.log answers.last.front first second

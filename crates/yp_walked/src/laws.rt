@@ -2,7 +2,7 @@
 //! that does nothing.
 
 ghost use Rattle.yp_walked.specs.Laws.{HeardIsInTurn, WalkedIsShown, SkewIsShown, ShownIsWalked};
-ghost use Rattle.yp_walked.specs.Laws.{HappenedIsDelivered, DeliveredIsOfSource};
+ghost use Rattle.yp_walked.specs.Laws.{HappenedIsDelivered, DeliveredIsOfSource, DeliveredIsWhole, DeliveredSkews};
 
 use yp_enum::laws::{told_is_walked, told_is_whole};
 use yp_exchange::laws::mail_tells;
@@ -63,4 +63,23 @@ pub fn delivered_is_of_source()
     walked_is_shown();
     happened_is_delivered();
     rising_stays();
+}
+
+/// Where it shows one version throughout, against which nothing stands, a walk is done with that one once a mail for
+/// each of its rows and four more were delivered that were awaited.
+pub fn delivered_is_whole()
+    ensures { DeliveredIsWhole }
+{
+    heard_is_in_turn();
+    shown_is_walked();
+    happened_is_delivered();
+}
+
+/// And a walk is refused for two orders only where that source showed both, at the first awaited reply and at the last.
+pub fn delivered_skews()
+    ensures { DeliveredSkews }
+{
+    heard_is_in_turn();
+    skew_is_shown();
+    happened_is_delivered();
 }

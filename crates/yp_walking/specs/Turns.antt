@@ -52,7 +52,8 @@ sent true awaiting = record awaiting { is_due = false }
 abbrev pub GoesOn : Awaiting → Want → Awaiting → Type 0
 GoesOn old want new = (want ≡ wish (is_on old) old.is_due old.walk) × (new ≡ sent (is_on old) old)
 
--- A mail was heard: where another call is then outstanding, that is due.
+-- A mail was heard: where another call is then outstanding, that is due. The walk and the mail fix the answer, unless
+-- memory ran out.
 pub record TakesMail (delivered : Delivery) (old new : Awaiting) : Type 0 where
   pub answer : Result Walked XfrFault
   pub hears : Hears delivered answer old.walk new.walk
@@ -105,7 +106,8 @@ IsCame (Ok end) standing Spent = IsAsking standing × (end ≡ AllTaken)
 IsCame (Err why) standing HasFailed = Unit {0}
 IsCame end standing came = ⊥
 
--- A walk over what is wanted of a source had so many turns of an inbox at most, and this came of it.
+-- A walk over what is wanted of a source had so many turns of an inbox at most, and this came of it. What happened at
+-- the inbox fixes the end and the last walk, unless memory ran out.
 pub record WalksTo (source : Peer) (wanted : Wanted) (turns : ℕ) (came : Came) (before after : Box) : Type 0 where
   pub end : Result Ended Failed
   pub last : Awaiting

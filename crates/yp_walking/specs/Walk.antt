@@ -29,7 +29,8 @@ use Rattle.yp_walking.specs.Turns.{WalksTo}
 -- ---- the inbox, and the disk of the map
 
 -- What a walk does to its inbox and to the disk of its map, whose file is told or not and was loaded, and how often the
--- disk has failed, before and after: the source was asked row by row, and what came of that is stored or refused.
+-- disk has failed, before and after: the source was asked row by row, and what came of that is stored or refused. The
+-- disk tells what the file had, and the inbox what came of the walk, unless memory ran out.
 pub record StoresWalk (order : Order) (turns : ℕ) (result : Result Installed XfrFault) (before after : Box)
     (old new : Option History) (faults faults' : ℕ) : Type 0 where
   pub held : Held

@@ -455,6 +455,11 @@ port_of (Portmap port turns) = Some port
 port_of (Getport port turns peer prog vers prot) = Some port
 port_of (Ask peer question) = None
 
+-- how many connections a command accepts
+abbrev pub connections_of : Meaning → ℕ
+connections_of (Serve own port workers connections turns stores hosts) = connections
+connections_of _ = 0
+
 -- ---- what the code has
 
 abbrev pub row_view : KeyValue → Row

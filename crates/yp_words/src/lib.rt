@@ -13,5 +13,6 @@ mod words;
 pub use command::{Command, HostWord, KeyValue, PushJob, ServeJob, WalkJob, XfrJob};
 pub use form::BY_USER;
 pub use words::{
-    ParseFault, disk_names, is_ypservers, netgroup_of, parse, port_of, stores_of, ypservers_of,
+    ParseFault, connections_of, disk_names, is_ypservers, netgroup_of, parse, port_of, stores_of,
+    ypservers_of,
 };

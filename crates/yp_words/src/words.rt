@@ -5,7 +5,8 @@ ghost use Rattle.yp_board.specs.Catalogues.{name_view};
 ghost use Rattle.yp_client.specs.Questions.{bytes_of};
 ghost use Rattle.yp_words.specs.Words.{name_of, row_of, value_of, peer_of, host_of, served, known, word_at};
 ghost use Rattle.yp_words.specs.Words.{given_at, question_of};
-ghost use Rattle.yp_words.specs.Words.{command_of, disk_names, stores_of, port_of, row_view, host_view, meaning, texts};
+ghost use Rattle.yp_words.specs.Words.{command_of, connections_of, disk_names, stores_of, port_of};
+ghost use Rattle.yp_words.specs.Words.{row_view, host_view, meaning, texts};
 ghost use Rattle.yp_words.specs.Words.{asks_of, once, session, serve, check, sample, portmap, getport, Build};
 ghost use Rattle.yp_words.specs.Words.{Xfr, bind, port_value, policy_of, TakesMemory, IsSentenceOfWords, revnet};
 ghost use Rattle.yp_words.specs.Words.{netgroup_of, push, window_value, workers_value, ypservers_of, is_ypservers};
@@ -512,6 +513,28 @@ pub fn port_of(command: &Command) -> Option<u16>
         Command::Portmap { port, .. } => Some(*port),
         Command::Getport { port, .. } => Some(*port),
         Command::Ask { .. } => None,
+    }
+}
+
+/// How many connections a command accepts.
+pub fn connections_of(command: &Command) -> u32
+    ensures { result ≡ connections_of (meaning command.now) }
+{
+    match command {
+        Command::Serve(job) => job.connections,
+        Command::Once { .. } => 0,
+        Command::Session { .. } => 0,
+        Command::Check { .. } => 0,
+        Command::Build { .. } => 0,
+        Command::Xfr(_) => 0,
+        Command::Walk(_) => 0,
+        Command::Revnet { .. } => 0,
+        Command::Sample { .. } => 0,
+        Command::Push(_) => 0,
+        Command::Bind { .. } => 0,
+        Command::Portmap { .. } => 0,
+        Command::Getport { .. } => 0,
+        Command::Ask { .. } => 0,
     }
 }
 

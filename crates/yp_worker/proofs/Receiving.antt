@@ -1,16 +1,14 @@
 -- What is kept of a listener, from one call of it to the next.
-use Rattle.std.proofs.Common.{◌≡◌, ◌⊎◌, inl, inr, ℕ, ◌+◌, ◌<◌, ◌≤◌, Bool, true, false, List, [], ◌∷◌, ◌++◌, length, map, Option, None, Some, refl, sym, ap, subst, ◌∙◌, append_assoc, arith}
-use Rattle.std.proofs.lemmas.List.{append-nil, length_push, length-map, length-append, map-append}
-use Rattle.std.proofs.lemmas.List.Elements.{All-nil, All-push}
-use Rattle.std.proofs.lemmas.List.Sums.{fold-append}
-use Rattle.yp_io.specs.Counts.{HasRisen}
-use Rattle.yp_io.specs.Dials.{Dialed}
-use Rattle.yp_session.specs.Hosts.{Conduct}
-use Rattle.yp_io.specs.Calls.{Calls, Ended, Accepting, Comes, Returns, GainsCall, IfCame}
+use Rattle.std.proofs.Common.{◌≡◌, ◌⊎◌, inl, inr, ℕ, suc, ◌+◌, ◌<◌, ◌≤◌, Bool, true, false, List, [], ◌∷◌, ◌++◌, length, Option, None, Some, refl, sym, ap, subst, ◌∙◌, append_assoc, arith}
+use Rattle.std.specs.Prelude.{Contains}
+use Rattle.std.proofs.lemmas.List.{append-nil, length_push, length-append}
+use Rattle.std.proofs.lemmas.List.Elements.{Contains-append_left, Contains-push}
+use Rattle.yp_io.specs.Counts.{HasRisen, next_count}
+use Rattle.yp_io.specs.Calls.{Arrived, Calls, Ended, Accepting, Comes, Returns, GainsCall, IfCame}
 use Rattle.yp_io.specs.declared.called.Called.{Called}
 use Rattle.yp_io.specs.declared.listen.Arrival.{Arrival}
 use Rattle.yp_io.specs.declared.listen.Arrival.TheVariants.{Came}
-use Rattle.yp_worker.specs.Receptions.{Terms, Stay, WasServed, capped, Gains, Tells, IsFair, Opening, IsOver, IsKept, stay_of}
+use Rattle.yp_worker.specs.Receptions.{capped, risen_by, Gains, Tells, IsFair, IsExpected, Opening, IsOver, IsKept}
 
 -- what a listener tells, as it was before the first connection
 abbrev pub told : Opening → Accepting
@@ -21,153 +19,177 @@ pub came_one : {S K : Type 0} (P : Called S K → Type 0) (arrival : Arrival S K
     → arrival ≡ Came call → IfCame P arrival → P call
 came_one P arrival call is h = subst (IfCame P) is h
 
-module _ {H : Type 0} (conduct : Conduct H) (terms : Terms) where
-  -- before the first connection
-  gains_none : (calls : Calls) → Gains conduct terms calls calls 0 0
-  gains_none calls = record {
-    came = [];
-    stays = [];
-    more_came = sym (append-nil calls.came);
-    more_back = sym (append-nil calls.back);
-    served = All-nil (WasServed conduct terms);
+-- before the first connection
+gains_none : (calls : Calls) → Gains calls calls 0
+gains_none calls = record {
+  came = [];
+  to_come = refl;
+  more_came = sym (append-nil calls.came);
+  gone = 0;
+  more_back = omega arith;
+  all = refl;
+}
+
+tells_none : (past : Option Calls) → Tells past past 0
+tells_none None = tt
+tells_none (Some calls) = gains_none calls
+
+pub kept_none : (now : Opening) → IsKept now now 0 false 0 0
+kept_none now = record {
+  most = refl;
+  accepts = record {
+    count = 0;
+    gone = 0;
+    accepted = omega arith;
+    connections_are = refl;
     all = refl;
-    calls_read = refl;
-  }
+    returned = refl;
+  };
+  tells = tells_none now.past;
+  never_falls = omega arith;
+  fault = λ was. absurd cc;
+  over = λ some. absurd (omega (arith, some));
+}
 
-  tells_none : (past : Option Calls) → Tells conduct terms past past 0 0
-  tells_none None = tt
-  tells_none (Some calls) = gains_none calls
+-- those that were to come, behind one that came
+all_to_come : (arrived : Arrived) (old now : Calls) (rest : List Arrived) (out : ℕ) → now.coming ≡ arrived ∷ rest
+    → (gains : Gains old now out) → old.coming ≡ (gains.came ++ arrived ∷ []) ++ rest
+all_to_come arrived old now rest out first gains =
+    gains.to_come
+    ∙ ap (λ (l : List Arrived). gains.came ++ l) first
+    ∙ sym (append_assoc gains.came (arrived ∷ []) rest)
 
-  pub kept_none : (now : Opening) → IsKept conduct terms now now 0 0 false 0 0
-  kept_none now = record {
-    most = refl;
-    accepts = record { count = 0; accepted = omega arith; connections_are = refl };
-    tells = tells_none now.past;
-    never_falls = omega arith;
+-- one more came
+gains_came : (arrived : Arrived) (old now : Calls) (rest : List Arrived) (out : ℕ) → now.coming ≡ arrived ∷ rest
+    → Gains old now out
+    → Gains old (record { coming = rest; came = now.came ++ arrived ∷ []; back = now.back }) (out + 1)
+gains_came arrived old now rest out first gains = record {
+  came = gains.came ++ arrived ∷ [];
+  to_come = all_to_come arrived old now rest out first gains;
+  more_came = ap (λ (l : List Arrived). l ++ arrived ∷ []) gains.more_came
+      ∙ append_assoc old.came gains.came (arrived ∷ []);
+  gone = gains.gone;
+  more_back = gains.more_back;
+  all = let longer = length_push gains.came arrived in omega (arith, longer, gains.all);
+}
+
+tells_came : (arrived : Arrived) (old past new : Option Calls) (out : ℕ) → Tells old past out
+    → GainsCall arrived past new → Tells old new (out + 1)
+tells_came arrived None past new out tells gained = tt
+tells_came arrived (Some old) None new out tells gained = absurd tells
+tells_came arrived (Some old) (Some now) None out tells gained = absurd gained
+tells_came arrived (Some old) (Some now) (Some others) out tells gained =
+    subst (λ (c : Calls). Gains old c (out + 1)) (sym gained.1)
+    (gains_came arrived old now others.coming out gained.0 tells)
+
+-- it was one of those that were to come
+pub came_expected : (arrived : Arrived) (old past new : Option Calls) (out : ℕ) → Tells old past out
+    → GainsCall arrived past new → IsExpected old arrived
+came_expected arrived None past new out tells gained = tt
+came_expected arrived (Some old) None new out tells gained = absurd tells
+came_expected arrived (Some old) (Some now) None out tells gained = absurd gained
+came_expected arrived (Some old) (Some now) (Some others) out tells gained =
+    subst (λ (l : List Arrived). Contains l arrived)
+    (sym (all_to_come arrived old now others.coming out gained.0 tells))
+    (Contains-append_left (tells.came ++ arrived ∷ []) others.coming arrived (Contains-push tells.came arrived))
+
+-- one went back, which was out
+gains_back : (ended : Ended) (old now : Calls) (out : ℕ) → Gains old now (out + 1)
+    → Gains old (record { coming = now.coming; came = now.came; back = now.back ++ ended ∷ [] }) out
+gains_back ended old now out gains = record {
+  came = gains.came;
+  to_come = gains.to_come;
+  more_came = gains.more_came;
+  gone = gains.gone + 1;
+  more_back = let longer = length_push now.back ended in omega (arith, longer, gains.more_back);
+  all = omega (arith, gains.all);
+}
+
+tells_back : (ended : Ended) (old past new : Option Calls) (out : ℕ) → IsFair old → Tells old past (out + 1)
+    → Returns ended past new → Tells old new out
+tells_back ended None past new out fair tells returns = tt
+tells_back ended (Some old) None new out fair tells returns = absurd tells
+tells_back ended (Some old) (Some now) None out fair tells returns =
+    let came = ap length tells.more_came ∙ length-append old.came tells.came in
+    absurd (omega (arith, came, tells.more_back, tells.all, fair, returns))
+tells_back ended (Some old) (Some now) (Some others) out fair tells returns =
+    subst (λ (c : Calls). Gains old c out) (sym returns) (gains_back ended old now out tells)
+
+module _ (old now new : Opening) (connections : ℕ) (failed : Bool) (out ended : ℕ)
+    (kept : IsKept old now connections failed out ended) where
+  -- a connection came, while no accept had failed
+  pub kept_came : (arrived : Arrived) → failed ≡ false → Comes arrived (told now) (told new)
+      → new.returned ≡ now.returned → now.faults ≤ new.faults
+      → IsKept old new (capped connections 1) failed (out + 1) ended
+  kept_came arrived is comes returned falls = record {
+    most = comes.most ∙ kept.most;
+    accepts = let first = kept.accepts in record {
+      count = first.count + 1;
+      gone = first.gone;
+      accepted = omega (arith, first.accepted, comes.accepted);
+      connections_are = let are = first.connections_are in omega (arith, are);
+      all = omega (arith, first.all);
+      returned = returned ∙ first.returned;
+    };
+    tells = tells_came arrived old.past now.past new.past out kept.tells comes.gained;
+    never_falls = let before = kept.never_falls in omega (arith, before, falls);
     fault = λ was. absurd cc;
-    over = λ some. absurd (omega (arith, some));
+    over = λ some. elim (kept.over some) [
+      | inl was ↦ absurd cc
+      | inr all ↦ absurd (omega (arith, all, comes.room))
+    ];
   }
 
-  -- one more came
-  gains_came : (dialed : Dialed) (old now : Calls) (out calls : ℕ) → Gains conduct terms old now out calls
-      → Gains conduct terms old (record { came = now.came ++ dialed ∷ []; back = now.back }) (out + 1) calls
-  gains_came dialed old now out calls gains = record {
-    came = gains.came ++ dialed ∷ [];
-    stays = gains.stays;
-    more_came = ap (λ (l : List Dialed). l ++ dialed ∷ []) gains.more_came
-        ∙ append_assoc old.came gains.came (dialed ∷ []);
-    more_back = gains.more_back;
-    served = gains.served;
-    all = let longer = length_push gains.came dialed in omega (arith, longer, gains.all);
-    calls_read = gains.calls_read;
+  -- none came, and the listener tells what it told
+  pub kept_none_more : (after : Bool) (more : ℕ) → told new ≡ told now → new.returned ≡ now.returned
+      → now.faults ≤ new.faults → (after ≡ true → (failed ≡ true) ⊎ HasRisen now.faults new.faults)
+      → (0 < more → IsOver after new) → IsKept old new connections after out more
+  kept_none_more after more same returned falls fault over = record {
+    most = ap (λ (a : Accepting). a.most) same ∙ kept.most;
+    accepts = record {
+      count = kept.accepts.count;
+      gone = kept.accepts.gone;
+      accepted = ap (λ (a : Accepting). a.accepted) same ∙ kept.accepts.accepted;
+      connections_are = kept.accepts.connections_are;
+      all = kept.accepts.all;
+      returned = returned ∙ kept.accepts.returned;
+    };
+    tells = subst (λ (past : Option Calls). Tells old.past past out)
+        (sym (ap (λ (a : Accepting). a.past) same)) kept.tells;
+    never_falls = let before = kept.never_falls in omega (arith, before, falls);
+    fault = λ was. let before = kept.never_falls in elim (fault was) [
+      | inl earlier ↦ let risen = kept.fault earlier in omega (arith, risen, falls)
+      | inr now_risen ↦ omega (arith, before, now_risen)
+    ];
+    over = over;
   }
 
-  tells_came : (dialed : Dialed) (old past new : Option Calls) (out calls : ℕ) → Tells conduct terms old past out calls
-      → GainsCall dialed past new → Tells conduct terms old new (out + 1) calls
-  tells_came dialed None past new out calls tells gained = tt
-  tells_came dialed (Some old) None new out calls tells gained = absurd tells
-  tells_came dialed (Some old) (Some now) None out calls tells gained = absurd gained
-  tells_came dialed (Some old) (Some now) (Some others) out calls tells gained =
-      subst (λ (c : Calls). Gains conduct terms old c (out + 1) calls) (sym gained)
-      (gains_came dialed old now out calls tells)
+  over_same : new.accepted ≡ now.accepted → new.most ≡ now.most → IsOver failed now → IsOver failed new
+  over_same accepted most over = elim over [
+    | inl was ↦ inl was
+    | inr all ↦ inr (accepted ∙ all ∙ sym most)
+  ]
 
-  -- one went back, which was out
-  gains_back : (ended : Ended) (count : ℕ) (old now : Calls) (out calls : ℕ)
-      → WasServed conduct terms (stay_of ended count) → Gains conduct terms old now (out + 1) calls
-      → Gains conduct terms old (record { came = now.came; back = now.back ++ ended ∷ [] }) out (capped calls count)
-  gains_back ended count old now out calls served gains =
-      let stay = stay_of ended count in record {
-        came = gains.came;
-        stays = gains.stays ++ stay ∷ [];
-        more_came = gains.more_came;
-        more_back =
-            ap (λ (l : List Ended). l ++ ended ∷ []) gains.more_back
-            ∙ append_assoc old.back (map (λ (s : Stay). s.ended) gains.stays) (ended ∷ [])
-            ∙ ap (λ (l : List Ended). old.back ++ l) (sym (map-append (λ (s : Stay). s.ended) gains.stays (stay ∷ [])));
-        served = All-push (WasServed conduct terms) gains.stays stay gains.served served;
-        all = let longer = length_push gains.stays stay in omega (arith, longer, gains.all);
-        calls_read =
-            ap (λ (n : ℕ). capped n count) gains.calls_read
-            ∙ sym (fold-append (λ (n : ℕ) (s : Stay). capped n s.calls) 0 gains.stays (stay ∷ []));
-      }
-
-  tells_back : (ended : Ended) (count : ℕ) (old past new : Option Calls) (out calls : ℕ) → IsFair old
-      → WasServed conduct terms (stay_of ended count) → Tells conduct terms old past (out + 1) calls
-      → Returns ended past new → Tells conduct terms old new out (capped calls count)
-  tells_back ended count None past new out calls fair served tells returns = tt
-  tells_back ended count (Some old) None new out calls fair served tells returns = absurd tells
-  tells_back ended count (Some old) (Some now) None out calls fair served tells returns =
-      let came = ap length tells.more_came ∙ length-append old.came tells.came in
-      let back = ap length tells.more_back ∙ length-append old.back (map (λ (s : Stay). s.ended) tells.stays) in
-      let stays = length-map tells.stays (λ (s : Stay). s.ended) in
-      absurd (omega (arith, came, back, stays, tells.all, fair, returns))
-  tells_back ended count (Some old) (Some now) (Some others) out calls fair served tells returns =
-      subst (λ (c : Calls). Gains conduct terms old c out (capped calls count)) (sym returns)
-      (gains_back ended count old now out calls served tells)
-
-  module _ (old now new : Opening) (connections calls : ℕ) (failed : Bool) (out ended : ℕ)
-      (kept : IsKept conduct terms old now connections calls failed out ended) where
-    -- a connection came, while no accept had failed
-    pub kept_came : (dialed : Dialed) → failed ≡ false → Comes dialed (told now) (told new) → now.faults ≤ new.faults
-        → IsKept conduct terms old new (capped connections 1) calls failed (out + 1) ended
-    kept_came dialed is comes falls = record {
-      most = comes.most ∙ kept.most;
-      accepts = let first = kept.accepts in record {
-        count = first.count + 1;
-        accepted = omega (arith, first.accepted, comes.accepted);
-        connections_are = let are = first.connections_are in omega (arith, are);
-      };
-      tells = tells_came dialed old.past now.past new.past out calls kept.tells comes.gained;
-      never_falls = let before = kept.never_falls in omega (arith, before, falls);
-      fault = λ was. absurd cc;
-      over = λ some. elim (kept.over some) [
-        | inl was ↦ absurd cc
-        | inr all ↦ absurd (omega (arith, all, comes.room))
-      ];
-    }
-
-    -- none came, and the listener tells what it told
-    pub kept_none_more : (after : Bool) (more : ℕ) → told new ≡ told now → now.faults ≤ new.faults
-        → (after ≡ true → (failed ≡ true) ⊎ HasRisen now.faults new.faults)
-        → (0 < more → IsOver after new) → IsKept conduct terms old new connections calls after out more
-    kept_none_more after more same falls fault over = record {
-      most = ap (λ (a : Accepting). a.most) same ∙ kept.most;
-      accepts = record {
-        count = kept.accepts.count;
-        accepted = ap (λ (a : Accepting). a.accepted) same ∙ kept.accepts.accepted;
-        connections_are = kept.accepts.connections_are;
-      };
-      tells = subst (λ (past : Option Calls). Tells conduct terms old.past past out calls)
-          (sym (ap (λ (a : Accepting). a.past) same)) kept.tells;
-      never_falls = let before = kept.never_falls in omega (arith, before, falls);
-      fault = λ was. let before = kept.never_falls in elim (fault was) [
-        | inl earlier ↦ let risen = kept.fault earlier in omega (arith, risen, falls)
-        | inr now_risen ↦ omega (arith, before, now_risen)
-      ];
-      over = over;
-    }
-
-    over_same : new.accepted ≡ now.accepted → new.most ≡ now.most → IsOver failed now → IsOver failed new
-    over_same accepted most over = elim over [
-      | inl was ↦ inl was
-      | inr all ↦ inr (accepted ∙ all ∙ sym most)
-    ]
-
-    -- a connection that was out went back
-    pub kept_back : (told_as : Ended) (count less : ℕ) → out ≡ less + 1 → IsFair old.past
-        → WasServed conduct terms (stay_of told_as count) → Returns told_as now.past new.past
-        → new.most ≡ now.most → new.accepted ≡ now.accepted → new.faults ≡ now.faults
-        → IsKept conduct terms old new connections (capped calls count) failed less ended
-    kept_back told_as count less one fair served returns most accepted faults = record {
-      most = most ∙ kept.most;
-      accepts = record {
-        count = kept.accepts.count;
-        accepted = accepted ∙ kept.accepts.accepted;
-        connections_are = kept.accepts.connections_are;
-      };
-      tells = tells_back told_as count old.past now.past new.past less calls fair served
-          (subst (λ (n : ℕ). Tells conduct terms old.past now.past n calls) one kept.tells) returns;
-      never_falls = let before = kept.never_falls in omega (arith, before, faults);
-      fault = λ was. let before = kept.fault was in omega (arith, before, faults);
-      over = λ some. over_same accepted most (kept.over some);
-    }
+  -- a connection that was out went back
+  pub kept_back : (told_as : Ended) (less : ℕ) → out ≡ less + 1 → IsFair old.past → Returns told_as now.past new.past
+      → new.most ≡ now.most → new.accepted ≡ now.accepted → new.returned ≡ next_count now.returned
+      → new.faults ≡ now.faults → IsKept old new connections failed less ended
+  kept_back told_as less one fair returns most accepted returned faults = record {
+    most = most ∙ kept.most;
+    accepts = let first = kept.accepts in record {
+      count = first.count;
+      gone = first.gone + 1;
+      accepted = accepted ∙ first.accepted;
+      connections_are = first.connections_are;
+      all = omega (arith, first.all, one);
+      returned =
+          returned
+          ∙ ap next_count first.returned
+          ∙ ap (λ (n : ℕ). risen_by n old.returned) (let more : suc first.gone ≡ first.gone + 1 = omega arith in more);
+    };
+    tells = tells_back told_as old.past now.past new.past less fair
+        (subst (λ (n : ℕ). Tells old.past now.past n) one kept.tells) returns;
+    never_falls = let before = kept.never_falls in omega (arith, before, faults);
+    fault = λ was. let before = kept.fault was in omega (arith, before, faults);
+    over = λ some. over_same accepted most (kept.over some);
+  }

@@ -11,14 +11,15 @@ use Rattle.yp_session.specs.Runs.{dialogue_at, Runs}
 use Rattle.yp_worker.specs.Working.{Working, Attends}
 use Rattle.yp_worker.proofs.Growing.{later}
 
-pub attended : {H : Type 0} (conduct : Conduct H) (peer : Peer) (end : End) (old : Working H) (start finish : H)
+pub attended : {H T : Type 0} (conduct : Conduct H) (counted : H → T) (peer : Peer) (end : End) (old : Working H) (start finish : H)
     (progress : Progress) (before after : Wire) (seen now : List Wire)
     → Learns (conduct.seen old.host) (conduct.seen start) → conduct.counts start ≡ conduct.counts old.host
+    → counted start ≡ counted old.host
     → SeesMore seen now (Runs conduct peer old.most end (dialogue_at start before begun)
     (dialogue_at finish after progress))
-    → SeesMore seen now (Attends conduct peer end old (record { host = finish; most = old.most; progress = progress })
+    → SeesMore seen now (Attends conduct counted peer end old (record { host = finish; most = old.most; progress = progress })
     before after)
-attended conduct peer end old start finish progress before after seen now learned counts runs =
+attended conduct counted peer end old start finish progress before after seen now learned counts carried runs =
     let went = later conduct peer old.most end (dialogue_at start before begun) (dialogue_at finish after progress)
     runs.more runs.done in record {
       more = runs.more;
@@ -27,6 +28,7 @@ attended conduct peer end old start finish progress before after seen now learne
         start = start;
         learned = learned;
         uncounted = counts;
+        carried = carried;
         runs = runs.done;
         grown = went.grown;
         catalogue = went.catalogue ∙ ap (λ (s : Seen). s.catalogue) learned.same;

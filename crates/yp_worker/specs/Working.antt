@@ -16,12 +16,14 @@ pub record Working (H : Type 0) : Type 0 where
   pub progress : Progress
 
 -- A connection was served: the host was told what others showed, or not, and from there on the records were answered
--- in turn. What it knew before is the front of what it knows, and its catalogue stays.
-pub record Attends {H : Type 0} (conduct : Conduct H) (peer : Peer) (end : End) (old new : Working H)
-    (before after : Wire) (wires : List Wire) : Type 0 where
+-- in turn. What it knew before is the front of what it knows, and its catalogue stays. It counts on from what it had
+-- counted before.
+pub record Attends {H T : Type 0} (conduct : Conduct H) (counted : H → T) (peer : Peer) (end : End)
+    (old new : Working H) (before after : Wire) (wires : List Wire) : Type 0 where
   pub start : H
   pub learned : Learns (conduct.seen old.host) (conduct.seen start)
   pub uncounted : conduct.counts start ≡ conduct.counts old.host
+  pub carried : counted start ≡ counted old.host
   pub runs : Runs conduct peer old.most end (dialogue_at start before begun)
       (dialogue_at new.host after new.progress) wires
   pub grown : IsFront (conduct.seen start).known (conduct.seen new.host).known

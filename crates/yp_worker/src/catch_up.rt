@@ -10,24 +10,26 @@ use yp_session::Host;
 
 /// A host of a board that others show versions on.
 pub trait CatchUp: Host {
-    /// Lets it know all that was shown, or as much of it as can be told. It makes no read step. After a refusal
-    /// nothing has changed.
+    /// What it counts.
+    type Count;
+
+    /// What it has counted.
+    ghost counted: { Self → Self.Count };
+
+    /// Lets it know all that was shown, or as much of it as can be told. It makes no read step, and counts nothing.
+    /// After a refusal nothing has changed.
     fn catch_up(&mut self) -> Result<(), NoMemory>
         ensures learned { Learns (Self.seen self.old) (Self.seen self.new) }
         ensures counts { Self.counts self.new ≡ Self.counts self.old }
+        ensures counted { counted self.new ≡ counted self.old }
         ensures refused { OnErr result (self.new ≡ self.old) };
 }
 
-/// A host that hands over what it has counted, to be summed up, and tells how far it has read the log.
+/// A host that hands over what it has counted, to be summed up, and tells how far it has read the log. Then it counts
+/// from nothing again.
 pub trait HandsOver: CatchUp {
-    /// What hosts count.
-    type Count;
-
     /// A sum of that, with a front of the log that goes as far as any of those who handed over knew.
     type Sum: Drop;
-
-    /// What it has counted since it last handed that over.
-    ghost counted: { Self → Self.Count };
 
     /// What a sum has of that.
     ghost summed: { Self.Sum → Self.Count };
@@ -45,8 +47,8 @@ pub trait HandsOver: CatchUp {
     /// then.
     fn hand_over(&mut self, sum: &mut Self::Sum)
         ensures seen { Self.seen self.new ≡ Self.seen self.old }
-        ensures none { counted self.new ≡ none }
-        ensures added { summed sum.new ≡ plus (summed sum.old) (counted self.old) }
+        ensures none { Self.counted self.new ≡ none }
+        ensures added { summed sum.new ≡ plus (summed sum.old) (Self.counted self.old) }
         ensures covered { IsFront (Self.seen self.old).known (reached sum.new) }
         ensures kept { IsFront (reached sum.old) (reached sum.new) };
 }

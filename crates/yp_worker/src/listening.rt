@@ -2,12 +2,11 @@
 
 ghost use Rattle.std.specs.Prelude.{◌≡◌, ◌<◌, ◌≤◌, ◌+◌, false, ℕ, true};
 ghost use Rattle.yp_io.specs.Counts.{HasRisen};
-ghost use Rattle.yp_io.specs.declared.stream.Peer.{Peer};
-ghost use Rattle.yp_io.specs.Calls.{IsFreshCall, ended_by};
+ghost use Rattle.yp_io.specs.Calls.{came_by, ended_by, halves_of};
 ghost use Rattle.yp_session.specs.Hosts.{conduct_of};
-ghost use Rattle.yp_worker.specs.Receptions.{Admits, IsFair, IsKept, stay_of};
+ghost use Rattle.yp_worker.specs.Receptions.{Admits, IsExpected, IsFair, IsGuest, IsKept};
 ghost use Rattle.yp_worker.specs.Receptions.{opening_of, terms_of};
-ghost use Rattle.yp_worker.specs.Summing.{CountsUpTo, SumsUp, counting_of};
+ghost use Rattle.yp_worker.specs.Summing.{SumsUp, WasServed, counting_of, stay_of};
 
 use crate::catch_up::HandsOver;
 use crate::tally::Tally;
@@ -41,7 +40,7 @@ impl Reception for Brand {
 
     ghost most = { 0 };
 
-    ghost opening = { record { past = None; most = 0; accepted = 0; faults = 0 } };
+    ghost opening = { record { past = None; most = 0; accepted = 0; returned = 0; faults = 0 } };
 }
 
 /// What a worker gets of a listener.
@@ -137,18 +136,17 @@ impl<J: Reception, E: Ledger, H: HandsOver, L: Listen> Model for Listening<J, E,
     } };
 
     ghost invariant = { λ l. IsFair J.opening.past
-        × IsKept (conduct_of H.seen H.told H.counts H.stepped H.made H.carried)
-        (terms_of J.catalogue J.starts J.most) J.opening (opening_of L.past L.most L.accepted L.faults l.listen)
-        l.connections l.calls l.failed l.out.total l.ended.total
+        × IsKept J.opening (opening_of L.past L.most L.accepted L.returned L.faults l.listen)
+        l.connections l.failed l.out.total l.ended.total
         × SumsUp (conduct_of H.seen H.told H.counts H.stepped H.made H.carried)
         (counting_of H.counted H.none H.plus) (terms_of J.catalogue J.starts J.most) J.opening.past (L.past l.listen)
-        (H.summed l.sum) (H.reached l.sum) };
+        l.calls (H.summed l.sum) (H.reached l.sum) };
 }
 
 impl<J: Reception, E: Ledger, H: HandsOver, L: Listen> Listening<J, E, H, L> {
     /// A listener before its first connection.
     pub fn new(listen: L, out: Book<J>, ended: Book<E>, sum: H::Sum) -> Listening<J, E, H, L>
-        requires opening { opening_of L.past L.most L.accepted L.faults listen ≡ J.opening }
+        requires opening { opening_of L.past L.most L.accepted L.returned L.faults listen ≡ J.opening }
         requires fair { IsFair J.opening.past }
         requires none_out { out.total ≡ 0 }
         requires none_ended { ended.total ≡ 0 }
@@ -175,7 +173,7 @@ impl<J: Reception, E: Ledger, H: HandsOver, L: Listen> Listening<J, E, H, L> {
 
     /// Accepts the next connection, where no accept has failed.
     pub(crate) fn admit(&mut self, pass: &mut Pass<J, E>) -> Admission<L::In, L::Out>
-        ensures { Admits (IsFreshCall L.In.faults L.Out.faults L.Out.output) result pass.old pass.new }
+        ensures { Admits (IsGuest (halves_of L.In.Source L.Out.Sink) J.opening.past) result pass.old pass.new }
     {
         if self.failed {
             self.ended.add(&mut pass.ended, 1);
@@ -209,10 +207,11 @@ impl<J: Reception, E: Ledger, H: HandsOver, L: Listen> Listening<J, E, H, L> {
         worker: &mut Worker<H, G>,
     )
         requires out { 0 < pass.old.out }
-        requires served { CountsUpTo (conduct_of H.seen H.told H.counts H.stepped H.made H.carried)
+        requires expected { IsExpected J.opening.past (came_by (halves_of L.In.Source L.Out.Sink) call) }
+        requires served { WasServed (conduct_of H.seen H.told H.counts H.stepped H.made H.carried)
             (counting_of H.counted H.none H.plus) (terms_of J.catalogue J.starts J.most)
-            (stay_of (ended_by L.In.input L.Out.output L.Out.flushed call) calls) (H.counted worker.old.host)
-            (H.seen worker.old.host).known }
+            (H.seen worker.old.host).known
+            (stay_of (ended_by (halves_of L.In.Source L.Out.Sink) call) calls (H.counted worker.old.host)) }
         ensures out { pass.new.out + 1 ≡ pass.old.out }
         ensures same { pass.new ≡ record pass.old { out = pass.new.out } }
         ensures seen { H.seen worker.new.host ≡ H.seen worker.old.host }
@@ -231,13 +230,11 @@ impl<J: Reception, E: Ledger, H: HandsOver, L: Listen> Listening<J, E, H, L> {
         requires all { pass.old.parts ≡ J.parts }
         requires none_out { pass.old.out ≡ 0 }
         requires ended { 0 < pass.old.ended }
-        ensures kept { IsKept (conduct_of H.seen H.told H.counts H.stepped H.made H.carried)
-            (terms_of J.catalogue J.starts J.most) J.opening
-            (opening_of L.past L.most L.accepted L.faults result.0)
-            result.1.connections result.1.calls result.1.listen_fault 0 1 }
+        ensures kept { IsKept J.opening (opening_of L.past L.most L.accepted L.returned L.faults result.0)
+            result.1.connections result.1.listen_fault 0 1 }
         ensures summed { SumsUp (conduct_of H.seen H.told H.counts H.stepped H.made H.carried)
             (counting_of H.counted H.none H.plus) (terms_of J.catalogue J.starts J.most) J.opening.past
-            (L.past result.0) (H.summed result.2) (H.reached result.2) }
+            (L.past result.0) result.1.calls (H.summed result.2) (H.reached result.2) }
         ensures same { pass.new ≡ pass.old }
     {
         let Listening {

@@ -2,9 +2,9 @@
 
 ghost use Rattle.std.specs.Prelude.{◌≡◌, ◌<◌, ◌+◌, IfErr};
 ghost use Rattle.yp_board.specs.Views.{IsFront};
-ghost use Rattle.yp_io.specs.Calls.{IsFreshCall};
+ghost use Rattle.yp_io.specs.Calls.{halves_of};
 ghost use Rattle.yp_session.specs.Hosts.{conduct_of};
-ghost use Rattle.yp_worker.specs.Receptions.{Admits, IsUnder, terms_of};
+ghost use Rattle.yp_worker.specs.Receptions.{Admits, IsGuest, IsUnder, terms_of};
 
 use crate::catch_up::HandsOver;
 use crate::gate::Gate;
@@ -69,7 +69,7 @@ impl<H: HandsOver, G: Gate + Copy> Worker<H, G> {
         requires under { IsUnder (conduct_of H.seen H.told H.counts H.stepped H.made H.carried)
             (terms_of J.catalogue J.starts J.most) self.old }
         requires none { H.counted self.old.host ≡ H.none }
-        requires fresh { IsFreshCall L.In.faults L.Out.faults L.Out.output call }
+        requires guest { IsGuest (halves_of L.In.Source L.Out.Sink) J.opening.past call }
         requires out { 0 < pass.old.out }
         ensures under { IsUnder (conduct_of H.seen H.told H.counts H.stepped H.made H.carried)
             (terms_of J.catalogue J.starts J.most) self.new }
@@ -78,11 +78,11 @@ impl<H: HandsOver, G: Gate + Copy> Worker<H, G> {
         ensures out { pass.new.out + 1 ≡ pass.old.out }
         ensures same { pass.new ≡ record pass.old { out = pass.new.out } }
     {
-        let Called { peer, wire } = call;
-        let (wire, _) = self.one(wire, peer, connection);
+        let Called { origin, wire } = call;
+        let (wire, _) = self.one(wire, origin.peer(), connection);
         let calls = self.calls();
         let mut kept = listening.lock(rt);
-        kept.take_back(pass, Called { peer, wire }, calls, self);
+        kept.take_back(pass, Called { origin, wire }, calls, self);
         calls
     }
 }
@@ -93,7 +93,7 @@ fn admitted<J: Reception, E: Ledger, H: HandsOver, L: Listen, R: Wait>(
     listening: &Mutex<Listening<J, E, H, L>>,
     pass: &mut Pass<J, E>,
 ) -> Admission<L::In, L::Out>
-    ensures { Admits (IsFreshCall L.In.faults L.Out.faults L.Out.output) result pass.old pass.new }
+    ensures { Admits (IsGuest (halves_of L.In.Source L.Out.Sink) J.opening.past) result pass.old pass.new }
 {
     let mut kept = listening.lock(rt);
     kept.admit(pass)

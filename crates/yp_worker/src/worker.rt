@@ -80,7 +80,8 @@ impl<H: CatchUp, G: Gate + Copy> Worker<H, G> {
         witness: &mut W,
     ) -> (Pair<S, K>, End)
         ensures attends { SeesMore (W.wires witness.old) (W.wires witness.new)
-            (Attends (conduct_of H.seen H.told H.counts H.stepped H.made H.carried) peer result.1 self.old self.new
+            (Attends (conduct_of H.seen H.told H.counts H.stepped H.made H.carried) H.counted peer result.1
+            self.old self.new
             (wire_of S.Source K.Sink wire) (wire_of S.Source K.Sink result.0)) }
         ensures flushed { result.1 ≢ End.WriteFault
             → IsTrue (K.flushed wire.sink) → IsTrue (K.flushed result.0.sink) }
@@ -116,7 +117,7 @@ impl<H: CatchUp, G: Gate + Copy> Worker<H, G> {
         connection: u64,
     ) -> (Pair<S, K>, End)
         ensures attends { (wires : List Wire) × Attends
-            (conduct_of H.seen H.told H.counts H.stepped H.made H.carried) peer result.1 self.old self.new
+            (conduct_of H.seen H.told H.counts H.stepped H.made H.carried) H.counted peer result.1 self.old self.new
             (wire_of S.Source K.Sink wire) (wire_of S.Source K.Sink result.0) wires }
         ensures flushed { result.1 ≢ End.WriteFault
             → IsTrue (K.flushed wire.sink) → IsTrue (K.flushed result.0.sink) }

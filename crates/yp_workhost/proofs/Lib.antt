@@ -8,3 +8,4 @@ mod Reaching
 mod Leading
 mod Sourcing
 mod Aging
+mod Using

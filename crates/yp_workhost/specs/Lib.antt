@@ -4,3 +4,4 @@ pub mod Makings
 pub mod Workers
 pub mod Charges
 pub mod Wires
+pub mod Uses

@@ -28,7 +28,7 @@ abbrev pub BeginsWithOrder : Dialed → Type 0
 BeginsWithOrder (peer, None) = ⊤
 BeginsWithOrder (peer, Some stream) = HasOrder stream
 
--- Bytes give a version, where none is shown.
+-- Bytes give a version, where none is shown. They fix it, whatever else is wanted.
 pub record GivesVersion (stream : List ℕ) : Type 0 where
   pub wanted : Wanted
   pub unshown : wanted.shown ≡ None

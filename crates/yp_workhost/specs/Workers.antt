@@ -59,7 +59,8 @@ pub record Made {V : Type 0} (seen : V → Seen) (text : TextFile → Option (Li
     made = made_after old.made stat;
   }
 
--- A version that was fetched was shown, last of all that is known, and behind all that was.
+-- A version that was fetched was shown, last of all that is known, and behind all that was. The last entry fixes it,
+-- but for its mark.
 pub record IsFetchedBehind (own : List ℕ) (number : ℕ) (old new : Log) : Type 0 where
   pub version : MapVersion
   pub shown : IsShownBehind own number version Fetched old new

@@ -16,6 +16,8 @@ ghost use Rattle.yp_workhost.specs.Desks.{texts_alone, telling_texts, IsSupplied
 ghost use Rattle.yp_workhost.specs.Charges.{CoversUnread, unread_in};
 ghost use Rattle.yp_workhost.specs.Wires.{CoversBy, CoversOrders, CoversSources, IsGood, IsAgedBy};
 ghost use Rattle.yp_workhost.specs.Wires.{orders_in, sources_in, versions_in};
+ghost use Rattle.yp_board.specs.Catalogues.{name_view};
+ghost use Rattle.yp_workhost.specs.Uses.{IsAmong, IsUsedForTransfers, dial_told};
 
 use crate::charges::Charges;
 use std::alloc::Global;
@@ -27,16 +29,17 @@ use yp_build::Kind;
 use yp_io::{Clock, Dial, Texts};
 use yp_msgs::XfrStat;
 use yp_server::{Desk, build_anew};
-use yp_shared::{Accounts, Versions};
+use yp_shared::{Accounts, Site, Versions};
 use yp_version::Version;
 use yp_xfr::laws::fetched_is_one;
 use yp_xfr::{Asker, XfrFault, fetch_from, tell_back};
 
 /// What a desk of a site has, whoever uses it: it never changes; how often its texts and its dial had failed before it
-/// was shared, and which wires its dial had; and the ledgers of what is counted since then. Each call of a program that
-/// shares a desk picks it.
+/// was shared, and which wires its dial had and what it had sent; and the ledgers of what is counted since then. Each
+/// call of a program that shares a desk picks it.
 pub trait Supplies {
     ghost use Rattle.std.specs.Prelude.{ℕ, List, Option};
+    ghost use Rattle.yp_io.specs.declared.stream.Peer.{Peer};
     ghost use Rattle.yp_io.specs.declared.texts.TextFile.{TextFile};
     ghost use Rattle.yp_io.specs.Dials.{Wires};
     ghost use Rattle.yp_xfr.specs.HostTable.{HostList};
@@ -52,6 +55,9 @@ pub trait Supplies {
 
     /// The wires of its dial, where they were told.
     ghost wires: { Option Wires };
+
+    /// The datagrams that its dial had sent, where they were told.
+    ghost letters: { Option (List (Peer × List ℕ)) };
 
     /// How often its dial had failed.
     ghost dial_faults: { ℕ };
@@ -76,6 +82,8 @@ impl Supplies for Brand {
     ghost text_faults = { 0 };
 
     ghost wires = { None };
+
+    ghost letters = { None };
 
     ghost dial_faults = { 0 };
 
@@ -126,7 +134,7 @@ impl<S: Accounts + Supplies> Ledger for Sources<S> {
 /// reached, of the sources that failed and of the versions that were fetched since it is shared. It is seen as that
 /// desk.
 #[derive(Drop)]
-pub struct SharedDesk<S: Accounts + Supplies, A: Dial, T: Texts, C: Clock> {
+pub struct SharedDesk<S: Site + Accounts + Supplies, A: Dial, T: Texts, C: Clock> {
     desk: Desk<A, T, C>,
     unread: Book<Unread<S>>,
     orders: Book<Orders<S>>,
@@ -134,11 +142,13 @@ pub struct SharedDesk<S: Accounts + Supplies, A: Dial, T: Texts, C: Clock> {
     versions: Book<Versions<S>>,
 }
 
-impl<S: Accounts + Supplies, A: Dial, T: Texts, C: Clock> Model for SharedDesk<S, A, T, C> {
+impl<S: Site + Accounts + Supplies, A: Dial, T: Texts, C: Clock> Model for SharedDesk<S, A, T, C> {
     ghost use Rattle.yp_server.specs.declared.desk.Desk.{Desk};
     ghost use Rattle.yp_workhost.specs.Desks.{IsSupplied};
     ghost use Rattle.yp_workhost.specs.Charges.{CoversUnread};
     ghost use Rattle.yp_workhost.specs.Wires.{CoversBy, CoversOrders, CoversSources, IsGood};
+    ghost use Rattle.yp_io.specs.Dials.{dial_tells};
+    ghost use Rattle.yp_workhost.specs.Uses.{IsUsedForTransfers, dial_told};
 
     ghost Value = { Desk A T C };
 
@@ -148,10 +158,12 @@ impl<S: Accounts + Supplies, A: Dial, T: Texts, C: Clock> Model for SharedDesk<S
         × CoversUnread S.text_faults (T.faults d.desk.texts) d.unread.total
         × CoversOrders S.wires (A.past d.desk.dial) d.orders.total
         × CoversSources S.wires (A.past d.desk.dial) S.dial_faults (A.faults d.desk.dial) d.sources.total
-        × CoversBy IsGood S.wires (A.past d.desk.dial) d.versions.total };
+        × CoversBy IsGood S.wires (A.past d.desk.dial) d.versions.total
+        × IsUsedForTransfers S.hosts S.catalogue.maps (dial_told S.wires S.letters S.dial_faults)
+        (dial_tells A.past A.letters A.faults d.desk.dial) };
 }
 
-impl<S: Accounts + Supplies, A: Dial, T: Texts, C: Clock> SharedDesk<S, A, T, C> {
+impl<S: Site + Accounts + Supplies, A: Dial, T: Texts, C: Clock> SharedDesk<S, A, T, C> {
     /// A desk that has what its site says, with the books of what is counted from now on.
     pub fn new(
         desk: Desk<A, T, C>,
@@ -162,7 +174,7 @@ impl<S: Accounts + Supplies, A: Dial, T: Texts, C: Clock> SharedDesk<S, A, T, C>
     ) -> SharedDesk<S, A, T, C>
         requires supplied { IsSupplied T.Texts S.text S.hosts desk }
         requires before { (T.faults desk.texts ≡ S.text_faults) × (A.past desk.dial ≡ S.wires)
-            × (A.faults desk.dial ≡ S.dial_faults) }
+            × (A.faults desk.dial ≡ S.dial_faults) × (A.letters desk.dial ≡ S.letters) }
         requires none { (unread.total ≡ 0) × (orders.total ≡ 0) × (sources.total ≡ 0) × (versions.total ≡ 0) }
         ensures { result ≡ desk }
     {
@@ -176,7 +188,8 @@ impl<S: Accounts + Supplies, A: Dial, T: Texts, C: Clock> SharedDesk<S, A, T, C>
     }
 
     /// The desk, once the lock is left. What a caller was charged with is covered by the faults of its texts, and by
-    /// the wires and the faults of its dial. No more versions were fetched than wires came that give one.
+    /// the wires and the faults of its dial. No more versions were fetched than wires came that give one. Its dial was
+    /// used for transfers of the maps of its site alone.
     pub fn close(
         self,
         unread: &mut Share<Unread<S>>,
@@ -191,6 +204,8 @@ impl<S: Accounts + Supplies, A: Dial, T: Texts, C: Clock> SharedDesk<S, A, T, C>
         ensures sources { (n : ℕ) → n ≤ sources.old.amount
             → CoversSources S.wires (A.past result.dial) S.dial_faults (A.faults result.dial) n }
         ensures versions { (n : ℕ) → n ≤ versions.old.amount → CoversBy IsGood S.wires (A.past result.dial) n }
+        ensures dialed { IsUsedForTransfers S.hosts S.catalogue.maps (dial_told S.wires S.letters S.dial_faults)
+            (dial_tells A.past A.letters A.faults result.dial) }
     {
         let mut shared = self;
         shared.unread.audit(unread);
@@ -233,8 +248,8 @@ impl<S: Accounts + Supplies, A: Dial, T: Texts, C: Clock> SharedDesk<S, A, T, C>
         built
     }
 
-    /// Fetches a map from a source, and gives the wire back, or answers `None` exactly where the source has no address.
-    /// An order that is reached is charged, and so is a source that failed, and a version that came.
+    /// Fetches a map of the site from a source, and gives the wire back, or answers `None` exactly where the source has
+    /// no address. An order that is reached is charged, and so is a source that failed, and a version that came.
     pub(crate) fn fetch(
         &mut self,
         alloc: Global,
@@ -245,6 +260,7 @@ impl<S: Accounts + Supplies, A: Dial, T: Texts, C: Clock> SharedDesk<S, A, T, C>
         charges: &mut Charges<S>,
     ) -> Option<Result<Version, XfrFault>>
         requires named { 0 < length source.now }
+        requires served { IsAmong S.catalogue.maps (name_view name.now) }
         requires domain { (0 < length name.now.domain.items) × (length name.now.domain.items ≤ name_max) }
         requires map { (0 < length name.now.map.items) × (length name.now.map.items ≤ name_max) }
         ensures none { IsNone result ↔ (find source.now S.hosts ≡ None) }

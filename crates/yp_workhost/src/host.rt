@@ -245,6 +245,10 @@ impl<
     C: Clock,
     R: RandomSource + Wait,
 > CatchUp for WorkerHost<'a, S, D, B, A, T, C, R> {
+    type Count = Totals;
+
+    ghost counted = { totals_of };
+
     // It waits for the publisher's lock.
     fn catch_up(&mut self) -> Result<(), NoMemory> {
         self.learn()
@@ -261,11 +265,7 @@ impl<
     C: Clock,
     R: RandomSource + Wait,
 > HandsOver for WorkerHost<'a, S, D, B, A, T, C, R> {
-    type Count = Totals;
-
     type Sum = Account<S, B>;
-
-    ghost counted = { totals_of };
 
     ghost summed = { λ account. account.totals };
 

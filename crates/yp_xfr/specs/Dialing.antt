@@ -21,7 +21,8 @@ sought wanted source hosts =
 
 -- One wire to this peer came, the calls were made on it, and it went back: its faults are counted as those of the
 -- dial, so the dial has failed where the wire has. No call was made where memory ran out for a client. What came of it
--- is what the bytes of the wire say, where it tells them.
+-- is what the bytes of the wire say, where it tells them. The dial tells what its input was at first, and what it was
+-- when it went back.
 pub record FetchesOnWire (peer : Peer) (wanted : Wanted) (outcome : Outcome) (old new : Dialing) : Type 0 where
   pub first : ClientState
   pub last : ClientState

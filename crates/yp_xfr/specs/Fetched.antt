@@ -61,7 +61,7 @@ by_bytes = record {
   limited = ⊥;
 }
 
--- This is fetched by the bytes from a place on.
+-- This is fetched by the bytes from a place on. They fix it, and the place behind.
 abbrev pub Fetched : Wanted → Place → Outcome → Type 0
 Fetched wanted first outcome = (last : Place) × Fetches by_bytes wanted outcome first last
 

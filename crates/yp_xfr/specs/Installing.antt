@@ -60,14 +60,15 @@ abbrev pub Offers : {D B : Type 0} → Keeping D B → ℕ → Offer → Result 
 Offers keeping number offered (Ok installed) old new = IsTaken keeping number offered installed old new
 Offers keeping number offered (Err fault) old new = IsNotTaken keeping number offered fault old new
 
--- The map was behind, and isn't opened.
+-- The map was behind, and isn't opened. The result fixes why, since a file that its disk tells isn't damaged then.
 pub record IsNotReopened {D B : Type 0} (keeping : Keeping D B) (number : ℕ) (result : Result Installed XfrFault)
     (old new : Published D B) : Type 0 where
   pub why : SlotFault
   pub fault_is : result ≡ Err (of_slot why)
   pub stays : StaysBehind keeping number why old new
 
--- The map is level, where it was behind by opening its file again, and then the version is offered.
+-- The map is level, where it was behind by opening its file again, and then the version is offered. What its file stood
+-- for fixes what is shown between.
 pub record OpensAndOffers {D B : Type 0} (keeping : Keeping D B) (number : ℕ) (version : MapVersion) (force : Bool)
     (mark : Option Bool) (result : Result Installed XfrFault) (old new : Published D B) : Type 0 where
   pub middle : Published D B

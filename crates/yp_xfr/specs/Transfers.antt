@@ -47,6 +47,7 @@ pub record Transfers {D B : Type 0} (keeping : Keeping D B) (hosts : HostList) (
   pub installs : InstallsOutcome keeping request outcome result old new
 
 -- A map was transferred for a caller, and then, from this moment of the dial on, the caller was told what came of it.
+-- But for its faults the dial then tells the wires of the end and the letters of the start.
 pub record TransfersFor {D B : Type 0} (keeping : Keeping D B) (hosts : HostList) (request : Request) (asker : Asker)
     (before after : DialTells) (old new : Published D B) : Type 0 where
   pub result : Result Installed XfrFault

@@ -5,7 +5,9 @@ ghost use Rattle.yp_io.specs.MemListen.{IsNew};
 use crate::given::{assert_same, bytes};
 use std::alloc::Global;
 use std::process::Abort;
-use yp_io::{Arrival, Called, Failed, Listen, MemCall, MemListen, MemSink, MemSource, Pair, Peer};
+use yp_io::{
+    Arrival, Called, Failed, Listen, MemCall, MemListen, MemSink, MemSource, Origin, Pair, Peer,
+};
 
 // A connection of this port, with this input.
 fn call(rt: &impl Abort, alloc: Global, port: u16, input: &[&str]) -> MemCall
@@ -17,9 +19,10 @@ fn call(rt: &impl Abort, alloc: Global, port: u16, input: &[&str]) -> MemCall
         addr: [127, 0, 0, 1],
         port,
     };
+    let wire = Pair { source, sink };
     Called {
-        peer,
-        wire: Pair { source, sink },
+        origin: Origin::new(peer, &wire),
+        wire,
     }
 }
 
@@ -54,7 +57,7 @@ type Row = (Step, Outcome, u32, usize);
 fn accept(rt: &impl Abort, listen: &mut MemListen, out: &mut Vec<MemCall>) -> Outcome {
     match listen.accept() {
         Ok(Arrival::Came(call)) => {
-            let port = call.peer.port;
+            let port = call.origin.peer().port;
             out.push(call).expect(rt, "memory for a connection");
             Outcome::Came(port)
         }

@@ -16,7 +16,7 @@ use std::random::RandomSource;
 use std::sync::{Arc, Wait};
 use yp_board::{Catalog, MapName};
 use yp_io::{
-    Called, Letter, MemCall, MemDial, MemDisk, MemInbox, MemListen, MemSink, MemSource, MemTexts,
+    Called, Letter, MemCall, MemDial, MemDisk, MemInbox, MemListen, MemSink, MemSource, MemTexts, Origin,
     Pair, Peer, SetClock, TextFile,
 };
 use yp_publish::laws::starts_are_shown;
@@ -121,15 +121,16 @@ pub fn desk(rt: &impl Abort, alloc: Global, failing: &[u64]) -> MemDesk {
 fn call(rt: &impl Abort, alloc: Global, port: u16, input: &[&str]) -> MemCall
     ensures { IsNew result }
 {
+    let source = MemSource::new(bytes(rt, alloc, input), 1000, Vec::new(alloc));
+    let sink = MemSink::new(alloc, 30, Vec::new(alloc));
+    let peer = Peer {
+        addr: [127, 0, 0, 1],
+        port,
+    };
+    let wire = Pair { source, sink };
     Called {
-        peer: Peer {
-            addr: [127, 0, 0, 1],
-            port,
-        },
-        wire: Pair {
-            source: MemSource::new(bytes(rt, alloc, input), 1000, Vec::new(alloc)),
-            sink: MemSink::new(alloc, 30, Vec::new(alloc)),
-        },
+        origin: Origin::new(peer, &wire),
+        wire,
     }
 }
 

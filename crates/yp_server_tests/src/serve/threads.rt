@@ -63,7 +63,7 @@ type Mailed = (u64, Vec<u8>, bool);
 // Adds what the connection from this port had taken, where it went back.
 fn add_taken(rt: &impl Abort, listen: &MemListen, port: u16, all: &mut Vec<u8>) {
     for call in listen.past() {
-        if call.peer.port == port {
+        if call.origin.peer().port == port {
             all.extend_from_slice(call.wire.sink.taken())
                 .expect(rt, "memory for bytes");
         }

@@ -65,6 +65,10 @@ impl Host for TestHost {
 }
 
 impl CatchUp for TestHost {
+    type Count = u64;
+
+    ghost counted = { λ host. host.transfers };
+
     fn catch_up(&mut self) -> Result<(), NoMemory> {
         if self.waiting.is_empty() || self.board.catalog().is_empty() {
             return Err(NoMemory);

@@ -6,7 +6,7 @@ ghost use Rattle.yp_worker.specs.Receptions.{IsFair};
 use crate::given::bytes;
 use std::alloc::Global;
 use std::process::Abort;
-use yp_io::{Called, MemCall, MemListen, MemSink, MemSource, Pair, Peer};
+use yp_io::{Called, MemCall, MemListen, MemSink, MemSource, Origin, Pair, Peer};
 
 // A connection of this port, with this input.
 fn call(rt: &impl Abort, alloc: Global, port: u16, input: &[&str]) -> MemCall
@@ -18,9 +18,10 @@ fn call(rt: &impl Abort, alloc: Global, port: u16, input: &[&str]) -> MemCall
         addr: [127, 0, 0, 1],
         port,
     };
+    let wire = Pair { source, sink };
     Called {
-        peer,
-        wire: Pair { source, sink },
+        origin: Origin::new(peer, &wire),
+        wire,
     }
 }
 

@@ -65,6 +65,10 @@ impl<B: Tell> Host for ReaderHost<B> {
 }
 
 impl<B: Tell> CatchUp for ReaderHost<B> {
+    type Count = u64;
+
+    ghost counted = { λ host. host.transfers };
+
     fn catch_up(&mut self) -> Result<(), NoMemory> {
         Ok(())
     }
@@ -78,11 +82,7 @@ pub struct Handed<B: Tell> {
 }
 
 impl<B: Tell> HandsOver for ReaderHost<B> {
-    type Count = u64;
-
     type Sum = Handed<B>;
-
-    ghost counted = { λ host. host.transfers };
 
     ghost summed = { λ sum. sum.transfers };
 

@@ -51,7 +51,7 @@ where
     requires out { (out.name ≡ J.name) × (out.parts ≡ J.parts) × (0 < out.parts) }
     requires ended { (ended.name ≡ E.name) × (ended.parts ≡ E.parts) × (0 < ended.parts) }
     requires opening { opening_of calls_of (λ (l : Door). l.most) (λ (l : Door). l.accepted)
-        (λ (l : Door). l.faults) listen ≡ J.opening }
+        (λ (l : Door). l.returned) (λ (l : Door). l.faults) listen ≡ J.opening }
     requires fair { IsFair J.opening.past }
     requires catalogue { (B.Reader.seen reader).catalogue ≡ J.catalogue }
     requires knows { IsFront J.starts (B.Reader.seen reader).known }
@@ -67,7 +67,7 @@ where
     ));
     let own = worker.run(rt, &listening, &mut pass);
     let (listen, all, sum) = listening.into_inner().close(&mut pass);
-    cover::<J, ReaderHost<B>, MemListen, B>(writer, &listen, &sum, &sum.front);
+    cover::<J, ReaderHost<B>, MemListen, B>(writer, &listen, &all, &sum, &sum.front);
     (
         own,
         all,
@@ -96,7 +96,7 @@ where
     requires out { (out.name ≡ J.name) × (out.parts ≡ J.parts) × (out.parts ≡ 2) }
     requires ended { (ended.name ≡ E.name) × (ended.parts ≡ E.parts) × (ended.parts ≡ 2) }
     requires opening { opening_of calls_of (λ (l : Door). l.most) (λ (l : Door). l.accepted)
-        (λ (l : Door). l.faults) listen ≡ J.opening }
+        (λ (l : Door). l.returned) (λ (l : Door). l.faults) listen ≡ J.opening }
     requires fair { IsFair J.opening.past }
     requires first { (B.Reader.seen readers.0).catalogue ≡ J.catalogue }
     requires second { (B.Reader.seen readers.1).catalogue ≡ J.catalogue }
@@ -118,7 +118,7 @@ where
     let ((mut pass, _), (other, _)) = run_beside(rt, &listening, first, second);
     pass.merge(other);
     let (listen, tally, sum) = listening.into_inner().close(&mut pass);
-    cover::<J, ReaderHost<B>, MemListen, B>(writer, &listen, &sum, &sum.front);
+    cover::<J, ReaderHost<B>, MemListen, B>(writer, &listen, &tally, &sum, &sum.front);
     (tally, listen.accepted(), taken(rt, alloc, &listen))
 }
 
@@ -156,16 +156,17 @@ fn worker<B: Tell>(
 fn cover<J: Reception, H: HandsOver, L: Listen, B: Tell>(
     writer: &mut B,
     listen: &L,
+    tally: &Tally,
     sum: &H::Sum,
     front: &B::Front,
 )
     requires reached { H.reached sum.now ≡ B.kept front.now }
     requires summed { SumsUp (conduct_of H.seen H.told H.counts H.stepped H.made H.carried)
         (counting_of H.counted H.none H.plus) (terms_of J.catalogue J.starts J.most) J.opening.past
-        (L.past listen.now) (H.summed sum.now) (H.reached sum.now) }
+        (L.past listen.now) tally.now.calls (H.summed sum.now) (H.reached sum.now) }
     ensures { SumsUp (conduct_of H.seen H.told H.counts H.stepped H.made H.carried)
         (counting_of H.counted H.none H.plus) (terms_of J.catalogue J.starts J.most) J.opening.past
-        (L.past listen.now) (H.summed sum.now) (B.log writer.new) }
+        (L.past listen.now) tally.now.calls (H.summed sum.now) (B.log writer.new) }
 {
     writer.covers(front);
     laws::sums_reach_further::<H>();

@@ -1,6 +1,6 @@
 //! Two workers over one map.
 
-ghost use Rattle.std.specs.Prelude.{◌≡◌, All};
+ghost use Rattle.std.specs.Prelude.{◌≡◌, All, Some};
 ghost use Rattle.yp_io.specs.MemDisk.{Platter};
 ghost use Rattle.yp_io.specs.MemDial.{wires_of};
 ghost use Rattle.yp_publish.specs.Rising.{moment_of};
@@ -277,7 +277,7 @@ fn under_locks<
     requires second { readers.1.catalogue ≡ S.catalogue }
     requires supplied { IsSupplied T.Texts S.text S.hosts desk }
     requires before { (T.faults desk.texts ≡ S.text_faults) × (wires_of desk.dial ≡ S.wires)
-        × (desk.dial.faults ≡ S.dial_faults) }
+        × (desk.dial.faults ≡ S.dial_faults) × (Some desk.dial.letters ≡ S.letters) }
     requires parts { S.shares ≡ 4 }
     requires unread { (blanks.unread.name ≡ S.unread) × (blanks.unread.parts ≡ 4) }
     requires failures { (blanks.failures.name ≡ S.failures) × (blanks.failures.parts ≡ 4) }

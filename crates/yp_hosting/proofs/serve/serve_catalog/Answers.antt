@@ -17,13 +17,13 @@ returns-in-Err-clause-does g c = λ connections.
     rw c.in-Err.ensures.err
     (nothing_done (seeing g.S.Source g.K.Sink g.D.Disk g.C.Clock g.A.Dial g.I.Inbox g.T.Texts)
     (serve_order c.args.catalog.own connections c.args.spec.now.turns c.args.catalog.maps c.args.hosts) c.args.office
-    (opening_of g.L.Listen.past g.L.Listen.most g.L.Listen.accepted g.L.Listen.faults c.args.listen))
+    (opening_of g.L.Listen.past g.L.Listen.most g.L.Listen.accepted g.L.Listen.returned g.L.Listen.faults c.args.listen))
 
 pub tell_end-status-requires-clause-number : goal.tell_end-status-requires-clause-number
 tell_end-status-requires-clause-number g c =
     let apart = c.in-Ok.apart in
     let did = c.host-hosted in
-    number_within g.D.Disk.history g.D.Disk.faults c.args.catalog did.result.0 apart.disks.items did.result.1.disks.items
+    number_within g.D.Disk.history g.D.Disk.faults did.result.0 apart.disks.items did.result.1.disks.items
     (length c.deref.result.now)
     (same_count c.args.office.disks.items apart.names.items apart.disks.items c.in-Ok.ensures.disks c.in-Ok.ensures.names
     ∙ ap length (sym c.deref.ensures.value))
@@ -60,7 +60,7 @@ returns-clause-does g c = λ connections.
       listen = c.args.listen;
       inbox = old.inbox;
     } in
-    let tells = opening_of g.L.Listen.past g.L.Listen.most g.L.Listen.accepted g.L.Listen.faults in
+    let tells = opening_of g.L.Listen.past g.L.Listen.most g.L.Listen.accepted g.L.Listen.returned g.L.Listen.faults in
     let names : map name_view c.deref.result.now ≡ c.args.catalog.maps =
     ap (λ (l : List MapName). map name_view l) c.deref.ensures.value ∙ c.in-Ok.ensures.names ∙ c.requires.disks in
     let shut = shut_of tells old new stock back did.result.0 refl refl refl refl refl did.ensures.untouched

@@ -12,12 +12,12 @@ use Rattle.yp_hosting.proofs.serve.serve_maps.Goals as goal
 pub returns-in_default-clause-does : goal.returns-in_default-clause-does
 returns-in_default-clause-does g c =
     nothing_done (seeing g.S.Source g.K.Sink g.D.Disk g.C.Clock g.A.Dial g.I.Inbox g.T.Texts) (order_view c.args.job)
-    c.args.office (opening_of g.L.Listen.past g.L.Listen.most g.L.Listen.accepted g.L.Listen.faults c.args.listen)
+    c.args.office (opening_of g.L.Listen.past g.L.Listen.most g.L.Listen.accepted g.L.Listen.returned g.L.Listen.faults c.args.listen)
 
 pub returns-in-Err-NoMemory-clause-does : goal.returns-in-Err-NoMemory-clause-does
 returns-in-Err-NoMemory-clause-does g c =
     nothing_done (seeing g.S.Source g.K.Sink g.D.Disk g.C.Clock g.A.Dial g.I.Inbox g.T.Texts) (order_view c.args.job)
-    c.args.office (opening_of g.L.Listen.past g.L.Listen.most g.L.Listen.accepted g.L.Listen.faults c.args.listen)
+    c.args.office (opening_of g.L.Listen.past g.L.Listen.most g.L.Listen.accepted g.L.Listen.returned g.L.Listen.faults c.args.listen)
 
 pub serve_catalog-requires-clause-named : goal.serve_catalog-requires-clause-named
 serve_catalog-requires-clause-named g c κs within =
@@ -29,7 +29,7 @@ returns-clause-does g c =
     seeing g.S.Source g.K.Sink g.D.Disk g.C.Clock g.A.Dial g.I.Inbox g.T.Texts in
     let job = c.args.job in
     let did = c.serve_catalog in
-    let tells = opening_of g.L.Listen.past g.L.Listen.most g.L.Listen.accepted g.L.Listen.faults in
+    let tells = opening_of g.L.Listen.past g.L.Listen.most g.L.Listen.accepted g.L.Listen.returned g.L.Listen.faults in
     let same : serve_order c.in-Ok-new.catalog.own job.connections job.turns c.in-Ok-new.catalog.maps c.in-Ok.hosts
     ≡ order_view job =
     ap (λ (k : Catalogue). serve_order k.own job.connections job.turns k.maps c.in-Ok.hosts) c.in-Ok-new.ensures.ok

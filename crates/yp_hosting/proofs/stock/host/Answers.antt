@@ -1,6 +1,7 @@
 use Rattle.std.proofs.Common.{◌∙◌}
 use Rattle.yp_hosting.proofs.Disks.{all_opened, stopped_count}
 use Rattle.yp_hosting.proofs.Starts.{levels}
+use Rattle.yp_hosting.proofs.Told.{unhosted_of}
 use Rattle.yp_hosting.proofs.stock.host.Goals as goal
 
 pub host_loaded-requires-clause-count : goal.host_loaded-requires-clause-count
@@ -21,3 +22,8 @@ pub returns-in-Err-clause-count : goal.returns-in-Err-clause-count
 returns-in-Err-clause-count g c =
     (stopped_count g.D.Disk.history g.D.Disk.faults c.args.stock.disks.items c.in-Err.field-0.disks.items
     c.in-Err.field-0.map c.in-Err.field-0.fault c.in-Err.ensures.refused).0
+
+pub returns-in-Ok-clause-unhosted : goal.returns-in-Ok-clause-unhosted
+returns-in-Ok-clause-unhosted g c =
+    unhosted_of g.D.Disk.history g.D.Disk.faults c.host_loaded.result.0 c.args.stock.disks.items c.in-Ok.loaded
+    c.host_loaded.result.1.disks.items c.in-Ok.ensures.loaded c.host_loaded.ensures.unhosted c.host_loaded.ensures.disks

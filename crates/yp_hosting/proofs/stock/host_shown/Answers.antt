@@ -10,6 +10,7 @@ use Rattle.yp_readers.specs.Boards.{Written}
 use Rattle.yp_server.specs.declared.desk.Desk.{Desk}
 use Rattle.yp_publish.specs.Rising.{moment_of}
 use Rattle.yp_shared.specs.Failures.{disks_of}
+use Rattle.yp_io.specs.Dials.{dial_tells}
 use Rattle.yp_rpc.specs.Turns.{box_of}
 use Rattle.yp_worker.specs.Receptions.{opening_of}
 use Rattle.yp_serve.specs.Counting.{FilesAreCovered}
@@ -47,12 +48,11 @@ pub returns-in-Ok-serve-clause-hosted : goal.returns-in-Ok-serve-clause-hosted
 returns-in-Ok-serve-clause-hosted g c =
     let did = c.in-Ok-serve.ensures in
     let made = c.publisher_of-publisher.ensures in
-    let here = opening_of g.L.Listen.past g.L.Listen.most g.L.Listen.accepted g.L.Listen.faults in
+    let here = opening_of g.L.Listen.past g.L.Listen.most g.L.Listen.accepted g.L.Listen.returned g.L.Listen.faults in
     let letters = box_of g.I.Inbox.past g.I.Inbox.turns g.I.Inbox.quiets in
-    let given = supply_of (g.T.Texts.faults c.shared-desk.result.texts) (g.A.Dial.past c.shared-desk.result.dial)
-    (g.A.Dial.faults c.shared-desk.result.dial) in
-    let left = supply_of (g.T.Texts.faults c.in-Ok-serve.served.desk.texts)
-    (g.A.Dial.past c.in-Ok-serve.served.desk.dial) (g.A.Dial.faults c.in-Ok-serve.served.desk.dial) in
+    let tells = dial_tells g.A.Dial.past g.A.Dial.letters g.A.Dial.faults in
+    let given = supply_of (g.T.Texts.faults c.shared-desk.result.texts) (tells c.shared-desk.result.dial) in
+    let left = supply_of (g.T.Texts.faults c.in-Ok-serve.served.desk.texts) (tells c.in-Ok-serve.served.desk.dial) in
     served_as g.D.Disk.history g.D.Disk.faults c.args.loaded _ _ _
     (place_of (here c.args.listen) (letters c.args.inbox) given)
     (place_of (here c.in-Ok-serve.served.listen) (letters c.in-Ok-serve.served.inbox) left)
@@ -60,10 +60,10 @@ returns-in-Ok-serve-clause-hosted g c =
     c.args.spec.now.turns c.args.catalog c.publisher_of-publisher.result.catalogue _ _ _ _
     (moment_of (λ (w : Written). w.log) c.publisher_of-publisher.result) c.args.spec.now.most
     (ap (λ (d : Desk g.row.A.Denot g.row.T.Denot g.row.C.Denot). place_of (here c.args.listen) (letters c.args.inbox)
-    (supply_of (g.T.Texts.faults d.texts) (g.A.Dial.past d.dial) (g.A.Dial.faults d.dial))) c.shared-desk.ensures)
+    (supply_of (g.T.Texts.faults d.texts) (tells d.dial))) c.shared-desk.ensures)
     (ap (λ (d : Desk g.row.A.Denot g.row.T.Denot g.row.C.Denot). place_of (here c.in-Ok-serve.served.listen)
     (letters c.in-Ok-serve.served.inbox)
-    (supply_of (g.T.Texts.faults d.texts) (g.A.Dial.past d.dial) (g.A.Dial.faults d.dial))) (sym c.unshared.ensures.desk))
+    (supply_of (g.T.Texts.faults d.texts) (tells d.dial))) (sym c.unshared.ensures.desk))
     (ap (λ (p : Published g.row.D.Denot Written). p.catalogue) made.publisher)
     (ap (λ (d : Desk g.row.A.Denot g.row.T.Denot g.row.C.Denot). g.T.Texts.text d.texts) c.shared-desk.ensures)
     (ap (λ (d : Desk g.row.A.Denot g.row.T.Denot g.row.C.Denot). d.hosts) c.shared-desk.ensures)
@@ -72,7 +72,7 @@ returns-in-Ok-serve-clause-hosted g c =
     ∙ ap (λ (l : List (Option MapVersion)). starts 0 l) c.requires.start))
     c.requires.most (
       did.grown,
-      did.served,
+      did.gone,
       did.datagrams,
       did.maps,
       record {
@@ -84,6 +84,7 @@ returns-in-Ok-serve-clause-hosted g c =
         orders = did.orders;
         sources = did.sources;
         origins = did.origins made.start;
+        dialed = did.dialed;
       },
     )
     (did.rises made.start)

@@ -13,7 +13,7 @@ returns-in-Ok-clause-serves g c =
     let box = box_of g.I.Inbox.past g.I.Inbox.turns g.I.Inbox.quiets in
     let last = c.take_turns-ended.new.errand in
     let new = c.carry_out.new.self in
-    serves_mail conduct c.args.turns c.take_turns-ended.result c.args.server.now last new (box c.args.inbox.now)
+    serves_mail conduct g.H.CatchUp.counted c.args.turns c.take_turns-ended.result c.args.server.now last new (box c.args.inbox.now)
     (box c.take_turns-ended.new.inbox) c.take_turns-ended.ensures.takes
     (subst (λ (r : Result Ended Failed). Closes conduct r last new) (sym c.in-Ok.is) c.carry_out.ensures)
 
@@ -23,6 +23,6 @@ returns-in-Err-clause-serves g c =
     let box = box_of g.I.Inbox.past g.I.Inbox.turns g.I.Inbox.quiets in
     let last = c.take_turns-ended.new.errand in
     let new = c.forget.new.self in
-    serves_mail conduct c.args.turns c.take_turns-ended.result c.args.server.now last new (box c.args.inbox.now)
+    serves_mail conduct g.H.CatchUp.counted c.args.turns c.take_turns-ended.result c.args.server.now last new (box c.args.inbox.now)
     (box c.take_turns-ended.new.inbox) c.take_turns-ended.ensures.takes
     (subst (λ (r : Result Ended Failed). Closes conduct r last new) (sym c.in-Err.is) c.forget.ensures)

@@ -6,7 +6,7 @@ use Rattle.yp_serve.proofs.crew.gather.Given as goal
 
 abbrev pub invariant-loop-post : goal.invariant-loop-post
 invariant-loop-post g l = record {
-  manned : (mailman : Mailman g.row.I.Denot g.row.H.Denot) → IsManned mailman gone_home l.initial.posts.items
+  manned : (mailman : Mailman g.row.I.Denot g.row.H.Denot g.row.H-Count.Denot) → IsManned mailman gone_home l.initial.posts.items
       → IsManned mailman gone_home l.posts.items;
   parts : l.pass.parts + length l.posts.items ≡ l.initial.pass.parts + length l.initial.posts.items;
   out : l.pass.out ≡ l.initial.pass.out;

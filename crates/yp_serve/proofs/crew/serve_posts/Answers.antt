@@ -43,22 +43,22 @@ returns-clause-counted g c = λ mailman manned begins log reaches.
     let posts = c.work_all.new.posts in
     let same = with_items_is c.args.posts posts (omega (arith, c.work_all.ensures.count, c.deref_mut.ensures.len)) in
     let first = subst (IsManned mailman at_work) (sym c.deref_mut.ensures.value) manned in
-    let mails = came_of (Mails conduct box g.I.Inbox.faults) mailman c.gather-mailman.result c.deref_mut.result.now posts first
+    let mails = came_of (Mails conduct g.H.CatchUp.counted box g.I.Inbox.faults) mailman c.gather-mailman.result c.deref_mut.result.now posts first
     c.work_all.ensures.count c.work_all.ensures.works
     (λ last h. c.gather-mailman.ensures.mailman last (subst (IsManned last gone_home) (sym same) h)) in
     let reached = g.H.HandsOver.reached c.hand_over-mailed.new.sum in
     let closed = c.close-listen.result.2 in record {
       connections = g.H.HandsOver.summed closed;
-      datagrams = g.H.HandsOver.counted c.gather-mailman.result.server.host;
+      datagrams = g.H.CatchUp.counted c.gather-mailman.result.server.host;
       of_connections = c.sums_reach_further.ensures (terms_of g.J.Site.catalogue g.J.Reception.starts g.J.Reception.most)
-          g.J.Reception.opening.past (g.L.Listen.past c.close-listen.result.0) (g.H.HandsOver.summed closed)
+          g.J.Reception.opening.past (g.L.Listen.past c.close-listen.result.0) c.close-listen.result.1.calls (g.H.HandsOver.summed closed)
           (g.H.HandsOver.reached closed) log c.close-listen.ensures.summed
           (front_then (g.H.HandsOver.reached closed) reached log c.hand_over-mailed.ensures.kept reaches);
-      of_datagrams = mailed conduct box g.I.Inbox.faults mailman
+      of_datagrams = mailed conduct
+          (counting_of g.H.CatchUp.counted g.H.HandsOver.none g.H.HandsOver.plus) box g.I.Inbox.faults mailman
           c.gather-mailman.result mails c.hand_over-mailed.result.fault c.hand_over-mailed.ensures.mailed.1
           c.hand_over-mailed.result.inbox c.hand_over-mailed.ensures.mailed.0
-          (counting_of g.H.HandsOver.counted g.H.HandsOver.none g.H.HandsOver.plus) g.J.Site.catalogue g.J.Reception.starts
-          log begins
+          g.J.Site.catalogue g.J.Reception.starts log begins
           (front_then (g.H.View.seen c.gather-mailman.result.server.host).known reached log c.hand_over-mailed.ensures.covered
           reaches);
       all_is = c.hand_over-mailed.ensures.added;
@@ -71,9 +71,9 @@ returns-clause-cause g c = λ mailman manned.
     let posts = c.work_all.new.posts in
     let same = with_items_is c.args.posts posts (omega (arith, c.work_all.ensures.count, c.deref_mut.ensures.len)) in
     let first = subst (IsManned mailman at_work) (sym c.deref_mut.ensures.value) manned in
-    let mails = came_of (Mails conduct box g.I.Inbox.faults) mailman c.gather-mailman.result c.deref_mut.result.now posts first
+    let mails = came_of (Mails conduct g.H.CatchUp.counted box g.I.Inbox.faults) mailman c.gather-mailman.result c.deref_mut.result.now posts first
     c.work_all.ensures.count c.work_all.ensures.works
     (λ last h. c.gather-mailman.ensures.mailman last (subst (IsManned last gone_home) (sym same) h)) in
-    mail_fails conduct box g.I.Inbox.faults mailman c.gather-mailman.result
+    mail_fails conduct (counting_of g.H.CatchUp.counted g.H.HandsOver.none g.H.HandsOver.plus) box g.I.Inbox.faults mailman c.gather-mailman.result
     mails c.hand_over-mailed.result.fault c.hand_over-mailed.ensures.mailed.1 c.hand_over-mailed.result.inbox
     c.hand_over-mailed.ensures.mailed.0

@@ -16,6 +16,6 @@ under_locks-requires-clause-spare g c κs within =
 
 pub returns-clause-all : goal.returns-clause-all
 returns-clause-all g c =
-    let tells = opening_of g.L.Listen.past g.L.Listen.most g.L.Listen.accepted g.L.Listen.faults in
-    all_accepted c.under_locks.result _ _ (tells c.args.listen) (λ s. tells s.listen) (λ s. s.tally.connections)
-    (λ s. s.tally.calls) (λ s. s.tally.listen_fault) c.under_locks.ensures.served
+    let tells = opening_of g.L.Listen.past g.L.Listen.most g.L.Listen.accepted g.L.Listen.returned g.L.Listen.faults in
+    all_accepted c.under_locks.result (tells c.args.listen) (λ s. tells s.listen) (λ s. s.tally.connections)
+    (λ s. s.tally.listen_fault) c.under_locks.ensures.gone

@@ -9,7 +9,7 @@ abbrev pub ghosts-under_locks-J-Reception : goal.ghosts-under_locks-J-Reception
 ghosts-under_locks-J-Reception g a = record {
   starts = g.B.Show.log a.lent.publisher.board;
   most = a.spec.now.most;
-  opening = opening_of g.L.Listen.past g.L.Listen.most g.L.Listen.accepted g.L.Listen.faults a.lent.listen;
+  opening = opening_of g.L.Listen.past g.L.Listen.most g.L.Listen.accepted g.L.Listen.returned g.L.Listen.faults a.lent.listen;
 }
 
 abbrev pub ghosts-under_locks-J-Site : goal.ghosts-under_locks-J-Site
@@ -21,6 +21,7 @@ ghosts-under_locks-J-Supplies g a = record {
   hosts = a.lent.desk.hosts;
   text_faults = g.T.Texts.faults a.lent.desk.texts;
   wires = g.A.Dial.past a.lent.desk.dial;
+  letters = g.A.Dial.letters a.lent.desk.dial;
   dial_faults = g.A.Dial.faults a.lent.desk.dial;
   unread = a.blanks.unread.name;
   orders = a.blanks.orders.name;

@@ -8,7 +8,7 @@ returns-clause-datagrams g c =
 
 pub returns-clause-grown : goal.returns-clause-grown
 returns-clause-grown g c =
-    starts_in _ _ _ _ _ _ _ _ _ _ _
+    starts_in _ _ _ _ _ _ _ _ _ _ _ _
     (c.serve-listen.ensures.counted (g.B.Show.log c.unlock-disks.result.1) c.unlock-disks.ensures.grown)
 
 pub returns-clause-rises : goal.returns-clause-rises

@@ -5,4 +5,4 @@ pub returns : goal.returns
 returns c =
     let replied = c.calls_have_replies.ensures in
     run_is_fetched (record { order = replied.order; master = replied.master; all = replied.all })
-    c.run_is_in_turn.ensures c.turns_give_fetch.ensures c.fetched_is_shown.ensures c.wire_is_fetched.ensures
+    c.run_is_on_logs.ensures c.turns_give_fetch.ensures c.fetched_is_shown.ensures c.wire_is_fetched.ensures

@@ -1,4 +1,7 @@
-use Rattle.std.proofs.Common.{◌≡◌, ◌∙◌, ◌+◌, length, Some, None, Ok, refl, ap, rules}
+use Rattle.std.proofs.Common.{◌≡◌, ◌∙◌, ◌+◌, length, Some, None, Ok, refl, ap, rules, inl, inr}
+use Rattle.yp_board.specs.declared.catalog.MapName.{MapName}
+use Rattle.yp_office.specs.declared.status.Status.{Status}
+use Rattle.yp_office.specs.declared.status.Status.TheVariants.{DiskFault}
 use Rattle.std.specs.Prelude.{IfSome}
 use Rattle.yp_version.specs.Versions.{MapVersion}
 use Rattle.yp_slot.specs.Loads.{Loads}
@@ -7,9 +10,10 @@ use Rattle.yp_slot.specs.Slots.{Held}
 use Rattle.yp_board.specs.Catalogues.{name_view}
 use Rattle.yp_storing.specs.Build.{last_view}
 use Rattle.yp_office.specs.Disks.{IsOnlyRead}
-use Rattle.yp_storing.specs.Revnet.{job_of, field_of}
+use Rattle.yp_storing.specs.Revnet.{job_of, field_of, OwnDiskFails}
 use Rattle.yp_storing.proofs.Reversing.{renews_err, fails, built_is, risen_first, risen_second, risen_later, made_as, unmade_as}
 use Rattle.yp_storing.proofs.Reversing.{store_unloaded, netgroup_unloaded, none_stands, unmade, unstored, renewed}
+use Rattle.yp_storing.proofs.Reversing.{err_same, disk_fault_names, made_no_disk, stops_names}
 use Rattle.yp_storing.proofs.revnet.renew.Goals as goal
 
 pub returns-in-Err-clause-renews : goal.returns-in-Err-clause-renews
@@ -151,3 +155,48 @@ returns-clause-renews g c =
     c.commit.ensures.any_moment c.commit.ensures.few
     (record { order = c.order.result; rows = c.len.result; generation = c.in_ok-generation.generation }) after is
     c.in_ok-generation.ensures.stored
+
+pub returns-in-Err-clause-own_disk : goal.returns-in-Err-clause-own_disk
+returns-in-Err-clause-own_disk g c map e =
+    let is = disk_fault_names (name_view c.args.names.store) c.in-Err.fault c.status_of_file.result map
+    c.status_of_file.ensures.fails e in
+    inl (is.1, c.in-Err.ensures.cause (ap fails is.0))
+
+pub returns-in-Ok-None-clause-own_disk : goal.returns-in-Ok-None-clause-own_disk
+returns-in-Ok-None-clause-own_disk g c map e = absurd cc
+
+pub returns-in-Err-load-clause-own_disk : goal.returns-in-Err-load-clause-own_disk
+returns-in-Err-load-clause-own_disk g c map e =
+    let is = disk_fault_names (name_view c.args.names.netgroup) c.in-Err-load.fault c.status_of_file-in-Err-load.result map
+    c.status_of_file-in-Err-load.ensures.fails e in
+    inr (is.1 ∙ c.requires.netgroup, c.in-Err-load.ensures.cause (ap fails is.0))
+
+pub returns-in_err-version-clause-own_disk : goal.returns-in_err-version-clause-own_disk
+returns-in_err-version-clause-own_disk g c =
+    let faults = g.D.Disk.faults in
+    let store = name_view c.args.names.store in
+    let status = c.in_err-version.field-0.0 in
+    err_same c.from_residual.result status
+    (λ (why : Status). (map : MapName) → why ≡ DiskFault map → OwnDiskFails store (name_view map)
+    (faults c.args.slot.now.disk) (faults c.load.new.self.disk)
+    (faults c.args.netgroup.now.disk) (faults c.load-2.new.self.disk))
+    c.from_residual.ensures.1
+    (λ map e. absurd (made_no_disk c.args.name.now c.field_of-field.result c.args.now (last_view c.as_ref.result)
+    c.in-Ok-Some.groups.rows status map c.in_err-version.ensures.unmade e))
+
+pub returns-in_err-generation-clause-own_disk : goal.returns-in_err-generation-clause-own_disk
+returns-in_err-generation-clause-own_disk g c =
+    let faults = g.D.Disk.faults in
+    let store = name_view c.args.names.store in
+    let status = c.in_err-generation.field-0.0 in
+    let a = faults c.args.slot.now.disk in
+    let a' = faults c.load.new.self.disk in
+    let a'' = faults c.commit.new.slot.disk in
+    err_same c.from_residual-in_err-generation.result status
+    (λ (why : Status). (map : MapName) → why ≡ DiskFault map → OwnDiskFails store (name_view map) a a''
+    (faults c.args.netgroup.now.disk) (faults c.load-2.new.self.disk))
+    c.from_residual-in_err-generation.ensures.1
+    (λ map e. inl (
+      stops_names store c.load.new.self.generation status map c.in_err-generation.ensures.stops e,
+      risen_later a a' a'' c.load.ensures.never_falls (c.in_err-generation.ensures.cause map e),
+    ))

@@ -1,8 +1,11 @@
-use Rattle.std.proofs.Common.{◌≡◌, ◌∙◌, ℕ, List, refl, ap, rules}
+use Rattle.std.proofs.Common.{◌≡◌, ◌∙◌, ℕ, List, refl, ap, subst, rules}
+use Rattle.std.specs.Prelude.{IfErr}
+use Rattle.yp_board.specs.declared.catalog.MapName.{MapName}
 use Rattle.yp_board.specs.Catalogues.{Name, name_view}
-use Rattle.yp_office.specs.Disks.{faults_of}
+use Rattle.yp_office.specs.Disks.{faults_of, faults_at}
 use Rattle.yp_office.specs.Seeing.{seeing}
-use Rattle.yp_storing.specs.Revnet.{job_of, store_history, netgroup_history}
+use Rattle.yp_office.specs.declared.status.Status.TheVariants.{DiskFault}
+use Rattle.yp_storing.specs.Revnet.{job_of, store_history, netgroup_history, OwnDiskFails}
 use Rattle.yp_storing.proofs.Reversing.{renews_as}
 use Rattle.yp_storing.proofs.Reversed.{revnet_does}
 use Rattle.yp_storing.proofs.revnet.reverse_map.Goals as goal
@@ -26,6 +29,11 @@ returns-clause-does g c =
           (ap (λ (own : List ℕ). job_of own (name_view c.in-Ok-Ok.told)) c.deref.ensures.value
           ∙ ap (λ (store : Name). job_of c.args.name.items store) told)
           c.renew_named-built.ensures.renews;
+      own_disk = subst (λ (store : Name). IfErr c.renew_named-built.result (λ why. (map : MapName) → why ≡ DiskFault map
+          → OwnDiskFails store (name_view map)
+          (faults_at seen.disk.faults 0 old.disks.items) (faults_at seen.disk.faults 0 new.disks.items)
+          (faults_at seen.disk.faults 1 old.disks.items) (faults_at seen.disk.faults 1 new.disks.items)))
+          told c.renew_named-built.ensures.own_disk;
       stop = c.renew_named-built.ensures.stop;
       ends = c.tell_end.ensures.ends;
       may_end = c.tell_end.ensures.may_end;

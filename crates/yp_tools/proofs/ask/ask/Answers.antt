@@ -18,6 +18,7 @@ returns-in-Ok-clause-does g c =
       write_fault = search rules;
       dial_fault = search rules;
       stays = search rules;
+      letters = c.query.ensures.letters;
     }
 
 pub returns-in-Err-clause-does : goal.returns-in-Err-clause-does
@@ -34,4 +35,5 @@ returns-in-Err-clause-does g c =
       write_fault = search rules;
       dial_fault = search rules;
       stays = search rules;
+      letters = c.query.ensures.letters;
     }

@@ -1,6 +1,8 @@
 use Rattle.yp_office.specs.Seeing.{seeing}
-use Rattle.yp_storing.specs.Xfr.{order_view}
-use Rattle.yp_tools.proofs.Walked.{of_walk, whole}
+use Rattle.yp_enum.specs.Told.{draft_with}
+use Rattle.yp_storing.specs.Xfr.{order_view, wanted}
+use Rattle.yp_walking.specs.Turns.{heard_of}
+use Rattle.yp_tools.proofs.Walked.{of_walk, of_skew, whole}
 use Rattle.yp_tools.proofs.walking.walk.Goals as goal
 
 pub returns-clause-does : goal.returns-clause-does
@@ -17,6 +19,14 @@ returns-clause-does g c =
       of_source = λ catalogue caller posts held told happened answers tells.
           of_walk seen order turns status old new posts held told happened catalogue caller
           c.delivered_is_of_source.ensures does answers tells;
+      skews = λ catalogue caller posts held first second told happened answers is.
+          of_skew seen order turns status old new posts held told happened catalogue caller first second
+          c.delivered_skews.ensures does answers is;
       complete = λ posts held draft told happened is unopposed inboxes disks writes.
           whole seen order turns status old new posts held told happened draft does is unopposed inboxes disks writes;
+      complete_of_source = λ catalogue caller posts held version told happened answers walkable shown count unopposed
+          inboxes disks writes.
+          whole seen order turns status old new posts held told happened (draft_with version version.rows) does
+          (c.delivered_is_whole.ensures catalogue caller order.host.1 (wanted order held) (heard_of posts) version
+          answers walkable shown count) unopposed inboxes disks writes;
     }

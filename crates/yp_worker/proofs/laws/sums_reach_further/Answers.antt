@@ -6,4 +6,4 @@ use Rattle.yp_worker.proofs.laws.sums_reach_further.Goals as goal
 pub returns : goal.returns
 returns g c = sums_further
     (conduct_of g.H.View.seen g.H.Host.told g.H.Host.counts g.H.View.stepped g.H.Host.made g.H.Host.carried)
-    (counting_of g.H.HandsOver.counted g.H.HandsOver.none g.H.HandsOver.plus)
+    (counting_of g.H.CatchUp.counted g.H.HandsOver.none g.H.HandsOver.plus)

@@ -1,4 +1,5 @@
 -- The catalogue, and what the publisher and the desk have before they are shared.
+use Rattle.std.specs.Prelude.{Some}
 use Rattle.yp_io.specs.MemDial.{wires_of}
 use Rattle.yp_io.specs.MemDisk.{Platter}
 use Rattle.yp_publish.specs.Rising.{moment_of}
@@ -27,6 +28,7 @@ ghosts-under_locks-S-Supplies g a = record {
   hosts = a.desk.hosts;
   text_faults = g.T.Texts.faults a.desk.texts;
   wires = wires_of a.desk.dial;
+  letters = Some a.desk.dial.letters;
   dial_faults = a.desk.dial.faults;
   unread = a.blanks.unread.name;
   orders = a.blanks.orders.name;

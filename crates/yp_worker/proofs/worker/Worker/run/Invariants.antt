@@ -12,7 +12,7 @@ invariant-loop g l =
       next : (goal.iterator-loop g).can_next l.iterator';
       finite : (goal.iterator-loop g).is_finite l.iterator';
       under : IsUnder conduct terms l.self;
-      none : g.H.HandsOver.counted l.self.host ≡ g.H.HandsOver.none;
+      none : g.H.CatchUp.counted l.self.host ≡ g.H.HandsOver.none;
       grown : IsFront (g.H.View.seen l.initial.self.host).known (g.H.View.seen l.self.host).known;
       pass : l.pass ≡ l.initial.pass;
     }

@@ -1,6 +1,11 @@
-use Rattle.std.proofs.Common.{false}
-use Rattle.yp_io.specs.Dials.{dialing_of}
+use Rattle.std.proofs.Common.{false, subst}
+use Rattle.yp_io.specs.Dials.{dialing_of, dial_tells}
+use Rattle.yp_board.specs.Catalogues.{name_view}
+use Rattle.yp_xfr.specs.HostTable.{HostList}
 use Rattle.yp_xfr.specs.Fetching.{wanted_of}
+use Rattle.yp_xfr.specs.Dialing.{FetchesFrom}
+use Rattle.yp_workhost.specs.Uses.{Fetching, dial_told}
+use Rattle.yp_workhost.proofs.Using.{used_more}
 use Rattle.yp_workhost.proofs.Reaching.{fetched_orders}
 use Rattle.yp_workhost.proofs.Sourcing.{fetched_sources, fetched_versions}
 use Rattle.yp_workhost.proofs.Aging.{fetched_aged}
@@ -9,6 +14,7 @@ use Rattle.yp_workhost.proofs.desk.SharedDesk.fetch.Goals as goal
 pub invariant_of-self : goal.invariant_of-self
 invariant_of-self g c =
     let dialing = dialing_of g.A.Dial.past g.A.Dial.faults in
+    let tells = dial_tells g.A.Dial.past g.A.Dial.letters g.A.Dial.faults in
     let wanted = wanted_of c.deref.result.now c.deref-2.result.now c.args.shown false in
     let fetched = c.fetch_from-fetched.result in
     let old = dialing c.self.inside.desk.dial in
@@ -24,6 +30,17 @@ invariant_of-self g c =
           c.requires.named c.in_ok-find.field-0 c.in_ok-find.ensures fetches),
       rw c.charge_version.ensures.total (fetched_versions g.S.Supplies.wires c.self.inside.versions.total wanted fetched old new
           c.self.invariant.4 c.self.inside.desk.hosts c.args.source.now fetches),
+      used_more g.S.Supplies.hosts g.S.Site.catalogue.maps
+          (Fetching c.args.source.now (name_view c.args.name.now) c.args.shown fetched)
+          (dial_told g.S.Supplies.wires g.S.Supplies.letters g.S.Supplies.dial_faults)
+          (tells c.self.inside.desk.dial) (tells c.fetch_from-fetched.new.dial) c.self.invariant.5 (
+            c.requires.served,
+            subst (λ (h : HostList). FetchesFrom h c.args.source.now
+                (wanted_of c.args.name.now.domain.items c.args.name.now.map.items c.args.shown false) fetched old new)
+                c.self.invariant.0.hosts_are
+                (rw (← c.deref.ensures.value, ← c.deref-2.ensures.value) fetches),
+            c.fetch_from-fetched.ensures.letters,
+          ),
     )
 
 pub returns-clause-aged : goal.returns-clause-aged

@@ -2,10 +2,14 @@ use Rattle.yp_workhost.specs.Wires.{BeginsWithOrder, IsGood}
 use Rattle.yp_xfr.specs.CallBack.{wants_call}
 use Rattle.yp_workhost.proofs.Dialing.{calls_back_past, calls_back_faults, same_wires}
 use Rattle.yp_workhost.proofs.Sourcing.{same_sources}
+use Rattle.yp_io.specs.Dials.{dial_tells}
+use Rattle.yp_workhost.specs.Uses.{Telling, dial_told}
+use Rattle.yp_workhost.proofs.Using.{used_more}
 use Rattle.yp_workhost.proofs.desk.SharedDesk.tell_back.Goals as goal
 
 pub invariant_of-self : goal.invariant_of-self
 invariant_of-self g c =
+    let tells = dial_tells g.A.Dial.past g.A.Dial.letters g.A.Dial.faults in
     let past = calls_back_past (wants_call c.args.asker.now) c.args.asker.now c.args.stat _ _ c.tell_back.ensures in
     let stays = calls_back_faults (wants_call c.args.asker.now) c.args.asker.now c.args.stat _ _ c.tell_back.ensures in (
       record { texts_are = c.self.invariant.0.texts_are; hosts_are = c.self.invariant.0.hosts_are },
@@ -13,4 +17,7 @@ invariant_of-self g c =
       same_wires BeginsWithOrder g.S.Supplies.wires _ _ _ past c.self.invariant.2,
       same_sources g.S.Supplies.wires _ _ g.S.Supplies.dial_faults _ _ _ past stays c.self.invariant.3,
       same_wires IsGood g.S.Supplies.wires _ _ _ past c.self.invariant.4,
+      used_more g.S.Supplies.hosts g.S.Site.catalogue.maps (Telling c.args.asker.now c.args.stat)
+          (dial_told g.S.Supplies.wires g.S.Supplies.letters g.S.Supplies.dial_faults)
+          (tells c.self.inside.desk.dial) (tells c.tell_back.new.dial) c.self.invariant.5 c.tell_back.ensures,
     )

@@ -1,0 +1,27 @@
+use Rattle.std.proofs.Common.{◌≡◌, ◌∙◌, [], ◌∷◌, ◌++◌, List, sym, ap}
+use Rattle.yp_board.specs.Catalogues.{name_view}
+use Rattle.yp_office.specs.declared.disks.NamedDisk.{NamedDisk}
+use Rattle.yp_office.specs.Disks.{names_of}
+use Rattle.yp_storing.proofs.Reversing.{no_rest, two_faults, own_disk_as}
+use Rattle.yp_storing.proofs.revnet.renew_named.Goals as goal
+
+pub returns-clause-own_disk : goal.returns-clause-own_disk
+returns-clause-own_disk g c =
+    let faults = g.D.Disk.faults in
+    let first = c.in-Some-pop.first in
+    let second = c.in-Some.second in
+    let rest = c.pop-2.new.self.items in
+    let whole = c.in-Some.ensures.items
+    ∙ ap (λ (l : List (NamedDisk g.row.D.Denot)). l ++ second ∷ []) c.in-Some-pop.ensures.items in
+    let none : rest ≡ [] = no_rest rest first second _ _
+    (ap (λ (l : List (NamedDisk g.row.D.Denot)). names_of l) (sym whole) ∙ c.requires.both) in
+    let old = two_faults faults c.args.disks.now.items c.pop.new.self.items rest first second
+    c.in-Some.ensures.items c.in-Some-pop.ensures.items none in
+    let new = two_faults faults c.push_reserved-2.new.self.items c.push_reserved.new.self.items rest _ _
+    c.push_reserved-2.ensures.items c.push_reserved.ensures.items none in
+    own_disk_as c.renew-built.result (name_view c.args.names.store) _ _ _ _ _ _ _ _
+    (old.0 ∙ ap (λ s. faults s.disk) (sym c.new-slot.ensures))
+    (new.0 ∙ ap faults c.into_disk.ensures)
+    (old.1 ∙ ap (λ s. faults s.disk) (sym c.new-netgroup.ensures))
+    (new.1 ∙ ap faults c.into_disk-2.ensures)
+    c.renew-built.ensures.own_disk

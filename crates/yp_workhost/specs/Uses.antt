@@ -1,0 +1,45 @@
+-- What a server does with the dial that its workers share: whom it dials, what it asks there, and what it posts.
+use Rattle.std.specs.Prelude.{◌≡◌, ℕ, Bool, false, List, [], ◌∷◌, Option, Some, slice_get}
+use Rattle.yp_io.specs.Dials.{DialTells, Wires, wires_told}
+use Rattle.yp_io.specs.declared.stream.Peer.{Peer}
+use Rattle.yp_msgs.specs.declared.transfer.XfrStat.{XfrStat}
+use Rattle.yp_board.specs.Catalogues.{Name}
+use Rattle.yp_xfr.specs.declared.calling_back.Asker.{Asker}
+use Rattle.yp_xfr.specs.HostTable.{HostList}
+use Rattle.yp_xfr.specs.Fetching.{Outcome, wanted_of}
+use Rattle.yp_xfr.specs.Dialing.{FetchesFrom}
+use Rattle.yp_xfr.specs.CallBack.{wants_call, CallsBack}
+
+-- a use of a dial: a map of this name was wanted of this source behind the order that was shown, and that came of it; or
+-- a caller was told a status, where it wants to be
+pub data DialUse : Type 0 where
+  Fetching : List ℕ → Name → Option ℕ → Outcome → DialUse
+  Telling : Asker → XfrStat → DialUse
+
+-- A map of this name is served.
+abbrev pub IsAmong : List Name → Name → Type 0
+IsAmong maps name = (number : ℕ) × (slice_get maps number ≡ Some name)
+
+-- what a use does to a dial: a fetch of a map that is served, which isn't forced, from a host of the table posts
+-- nothing, and a call back opens no wire
+abbrev pub UsesDial : HostList → List Name → DialUse → DialTells → DialTells → Type 0
+UsesDial hosts maps (Fetching source name shown outcome) old new =
+    IsAmong maps name
+    × FetchesFrom hosts source (wanted_of name.0 name.1 shown false) outcome (wires_told old) (wires_told new)
+    × (new.letters ≡ old.letters)
+UsesDial hosts maps (Telling asker stat) old new = CallsBack (wants_call asker) asker stat old new
+
+-- uses, one after the other
+abbrev pub UsesInTurn : HostList → List Name → List DialUse → DialTells → DialTells → Type 0
+UsesInTurn hosts maps [] old new = new ≡ old
+UsesInTurn hosts maps (one ∷ more) old new =
+    (next : DialTells) × UsesDial hosts maps one old next × UsesInTurn hosts maps more next new
+
+-- A dial was used for transfers of these maps alone, from these hosts.
+pub record IsUsedForTransfers (hosts : HostList) (maps : List Name) (old new : DialTells) : Type 0 where
+  pub uses : List DialUse
+  pub in_turn : UsesInTurn hosts maps uses old new
+
+-- what a dial told: its wires, the datagrams that were sent, and how often it had failed
+abbrev pub dial_told : Option Wires → Option (List (Peer × List ℕ)) → ℕ → DialTells
+dial_told wires letters faults = record { past = wires; letters = letters; faults = faults }
