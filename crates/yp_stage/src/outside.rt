@@ -11,8 +11,8 @@ use crate::row::{Datagram, NEVER, Row};
 use std::alloc::{AllocError, Global};
 use yp_board::MapName;
 use yp_io::{
-    Called, Letter, MemCall, MemDial, MemDisk, MemInbox, MemListen, MemSink, MemSource, MemTexts, Origin,
-    MemWire, OWN_HOST, Pair, Peer, SetClock, TextFile,
+    Called, Letter, MemCall, MemDial, MemDisk, MemInbox, MemListen, MemSink, MemSource, MemTexts,
+    MemWire, OWN_HOST, Origin, Pair, Peer, SetClock, TextFile,
 };
 use yp_tools::{NamedDisk, Outside, disk_names, named_disks};
 

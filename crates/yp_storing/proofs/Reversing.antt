@@ -83,8 +83,7 @@ pub two_faults : {D : Type 0} (faults : D → ℕ) (disks middle rest : List (Na
     → (faults_at faults 0 disks ≡ faults first.disk) × (faults_at faults 1 disks ≡ faults second.disk)
 two_faults {D} faults disks middle rest first second last before none =
     let whole : disks ≡ first ∷ second ∷ [] = last
-    ∙ ap (λ (l : List (NamedDisk D)). l ++ second ∷ []) (before ∙ ap (λ (l : List (NamedDisk D)). l ++ first ∷ []) none) in
-    (
+    ∙ ap (λ (l : List (NamedDisk D)). l ++ second ∷ []) (before ∙ ap (λ (l : List (NamedDisk D)). l ++ first ∷ []) none) in (
       ap (λ (l : List (NamedDisk D)). faults_at faults 0 l) whole,
       ap (λ (l : List (NamedDisk D)). faults_at faults 1 l) whole,
     )

@@ -16,8 +16,8 @@ use std::random::RandomSource;
 use std::sync::{Arc, Wait};
 use yp_board::{Catalog, MapName};
 use yp_io::{
-    Called, Letter, MemCall, MemDial, MemDisk, MemInbox, MemListen, MemSink, MemSource, MemTexts, Origin,
-    Pair, Peer, SetClock, TextFile,
+    Called, Letter, MemCall, MemDial, MemDisk, MemInbox, MemListen, MemSink, MemSource, MemTexts,
+    Origin, Pair, Peer, SetClock, TextFile,
 };
 use yp_publish::laws::starts_are_shown;
 use yp_publish::{Loaded, Publisher, load_all};
