@@ -239,7 +239,8 @@ where
     requires disks { names_of outside.disks.items ≡ stores_of (meaning (Command.Serve job)) }
     requires fair { IsFair (L.past outside.listen) }
     ensures does { ServeDoes (seeing S.Source K.Sink D.Disk C.Clock A.Dial I.Inbox T.Texts) (order_view job) result.0
-        (office_of outside) (office_of result.1) (opening_of L.past L.most L.accepted L.returned L.faults outside.listen)
+        (office_of outside) (office_of result.1)
+        (opening_of L.past L.most L.accepted L.returned L.faults outside.listen)
         (opening_of L.past L.most L.accepted L.returned L.faults result.1.listen) }
     ensures may_end { IsTrue (serve_may_end result.0) }
     ensures passed_on { IsPassedOn (seeing S.Source K.Sink D.Disk C.Clock A.Dial I.Inbox T.Texts) result.0
@@ -327,7 +328,8 @@ where
     ensures does { Does (seeing S.Source K.Sink D.Disk C.Clock A.Dial I.Inbox T.Texts)
         (command_of (texts words.now)) result.0 (office_of outside) (office_of result.1)
         (opening_of L.past L.most L.accepted L.returned L.faults outside.listen)
-        (opening_of L.past L.most L.accepted L.returned L.faults result.1.listen) (W.wires witness.old) (W.wires witness.new) }
+        (opening_of L.past L.most L.accepted L.returned L.faults result.1.listen)
+        (W.wires witness.old) (W.wires witness.new) }
     ensures may_end { MayEnd (command_of (texts words.now)) result.0 }
     ensures disks { names_of result.1.disks.items ≡ names_of outside.disks.items }
     ensures clock { C.moment result.1.clock ≡ C.moment outside.clock }

@@ -10,8 +10,8 @@ use Rattle.yp_xfr.specs.Fetching.{Outcome, wanted_of}
 use Rattle.yp_xfr.specs.Dialing.{FetchesFrom}
 use Rattle.yp_xfr.specs.CallBack.{wants_call, CallsBack}
 
--- a use of a dial: a map of this name was wanted of this source behind the order that was shown, and that came of it; or
--- a caller was told a status, where it wants to be
+-- a use of a dial: a map of this name was wanted of this source behind the order that was shown, and that came of it;
+-- or a caller was told a status, where it wants to be
 pub data DialUse : Type 0 where
   Fetching : List ℕ → Name → Option ℕ → Outcome → DialUse
   Telling : Asker → XfrStat → DialUse
