@@ -8,6 +8,7 @@ use Rattle.yp_answer.specs.declared.procedure.Path.{Path}
 use Rattle.yp_answer.specs.declared.procedure.Procedure.{Procedure}
 use Rattle.yp_answer.specs.declared.caller.Caller.{Caller}
 use Rattle.yp_answer.specs.declared.calls.Answered.{Answered}
+use Rattle.yp_answer.specs.Make.{IsKindOf}
 use Rattle.yp_answer.specs.declared.make.Job.{Job}
 use Rattle.yp_answer.specs.declared.transfer.Errand.{Errand}
 use Rattle.yp_answer.specs.Transfer.{taken_view}
@@ -44,9 +45,10 @@ pub record TakesTransfer (maps : Maps) (expected : Response) (len : ℕ) (errand
   pub within : len ≤ length buf
   pub takes : expected ≡ Takes (take len buf) (taken_view errand)
 
--- The reply waits for a map, one of the catalogue, that is made first.
+-- The reply waits for a map, one of the catalogue, that is made first, as the kind that it is.
 pub record Waits (maps : Maps) (expected : Response) (xid : ℕ) (job : Job) : Type 0 where
   pub inside : job.map < length maps.catalogue.maps
+  pub kind : IsKindOf maps.catalogue job.map job.kind
   pub left_open : expected ≡ Open xid job
 
 -- an answer has this reply: silence, the front of the buffer, which may take a transfer, or a stream; or it has the map

@@ -1,5 +1,5 @@
 -- Which calls of MAKE are refused, and which map the others ask for. The make program is this project's own.
-use Rattle.std.specs.Prelude.{ℕ, not, ◌==◌, if◌then◌else◌, length, Option, option_map, Result, Err}
+use Rattle.std.specs.Prelude.{◌≡◌, ℕ, not, ◌==◌, if◌then◌else◌, List, length, Option, Some, option_map, Result, Err}
 use Rattle.std.specs.Prelude.{bytes_eq}
 use Rattle.std.specs.List as lists
 use Rattle.std.specs.Option.{option_and_then, ok_or}
@@ -30,6 +30,10 @@ abbrev pub made_map : Catalogue → MakeRequest → Option Job
 made_map catalogue asked =
     option_and_then (λ kind. option_map (λ map. job_of map kind) (find asked.0 (name_of kind) catalogue))
     (kind_numbered asked.1)
+
+-- A kind is that of the map with this number: the map is found in some domain by the kind's name.
+abbrev pub IsKindOf : Catalogue → ℕ → Kind → Type 0
+IsKindOf catalogue number kind = (domain : List ℕ) × (find domain (name_of kind) catalogue ≡ Some number)
 
 -- the map that is made for a caller, or the status that refuses to, the first that applies
 abbrev pub make_check : Catalogue → Peer → MakeRequest → Result Job XfrStat

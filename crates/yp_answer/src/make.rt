@@ -3,7 +3,7 @@
 ghost use Rattle.std.specs.Prelude.{◌≡◌, ◌<◌, ◌≤◌, length, take, IfOk};
 ghost use Rattle.yp_msgs.specs.Transfers.{req_make_view};
 ghost use Rattle.yp_answer.specs.Numbers.{datagram_max};
-ghost use Rattle.yp_answer.specs.Make.{make_check};
+ghost use Rattle.yp_answer.specs.Make.{make_check, IsKindOf};
 ghost use Rattle.yp_answer.specs.Reply.{make_reply};
 
 use crate::caller::put_head;
@@ -25,6 +25,7 @@ pub struct Job {
 pub fn make_check(catalog: &Catalog, peer: Peer, asked: &ReqMake<'_>) -> Result<Job, XfrStat>
     ensures check { result ≡ make_check catalog.now peer (req_make_view asked.now) }
     ensures inside { IfOk result (λ job. job.map < length catalog.now.maps) }
+    ensures kind { IfOk result (λ job. IsKindOf catalog.now job.map job.kind) }
 {
     if peer.addr != OWN_HOST {
         return Err(XfrStat::Refused);

@@ -4,7 +4,7 @@ use Rattle.std.specs.Prelude.{⊤, IsOk, IfOk}
 use Rattle.std.specs.Borrow.{Bor}
 use Rattle.std.proofs.lemmas.List.{length-append}
 use Rattle.yp_io.specs.declared.stream.Peer.{Peer}
-use Rattle.yp_io.specs.Dials.{WireState, Dialed, Wires, Comes, GoesBack}
+use Rattle.yp_io.specs.Dials.{WireState, Connected, connected, Wires, Comes, GoesBack}
 use Rattle.yp_msgs.specs.declared.stat.YpStat.{YpStat}
 use Rattle.yp_msgs.specs.declared.maplist.MapList.{MapList}
 use Rattle.yp_version.specs.Rows.{Row, listed}
@@ -229,29 +229,30 @@ last_same [] x y e = cc
 last_same (z ∷ xs) x y e = let rest : xs ++ x ∷ [] ≡ xs ++ y ∷ [] = cc in last_same xs x y rest
 
 -- the wire that came is the one to that peer, which gives the stream
-dialed_is : (dialed : Dialed) (last : WireState) (mid : Option Wires) (before after : Wires) (peer : Peer) (stream : List ℕ) → Comes dialed (Some before) mid → GoesBack last mid (Some after)
-    → after.came ≡ before.came ++ (peer, Some stream) ∷ [] → dialed ≡ (peer, Some stream)
-dialed_is dialed last None before after peer stream comes back came = absurd comes
-dialed_is dialed last (Some others) before after peer stream comes back came =
-    let mine : others.came ≡ before.came ++ dialed ∷ [] = ap (λ (w : Wires). w.came) comes in
+wire_is : (wire other : Connected) (last : WireState) (mid : Option Wires) (before after : Wires)
+    → Comes wire (Some before) mid → GoesBack last mid (Some after) → after.came ≡ before.came ++ other ∷ []
+    → wire ≡ other
+wire_is wire other last None before after comes back came = absurd comes
+wire_is wire other last (Some others) before after comes back came =
+    let mine : others.came ≡ before.came ++ wire ∷ [] = ap (λ (w : Wires). w.came) comes in
     let kept : after.came ≡ others.came = ap (λ (w : Wires). w.came) back in
-    last_same before.came dialed (peer, Some stream) (sym mine ∙ sym kept ∙ came)
+    last_same before.came wire other (sym mine ∙ sym kept ∙ came)
 
 -- where no wire came, none did
 none_came : (peer : Peer) (stream : List ℕ) (old new : Option Wires) → HasCome peer stream old new → new ≡ old → ⊥
 none_came peer stream old new came same =
     let e : Some came.after ≡ Some came.before = sym came.is ∙ same ∙ came.was in
     let both : came.after ≡ came.before = cc in
-    omega (arith, ap (λ (w : Wires). length w.came) both, ap length came.came, length-append came.before.came ((peer, Some stream) ∷ []))
+    omega (arith, ap (λ (w : Wires). length w.came) both, ap length came.came, length-append came.before.came (connected peer (Some stream) came.sent ∷ []))
 
 exchange_told : CallsAreTold → (first second : Maps) (server caller : Peer) (question : ByteQuestion) (stream : List ℕ) (outcome : Outcome) (old new : Option Wires) → AreServed first → AreServed second
     → QuestionIsWithin question → GivesReplies first second caller question stream → HasCome server stream old new → Exchanges server question outcome old new → ComesTo (text_told first second caller question) outcome
 exchange_told laws first second server caller question stream outcome old new one other within good came did =
-    let dialed : Dialed = (server, did.first.wire.input) in
-    let comes : Comes dialed (Some came.before) did.mid = subst (λ (w : Option Wires). Comes dialed w did.mid) came.was did.comes in
+    let wire : Connected = connected server did.first.wire.input did.first.wire.output in
+    let comes : Comes wire (Some came.before) did.mid = subst (λ (w : Option Wires). Comes wire w did.mid) came.was did.comes in
     let back : GoesBack did.last.wire did.mid (Some came.after) = subst (λ (w : Option Wires). GoesBack did.last.wire did.mid w) came.is did.goes_back in
-    let same = dialed_is dialed did.last.wire did.mid came.before came.after server stream comes back came.came in
-    laws first second caller question stream outcome did.first did.last one other within good did.begins (ap (λ (d : Dialed). d.1) same) did.converses
+    let same = wire_is wire (connected server (Some stream) came.sent) did.last.wire did.mid came.before came.after comes back came.came in
+    laws first second caller question stream outcome did.first did.last one other within good did.begins (ap (λ (d : Connected). d.input) same) did.converses
 
 pub query_prints_told : CallsAreTold → QueryPrintsTold
 query_prints_told laws first second server caller question stream (Err Dial) old new one other within good came asks = absurd (none_came server stream old.dial.past new.dial.past came asks.0)

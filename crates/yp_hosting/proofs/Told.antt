@@ -2,17 +2,17 @@
 use Rattle.std.proofs.Common.{◌≡◌, inl, inr, ⊎_elim, ℕ, List, length, map, Bool, true, false, Option, Some, Result, Ok, Err, refl, sym, ap, ◌∙◌, subst, arith}
 use Rattle.std.specs.Prelude.{IfOk, IfErr, OnErr}
 use Rattle.std.specs.List.{AllZip}
-use Rattle.yp_io.specs.Counts.{HasRisen}
+use Rattle.yp_io.specs.Counts.{HasRisen, capped}
 use Rattle.yp_io.specs.Disk.{History}
 use Rattle.yp_io.specs.declared.texts.TextFile.{TextFile}
 use Rattle.yp_slot.specs.declared.fault.SlotFault.{SlotFault}
 use Rattle.yp_slot.specs.declared.fault.SlotFault.TheVariants as fault
-use Rattle.yp_board.specs.Catalogues.{Name, Catalogue}
+use Rattle.yp_board.specs.Catalogues.{Name}
 use Rattle.yp_board.specs.declared.catalog.MapName.{MapName}
 use Rattle.yp_publish.specs.Begins.{IsUnwritten}
 use Rattle.yp_publish.specs.Opens.{IsOpened, IsStopped}
 use Rattle.yp_publish.specs.Standing.{Kept}
-use Rattle.yp_worker.specs.Receptions.{Opening, IsKept, capped}
+use Rattle.yp_worker.specs.Receptions.{Opening, IsKept}
 use Rattle.yp_office.specs.declared.office.Office.{Office}
 use Rattle.yp_office.specs.declared.status.Status.{Status}
 use Rattle.yp_office.specs.declared.status.Status.TheVariants.{Done, WriteFault, NoMemory, Damaged, DiskFault}

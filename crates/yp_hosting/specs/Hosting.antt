@@ -66,27 +66,27 @@ conduct house = conduct_at (λ reader. reader) Refreshes house.text house.hosts
 abbrev pub first_of : {D : Type 0} → List (Kept D) → Moment
 first_of maps = record { log = starts 0 (versions maps); standings = map (λ kept. kept.standing) maps }
 
--- Each connection that the listener got back was served, and so was each datagram; what was known in each is a front of
--- the log. So many records of the connections were read, and this is what all workers counted of makes and transfers,
+-- Workers served connections, each of them one after the other, and datagrams; what was known in each is a front of the
+-- log. So many records of the connections were read, and this is what all workers counted of makes and transfers,
 -- summed up. So many FILEs are covered by the faults of the texts and of the disks, so many orders by the wires that
 -- begin with one, and so many failed sources by the faults of the dial and the wires that give no version. As many
--- makes as were answered SUCC were shown, each built of the texts behind what was shown of its map; all else that was
--- shown, or that maps are behind, is covered by the wires that give a version. The dial was used for transfers of the
--- maps alone: to fetch one from a host of the table, and to tell a caller.
+-- makes as were answered SUCC were shown, each built of the text of its map's kind behind what was shown of the map;
+-- all else that was shown, or that maps are behind, is covered by the wires that give a version. The dial was used for
+-- transfers of the maps alone: to fetch one from a host of the table, and to tell a caller.
 pub record IsAccounted {D : Type 0} (history : D → Option History) (faults : D → ℕ) (house : House) (first : Moment)
     (maps : List (Kept D)) (most : ℕ) (hosted : Hosted) (old new : Place) (log : Log) (disks : List D) : Type 0 where
-  pub counted : CountsAll (conduct house) count_totals (terms_of house.catalogue first.log most) old.door.past
-      new.door.past hosted.tally.calls log house.turns hosted.inbox_fault old.box new.box hosted.totals
+  pub counted : CountsAll (conduct house) count_totals (terms_of house.catalogue first.log most) old.door
+      new.door hosted.tally.calls log house.turns hosted.inbox_fault old.box new.box hosted.totals
   pub files : FilesAreCovered history faults old.supply.texts new.supply.texts (disks_of maps) disks hosted.totals
   pub orders : CoversOrders old.supply.dial.past new.supply.dial.past hosted.totals.outcomes.reached
   pub sources : CoversSources old.supply.dial.past new.supply.dial.past old.supply.dial.faults new.supply.dial.faults
       hosted.totals.outcomes.source
-  pub origins : AreTold history disks → ComesFrom history (IsBuilt house.text house.catalogue.own) first
+  pub origins : AreTold history disks → ComesFrom history (IsBuilt house.text house.catalogue) first
       house.catalogue log disks hosted.totals.made old.supply.dial.past new.supply.dial.past
   pub dialed : IsUsedForTransfers house.hosts house.catalogue.maps old.supply.dial new.supply.dial
 
 -- Maps that were loaded were served, and what their files stood for was shown before the first caller came. What was
--- shown since stands behind that in one log. So many connections came, and all went back. Each datagram had its turn,
+-- shown since stands behind that in one log. So many connections came, and all were closed. Each datagram had its turn,
 -- and what was done in the turns and in the connections is accounted for. Whatever a crash may leave of a disk now
 -- stands for what the log shows of its map, or, where that is behind, for that or for the version whose install failed.
 -- The orders of each map rise in the log, where all disks tell what a crash may leave of them.

@@ -3,7 +3,7 @@ use Rattle.std.specs.Prelude.{◌≡◌, ◌⊎◌, ◌<◌, ℕ, Bool, true, fa
 use Rattle.std.specs.Prelude.{slice_get, codes, decimal, ⊤}
 use Rattle.std.specs.List.{AllZip}
 use Rattle.std.specs.Io.KnownBytes.{Appends}
-use Rattle.yp_io.specs.Counts.{HasRisen}
+use Rattle.yp_io.specs.Counts.{HasRisen, capped}
 use Rattle.yp_io.specs.Disk.{History}
 use Rattle.yp_io.specs.Dials.{dial_tells}
 use Rattle.yp_io.specs.Streams.{AppendsFront}
@@ -18,7 +18,7 @@ use Rattle.yp_publish.specs.Begins.{IsUnwritten}
 use Rattle.yp_publish.specs.Opens.{IsStopped}
 use Rattle.yp_xfr.specs.HostTable.{HostList}
 use Rattle.yp_rpc.specs.Turns.{box_of}
-use Rattle.yp_worker.specs.Receptions.{Opening, capped}
+use Rattle.yp_worker.specs.Receptions.{Opening}
 use Rattle.yp_words.specs.Words.{host_view}
 use Rattle.yp_words.specs.declared.command.ServeJob.{ServeJob}
 use Rattle.yp_office.specs.declared.office.Office.{Office}

@@ -1,8 +1,8 @@
 //! The command `serve`: stored maps for many callers at once, by connections that workers serve and by datagrams.
 //!
 //! [`serve_maps`] takes the office of the outside and a listener, and ensures the one relation that says what it does
-//! to them: each connection that the listener got back was served, each datagram had its turn, and each map's file then
-//! stands for what was shown of it.
+//! to them: each connection that came was served, each datagram had its turn, and each map's file then stands for what
+//! was shown of it.
 #![tactic(auto)]
 
 mod clock;

@@ -3,7 +3,7 @@
 ghost use Rattle.std.specs.Prelude.{◌≡◌, ◌≢◌, ℕ, ◌≤◌, ◌<◌, None, IsTrue, All, map, length, IfErr, OnErr};
 ghost use Rattle.yp_io.specs.Counts.{HasRisen};
 ghost use Rattle.yp_board.specs.Catalogues.{name_view, maps_max, catalog_fault};
-ghost use Rattle.yp_worker.specs.Receptions.{IsFair, opening_of};
+ghost use Rattle.yp_worker.specs.Receptions.{opening_of};
 ghost use Rattle.yp_words.specs.Words.{IsNamed};
 ghost use Rattle.yp_office.specs.Disks.{names_of};
 ghost use Rattle.yp_office.specs.Seeing.{seeing, IsPassedOn};
@@ -71,12 +71,12 @@ where
     L: Listen + Send + Drop,
     L::In: Send,
     L::Out: Send,
+    L::Closer: Send,
     R: Threads + Wait + RandomSource + Sync,
     requires named { All IsNamed catalog.maps }
     requires disks { names_of office.disks.items ≡ catalog.maps }
     requires workers { (1 ≤ spec.now.workers) × (spec.now.workers ≤ 8) }
     requires most { spec.now.most ≡ CALLS_MAX }
-    requires fair { IsFair (L.past listen) }
     ensures does { (connections : ℕ) → ServeDoes (seeing S.Source K.Sink D.Disk C.Clock A.Dial I.Inbox T.Texts)
         (serve_order catalog.own connections spec.now.turns catalog.maps hosts) result.0 office result.1
         (opening_of L.past L.most L.accepted L.returned L.faults listen)
@@ -159,12 +159,12 @@ where
     L: Listen + Send + Drop,
     L::In: Send,
     L::Out: Send,
+    L::Closer: Send,
     R: Threads + Wait + RandomSource + Sync,
     requires catalogue { catalog_fault job.name.items (map name_view job.stores.items) ≡ None }
     requires named { All IsNamed (map name_view job.stores.items) }
     requires disks { names_of office.disks.items ≡ map name_view job.stores.items }
     requires workers { (1 ≤ job.workers) × (job.workers ≤ 8) }
-    requires fair { IsFair (L.past listen) }
     ensures does { ServeDoes (seeing S.Source K.Sink D.Disk C.Clock A.Dial I.Inbox T.Texts)
         (order_view job) result.0 office result.1
         (opening_of L.past L.most L.accepted L.returned L.faults listen)

@@ -10,7 +10,7 @@ ghost use Rattle.yp_publish.specs.Standing.{Level, versions};
 ghost use Rattle.yp_publish.specs.Rising.{moment_of, IsStart};
 ghost use Rattle.yp_session.specs.declared.session.TheConstants.{CALLS_MAX};
 ghost use Rattle.yp_rpc.specs.Turns.{box_of};
-ghost use Rattle.yp_worker.specs.Receptions.{IsFair, opening_of};
+ghost use Rattle.yp_worker.specs.Receptions.{opening_of};
 ghost use Rattle.yp_shared.specs.Failures.{disks_of};
 ghost use Rattle.yp_io.specs.Dials.{dial_tells};
 ghost use Rattle.yp_hosting.specs.Hosting.{house_of, place_of, supply_of, IsServed, IsHosted, IsUnhosted};
@@ -138,13 +138,13 @@ where
     I: Inbox + Send + Drop,
     L::In: Send,
     L::Out: Send,
+    L::Closer: Send,
     A::In: Send,
     A::Out: Send,
     R: Threads + Wait + RandomSource + Sync,
     requires count { length stock.disks.items ≡ length catalog.maps }
     requires workers { (1 ≤ spec.now.workers) × (spec.now.workers ≤ 8) }
     requires most { spec.now.most ≡ CALLS_MAX }
-    requires fair { IsFair (L.past stock.listen) }
     ensures hosted { IfOk result.0 (λ hosted. IsHosted D.history D.faults
         (house_of catalog (T.text stock.desk.texts) stock.desk.hosts spec.now.turns) hosted
         (place_of (opening_of L.past L.most L.accepted L.returned L.faults stock.listen)
@@ -205,6 +205,7 @@ where
     I: Inbox + Send + Drop,
     L::In: Send,
     L::Out: Send,
+    L::Closer: Send,
     A::In: Send,
     A::Out: Send,
     R: Threads + Wait + RandomSource + Sync,
@@ -212,7 +213,6 @@ where
     requires level { All (λ standing. standing ≡ Level) (map (λ kept. kept.standing) loaded) }
     requires workers { (1 ≤ spec.now.workers) × (spec.now.workers ≤ 8) }
     requires most { spec.now.most ≡ CALLS_MAX }
-    requires fair { IsFair (L.past listen) }
     ensures hosted { IfOk result.0 (λ hosted. IsServed D.history D.faults
         (house_of catalog (T.text desk.texts) desk.hosts spec.now.turns) loaded hosted
         (place_of (opening_of L.past L.most L.accepted L.returned L.faults listen)
@@ -272,6 +272,7 @@ where
     I: Inbox + Send + Drop,
     L::In: Send,
     L::Out: Send,
+    L::Closer: Send,
     A::In: Send,
     A::Out: Send,
     R: Threads + Wait + RandomSource + Sync,
@@ -283,7 +284,6 @@ where
     requires level { All (λ standing. standing ≡ Level) (map (λ kept. kept.standing) loaded) }
     requires workers { (1 ≤ spec.now.workers) × (spec.now.workers ≤ 8) }
     requires most { spec.now.most ≡ CALLS_MAX }
-    requires fair { IsFair (L.past listen) }
     ensures hosted { IfOk result.0 (λ hosted. IsServed D.history D.faults
         (house_of catalog (T.text desk.texts) desk.hosts spec.now.turns) loaded hosted
         (place_of (opening_of L.past L.most L.accepted L.returned L.faults listen)

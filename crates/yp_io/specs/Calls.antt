@@ -1,33 +1,42 @@
--- Connections that are accepted and given back, and what is told of them.
-use Rattle.std.specs.Prelude.{◌≡◌, ℕ, ◌+◌, ◌<◌, ◌≤◌, Bool, List, [], ◌∷◌, ◌++◌, length, Option, None, Some, ⊤}
+-- Connections that are accepted and closed, and what is told of them.
+use Rattle.std.specs.Prelude.{◌≡◌, ℕ, ◌+◌, ◌<◌, Bool, List, [], ◌∷◌, ◌++◌, Option, None, Some, ⊤}
 use Rattle.yp_io.specs.declared.stream.Source as source
 use Rattle.yp_io.specs.declared.stream.Sink as sink
-use Rattle.yp_io.specs.Dials.{WireState, wire_state, IsFresh}
-use Rattle.yp_io.specs.declared.stream.Peer.{Peer}
+use Rattle.yp_io.specs.Dials.{Connected, connected, WireState, wire_state, IsFresh}
 use Rattle.yp_io.specs.declared.called.Called.{Called}
 use Rattle.yp_io.specs.declared.listen.Arrival.{Arrival}
 use Rattle.yp_io.specs.declared.listen.Arrival.TheVariants.{Came, Closed}
 
--- a connection as it comes: the peer that called, its whole input, and what its sink has taken, which is nothing, where
--- they are told
-pub record Arrived : Type 0 where
-  pub peer : Peer
-  pub input : Option (List ℕ)
-  pub output : Option (List ℕ)
-
--- a connection that was given back: what it told as it came, what its wire tells, and how often its source and its sink
+-- a connection that was closed: what it told as it came, what its wire tells, and how often its source and its sink
 -- have failed
 pub record Ended : Type 0 where
-  pub came : Arrived
+  pub came : Connected
   pub wire : WireState
   pub reads : ℕ
   pub writes : ℕ
 
--- the connections of a listener: those that are to come, each that came, and each that was given back, all in order
+-- the connections of a listener: those that are to come, each that came, both in order, and those that each closer has
+-- closed which was taken in, in the order of that closer
 pub record Calls : Type 0 where
-  pub coming : List Arrived
-  pub came : List Arrived
-  pub back : List Ended
+  pub coming : List Connected
+  pub came : List Connected
+  pub closed : List (List Ended)
+
+-- what a closer of a listener tells that has closed none yet: nothing where that tells nothing
+abbrev pub none_closed : Option Calls → Option (List Ended)
+none_closed None = None
+none_closed (Some calls) = Some []
+
+-- what it tells once it has closed these, too
+abbrev pub closed_then : Option (List Ended) → List Ended → Option (List Ended)
+closed_then None more = None
+closed_then (Some before) more = Some (before ++ more)
+
+-- what a listener tells once a closer was taken in that tells this
+abbrev pub taken_in : Option Calls → Option (List Ended) → Option Calls
+taken_in (Some calls) (Some closed) =
+    Some (record { coming = calls.coming; came = calls.came; closed = calls.closed ++ closed ∷ [] })
+taken_in _ _ = None
 
 -- how the halves of a wire are seen: what is left of the input, and how often that has failed; what the output has
 -- taken, whether it was flushed since, and how often that has failed
@@ -47,13 +56,10 @@ halves_of source sink = record {
   writes = sink.faults;
 }
 
--- what a connection tells of how it came, and when it is given back
-abbrev pub came_by : {S K : Type 0} → Halves S K → Called S K → Arrived
-came_by halves call = record {
-  peer = call.origin.peer;
-  input = halves.input call.origin.wire.source;
-  output = halves.output call.origin.wire.sink;
-}
+-- what a connection tells of how it came, and when it is closed
+abbrev pub came_by : {S K : Type 0} → Halves S K → Called S K → Connected
+came_by halves call =
+    connected call.origin.peer (halves.input call.origin.wire.source) (halves.output call.origin.wire.sink)
 
 abbrev pub ended_by : {S K : Type 0} → Halves S K → Called S K → Ended
 ended_by halves call = record {
@@ -79,16 +85,16 @@ accepting_of past most accepted listener =
     record { past = past listener; most = most listener; accepted = accepted listener }
 
 -- what is told gained this connection, the first of those that were to come
-abbrev pub GainsCall : Arrived → Option Calls → Option Calls → Type 0
-GainsCall arrived None new = ⊤
-GainsCall arrived (Some calls) None = ⊥
-GainsCall arrived (Some calls) (Some others) =
-    (calls.coming ≡ arrived ∷ others.coming)
-    × (others ≡ record { coming = others.coming; came = calls.came ++ arrived ∷ []; back = calls.back })
+abbrev pub GainsCall : Connected → Option Calls → Option Calls → Type 0
+GainsCall wire None new = ⊤
+GainsCall wire (Some calls) None = ⊥
+GainsCall wire (Some calls) (Some others) =
+    (calls.coming ≡ wire ∷ others.coming)
+    × (others ≡ record { coming = others.coming; came = calls.came ++ wire ∷ []; closed = calls.closed })
 
 -- This connection came, as one more of those that are to.
-pub record Comes (arrived : Arrived) (old new : Accepting) : Type 0 where
-  pub gained : GainsCall arrived old.past new.past
+pub record Comes (wire : Connected) (old new : Accepting) : Type 0 where
+  pub gained : GainsCall wire old.past new.past
   pub room : old.accepted < old.most
   pub accepted : new.accepted ≡ old.accepted + 1
   pub most : new.most ≡ old.most
@@ -97,13 +103,6 @@ pub record Comes (arrived : Arrived) (old new : Accepting) : Type 0 where
 pub record IsClosed (old new : Accepting) : Type 0 where
   pub all : old.accepted ≡ old.most
   pub same : new ≡ old
-
--- A connection was given back that told this. Where more are given back than came, they aren't told from then on.
-abbrev pub Returns : Ended → Option Calls → Option Calls → Type 0
-Returns ended None new = ⊤
-Returns ended (Some calls) None = length calls.came ≤ length calls.back
-Returns ended (Some calls) (Some others) =
-    others ≡ record { coming = calls.coming; came = calls.came; back = calls.back ++ ended ∷ [] }
 
 -- P holds of the connection that came, if one did
 abbrev pub IfCame : {S K : Type 0} → (Called S K → Type 0) → Arrival S K → Type 0

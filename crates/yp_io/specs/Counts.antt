@@ -9,6 +9,10 @@ last_count = 18446744073709551615
 abbrev pub next_count : ℕ → ℕ
 next_count before = min (before + 1) last_count
 
+-- a count and so much more, up to the last count
+abbrev pub capped : ℕ → ℕ → ℕ
+capped count more = min (count + more) last_count
+
 -- the count of faults after a call: one more where the call failed
 abbrev pub faults_after : {T E : Type 0} → ℕ → Result T E → ℕ
 faults_after before result = if is_ok result then before else next_count before

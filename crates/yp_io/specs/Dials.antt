@@ -11,13 +11,19 @@ pub record WireState : Type 0 where
 abbrev pub wire_state : Option (List ℕ) → Option (List ℕ) → Bool → WireState
 wire_state input output flushed = record { input = input; output = output; flushed = flushed }
 
--- a wire when it comes: the peer that was dialed, and its whole input, where it is told
-abbrev pub Dialed : Type 0
-Dialed = Peer × Option (List ℕ)
+-- a wire as it comes: the peer at its other end, its whole input, and what its sink has taken, which is nothing, where
+-- they are told
+pub record Connected : Type 0 where
+  pub peer : Peer
+  pub input : Option (List ℕ)
+  pub output : Option (List ℕ)
+
+abbrev pub connected : Peer → Option (List ℕ) → Option (List ℕ) → Connected
+connected peer input output = record { peer = peer; input = input; output = output }
 
 -- the wires of a dial: each that came, and what each told that was given back, both in order
 pub record Wires : Type 0 where
-  pub came : List Dialed
+  pub came : List Connected
   pub back : List WireState
 
 -- what a dial tells of its wires, and how often it has failed
@@ -43,10 +49,10 @@ abbrev pub wires_told : DialTells → Dialing
 wires_told tells = record { past = tells.past; faults = tells.faults }
 
 -- This wire came.
-abbrev pub Comes : Dialed → Option Wires → Option Wires → Type 0
-Comes dialed None new = ⊤
-Comes dialed (Some wires) None = ⊥
-Comes dialed (Some wires) (Some others) = others ≡ record { came = wires.came ++ dialed ∷ []; back = wires.back }
+abbrev pub Comes : Connected → Option Wires → Option Wires → Type 0
+Comes wire None new = ⊤
+Comes wire (Some wires) None = ⊥
+Comes wire (Some wires) (Some others) = others ≡ record { came = wires.came ++ wire ∷ []; back = wires.back }
 
 -- A wire was given back that told this. Where more are given back than came, they aren't told from then on.
 abbrev pub GoesBack : WireState → Option Wires → Option Wires → Type 0

@@ -1,11 +1,11 @@
 -- What a dial in memory keeps.
-use Rattle.std.specs.Prelude.{ℕ, Bool, List, map, Option, None, Some, if◌then◌else◌}
+use Rattle.std.specs.Prelude.{ℕ, Bool, List, [], map, Option, None, Some, if◌then◌else◌}
 use Rattle.yp_io.specs.declared.stream.Pair.{Pair}
 use Rattle.yp_io.specs.declared.stream.Peer.{Peer}
 use Rattle.yp_io.specs.declared.dial.Letter.{Letter}
 use Rattle.yp_io.specs.declared.mem_dial.MemDialed.{MemDialed}
 use Rattle.yp_io.specs.Mem.{Feed, Drain}
-use Rattle.yp_io.specs.Dials.{Wires, Dialed, WireState, wire_state, IsFresh}
+use Rattle.yp_io.specs.Dials.{Wires, Connected, connected, WireState, wire_state, IsFresh}
 
 -- a wire in memory
 abbrev pub Wire : Type 0
@@ -30,8 +30,8 @@ abbrev pub came_of : MemDialed → Peer × List ℕ
 came_of wire = (wire.peer, wire.input.items)
 
 -- what is told of a wire that came
-abbrev pub dialed_of : Peer × List ℕ → Dialed
-dialed_of came = (came.0, Some came.1)
+abbrev pub connected_of : Peer × List ℕ → Connected
+connected_of came = connected came.0 (Some came.1) (Some [])
 
 -- what a wire tells when it is given back
 abbrev pub ended_of : Wire → WireState
@@ -40,7 +40,7 @@ ended_of wire = wire_state (Some wire.source.input) (Some wire.sink.output) wire
 -- its wires, unless one was lost
 abbrev pub wires_of : Exchange → Option Wires
 wires_of dial =
-    if dial.lost then None else Some (record { came = map dialed_of dial.came; back = map ended_of dial.back })
+    if dial.lost then None else Some (record { came = map connected_of dial.came; back = map ended_of dial.back })
 
 -- a wire that has met no fault and taken nothing
 abbrev pub IsNew : Wire → Type 0

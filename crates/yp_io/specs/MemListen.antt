@@ -1,15 +1,28 @@
 -- What a listener in memory keeps.
-use Rattle.std.specs.Prelude.{ℕ, Bool, List, map, Option, None, Some, if◌then◌else◌}
+use Rattle.std.specs.Prelude.{ℕ, Bool, List, map, Option, Some}
 use Rattle.yp_io.specs.Mem.{Feed, Drain}
-use Rattle.yp_io.specs.Trails.{MemConnection}
-use Rattle.yp_io.specs.Calls.{Arrived, Calls, Ended, Halves, IsFreshCall, came_by, ended_by}
+use Rattle.yp_io.specs.declared.called.Called.{Called}
+use Rattle.yp_io.specs.Dials.{Connected}
+use Rattle.yp_io.specs.Calls.{Calls, Ended, Halves, IsFreshCall, came_by, ended_by}
 
--- a listener: the connections that will come, each that came, as it was then, those that were given back, whether one
--- more was, how many are to be accepted and how many were, how many came back, and which calls fail
+-- a connection in memory
+abbrev pub MemConnection : Type 0
+MemConnection = Called Feed Drain
+
+-- a closer: the connections that it has closed, whether there was no memory to keep one, and how many it has closed, up
+-- to the last count
+pub record Closing : Type 0 where
+  pub closed : List MemConnection
+  pub lost : Bool
+  pub count : ℕ
+
+-- a listener: the connections that will come, each that came, as it was then, the closers that were taken in, whether
+-- there was no memory to keep one, how many are to be accepted and how many were, how many were closed, and which calls
+-- fail
 pub record Door : Type 0 where
   pub waiting : List MemConnection
   pub came : List MemConnection
-  pub back : List MemConnection
+  pub closers : List Closing
   pub lost : Bool
   pub most : ℕ
   pub accepted : ℕ
@@ -28,19 +41,23 @@ mem_halves = record {
   writes = λ sink. sink.faults;
 }
 
--- what a connection tells of how it came, and when it is given back
-abbrev pub arrived_of : MemConnection → Arrived
-arrived_of call = came_by mem_halves call
+-- what a connection tells of how it came, and when it is closed
+abbrev pub connected_of : MemConnection → Connected
+connected_of call = came_by mem_halves call
 
 abbrev pub ended_of : MemConnection → Ended
 ended_of call = ended_by mem_halves call
 
--- its connections, unless one was lost
+-- the connections that a closer has closed
+abbrev pub closed_of : Closing → List Ended
+closed_of closer = map ended_of closer.closed
+
+-- its connections
 abbrev pub calls_of : Door → Option Calls
-calls_of door = if door.lost then None else Some (record {
-  coming = map arrived_of door.waiting;
-  came = map arrived_of door.came;
-  back = map ended_of door.back;
+calls_of door = Some (record {
+  coming = map connected_of door.waiting;
+  came = map connected_of door.came;
+  closed = map closed_of door.closers;
 })
 
 -- a connection as it comes

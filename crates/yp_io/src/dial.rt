@@ -2,7 +2,7 @@
 
 ghost use Rattle.std.specs.Prelude.{◌≡◌, ℕ, ◌+◌, ◌≤◌, List, Option, min, IfOk, OnOk, OnErr};
 ghost use Rattle.yp_io.specs.Counts.{CountsFaults, last_count};
-ghost use Rattle.yp_io.specs.Dials.{Wires, wire_state, Comes, GoesBack, Gains, IsFresh};
+ghost use Rattle.yp_io.specs.Dials.{Wires, connected, wire_state, Comes, GoesBack, Gains, IsFresh};
 
 use crate::stream::{Failed, Pair, Peer, Sink, Source};
 
@@ -35,7 +35,8 @@ pub trait Dial {
     fn dial(&mut self, to: Peer) -> Result<Pair<Self::In, Self::Out>, Failed>
         ensures fresh { IfOk result (λ wire.
             IsFresh (Self.In.faults wire.source) (Self.Out.faults wire.sink) (Self.Out.output wire.sink)) }
-        ensures came { IfOk result (λ wire. Comes (to, Self.In.input wire.source) (past self.old) (past self.new)) }
+        ensures came { IfOk result (λ wire.
+            Comes (connected to (Self.In.input wire.source) (Self.Out.output wire.sink)) (past self.old) (past self.new)) }
         ensures none { OnErr result (past self.new ≡ past self.old) }
         ensures letters { letters self.new ≡ letters self.old }
         ensures cause { CountsFaults (faults self.old) (faults self.new) result };

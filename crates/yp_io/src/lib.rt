@@ -2,10 +2,10 @@
 //!
 //! A source gives bytes and a sink takes them; a disk keeps bytes through a crash; texts and a clock are read; a dial
 //! opens wires and sends datagrams; an inbox receives datagrams at a port, and sends them from there; a listener hands
-//! out the connections that come, each with its caller, up to a number that is stated, and gets them back. Each says
-//! what it holds, has taken or shows where that can be known, and all but the clock count their faults, so that a
-//! failure always has a cause. These promises stand on the clauses of [`Source`], [`Sink`], [`Disk`], [`Texts`],
-//! [`Clock`], [`Dial`], [`Inbox`] and [`Listen`], and on [`write_all`] and [`read_all`].
+//! out the connections that come, each with its caller, up to a number that is stated, and closers, by which they are
+//! closed. Each says what it holds, has taken or shows where that can be known, and all but the clock count their
+//! faults, so that a failure always has a cause. These promises stand on the clauses of [`Source`], [`Sink`], [`Disk`],
+//! [`Texts`], [`Clock`], [`Dial`], [`Inbox`] and [`Listen`], and on [`write_all`] and [`read_all`].
 #![tactic(auto)]
 
 mod called;
@@ -15,6 +15,7 @@ mod disk;
 mod inbox;
 mod listen;
 mod mem;
+mod mem_closer;
 mod mem_dial;
 mod mem_disk;
 mod mem_inbox;
@@ -33,6 +34,7 @@ pub use disk::Disk;
 pub use inbox::{Inbox, Mail};
 pub use listen::{Arrival, Listen};
 pub use mem::{MemSink, MemSource, MemWire};
+pub use mem_closer::MemCloser;
 pub use mem_dial::{MemDial, MemDialed};
 pub use mem_disk::MemDisk;
 pub use mem_inbox::MemInbox;

@@ -1,8 +1,9 @@
-//! What accepts connections.
+//! What accepts connections, and what closes them.
 
-ghost use Rattle.std.specs.Prelude.{◌≡◌, ℕ, ◌<◌, ◌≤◌, Option, IfOk, OnErr};
-ghost use Rattle.yp_io.specs.Counts.{CountsFaults, next_count};
-ghost use Rattle.yp_io.specs.Calls.{Calls, Accepting, Comes, IsClosed, Returns, ended_by, came_by};
+ghost use Rattle.std.specs.Prelude.{◌≡◌, ℕ, ◌<◌, ◌^◌, List, [], ◌∷◌, Option, IfOk, OnErr};
+ghost use Rattle.yp_io.specs.Counts.{CountsFaults, capped, next_count};
+ghost use Rattle.yp_io.specs.Calls.{Calls, Ended, Accepting, Comes, IsClosed, ended_by, came_by};
+ghost use Rattle.yp_io.specs.Calls.{none_closed, closed_then, taken_in};
 ghost use Rattle.yp_io.specs.Calls.{IfCame, OnClosed, accepting_of, halves_of, IsFreshCall};
 
 use crate::called::Called;
@@ -17,11 +18,15 @@ pub enum Arrival<S, K> {
     Closed,
 }
 
-/// What accepts connections, up to a number that is stated.
+/// What accepts connections, up to a number that is stated. They are closed by closers, of which each worker has one of
+/// its own.
 pub trait Listen {
     type In: Source;
 
     type Out: Sink;
+
+    /// What closes connections, one after another.
+    type Closer: Drop;
 
     /// Its connections, where they are told.
     ghost past: { Self → Option Calls };
@@ -32,11 +37,17 @@ pub trait Listen {
     /// How many it has accepted.
     ghost accepted: { Self → ℕ };
 
-    /// How many it got back, up to 2^64 - 1.
+    /// How many were closed by closers that it took in, up to 2^64 - 1.
     ghost returned: { Self → ℕ };
 
     /// How often it has failed, up to 2^64 - 1.
     ghost faults: { Self → ℕ };
+
+    /// The connections that a closer has closed, in their order, where they are told.
+    ghost closed: { Self.Closer → Option (List Ended) };
+
+    /// How many a closer has closed, up to 2^64 - 1.
+    ghost closed_count: { Self.Closer → ℕ };
 
     /// Accepts the next connection. It answers `Closed` exactly where as many were accepted as are to be. After
     /// `Failed` none was accepted.
@@ -49,14 +60,25 @@ pub trait Listen {
         ensures none { OnErr result (accepting_of past most accepted self.new
             ≡ accepting_of past most accepted self.old) }
         ensures returned { returned self.new ≡ returned self.old }
+        ensures number { accepted self.new < 2 ^ 64 }
         ensures cause { CountsFaults (faults self.old) (faults self.new) result };
 
+    /// A closer that has closed no connection yet. It tells its connections where this listener does.
+    fn closer(&self) -> Self::Closer
+        ensures closed { closed result ≡ none_closed (past self.now) }
+        ensures count { closed_count result ≡ 0 };
+
     /// Closes a connection.
-    fn back(&mut self, call: Called<Self::In, Self::Out>)
-        ensures past { Returns (ended_by (halves_of Self.In.Source Self.Out.Sink) call)
-            (past self.old) (past self.new) }
+    fn close(closer: &mut Self::Closer, call: Called<Self::In, Self::Out>)
+        ensures closed { closed closer.new ≡ closed_then (closed closer.old)
+            (ended_by (halves_of Self.In.Source Self.Out.Sink) call ∷ []) }
+        ensures count { closed_count closer.new ≡ next_count (closed_count closer.old) };
+
+    /// Takes in what a closer tells.
+    fn take_in(&mut self, closer: Self::Closer)
+        ensures past { past self.new ≡ taken_in (past self.old) (closed closer) }
         ensures most { most self.new ≡ most self.old }
         ensures accepted { accepted self.new ≡ accepted self.old }
-        ensures returned { returned self.new ≡ next_count (returned self.old) }
+        ensures returned { returned self.new ≡ capped (returned self.old) (closed_count closer) }
         ensures faults { faults self.new ≡ faults self.old };
 }

@@ -3,7 +3,7 @@
 ghost use Rattle.std.specs.Prelude.{◌≡◌, ◌≢◌, ℕ, ◌+◌, ◌≤◌, ◌<◌, true, false, [], ◌∷◌, ◌++◌, length, map, min};
 ghost use Rattle.std.specs.Prelude.{Some, All, Contains, IsErr, IfOk, IfSome, IfNone, OnOk, OnErr};
 ghost use Rattle.yp_io.specs.Counts.{CountsFaults, next_count, faults_after, last_count};
-ghost use Rattle.yp_io.specs.Dials.{Comes, GoesBack, Gains, IsFresh};
+ghost use Rattle.yp_io.specs.Dials.{connected, Comes, GoesBack, Gains, IsFresh};
 ghost use Rattle.yp_io.specs.MemDial.{IsNew, came_of, ended_of, wires_of, letter_of};
 
 use crate::dial::{Dial, Letter};
@@ -138,7 +138,8 @@ impl Dial for MemDial {
     fn dial(&mut self, to: Peer) -> Result<MemWire, Failed>
         ensures fresh { IfOk result IsNew }
         ensures came { IfOk result
-            (λ wire. Comes (to, Some wire.source.input) (wires_of self.old) (wires_of self.new)) }
+            (λ wire. Comes (connected to (Some wire.source.input) (Some wire.sink.output))
+            (wires_of self.old) (wires_of self.new)) }
         ensures none { OnErr result (wires_of self.new ≡ wires_of self.old) }
         ensures letters { Some self.new.letters ≡ Some self.old.letters }
         ensures cause { CountsFaults self.old.faults self.new.faults result }

@@ -1,13 +1,15 @@
 //! A listener in memory.
 
-ghost use Rattle.std.specs.Prelude.{◌≡◌, ℕ, ◌+◌, ◌<◌, ◌≤◌, false, [], ◌∷◌, ◌++◌, length, Some, All, Contains, IsErr};
+ghost use Rattle.std.specs.Prelude.{◌≡◌, ℕ, ◌+◌, ◌^◌, ◌<◌, false, [], ◌∷◌, ◌++◌, length, Some, All, Contains, IsErr};
 ghost use Rattle.std.specs.Prelude.{IfSome, IfNone, IfOk, OnErr};
-ghost use Rattle.yp_io.specs.Counts.{CountsFaults, next_count, faults_after};
-ghost use Rattle.yp_io.specs.Calls.{Comes, IsClosed, Returns, IfCame, OnClosed, accepting_of};
-ghost use Rattle.yp_io.specs.MemListen.{Door, IsNew, arrived_of, ended_of, calls_of};
+ghost use Rattle.yp_io.specs.Counts.{CountsFaults, capped, next_count, faults_after};
+ghost use Rattle.yp_io.specs.Calls.{Comes, IsClosed, IfCame, OnClosed, accepting_of};
+ghost use Rattle.yp_io.specs.Calls.{none_closed, closed_then, taken_in};
+ghost use Rattle.yp_io.specs.MemListen.{Closing, Door, IsNew, connected_of, ended_of, closed_of, calls_of};
 
 use crate::called::Called;
 use crate::listen::{Arrival, Listen};
+use crate::mem_closer::MemCloser;
 use crate::trail::Trail;
 use crate::{Failed, MemSink, MemSource, Plan, count_fault};
 use std::alloc::Global;
@@ -19,10 +21,11 @@ pub type MemCall = Called<MemSource, MemSink>;
 /// A listener in memory, which tells its connections.
 #[derive(Drop)]
 pub struct MemListen {
+    alloc: Global,
     waiting: Vec<MemCall>,
-    came: Trail,
-    // has room for as many connections as were accepted
-    back: Vec<MemCall>,
+    came: Trail<MemCall>,
+    kept: Vec<MemCloser>,
+    closers: Trail<MemCloser>,
     lost: bool,
     most: u32,
     accepted: u32,
@@ -31,7 +34,7 @@ pub struct MemListen {
 }
 
 impl Model for MemListen {
-    ghost use Rattle.std.specs.Prelude.{◌≡◌, ◌≤◌, length, All, vec_capacity};
+    ghost use Rattle.std.specs.Prelude.{◌≡◌, ◌≤◌, false, length, All};
     ghost use Rattle.yp_io.specs.MemListen.{Door, IsNew};
 
     ghost Value = { Door };
@@ -39,7 +42,7 @@ impl Model for MemListen {
     ghost view = { λ l. record {
       waiting = l.waiting.items;
       came = l.came;
-      back = l.back.items;
+      closers = l.closers;
       lost = l.lost;
       most = l.most;
       accepted = l.accepted;
@@ -49,8 +52,8 @@ impl Model for MemListen {
       faults = l.plan.faults;
     } };
 
-    ghost invariant = { λ l. (All IsNew l.waiting.items) × (l.accepted ≤ vec_capacity l.back)
-        × (l.accepted ≤ l.most) × (length l.came ≡ l.accepted) };
+    ghost invariant = { λ l. (All IsNew l.waiting.items) × (l.accepted ≤ l.most) × (length l.came ≡ l.accepted)
+        × (l.lost ≡ false → l.kept.items ≡ l.closers) };
 }
 
 impl MemListen {
@@ -61,7 +64,7 @@ impl MemListen {
         ensures { result ≡ record {
           waiting = arrivals.items;
           came = [];
-          back = [];
+          closers = [];
           lost = false;
           most = most;
           accepted = 0;
@@ -72,9 +75,11 @@ impl MemListen {
         } }
     {
         MemListen {
+            alloc,
             waiting: arrivals,
             came: Trail::new(),
-            back: Vec::new(alloc),
+            kept: Vec::new(alloc),
+            closers: Trail::new(),
             lost: false,
             most,
             accepted: 0,
@@ -83,11 +88,11 @@ impl MemListen {
         }
     }
 
-    /// The connections that were given back.
-    pub fn past(&self) -> &[MemCall]
-        ensures { result.now ≡ self.now.back }
+    /// The closers that were taken in, but for those that there was no memory to keep.
+    pub fn closers(&self) -> &[MemCloser]
+        ensures { self.now.lost ≡ false → result.now ≡ self.now.closers }
     {
-        &self.back
+        &self.kept
     }
 
     /// How many connections were accepted.
@@ -97,7 +102,7 @@ impl MemListen {
         self.accepted
     }
 
-    // The next connection, unless none is left or memory has run out.
+    // The next connection, unless none is left.
     fn next_call(&mut self) -> Option<MemCall>
         requires { self.old.accepted < self.old.most }
         ensures fresh { IfSome result IsNew }
@@ -112,7 +117,6 @@ impl MemListen {
         if self.waiting.is_empty() {
             return None;
         }
-        self.back.reserve(self.accepted as usize + 1).ok()?;
         let call = self.waiting.remove(0);
         self.came.push(&call);
         self.accepted += 1;
@@ -125,6 +129,8 @@ impl Listen for MemListen {
 
     type Out = MemSink;
 
+    type Closer = MemCloser;
+
     ghost past = { calls_of };
 
     ghost most = { λ l. l.most };
@@ -135,9 +141,12 @@ impl Listen for MemListen {
 
     ghost faults = { λ l. l.faults };
 
-    /// It also fails where memory has run out.
+    ghost closed = { λ c. Some (closed_of c) };
+
+    ghost closed_count = { λ (c : Closing). c.count };
+
     fn accept(&mut self) -> Result<Arrival<MemSource, MemSink>, Failed>
-        ensures came { IfOk result (IfCame (λ call. Comes (arrived_of call)
+        ensures came { IfOk result (IfCame (λ call. Comes (connected_of call)
             (accepting_of calls_of (λ (l : Door). l.most) (λ (l : Door). l.accepted) self.old)
             (accepting_of calls_of (λ (l : Door). l.most) (λ (l : Door). l.accepted) self.new))) }
         ensures fresh { IfOk result (IfCame IsNew) }
@@ -148,6 +157,7 @@ impl Listen for MemListen {
             (accepting_of calls_of (λ (l : Door). l.most) (λ (l : Door). l.accepted) self.new
             ≡ accepting_of calls_of (λ (l : Door). l.most) (λ (l : Door). l.accepted) self.old) }
         ensures returned { self.new.returned ≡ self.old.returned }
+        ensures number { self.new.accepted < 2 ^ 64 }
         ensures cause { CountsFaults self.old.faults self.new.faults result }
         ensures fails { Contains self.old.failing self.old.calls → IsErr result }
         ensures first { IfOk result (IfCame (λ call. self.old.waiting ≡ call ∷ self.new.waiting)) }
@@ -169,17 +179,31 @@ impl Listen for MemListen {
         }
     }
 
-    fn back(&mut self, call: MemCall)
-        ensures past { Returns (ended_of call) (calls_of self.old) (calls_of self.new) }
+    fn closer(&self) -> MemCloser
+        ensures closed { Some (closed_of result) ≡ none_closed (calls_of self.now) }
+        ensures count { result.count ≡ 0 }
+        ensures kept { result.lost ≡ false }
+    {
+        MemCloser::new(self.alloc)
+    }
+
+    fn close(closer: &mut MemCloser, call: MemCall)
+        ensures closed { Some (closed_of closer.new) ≡ closed_then (Some (closed_of closer.old)) (ended_of call ∷ []) }
+        ensures count { closer.new.count ≡ next_count closer.old.count }
+    {
+        closer.close(call);
+    }
+
+    fn take_in(&mut self, closer: MemCloser)
+        ensures past { calls_of self.new ≡ taken_in (calls_of self.old) (Some (closed_of closer)) }
         ensures most { self.new.most ≡ self.old.most }
         ensures accepted { self.new.accepted ≡ self.old.accepted }
-        ensures returned { self.new.returned ≡ next_count self.old.returned }
+        ensures returned { self.new.returned ≡ capped self.old.returned closer.count }
         ensures faults { self.new.faults ≡ self.old.faults }
     {
-        self.returned = self.returned.saturating_add(1);
-        if self.back.len() < self.accepted as usize {
-            self.back.push_reserved(call);
-        } else {
+        self.returned = self.returned.saturating_add(closer.count());
+        self.closers.push(&closer);
+        if self.kept.push(closer).is_err() {
             self.lost = true;
         }
     }

@@ -1,50 +1,49 @@
-//! The connections that came, for contracts alone.
+//! What came in turn, for contracts alone.
 
 ghost use Rattle.std.specs.Prelude.{◌≡◌, [], ◌∷◌, ◌++◌};
 
-use crate::mem_listen::MemCall;
 use std::marker::Model;
 use std::snapshot::Snapshot;
 
-/// The connections that came, the last first.
+/// What came, the last first.
 #[derive(Drop)]
-enum Past {
+enum Past<T> {
     Empty,
     Grown {
-        before: Snapshot<Past>,
-        call: Snapshot<MemCall>,
+        before: Snapshot<Past<T>>,
+        last: Snapshot<T>,
     },
 }
 
-/// Connections in their order, each as it was when it came. It takes no memory: it is there for contracts alone.
+/// Values in the order in which they came, each as it was then. It takes no memory: it is there for contracts alone.
 #[derive(Drop)]
-pub(crate) struct Trail {
-    past: Past,
+pub(crate) struct Trail<T> {
+    past: Past<T>,
 }
 
-impl Model for Trail {
+impl<T> Model for Trail<T> {
     ghost use Rattle.std.specs.Prelude.{List};
-    ghost use Rattle.yp_io.specs.Trails.{MemConnection, came_of};
+    ghost use Rattle.yp_io.specs.Trails.{items_of};
 
-    ghost Value = { List MemConnection };
+    ghost Value = { List T };
 
-    ghost view = { λ t. came_of t.past };
+    ghost view = { λ t. items_of t.past };
 }
 
-impl Trail {
+impl<T> Trail<T> {
     /// None came yet.
-    pub(crate) fn new() -> Trail
+    pub(crate) fn new() -> Trail<T>
         ensures { result ≡ [] }
     {
         Trail { past: Past::Empty }
     }
 
     /// One more came.
-    pub(crate) fn push(&mut self, call: &MemCall)
-        ensures { self.new ≡ self.old ++ call.now ∷ [] }
+    pub(crate) fn push(&mut self, item: &T)
+        ensures { self.new ≡ self.old ++ item.now ∷ [] }
     {
         let before = Snapshot::of(&self.past);
-        let call = Snapshot::of(call);
-        self.past = Past::Grown { before, call };
+        let last = Snapshot::of(item);
+        self.past = Past::Grown { before, last };
     }
 }

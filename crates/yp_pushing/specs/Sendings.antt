@@ -2,7 +2,7 @@
 use Rattle.std.specs.Prelude.{◌≡◌, ◌⊎◌, ℕ, ◌+◌, ◌≤◌, min, Bool, true, false, List, Option, Some, None, Result, Ok, Err}
 use Rattle.yp_io.specs.Counts.{HasRisen, last_count}
 use Rattle.yp_io.specs.declared.stream.Peer.{Peer}
-use Rattle.yp_io.specs.Dials.{Wires, DialTells, Comes, GoesBack}
+use Rattle.yp_io.specs.Dials.{Wires, DialTells, connected, Comes, GoesBack}
 use Rattle.yp_xdr.specs.Kind.{Value}
 use Rattle.yp_msgs.specs.declared.push.PushStat.{PushStat}
 use Rattle.yp_msgs.specs.declared.transfer.XfrStat.{XfrStat}
@@ -57,12 +57,12 @@ IsCalled request answer first last =
     ⊎ ((answer ≡ Err NoMemory) × (last ≡ first))
 
 -- One wire to this peer came, XFR was called on it, and it went back: its faults are counted as those of the dial. The
--- dial tells what its input was at first, and what it was when it went back.
+-- dial tells what its input and its output were at first, and what they were when it went back.
 pub record IsAsked (peer : Peer) (request : Value req_xfr) (answer : Answer) (old new : DialTells) : Type 0 where
   pub first : ClientState
   pub last : ClientState
   pub middle : Option Wires
-  pub comes : Comes (peer, first.wire.input) old.past middle
+  pub comes : Comes (connected peer first.wire.input first.wire.output) old.past middle
   pub begins : IsFirst first
   pub calls : IsCalled request answer first last
   pub goes_back : GoesBack last.wire middle new.past

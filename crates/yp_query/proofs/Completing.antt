@@ -7,7 +7,7 @@ use Rattle.std.specs.Io.KnownBytes.{Consumes, IsAtEnd}
 use Rattle.std.proofs.lemmas.List.{append-nil}
 use Rattle.yp_io.specs.Counts.{HasRisen}
 use Rattle.yp_io.specs.declared.stream.Peer.{Peer}
-use Rattle.yp_io.specs.Dials.{Wires, Dialed, WireState, Comes, GoesBack}
+use Rattle.yp_io.specs.Dials.{Wires, Connected, connected, WireState, Comes, GoesBack}
 use Rattle.yp_rpc.specs.Records.{IsRest, IsLong}
 use Rattle.yp_rpc.specs.Laws.{FirstIsOne, RestIsNotWhole}
 use Rattle.yp_msgs.specs.declared.stat.YpStat.{YpStat}
@@ -384,27 +384,27 @@ last_same : {A : Type 0} (xs : List A) (x y : A) → xs ++ x ∷ [] ≡ xs ++ y 
 last_same [] x y e = cc
 last_same (z ∷ xs) x y e = let rest : xs ++ x ∷ [] ≡ xs ++ y ∷ [] = cc in last_same xs x y rest
 
-input_is : (peer : Peer) (input : Option (List ℕ)) (last : WireState) (mid : Option Wires) (before after : Wires)
-    (stream : List ℕ) → Comes (peer, input) (Some before) mid → GoesBack last mid (Some after)
-    → after.came ≡ before.came ++ (peer, Some stream) ∷ [] → input ≡ Some stream
-input_is peer input last None before after stream comes back came = absurd comes
-input_is peer input last (Some others) before after stream comes back came =
-    let first : others.came ≡ before.came ++ (peer, input) ∷ [] = ap (λ (w : Wires). w.came) comes in
+input_is : (wire other : Connected) (last : WireState) (mid : Option Wires) (before after : Wires)
+    → Comes wire (Some before) mid → GoesBack last mid (Some after) → after.came ≡ before.came ++ other ∷ []
+    → wire.input ≡ other.input
+input_is wire other last None before after comes back came = absurd comes
+input_is wire other last (Some others) before after comes back came =
+    let first : others.came ≡ before.came ++ wire ∷ [] = ap (λ (w : Wires). w.came) comes in
     let second : after.came ≡ others.came = ap (λ (w : Wires). w.came) back in
-    ap (λ (wire : Dialed). wire.1)
-    (last_same before.came (peer, input) (peer, Some stream) (sym first ∙ sym second ∙ came))
+    ap (λ (w : Connected). w.input) (last_same before.came wire other (sym first ∙ sym second ∙ came))
 
 exchanged_good : Laws → (peer : Peer) (question : ByteQuestion) (stream : List ℕ) (outcome : Outcome)
     (old new : Option Wires) → HasAnswer question stream → HasCome peer stream old new
     → Exchanges peer question outcome old new → IsGood outcome
 unfolding IsGood
 exchanged_good laws peer question stream outcome old new good came did =
-    let comes : Comes (peer, did.first.wire.input) (Some came.before) did.mid =
-    subst (λ (w : Option Wires). Comes (peer, did.first.wire.input) w did.mid) came.was did.comes in
+    let wire = connected peer did.first.wire.input did.first.wire.output in
+    let comes : Comes wire (Some came.before) did.mid =
+    subst (λ (w : Option Wires). Comes wire w did.mid) came.was did.comes in
     let back : GoesBack did.last.wire did.mid (Some came.after) =
     subst (λ (w : Option Wires). GoesBack did.last.wire did.mid w) came.is did.goes_back in
-    let told = input_is peer did.first.wire.input did.last.wire did.mid came.before came.after stream comes back
-    came.came in
+    let told = input_is wire (connected peer (Some stream) came.sent) did.last.wire did.mid came.before came.after comes
+    back came.came in
     elim did.converses [
       | inl makes ↦ calls_answered laws question stream outcome did.first did.last good did.begins told makes
       | inr none ↦ subst IsGood (sym none.0) tt

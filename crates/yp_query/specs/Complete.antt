@@ -1,7 +1,7 @@
 -- When a question has an answer: the wire gives whole replies that answer its calls.
 use Rattle.std.specs.Prelude.{◌≡◌, ℕ, List, [], ◌∷◌, ◌++◌, Option, Some, Result, Ok, Err, IsOk, ⊤}
 use Rattle.yp_io.specs.declared.stream.Peer.{Peer}
-use Rattle.yp_io.specs.Dials.{Wires}
+use Rattle.yp_io.specs.Dials.{Wires, connected}
 use Rattle.yp_rpc.specs.Records.{Fragments}
 use Rattle.yp_msgs.specs.declared.stat.YpStat.TheVariants.{Nokey}
 use Rattle.yp_client.specs.declared.fault.ClientFault.{ClientFault}
@@ -45,13 +45,14 @@ HasAnswer (Innetgr domain group host user user_domain) stream =
     BeginsWithReply all_max stream (λ reply rest. (all_said no_rows 1 reply).end ≡ Ok tt)
 HasAnswer (Maps domain) stream = BeginsWithReply reply_max stream (λ reply rest. IsOk (maps_of 1 reply))
 
--- One wire to this peer came, which gives these bytes.
+-- One wire to this peer came, which gives these bytes, and of whose output this was told.
 pub record HasCome (peer : Peer) (stream : List ℕ) (old new : Option Wires) : Type 0 where
   pub before : Wires
   pub after : Wires
   pub was : old ≡ Some before
   pub is : new ≡ Some after
-  pub came : after.came ≡ before.came ++ (peer, Some stream) ∷ []
+  pub sent : Option (List ℕ)
+  pub came : after.came ≡ before.came ++ connected peer (Some stream) sent ∷ []
 
 -- an answer, that there is no such key or no such member, or want of memory
 abbrev pub IsAnswered : Result (Unit {0}) QueryFault → Type 0

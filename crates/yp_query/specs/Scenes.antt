@@ -3,7 +3,7 @@ use Rattle.std.specs.Prelude.{◌≡◌, ℕ, false, List, Option, Some, None, R
 use Rattle.std.specs.Io.KnownBytes.{Keeps, Appends}
 use Rattle.yp_io.specs.Counts.{HasRisen}
 use Rattle.yp_io.specs.declared.stream.Peer.{Peer}
-use Rattle.yp_io.specs.Dials.{Wires, Dialing, dialing_of, Comes, GoesBack}
+use Rattle.yp_io.specs.Dials.{Wires, Dialing, connected, dialing_of, Comes, GoesBack}
 use Rattle.yp_client.specs.declared.fault.ClientFault.TheVariants.{ReadFault, WriteFault}
 use Rattle.yp_client.specs.States.{ClientState, IsFirst}
 use Rattle.yp_query.specs.declared.fault.QueryFault.{QueryFault}
@@ -26,12 +26,12 @@ scene_of past dial_faults output faults dial sink =
 -- ---- the dial
 
 -- One wire to this peer came, the calls of a question were made on it, and it went back. The dial tells what its input
--- was at first, and what it was when it went back.
+-- and its output were at first, and what they were when it went back.
 pub record Exchanges (peer : Peer) (question : ByteQuestion) (outcome : Outcome) (old new : Option Wires) : Type 0 where
   pub first : ClientState
   pub last : ClientState
   pub mid : Option Wires
-  pub comes : Comes (peer, first.wire.input) old mid
+  pub comes : Comes (connected peer first.wire.input first.wire.output) old mid
   pub begins : IsFirst first
   pub converses : Converses question outcome first last
   pub goes_back : GoesBack last.wire mid new

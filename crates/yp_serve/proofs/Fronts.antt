@@ -10,9 +10,8 @@ use Rattle.yp_mailserve.specs.Mailing.{Mailing, Awaited}
 use Rattle.yp_mailserve.specs.Serving.{ServesMail}
 use Rattle.yp_serve.specs.declared.mail.Mailman.{Mailman}
 use Rattle.yp_serve.specs.Posts.{Mails}
-use Rattle.yp_worker.specs.Receptions.{Terms}
+use Rattle.yp_worker.specs.Receptions.{Terms, Opening}
 use Rattle.yp_worker.specs.Summing.{Counting}
-use Rattle.yp_io.specs.Calls.{Calls}
 use Rattle.yp_serve.specs.Serving.{at_rest}
 use Rattle.yp_serve.specs.Counting.{BeginsMail, CountsDatagrams, CountsAll}
 
@@ -21,7 +20,7 @@ front_then a b c first second =
     (first.0 ++ second.0, second.1 ∙ ap (λ (l : Log). l ++ second.0) first.1 ∙ append_assoc a first.0 second.0)
 
 -- the log of the writer begins with what was shown at the start
-module _ {H T : Type 0} (conduct : Conduct H) (counting : Counting H T) (terms : Terms) (door door' : Option Calls)
+module _ {H T : Type 0} (conduct : Conduct H) (counting : Counting H T) (terms : Terms) (door door' : Opening)
     (calls : ℕ) (log : Log) (turns : ℕ) (fault : Bool) (before after : Box) (all : T)
     (counts : CountsAll conduct counting terms door door' calls log turns fault before after all) where
   pub starts_in : IsFront terms.starts log

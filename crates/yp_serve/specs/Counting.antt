@@ -9,9 +9,8 @@ use Rattle.yp_board.specs.Catalogues.{Catalogue}
 use Rattle.yp_board.specs.Logs.{Log}
 use Rattle.yp_session.specs.Hosts.{Conduct}
 use Rattle.yp_rpc.specs.Turns.{Box}
-use Rattle.yp_io.specs.Calls.{Calls}
 use Rattle.yp_shared.specs.Failures.{faults_over}
-use Rattle.yp_worker.specs.Receptions.{Terms}
+use Rattle.yp_worker.specs.Receptions.{Terms, Opening}
 use Rattle.yp_worker.specs.Summing.{Counting, SumsUp, counting_of}
 use Rattle.yp_workhost.specs.declared.outcome.Totals.{Totals}
 use Rattle.yp_workhost.specs.Workers.{Worker}
@@ -39,10 +38,10 @@ pub record BeginsMail {I H T : Type 0} (conduct : Conduct H) (counting : Countin
   pub fresh : conduct.counts host ≡ no_counts
   pub from_none : counting.counted host ≡ counting.none
 
--- What all hosts did and counted: in each connection that the listener got back, where it tells them, of which so many
--- records were read, and in the turns of the datagrams. What was known at the end of each is a front of this log.
+-- What all hosts did and counted: in the connections that workers served, of which so many records were read, and in
+-- the turns of the datagrams. What was known at the end of each is a front of this log.
 pub record CountsAll {H T : Type 0} (conduct : Conduct H) (counting : Counting H T) (terms : Terms)
-    (door door' : Option Calls) (calls : ℕ) (log : Log) (turns : ℕ) (fault : Bool) (before after : Box) (all : T)
+    (door door' : Opening) (calls : ℕ) (log : Log) (turns : ℕ) (fault : Bool) (before after : Box) (all : T)
     : Type 0 where
   pub connections : T
   pub datagrams : T

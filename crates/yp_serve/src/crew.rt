@@ -109,6 +109,7 @@ where
     L: Listen + Send,
     L::In: Send,
     L::Out: Send,
+    L::Closer: Send,
     requires manned { (mailman : Mailman I H H.Count) × IsManned mailman at_work posts.items }
     requires some { 1 < length posts.items }
     requires parts { length posts.items ≡ J.parts }
@@ -120,7 +121,8 @@ where
         (counting_of H.counted H.none H.plus) J.catalogue J.starts mailman
         → (log : Log) → IsFront (H.reached result.3) log
         → CountsAll (conduct_of H.seen H.told H.counts H.stepped H.made H.carried)
-        (counting_of H.counted H.none H.plus) (terms_of J.catalogue J.starts J.most) J.opening.past (L.past result.0)
+        (counting_of H.counted H.none H.plus) (terms_of J.catalogue J.starts J.most) J.opening
+        (opening_of L.past L.most L.accepted L.returned L.faults result.0)
         result.1.calls log mailman.turns result.2.fault (box_of I.past I.turns I.quiets mailman.inbox)
         (box_of I.past I.turns I.quiets result.2.inbox) (H.summed result.3) }
     ensures cause { (mailman : Mailman I H H.Count) → IsManned mailman at_work posts.items
@@ -152,6 +154,7 @@ where
     L: Listen + Send,
     L::In: Send,
     L::Out: Send,
+    L::Closer: Send,
     ensures count { length posts.new ≡ length posts.old }
     ensures works { AllWork (Mails (conduct_of H.seen H.told H.counts H.stepped H.made H.carried) H.counted
         (box_of I.past I.turns I.quiets) I.faults) posts.old posts.new }

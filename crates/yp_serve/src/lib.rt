@@ -3,8 +3,8 @@
 //!
 //! [`serve`] lends a publisher, a desk and a listener to its workers, each under a lock, and takes them apart again
 //! once all workers have ended. Beside them one worker answers the datagrams of the inbox, which it has for itself.
-//! That each connection which the listener got back was served, that all went back, what was counted, what went out for
-//! each datagram, and how each map stands then are its clauses.
+//! What each worker served, one connection after the other, that all connections were closed, what was counted, what
+//! went out for each datagram, and how each map stands then are its clauses.
 #![tactic(auto)]
 
 mod crew;

@@ -5,7 +5,7 @@ ghost use Rattle.std.specs.List.{All};
 ghost use Rattle.yp_io.specs.Counts.{HasRisen};
 ghost use Rattle.yp_board.specs.Logs.{Log};
 ghost use Rattle.yp_board.specs.Views.{IsFront};
-ghost use Rattle.yp_worker.specs.Receptions.{IsFair, IsKept, IsUnder, opening_of, terms_of};
+ghost use Rattle.yp_worker.specs.Receptions.{IsKept, IsUnder, opening_of, terms_of};
 ghost use Rattle.yp_workhost.specs.Makings.{Builds};
 ghost use Rattle.yp_workhost.specs.Charges.{no_totals, totals_of};
 ghost use Rattle.yp_rpc.specs.Turns.{box_of};
@@ -69,7 +69,7 @@ impl<
     ) -> Worker<WorkerHost<'a, J, D, B, A, T, C, &'a R>, &'a G>
         requires most { (self.now.most ≡ J.most) × (self.now.most ≤ CALLS_MAX) }
         requires knows { IsAtStart J.catalogue J.starts (B.Reader.seen reader) }
-        requires builds { Builds J.text J.catalogue.own J.built }
+        requires builds { Builds J.text J.catalogue J.built }
         ensures under { IsUnder (conduct_at B.Reader.seen B.Reader.stepped J.text J.hosts)
             (terms_of J.catalogue J.starts J.most) result }
         ensures none { totals_of result.host ≡ no_totals }
@@ -96,7 +96,7 @@ impl<
     ) -> Seat<J, E, WorkerHost<'a, J, D, B, A, T, C, &'a R>, &'a G>
         requires most { (self.now.most ≡ J.most) × (self.now.most ≤ CALLS_MAX) }
         requires knows { IsAtStart J.catalogue J.starts (B.Reader.seen reader) }
-        requires builds { Builds J.text J.catalogue.own J.built }
+        requires builds { Builds J.text J.catalogue J.built }
         requires out { (1 < out.old.parts) × (out.old.amount ≡ 0) }
         requires ended { (1 < ended.old.parts) × (ended.old.amount ≡ 0) }
         requires charges { 1 < charges.old.parts }
@@ -127,7 +127,7 @@ impl<
         requires most { (self.now.most ≡ J.most) × (self.now.most ≤ CALLS_MAX) }
         requires readers { length readers.items ≡ length sessions.items }
         requires knows { All (λ reader. IsAtStart J.catalogue J.starts (B.Reader.seen reader)) readers.items }
-        requires builds { Builds J.text J.catalogue.own J.built }
+        requires builds { Builds J.text J.catalogue J.built }
         requires one { length posts.old.items ≡ 1 }
         requires room { length sessions.items + 1 ≤ vec_capacity posts.old }
         requires out { (out.old.parts ≡ length sessions.items + 1) × (out.old.amount ≡ 0) }
@@ -165,7 +165,7 @@ impl<
         requires readers { length readers.items ≡ length sessions.items }
         requires knows { All (λ reader. IsAtStart J.catalogue J.starts (B.Reader.seen reader)) readers.items }
         requires bag { IsAtStart J.catalogue J.starts (B.Reader.seen bag.reader) }
-        requires builds { Builds J.text J.catalogue.own J.built }
+        requires builds { Builds J.text J.catalogue J.built }
         requires none { posts.old.items ≡ [] }
         requires room { length sessions.items + 1 ≤ vec_capacity posts.old }
         requires out { (out.old.parts ≡ length sessions.items + 1) × (out.old.amount ≡ 0) }
@@ -220,17 +220,17 @@ impl<
         B::Front: Send,
         L::In: Send,
         L::Out: Send,
+        L::Closer: Send,
         A::In: Send,
         A::Out: Send,
         requires most { (self.now.most ≡ J.most) × (self.now.most ≤ CALLS_MAX) }
         requires readers { length readers.items ≡ length sessions.items }
         requires knows { All (λ reader. IsAtStart J.catalogue J.starts (B.Reader.seen reader)) readers.items }
-        requires builds { Builds J.text J.catalogue.own J.built }
+        requires builds { Builds J.text J.catalogue J.built }
         requires none { posts.items ≡ [] }
         requires some { 0 < length sessions.items }
         requires room { length sessions.items + 1 ≤ vec_capacity posts }
         requires opening { opening_of L.past L.most L.accepted L.returned L.faults listen ≡ J.opening }
-        requires fair { IsFair J.opening.past }
         requires out { (out.name ≡ J.name) × (out.parts ≡ J.parts) × (out.parts ≡ length sessions.items + 1) }
         requires ended { (ended.name ≡ E.name) × (ended.parts ≡ E.parts)
             × (ended.parts ≡ length sessions.items + 1) }
@@ -240,7 +240,8 @@ impl<
             result.1.connections result.1.listen_fault 0 1 }
         ensures counted { (log : Log) → IsFront result.3.reached log
             → CountsAll (conduct_at B.Reader.seen B.Reader.stepped J.text J.hosts) count_totals
-            (terms_of J.catalogue J.starts J.most) J.opening.past (L.past result.0)
+            (terms_of J.catalogue J.starts J.most) J.opening
+            (opening_of L.past L.most L.accepted L.returned L.faults result.0)
             result.1.calls log bag.turns result.2.fault
             (box_of I.past I.turns I.quiets bag.inbox) (box_of I.past I.turns I.quiets result.2.inbox)
             result.3.totals }

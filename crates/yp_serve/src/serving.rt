@@ -5,7 +5,7 @@ ghost use Rattle.std.specs.List.{All};
 ghost use Rattle.yp_io.specs.Counts.{HasRisen};
 ghost use Rattle.yp_board.specs.Views.{IsFront};
 ghost use Rattle.yp_workhost.specs.Desks.{IsSupplied};
-ghost use Rattle.yp_worker.specs.Receptions.{IsFair, IsKept, opening_of, terms_of};
+ghost use Rattle.yp_worker.specs.Receptions.{IsKept, opening_of, terms_of};
 ghost use Rattle.yp_rpc.specs.Turns.{box_of};
 ghost use Rattle.yp_publish.specs.Grown.{AreTold};
 ghost use Rattle.yp_publish.specs.Rising.{moment_of, IsStart, IsRisingLog};
@@ -68,6 +68,7 @@ where
     I: Inbox + Send + Drop,
     L::In: Send,
     L::Out: Send,
+    L::Closer: Send,
     A::In: Send,
     A::Out: Send,
     G: Gate + Sync,
@@ -77,9 +78,8 @@ where
     requires starts { All (λ reader. IsAtStart publisher.catalogue (B.log publisher.board) (B.Reader.seen reader))
         readers.items }
     requires most { spec.now.most ≤ CALLS_MAX }
-    requires fair { IsFair (L.past listen) }
 
-    // All connections went back that came.
+    // All connections were closed that came.
     ensures gone { IfOk result (λ served. IsKept
         (opening_of L.past L.most L.accepted L.returned L.faults listen)
         (opening_of L.past L.most L.accepted L.returned L.faults served.listen)
@@ -105,12 +105,14 @@ where
         → AreTold D.history served.disks.items → IsRisingLog (B.log served.writer)) }
     ensures desk { IfOk result (λ served. IsSupplied T.Texts (T.text desk.texts) desk.hosts served.desk) }
 
-    // What each connection that went back was served, and each datagram; what all workers counted, and what covers it:
-    // FILEs by the faults of the texts and of the disks, orders that were reached by the wires that begin with one, and
-    // failed sources by the faults of the dial and the wires that give no version.
+    // What each worker served, one connection after the other, and each datagram; what all workers counted, and what
+    // covers it: FILEs by the faults of the texts and of the disks, orders that were reached by the wires that begin
+    // with one, and failed sources by the faults of the dial and the wires that give no version.
     ensures counted { IfOk result (λ served. CountsAll
         (conduct_at B.Reader.seen B.Reader.stepped (T.text desk.texts) desk.hosts) count_totals
-        (terms_of publisher.catalogue (B.log publisher.board) spec.now.most) (L.past listen) (L.past served.listen)
+        (terms_of publisher.catalogue (B.log publisher.board) spec.now.most)
+        (opening_of L.past L.most L.accepted L.returned L.faults listen)
+        (opening_of L.past L.most L.accepted L.returned L.faults served.listen)
         served.tally.calls (B.log served.writer) spec.now.turns served.inbox_fault
         (box_of I.past I.turns I.quiets inbox) (box_of I.past I.turns I.quiets served.inbox) served.totals) }
     ensures files { IfOk result (λ served. FilesAreCovered D.history D.faults
@@ -124,7 +126,7 @@ where
     // Where what was shown came from: so many makes were answered SUCC, and all else was fetched.
     ensures origins { IfOk result (λ served. IsStart (moment_of B.log publisher)
         → AreTold D.history served.disks.items → ComesFrom D.history
-        (IsBuilt (T.text desk.texts) publisher.catalogue.own) (moment_of B.log publisher) publisher.catalogue
+        (IsBuilt (T.text desk.texts) publisher.catalogue) (moment_of B.log publisher) publisher.catalogue
         (B.log served.writer) served.disks.items served.totals.made (A.past desk.dial) (A.past served.desk.dial)) }
 
     // Whom the dial asked, what for, and whom it told what: it was used for transfers of the maps alone.
@@ -185,6 +187,7 @@ where
     I: Inbox + Send + Drop,
     L::In: Send,
     L::Out: Send,
+    L::Closer: Send,
     A::In: Send,
     A::Out: Send,
     G: Gate + Sync,
@@ -193,7 +196,6 @@ where
     requires starts { B.log lent.publisher.board ≡ J.starts }
     requires supplied { IsSupplied T.Texts J.text J.hosts lent.desk }
     requires opening { opening_of L.past L.most L.accepted L.returned L.faults lent.listen ≡ J.opening }
-    requires fair { IsFair J.opening.past }
     requires most { (spec.now.most ≡ J.most) × (spec.now.most ≤ CALLS_MAX) }
     requires some { 0 < length staff.sessions.items }
     requires readers { length staff.readers.items ≡ length staff.sessions.items }
@@ -202,7 +204,7 @@ where
     requires out { (out.name ≡ J.name) × (out.parts ≡ J.parts) × (out.parts ≡ length staff.sessions.items + 1) }
     requires ended { (ended.name ≡ E.name) × (ended.parts ≡ E.parts)
         × (ended.parts ≡ length staff.sessions.items + 1) }
-    requires builds { Builds J.text J.catalogue.own J.built }
+    requires builds { Builds J.text J.catalogue J.built }
     requires unread { (blanks.unread.name ≡ J.unread) × (blanks.unread.parts ≡ J.shares)
         × (J.shares ≡ length staff.sessions.items + 3) }
     requires orders { (blanks.orders.name ≡ J.orders) × (blanks.orders.parts ≡ J.shares) }
@@ -231,7 +233,8 @@ where
     ensures desk { IfOk result (λ served. IsSupplied T.Texts J.text J.hosts served.desk) }
     ensures counted { IfOk result (λ served. CountsAll
         (conduct_at B.Reader.seen B.Reader.stepped J.text J.hosts) count_totals
-        (terms_of J.catalogue J.starts J.most) J.opening.past (L.past served.listen)
+        (terms_of J.catalogue J.starts J.most) J.opening
+        (opening_of L.past L.most L.accepted L.returned L.faults served.listen)
         served.tally.calls (B.log served.writer) spec.now.turns served.inbox_fault
         (box_of I.past I.turns I.quiets lent.inbox) (box_of I.past I.turns I.quiets served.inbox) served.totals) }
     ensures files { IfOk result (λ served. FilesAreCovered D.history D.faults

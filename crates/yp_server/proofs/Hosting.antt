@@ -1,5 +1,5 @@
 -- How a host over stored maps passes from one moment of a session to a later one.
-use Rattle.std.proofs.Common.{◌≡◌, ◌⊎◌, inl, inr, Ok, Err, None, Result, slice_get, option_map, ℕ, ◌<◌, Bool, true, false, List, [], ◌∷◌, ◌++◌, map, length, Option, IfSome, refl, sym, ◌∙◌, ap, subst, arith}
+use Rattle.std.proofs.Common.{◌≡◌, inl, inr, Ok, Err, None, Some, Result, ℕ, ◌<◌, Bool, true, false, List, [], ◌∷◌, ◌++◌, map, length, Option, IfSome, refl, sym, ◌∙◌, ap, subst, arith}
 use Rattle.std.specs.List.{Contains, AllByRecursion}
 use Rattle.std.proofs.lemmas.List.Elements.{recursion_from_All, All-contains_itself}
 use Rattle.yp_io.specs.Counts.{next_count}
@@ -22,21 +22,18 @@ use Rattle.yp_session.specs.Hosts.{Turn, CarriesWhere, Carries, Link}
 use Rattle.yp_session.specs.Runs.{Dialogue, Chain, Ends, unsent, Runs}
 use Rattle.yp_server.specs.Locals.{Local, Telling, IsUsed, seen_of}
 use Rattle.yp_build.specs.After.{Basis}
-use Rattle.yp_io.specs.declared.stream.Peer.{Peer}
 use Rattle.std.specs.Prelude.{IsTrue}
 use Rattle.yp_publish.specs.declared.install.Installed.{Installed}
 use Rattle.yp_xfr.specs.declared.fault.XfrFault.{XfrFault}
 use Rattle.yp_xfr.specs.HostTable.{HostList}
-use Rattle.yp_xfr.specs.Fetching.{Outcome, wanted_of}
-use Rattle.yp_io.specs.Dials.{Dialing}
-use Rattle.yp_xfr.specs.Dialing.{FetchesFrom}
+use Rattle.yp_xfr.specs.Fetching.{Outcome}
 use Rattle.yp_xfr.specs.Installing.{OpensAndOffers, marking, fetched_offer}
-use Rattle.yp_xfr.specs.Transfers.{InstallsOutcome, wanted_at}
+use Rattle.yp_xfr.specs.Transfers.{InstallsOutcome}
 use Rattle.yp_server.specs.Carried.{Carried, request_for}
 use Rattle.yp_answer.specs.Causes.{Told, IsAnew, TellsSame}
 use Rattle.yp_build.specs.After.{basis_of}
 use Rattle.yp_server.specs.Made.{Made, OpensAndTries}
-use Rattle.yp_server.specs.Connections.{Service, IsCalledFor, IsMade, WasTaken, WasFetched, IsGiven, local_conduct}
+use Rattle.yp_server.specs.Connections.{Service, IsCalledFor, Passage, passage_of, passages_of, GaveVersion, IsGiven, local_conduct}
 use Rattle.yp_server.proofs.Passing.{Respects, Sound, Passes, passes_none, passes_then, stays_on, opens_on, offered_on, fetched_on}
 
 -- ---- desks
@@ -66,8 +63,8 @@ anew_before first now site version same anew = record {
   built = anew.built;
 }
 
-module _ {D B E : Type 0} (service : Service D B E) (turns : List Turn) (first : Told) (table : HostList) where
-  pub respects : Respects (IsGiven service turns first table)
+module _ {D B E : Type 0} (service : Service D B E) (turns : List Turn) (passages : List (Passage (Local D B E))) (first : Told) (table : HostList) where
+  pub respects : Respects (IsGiven service turns passages first table)
   respects number log other version e given = elim given [
     | inl made ↦ inl (record {
       job = made.job;
@@ -78,26 +75,24 @@ module _ {D B E : Type 0} (service : Service D B E) (turns : List Turn) (first :
     | inr fetched ↦ inr (record {
       taken = fetched.taken;
       of_map = fetched.of_map;
-      by_turn = fetched.by_turn;
-      order = fetched.order;
+      passage = fetched.passage;
+      among = fetched.among;
       fetched = fetched.fetched;
-      before = fetched.before;
-      after = fetched.after;
-      fetches = fetched.fetches;
+      gave = fetched.gave;
       marked = subst (λ (s : Option MapVersion). version ≡ record fetched.fetched { secure = marking None s }) e fetched.marked;
     })
   ]
 
   -- what holds of the host at each moment
   pub record SoundHost (host : Local D B E) : Type 0 where
-    pub maps : Sound service.keeping (IsGiven service turns first table) respects host.published
+    pub maps : Sound service.keeping (IsGiven service turns passages first table) respects host.published
     pub catalogue : host.published.catalogue ≡ service.catalogue
     pub told : TellsSame first (service.telling.told host.desk)
     pub hosts : service.telling.hosts host.desk ≡ table
 
   -- what holds of it at two moments
   pub record PassesHost (old new : Local D B E) : Type 0 where
-    pub maps : Passes service.keeping (IsGiven service turns first table) respects old.published new.published
+    pub maps : Passes service.keeping (IsGiven service turns passages first table) respects old.published new.published
     pub desk : IsUsed service.telling old.desk new.desk
 
   -- it was so before, and passed so
@@ -107,20 +102,20 @@ module _ {D B E : Type 0} (service : Service D B E) (turns : List Turn) (first :
   goes_nowhere : (old new : Local D B E) → new ≡ old → SoundHost old → GoesOnTo old new
   goes_nowhere old new e sound =
       subst (λ (h : Local D B E). GoesOnTo old h) (sym e)
-      (sound, record { maps = passes_none service.keeping (IsGiven service turns first table) respects old.published; desk = used_never service.telling old.desk })
+      (sound, record { maps = passes_none service.keeping (IsGiven service turns passages first table) respects old.published; desk = used_never service.telling old.desk })
 
   goes_twice : (old middle new : Local D B E) → GoesOnTo old middle → GoesOnTo middle new → GoesOnTo old new
   goes_twice old middle new f s = (
     s.0,
     record {
-      maps = passes_then service.keeping (IsGiven service turns first table) respects old.published middle.published new.published f.1.maps s.1.maps;
+      maps = passes_then service.keeping (IsGiven service turns passages first table) respects old.published middle.published new.published f.1.maps s.1.maps;
       desk = used_then service.telling old.desk middle.desk new.desk f.1.desk s.1.desk;
     },
   )
 
   -- a host whose maps went on, over a desk that tells the same
   with_maps : (old new : Local D B E) → SoundHost old → IsUsed service.telling old.desk new.desk
-      → Sound service.keeping (IsGiven service turns first table) respects new.published × Passes service.keeping (IsGiven service turns first table) respects old.published new.published
+      → Sound service.keeping (IsGiven service turns passages first table) respects new.published × Passes service.keeping (IsGiven service turns passages first table) respects old.published new.published
       → GoesOnTo old new
   with_maps old new sound same went = (
     record { maps = went.0; catalogue = went.1.catalogue ∙ sound.catalogue; told = told_then sound.told same.tells; hosts = same.hosts ∙ sound.hosts },
@@ -132,7 +127,7 @@ module _ {D B E : Type 0} (service : Service D B E) (turns : List Turn) (first :
   is_made : (job : Job) (old : Local D B E) (middle : Published D B) (version : MapVersion)
       → IsCalledFor service turns job → SoundHost old → middle.catalogue ≡ old.published.catalogue
       → IsAnew (service.telling.told old.desk) (basis_of job.kind middle.catalogue.own None (shown job.map (service.keeping.log middle.board))) version
-      → IsGiven service turns first table job.map (service.keeping.log middle.board) version
+      → IsGiven service turns passages first table job.map (service.keeping.log middle.board) version
   is_made job old middle version called sound same anew = inl (record {
     job = job;
     of_map = refl;
@@ -144,9 +139,9 @@ module _ {D B E : Type 0} (service : Service D B E) (turns : List Turn) (first :
 
   opened_on : (stat : XfrStat) (job : Job) (old new : Local D B E) → IsCalledFor service turns job → SoundHost old
       → job.map < length old.published.maps → OpensAndTries service.keeping service.telling job stat old new
-      → Sound service.keeping (IsGiven service turns first table) respects new.published × Passes service.keeping (IsGiven service turns first table) respects old.published new.published
+      → Sound service.keeping (IsGiven service turns passages first table) respects new.published × Passes service.keeping (IsGiven service turns passages first table) respects old.published new.published
   opened_on stat job old new called sound kept step =
-      let Is = IsGiven service turns first table in
+      let Is = IsGiven service turns passages first table in
       let opened = opens_on service.keeping Is respects job.map old.published step.middle kept sound.maps step.opens in
       elim step.tries [
         | inl none ↦ subst (λ (p : Published D B). Sound service.keeping Is respects p × Passes service.keeping Is respects old.published p) (sym none.1) opened
@@ -161,71 +156,68 @@ module _ {D B E : Type 0} (service : Service D B E) (turns : List Turn) (first :
       → Made service.keeping service.telling job stat old new → GoesOnTo old new
   made_on stat job old new called sound made =
       with_maps old new sound made.1.desk (elim made.1.ends [
-        | inl stays ↦ stays_on service.keeping (IsGiven service turns first table) respects job.map stays.fault old.published new.published sound.maps stays.stays
+        | inl stays ↦ stays_on service.keeping (IsGiven service turns passages first table) respects job.map stays.fault old.published new.published sound.maps stays.stays
         | inr tries ↦ opened_on stat job old new called sound made.0 tries
       ])
 
   -- ---- a transfer
 
-  is_fetched : (taken : Taken) (old : Local D B E) (middle : Published D B) (version : MapVersion) (before after : Dialing)
-      → WasTaken service turns taken → SoundHost old
-      → IfSome (slice_get old.published.catalogue.maps taken.map) (λ name. FetchesFrom (service.telling.hosts old.desk) taken.source (wanted_at service.keeping (request_for taken) name old.published) (Ok version) before after)
-      → IsGiven service turns first table taken.map (service.keeping.log middle.board) (fetched_offer service.keeping taken.map version false None middle).version
-  is_fetched taken old middle version before after by_turn sound fetches = inr (record {
-    taken = taken;
-    of_map = refl;
-    by_turn = by_turn;
-    order = option_map (λ (v : MapVersion). v.order) (shown taken.map (service.keeping.log old.published.board));
-    fetched = version;
-    before = before;
-    after = after;
-    fetches =
-        let order = option_map (λ (v : MapVersion). v.order) (shown taken.map (service.keeping.log old.published.board)) in
-        let P : HostList → Catalogue → Type 0 = λ h k. IfSome (slice_get k.maps taken.map) (λ name. FetchesFrom h taken.source (wanted_of name.0 name.1 order false) (Ok version) before after) in
-        subst (λ (h : HostList). P h service.catalogue) sound.hosts (subst (λ (k : Catalogue). P (service.telling.hosts old.desk) k) sound.catalogue fetches);
-    marked = refl;
-  })
+  -- a record whose transfer gave this version
+  record Fetched (taken : Taken) (version : MapVersion) : Type 0 where
+    passage : Passage (Local D B E)
+    among : Contains passages passage
+    gave : GaveVersion service table taken version passage
 
-  offers_fetched : (taken : Taken) (result : Result Installed XfrFault) (old new : Local D B E) (version : MapVersion) (before after : Dialing)
-      → WasTaken service turns taken → SoundHost old → taken.map < length old.published.maps
-      → IfSome (slice_get old.published.catalogue.maps taken.map) (λ name. FetchesFrom (service.telling.hosts old.desk) taken.source (wanted_at service.keeping (request_for taken) name old.published) (Ok version) before after)
+  is_fetched : (taken : Taken) (middle : Published D B) (version : MapVersion) → Fetched taken version
+      → IsGiven service turns passages first table taken.map (service.keeping.log middle.board) (fetched_offer service.keeping taken.map version false None middle).version
+  is_fetched taken middle version fetched =
+      inr (record { taken = taken; of_map = refl; passage = fetched.passage; among = fetched.among; fetched = version; gave = fetched.gave; marked = refl })
+
+  offers_fetched : (taken : Taken) (result : Result Installed XfrFault) (old new : Local D B E) (version : MapVersion)
+      → Fetched taken version → SoundHost old → taken.map < length old.published.maps
       → OpensAndOffers service.keeping taken.map version false None result old.published new.published
-      → Sound service.keeping (IsGiven service turns first table) respects new.published × Passes service.keeping (IsGiven service turns first table) respects old.published new.published
-  offers_fetched taken result old new version before after by_turn sound kept fetches step =
-      let Is = IsGiven service turns first table in
+      → Sound service.keeping (IsGiven service turns passages first table) respects new.published × Passes service.keeping (IsGiven service turns passages first table) respects old.published new.published
+  offers_fetched taken result old new version fetched sound kept step =
+      let Is = IsGiven service turns passages first table in
       let opened = opens_on service.keeping Is respects taken.map old.published step.middle kept sound.maps step.opens in
       let within : taken.map < length step.middle.maps = subst (λ (n : ℕ). taken.map < n) (sym step.opens.upheld.elsewhere.count) kept in
-      let given = is_fetched taken old step.middle version before after by_turn sound fetches in
+      let given = is_fetched taken step.middle version fetched in
       let installed = fetched_on service.keeping Is respects taken.map (fetched_offer service.keeping taken.map version false None step.middle) result step.middle new.published
       within opened.0 step.opens.level refl given step.offers in
       (installed.0, passes_then service.keeping Is respects old.published step.middle new.published opened.1 installed.1)
 
-  installs_fetched : (taken : Taken) (outcome : Outcome) (result : Result Installed XfrFault) (old new : Local D B E) (before after : Dialing)
-      → WasTaken service turns taken → SoundHost old → taken.map < length old.published.maps
-      → IfSome (slice_get old.published.catalogue.maps taken.map) (λ name. FetchesFrom (service.telling.hosts old.desk) taken.source (wanted_at service.keeping (request_for taken) name old.published) outcome before after)
+  installs_fetched : (taken : Taken) (outcome : Outcome) (result : Result Installed XfrFault) (old new : Local D B E)
+      → ((version : MapVersion) → outcome ≡ Ok version → Fetched taken version) → SoundHost old → taken.map < length old.published.maps
       → InstallsOutcome service.keeping (request_for taken) outcome result old.published new.published
-      → Sound service.keeping (IsGiven service turns first table) respects new.published × Passes service.keeping (IsGiven service turns first table) respects old.published new.published
-  installs_fetched taken (Err fault) result old new before after by_turn sound kept fetches installs =
-      let Is = IsGiven service turns first table in
+      → Sound service.keeping (IsGiven service turns passages first table) respects new.published × Passes service.keeping (IsGiven service turns passages first table) respects old.published new.published
+  installs_fetched taken (Err fault) result old new fetched sound kept installs =
+      let Is = IsGiven service turns passages first table in
       subst (λ (p : Published D B). Sound service.keeping Is respects p × Passes service.keeping Is respects old.published p) (sym installs.1)
       (sound.maps, passes_none service.keeping Is respects old.published)
-  installs_fetched taken (Ok version) result old new before after by_turn sound kept fetches installs = elim installs [
-    | inl stays ↦ stays_on service.keeping (IsGiven service turns first table) respects taken.map stays.why old.published new.published sound.maps stays.stays
-    | inr step ↦ offers_fetched taken result old new version before after by_turn sound kept fetches step
+  installs_fetched taken (Ok version) result old new fetched sound kept installs = elim installs [
+    | inl stays ↦ stays_on service.keeping (IsGiven service turns passages first table) respects taken.map stays.why old.published new.published sound.maps stays.stays
+    | inr step ↦ offers_fetched taken result old new version (fetched version refl) sound kept step
   ]
 
-  carried_out : (taken : Taken) (peer : Peer) (old new : Local D B E) → WasTaken service turns taken → SoundHost old
-      → Carried service.keeping service.telling taken peer old new → GoesOnTo old new
-  carried_out taken peer old new by_turn sound step =
+  carried_out : (taken : Taken) (turn : Turn) (before old new : Local D B E) → turn.taken ≡ Some taken → IsTrue turn.flushed
+      → Contains passages (passage_of before turn new) → old ≡ record before { asked = old.asked } → SoundHost old
+      → Carried service.keeping service.telling taken service.peer old new → GoesOnTo old new
+  carried_out taken turn before old new took flushed among middle_is sound step =
       let done = step.transfers in
-      with_maps old new sound step.used
-      (installs_fetched taken done.transfers.outcome done.result old new _ _ by_turn sound step.inside done.transfers.fetches done.transfers.installs)
+      let fetched : (version : MapVersion) → done.transfers.outcome ≡ Ok version → Fetched taken version = λ version gave. record {
+        passage = passage_of before turn new;
+        among = among;
+        gave = record { took = took; flushed = flushed; middle = old; middle_is = middle_is; hosts_are = sound.hosts; carried = step; gave = gave };
+      } in
+      with_maps old new sound step.used (installs_fetched taken done.transfers.outcome done.result old new fetched sound step.inside done.transfers.installs)
 
   -- it is carried out where its reply was flushed
-  carried_where : (flushed : Bool) (taken : Taken) (old new : Local D B E) → (IsTrue flushed → WasTaken service turns taken) → SoundHost old
+  carried_where : (flushed : Bool) (taken : Taken) (turn : Turn) (before old new : Local D B E) → turn.flushed ≡ flushed → turn.taken ≡ Some taken
+      → (IsTrue flushed → Contains passages (passage_of before turn new)) → old ≡ record before { asked = old.asked } → SoundHost old
       → CarriesWhere flushed (local_conduct service.keeping service.telling) taken service.peer old new → GoesOnTo old new
-  carried_where true taken old new by_turn sound step = carried_out taken service.peer old new (by_turn refl) sound step.carried
-  carried_where false taken old new by_turn sound step = goes_nowhere old new step sound
+  carried_where true taken turn before old new flushed took among middle_is sound step =
+      carried_out taken turn before old new took flushed (among refl) middle_is sound step.carried
+  carried_where false taken turn before old new flushed took among middle_is sound step = goes_nowhere old new step sound
 
   -- ---- a record
 
@@ -233,42 +225,52 @@ module _ {D B E : Type 0} (service : Service D B E) (turns : List Turn) (first :
   counted old new e sound =
       subst (λ (h : Local D B E). GoesOnTo old h) (sym e)
       (with_maps old (record old { asked = next_count old.asked }) sound (used_never service.telling old.desk)
-      (sound.maps, passes_none service.keeping (IsGiven service turns first table) respects old.published))
+      (sound.maps, passes_none service.keeping (IsGiven service turns passages first table) respects old.published))
 
   stepped_on : (asked : Bool) (old new : Local D B E) → SoundHost old
       → StepsWhere asked (λ old new. new ≡ record old { asked = next_count old.asked }) (seen_of service.keeping.log) old new → GoesOnTo old new
   stepped_on true old new sound step = counted old new step.0 sound
   stepped_on false old new sound step = goes_nowhere old new step sound
 
-  carried_on : (response : Response) (turn : Turn) (old new : Local D B E) → Contains turns turn → SoundHost old
+  -- a read step changes how often the host was asked, at most
+  asked_alone : (asked : Bool) (old new : Local D B E)
+      → StepsWhere asked (λ old new. new ≡ record old { asked = next_count old.asked }) (seen_of service.keeping.log) old new → new ≡ record old { asked = new.asked }
+  asked_alone true old new step = subst (λ (h : Local D B E). h ≡ record old { asked = h.asked }) (sym step.0) refl
+  asked_alone false old new step = subst (λ (h : Local D B E). h ≡ record old { asked = h.asked }) (sym step) refl
+
+  carried_on : (response : Response) (turn : Turn) (before old new : Local D B E) → Contains turns turn
+      → (IsTrue turn.flushed → Contains passages (passage_of before turn new)) → old ≡ record before { asked = old.asked } → SoundHost old
       → reply Stream (maps_of (seen_of service.keeping.log old)) service.peer turn.message ≡ response
       → Carries (local_conduct service.keeping service.telling) service.peer response turn old new → GoesOnTo old new
-  carried_on Silence turn old new among sound is carried = goes_nowhere old new carried.3 sound
-  carried_on (Bytes bytes) turn old new among sound is carried = goes_nowhere old new carried.3 sound
-  carried_on (Takes bytes taken) turn old new among sound is carried =
-      let by_turn : IsTrue turn.flushed → WasTaken service turns taken = λ flushed.
-      (turn, flushed, bytes, record { among = among; maps = maps_of (seen_of service.keeping.log old); of_catalogue = sound.catalogue; gets = is }) in
-      carried_where turn.flushed taken old new by_turn sound carried.3
-  carried_on (Open xid job) turn old new among sound is carried =
+  carried_on Silence turn before old new among passed middle_is sound is carried = goes_nowhere old new carried.3 sound
+  carried_on (Bytes bytes) turn before old new among passed middle_is sound is carried = goes_nowhere old new carried.3 sound
+  carried_on (Takes bytes taken) turn before old new among passed middle_is sound is carried =
+      carried_where turn.flushed taken turn before old new refl carried.2 passed middle_is sound carried.3
+  carried_on (Open xid job) turn before old new among passed middle_is sound is carried =
       let called : IsCalledFor service turns job =
       (turn, xid, record { among = among; maps = maps_of (seen_of service.keeping.log old); of_catalogue = sound.catalogue; gets = is }) in
       made_on carried.0 job old new called sound carried.4.made
 
-  linked_on : (turn : Turn) (old new : Local D B E) → Contains turns turn → SoundHost old
+  linked_on : (turn : Turn) (old new : Local D B E) → Contains turns turn → (IsTrue turn.flushed → Contains passages (passage_of old turn new)) → SoundHost old
       → Link (local_conduct service.keeping service.telling) Stream service.peer turn old new → GoesOnTo old new
-  linked_on turn old new among sound link =
+  linked_on turn old new among passed sound link =
       let stepped = stepped_on (asks Stream turn.message) old link.mid sound link.step in
-      let carried = carried_on (reply Stream (maps_of (seen_of service.keeping.log link.mid)) service.peer turn.message) turn link.mid new among stepped.0 refl link.carried in
+      let carried = carried_on (reply Stream (maps_of (seen_of service.keeping.log link.mid)) service.peer turn.message) turn old link.mid new among passed
+      (asked_alone (asks Stream turn.message) old link.mid link.step) stepped.0 refl link.carried in
       goes_twice old link.mid new stepped carried
 
   chain_on : (answered : List (Turn × Dialogue (Local D B E))) (rest : List Turn) (old new : Dialogue (Local D B E))
-      → AllByRecursion (Contains turns) (map (λ one. one.0) answered ++ rest) → SoundHost old.host
+      → AllByRecursion (Contains turns) (map (λ one. one.0) answered ++ rest) → AllByRecursion (Contains passages) (passages_of old answered) → SoundHost old.host
       → Chain (local_conduct service.keeping service.telling) service.peer answered old new → GoesOnTo old.host new.host × AllByRecursion (Contains turns) rest
-  chain_on [] rest old new among sound chain = (goes_nowhere old.host new.host (ap (λ (d : Dialogue (Local D B E)). d.host) chain) sound, among)
-  chain_on (one ∷ answered) rest old new among sound chain =
-      let first = linked_on one.0 old.host one.1.host among.0 sound chain.0.replied.link in
-      let later = chain_on answered rest one.1 new among.1 first.0 chain.1 in
+  chain_on [] rest old new among passed sound chain = (goes_nowhere old.host new.host (ap (λ (d : Dialogue (Local D B E)). d.host) chain) sound, among)
+  chain_on (one ∷ answered) rest old new among passed sound chain =
+      let first = linked_on one.0 old.host one.1.host among.0 (λ flushed. passed.0) sound chain.0.replied.link in
+      let later = chain_on answered rest one.1 new among.1 passed.1 first.0 chain.1 in
       (goes_twice old.host one.1.host new.host first later.0, later.1)
+
+  -- a reply that isn't flushed has no transfer carried out behind it
+  unflushed : (turn : Turn) (old new : Local D B E) → turn.flushed ≡ false → IsTrue turn.flushed → Contains passages (passage_of old turn new)
+  unflushed turn old new e flushed = absurd (cc (e, flushed))
 
   ends_on : (most count : ℕ) (end : End) (last new : Dialogue (Local D B E)) (ends : Ends (local_conduct service.keeping service.telling) service.peer most count end last new)
       → AllByRecursion (Contains turns) (unsent (local_conduct service.keeping service.telling) service.peer most count end last new ends) → SoundHost last.host → GoesOnTo last.host new.host
@@ -276,18 +278,21 @@ module _ {D B E : Type 0} (service : Service D B E) (turns : List Turn) (first :
   ends_on most count (Torn at) last new ends among sound = goes_nowhere last.host new.host ends.1.1.host sound
   ends_on most count (TooLong at) last new ends among sound = goes_nowhere last.host new.host ends.1.1.host sound
   ends_on most count ReadFault last new ends among sound = goes_nowhere last.host new.host ends.1.1.host sound
-  ends_on most count WriteFault last new ends among sound = linked_on ends.1.0 last.host new.host among.0 sound ends.1.1.replied.link
+  ends_on most count WriteFault last new ends among sound =
+      linked_on ends.1.0 last.host new.host among.0 (unflushed ends.1.0 last.host new.host ends.1.1.replied.flush) sound ends.1.1.replied.link
   ends_on most count Enough last new ends among sound = goes_nowhere last.host new.host (ap (λ (d : Dialogue (Local D B E)). d.host) ends.1) sound
 
 -- the whole run of a session
 pub session_on : {D B E : Type 0} (service : Service D B E) (first : Told) (table : HostList) (most : ℕ) (end : End) (old new : Dialogue (Local D B E)) (wires : List Wire)
     (runs : Runs (local_conduct service.keeping service.telling) service.peer most end old new wires)
-    → SoundHost service runs.turns first table old.host → GoesOnTo service runs.turns first table old.host new.host
+    → SoundHost service runs.turns (passages_of old runs.answered) first table old.host → GoesOnTo service runs.turns (passages_of old runs.answered) first table old.host new.host
 session_on service first table most end old new wires runs sound =
+    let passages = passages_of old runs.answered in
     let all = recursion_from_All (Contains runs.turns) runs.turns (All-contains_itself runs.turns) in
+    let passed = recursion_from_All (Contains passages) passages (All-contains_itself passages) in
     let rest = unsent (local_conduct service.keeping service.telling) service.peer most (length runs.answered) end runs.last new runs.ends in
     let among : AllByRecursion (Contains runs.turns) (map (λ one. one.0) runs.answered ++ rest) =
     subst (λ (turns : List Turn). AllByRecursion (Contains runs.turns) turns) runs.all all in
-    let chain = chain_on service runs.turns first table runs.answered rest old runs.last among sound runs.chain in
-    goes_twice service runs.turns first table old.host runs.last.host new.host chain.0
-    (ends_on service runs.turns first table most (length runs.answered) end runs.last new runs.ends chain.1 chain.0.0)
+    let chain = chain_on service runs.turns passages first table runs.answered rest old runs.last among passed sound runs.chain in
+    goes_twice service runs.turns passages first table old.host runs.last.host new.host chain.0
+    (ends_on service runs.turns passages first table most (length runs.answered) end runs.last new runs.ends chain.1 chain.0.0)

@@ -1,5 +1,5 @@
 -- A connection, from the disks that were loaded and the session that ran.
-use Rattle.std.proofs.Common.{◌≡◌, inl, ℕ, ◌≤◌, List, [], ◌∷◌, ◌++◌, map, length, slice_get, Option, IfSome, IsSome, refl, sym, ◌∙◌, ap, subst, arith, All}
+use Rattle.std.proofs.Common.{◌≡◌, inl, ℕ, ◌≤◌, List, [], ◌∷◌, length, slice_get, Option, IfSome, IsSome, refl, sym, ◌∙◌, ap, subst, arith, All}
 use Rattle.std.specs.List.{AllZip}
 use Rattle.std.proofs.lemmas.List.{length-map}
 use Rattle.std.proofs.lemmas.Option.{slice_get-map}
@@ -22,7 +22,7 @@ use Rattle.yp_session.specs.declared.session.TheConstants.{CALLS_MAX}
 use Rattle.yp_answer.specs.Causes.{TellsSame}
 use Rattle.yp_server.specs.Locals.{Local, IsUsed}
 use Rattle.yp_publish.specs.Grown.{IsOfBetween, IsBehindMade, AtDisk, LeavesOr, AreTold}
-use Rattle.yp_server.specs.Connections.{Service, Connection, local_conduct, IsFirstHost, IsLastHost, IsGiven, log_of, Serves}
+use Rattle.yp_server.specs.Connections.{Service, Connection, local_conduct, IsFirstHost, IsLastHost, Passage, passages_of, IsGiven, log_of, Serves}
 use Rattle.yp_server.proofs.Leaving.{weaker, left_alone, both_leave_or, told_on, opt_both, opt_then, opt_second, opt_at, opt_put_map, same_places, zip_at, all_at}
 use Rattle.yp_server.proofs.Leading.{rises_from}
 use Rattle.yp_server.proofs.Hosting.{SoundHost, GoesOnTo, session_on}
@@ -56,14 +56,14 @@ module _ {D B E : Type 0} (service : Service D B E) (old new : Connection D E) (
       subst (λ (host : Local D B E). IsFirstHost service old host) (sym is)
       record { catalogue = served; opened = opened; log = log; begun = refl }
 
-  first_sound : (turns : List Turn) → StartsAreShown → IsFirstHost service old start → SoundHost service turns (service.telling.told old.desk) (service.telling.hosts old.desk) start
-  first_sound turns law first = record {
+  first_sound : (turns : List Turn) (passages : List (Passage (Local D B E))) → StartsAreShown → IsFirstHost service old start → SoundHost service turns passages (service.telling.told old.desk) (service.telling.hosts old.desk) start
+  first_sound turns passages law first = record {
     maps = record {
       shows = subst (λ (l : Log). Shows l (versions start.published.maps)) (sym first.log) (law (versions start.published.maps));
       behind = λ number.
           opt_second {P = IsOpened service.keeping.history service.keeping.faults} (slice_get old.disks number) (slice_get start.published.maps number)
           (same_places start.published.maps old.disks number (AllZip-long (IsOpened service.keeping.history service.keeping.faults) old.disks start.published.maps first.opened))
-          (λ disk kept there here opened told. subst (λ (s : MapStanding). IsBehindMade (IsGiven service turns (service.telling.told old.desk) (service.telling.hosts old.desk)) number (service.keeping.log start.published.board) s) (sym opened.level) tt)
+          (λ disk kept there here opened told. subst (λ (s : MapStanding). IsBehindMade (IsGiven service turns passages (service.telling.told old.desk) (service.telling.hosts old.desk)) number (service.keeping.log start.published.board) s) (sym opened.level) tt)
           (zip_at (IsOpened service.keeping.history service.keeping.faults) old.disks start.published.maps number first.opened);
     };
     catalogue = first.catalogue;
@@ -73,9 +73,9 @@ module _ {D B E : Type 0} (service : Service D B E) (old new : Connection D E) (
 
   pub went_on : StartsAreShown → (end : End) (progress : Progress) (wires : List Wire) → IsFirstHost service old start
       → (runs : Runs (local_conduct service.keeping service.telling) service.peer CALLS_MAX end (dialogue_at start old.wire begun) (dialogue_at finish new.wire progress) wires)
-      → GoesOnTo service runs.turns (service.telling.told old.desk) (service.telling.hosts old.desk) start finish
+      → GoesOnTo service runs.turns (passages_of (dialogue_at start old.wire begun) runs.answered) (service.telling.told old.desk) (service.telling.hosts old.desk) start finish
   went_on shown end progress wires first runs =
-      session_on service (service.telling.told old.desk) (service.telling.hosts old.desk) CALLS_MAX end (dialogue_at start old.wire begun) (dialogue_at finish new.wire progress) wires runs (first_sound runs.turns shown first)
+      session_on service (service.telling.told old.desk) (service.telling.hosts old.desk) CALLS_MAX end (dialogue_at start old.wire begun) (dialogue_at finish new.wire progress) wires runs (first_sound runs.turns (passages_of (dialogue_at start old.wire begun) runs.answered) shown first)
 
   -- what holds of a disk from its opening to its handing back
   through : (P : D → D → Type 0) (Q : Kept D → Kept D → Type 0) (number : ℕ)
@@ -106,7 +106,7 @@ module _ {D B E : Type 0} (service : Service D B E) (old new : Connection D E) (
 
   pub served : LogRises → BeginningIsStart → (end : End) (progress : Progress) (wires : List Wire) → IsFirstHost service old start
       → (runs : Runs (local_conduct service.keeping service.telling) service.peer CALLS_MAX end (dialogue_at start old.wire begun) (dialogue_at finish new.wire progress) wires)
-      → GoesOnTo service runs.turns (service.telling.told old.desk) (service.telling.hosts old.desk) start finish → IsLastHost service finish new
+      → GoesOnTo service runs.turns (passages_of (dialogue_at start old.wire begun) runs.answered) (service.telling.told old.desk) (service.telling.hosts old.desk) start finish → IsLastHost service finish new
       → IsCatalogue service.catalogue → All (λ entry. IsVersion entry.1) (log_of service finish) → Serves service end old new wires
   served rises begins end progress wires first runs went last catalogue versions = record {
     start = start;
@@ -116,8 +116,8 @@ module _ {D B E : Type 0} (service : Service D B E) (old new : Connection D E) (
     runs = runs;
     last = last;
     any_moment = λ number.
-        through (LeavesOr service.keeping.history (IsOfBetween (IsGiven service runs.turns (service.telling.told old.desk) (service.telling.hosts old.desk)) number (service.keeping.log start.published.board) (service.keeping.log finish.published.board)))
-        (λ before after. LeavesOr service.keeping.history (IsOfBetween (IsGiven service runs.turns (service.telling.told old.desk) (service.telling.hosts old.desk)) number (service.keeping.log start.published.board) (service.keeping.log finish.published.board)) before.disk after.disk)
+        through (LeavesOr service.keeping.history (IsOfBetween (IsGiven service runs.turns (passages_of (dialogue_at start old.wire begun) runs.answered) (service.telling.told old.desk) (service.telling.hosts old.desk)) number (service.keeping.log start.published.board) (service.keeping.log finish.published.board)))
+        (λ before after. LeavesOr service.keeping.history (IsOfBetween (IsGiven service runs.turns (passages_of (dialogue_at start old.wire begun) runs.answered) (service.telling.told old.desk) (service.telling.hosts old.desk)) number (service.keeping.log start.published.board) (service.keeping.log finish.published.board)) before.disk after.disk)
         number with_opening first (went.1.maps.moments number) last;
     behind = went.0.maps.behind;
     grown = λ told. went.1.maps.entries (told_maps first told);
@@ -126,24 +126,24 @@ module _ {D B E : Type 0} (service : Service D B E) (old new : Connection D E) (
     served = record { catalogue = catalogue; versions = versions };
   }
 
-  pub served_bound : {turns : List Turn} → IsFirstHost service old start → GoesOnTo service turns (service.telling.told old.desk) (service.telling.hosts old.desk) start finish → IsLastHost service finish new
+  pub served_bound : {turns : List Turn} {passages : List (Passage (Local D B E))} → IsFirstHost service old start → GoesOnTo service turns passages (service.telling.told old.desk) (service.telling.hosts old.desk) start finish → IsLastHost service finish new
       → (number : ℕ) → AtDisk number old.disks new.disks (LeavesOr service.keeping.history (λ image. length image ≤ file_max))
   served_bound first went last number =
       through (LeavesOr service.keeping.history (λ image. length image ≤ file_max)) (λ before after. LeavesOr service.keeping.history (λ image. length image ≤ file_max) before.disk after.disk)
       number with_opening first (went.1.maps.bound number) last
 
-  pub served_falls : {turns : List Turn} → IsFirstHost service old start → GoesOnTo service turns (service.telling.told old.desk) (service.telling.hosts old.desk) start finish → IsLastHost service finish new
+  pub served_falls : {turns : List Turn} {passages : List (Passage (Local D B E))} → IsFirstHost service old start → GoesOnTo service turns passages (service.telling.told old.desk) (service.telling.hosts old.desk) start finish → IsLastHost service finish new
       → (number : ℕ) → AtDisk number old.disks new.disks (λ before after. service.keeping.faults before ≤ service.keeping.faults after)
   served_falls first went last number =
       through (λ before after. service.keeping.faults before ≤ service.keeping.faults after) (λ before after. service.keeping.faults before.disk ≤ service.keeping.faults after.disk)
       number (λ disk before after opened le. omega (arith, opened.never_falls)) first (went.1.maps.never_falls number) last
 
-  pub served_count : {turns : List Turn} → IsFirstHost service old start → GoesOnTo service turns (service.telling.told old.desk) (service.telling.hosts old.desk) start finish → IsLastHost service finish new → length new.disks ≡ length old.disks
+  pub served_count : {turns : List Turn} {passages : List (Passage (Local D B E))} → IsFirstHost service old start → GoesOnTo service turns passages (service.telling.told old.desk) (service.telling.hosts old.desk) start finish → IsLastHost service finish new → length new.disks ≡ length old.disks
   served_count first went last =
       ap length last.disks ∙ length-map finish.published.maps (λ (kept : Kept D). kept.disk) ∙ went.1.maps.count
       ∙ AllZip-long (IsOpened service.keeping.history service.keeping.faults) old.disks start.published.maps first.opened
 
-  pub served_desk : {turns : List Turn} → IsFirstHost service old start → GoesOnTo service turns (service.telling.told old.desk) (service.telling.hosts old.desk) start finish → IsLastHost service finish new → IsUsed service.telling old.desk new.desk
+  pub served_desk : {turns : List Turn} {passages : List (Passage (Local D B E))} → IsFirstHost service old start → GoesOnTo service turns passages (service.telling.told old.desk) (service.telling.hosts old.desk) start finish → IsLastHost service finish new → IsUsed service.telling old.desk new.desk
   served_desk first went last =
       subst (λ (d : E). IsUsed service.telling d new.desk) (ap (λ (h : Local D B E). h.desk) first.begun)
       (subst (λ (d : E). IsUsed service.telling start.desk d) (sym last.desk) went.1.desk)

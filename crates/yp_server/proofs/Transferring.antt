@@ -1,7 +1,6 @@
 -- What a transfer adds to a log, and that it keeps the catalogue.
-use Rattle.std.proofs.Common.{◌≡◌, ◌⊎◌, inl, inr, ℕ, ◌<◌, false, None, Result, Ok, Err, length, refl, sym, ap, subst, ◌∙◌, ◌++◌, append_assoc}
+use Rattle.std.proofs.Common.{◌≡◌, inl, inr, ℕ, ◌<◌, false, None, Result, Ok, Err, length, refl, ap, ◌∙◌, ◌++◌, append_assoc}
 use Rattle.yp_version.specs.Versions.{MapVersion}
-use Rattle.yp_board.specs.Catalogues.{Catalogue}
 use Rattle.yp_board.specs.Logs.{Log}
 use Rattle.yp_board.specs.Views.{IsFront}
 use Rattle.yp_publish.specs.declared.install.Installed.{Installed}
@@ -13,8 +12,8 @@ use Rattle.yp_publish.specs.Rising.{InstallsNewer}
 use Rattle.yp_answer.specs.Transfer.{Taken}
 use Rattle.yp_xfr.specs.declared.fault.XfrFault.{XfrFault}
 use Rattle.yp_xfr.specs.Fetching.{Outcome}
-use Rattle.yp_xfr.specs.Installing.{Offers, OpensAndOffers, fetched_offer}
-use Rattle.yp_xfr.specs.Transfers.{Request, InstallsOutcome}
+use Rattle.yp_xfr.specs.Installing.{Offers, fetched_offer}
+use Rattle.yp_xfr.specs.Transfers.{InstallsOutcome}
 use Rattle.yp_server.specs.Carried.{request_for}
 use Rattle.yp_server.proofs.Growing.{front_same, front_more, opened_front}
 

@@ -1,7 +1,6 @@
 -- One connection over stored maps: the host that it starts with, the one that it ends with, and what a crash leaves at
 -- each moment between.
-use Rattle.std.specs.Prelude.{◌≡◌, ◌⊎◌, ℕ, List, map, slice_get, Contains, Option, None, Ok, IfSome, IsSome, IsTrue}
-use Rattle.std.specs.Prelude.{false}
+use Rattle.std.specs.Prelude.{◌≡◌, ◌⊎◌, ℕ, List, [], ◌∷◌, map, Contains, None, Some, Ok, IsSome, IsTrue}
 use Rattle.std.specs.List.{AllZip}
 use Rattle.yp_io.specs.Counts.{next_count}
 use Rattle.yp_io.specs.declared.stream.Peer.{Peer}
@@ -12,20 +11,17 @@ use Rattle.yp_answer.specs.declared.procedure.Path.TheVariants.{Stream}
 use Rattle.yp_answer.specs.Maps.{Maps}
 use Rattle.yp_answer.specs.Served.{AreServed, maps_on}
 use Rattle.yp_answer.specs.Transfer.{Taken}
-use Rattle.yp_answer.specs.Reply.{Response, Takes, Open, reply}
+use Rattle.yp_answer.specs.Reply.{Response, Open, reply}
 use Rattle.yp_answer.specs.declared.make.Job.{Job}
 use Rattle.yp_publish.specs.Standing.{IsStanding, OfMap, Shows, versions}
 use Rattle.yp_publish.specs.Opens.{IsOpened}
 use Rattle.yp_publish.specs.Rising.{IsRisingLog}
 use Rattle.yp_publish.specs.Grown.{Making, GrowsBy, IsOfBetween, IsBehindMade, AtDisk, LeavesOr, AreTold}
 use Rattle.yp_xfr.specs.HostTable.{HostList}
-use Rattle.yp_xfr.specs.Fetching.{wanted_of}
-use Rattle.yp_io.specs.Dials.{Dialing}
-use Rattle.yp_xfr.specs.Dialing.{FetchesFrom}
 use Rattle.yp_xfr.specs.Installing.{marking}
 use Rattle.yp_session.specs.Progress.{Progress, begun}
 use Rattle.yp_session.specs.Hosts.{Conduct, Turn, conduct_of}
-use Rattle.yp_session.specs.Runs.{dialogue_at, Runs}
+use Rattle.yp_session.specs.Runs.{Dialogue, dialogue_at, Runs}
 use Rattle.yp_session.specs.Wires.{Wire}
 use Rattle.yp_session.specs.declared.session.End.{End}
 use Rattle.yp_session.specs.declared.session.TheConstants.{CALLS_MAX}
@@ -114,32 +110,59 @@ pub record IsMade {D B E : Type 0} (service : Service D B E) (turns : List Turn)
   pub called : IsCalledFor service turns job
   pub anew : IsAnew told (basis_of job.kind service.catalogue.own None (shown number log)) version
 
--- One of these records took this transfer, and its reply was flushed.
-abbrev pub WasTaken : {D B E : Type 0} → Service D B E → List Turn → Taken → Type 0
-WasTaken service turns taken =
-    (turn : Turn) × IsTrue turn.flushed × (bytes : List ℕ) × GotResponse service turns turn (Takes bytes taken)
+-- a record of a run: the host before it and the one behind it, and what came of it
+pub record Passage (H : Type 0) : Type 0 where
+  pub before : H
+  pub turn : Turn
+  pub after : H
 
--- A version was fetched of a map behind a log: one of these records took a transfer of this map, its source has one of
--- these addresses, and a wire to it gave the version, over an order that was shown. It is marked as what the log shows.
-pub record WasFetched {D B E : Type 0} (service : Service D B E) (turns : List Turn) (hosts : HostList)
-    (number : ℕ) (log : Log) (version : MapVersion) : Type 0 where
+abbrev pub passage_of : {H : Type 0} → H → Turn → H → Passage H
+passage_of before turn after = record { before = before; turn = turn; after = after }
+
+-- the records that were answered, one after the other, from this dialogue on
+abbrev pub passages_of : {H : Type 0} → Dialogue H → List (Turn × Dialogue H) → List (Passage H)
+passages_of old [] = []
+passages_of old (one ∷ later) = passage_of old.host one.0 one.1.host ∷ passages_of one.1 later
+
+-- A record took this transfer, its reply was flushed, and behind it the transfer was carried out: the wire of the dial
+-- that came for it then, to its source, which has one of these addresses, gave this version.
+--
+-- The host between is the one before the record, but for how often it was asked; what was carried out is fixed by what
+-- its dial tells before and behind.
+pub record GaveVersion {D B E : Type 0} (service : Service D B E) (hosts : HostList) (taken : Taken)
+    (version : MapVersion) (passage : Passage (Local D B E)) : Type 0 where
+  pub took : passage.turn.taken ≡ Some taken
+  pub flushed : IsTrue passage.turn.flushed
+  pub middle : Local D B E
+  pub middle_is : middle ≡ record passage.before { asked = middle.asked }
+  pub hosts_are : service.telling.hosts middle.desk ≡ hosts
+  pub carried : Carried service.keeping service.telling taken service.peer middle passage.after
+  pub gave : carried.transfers.transfers.outcome ≡ Ok version
+
+-- A version was fetched of a map behind a log: by the transfer of this map that one of these records took. It is marked
+-- as what the log shows.
+pub record WasFetched {D B E : Type 0} (service : Service D B E) (passages : List (Passage (Local D B E)))
+    (hosts : HostList) (number : ℕ) (log : Log) (version : MapVersion) : Type 0 where
   pub taken : Taken
   pub of_map : taken.map ≡ number
-  pub by_turn : WasTaken service turns taken
-  pub order : Option ℕ
+  pub passage : Passage (Local D B E)
+  pub among : Contains passages passage
   pub fetched : MapVersion
-  pub before : Dialing
-  pub after : Dialing
-  pub fetches : IfSome (slice_get service.catalogue.maps number) (λ name.
-      FetchesFrom hosts taken.source (wanted_of name.0 name.1 order false) (Ok fetched) before after)
+  pub gave : GaveVersion service hosts taken fetched passage
   pub marked : version ≡ record fetched { secure = marking None (shown number log) }
 
-abbrev pub IsGiven : {D B E : Type 0} → Service D B E → List Turn → Told → HostList → Making
-IsGiven service turns told hosts number log version =
-    IsMade service turns told number log version ⊎ WasFetched service turns hosts number log version
+abbrev pub IsGiven : {D B E : Type 0} → Service D B E → List Turn → List (Passage (Local D B E)) → Told → HostList
+    → Making
+IsGiven service turns passages told hosts number log version =
+    IsMade service turns told number log version ⊎ WasFetched service passages hosts number log version
 
-abbrev pub given_for : {D B E : Type 0} → Service D B E → List Turn → E → Making
-given_for service turns desk = IsGiven service turns (service.telling.told desk) (service.telling.hosts desk)
+-- what was made in a connection for one of the records that came to this, or fetched behind one of those that were
+-- answered, where it began with this host
+abbrev pub given_in : {D B E : Type 0} → Service D B E → Connection D E → Local D B E → List Turn
+    → List (Turn × Dialogue (Local D B E)) → Making
+given_in service old start turns answered =
+    IsGiven service turns (passages_of (dialogue_at start old.wire begun) answered)
+    (service.telling.told old.desk) (service.telling.hosts old.desk)
 
 -- ---- the whole
 
@@ -158,10 +181,11 @@ pub record Serves {D B E : Type 0} (service : Service D B E) (end : End) (old ne
       (dialogue_at start old.wire begun) (dialogue_at finish new.wire progress) wires
   pub last : IsLastHost service finish new
   pub any_moment : (number : ℕ) → AtDisk number old.disks new.disks (LeavesOr service.keeping.history
-      (IsOfBetween (given_for service runs.turns old.desk) number (log_of service start) (log_of service finish)))
+      (IsOfBetween (given_in service old start runs.turns runs.answered) number
+      (log_of service start) (log_of service finish)))
   pub behind : (number : ℕ) → OfMap number finish.published.maps (λ kept. IsSome (service.keeping.history kept.disk)
-      → IsBehindMade (given_for service runs.turns old.desk) number (log_of service finish) kept.standing)
+      → IsBehindMade (given_in service old start runs.turns runs.answered) number (log_of service finish) kept.standing)
   pub grown : AreTold service.keeping.history old.disks
-      → GrowsBy (given_for service runs.turns old.desk) (log_of service start) (log_of service finish)
+      → GrowsBy (given_in service old start runs.turns runs.answered) (log_of service start) (log_of service finish)
   pub rises : AreTold service.keeping.history old.disks → IsRisingLog (log_of service finish)
   pub served : AreServed (maps_on service.catalogue (log_of service finish))

@@ -5,7 +5,6 @@ use Rattle.yp_io.specs.Dials.{Wires, DialTells, dial_tells}
 use Rattle.yp_io.specs.declared.stream.Peer.{Peer}
 use Rattle.yp_io.specs.declared.texts.Texts as texts
 use Rattle.yp_io.specs.declared.clock.Clock as clock
-use Rattle.yp_io.specs.declared.texts.TextFile.{TextFile}
 use Rattle.yp_board.specs.Logs.{Log}
 use Rattle.yp_board.specs.Views.{Seen}
 use Rattle.yp_publish.specs.Standing.{Published}

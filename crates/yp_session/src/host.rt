@@ -5,6 +5,7 @@ ghost use Rattle.yp_io.specs.declared.stream.Peer.{Peer};
 ghost use Rattle.yp_msgs.specs.declared.transfer.XfrStat.{XfrStat};
 ghost use Rattle.yp_answer.specs.declared.make.Job.{Job};
 ghost use Rattle.yp_answer.specs.Causes.{Told};
+ghost use Rattle.yp_answer.specs.Make.{IsKindOf};
 ghost use Rattle.yp_msgs.specs.Numbers.{name_max};
 ghost use Rattle.yp_answer.specs.Transfer.{Taken, taken_view};
 ghost use Rattle.yp_session.specs.Hosts.{Counts, conduct_of, Fulfils, CarriesOut};
@@ -27,7 +28,8 @@ pub trait Host: View {
 
     /// Makes a map of the catalogue anew, and answers how that went: SUCC, REFUSED, AGE, DBM, FILE or RSRC.
     fn make(&mut self, job: Job) -> XfrStat
-        requires { job.map < length (Self.seen self.old).catalogue.maps }
+        requires inside { job.map < length (Self.seen self.old).catalogue.maps }
+        requires kind { IsKindOf (Self.seen self.old).catalogue job.map job.kind }
         ensures { Fulfils (conduct_of Self.seen told counts Self.stepped made carried) job result self.old self.new };
 
     /// What the carrying out of a transfer does to the whole value: the transfer, its caller, before and after.

@@ -32,13 +32,13 @@ use Rattle.yp_shared.proofs.Leading.{maps_tell}
 -- ---- one more entry
 
 from_built : (Is : Building) (log more : Log) (entry : ℕ × MapVersion) (built others : ℕ)
-    → Is (shown entry.0 (log ++ more)) entry.1 → AreFrom Is log more built others
+    → Is entry.0 (shown entry.0 (log ++ more)) entry.1 → AreFrom Is log more built others
     → AreFrom Is log (more ++ entry ∷ []) (suc built) others
 from_built Is log [] entry built others is from =
-    inl (subst (λ (l : Log). Is (shown entry.0 l) entry.1) (append-nil log) is, (built, refl, from))
+    inl (subst (λ (l : Log). Is entry.0 (shown entry.0 l) entry.1) (append-nil log) is, (built, refl, from))
 from_built Is log (next ∷ more) entry built others is from =
-    let there : Is (shown entry.0 ((log ++ next ∷ []) ++ more)) entry.1 =
-    subst (λ (l : Log). Is (shown entry.0 l) entry.1) (sym (append_assoc log (next ∷ []) more)) is in
+    let there : Is entry.0 (shown entry.0 ((log ++ next ∷ []) ++ more)) entry.1 =
+    subst (λ (l : Log). Is entry.0 (shown entry.0 l) entry.1) (sym (append_assoc log (next ∷ []) more)) is in
     elim from [
       | inl first ↦ inl (
         first.0,
@@ -96,7 +96,7 @@ behind_same Is old new number (Behind failed ∷ more) left same behind =
     behind_same Is old new (suc number) more left
     (λ i failed is. subst (λ (n : ℕ). shown n new ≡ shown n old) (omega arith) (same (suc i) failed is)) in
     elim behind [
-      | inl built ↦ inl (subst (λ (last : Option MapVersion). Is last failed) (sym here) built.0, rest left built.1)
+      | inl built ↦ inl (subst (λ (last : Option MapVersion). Is number last failed) (sym here) built.0, rest left built.1)
       | inr other ↦ inr (other.0, other.1, rest other.0 other.2)
     ]
 
@@ -123,18 +123,18 @@ more_behind Is log number (suc i) version (Behind failed ∷ more) left here beh
 ]
 
 built_behind : (Is : Building) (log : Log) (number i : ℕ) (version : MapVersion) (standings : List MapStanding) (left : ℕ)
-    → slice_get standings i ≡ Some Level → Is (shown (number + i) log) version
+    → slice_get standings i ≡ Some Level → Is (number + i) (shown (number + i) log) version
     → AreBehind Is log number standings left
     → AreBehind Is log number (slice_set standings i (Behind version)) left
 built_behind Is log number i version [] left here is behind = absurd cc
 built_behind Is log number zero version (Level ∷ more) left here is behind =
-    inl (subst (λ (n : ℕ). Is (shown n log) version) (omega arith) is, behind)
+    inl (subst (λ (n : ℕ). Is n (shown n log) version) (omega arith) is, behind)
 built_behind Is log number zero version (Behind failed ∷ more) left here is behind = absurd cc
 built_behind Is log number (suc i) version (Level ∷ more) left here is behind =
     built_behind Is log (suc number) i version more left here
-    (subst (λ (n : ℕ). Is (shown n log) version) (omega arith) is) behind
+    (subst (λ (n : ℕ). Is n (shown n log) version) (omega arith) is) behind
 built_behind Is log number (suc i) version (Behind failed ∷ more) left here is behind =
-    let there : Is (shown (suc number + i) log) version = subst (λ (n : ℕ). Is (shown n log) version) (omega arith) is in
+    let there : Is (suc number + i) (shown (suc number + i) log) version = subst (λ (n : ℕ). Is n (shown n log) version) (omega arith) is in
     elim behind [
       | inl built ↦ inl (built.0, built_behind Is log (suc number) i version more left here there built.1)
       | inr other ↦ inr (other.0, other.1, built_behind Is log (suc number) i version more other.0 here there other.2)
@@ -143,7 +143,7 @@ built_behind Is log number (suc i) version (Behind failed ∷ more) left here is
 -- one map less is behind: it was behind a version that was built there, or one less is behind another
 abbrev FewerBehind : Building → Log → ℕ → ℕ → MapVersion → List MapStanding → ℕ → Type 0
 FewerBehind Is log number i failed standings left =
-    (Is (shown (number + i) log) failed × AreBehind Is log number (slice_set standings i Level) left)
+    (Is (number + i) (shown (number + i) log) failed × AreBehind Is log number (slice_set standings i Level) left)
     ⊎ ((fewer : ℕ) × (left ≡ suc fewer) × AreBehind Is log number (slice_set standings i Level) fewer)
 
 fewer_behind : (Is : Building) (log : Log) (number i : ℕ) (failed : MapVersion) (standings : List MapStanding) (left : ℕ)
@@ -155,24 +155,24 @@ fewer_behind Is log number zero failed (Behind version ∷ more) left here behin
     let same : version ≡ failed = cc in
     elim behind [
       | inl built ↦ inl (
-        subst (λ (n : ℕ). Is (shown n log) failed) (omega arith)
-            (subst (λ (v : MapVersion). Is (shown number log) v) same built.0),
+        subst (λ (n : ℕ). Is n (shown n log) failed) (omega arith)
+            (subst (λ (v : MapVersion). Is number (shown number log) v) same built.0),
         built.1,
       )
       | inr other ↦ inr other
     ]
 fewer_behind Is log number (suc i) failed (Level ∷ more) left here behind =
     elim (fewer_behind Is log (suc number) i failed more left here behind) [
-      | inl built ↦ inl (subst (λ (n : ℕ). Is (shown n log) failed) (omega arith) built.0, built.1)
+      | inl built ↦ inl (subst (λ (n : ℕ). Is n (shown n log) failed) (omega arith) built.0, built.1)
       | inr other ↦ inr other
     ]
 fewer_behind Is log number (suc i) failed (Behind version ∷ more) left here behind = elim behind [
   | inl first ↦ elim (fewer_behind Is log (suc number) i failed more left here first.1) [
-    | inl built ↦ inl (subst (λ (n : ℕ). Is (shown n log) failed) (omega arith) built.0, inl (first.0, built.1))
+    | inl built ↦ inl (subst (λ (n : ℕ). Is n (shown n log) failed) (omega arith) built.0, inl (first.0, built.1))
     | inr other ↦ inr (other.0, other.1, inl (first.0, other.2))
   ]
   | inr first ↦ elim (fewer_behind Is log (suc number) i failed more first.0 here first.2) [
-    | inl built ↦ inl (subst (λ (n : ℕ). Is (shown n log) failed) (omega arith) built.0, inr (first.0, first.1, built.1))
+    | inl built ↦ inl (subst (λ (n : ℕ). Is n (shown n log) failed) (omega arith) built.0, inr (first.0, first.1, built.1))
     | inr other ↦ inr (first.0, first.1, inr (other.0, other.1, other.2))
   ]
 ]
@@ -239,7 +239,7 @@ module _ (Is : Building) (first old : Moment) (made fetched : ℕ) (sourced : Is
         let found : Some (Behind failed) ≡ Some Level = sym is ∙ ap (slice_get standings) same ∙ level in cc))
         behind
 
-    then_built : (limit : ℕ) → Is (shown number old.log) version → sourced.others + left ≤ limit
+    then_built : (limit : ℕ) → Is number (shown number old.log) version → sourced.others + left ≤ limit
         → IsSourced Is first then_shown (made + 1) limit
     then_built limit is le = record {
       more = sourced.more ++ (number, version) ∷ [];
@@ -248,7 +248,7 @@ module _ (Is : Building) (first old : Moment) (made fetched : ℕ) (sourced : Is
       others = sourced.others;
       left = left;
       entries = from_built Is first.log sourced.more (number, version) sourced.built sourced.others
-          (subst (λ (l : Log). Is (shown number l) version) sourced.grown is) sourced.entries;
+          (subst (λ (l : Log). Is number (shown number l) version) sourced.grown is) sourced.entries;
       behind = behind_then;
       least = let least = sourced.least in omega (arith, least);
       most = le;
@@ -289,7 +289,7 @@ sourced_reopened Is first old new made fetched number reopens sourced = elim reo
           | inl built ↦ sourced_less Is first (then_shown Is first old made fetched sourced number failed standings)
               (made + 1) made fetched fetched (omega arith) (omega arith)
               (then_built Is first old made fetched sourced number failed standings sourced.left level built.1 fetched
-              (subst (λ (n : ℕ). Is (shown n old.log) failed) (omega arith) built.0) most)
+              (subst (λ (n : ℕ). Is n (shown n old.log) failed) (omega arith) built.0) most)
           | inr other ↦
               let less : sourced.left ≡ suc other.0 = other.1 in
               then_other Is first old made fetched sourced number failed standings other.0 level other.2 fetched
@@ -324,7 +324,7 @@ module _ (Is : Building) (first old new : Moment) (made fetched number : ℕ) (v
         ]
   ]
 
-  module _ (is : Is (shown number old.log) version) where
+  module _ (is : Is number (shown number old.log) version) where
     shows_one : slice_get old.standings number ≡ Some Level
         → new ≡ record old { log = with_shown number version old.log } → Now (made + 1) fetched
     shows_one level shows = subst (λ (m : Moment). IsSourced Is first m (made + 1) fetched) (sym shows)
@@ -344,7 +344,7 @@ module _ (Is : Building) (first old new : Moment) (made fetched number : ℕ) (v
                 (then_stands Is first old made fetched sourced number version (slice_set old.standings number (Behind version))
                 sourced.left fetched
                 (built_behind Is old.log 0 number version old.standings sourced.left stores.0
-                (subst (λ (n : ℕ). Is (shown n old.log) version) (omega arith) is) sourced.behind) sourced.most)
+                (subst (λ (n : ℕ). Is n (shown n old.log) version) (omega arith) is) sourced.behind) sourced.most)
           ]
     ]
 
@@ -422,9 +422,9 @@ module _ {D B : Type 0} (keeping : Keeping D B) (Is : Building) (first : Moment)
           (λ installs before. installs_other Is first (moment_of keeping.log old) (moment_of keeping.log new) made
           fetched number (offered Fetched).version before installs)
 
-      module _ (built : IsBuiltThere Is own version Built) where
+      module _ (built : IsBuiltThere Is number own version Built) where
         built_there : IsUnopposed number (offered Built) old
-            → Is (shown number (keeping.log old.board)) (offered Built).version
+            → Is number (shown number (keeping.log old.board)) (offered Built).version
         built_there unopposed =
             let kept = the_map old.maps number within in
             let last = shown number (keeping.log old.board) in
@@ -470,7 +470,7 @@ module _ {D B : Type 0} (keeping : Keeping D B) (Is : Building) (first : Moment)
         own_middle : middle.catalogue.own ≡ own
         own_middle = ap (λ (c : Catalogue). c.own) opens.upheld.catalogue ∙ own_is
 
-      installed_as_built : IsBuiltThere Is own version Built → OpensAndInstalls keeping number version Built old new
+      installed_as_built : IsBuiltThere Is number own version Built → OpensAndInstalls keeping number version Built old new
           → SourcedAt new (made + 1) fetched
       installed_as_built built is =
           installed_built is.middle new (within_middle is.middle is.opens) is.opens.level is.opens.upheld.shows
@@ -482,7 +482,7 @@ module _ {D B : Type 0} (keeping : Keeping D B) (Is : Building) (first : Moment)
           (own_middle is.middle is.opens) (sourced_middle old is.middle within is.opens sourced)
           is.installs.upheld.elsewhere is.installs.meanwhile is.installs.rising
 
-      after_refusal : (origin : Origin) (why : ShareFault) → IsBuiltThere Is own version origin
+      after_refusal : (origin : Origin) (why : ShareFault) → IsBuiltThere Is number own version origin
           → IsNotInstalled keeping number version origin why old new
           → SourcedAt new made (fetched + fetched_in origin)
       after_refusal origin (Shut why) built is =
@@ -502,7 +502,7 @@ module _ {D B : Type 0} (keeping : Keeping D B) (Is : Building) (first : Moment)
 pub sourced_after : {T D B : Type 0} (keeping : Keeping D B) (Is : Building) (first : Moment) (number : ℕ)
     (version : MapVersion) (origin : Origin) (own : List ℕ) (made fetched : ℕ) (old new : Published D B)
     (r : Result T ShareFault) → number < length old.maps → old.catalogue.own ≡ own
-    → IsBuiltThere Is own version origin → OnOk r (OpensAndInstalls keeping number version origin old new)
+    → IsBuiltThere Is number own version origin → OnOk r (OpensAndInstalls keeping number version origin old new)
     → IfErr r (λ why. IsNotInstalled keeping number version origin why old new)
     → IsSourcedAt keeping Is first old made fetched
     → IsSourcedAt keeping Is first new (made + made_by origin r) (fetched + fetched_in origin)

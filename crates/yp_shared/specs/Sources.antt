@@ -11,9 +11,9 @@ use Rattle.yp_publish.specs.Installs.{offer, not_following}
 use Rattle.yp_publish.specs.Rising.{Moment, moment_of, IsStart}
 use Rattle.yp_shared.specs.Moments.{MapsTell}
 
--- what it is that a version was built behind the last one of its map, or behind none
+-- what it is that a version of the map with a number was built behind the last one of it, or behind none
 abbrev pub Building : Type 1
-Building = Option MapVersion → MapVersion → Type 0
+Building = ℕ → Option MapVersion → MapVersion → Type 0
 
 -- ---- what is installed
 
@@ -21,12 +21,12 @@ Building = Option MapVersion → MapVersion → Type 0
 abbrev pub marked_behind : MapVersion → Option MapVersion → MapVersion
 marked_behind version last = record version { secure = option_map_or (λ shown. shown.secure) last false }
 
--- A version that is installed as a built one was built behind whatever it follows.
-abbrev pub IsBuiltThere : Building → List ℕ → MapVersion → Origin → Type 0
-IsBuiltThere Is own version Built =
+-- A version that is installed of a map as a built one was built behind whatever it follows.
+abbrev pub IsBuiltThere : Building → ℕ → List ℕ → MapVersion → Origin → Type 0
+IsBuiltThere Is number own version Built =
     (last : Option MapVersion) → not_following own (offer (marked_behind version last) Built false) last ≡ None
-    → Is last (marked_behind version last)
-IsBuiltThere Is own version Fetched = ⊤
+    → Is number last (marked_behind version last)
+IsBuiltThere Is number own version Fetched = ⊤
 
 -- how many fetched versions an install takes
 abbrev pub fetched_in : Origin → ℕ
@@ -40,7 +40,7 @@ fetched_in Fetched = 1
 abbrev pub AreFrom : Building → Log → Log → (built others : ℕ) → Type 0
 AreFrom Is log [] built others = (built ≡ 0) × (others ≡ 0)
 AreFrom Is log (entry ∷ more) built others =
-    (Is (shown entry.0 log) entry.1
+    (Is entry.0 (shown entry.0 log) entry.1
     × ((fewer : ℕ) × (built ≡ suc fewer) × AreFrom Is (log ++ entry ∷ []) more fewer others))
     ⊎ ((fewer : ℕ) × (others ≡ suc fewer) × AreFrom Is (log ++ entry ∷ []) more built fewer)
 
@@ -50,7 +50,7 @@ abbrev pub AreBehind : Building → Log → ℕ → List MapStanding → (others
 AreBehind Is log number [] others = others ≡ 0
 AreBehind Is log number (Level ∷ more) others = AreBehind Is log (suc number) more others
 AreBehind Is log number (Behind failed ∷ more) others =
-    (Is (shown number log) failed × AreBehind Is log (suc number) more others)
+    (Is number (shown number log) failed × AreBehind Is log (suc number) more others)
     ⊎ ((fewer : ℕ) × (others ≡ suc fewer) × AreBehind Is log (suc number) more fewer)
 
 -- Since a first moment at least so many versions were shown that were built, and at most so many that weren't, with

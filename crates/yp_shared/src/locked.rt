@@ -51,7 +51,7 @@ pub trait Accounts {
     ghost use Rattle.yp_publish.specs.Rising.{Moment};
 
     /// What it is that a version was built behind the last one of its map.
-    ghost built: { Option MapVersion → MapVersion → Type 0 };
+    ghost built: { ℕ → Option MapVersion → MapVersion → Type 0 };
 
     /// What was shown, and how each map stood.
     ghost first: { Moment };
@@ -75,7 +75,7 @@ pub trait Accounts {
 impl Accounts for Brand {
     ghost use Rattle.std.specs.Prelude.{[]};
 
-    ghost built = { λ last version. Unit {0} };
+    ghost built = { λ number last version. Unit {0} };
 
     ghost first = { record { log = []; standings = [] } };
 
@@ -234,7 +234,7 @@ impl<S: Site + Accounts, D: Disk, B: Show> Locked<S, D, B> {
         charge: &mut Debits<S>,
     ) -> Result<(), ShareFault>
         requires map { map < length S.catalogue.maps }
-        requires built { IsBuiltThere S.built S.catalogue.own version origin }
+        requires built { IsBuiltThere S.built map S.catalogue.own version origin }
         requires fetched { fetched_in origin ≤ charge.old.versions }
         ensures installed { OnOk result (OpensAndInstalls (keeping_of D.history D.faults B.log) map version origin
             self.old self.new) }
@@ -297,7 +297,7 @@ impl<S: Site + Accounts, D: Disk, B: Tell> Locked<S, D, B> {
         charge: &mut Debits<S>,
     ) -> Result<(), ShareFault>
         requires map { map < length S.catalogue.maps }
-        requires built { IsBuiltThere S.built S.catalogue.own version origin }
+        requires built { IsBuiltThere S.built map S.catalogue.own version origin }
         requires fetched { fetched_in origin ≤ charge.old.versions }
         ensures shown { OnOk result (IsShownBehind S.catalogue.own map version origin
             (B.Reader.seen reader.old).known (B.Reader.seen reader.new).known) }

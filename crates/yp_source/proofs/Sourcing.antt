@@ -3,7 +3,7 @@ use Rattle.std.proofs.Common.{◌≡◌, ◌⊎◌, inl, inr, ⊎_elim, ℕ, ◌
 use Rattle.std.proofs.Common.{sym, ap, ◌∙◌, subst, arith, length-append, All}
 use Rattle.std.proofs.lemmas.List.Elements.{All-nil, All-cons}
 use Rattle.yp_io.specs.declared.stream.Peer.{Peer}
-use Rattle.yp_io.specs.Dials.{Wires, WireState, Dialed, Comes, GoesBack, Dialing}
+use Rattle.yp_io.specs.Dials.{Wires, WireState, Connected, connected, Comes, GoesBack, Dialing}
 use Rattle.yp_version.specs.Versions.{MapVersion}
 use Rattle.yp_client.specs.Asked.{order_call, master_call, all_call}
 use Rattle.yp_query.specs.Complete.{HasCome}
@@ -30,14 +30,14 @@ last_same [] x y e = cc
 last_same (z ∷ xs) x y e = let rest : xs ++ x ∷ [] ≡ xs ++ y ∷ [] = cc in last_same xs x y rest
 
 -- the wire that came is the one to that peer, which gives the stream
-dialed_is : (dialed : Dialed) (last : WireState) (mid : Option Wires) (before after : Wires) (peer : Peer)
-    (stream : List ℕ) → Comes dialed (Some before) mid → GoesBack last mid (Some after)
-    → after.came ≡ before.came ++ (peer, Some stream) ∷ [] → dialed ≡ (peer, Some stream)
-dialed_is dialed last None before after peer stream comes back came = absurd comes
-dialed_is dialed last (Some others) before after peer stream comes back came =
-    let mine : others.came ≡ before.came ++ dialed ∷ [] = ap (λ (w : Wires). w.came) comes in
+wire_is : (wire other : Connected) (last : WireState) (mid : Option Wires) (before after : Wires)
+    → Comes wire (Some before) mid → GoesBack last mid (Some after) → after.came ≡ before.came ++ other ∷ []
+    → wire ≡ other
+wire_is wire other last None before after comes back came = absurd comes
+wire_is wire other last (Some others) before after comes back came =
+    let mine : others.came ≡ before.came ++ wire ∷ [] = ap (λ (w : Wires). w.came) comes in
     let kept : after.came ≡ others.came = ap (λ (w : Wires). w.came) back in
-    last_same before.came dialed (peer, Some stream) (sym mine ∙ sym kept ∙ came)
+    last_same before.came wire other (sym mine ∙ sym kept ∙ came)
 
 -- so its bytes say what is fetched
 on_wire : (peer server : Peer) (wanted : Wanted) (outcome : Outcome) (stream : List ℕ) (old new : Dialing)
@@ -45,11 +45,12 @@ on_wire : (peer server : Peer) (wanted : Wanted) (outcome : Outcome) (stream : L
     → Fetched wanted (place_of 1 0 stream) outcome ⊎ ((outcome ≡ Err Rpc) × HasRisen old.faults new.faults)
     ⊎ (outcome ≡ Err NoMemory)
 on_wire peer server wanted outcome stream old new came did =
-    let comes = subst (λ (w : Option Wires). Comes (peer, did.first.wire.input) w did.middle) came.was did.comes in
+    let wire = connected peer did.first.wire.input did.first.wire.output in
+    let comes = subst (λ (w : Option Wires). Comes wire w did.middle) came.was did.comes in
     let back = subst (λ (w : Option Wires). GoesBack did.last.wire did.middle w) came.is did.goes_back in
-    let same = dialed_is (peer, did.first.wire.input) did.last.wire did.middle came.before came.after server stream
+    let same = wire_is wire (connected server (Some stream) came.sent) did.last.wire did.middle came.before came.after
     comes back came.came in
-    let said = did.fetched stream (ap (λ (d : Dialed). d.1) same) in
+    let said = did.fetched stream (ap (λ (w : Connected). w.input) same) in
     let placed = subst (λ (n : ℕ). Fetched wanted (place_of n did.first.place stream) outcome) did.begins.xid in
     let from_first = subst (λ (n : ℕ). Fetched wanted (place_of 1 n stream) outcome) did.begins.place in
     ⊎_elim (λ fetched. inl (from_first (placed fetched)))
@@ -64,7 +65,7 @@ none_came peer stream old new came same =
       arith,
       ap (λ (w : Wires). length w.came) both,
       ap length came.came,
-      length-append came.before.came ((peer, Some stream) ∷ []),
+      length-append came.before.came (connected peer (Some stream) came.sent ∷ []),
     )
 
 by_address : (address : Result Peer XfrFault) (server : Peer) (wanted : Wanted) (outcome : Outcome)

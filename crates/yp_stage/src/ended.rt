@@ -104,8 +104,10 @@ fn put_came(
     }
     ended.number(alloc, "wires", outside.dial.came().len() as u64)?;
     ended.number(alloc, "asked", asked_of(&outside.dial, row) as u64)?;
-    for call in outside.listen.past() {
-        ended.bytes(alloc, "taken", call.wire.sink.taken())?;
+    for closer in outside.listen.closers() {
+        for call in closer.calls() {
+            ended.bytes(alloc, "taken", call.wire.sink.taken())?;
+        }
     }
     let file = first_file(&outside.disks);
     ended.stands(alloc, &stands_of(alloc, rt, file)?)?;

@@ -2,8 +2,7 @@
 
 ghost use Rattle.std.specs.Prelude.{◌≡◌, All, IfOk};
 ghost use Rattle.yp_io.specs.MemDial.{IsNew};
-ghost use Rattle.yp_io.specs.MemListen.{IsNew as IsNewCall, calls_of};
-ghost use Rattle.yp_worker.specs.Receptions.{IsFair};
+ghost use Rattle.yp_io.specs.MemListen.{IsNew as IsNewCall};
 ghost use Rattle.yp_words.specs.Words.{disk_names, texts};
 ghost use Rattle.yp_office.specs.Disks.{names_of};
 
@@ -168,9 +167,7 @@ fn call_of(
 }
 
 /// The listener. The first connection alone has calls that fail.
-fn listener_of(alloc: Global, row: &Row) -> Result<MemListen, AllocError>
-    ensures { IfOk result (λ listen. IsFair (calls_of listen)) }
-{
+fn listener_of(alloc: Global, row: &Row) -> Result<MemListen, AllocError> {
     let failing = plan(alloc, row.accepts)?;
     let (mut reads, mut writes) = (row.call_reads, row.call_writes);
     let mut calls = Vec::new(alloc);
@@ -192,7 +189,6 @@ pub fn memory_of(
     wire: &[u8],
 ) -> Result<Memory, AllocError>
     ensures disks { IfOk result (λ outside. names_of outside.disks.items ≡ disk_names (texts words.now)) }
-    ensures fair { IfOk result (λ outside. IsFair (calls_of outside.listen)) }
 {
     let input = source_of(alloc, input, row)?;
     let output = sink_of(alloc, row.write, row.writes)?;

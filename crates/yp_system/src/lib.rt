@@ -23,7 +23,7 @@ pub use clock::SystemClock;
 pub use dial::{TcpDial, TcpWire};
 pub use disk::FileDisk;
 pub use inbox::{TURN_SECONDS, UdpInbox};
-pub use listen::{SILENCE_SECONDS, TcpCall, TcpListen};
+pub use listen::{SILENCE_SECONDS, TcpCall, TcpCloser, TcpListen};
 pub use locked::{LockedFile, Locking, MapFile};
 pub use patient::Patient;
 pub use streams::{BlockReader, DirectWriter, StandardStream};

@@ -1,11 +1,11 @@
 //! Connections that are accepted at a port of the system.
 
-ghost use Rattle.std.specs.Prelude.{◌≡◌, ◌≤◌, None, IfOk, IfSome};
+ghost use Rattle.std.specs.Prelude.{◌≡◌, ◌≤◌, [], ◌∷◌, None, IfOk, IfSome};
 ghost use Rattle.std.specs.Net.Addr.{ipv4_octets};
 ghost use Rattle.std.specs.Net.Socket.{v4_ip, v4_port};
 ghost use Rattle.yp_io.specs.Dials.{IsFresh};
+ghost use Rattle.yp_io.specs.Calls.{IsFreshCall, closed_then, ended_by, halves_of};
 ghost use Rattle.yp_io.specs.Counts.{next_count};
-ghost use Rattle.yp_io.specs.Calls.{IsFreshCall, Returns, ended_by, halves_of};
 
 use crate::caller::Caller;
 use crate::inbox::peer_of;
@@ -29,6 +29,12 @@ const PAUSE_MILLIS: u64 = 100;
 
 /// A connection that was accepted by TCP, and its caller.
 pub type TcpCall = Called<BlockReader<Caller>, DirectWriter<TcpStream>>;
+
+/// What closes such connections. It counts them, and tells nothing of them.
+#[derive(Drop)]
+pub struct TcpCloser {
+    closed: u64,
+}
 
 // Its two halves.
 type CallerWire = Pair<BlockReader<Caller>, DirectWriter<TcpStream>>;
@@ -180,6 +186,8 @@ impl<R: Net<Stream = TcpStream, Listener = TcpListener> + rt::Clock> Listen for 
 
     type Out = DirectWriter<TcpStream>;
 
+    type Closer = TcpCloser;
+
     ghost past = { λ _. None };
 
     ghost most = { λ l. l.most };
@@ -189,6 +197,10 @@ impl<R: Net<Stream = TcpStream, Listener = TcpListener> + rt::Clock> Listen for 
     ghost returned = { λ l. l.returned };
 
     ghost faults = { λ l. l.faults };
+
+    ghost closed = { λ _. None };
+
+    ghost closed_count = { λ c. c.closed };
 
     fn accept(&mut self) -> Result<Arrival<BlockReader<Caller>, DirectWriter<TcpStream>>, Failed> {
         if self.accepted == self.most {
@@ -207,18 +219,22 @@ impl<R: Net<Stream = TcpStream, Listener = TcpListener> + rt::Clock> Listen for 
         }
     }
 
-    fn back(&mut self, call: TcpCall)
-        ensures past { Returns
-            (ended_by (halves_of ⟦<BlockReader<Caller> as Source>⟧ ⟦<DirectWriter<TcpStream> as Sink>⟧) call)
-            (⟦<TcpListen<R> as Listen>⟧.past self.old)
-            (⟦<TcpListen<R> as Listen>⟧.past self.new) }
-        ensures most { ⟦<TcpListen<R> as Listen>⟧.most self.new ≡ ⟦<TcpListen<R> as Listen>⟧.most self.old }
-        ensures accepted { ⟦<TcpListen<R> as Listen>⟧.accepted self.new ≡ ⟦<TcpListen<R> as Listen>⟧.accepted self.old }
-        ensures returned { ⟦<TcpListen<R> as Listen>⟧.returned self.new
-            ≡ next_count (⟦<TcpListen<R> as Listen>⟧.returned self.old) }
-        ensures faults { ⟦<TcpListen<R> as Listen>⟧.faults self.new ≡ ⟦<TcpListen<R> as Listen>⟧.faults self.old }
+    fn closer(&self) -> TcpCloser {
+        TcpCloser { closed: 0 }
+    }
+
+    fn close(closer: &mut TcpCloser, call: TcpCall)
+        ensures closed { ⟦<TcpListen<R> as Listen>⟧.closed closer.new ≡ closed_then
+            (⟦<TcpListen<R> as Listen>⟧.closed closer.old)
+            (ended_by (halves_of ⟦<BlockReader<Caller> as Source>⟧ ⟦<DirectWriter<TcpStream> as Sink>⟧) call ∷ []) }
+        ensures count { ⟦<TcpListen<R> as Listen>⟧.closed_count closer.new
+            ≡ next_count (⟦<TcpListen<R> as Listen>⟧.closed_count closer.old) }
     {
         let _closed = call;
-        self.returned = self.returned.saturating_add(1);
+        closer.closed = closer.closed.saturating_add(1);
+    }
+
+    fn take_in(&mut self, closer: TcpCloser) {
+        self.returned = self.returned.saturating_add(closer.closed);
     }
 }

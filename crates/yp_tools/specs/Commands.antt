@@ -33,16 +33,6 @@ abbrev pub IsAlone : Meaning → Type 0
 IsAlone (Serve own port workers connections turns stores hosts) = ⊥
 IsAlone meaning = ⊤
 
--- the command serves a listener
-abbrev pub IsServer : Meaning → Type 0
-IsServer (Serve own port workers connections turns stores hosts) = ⊤
-IsServer meaning = ⊥
-
--- the words are such a command
-abbrev pub AsksServer : Result Meaning ℕ → Type 0
-AsksServer (Ok meaning) = IsServer meaning
-AsksServer (Err word) = ⊥
-
 -- what a command that serves no listener does to the office and to a witness's wires, with this status
 unfoldable pub AloneDoes : {S K D C A I T : Type 0} → Seeing S K D C A I T → Meaning → Status
     → (old new : Office S K D C A I T) → (before after : List Wire) → Type 0

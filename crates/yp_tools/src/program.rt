@@ -8,10 +8,10 @@ ghost use Rattle.yp_session.specs.Wires.{Wire};
 ghost use Rattle.yp_office.specs.Disks.{names_of};
 ghost use Rattle.yp_office.specs.Seeing.{seeing, IsPassedOn};
 ghost use Rattle.yp_office.specs.Status.{note, IsTellable};
-ghost use Rattle.yp_worker.specs.Receptions.{IsFair, opening_of};
+ghost use Rattle.yp_worker.specs.Receptions.{opening_of};
 ghost use Rattle.yp_hosting.specs.Serve.{ServeDoes, order_view, serve_may_end};
 ghost use Rattle.yp_tools.specs.Commands.{IsAlone, AloneDoes, CommandDoes, Does, MayEnd, may_end, office_of};
-ghost use Rattle.yp_tools.specs.Commands.{IsServer, AsksServer, parse_status};
+ghost use Rattle.yp_tools.specs.Commands.{parse_status};
 
 use crate::ask::ask;
 use crate::transferring::transfer;
@@ -229,6 +229,7 @@ where
     L: Listen + Send + Drop,
     L::In: Send,
     L::Out: Send,
+    L::Closer: Send,
     A: Dial + Send + Drop,
     A::In: Send,
     A::Out: Send,
@@ -237,7 +238,6 @@ where
     R: Threads + Wait + RandomSource + Sync,
     requires names { HasNames (meaning (Command.Serve job)) }
     requires disks { names_of outside.disks.items ≡ stores_of (meaning (Command.Serve job)) }
-    requires fair { IsFair (L.past outside.listen) }
     ensures does { ServeDoes (seeing S.Source K.Sink D.Disk C.Clock A.Dial I.Inbox T.Texts) (order_view job) result.0
         (office_of outside) (office_of result.1)
         (opening_of L.past L.most L.accepted L.returned L.faults outside.listen)
@@ -271,6 +271,7 @@ where
     L: Listen + Send + Drop,
     L::In: Send,
     L::Out: Send,
+    L::Closer: Send,
     A: Dial + Send + Drop,
     A::In: Send,
     A::Out: Send,
@@ -280,7 +281,6 @@ where
     R: Threads + Wait + RandomSource + Sync,
     requires names { HasNames (meaning command) }
     requires disks { names_of outside.disks.items ≡ stores_of (meaning command) }
-    requires fair { IsServer (meaning command) → IsFair (L.past outside.listen) }
     ensures does { CommandDoes (seeing S.Source K.Sink D.Disk C.Clock A.Dial I.Inbox T.Texts) (meaning command) result.0
         (office_of outside) (office_of result.1)
         (opening_of L.past L.most L.accepted L.returned L.faults outside.listen)
@@ -316,6 +316,7 @@ where
     L: Listen + Send + Drop,
     L::In: Send,
     L::Out: Send,
+    L::Closer: Send,
     A: Dial + Send + Drop,
     A::In: Send,
     A::Out: Send,
@@ -324,7 +325,6 @@ where
     W: Witness<S, K>,
     R: Threads + Wait + RandomSource + Sync,
     requires disks { names_of outside.disks.items ≡ disk_names (texts words.now) }
-    requires fair { AsksServer (command_of (texts words.now)) → IsFair (L.past outside.listen) }
     ensures does { Does (seeing S.Source K.Sink D.Disk C.Clock A.Dial I.Inbox T.Texts)
         (command_of (texts words.now)) result.0 (office_of outside) (office_of result.1)
         (opening_of L.past L.most L.accepted L.returned L.faults outside.listen)
@@ -376,6 +376,7 @@ where
     L: Listen + Send + Drop,
     L::In: Send,
     L::Out: Send,
+    L::Closer: Send,
     A: Dial + Send + Drop,
     A::In: Send,
     A::Out: Send,
@@ -383,7 +384,6 @@ where
     T: Texts + Send + Drop,
     R: Threads + Wait + RandomSource + Sync,
     requires disks { names_of outside.disks.items ≡ disk_names (texts words.now) }
-    requires fair { AsksServer (command_of (texts words.now)) → IsFair (L.past outside.listen) }
 
     // What is done for the words, by the one relation of their command, over the wires that a witness of the run saw
     // behind its answered records.

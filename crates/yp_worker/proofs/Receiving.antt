@@ -1,14 +1,16 @@
 -- What is kept of a listener, from one call of it to the next.
-use Rattle.std.proofs.Common.{◌≡◌, ◌⊎◌, inl, inr, ℕ, suc, ◌+◌, ◌<◌, ◌≤◌, Bool, true, false, List, [], ◌∷◌, ◌++◌, length, Option, None, Some, refl, sym, ap, subst, ◌∙◌, append_assoc, arith}
-use Rattle.std.specs.Prelude.{Contains}
-use Rattle.std.proofs.lemmas.List.{append-nil, length_push, length-append}
+use Rattle.std.proofs.Common.{◌≡◌, ◌⊎◌, inl, inr, ℕ, ◌+◌, ◌<◌, ◌≤◌, Bool, true, false, List, [], ◌∷◌, ◌++◌, length, Option, None, Some, refl, sym, ap, subst, ◌∙◌, append_assoc, arith}
+use Rattle.std.specs.Prelude.{Contains, IfSome}
+use Rattle.std.proofs.lemmas.List.{append-nil, length_push}
 use Rattle.std.proofs.lemmas.List.Elements.{Contains-append_left, Contains-push}
-use Rattle.yp_io.specs.Counts.{HasRisen, next_count}
-use Rattle.yp_io.specs.Calls.{Arrived, Calls, Ended, Accepting, Comes, Returns, GainsCall, IfCame}
+use Rattle.std.proofs.lemmas.List.Sums.{fold-append}
+use Rattle.yp_io.specs.Counts.{HasRisen, capped}
+use Rattle.yp_io.specs.Dials.{Connected}
+use Rattle.yp_io.specs.Calls.{Calls, Ended, Accepting, Comes, GainsCall, IfCame, taken_in}
 use Rattle.yp_io.specs.declared.called.Called.{Called}
 use Rattle.yp_io.specs.declared.listen.Arrival.{Arrival}
 use Rattle.yp_io.specs.declared.listen.Arrival.TheVariants.{Came}
-use Rattle.yp_worker.specs.Receptions.{capped, risen_by, Gains, Tells, IsFair, IsExpected, Opening, IsOver, IsKept}
+use Rattle.yp_worker.specs.Receptions.{closed_in, Gains, Tells, IsExpected, Opening, IsOver, IsKept}
 
 -- what a listener tells, as it was before the first connection
 abbrev pub told : Opening → Accepting
@@ -26,7 +28,7 @@ gains_none calls = record {
   to_come = refl;
   more_came = sym (append-nil calls.came);
   gone = 0;
-  more_back = omega arith;
+  more_closed = omega arith;
   all = refl;
 }
 
@@ -52,76 +54,80 @@ kept_none now = record {
 }
 
 -- those that were to come, behind one that came
-all_to_come : (arrived : Arrived) (old now : Calls) (rest : List Arrived) (out : ℕ) → now.coming ≡ arrived ∷ rest
-    → (gains : Gains old now out) → old.coming ≡ (gains.came ++ arrived ∷ []) ++ rest
-all_to_come arrived old now rest out first gains =
+all_to_come : (wire : Connected) (old now : Calls) (rest : List Connected) (out : ℕ) → now.coming ≡ wire ∷ rest
+    → (gains : Gains old now out) → old.coming ≡ (gains.came ++ wire ∷ []) ++ rest
+all_to_come wire old now rest out first gains =
     gains.to_come
-    ∙ ap (λ (l : List Arrived). gains.came ++ l) first
-    ∙ sym (append_assoc gains.came (arrived ∷ []) rest)
+    ∙ ap (λ (l : List Connected). gains.came ++ l) first
+    ∙ sym (append_assoc gains.came (wire ∷ []) rest)
 
 -- one more came
-gains_came : (arrived : Arrived) (old now : Calls) (rest : List Arrived) (out : ℕ) → now.coming ≡ arrived ∷ rest
+gains_came : (wire : Connected) (old now : Calls) (rest : List Connected) (out : ℕ) → now.coming ≡ wire ∷ rest
     → Gains old now out
-    → Gains old (record { coming = rest; came = now.came ++ arrived ∷ []; back = now.back }) (out + 1)
-gains_came arrived old now rest out first gains = record {
-  came = gains.came ++ arrived ∷ [];
-  to_come = all_to_come arrived old now rest out first gains;
-  more_came = ap (λ (l : List Arrived). l ++ arrived ∷ []) gains.more_came
-      ∙ append_assoc old.came gains.came (arrived ∷ []);
+    → Gains old (record { coming = rest; came = now.came ++ wire ∷ []; closed = now.closed }) (out + 1)
+gains_came wire old now rest out first gains = record {
+  came = gains.came ++ wire ∷ [];
+  to_come = all_to_come wire old now rest out first gains;
+  more_came = ap (λ (l : List Connected). l ++ wire ∷ []) gains.more_came
+      ∙ append_assoc old.came gains.came (wire ∷ []);
   gone = gains.gone;
-  more_back = gains.more_back;
-  all = let longer = length_push gains.came arrived in omega (arith, longer, gains.all);
+  more_closed = gains.more_closed;
+  all = let longer = length_push gains.came wire in omega (arith, longer, gains.all);
 }
 
-tells_came : (arrived : Arrived) (old past new : Option Calls) (out : ℕ) → Tells old past out
-    → GainsCall arrived past new → Tells old new (out + 1)
-tells_came arrived None past new out tells gained = tt
-tells_came arrived (Some old) None new out tells gained = absurd tells
-tells_came arrived (Some old) (Some now) None out tells gained = absurd gained
-tells_came arrived (Some old) (Some now) (Some others) out tells gained =
+tells_came : (wire : Connected) (old past new : Option Calls) (out : ℕ) → Tells old past out
+    → GainsCall wire past new → Tells old new (out + 1)
+tells_came wire None past new out tells gained = tt
+tells_came wire (Some old) None new out tells gained = absurd tells
+tells_came wire (Some old) (Some now) None out tells gained = absurd gained
+tells_came wire (Some old) (Some now) (Some others) out tells gained =
     subst (λ (c : Calls). Gains old c (out + 1)) (sym gained.1)
-    (gains_came arrived old now others.coming out gained.0 tells)
+    (gains_came wire old now others.coming out gained.0 tells)
 
 -- it was one of those that were to come
-pub came_expected : (arrived : Arrived) (old past new : Option Calls) (out : ℕ) → Tells old past out
-    → GainsCall arrived past new → IsExpected old arrived
-came_expected arrived None past new out tells gained = tt
-came_expected arrived (Some old) None new out tells gained = absurd tells
-came_expected arrived (Some old) (Some now) None out tells gained = absurd gained
-came_expected arrived (Some old) (Some now) (Some others) out tells gained =
-    subst (λ (l : List Arrived). Contains l arrived)
-    (sym (all_to_come arrived old now others.coming out gained.0 tells))
-    (Contains-append_left (tells.came ++ arrived ∷ []) others.coming arrived (Contains-push tells.came arrived))
+pub came_expected : (wire : Connected) (old past new : Option Calls) (out : ℕ) → Tells old past out
+    → GainsCall wire past new → IsExpected old wire
+came_expected wire None past new out tells gained = tt
+came_expected wire (Some old) None new out tells gained = absurd tells
+came_expected wire (Some old) (Some now) None out tells gained = absurd gained
+came_expected wire (Some old) (Some now) (Some others) out tells gained =
+    subst (λ (l : List Connected). Contains l wire)
+    (sym (all_to_come wire old now others.coming out gained.0 tells))
+    (Contains-append_left (tells.came ++ wire ∷ []) others.coming wire (Contains-push tells.came wire))
 
--- one went back, which was out
-gains_back : (ended : Ended) (old now : Calls) (out : ℕ) → Gains old now (out + 1)
-    → Gains old (record { coming = now.coming; came = now.came; back = now.back ++ ended ∷ [] }) out
-gains_back ended old now out gains = record {
+-- a closer was taken in that had closed these
+pub closed_in_push : (closed : List (List Ended)) (list : List Ended)
+    → closed_in (closed ++ list ∷ []) ≡ closed_in closed + length list
+closed_in_push closed list = fold-append (λ (count : ℕ) (more : List Ended). count + length more) 0 closed (list ∷ [])
+
+gains_closed : (list : List Ended) (old now : Calls) (less : ℕ) → Gains old now (less + length list)
+    → Gains old (record { coming = now.coming; came = now.came; closed = now.closed ++ list ∷ [] }) less
+gains_closed list old now less gains = record {
   came = gains.came;
   to_come = gains.to_come;
   more_came = gains.more_came;
-  gone = gains.gone + 1;
-  more_back = let longer = length_push now.back ended in omega (arith, longer, gains.more_back);
+  gone = gains.gone + length list;
+  more_closed = let longer = closed_in_push now.closed list in omega (arith, longer, gains.more_closed);
   all = omega (arith, gains.all);
 }
 
-tells_back : (ended : Ended) (old past new : Option Calls) (out : ℕ) → IsFair old → Tells old past (out + 1)
-    → Returns ended past new → Tells old new out
-tells_back ended None past new out fair tells returns = tt
-tells_back ended (Some old) None new out fair tells returns = absurd tells
-tells_back ended (Some old) (Some now) None out fair tells returns =
-    let came = ap length tells.more_came ∙ length-append old.came tells.came in
-    absurd (omega (arith, came, tells.more_back, tells.all, fair, returns))
-tells_back ended (Some old) (Some now) (Some others) out fair tells returns =
-    subst (λ (c : Calls). Gains old c out) (sym returns) (gains_back ended old now out tells)
+tells_closed : (list : List Ended) (old past new : Option Calls) (told : Option (List Ended)) (less : ℕ)
+    → Tells old past (less + length list) → IfSome old (λ _. told ≡ Some list) → new ≡ taken_in past told
+    → Tells old new less
+tells_closed list None past new told less tells is taken = tt
+tells_closed list (Some old) None new told less tells is taken = absurd tells
+tells_closed list (Some old) (Some now) new told less tells is taken =
+    subst (λ (past : Option Calls). Tells (Some old) past less)
+    (sym (taken ∙ ap (λ (t : Option (List Ended)). taken_in (Some now) t) is))
+    (gains_closed list old now less tells)
 
 module _ (old now new : Opening) (connections : ℕ) (failed : Bool) (out ended : ℕ)
     (kept : IsKept old now connections failed out ended) where
   -- a connection came, while no accept had failed
-  pub kept_came : (arrived : Arrived) → failed ≡ false → Comes arrived (told now) (told new)
+  pub kept_came : (wire : Connected) → failed ≡ false → Comes wire (told now) (told new)
       → new.returned ≡ now.returned → now.faults ≤ new.faults
       → IsKept old new (capped connections 1) failed (out + 1) ended
-  kept_came arrived is comes returned falls = record {
+  kept_came wire is comes returned falls = record {
     most = comes.most ∙ kept.most;
     accepts = let first = kept.accepts in record {
       count = first.count + 1;
@@ -129,9 +135,9 @@ module _ (old now new : Opening) (connections : ℕ) (failed : Bool) (out ended 
       accepted = omega (arith, first.accepted, comes.accepted);
       connections_are = let are = first.connections_are in omega (arith, are);
       all = omega (arith, first.all);
-      returned = returned ∙ first.returned;
+      returned = ap (λ (r : ℕ). capped r 0) returned ∙ first.returned;
     };
-    tells = tells_came arrived old.past now.past new.past out kept.tells comes.gained;
+    tells = tells_came wire old.past now.past new.past out kept.tells comes.gained;
     never_falls = let before = kept.never_falls in omega (arith, before, falls);
     fault = λ was. absurd cc;
     over = λ some. elim (kept.over some) [
@@ -152,7 +158,7 @@ module _ (old now new : Opening) (connections : ℕ) (failed : Bool) (out ended 
       accepted = ap (λ (a : Accepting). a.accepted) same ∙ kept.accepts.accepted;
       connections_are = kept.accepts.connections_are;
       all = kept.accepts.all;
-      returned = returned ∙ kept.accepts.returned;
+      returned = ap (λ (r : ℕ). capped r 0) returned ∙ kept.accepts.returned;
     };
     tells = subst (λ (past : Option Calls). Tells old.past past out)
         (sym (ap (λ (a : Accepting). a.past) same)) kept.tells;
@@ -170,25 +176,24 @@ module _ (old now new : Opening) (connections : ℕ) (failed : Bool) (out ended 
     | inr all ↦ inr (accepted ∙ all ∙ sym most)
   ]
 
-  -- a connection that was out went back
-  pub kept_back : (told_as : Ended) (less : ℕ) → out ≡ less + 1 → IsFair old.past → Returns told_as now.past new.past
-      → new.most ≡ now.most → new.accepted ≡ now.accepted → new.returned ≡ next_count now.returned
-      → new.faults ≡ now.faults → IsKept old new connections failed less ended
-  kept_back told_as less one fair returns most accepted returned faults = record {
+  -- a closer was taken in that had closed connections which were out
+  pub kept_closed : (list : List Ended) (told : Option (List Ended)) (count less : ℕ) → out ≡ less + length list
+      → IfSome old.past (λ _. told ≡ Some list) → count ≡ capped 0 (length list)
+      → new.past ≡ taken_in now.past told → new.most ≡ now.most → new.accepted ≡ now.accepted
+      → new.returned ≡ capped now.returned count → new.faults ≡ now.faults
+      → IsKept old new connections failed less ended
+  kept_closed list told count less all is count_is taken most accepted returned faults = record {
     most = most ∙ kept.most;
     accepts = let first = kept.accepts in record {
       count = first.count;
-      gone = first.gone + 1;
+      gone = first.gone + length list;
       accepted = accepted ∙ first.accepted;
       connections_are = first.connections_are;
-      all = omega (arith, first.all, one);
-      returned =
-          returned
-          ∙ ap next_count first.returned
-          ∙ ap (λ (n : ℕ). risen_by n old.returned) (let more : suc first.gone ≡ first.gone + 1 = omega arith in more);
+      all = omega (arith, first.all, all);
+      returned = let before = first.returned in omega (arith, before, returned, count_is);
     };
-    tells = tells_back told_as old.past now.past new.past less fair
-        (subst (λ (n : ℕ). Tells old.past now.past n) one kept.tells) returns;
+    tells = tells_closed list old.past now.past new.past told less
+        (subst (λ (n : ℕ). Tells old.past now.past n) all kept.tells) is taken;
     never_falls = let before = kept.never_falls in omega (arith, before, faults);
     fault = λ was. let before = kept.fault was in omega (arith, before, faults);
     over = λ some. over_same accepted most (kept.over some);

@@ -1,15 +1,14 @@
 -- What holds of sums, whatever the listener.
-use Rattle.std.specs.Prelude.{ℕ, Option}
+use Rattle.std.specs.Prelude.{ℕ}
 use Rattle.yp_board.specs.Logs.{Log}
 use Rattle.yp_board.specs.Views.{IsFront}
 use Rattle.yp_session.specs.Hosts.{Conduct}
-use Rattle.yp_io.specs.Calls.{Calls}
-use Rattle.yp_worker.specs.Receptions.{Terms}
+use Rattle.yp_worker.specs.Receptions.{Terms, Opening}
 use Rattle.yp_worker.specs.Summing.{Counting, SumsUp}
 
 -- What connections were answered on, as fronts of one log, is so of each log of which that one is a front.
 abbrev pub SumsReachFurther : {H T : Type 0} → Conduct H → Counting H T → Type 0
 SumsReachFurther {H} {T} conduct counting =
-    (terms : Terms) (old now : Option Calls) (calls : ℕ) (sum : T) (reached log : Log)
+    (terms : Terms) (old now : Opening) (calls : ℕ) (sum : T) (reached log : Log)
     → SumsUp conduct counting terms old now calls sum reached → IsFront reached log
     → SumsUp conduct counting terms old now calls sum log

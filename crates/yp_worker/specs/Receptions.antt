@@ -1,12 +1,13 @@
 -- A listener that workers share, and what lies under its lock.
-use Rattle.std.specs.Prelude.{◌≡◌, ◌⊎◌, ℕ, zero, suc, ◌+◌, ◌<◌, ◌≤◌, Bool, true, List, ◌++◌, length, min}
-use Rattle.std.specs.Prelude.{Contains, Option, None, Some, IfSome, ⊤}
-use Rattle.yp_io.specs.Counts.{HasRisen, last_count, next_count}
+use Rattle.std.specs.Prelude.{◌≡◌, ◌⊎◌, ℕ, ◌+◌, ◌<◌, ◌≤◌, Bool, true, List, ◌++◌, length, fold, Contains}
+use Rattle.std.specs.Prelude.{Option, None, Some, IfSome, ⊤}
+use Rattle.yp_io.specs.Counts.{HasRisen, capped}
 use Rattle.yp_board.specs.Catalogues.{Catalogue}
 use Rattle.yp_board.specs.Logs.{Log}
 use Rattle.yp_board.specs.Views.{IsFront}
 use Rattle.yp_session.specs.Hosts.{Conduct}
-use Rattle.yp_io.specs.Calls.{Arrived, Calls, Halves, IsFreshCall, came_by}
+use Rattle.yp_io.specs.Dials.{Connected}
+use Rattle.yp_io.specs.Calls.{Calls, Ended, Halves, IsFreshCall, came_by}
 use Rattle.yp_io.specs.declared.called.Called.{Called}
 use Rattle.yp_worker.specs.declared.listening.Admission.{Admission}
 use Rattle.yp_worker.specs.declared.listening.Admission.TheVariants.{Came, Closed, Failed}
@@ -27,22 +28,18 @@ pub record IsUnder {H : Type 0} (conduct : Conduct H) (terms : Terms) (worker : 
   pub knows : IsFront terms.starts (conduct.seen worker.host).known
   pub most : worker.most ≡ terms.most
 
--- a count and more, up to the last count
-abbrev pub capped : ℕ → ℕ → ℕ
-capped count more = min (count + more) last_count
+-- how many connections these closers have closed
+abbrev pub closed_in : List (List Ended) → ℕ
+closed_in closed = fold (λ count more. count + length more) 0 closed
 
--- a count that has risen so often, each time up to the last count
-abbrev pub risen_by : ℕ → ℕ → ℕ
-risen_by zero before = before
-risen_by (suc times) before = next_count (risen_by times before)
-
--- A listener gained connections, the first ones of those that were to come, and all but so many went back.
+-- A listener gained connections, the first ones of those that were to come, and took in closers that have closed all
+-- but so many.
 pub record Gains (old new : Calls) (out : ℕ) : Type 0 where
-  pub came : List Arrived
+  pub came : List Connected
   pub to_come : old.coming ≡ came ++ new.coming
   pub more_came : new.came ≡ old.came ++ came
   pub gone : ℕ
-  pub more_back : length new.back ≡ length old.back + gone
+  pub more_closed : closed_in new.closed ≡ closed_in old.closed + gone
   pub all : length came ≡ gone + out
 
 -- the same, of a listener that tells its connections; and where it told them once, it still does
@@ -51,16 +48,12 @@ Tells None now out = ⊤
 Tells (Some old) None out = ⊥
 Tells (Some old) (Some now) out = Gains old now out
 
--- no more were given back to it than came
-abbrev pub IsFair : Option Calls → Type 0
-IsFair past = IfSome past (λ calls. length calls.back ≤ length calls.came)
-
 -- A connection is one of those that were to come, where they are told.
-abbrev pub IsExpected : Option Calls → Arrived → Type 0
-IsExpected past arrived = IfSome past (λ calls. Contains calls.coming arrived)
+abbrev pub IsExpected : Option Calls → Connected → Type 0
+IsExpected past wire = IfSome past (λ calls. Contains calls.coming wire)
 
--- a listener before the first connection: what it tells, how many it is to accept, has accepted and got back, and how
--- often it has failed
+-- a listener: what it tells, how many connections it is to accept and has accepted, how many were closed by closers
+-- that it took in, and how often it has failed
 pub record Opening : Type 0 where
   pub past : Option Calls
   pub most : ℕ
@@ -78,8 +71,8 @@ opening_of past most accepted returned faults listener = record {
 }
 
 -- what the lock of a listener keeps: the listener, how many connections came by it and how many records of those that
--- went back were read, each up to the last count, whether an accept has failed, how many connections are out, and how
--- many workers have ended
+-- were closed were read, each up to the last count, whether an accept has failed, how many connections are out with
+-- workers that haven't ended yet, and how many workers have ended
 pub record Kept (L : Type 0) : Type 0 where
   pub listen : L
   pub connections : ℕ
@@ -88,14 +81,15 @@ pub record Kept (L : Type 0) : Type 0 where
   pub out : ℕ
   pub ended : ℕ
 
--- As many connections came as the listener accepted since, and all but so many of them it got back.
+-- As many connections came as the listener accepted since, and all but so many of them were closed by closers that it
+-- took in.
 pub record Accepts (old new : Opening) (connections out : ℕ) : Type 0 where
   pub count : ℕ
   pub gone : ℕ
   pub accepted : new.accepted ≡ old.accepted + count
   pub connections_are : connections ≡ capped 0 count
   pub all : count ≡ gone + out
-  pub returned : new.returned ≡ risen_by gone old.returned
+  pub returned : capped new.returned 0 ≡ capped old.returned gone
 
 -- Workers end where all connections were accepted, or an accept has failed.
 abbrev pub IsOver : Bool → Opening → Type 0
@@ -110,8 +104,8 @@ pub record IsKept (old now : Opening) (connections : ℕ) (failed : Bool) (out e
   pub fault : failed ≡ true → HasRisen old.faults now.faults
   pub over : 0 < ended → IsOver failed now
 
--- what a worker holds of a listener: its parts of the right to know how many connections are out, how many it has out
--- itself, and how often it has ended
+-- what a worker holds of a listener: its parts of the right to know how many connections are out, how many it accepted
+-- since its closer was last taken in, and how often it has ended
 pub record Passed : Type 0 where
   pub parts : ℕ
   pub out : ℕ
@@ -122,9 +116,10 @@ pub record IsGuest {S K : Type 0} (halves : Halves S K) (past : Option Calls) (c
   pub fresh : IsFreshCall halves call
   pub expected : IsExpected past (came_by halves call)
 
--- A connection that came, of which P holds, is one more that is out; and where none came the worker has ended once
--- more.
+-- A connection that came, of which P holds, is one more that is out, and these can be counted; and where none came the
+-- worker has ended once more.
 abbrev pub Admits : {S K : Type 0} → (Called S K → Type 0) → Admission S K → Passed → Passed → Type 0
-Admits P (Came call connection) old new = P call × (new ≡ record old { out = old.out + 1 })
+Admits P (Came call connection) old new =
+    P call × (new ≡ record old { out = old.out + 1 }) × (new.out < 18446744073709551616)
 Admits P Closed old new = new ≡ record old { ended = old.ended + 1 }
 Admits P Failed old new = new ≡ record old { ended = old.ended + 1 }

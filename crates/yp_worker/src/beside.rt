@@ -31,6 +31,7 @@ where
     L: Listen + Send,
     L::In: Send,
     L::Out: Send,
+    L::Closer: Send,
     requires first { IsUnder (conduct_of H.seen H.told H.counts H.stepped H.made H.carried)
         (terms_of J.catalogue J.starts J.most) first.0 }
     requires second { IsUnder (conduct_of H.seen H.told H.counts H.stepped H.made H.carried)

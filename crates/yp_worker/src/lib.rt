@@ -1,11 +1,11 @@
 //! One worker of a server: a host, the memory of a session, and a gate that is told of its steps.
 //!
 //! A worker serves one connection after another, and what its host knows never goes back between them. What goes out
-//! on a connection for what comes in stands on [`Worker::one`]. Workers share a listener under one lock: that each
-//! connection which the listener got back was served so is a fact of the type [`Listening`], which lies under the lock,
-//! and stands on [`Listening::close`], and so does the sum of what their hosts counted in them, and that what each was
-//! answered on is a front of one log. That a worker ends by an end of the listener alone stands on [`Worker::run`], and
-//! of two in threads on [`run_beside`].
+//! on a connection for what comes in stands on [`Worker::one`]. Workers share a listener under one lock: what each that
+//! has ended served, one connection after the other, is a fact of the type [`Listening`], which lies under the lock, and
+//! stands on [`Listening::close`], and so does the sum of what their hosts counted, and that what each was answered on
+//! is a front of one log. That a worker ends by an end of the listener alone stands on [`Worker::run`], and of two in
+//! threads on [`run_beside`].
 #![tactic(auto)]
 
 mod beside;

@@ -1,12 +1,11 @@
 //! What lies under the lock of a listener.
 
-ghost use Rattle.std.specs.Prelude.{◌≡◌, ◌<◌, ◌≤◌, ◌+◌, false, ℕ, true};
-ghost use Rattle.yp_io.specs.Counts.{HasRisen};
-ghost use Rattle.yp_io.specs.Calls.{came_by, ended_by, halves_of};
+ghost use Rattle.std.specs.Prelude.{◌≡◌, ◌<◌, ◌≤◌, ◌+◌, [], length, false, true, ℕ, Some, IfSome};
+ghost use Rattle.yp_io.specs.Counts.{capped};
+ghost use Rattle.yp_io.specs.Calls.{halves_of};
 ghost use Rattle.yp_session.specs.Hosts.{conduct_of};
-ghost use Rattle.yp_worker.specs.Receptions.{Admits, IsExpected, IsFair, IsGuest, IsKept};
-ghost use Rattle.yp_worker.specs.Receptions.{opening_of, terms_of};
-ghost use Rattle.yp_worker.specs.Summing.{SumsUp, WasServed, counting_of, stay_of};
+ghost use Rattle.yp_worker.specs.Receptions.{Admits, IsGuest, IsKept, opening_of, terms_of};
+ghost use Rattle.yp_worker.specs.Summing.{HasEnded, SumsUp, counting_of};
 
 use crate::catch_up::HandsOver;
 use crate::tally::Tally;
@@ -106,8 +105,8 @@ impl<J: Ledger, E: Ledger> Pass<J, E> {
     }
 }
 
-/// A listener, what came of its connections, and the sum of what was counted in them, with a log of which each was
-/// answered on a front.
+/// A listener, what workers that have ended did with its connections, and the sum of what was counted in them, with a
+/// log of which each was answered on a front.
 #[derive(Drop)]
 pub struct Listening<J: Reception, E: Ledger, H: HandsOver, L: Listen> {
     listen: L,
@@ -121,7 +120,7 @@ pub struct Listening<J: Reception, E: Ledger, H: HandsOver, L: Listen> {
 
 impl<J: Reception, E: Ledger, H: HandsOver, L: Listen> Model for Listening<J, E, H, L> {
     ghost use Rattle.yp_session.specs.Hosts.{conduct_of};
-    ghost use Rattle.yp_worker.specs.Receptions.{Kept, IsFair, IsKept, opening_of, terms_of};
+    ghost use Rattle.yp_worker.specs.Receptions.{Kept, IsKept, opening_of, terms_of};
     ghost use Rattle.yp_worker.specs.Summing.{SumsUp, counting_of};
 
     ghost Value = { Kept L };
@@ -135,11 +134,11 @@ impl<J: Reception, E: Ledger, H: HandsOver, L: Listen> Model for Listening<J, E,
       ended = l.ended.total;
     } };
 
-    ghost invariant = { λ l. IsFair J.opening.past
-        × IsKept J.opening (opening_of L.past L.most L.accepted L.returned L.faults l.listen)
+    ghost invariant = { λ l. IsKept J.opening (opening_of L.past L.most L.accepted L.returned L.faults l.listen)
         l.connections l.failed l.out.total l.ended.total
         × SumsUp (conduct_of H.seen H.told H.counts H.stepped H.made H.carried)
-        (counting_of H.counted H.none H.plus) (terms_of J.catalogue J.starts J.most) J.opening.past (L.past l.listen)
+        (counting_of H.counted H.none H.plus) (terms_of J.catalogue J.starts J.most) J.opening
+        (opening_of L.past L.most L.accepted L.returned L.faults l.listen)
         l.calls (H.summed l.sum) (H.reached l.sum) };
 }
 
@@ -147,7 +146,6 @@ impl<J: Reception, E: Ledger, H: HandsOver, L: Listen> Listening<J, E, H, L> {
     /// A listener before its first connection.
     pub fn new(listen: L, out: Book<J>, ended: Book<E>, sum: H::Sum) -> Listening<J, E, H, L>
         requires opening { opening_of L.past L.most L.accepted L.returned L.faults listen ≡ J.opening }
-        requires fair { IsFair J.opening.past }
         requires none_out { out.total ≡ 0 }
         requires none_ended { ended.total ≡ 0 }
         requires none_counted { H.summed sum ≡ H.none }
@@ -182,6 +180,7 @@ impl<J: Reception, E: Ledger, H: HandsOver, L: Listen> Listening<J, E, H, L> {
         match self.listen.accept() {
             Ok(Arrival::Came(call)) => {
                 self.out.add(&mut pass.out, 1);
+                self.out.audit(&mut pass.out);
                 self.connections = self.connections.saturating_add(1);
                 let connection = self.connections;
                 Admission::Came { call, connection }
@@ -198,30 +197,37 @@ impl<J: Reception, E: Ledger, H: HandsOver, L: Listen> Listening<J, E, H, L> {
         }
     }
 
-    /// Takes back a connection that was served, of which so many records were read, and what the worker counted in it.
-    pub(crate) fn take_back<G>(
+    /// A closer of the listener.
+    pub(crate) fn closer(&self) -> L::Closer
+        ensures closed { IfSome J.opening.past (λ _. L.closed result ≡ Some []) }
+        ensures count { L.closed_count result ≡ 0 }
+    {
+        self.listen.closer()
+    }
+
+    /// Takes in the closer of a worker that has ended, with what it counted: so many connections, and so many of their
+    /// records.
+    pub(crate) fn retire<G>(
         &mut self,
         pass: &mut Pass<J, E>,
-        call: Called<L::In, L::Out>,
-        calls: u64,
+        closer: L::Closer,
+        tally: &Tally,
         worker: &mut Worker<H, G>,
     )
-        requires out { 0 < pass.old.out }
-        requires expected { IsExpected J.opening.past (came_by (halves_of L.In.Source L.Out.Sink) call) }
-        requires served { WasServed (conduct_of H.seen H.told H.counts H.stepped H.made H.carried)
-            (counting_of H.counted H.none H.plus) (terms_of J.catalogue J.starts J.most)
-            (H.seen worker.old.host).known
-            (stay_of (ended_by (halves_of L.In.Source L.Out.Sink) call) calls (H.counted worker.old.host)) }
-        ensures out { pass.new.out + 1 ≡ pass.old.out }
+        requires out { tally.now.connections ≤ pass.old.out }
+        requires served { HasEnded (conduct_of H.seen H.told H.counts H.stepped H.made H.carried)
+            (counting_of H.counted H.none H.plus) (terms_of J.catalogue J.starts J.most) J.opening.past
+            tally.now.connections tally.now.calls worker.old (L.closed closer) (L.closed_count closer) }
+        ensures out { pass.new.out + tally.now.connections ≡ pass.old.out }
         ensures same { pass.new ≡ record pass.old { out = pass.new.out } }
         ensures seen { H.seen worker.new.host ≡ H.seen worker.old.host }
         ensures worker { worker.new ≡ record worker.old { host = worker.new.host } }
         ensures none { H.counted worker.new.host ≡ H.none }
     {
-        self.out.sub(&mut pass.out, 1);
-        self.calls = self.calls.saturating_add(calls);
+        self.out.sub(&mut pass.out, tally.connections);
+        self.calls = self.calls.saturating_add(tally.calls);
         worker.hand_over(&mut self.sum);
-        self.listen.back(call);
+        self.listen.take_in(closer);
     }
 
     /// The listener, once all its workers have ended and been joined, with how many connections came, how many of
@@ -233,8 +239,9 @@ impl<J: Reception, E: Ledger, H: HandsOver, L: Listen> Listening<J, E, H, L> {
         ensures kept { IsKept J.opening (opening_of L.past L.most L.accepted L.returned L.faults result.0)
             result.1.connections result.1.listen_fault 0 1 }
         ensures summed { SumsUp (conduct_of H.seen H.told H.counts H.stepped H.made H.carried)
-            (counting_of H.counted H.none H.plus) (terms_of J.catalogue J.starts J.most) J.opening.past
-            (L.past result.0) result.1.calls (H.summed result.2) (H.reached result.2) }
+            (counting_of H.counted H.none H.plus) (terms_of J.catalogue J.starts J.most) J.opening
+            (opening_of L.past L.most L.accepted L.returned L.faults result.0)
+            result.1.calls (H.summed result.2) (H.reached result.2) }
         ensures same { pass.new ≡ pass.old }
     {
         let Listening {

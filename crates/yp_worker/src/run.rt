@@ -1,10 +1,11 @@
 //! A worker that serves the connections of a listener, which others share.
 
-ghost use Rattle.std.specs.Prelude.{◌≡◌, ◌<◌, ◌+◌, IfErr};
+ghost use Rattle.std.specs.Prelude.{◌≡◌, ◌<◌, ◌+◌, ◌^◌};
 ghost use Rattle.yp_board.specs.Views.{IsFront};
 ghost use Rattle.yp_io.specs.Calls.{halves_of};
 ghost use Rattle.yp_session.specs.Hosts.{conduct_of};
 ghost use Rattle.yp_worker.specs.Receptions.{Admits, IsGuest, IsUnder, terms_of};
+ghost use Rattle.yp_worker.specs.Summing.{HasEnded, counting_of};
 
 use crate::catch_up::HandsOver;
 use crate::gate::Gate;
@@ -16,8 +17,9 @@ use std::sync::{Mutex, Wait};
 use yp_io::{Called, Listen};
 
 impl<H: HandsOver, G: Gate + Copy> Worker<H, G> {
-    /// Serves connections, one after another, until as many were accepted as are to be, or an accept has failed. It
-    /// holds the lock of the listener only while a connection is accepted or given back. What it counts is its own.
+    /// Serves connections, one after another, until as many were accepted as are to be, or an accept has failed. Then
+    /// it hands over what its closer tells, and what its host has counted. It holds the lock of the listener only while
+    /// a connection is accepted, and at the end.
     pub fn run<J: Reception, E: Ledger, L: Listen, R: Wait>(
         &mut self,
         rt: &R,
@@ -35,16 +37,11 @@ impl<H: HandsOver, G: Gate + Copy> Worker<H, G> {
         // It ends by an end of the listener alone, with no connection out that it has accepted.
         ensures pass { pass.new ≡ record pass.old { ended = pass.old.ended + 1 } }
     {
-        let mut tally = Tally {
-            connections: 0,
-            calls: 0,
-            listen_fault: false,
-        };
+        let (mut closer, mut tally) = self.begin(rt, listening);
         for _ in rt.forever() {
             match admitted(rt, listening, pass) {
                 Admission::Came { call, connection } => {
-                    let calls = self.serve(rt, listening, pass, call, connection);
-                    tally.count(calls);
+                    self.serve::<J, L>(&mut closer, &mut tally, call, connection);
                 }
                 Admission::Closed => break,
                 Admission::Failed => {
@@ -53,37 +50,61 @@ impl<H: HandsOver, G: Gate + Copy> Worker<H, G> {
                 }
             }
         }
+        let mut kept = listening.lock(rt);
+        kept.retire(pass, closer, &tally, self);
         tally
     }
 
-    /// Serves a connection that was accepted, gives it back with what the host counted, and answers how many of its
-    /// records were read.
-    fn serve<J: Reception, E: Ledger, L: Listen, R: Wait>(
-        &mut self,
+    /// A closer of the listener, and what was counted before the first connection.
+    fn begin<J: Reception, E: Ledger, L: Listen, R: Wait>(
+        &self,
         rt: &R,
         listening: &Mutex<Listening<J, E, H, L>>,
-        pass: &mut Pass<J, E>,
+    ) -> (L::Closer, Tally)
+        requires under { IsUnder (conduct_of H.seen H.told H.counts H.stepped H.made H.carried)
+            (terms_of J.catalogue J.starts J.most) self.now }
+        requires none { H.counted self.now.host ≡ H.none }
+        ensures nothing { result.1.connections ≡ 0 }
+        ensures served { HasEnded (conduct_of H.seen H.told H.counts H.stepped H.made H.carried)
+            (counting_of H.counted H.none H.plus) (terms_of J.catalogue J.starts J.most) J.opening.past
+            result.1.connections result.1.calls self.now (L.closed result.0) (L.closed_count result.0) }
+    {
+        let kept = listening.lock(rt);
+        let tally = Tally {
+            connections: 0,
+            calls: 0,
+            listen_fault: false,
+        };
+        (kept.closer(), tally)
+    }
+
+    /// Serves a connection that was accepted, closes it, and counts it.
+    fn serve<J: Reception, L: Listen>(
+        &mut self,
+        closer: &mut L::Closer,
+        tally: &mut Tally,
         call: Called<L::In, L::Out>,
         connection: u64,
-    ) -> u64
+    )
         requires under { IsUnder (conduct_of H.seen H.told H.counts H.stepped H.made H.carried)
             (terms_of J.catalogue J.starts J.most) self.old }
-        requires none { H.counted self.old.host ≡ H.none }
         requires guest { IsGuest (halves_of L.In.Source L.Out.Sink) J.opening.past call }
-        requires out { 0 < pass.old.out }
+        requires room { tally.old.connections + 1 < 2 ^ 64 }
+        requires served { HasEnded (conduct_of H.seen H.told H.counts H.stepped H.made H.carried)
+            (counting_of H.counted H.none H.plus) (terms_of J.catalogue J.starts J.most) J.opening.past
+            tally.old.connections tally.old.calls self.old (L.closed closer.old) (L.closed_count closer.old) }
         ensures under { IsUnder (conduct_of H.seen H.told H.counts H.stepped H.made H.carried)
             (terms_of J.catalogue J.starts J.most) self.new }
-        ensures none { H.counted self.new.host ≡ H.none }
         ensures grown { IsFront (H.seen self.old.host).known (H.seen self.new.host).known }
-        ensures out { pass.new.out + 1 ≡ pass.old.out }
-        ensures same { pass.new ≡ record pass.old { out = pass.new.out } }
+        ensures counted { tally.new.connections ≡ tally.old.connections + 1 }
+        ensures served { HasEnded (conduct_of H.seen H.told H.counts H.stepped H.made H.carried)
+            (counting_of H.counted H.none H.plus) (terms_of J.catalogue J.starts J.most) J.opening.past
+            tally.new.connections tally.new.calls self.new (L.closed closer.new) (L.closed_count closer.new) }
     {
         let Called { origin, wire } = call;
         let (wire, _) = self.one(wire, origin.peer(), connection);
-        let calls = self.calls();
-        let mut kept = listening.lock(rt);
-        kept.take_back(pass, Called { origin, wire }, calls, self);
-        calls
+        L::close(closer, Called { origin, wire });
+        tally.count(self.calls());
     }
 }
 

@@ -1,5 +1,8 @@
 //! What is counted of connections.
 
+ghost use Rattle.std.specs.Prelude.{◌≡◌, ℕ, ◌+◌, ◌<◌, ◌^◌};
+ghost use Rattle.yp_io.specs.Counts.{capped};
+
 /// What was served.
 #[derive(Clone, Copy, Debug, PartialEq, Eq)]
 pub struct Tally {
@@ -13,8 +16,14 @@ pub struct Tally {
 
 impl Tally {
     /// Counts a connection, of which so many records were read.
-    pub(crate) fn count(&mut self, calls: u64) {
-        self.connections = self.connections.saturating_add(1);
+    pub(crate) fn count(&mut self, calls: u64)
+        requires { self.old.connections + 1 < 2 ^ 64 }
+        ensures { self.new ≡ record self.old {
+          connections = self.old.connections + 1;
+          calls = capped self.old.calls calls;
+        } }
+    {
+        self.connections += 1;
         self.calls = self.calls.saturating_add(calls);
     }
 }

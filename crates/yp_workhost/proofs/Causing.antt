@@ -8,6 +8,7 @@ use Rattle.yp_msgs.specs.declared.transfer.XfrStat.{XfrStat}
 use Rattle.yp_msgs.specs.declared.transfer.XfrStat.TheVariants.{Succ, Age, Nomap, Nodom, Rsrc, Rpc, Maddr, Yperr, Badargs, Dbm, File, Skew, Clear, Force, Xfrerr, Refused}
 use Rattle.yp_version.specs.Versions.{MapVersion}
 use Rattle.yp_slot.specs.declared.fault.SlotFault.TheVariants as slot
+use Rattle.yp_board.specs.Catalogues.{Catalogue}
 use Rattle.yp_board.specs.Logs.{Log, shown}
 use Rattle.yp_board.specs.Views.{IsFront}
 use Rattle.yp_build.specs.Builds.{order_max}
@@ -19,6 +20,7 @@ use Rattle.yp_publish.specs.declared.install.Origin.TheVariants.{Built}
 use Rattle.yp_publish.specs.declared.install.InstallFault.TheVariants as fault
 use Rattle.yp_publish.specs.Installs.{offer, not_following}
 use Rattle.yp_publish.specs.Rising.{with_shown}
+use Rattle.yp_answer.specs.Make.{IsKindOf}
 use Rattle.yp_answer.specs.declared.make.Job.{Job}
 use Rattle.yp_answer.specs.Causes.{Told, IsAnew, IsCaused, basis_at, HasBadRowAt}
 use Rattle.yp_answer.specs.Causes as causes
@@ -89,8 +91,17 @@ module _ (law : BuiltIsBuiltBehind) (text : TextFile → Option (List ℕ)) (own
         built = law (basis_of kind own None before) anew.material version last anew.built most found.0 found.1;
       }
 
-  pub built_there : (Is : Building) → Builds text own Is → IsBuiltThere Is own version Built
-  built_there Is builds last follows = builds last (marked_behind version last) (kind, anew_behind last follows)
+pub built_there : BuiltIsBuiltBehind → (text : TextFile → Option (List ℕ)) (served : Catalogue) (job : Job)
+    (before : Option MapVersion) (version : MapVersion)
+    → IsAnew (texts_alone text) (basis_of job.kind served.own None before) version → version.order ≤ order_max
+    → IsKindOf served job.map job.kind → (Is : Building) → Builds text served Is
+    → IsBuiltThere Is job.map served.own version Built
+built_there law text served job before version anew most is_kind Is builds last follows =
+    builds job.map last (marked_behind version last) (
+      job.kind,
+      is_kind,
+      anew_behind law text served.own job.kind before version anew most last follows,
+    )
 
 pub shown_last : BuiltIsBuiltBehind → (text : TextFile → Option (List ℕ)) (own : List ℕ) (job : Job) (version : MapVersion) (old new : Log)
     → IsAnew (texts_alone text) (basis_at own job old) version → version.order ≤ order_max

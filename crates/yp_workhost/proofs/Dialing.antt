@@ -2,7 +2,7 @@
 use Rattle.std.proofs.Common.{◌≡◌, ◌⊎◌, inl, inr, ℕ, zero, suc, ◌+◌, ◌≤◌, Bool, true, false, if◌then◌else◌, ◌==◌, ◌||◌, List, [], ◌∷◌, ◌++◌, length, Option, None, Some, Ok, Err, refl, sym, ◌∙◌, ap, subst, append_assoc, arith}
 use Rattle.std.specs.Option.{ok_or}
 use Rattle.std.proofs.lemmas.List.{append-nil, length_push}
-use Rattle.yp_io.specs.Dials.{Dialed, Wires, WireState, Dialing, DialTells, Comes, GoesBack}
+use Rattle.yp_io.specs.Dials.{Connected, connected, Wires, WireState, Dialing, DialTells, Comes, GoesBack}
 use Rattle.yp_msgs.specs.declared.transfer.XfrStat.{XfrStat}
 use Rattle.yp_xfr.specs.declared.calling_back.Asker.{Asker}
 use Rattle.yp_xfr.specs.CallBack.{CallsBack}
@@ -49,8 +49,8 @@ module _ {X : Type 0} (P : X → Type 0) where
 -- ---- of a wire
 
 -- a wire that counts, or doesn't
-module _ (P : Dialed → Type 0) (more : ℕ) (dialed : Dialed) (left : WireState) (which : (more ≡ 0) ⊎ ((more ≡ 1) × P dialed)) where
-  enough : (count : ℕ) (gained : List Dialed) → AtLeast P count gained → AtLeast P (count + more) (gained ++ dialed ∷ [])
+module _ (P : Connected → Type 0) (more : ℕ) (dialed : Connected) (left : WireState) (which : (more ≡ 0) ⊎ ((more ≡ 1) × P dialed)) where
+  enough : (count : ℕ) (gained : List Connected) → AtLeast P count gained → AtLeast P (count + more) (gained ++ dialed ∷ [])
   enough count gained least = elim which [
     | inl none ↦ subst (λ (n : ℕ). AtLeast P n (gained ++ dialed ∷ [])) (omega (arith, none))
         (more_others P count gained dialed least)
@@ -68,7 +68,7 @@ module _ (P : Dialed → Type 0) (more : ℕ) (dialed : Dialed) (left : WireStat
       let other = ap length went ∙ length_push old.back left in
       let fair = was.fair in record {
         gained = was.gained ++ dialed ∷ [];
-        came = came ∙ ap (λ (l : List Dialed). l ++ dialed ∷ []) was.came ∙ append_assoc start.came was.gained (dialed ∷ []);
+        came = came ∙ ap (λ (l : List Connected). l ++ dialed ∷ []) was.came ∙ append_assoc start.came was.gained (dialed ∷ []);
         fair = omega (arith, one, other, fair);
         enough = enough count was.gained was.enough;
       }
@@ -103,23 +103,24 @@ IsUnasked count =
     (count (Err Rpc) ≡ 0) × (count (Err Maddr) ≡ 0) × (count (Err Badargs) ≡ 0) × (count (Err NoMemory) ≡ 0)
 
 -- what counts at most one for a fetch, and that by a wire with P
-module _ (P : Dialed → Type 0) (count : Outcome → ℕ) (untold : (peer : Peer) → P (peer, None)) (unasked : IsUnasked count)
-    (by_bytes : (wanted : Wanted) (peer : Peer) (stream : List ℕ) (outcome : Outcome) → Fetched wanted (place_of 1 0 stream) outcome
-    → (count outcome ≡ 0) ⊎ P (peer, Some stream))
+module _ (P : Connected → Type 0) (count : Outcome → ℕ) (unasked : IsUnasked count)
+    (untold : (peer : Peer) (output : Option (List ℕ)) → P (connected peer None output))
+    (by_bytes : (wanted : Wanted) (peer : Peer) (stream : List ℕ) (output : Option (List ℕ)) (outcome : Outcome)
+    → Fetched wanted (place_of 1 0 stream) outcome → (count outcome ≡ 0) ⊎ P (connected peer (Some stream) output))
     (few : (outcome : Outcome) → (count outcome ≡ 0) ⊎ (count outcome ≡ 1)) where
   by_wire : (peer : Peer) (wanted : Wanted) (outcome : Outcome) (first last : ClientState) → IsFirst first
       → IsFetched wanted outcome first last → (input : Option (List ℕ)) → first.wire.input ≡ input
-      → (count outcome ≡ 0) ⊎ P (peer, input)
-  by_wire peer wanted outcome first last begins fetched None is = inr (untold peer)
+      → (count outcome ≡ 0) ⊎ P (connected peer input first.wire.output)
+  by_wire peer wanted outcome first last begins fetched None is = inr (untold peer first.wire.output)
   by_wire peer wanted outcome first last begins fetched (Some stream) is = elim (fetched stream is) [
-    | inl one ↦ by_bytes wanted peer stream outcome (from_first wanted outcome first stream begins one)
+    | inl one ↦ by_bytes wanted peer stream first.wire.output outcome (from_first wanted outcome first stream begins one)
     | inr other ↦ elim other [
       | inl fails ↦ inl (ap count fails.0 ∙ unasked.0)
       | inr memory ↦ inl (ap count memory ∙ unasked.3)
     ]
   ]
 
-  counts_once : (outcome : Outcome) (dialed : Dialed) → (count outcome ≡ 0) ⊎ P dialed
+  counts_once : (outcome : Outcome) (dialed : Connected) → (count outcome ≡ 0) ⊎ P dialed
       → (count outcome ≡ 0) ⊎ ((count outcome ≡ 1) × P dialed)
   counts_once outcome dialed which = elim (few outcome) [
     | inl none ↦ inl none
@@ -137,8 +138,8 @@ module _ (P : Dialed → Type 0) (count : Outcome → ℕ) (untold : (peer : Pee
         → CoversBy P start new.past (counted + count outcome)
     by_peer peer goes = elim goes [
       | inl none ↦ same (ap count none.fault ∙ unasked.0) none.none
-      | inr wire ↦ covers_wire P (count outcome) (peer, wire.first.wire.input) wire.last.wire
-          (counts_once outcome (peer, wire.first.wire.input)
+      | inr wire ↦ covers_wire P (count outcome) (connected peer wire.first.wire.input wire.first.wire.output) wire.last.wire
+          (counts_once outcome (connected peer wire.first.wire.input wire.first.wire.output)
           (by_wire peer wanted outcome wire.first wire.last wire.begins wire.fetched wire.first.wire.input refl))
           counted start old.past wire.middle new.past wire.comes wire.goes_back covers
     ]
@@ -155,7 +156,7 @@ module _ (P : Dialed → Type 0) (count : Outcome → ℕ) (untold : (peer : Pee
     fetched_counts hosts source fetches =
         by_address (length wanted.domain == 0 || length wanted.map == 0 || length source == 0) (find source hosts) fetches
 
-module _ (P : Dialed → Type 0) where
+module _ (P : Connected → Type 0) where
   -- before the first
   pub covers_none : (start : Option Wires) → CoversBy P start start 0
   covers_none None = tt

@@ -1,7 +1,7 @@
 -- The orders that a fetch reached.
 use Rattle.std.proofs.Common.{◌≡◌, ◌⊎◌, inl, inr, ℕ, ◌+◌, Bool, true, false, if◌then◌else◌, ◌==◌, ◌||◌, List, length, Option, None, Some, Result, Ok, Err, refl, ◌∙◌, ap}
 use Rattle.yp_io.specs.declared.stream.Peer.{Peer}
-use Rattle.yp_io.specs.Dials.{Wires, Dialing}
+use Rattle.yp_io.specs.Dials.{Wires, Dialing, connected}
 use Rattle.yp_client.specs.declared.fault.ClientFault.{ClientFault}
 use Rattle.yp_client.specs.declared.fault.ClientFault.TheVariants as client
 use Rattle.yp_version.specs.declared.builder.VersionFault.{VersionFault}
@@ -90,14 +90,15 @@ module _ (wanted : Wanted) (stream : List ℕ) (outcome : Outcome) (last : Place
   by_names true stops = inl (ap orders_in stops.0)
   by_names false asks = by_answer asks.answer asks.middle asks.answered asks.goes_on
 
-by_order : (wanted : Wanted) (peer : Peer) (stream : List ℕ) (outcome : Outcome) → Fetched wanted (place_of 1 0 stream) outcome
-    → (orders_in outcome ≡ 0) ⊎ BeginsWithOrder (peer, Some stream)
-by_order wanted peer stream outcome fetched =
+by_order : (wanted : Wanted) (peer : Peer) (stream : List ℕ) (output : Option (List ℕ)) (outcome : Outcome)
+    → Fetched wanted (place_of 1 0 stream) outcome
+    → (orders_in outcome ≡ 0) ⊎ BeginsWithOrder (connected peer (Some stream) output)
+by_order wanted peer stream output outcome fetched =
     by_names wanted stream outcome fetched.0 (length wanted.domain == 0 || length wanted.map == 0) fetched.1
 
 pub fetched_orders : (start : Option Wires) (orders : ℕ) (wanted : Wanted) (outcome : Outcome) (old new : Dialing)
     → CoversOrders start old.past orders → (hosts : HostList) (source : List ℕ) → FetchesFrom hosts source wanted outcome old new
     → CoversOrders start new.past (orders + orders_in outcome)
 fetched_orders start orders wanted outcome old new covers hosts source fetches =
-    fetched_counts BeginsWithOrder orders_in (λ peer. tt) (refl, refl, refl, refl) by_order few_orders
+    fetched_counts BeginsWithOrder orders_in (refl, refl, refl, refl) (λ peer output. tt) by_order few_orders
     start orders wanted outcome old new covers hosts source fetches

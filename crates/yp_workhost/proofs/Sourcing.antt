@@ -4,7 +4,7 @@ use Rattle.std.specs.Option.{ok_or}
 use Rattle.std.proofs.lemmas.Bool.{ne_eqb}
 use Rattle.yp_io.specs.Counts.{HasRisen, last_count}
 use Rattle.yp_io.specs.declared.stream.Peer.{Peer}
-use Rattle.yp_io.specs.Dials.{Wires, Dialing}
+use Rattle.yp_io.specs.Dials.{Wires, Dialing, connected}
 use Rattle.yp_xfr.specs.declared.fault.XfrFault.{XfrFault}
 use Rattle.yp_xfr.specs.declared.fault.XfrFault.TheVariants.{Maddr, Rpc, Nodom, Nomap, Yperr, Xfrerr, Age, Skew, Dbm, Badargs, File, Refused, NoMemory}
 use Rattle.yp_xfr.specs.HostTable.{HostList, find}
@@ -23,10 +23,11 @@ few_versions (Ok version) = inr refl
 few_versions (Err why) = inl refl
 
 -- bytes that give a version give it where none is shown
-good : (wanted : Wanted) (peer : Peer) (stream : List ℕ) (outcome : Outcome) → Fetched wanted (place_of 1 0 stream) outcome
-    → (versions_in outcome ≡ 0) ⊎ IsGood (peer, Some stream)
-good wanted peer stream (Err why) fetched = inl refl
-good wanted peer stream (Ok version) fetched =
+good : (wanted : Wanted) (peer : Peer) (stream : List ℕ) (output : Option (List ℕ)) (outcome : Outcome)
+    → Fetched wanted (place_of 1 0 stream) outcome
+    → (versions_in outcome ≡ 0) ⊎ IsGood (connected peer (Some stream) output)
+good wanted peer stream output (Err why) fetched = inl refl
+good wanted peer stream output (Ok version) fetched =
     let first = place_of 1 0 stream in
     let unshown = wanted_of wanted.domain wanted.map None false in
     let found = leads wanted first version fetched in inr record {
@@ -40,7 +41,7 @@ pub fetched_versions : (start : Option Wires) (versions : ℕ) (wanted : Wanted)
     → CoversBy IsGood start old.past versions → (hosts : HostList) (source : List ℕ) → FetchesFrom hosts source wanted outcome old new
     → CoversBy IsGood start new.past (versions + versions_in outcome)
 fetched_versions start versions wanted outcome old new covers hosts source fetches =
-    fetched_counts IsGood versions_in (λ peer. tt) (refl, refl, refl, refl) good few_versions
+    fetched_counts IsGood versions_in (refl, refl, refl, refl) (λ peer output. tt) good few_versions
     start versions wanted outcome old new covers hosts source fetches
 
 -- ---- a source that failed
@@ -87,7 +88,7 @@ module _ (law : FetchedIsOne) (peer : Peer) (wanted : Wanted) (outcome : Outcome
     (names : against_names wanted ≡ None) (failed : sources_in outcome ≡ 1)
     (wire : FetchesOnWire peer wanted outcome old new) where
   by_input : (input : Option (List ℕ)) → wire.first.wire.input ≡ input
-      → IsBad (peer, input) ⊎ HasRisen old.faults new.faults
+      → IsBad (connected peer input wire.first.wire.output) ⊎ HasRisen old.faults new.faults
   by_input None is = inl tt
   by_input (Some stream) is = elim (wire.fetched stream is) [
     | inl one ↦ inl (bad law wanted stream outcome names (from_first wanted outcome wire.first stream wire.begins one) failed)
@@ -97,7 +98,7 @@ module _ (law : FetchedIsOne) (peer : Peer) (wanted : Wanted) (outcome : Outcome
     ]
   ]
 
-  by_wire : IsBad (peer, wire.first.wire.input) ⊎ HasRisen old.faults new.faults
+  by_wire : IsBad (connected peer wire.first.wire.input wire.first.wire.output) ⊎ HasRisen old.faults new.faults
   by_wire = by_input wire.first.wire.input refl
 
 -- the counts after a fetch, by the wires that give no version
@@ -132,7 +133,7 @@ module _ (law : FetchedIsOne) (start : Option Wires) (faults sources : ℕ) (wan
   uncounted : (peer : Peer) (wire : FetchesOnWire peer wanted outcome old new)
       → CoversBy IsBad start new.past (covers.bad + 0)
   uncounted peer wire =
-      covers_wire IsBad 0 (peer, wire.first.wire.input) wire.last.wire (inl refl) covers.bad start old.past wire.middle new.past
+      covers_wire IsBad 0 (connected peer wire.first.wire.input wire.first.wire.output) wire.last.wire (inl refl) covers.bad start old.past wire.middle new.past
       wire.comes wire.goes_back covers.wires
 
   by_peer : (peer : Peer) → FetchesOnWire peer wanted outcome old new
@@ -145,7 +146,7 @@ module _ (law : FetchedIsOne) (start : Option Wires) (faults sources : ℕ) (wan
         | inl none ↦ by_fault start faults sources (sources_in outcome) old new covers stays same (inl none)
         | inr one ↦ elim (by_wire law peer wanted outcome old new names one wire) [
           | inl bad ↦ by_bad start faults sources (sources_in outcome) old new covers stays
-              (covers_wire IsBad 1 (peer, wire.first.wire.input) wire.last.wire (inr (refl, bad)) covers.bad start old.past wire.middle
+              (covers_wire IsBad 1 (connected peer wire.first.wire.input wire.first.wire.output) wire.last.wire (inr (refl, bad)) covers.bad start old.past wire.middle
               new.past wire.comes wire.goes_back covers.wires) one
           | inr risen ↦ by_fault start faults sources (sources_in outcome) old new covers stays same (inr (one, risen))
         ]

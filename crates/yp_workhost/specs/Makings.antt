@@ -5,6 +5,7 @@ use Rattle.yp_io.specs.declared.texts.TextFile.{TextFile}
 use Rattle.yp_msgs.specs.declared.transfer.XfrStat.{XfrStat}
 use Rattle.yp_msgs.specs.declared.transfer.XfrStat.TheVariants.{Succ}
 use Rattle.yp_version.specs.Versions.{MapVersion}
+use Rattle.yp_board.specs.Catalogues.{Catalogue}
 use Rattle.yp_board.specs.Logs.{Log, shown}
 use Rattle.yp_board.specs.Views.{IsFront}
 use Rattle.yp_build.specs.declared.kind.Kind.{Kind}
@@ -12,17 +13,22 @@ use Rattle.yp_build.specs.Builds.{order_max}
 use Rattle.yp_build.specs.After.{IsOver, basis_of}
 use Rattle.yp_publish.specs.Rising.{with_shown}
 use Rattle.yp_answer.specs.declared.make.Job.{Job}
+use Rattle.yp_answer.specs.Make.{IsKindOf}
 use Rattle.yp_answer.specs.Causes.{Told, IsAnew, IsCaused, basis_at}
 use Rattle.yp_shared.specs.Sources.{Building}
 use Rattle.yp_workhost.specs.Desks.{texts_alone}
 
--- A version was built of a text, for a map of some kind, behind the last version of the map.
-abbrev pub IsBuilt : (TextFile → Option (List ℕ)) → List ℕ → Building
-IsBuilt text own last version = (kind : Kind) × IsAnew (texts_alone text) (basis_of kind own None last) version
+-- A version was built of the text of its map's kind, for the own host, behind the last version of the map.
+abbrev pub IsBuilt : (TextFile → Option (List ℕ)) → Catalogue → Building
+IsBuilt text served number last version =
+    (kind : Kind) × IsKindOf served number kind
+    × IsAnew (texts_alone text) (basis_of kind served.own None last) version
 
 -- Each version that was built so is what a site says of it.
-abbrev pub Builds : (TextFile → Option (List ℕ)) → List ℕ → Building → Type 0
-Builds text own Is = (last : Option MapVersion) (version : MapVersion) → IsBuilt text own last version → Is last version
+abbrev pub Builds : (TextFile → Option (List ℕ)) → Catalogue → Building → Type 0
+Builds text served Is =
+    (number : ℕ) (last : Option MapVersion) (version : MapVersion) → IsBuilt text served number last version
+    → Is number last version
 
 -- A version was built anew behind the versions of its map before it, with a higher order, and was shown: last of all
 -- that is known, and behind all that was.

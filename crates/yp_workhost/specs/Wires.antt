@@ -1,8 +1,8 @@
 -- The wires that a dial gained, and how many of them begin with an order, give a version, or give none.
 use Rattle.std.specs.Prelude.{◌≡◌, ◌⊎◌, ℕ, suc, ◌+◌, ◌<◌, ◌≤◌, List, [], ◌∷◌, ◌++◌, length, Option, None, Some}
-use Rattle.std.specs.Prelude.{Ok, Err, ⊤}
+use Rattle.std.specs.Prelude.{IfSome, Ok, Err, ⊤}
 use Rattle.yp_io.specs.Counts.{last_count}
-use Rattle.yp_io.specs.Dials.{Dialed, Wires}
+use Rattle.yp_io.specs.Dials.{Connected, Wires}
 use Rattle.yp_version.specs.Versions.{MapVersion}
 use Rattle.yp_client.specs.Limits.{reply_max}
 use Rattle.yp_client.specs.Results.{order_of}
@@ -24,9 +24,8 @@ pub record HasOrder (stream : List ℕ) : Type 0 where
   pub replied : IsReplied reply_max order_of (Ok order) (place_of 1 0 stream) next
 
 -- So does what came by a wire, where it is told.
-abbrev pub BeginsWithOrder : Dialed → Type 0
-BeginsWithOrder (peer, None) = ⊤
-BeginsWithOrder (peer, Some stream) = HasOrder stream
+abbrev pub BeginsWithOrder : Connected → Type 0
+BeginsWithOrder wire = IfSome wire.input HasOrder
 
 -- Bytes give a version, where none is shown. They fix it, whatever else is wanted.
 pub record GivesVersion (stream : List ℕ) : Type 0 where
@@ -36,14 +35,12 @@ pub record GivesVersion (stream : List ℕ) : Type 0 where
   pub fetched : Fetched wanted (place_of 1 0 stream) (Ok version)
 
 -- What came by a wire gives a version, where it is told.
-abbrev pub IsGood : Dialed → Type 0
-IsGood (peer, None) = ⊤
-IsGood (peer, Some stream) = GivesVersion stream
+abbrev pub IsGood : Connected → Type 0
+IsGood wire = IfSome wire.input GivesVersion
 
 -- It gives none, where it is told.
-abbrev pub IsBad : Dialed → Type 0
-IsBad (peer, None) = ⊤
-IsBad (peer, Some stream) = GivesVersion stream → ⊥
+abbrev pub IsBad : Connected → Type 0
+IsBad wire = IfSome wire.input (λ stream. GivesVersion stream → ⊥)
 
 -- ---- what a fetch came to
 
@@ -73,14 +70,14 @@ IsAgedBy shown _ = ⊤
 -- ---- what covers that
 
 -- A dial gained wires, of which at least so many have P, and no more went back to it than came.
-pub record GainsAtLeast (P : Dialed → Type 0) (old new : Wires) (count : ℕ) : Type 0 where
-  pub gained : List Dialed
+pub record GainsAtLeast (P : Connected → Type 0) (old new : Wires) (count : ℕ) : Type 0 where
+  pub gained : List Connected
   pub came : new.came ≡ old.came ++ gained
   pub fair : length new.back ≤ length new.came
   pub enough : AtLeast P count gained
 
 -- The same of a dial that told its wires, where no more had gone back to it than had come.
-abbrev pub CoversBy : (Dialed → Type 0) → Option Wires → Option Wires → ℕ → Type 0
+abbrev pub CoversBy : (Connected → Type 0) → Option Wires → Option Wires → ℕ → Type 0
 CoversBy P None now count = ⊤
 CoversBy P (Some old) None count = length old.back ≤ length old.came → ⊥
 CoversBy P (Some old) (Some now) count = length old.back ≤ length old.came → GainsAtLeast P old now count

@@ -76,7 +76,7 @@ impl<
     } };
 
     ghost invariant = { λ h. ((B.Reader.seen h.reader).catalogue ≡ S.catalogue) × IsCharged h.totals h.charges
-        × Builds S.text S.catalogue.own S.built };
+        × Builds S.text S.catalogue S.built };
 }
 
 impl<
@@ -101,7 +101,7 @@ impl<
         charges: Charges<S>,
     ) -> WorkerHost<'a, S, D, B, A, T, C, R>
         requires catalogue { (B.Reader.seen reader).catalogue ≡ S.catalogue }
-        requires builds { Builds S.text S.catalogue.own S.built }
+        requires builds { Builds S.text S.catalogue S.built }
         ensures { result ≡ record {
           reader = reader;
           files = 0;

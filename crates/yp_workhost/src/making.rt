@@ -2,6 +2,7 @@
 
 ghost use Rattle.std.specs.Prelude.{◌≡◌, ◌<◌, None, length, IfSome};
 ghost use Rattle.std.specs.Option.{option_map_or};
+ghost use Rattle.yp_answer.specs.Make.{IsKindOf};
 ghost use Rattle.yp_shared.specs.Shares.{Learns};
 ghost use Rattle.yp_workhost.specs.Desks.{texts_alone};
 ghost use Rattle.yp_workhost.specs.Makings.{Builds, IsMadeSo, IsOvertaken};
@@ -40,8 +41,9 @@ where
     T: Texts,
     C: Clock,
     R: RandomSource + Wait,
-    requires builds { Builds S.text S.catalogue.own S.built }
+    requires builds { Builds S.text S.catalogue S.built }
     requires map { job.map < length S.catalogue.maps }
+    requires kind { IsKindOf S.catalogue job.map job.kind }
     requires catalogue { (B.Reader.seen reader.old).catalogue ≡ S.catalogue }
     ensures made { IsMadeSo (texts_alone S.text) S.catalogue.own job result
         (B.Reader.seen reader.old).known (B.Reader.seen reader.new).known }
@@ -77,8 +79,9 @@ where
     T: Texts,
     C: Clock,
     R: RandomSource + Wait,
-    requires builds { Builds S.text S.catalogue.own S.built }
+    requires builds { Builds S.text S.catalogue S.built }
     requires map { job.map < length S.catalogue.maps }
+    requires kind { IsKindOf S.catalogue job.map job.kind }
     requires catalogue { (B.Reader.seen reader.old).catalogue ≡ S.catalogue }
     ensures made { IfSome result (λ stat. IsMadeSo (texts_alone S.text) S.catalogue.own job stat
         (B.Reader.seen reader.old).known (B.Reader.seen reader.new).known) }

@@ -4,7 +4,7 @@ use Rattle.std.specs.Prelude.{if◌then◌else◌}
 use Rattle.std.specs.Option.{ok_or}
 use Rattle.yp_io.specs.Counts.{HasRisen, last_count}
 use Rattle.yp_io.specs.declared.stream.Peer.{Peer}
-use Rattle.yp_io.specs.Dials.{Wires, Dialing, Comes, GoesBack}
+use Rattle.yp_io.specs.Dials.{Wires, Dialing, connected, Comes, GoesBack}
 use Rattle.yp_client.specs.States.{ClientState, IsFirst}
 use Rattle.yp_xfr.specs.declared.fault.XfrFault.{XfrFault}
 use Rattle.yp_xfr.specs.declared.fault.XfrFault.TheVariants.{Maddr, Rpc, Badargs, NoMemory}
@@ -19,15 +19,15 @@ sought wanted source hosts =
     if length wanted.domain == 0 || length wanted.map == 0 || length source == 0 then Err Badargs
     else ok_or (find source hosts) Maddr
 
--- One wire to this peer came, the calls were made on it, and it went back: its faults are counted as those of the
--- dial, so the dial has failed where the wire has. No call was made where memory ran out for a client. What came of it
--- is what the bytes of the wire say, where it tells them. The dial tells what its input was at first, and what it was
--- when it went back.
+-- One wire to this peer came, the calls were made on it, and it went back: its faults are counted as those of the dial,
+-- so the dial has failed where the wire has. No call was made where memory ran out for a client. What came of it is
+-- what the bytes of the wire say, where it tells them. The dial tells what its input and its output were at first, and
+-- what they were when it went back.
 pub record FetchesOnWire (peer : Peer) (wanted : Wanted) (outcome : Outcome) (old new : Dialing) : Type 0 where
   pub first : ClientState
   pub last : ClientState
   pub middle : Option Wires
-  pub comes : Comes (peer, first.wire.input) old.past middle
+  pub comes : Comes (connected peer first.wire.input first.wire.output) old.past middle
   pub begins : IsFirst first
   pub fetches : FetchesByCalls wanted outcome first last ⊎ Stops NoMemory outcome first last
   pub fetched : IsFetched wanted outcome first last

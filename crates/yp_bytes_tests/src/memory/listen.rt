@@ -1,4 +1,4 @@
-//! A listener in memory: connections up to a number, those that are given back, and accepts that fail.
+//! A listener in memory: connections up to a number, those that are closed, and accepts that fail.
 
 ghost use Rattle.yp_io.specs.MemListen.{IsNew};
 
@@ -6,7 +6,8 @@ use crate::given::{assert_same, bytes};
 use std::alloc::Global;
 use std::process::Abort;
 use yp_io::{
-    Arrival, Called, Failed, Listen, MemCall, MemListen, MemSink, MemSource, Origin, Pair, Peer,
+    Arrival, Called, Failed, Listen, MemCall, MemCloser, MemListen, MemSink, MemSource, Origin,
+    Pair, Peer,
 };
 
 // A connection of this port, with this input.
@@ -35,11 +36,11 @@ fn door(rt: &impl Abort, alloc: Global, input: &[&str], most: u32, failing: &[u6
     MemListen::new(alloc, arrivals, most, failing)
 }
 
-// A call of the listener: an accept, or the first connection that is out goes back.
+// A call of the listener: an accept, or the first connection that is out is closed.
 #[derive(Clone, Copy)]
 enum Step {
     Accept,
-    Back,
+    Close,
 }
 
 // What it answers; a connection by its port.
@@ -48,10 +49,10 @@ enum Outcome {
     Came(u16),
     Closed,
     Failed,
-    Returned,
+    Shut,
 }
 
-// A call, its outcome, and behind it how many connections were accepted and how many went back.
+// A call, its outcome, and behind it how many connections were accepted and how many were closed.
 type Row = (Step, Outcome, u32, usize);
 
 fn accept(rt: &impl Abort, listen: &mut MemListen, out: &mut Vec<MemCall>) -> Outcome {
@@ -66,33 +67,57 @@ fn accept(rt: &impl Abort, listen: &mut MemListen, out: &mut Vec<MemCall>) -> Ou
     }
 }
 
-fn give_back(listen: &mut MemListen, out: &mut Vec<MemCall>) -> Outcome {
+fn close(closer: &mut MemCloser, out: &mut Vec<MemCall>) -> Outcome {
     if !out.is_empty() {
-        listen.back(out.remove(0));
+        <MemListen as Listen>::close(closer, out.remove(0));
     }
-    Outcome::Returned
+    Outcome::Shut
 }
 
-fn play(rt: &impl Abort, listen: &mut MemListen, out: &mut Vec<MemCall>, rows: &[Row]) {
-    for (step, outcome, accepted, back) in rows {
+// Plays rows with one closer, which is handed out.
+fn play(
+    rt: &impl Abort,
+    listen: &mut MemListen,
+    out: &mut Vec<MemCall>,
+    rows: &[Row],
+) -> MemCloser {
+    let mut closer = listen.closer();
+    for (step, outcome, accepted, closed) in rows {
         let came = match step {
             Step::Accept => accept(rt, listen, out),
-            Step::Back => give_back(listen, out),
+            Step::Close => close(&mut closer, out),
         };
-        let found = (came, listen.accepted(), listen.past().len());
+        let found = (came, listen.accepted(), closer.calls().len());
         assert_same(
             rt,
             &found,
-            &(*outcome, *accepted, *back),
+            &(*outcome, *accepted, *closed),
             "a call of a listener",
         );
     }
+    closer
 }
 
-fn played(rt: &impl Abort, alloc: Global, most: u32, failing: &[u64], rows: &[Row]) {
+fn played(rt: &impl Abort, alloc: Global, most: u32, failing: &[u64], rows: &[Row]) -> MemListen {
     let mut listen = door(rt, alloc, &[], most, failing);
     let mut out = Vec::new(alloc);
-    play(rt, &mut listen, &mut out, rows);
+    let closer = play(rt, &mut listen, &mut out, rows);
+    listen.take_in(closer);
+    listen
+}
+
+// The ports of the connections that each closer has closed, in its order, behind each a 0.
+fn closed(rt: &impl Abort, alloc: Global, listen: &MemListen) -> Vec<u16> {
+    let mut ports = Vec::new(alloc);
+    for closer in listen.closers() {
+        for call in closer.calls() {
+            ports
+                .push(call.origin.peer().port)
+                .expect(rt, "memory for a port");
+        }
+        ports.push(0).expect(rt, "memory for a port");
+    }
+    ports
 }
 
 #[test]
@@ -101,11 +126,14 @@ fn accepts_up_to_its_number(rt: HostRuntime) {
         (Step::Accept, Outcome::Came(1), 1, 0),
         (Step::Accept, Outcome::Came(2), 2, 0),
         (Step::Accept, Outcome::Closed, 2, 0),
-        (Step::Back, Outcome::Returned, 2, 1),
+        (Step::Close, Outcome::Shut, 2, 1),
         (Step::Accept, Outcome::Closed, 2, 1),
-        (Step::Back, Outcome::Returned, 2, 2),
+        (Step::Close, Outcome::Shut, 2, 2),
     ];
-    played(&rt, rt.alloc(), 2, &[], &rows);
+    let listen = played(&rt, rt.alloc(), 2, &[], &rows);
+    let ports = closed(&rt, rt.alloc(), &listen);
+    let wanted = vec![in rt.alloc(); 1, 2, 0].expect(&rt, "memory for ports");
+    assert_same(&rt, &ports, &wanted, "the connections of a closer");
     let fewer = [
         (Step::Accept, Outcome::Came(1), 1, 0),
         (Step::Accept, Outcome::Closed, 1, 0),
@@ -122,7 +150,24 @@ fn accepts_that_fail(rt: HostRuntime) {
         (Step::Accept, Outcome::Failed, 1, 0),
         (Step::Accept, Outcome::Came(2), 2, 0),
         (Step::Accept, Outcome::Failed, 2, 0),
-        (Step::Back, Outcome::Returned, 2, 1),
+        (Step::Close, Outcome::Shut, 2, 1),
     ];
     played(&rt, rt.alloc(), 3, &[0, 2], &rows);
+}
+
+#[test]
+fn two_closers(rt: HostRuntime) {
+    let mut listen = door(&rt, rt.alloc(), &[], 2, &[]);
+    let mut out = Vec::new(rt.alloc());
+    let (mut first, mut second) = (listen.closer(), listen.closer());
+    for _ in 0..2 {
+        accept(&rt, &mut listen, &mut out);
+    }
+    close(&mut second, &mut out);
+    close(&mut first, &mut out);
+    listen.take_in(second);
+    listen.take_in(first);
+    let ports = closed(&rt, rt.alloc(), &listen);
+    let wanted = vec![in rt.alloc(); 1, 0, 2, 0].expect(&rt, "memory for ports");
+    assert_same(&rt, &ports, &wanted, "the connections of two closers");
 }

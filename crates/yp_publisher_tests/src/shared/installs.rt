@@ -1,6 +1,6 @@
 //! Installs and tellings under one lock, in one thread.
 
-ghost use Rattle.std.specs.Prelude.{◌≡◌, ◌+◌, ◌<◌, ◌≤◌, length, Option};
+ghost use Rattle.std.specs.Prelude.{◌≡◌, ℕ, ◌+◌, ◌<◌, ◌≤◌, length, Option};
 ghost use Rattle.yp_io.specs.MemDisk.{Platter};
 ghost use Rattle.yp_version.specs.Versions.{MapVersion};
 ghost use Rattle.yp_publish.specs.Rising.{moment_of};
@@ -142,7 +142,7 @@ fn play_all<'r, J: Naming, S: Site + Accounts, R: Wait + RandomSource + Abort>(
 )
     requires site { maps.catalogue ≡ S.catalogue }
     requires some { 0 < length S.catalogue.maps }
-    requires any { (last : Option MapVersion) → (version : MapVersion) → S.built last version }
+    requires any { (number : ℕ) → (last : Option MapVersion) → (version : MapVersion) → S.built number last version }
     requires first { moment_of (λ (w : Written). w.log) maps ≡ S.first }
     requires disks { faults_over (λ (p : Platter). p.faults) (disks_of maps.maps) ≡ S.disk_faults }
     requires names { (failures.name ≡ S.failures) × (made.name ≡ S.made) × (versions.name ≡ S.versions) }
@@ -194,7 +194,7 @@ fn play<'r, J: Naming, S: Site + Accounts, R: Wait + RandomSource + Abort>(
     rows: &[Row],
 )
     requires maps { 0 < length S.catalogue.maps }
-    requires any { (last : Option MapVersion) → (version : MapVersion) → S.built last version }
+    requires any { (number : ℕ) → (last : Option MapVersion) → (version : MapVersion) → S.built number last version }
 {
     for (origin, order, outcome, after) in rows {
         fetch(*origin, charge, fetches);
@@ -224,7 +224,7 @@ fn offered<'r, J: Naming, S: Site + Accounts, R: Wait + RandomSource + Abort>(
     order: u32,
 ) -> (Outcome, Option<u32>)
     requires maps { 0 < length S.catalogue.maps }
-    requires any { (last : Option MapVersion) → (version : MapVersion) → S.built last version }
+    requires any { (number : ℕ) → (last : Option MapVersion) → (version : MapVersion) → S.built number last version }
     requires fetched { fetched_in origin ≤ charge.old.versions }
 {
     let version = version(rt, alloc, order);
@@ -283,7 +283,7 @@ fn tell_second<'r, J: Naming, S: Site + Accounts, R: Wait + RandomSource + Abort
 ) -> (Option<u32>, Option<u32>)
     requires site { maps.catalogue ≡ S.catalogue }
     requires some { 0 < length S.catalogue.maps }
-    requires any { (last : Option MapVersion) → (version : MapVersion) → S.built last version }
+    requires any { (number : ℕ) → (last : Option MapVersion) → (version : MapVersion) → S.built number last version }
     requires first { moment_of (λ (w : Written). w.log) maps ≡ S.first }
     requires disks { faults_over (λ (p : Platter). p.faults) (disks_of maps.maps) ≡ S.disk_faults }
     requires names { (failures.name ≡ S.failures) × (made.name ≡ S.made) × (versions.name ≡ S.versions) }
@@ -304,7 +304,7 @@ fn told_under<'r, J: Naming, S: Site + Accounts, R: Wait + RandomSource + Abort>
     charge: &mut Debits<S>,
 ) -> (Option<u32>, Option<u32>)
     requires maps { 0 < length S.catalogue.maps }
-    requires any { (last : Option MapVersion) → (version : MapVersion) → S.built last version }
+    requires any { (number : ℕ) → (last : Option MapVersion) → (version : MapVersion) → S.built number last version }
 {
     offered(rt, alloc, shared, first, charge, Origin::Built, 100);
     let before = held(second);

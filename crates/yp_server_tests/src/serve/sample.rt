@@ -7,7 +7,6 @@ ghost use Rattle.std.specs.Arc.{arc_value};
 ghost use Rattle.yp_io.specs.MemListen.{IsNew, calls_of};
 ghost use Rattle.yp_publish.specs.Standing.{versions};
 ghost use Rattle.yp_serve.specs.Serving.{IsAtStart};
-ghost use Rattle.yp_worker.specs.Receptions.{IsFair};
 
 use crate::given::bytes;
 use std::alloc::Global;
@@ -136,9 +135,7 @@ fn call(rt: &impl Abort, alloc: Global, port: u16, input: &[&str]) -> MemCall
 
 /// A listener to which connections with these inputs call in turn, the first from port 1, the next from port 2, and so
 /// on. It is to accept all of them. These calls of it fail.
-pub fn listener(rt: &impl Abort, alloc: Global, inputs: &[&[&str]], failing: &[u64]) -> MemListen
-    ensures { IsFair (calls_of result) }
-{
+pub fn listener(rt: &impl Abort, alloc: Global, inputs: &[&[&str]], failing: &[u64]) -> MemListen {
     let mut arrivals = Vec::new(alloc);
     let mut port: u16 = 0;
     for input in inputs {

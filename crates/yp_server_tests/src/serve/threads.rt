@@ -12,7 +12,7 @@ use std::process::Abort;
 use std::random::RandomSource;
 use std::sync::Wait;
 use std::thread::Threads;
-use yp_io::{MemInbox, MemListen};
+use yp_io::{MemCloser, MemInbox, MemListen};
 use yp_readers::{Naming, Opened};
 use yp_serve::{ServeSpec, serve};
 use yp_worker::Tally;
@@ -60,9 +60,9 @@ type Came = (Option<(Tally, Totals, Vec<u8>, Mailed)>, u64);
 // said to have failed.
 type Mailed = (u64, Vec<u8>, bool);
 
-// Adds what the connection from this port had taken, where it went back.
-fn add_taken(rt: &impl Abort, listen: &MemListen, port: u16, all: &mut Vec<u8>) {
-    for call in listen.past() {
+// Adds what the connection from this port had taken, where this closer has closed it.
+fn add_closed(rt: &impl Abort, closer: &MemCloser, port: u16, all: &mut Vec<u8>) {
+    for call in closer.calls() {
         if call.origin.peer().port == port {
             all.extend_from_slice(call.wire.sink.taken())
                 .expect(rt, "memory for bytes");
@@ -70,7 +70,14 @@ fn add_taken(rt: &impl Abort, listen: &MemListen, port: u16, all: &mut Vec<u8>) 
     }
 }
 
-// What the connections that went back had taken, in the order in which they came.
+// Adds what the connection from this port had taken, where it was closed.
+fn add_taken(rt: &impl Abort, listen: &MemListen, port: u16, all: &mut Vec<u8>) {
+    for closer in listen.closers() {
+        add_closed(rt, closer, port, all);
+    }
+}
+
+// What the connections that were closed had taken, in the order in which they came.
 fn taken(rt: &impl Abort, alloc: Global, listen: &MemListen) -> Vec<u8> {
     let mut all = Vec::new(alloc);
     for port in 1..10 {

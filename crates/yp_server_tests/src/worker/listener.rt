@@ -1,7 +1,6 @@
 //! A listener in memory.
 
-ghost use Rattle.yp_io.specs.MemListen.{IsNew, calls_of};
-ghost use Rattle.yp_worker.specs.Receptions.{IsFair};
+ghost use Rattle.yp_io.specs.MemListen.{IsNew};
 
 use crate::given::bytes;
 use std::alloc::Global;
@@ -27,9 +26,13 @@ fn call(rt: &impl Abort, alloc: Global, port: u16, input: &[&str]) -> MemCall
 
 /// A listener to which the ports 1 and 2 call with this input, and which is to accept so many connections. These calls
 /// of it fail.
-pub fn door(rt: &impl Abort, alloc: Global, input: &[&str], most: u32, failing: &[u64]) -> MemListen
-    ensures { IsFair (calls_of result) }
-{
+pub fn door(
+    rt: &impl Abort,
+    alloc: Global,
+    input: &[&str],
+    most: u32,
+    failing: &[u64],
+) -> MemListen {
     let (first, second) = (call(rt, alloc, 1, input), call(rt, alloc, 2, input));
     let arrivals = vec![in alloc; first, second].expect(rt, "memory for connections");
     let failing = failing.to_vec(alloc).expect(rt, "memory for numbers");

@@ -4,7 +4,7 @@ ghost use Rattle.std.specs.Prelude.{◌≡◌, ◌<◌, []};
 ghost use Rattle.yp_board.specs.Views.{IsFront};
 ghost use Rattle.yp_io.specs.MemListen.{Door, calls_of};
 ghost use Rattle.yp_session.specs.Hosts.{conduct_of};
-ghost use Rattle.yp_worker.specs.Receptions.{IsFair, opening_of, terms_of};
+ghost use Rattle.yp_worker.specs.Receptions.{opening_of, terms_of};
 ghost use Rattle.yp_worker.specs.Summing.{SumsUp, counting_of};
 
 use crate::given::{assert_same, bytes};
@@ -52,7 +52,6 @@ where
     requires ended { (ended.name ≡ E.name) × (ended.parts ≡ E.parts) × (0 < ended.parts) }
     requires opening { opening_of calls_of (λ (l : Door). l.most) (λ (l : Door). l.accepted)
         (λ (l : Door). l.returned) (λ (l : Door). l.faults) listen ≡ J.opening }
-    requires fair { IsFair J.opening.past }
     requires catalogue { (B.Reader.seen reader).catalogue ≡ J.catalogue }
     requires knows { IsFront J.starts (B.Reader.seen reader).known }
     requires most { 9 ≡ J.most }
@@ -97,7 +96,6 @@ where
     requires ended { (ended.name ≡ E.name) × (ended.parts ≡ E.parts) × (ended.parts ≡ 2) }
     requires opening { opening_of calls_of (λ (l : Door). l.most) (λ (l : Door). l.accepted)
         (λ (l : Door). l.returned) (λ (l : Door). l.faults) listen ≡ J.opening }
-    requires fair { IsFair J.opening.past }
     requires first { (B.Reader.seen readers.0).catalogue ≡ J.catalogue }
     requires second { (B.Reader.seen readers.1).catalogue ≡ J.catalogue }
     requires starts { J.starts ≡ [] }
@@ -162,22 +160,26 @@ fn cover<J: Reception, H: HandsOver, L: Listen, B: Tell>(
 )
     requires reached { H.reached sum.now ≡ B.kept front.now }
     requires summed { SumsUp (conduct_of H.seen H.told H.counts H.stepped H.made H.carried)
-        (counting_of H.counted H.none H.plus) (terms_of J.catalogue J.starts J.most) J.opening.past
-        (L.past listen.now) tally.now.calls (H.summed sum.now) (H.reached sum.now) }
+        (counting_of H.counted H.none H.plus) (terms_of J.catalogue J.starts J.most) J.opening
+        (opening_of L.past L.most L.accepted L.returned L.faults listen.now) tally.now.calls
+        (H.summed sum.now) (H.reached sum.now) }
     ensures { SumsUp (conduct_of H.seen H.told H.counts H.stepped H.made H.carried)
-        (counting_of H.counted H.none H.plus) (terms_of J.catalogue J.starts J.most) J.opening.past
-        (L.past listen.now) tally.now.calls (H.summed sum.now) (B.log writer.new) }
+        (counting_of H.counted H.none H.plus) (terms_of J.catalogue J.starts J.most) J.opening
+        (opening_of L.past L.most L.accepted L.returned L.faults listen.now) tally.now.calls
+        (H.summed sum.now) (B.log writer.new) }
 {
     writer.covers(front);
     laws::sums_reach_further::<H>();
 }
 
-// What the connections that went back had taken, one after the other.
+// What the connections that were closed had taken, one after the other.
 fn taken(rt: &impl Abort, alloc: Global, listen: &MemListen) -> Vec<u8> {
     let mut all = Vec::new(alloc);
-    for call in listen.past() {
-        all.extend_from_slice(call.wire.sink.taken())
-            .expect(rt, "memory for bytes");
+    for closer in listen.closers() {
+        for call in closer.calls() {
+            all.extend_from_slice(call.wire.sink.taken())
+                .expect(rt, "memory for bytes");
+        }
     }
     all
 }
@@ -250,7 +252,6 @@ fn one<N: Naming, R: Wait + RandomSource + Abort>(
     listen: MemListen,
 ) -> Came
     requires board { opened ≡ N.book }
-    requires fair { IsFair (calls_of listen) }
 {
     let (mut writer, reader, _) = two_readers::<N, R>(rt, alloc, opened);
     let (out, ended) = (Blank::new(1), Blank::new(1));
@@ -276,7 +277,6 @@ fn two<N: Naming + Send + Sync, R: Threads + Wait + Sync + RandomSource + Abort>
     listen: MemListen,
 ) -> Shared
     requires board { opened ≡ N.book }
-    requires fair { IsFair (calls_of listen) }
 {
     let (mut writer, first, second) = two_readers::<N, R>(rt, alloc, opened);
     let (out, ended) = (Blank::new(2), Blank::new(2));

@@ -103,10 +103,13 @@ fn done_by<
         return (None, None);
     }
     let stat = match act {
-        Act::Make => Some(host.make(Job {
-            map: 0,
-            kind: Kind::HostsByname,
-        })),
+        Act::Make => {
+            let kind = Kind::HostsByname;
+            match host.catalog().find(b"lab", kind.name()) {
+                Some(map) => Some(host.make(Job { map, kind })),
+                None => return (None, None),
+            }
+        }
         Act::Transfer => {
             let errand = Errand {
                 map: 0,
@@ -185,7 +188,7 @@ fn meet<
     charges: Charges<S>,
     script: Script<'_>,
 ) -> (Vec<Came>, Account<S, Writer<J, &'r R>>)
-    requires builds { Builds S.text S.catalogue.own S.built }
+    requires builds { Builds S.text S.catalogue S.built }
     requires first { readers.0.catalogue ≡ S.catalogue }
     requires second { readers.1.catalogue ≡ S.catalogue }
     requires charges { charges.parts ≡ 4 }
@@ -272,7 +275,7 @@ fn under_locks<
     requires site { publisher.catalogue ≡ S.catalogue }
     requires stood { moment_of (λ (w : Written). w.log) publisher ≡ S.first }
     requires disks { faults_over (λ (p : Platter). p.faults) (disks_of publisher.maps) ≡ S.disk_faults }
-    requires builds { Builds S.text S.catalogue.own S.built }
+    requires builds { Builds S.text S.catalogue S.built }
     requires first { readers.0.catalogue ≡ S.catalogue }
     requires second { readers.1.catalogue ≡ S.catalogue }
     requires supplied { IsSupplied T.Texts S.text S.hosts desk }

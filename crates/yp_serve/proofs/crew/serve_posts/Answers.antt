@@ -2,7 +2,7 @@ use Rattle.std.proofs.Common.{length, ap, sym, subst, arith}
 use Rattle.std.proofs.lemmas.List.{with_items_is}
 use Rattle.yp_session.specs.Hosts.{conduct_of}
 use Rattle.yp_rpc.specs.Turns.{box_of}
-use Rattle.yp_worker.specs.Receptions.{Passed, terms_of}
+use Rattle.yp_worker.specs.Receptions.{Passed, opening_of, terms_of}
 use Rattle.yp_worker.specs.Summing.{counting_of}
 use Rattle.yp_serve.specs.Posts.{IsManned, Mails}
 use Rattle.yp_serve.specs.Serving.{at_work, gone_home}
@@ -51,7 +51,9 @@ returns-clause-counted g c = λ mailman manned begins log reaches.
       connections = g.H.HandsOver.summed closed;
       datagrams = g.H.CatchUp.counted c.gather-mailman.result.server.host;
       of_connections = c.sums_reach_further.ensures (terms_of g.J.Site.catalogue g.J.Reception.starts g.J.Reception.most)
-          g.J.Reception.opening.past (g.L.Listen.past c.close-listen.result.0) c.close-listen.result.1.calls (g.H.HandsOver.summed closed)
+          g.J.Reception.opening
+          (opening_of g.L.Listen.past g.L.Listen.most g.L.Listen.accepted g.L.Listen.returned g.L.Listen.faults c.close-listen.result.0)
+          c.close-listen.result.1.calls (g.H.HandsOver.summed closed)
           (g.H.HandsOver.reached closed) log c.close-listen.ensures.summed
           (front_then (g.H.HandsOver.reached closed) reached log c.hand_over-mailed.ensures.kept reaches);
       of_datagrams = mailed conduct

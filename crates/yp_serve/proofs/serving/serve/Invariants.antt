@@ -36,7 +36,7 @@ ghosts-under_locks-E-Ledger g a = record { name = a.ended.name; parts = a.ended.
 
 abbrev pub ghosts-under_locks-J-Accounts : goal.ghosts-under_locks-J-Accounts
 ghosts-under_locks-J-Accounts g a = record {
-  built = IsBuilt (g.T.Texts.text a.lent.desk.texts) a.lent.publisher.catalogue.own;
+  built = IsBuilt (g.T.Texts.text a.lent.desk.texts) a.lent.publisher.catalogue;
   first = moment_of g.B.Show.log a.lent.publisher;
   disk_faults = faults_over g.D.Disk.faults (disks_of a.lent.publisher.maps);
   failures = a.blanks.failures.name;

@@ -2,8 +2,7 @@ use Rattle.std.proofs.Common.{Bool, true, false, List, [], ◌∷◌, ◌++◌, 
 use Rattle.std.specs.Prelude.{if◌then◌else◌, is_ok}
 use Rattle.std.specs.List.{All}
 use Rattle.std.proofs.lemmas.List.Elements.{All-push}
-use Rattle.yp_io.specs.MemListen.{IsNew}
-use Rattle.yp_io.specs.Trails.{MemConnection}
+use Rattle.yp_io.specs.MemListen.{MemConnection, IsNew}
 use Rattle.yp_stage.proofs.outside.listener_of.Goals as goal
 
 -- one more connection that has met no fault and taken nothing, where there is memory for it

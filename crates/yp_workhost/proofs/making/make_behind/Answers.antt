@@ -19,9 +19,9 @@ install_shared-requires-clause-built g c =
     let own = c.own-own.ensures.own ∙ ap (λ (k : Catalogue). k.own) (c.catalog.ensures ∙ c.requires.catalogue) in
     let below = c.order-order.ensures.version.order in
     let most : c.in-Ok.version.order ≤ order_max = omega (arith, below) in
-    built_there c.built_is_built_behind.ensures g.S.Supplies.text g.S.Site.catalogue.own c.args.job.kind
+    built_there c.built_is_built_behind.ensures g.S.Supplies.text g.S.Site.catalogue c.args.job
     (shown c.args.job.map (g.B.Reader.View.seen c.args.reader.now).known) c.in-Ok.version
-    (rw (own, c.held.ensures) at c.in-Ok.ensures.anew) most g.S.Accounts.built c.requires.builds
+    (rw (own, c.held.ensures) at c.in-Ok.ensures.anew) most c.requires.kind g.S.Accounts.built c.requires.builds
 
 pub returns-in-Ok-install_shared-clause-made : goal.returns-in-Ok-install_shared-clause-made
 returns-in-Ok-install_shared-clause-made g c =

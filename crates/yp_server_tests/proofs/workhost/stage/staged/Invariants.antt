@@ -13,7 +13,7 @@ ghosts-under_locks-S-Site g a = record { catalogue = a.publisher.catalogue }
 
 abbrev pub ghosts-under_locks-S-Accounts : goal.ghosts-under_locks-S-Accounts
 ghosts-under_locks-S-Accounts g a = record {
-  built = IsBuilt (g.T.Texts.text a.desk.texts) a.publisher.catalogue.own;
+  built = IsBuilt (g.T.Texts.text a.desk.texts) a.publisher.catalogue;
   first = moment_of (λ (w : Written). w.log) a.publisher;
   disk_faults = faults_over (λ (p : Platter). p.faults) (disks_of a.publisher.maps);
   failures = a.blanks.failures.name;

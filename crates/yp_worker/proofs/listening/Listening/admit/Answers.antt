@@ -1,4 +1,4 @@
-use Rattle.std.proofs.Common.{rules, inl, inr, true, refl, ap}
+use Rattle.std.proofs.Common.{rules, inl, inr, true, refl, ap, arith}
 use Rattle.yp_session.specs.Hosts.{conduct_of}
 use Rattle.yp_io.specs.Calls.{Accepting}
 use Rattle.yp_worker.specs.Receptions.{opening_of, terms_of}
@@ -14,13 +14,12 @@ invariant_of-self-in-Ok-Came g c =
     let terms = terms_of g.J.Site.catalogue g.J.Reception.starts g.J.Reception.most in
     let seen = opening_of g.L.Listen.past g.L.Listen.most g.L.Listen.accepted g.L.Listen.returned g.L.Listen.faults in
     let comes = came_one _ _ _ c.in-Ok-Came.field-0-is c.in-Ok-Came.ensures.came in (
-      c.self.invariant.0,
-      rw (c.add-in-Ok-Came.ensures.total, c.saturating_add-self-inside.ensures) (kept_came
-          g.J.Reception.opening (seen c.self.inside.listen) (seen c.accept.new.self) _ _ _ _ c.self.invariant.1 _ c.if-self.false
+      rw (c.audit.ensures.total, c.add-in-Ok-Came.ensures.total, c.saturating_add-self-inside.ensures) (kept_came
+          g.J.Reception.opening (seen c.self.inside.listen) (seen c.accept.new.self) _ _ _ _ c.self.invariant.0 _ c.if-self.false
           comes c.in-Ok-Came.ensures.returned c.in-Ok-Came.ensures.cause.never_falls),
-      sums_came conduct counting terms _ g.J.Reception.opening.past (g.L.Listen.past c.self.inside.listen)
-          (g.L.Listen.past c.accept.new.self) _ _ (g.H.HandsOver.summed c.self.inside.sum)
-          (g.H.HandsOver.reached c.self.inside.sum) c.self.invariant.1.tells c.self.invariant.2 comes.gained,
+      sums_came conduct counting terms _ g.J.Reception.opening (seen c.self.inside.listen) (seen c.accept.new.self) _ _
+          (g.H.HandsOver.summed c.self.inside.sum) (g.H.HandsOver.reached c.self.inside.sum) c.self.invariant.0.tells
+          c.self.invariant.1 comes.gained c.in-Ok-Came.ensures.returned,
     )
 
 pub invariant_of-self-in-Err : goal.invariant_of-self-in-Err
@@ -29,15 +28,13 @@ invariant_of-self-in-Err g c =
     let counting = counting_of g.H.CatchUp.counted g.H.HandsOver.none g.H.HandsOver.plus in
     let terms = terms_of g.J.Site.catalogue g.J.Reception.starts g.J.Reception.most in
     let seen = opening_of g.L.Listen.past g.L.Listen.most g.L.Listen.accepted g.L.Listen.returned g.L.Listen.faults in (
-      c.self.invariant.0,
       kept_none_more g.J.Reception.opening (seen c.self.inside.listen)
-          (seen c.accept.new.self) _ _ _ _ c.self.invariant.1 true _ c.in-Err.ensures.none c.in-Err.ensures.returned
+          (seen c.accept.new.self) _ _ _ _ c.self.invariant.0 true _ c.in-Err.ensures.none c.in-Err.ensures.returned
           c.in-Err.ensures.cause.never_falls
           (λ was. inr c.in-Err.ensures.cause.risen) (λ some. inl refl),
-      sums_same conduct counting terms g.J.Reception.opening.past (g.L.Listen.past c.self.inside.listen)
-          (g.L.Listen.past c.accept.new.self) _ (g.H.HandsOver.summed c.self.inside.sum)
-          (g.H.HandsOver.reached c.self.inside.sum)
-          (ap (λ (a : Accepting). a.past) c.in-Err.ensures.none) c.self.invariant.2,
+      sums_same conduct counting terms g.J.Reception.opening (seen c.self.inside.listen) (seen c.accept.new.self) _
+          (g.H.HandsOver.summed c.self.inside.sum) (g.H.HandsOver.reached c.self.inside.sum)
+          (ap (λ (a : Accepting). a.past) c.in-Err.ensures.none) c.in-Err.ensures.returned c.self.invariant.1,
     )
 
 pub returns-in-Ok-Came : goal.returns-in-Ok-Came
@@ -46,7 +43,17 @@ returns-in-Ok-Came g c =
       record {
         fresh = came_one _ _ _ c.in-Ok-Came.field-0-is c.in-Ok-Came.ensures.fresh;
         expected = came_expected _ g.J.Reception.opening.past (g.L.Listen.past c.self.inside.listen)
-            (g.L.Listen.past c.accept.new.self) _ c.self.invariant.1.tells comes.gained;
+            (g.L.Listen.past c.accept.new.self) _ c.self.invariant.0.tells comes.gained;
       },
       search rules,
+      omega (
+        arith,
+        c.audit.ensures.bound,
+        c.audit.ensures.amount,
+        c.add-in-Ok-Came.ensures.total,
+        c.self.invariant.0.accepts.all,
+        c.self.invariant.0.accepts.accepted,
+        comes.accepted,
+        c.in-Ok-Came.ensures.number,
+      ),
     )

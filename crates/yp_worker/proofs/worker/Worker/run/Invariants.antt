@@ -1,18 +1,21 @@
-use Rattle.std.specs.Prelude.{◌≡◌}
+use Rattle.std.specs.Prelude.{◌≡◌, ◌+◌}
 use Rattle.yp_board.specs.Views.{IsFront}
 use Rattle.yp_session.specs.Hosts.{conduct_of}
 use Rattle.yp_worker.specs.Receptions.{IsUnder, terms_of}
+use Rattle.yp_worker.specs.Summing.{HasEnded, counting_of}
 use Rattle.yp_worker.proofs.worker.Worker.run.Given as goal
 
 abbrev pub invariant-loop : goal.invariant-loop
 invariant-loop g l =
     let conduct = conduct_of g.H.View.seen g.H.Host.told g.H.Host.counts g.H.View.stepped g.H.Host.made g.H.Host.carried in
+    let counting = counting_of g.H.CatchUp.counted g.H.HandsOver.none g.H.HandsOver.plus in
     let terms = terms_of g.J.Site.catalogue g.J.Reception.starts g.J.Reception.most in
     record {
       next : (goal.iterator-loop g).can_next l.iterator';
       finite : (goal.iterator-loop g).is_finite l.iterator';
       under : IsUnder conduct terms l.self;
-      none : g.H.CatchUp.counted l.self.host ≡ g.H.HandsOver.none;
       grown : IsFront (g.H.View.seen l.initial.self.host).known (g.H.View.seen l.self.host).known;
-      pass : l.pass ≡ l.initial.pass;
+      served : HasEnded conduct counting terms g.J.Reception.opening.past l.tally.connections l.tally.calls l.self
+          (g.L.Listen.closed l.closer) (g.L.Listen.closed_count l.closer);
+      pass : l.pass ≡ record l.initial.pass { out = l.initial.pass.out + l.tally.connections };
     }

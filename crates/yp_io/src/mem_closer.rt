@@ -1,0 +1,69 @@
+//! What closes connections in memory, and keeps them.
+
+ghost use Rattle.std.specs.Prelude.{◌≡◌, false, [], ◌∷◌, ◌++◌};
+ghost use Rattle.yp_io.specs.Counts.{next_count};
+
+use crate::mem_listen::MemCall;
+use crate::trail::Trail;
+use std::alloc::Global;
+use std::marker::Model;
+
+/// What closes connections in memory. It tells each, and keeps each for which there is memory.
+#[derive(Drop)]
+pub struct MemCloser {
+    kept: Vec<MemCall>,
+    closed: Trail<MemCall>,
+    lost: bool,
+    count: u64,
+}
+
+impl Model for MemCloser {
+    ghost use Rattle.std.specs.Prelude.{◌≡◌, false};
+    ghost use Rattle.yp_io.specs.MemListen.{Closing};
+
+    ghost Value = { Closing };
+
+    ghost view = { λ c. record { closed = c.closed; lost = c.lost; count = c.count } };
+
+    ghost invariant = { λ c. c.lost ≡ false → c.kept.items ≡ c.closed };
+}
+
+impl MemCloser {
+    /// A closer that has closed no connection yet.
+    pub(crate) fn new(alloc: Global) -> MemCloser
+        ensures { result ≡ record { closed = []; lost = false; count = 0 } }
+    {
+        MemCloser {
+            kept: Vec::new(alloc),
+            closed: Trail::new(),
+            lost: false,
+            count: 0,
+        }
+    }
+
+    /// Closes a connection.
+    pub(crate) fn close(&mut self, call: MemCall)
+        ensures closed { self.new.closed ≡ self.old.closed ++ call ∷ [] }
+        ensures count { self.new.count ≡ next_count self.old.count }
+    {
+        self.count = self.count.saturating_add(1);
+        self.closed.push(&call);
+        if self.kept.push(call).is_err() {
+            self.lost = true;
+        }
+    }
+
+    /// How many connections it has closed, up to 2^64 - 1.
+    pub(crate) fn count(&self) -> u64
+        ensures { result ≡ self.now.count }
+    {
+        self.count
+    }
+
+    /// The connections that it has closed, but for those that there was no memory to keep.
+    pub fn calls(&self) -> &[MemCall]
+        ensures { self.now.lost ≡ false → result.now ≡ self.now.closed }
+    {
+        &self.kept
+    }
+}
