@@ -3,7 +3,7 @@
 ghost use Rattle.std.specs.Prelude.{◌≤◌, length};
 ghost use Rattle.yp_answer.specs.Numbers.{record_max};
 
-use crate::given::{assert_same, bytes};
+use crate::given::assert_same;
 use crate::sample::*;
 use std::alloc::Global;
 use std::process::Abort;
@@ -16,29 +16,6 @@ use yp_msgs::XfrStat;
 const OWN_HOST: [u8; 4] = [127, 0, 0, 1];
 
 const OTHER_HOST: [u8; 4] = [10, 0, 0, 9];
-
-// MAKE with the xid 2, up to its arguments.
-const MAKE: &str =
-    "00000002 00000000 00000002 20004e49 00000001 00000001 00000000 00000000 00000000 00000000";
-
-// The head of a reply to it with results.
-const MADE: &str = "00000002 00000001 00000000 00000000 00000000 00000000";
-
-// Kinds of maps: passwd.byname, hosts.byname and hosts.byaddr, and numbers that no kind has.
-const PASSWD_KIND: &str = "00000001";
-
-const HOSTS_KIND: &str = "00000005";
-
-const BY_ADDRESS_KIND: &str = "00000006";
-
-const KIND_0: &str = "00000000";
-
-const KIND_11: &str = "0000000b";
-
-const KIND_99: &str = "00000063";
-
-// Statuses of MAKE.
-const REFUSED: &str = "fffffff2";
 
 // The answer to a call from this address, on a path.
 fn asked<'a>(
@@ -96,97 +73,104 @@ fn assert_replies(
     addr: [u8; 4],
     row: &str,
     call: &[u8],
-    texts: &[&str],
+    reply: &str,
 ) {
-    let wanted = [bytes(rt, alloc, texts), bytes(rt, alloc, texts)];
-    let came = [
+    let wanted = (words(rt, alloc, reply), words(rt, alloc, reply));
+    let came = (
         replied(rt, alloc, Path::Stream, board, addr, call),
         replied(rt, alloc, Path::Datagram, board, addr, call),
-    ];
+    );
     assert_same(rt, &came, &wanted, row);
 }
 
-// MAKE with these arguments.
-fn make_of(rt: &impl Abort, alloc: Global, arguments: &[&str]) -> Vec<u8> {
-    let mut call = bytes(rt, alloc, &[MAKE]);
-    extend(rt, &mut call, &bytes(rt, alloc, arguments));
-    call
-}
+// Who calls, what is asked for, and the reply.
+type RefusedMake = (&'static str, [u8; 4], &'static str, &'static str);
 
-// Who calls, what is asked for, and the status of the reply.
-const REFUSED_MAKES: &[(&str, [u8; 4], &[&str], &str)] = &[
-    ("another host", OTHER_HOST, &[LAB, HOSTS_KIND], REFUSED),
+static REFUSED_MAKES: [RefusedMake; 13] = [
+    (
+        "another host",
+        OTHER_HOST,
+        "MAKE LAB HOSTS_KIND",
+        "MADE XFR_REFUSED",
+    ),
     (
         "another host of the own net",
         [127, 0, 0, 2],
-        &[LAB, HOSTS_KIND],
-        REFUSED,
+        "MAKE LAB HOSTS_KIND",
+        "MADE XFR_REFUSED",
     ),
     (
         "a host of another net",
         [126, 0, 0, 1],
-        &[LAB, HOSTS_KIND],
-        REFUSED,
+        "MAKE LAB HOSTS_KIND",
+        "MADE XFR_REFUSED",
     ),
     (
         "another host, before all else",
         [0, 0, 0, 0],
-        &[EMPTY, KIND_99],
-        REFUSED,
+        "MAKE EMPTY KIND_99",
+        "MADE XFR_REFUSED",
     ),
     (
         "an empty domain",
         OWN_HOST,
-        &[EMPTY, HOSTS_KIND],
-        YP_BADARGS,
+        "MAKE EMPTY HOSTS_KIND",
+        "MADE YP_BADARGS",
     ),
     (
         "an empty domain, before an unknown kind",
         OWN_HOST,
-        &[EMPTY, KIND_99],
-        YP_BADARGS,
+        "MAKE EMPTY KIND_99",
+        "MADE YP_BADARGS",
     ),
     (
         "a domain that isn't served",
         OWN_HOST,
-        &[ZZZ, HOSTS_KIND],
-        YP_NODOM,
+        "MAKE ZZZ HOSTS_KIND",
+        "MADE YP_NODOM",
     ),
     (
         "a domain that isn't served, before an unknown kind",
         OWN_HOST,
-        &[ZZZ, KIND_99],
-        YP_NODOM,
+        "MAKE ZZZ KIND_99",
+        "MADE YP_NODOM",
     ),
-    ("the kind 99", OWN_HOST, &[LAB, KIND_99], YP_NOMAP),
-    ("the kind 0", OWN_HOST, &[LAB, KIND_0], YP_NOMAP),
-    ("the kind 11", OWN_HOST, &[LAB, KIND_11], YP_NOMAP),
+    ("the kind 99", OWN_HOST, "MAKE LAB KIND_99", "MADE YP_NOMAP"),
+    ("the kind 0", OWN_HOST, "MAKE LAB KIND_0", "MADE YP_NOMAP"),
+    ("the kind 11", OWN_HOST, "MAKE LAB KIND_11", "MADE YP_NOMAP"),
     (
         "hosts.byaddr, of which lab has no map",
         OWN_HOST,
-        &[LAB, BY_ADDRESS_KIND],
-        YP_NOMAP,
+        "MAKE LAB BY_ADDRESS_KIND",
+        "MADE YP_NOMAP",
     ),
     (
         "passwd.byname, of which zoo has no map",
         OWN_HOST,
-        &[ZOO, PASSWD_KIND],
-        YP_NOMAP,
+        "MAKE ZOO PASSWD_KIND",
+        "MADE YP_NOMAP",
     ),
 ];
+
+fn try_refused(rt: &impl Abort, alloc: Global, board: &mut PlainBoard, row: &RefusedMake) {
+    let (name, addr, call, reply) = row;
+    let call = words(rt, alloc, call);
+    assert_replies(rt, alloc, board, *addr, name, &call, reply);
+}
 
 #[test]
 fn refused_makes(rt: HostRuntime) {
     let alloc = rt.alloc();
     let mut board = two_domains(&rt, alloc);
-    for &(row, addr, arguments, stat) in REFUSED_MAKES {
-        let call = make_of(&rt, alloc, arguments);
-        assert_replies(&rt, alloc, &mut board, addr, row, &call, &[MADE, stat]);
+    for row in &REFUSED_MAKES {
+        try_refused(&rt, alloc, &mut board, row);
     }
 }
 
-// Whole calls of the make program, and the replies to them.
-const OTHER_CALLS: &[(&str, &str, &str)] = &[
+// A whole call of the make program, and the reply to it.
+type OtherCall = (&'static str, &'static str, &'static str);
+
+static OTHER_CALLS: [OtherCall; 7] = [
     (
         "NULL, whose arguments aren't read",
         "00000002 00000000 00000002 20004e49 00000001 00000000 00000000 00000000 00000000 00000000",
@@ -224,15 +208,19 @@ const OTHER_CALLS: &[(&str, &str, &str)] = &[
     ),
 ];
 
+fn try_other(rt: &impl Abort, alloc: Global, board: &mut PlainBoard, row: &OtherCall) {
+    let (name, call, reply) = row;
+    let call = words(rt, alloc, call);
+    assert_replies(rt, alloc, board, OWN_HOST, name, &call, reply);
+    assert_replies(rt, alloc, board, OTHER_HOST, name, &call, reply);
+}
+
 #[test]
 fn other_calls_of_the_make_program(rt: HostRuntime) {
     let alloc = rt.alloc();
     let mut board = two_domains(&rt, alloc);
-    for &(row, call, reply) in OTHER_CALLS {
-        let call = bytes(&rt, alloc, &[call]);
-        for addr in [OWN_HOST, OTHER_HOST] {
-            assert_replies(&rt, alloc, &mut board, addr, row, &call, &[reply]);
-        }
+    for row in &OTHER_CALLS {
+        try_other(&rt, alloc, &mut board, row);
     }
 }
 
@@ -265,39 +253,50 @@ fn open_make(
     opened_by(rt, path, board, call, &mut buf)
 }
 
-// The arguments of calls that are left open, as words, and the number of the map that each asks for.
-const OPEN: &[(&str, &[&str], u32)] = &[
-    ("in lab", &[LAB, HOSTS_KIND], 0),
+// A call that is left open, and the number of the map that it asks for.
+type Open = (&'static str, &'static str, u32);
+
+static OPEN: [Open; 3] = [
+    ("in lab", "MAKE LAB HOSTS_KIND", 0),
     (
         "with bytes behind the arguments, which aren't read",
-        &[LAB, HOSTS_KIND, "01020304"],
+        "MAKE LAB HOSTS_KIND 01020304",
         0,
     ),
-    ("in zoo", &[ZOO, HOSTS_KIND], 1),
+    ("in zoo", "MAKE ZOO HOSTS_KIND", 1),
 ];
+
+fn try_open(rt: &impl Abort, alloc: Global, board: &mut PlainBoard, row: &Open) {
+    let (name, call, map) = row;
+    let call = words(rt, alloc, call);
+    let job = Job {
+        map: *map,
+        kind: Kind::HostsByname,
+    };
+    let by_record = open_make(rt, alloc, Path::Stream, board, &call);
+    let by_datagram = open_make(rt, alloc, Path::Datagram, board, &call);
+    assert_same(rt, &(by_record, by_datagram), &((2, job), (2, job)), name);
+}
 
 #[test]
 fn open_makes(rt: HostRuntime) {
     let alloc = rt.alloc();
     let mut board = two_domains(&rt, alloc);
-    for &(row, arguments, map) in OPEN {
-        let call = make_of(&rt, alloc, arguments);
-        let kind = Kind::HostsByname;
-        let wanted = [(2, Job { map, kind }), (2, Job { map, kind })];
-        let by_record = open_make(&rt, alloc, Path::Stream, &mut board, &call);
-        let by_datagram = open_make(&rt, alloc, Path::Datagram, &mut board, &call);
-        assert_same(&rt, &[by_record, by_datagram], &wanted, row);
+    for row in &OPEN {
+        try_open(&rt, alloc, &mut board, row);
     }
 }
 
-// The statuses of a MAKE that was tried.
-const STATUSES: &[(&str, XfrStat, &str)] = &[
-    ("SUCC", XfrStat::Succ, "00000001"),
-    ("AGE", XfrStat::Age, "00000002"),
-    ("RSRC", XfrStat::Rsrc, "fffffffd"),
-    ("DBM", XfrStat::Dbm, "fffffff8"),
-    ("FILE", XfrStat::File, "fffffff7"),
-    ("REFUSED", XfrStat::Refused, "fffffff2"),
+// A status of a MAKE that was tried, and the reply.
+type Status = (&'static str, XfrStat, &'static str);
+
+static STATUSES: [Status; 6] = [
+    ("SUCC", XfrStat::Succ, "MADE 00000001"),
+    ("AGE", XfrStat::Age, "MADE 00000002"),
+    ("RSRC", XfrStat::Rsrc, "MADE fffffffd"),
+    ("DBM", XfrStat::Dbm, "MADE fffffff8"),
+    ("FILE", XfrStat::File, "MADE fffffff7"),
+    ("REFUSED", XfrStat::Refused, "MADE fffffff2"),
 ];
 
 // The reply to a MAKE of this status.
@@ -307,11 +306,15 @@ fn made(rt: &impl Abort, alloc: Global, stat: XfrStat) -> Vec<u8> {
     front(rt, alloc, &buf, len)
 }
 
+fn try_status(rt: &impl Abort, alloc: Global, row: &Status) {
+    let (name, stat, reply) = row;
+    let wanted = words(rt, alloc, reply);
+    assert_same(rt, &made(rt, alloc, *stat), &wanted, name);
+}
+
 #[test]
 fn replies_to_makes(rt: HostRuntime) {
-    let alloc = rt.alloc();
-    for &(row, stat, word) in STATUSES {
-        let wanted = bytes(&rt, alloc, &[MADE, word]);
-        assert_same(&rt, &made(&rt, alloc, stat), &wanted, row);
+    for row in &STATUSES {
+        try_status(&rt, rt.alloc(), row);
     }
 }

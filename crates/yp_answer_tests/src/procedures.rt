@@ -3,399 +3,263 @@
 ghost use Rattle.std.specs.Prelude.{◌≤◌, length};
 ghost use Rattle.yp_answer.specs.Numbers.{record_max};
 
-use crate::given::{assert_same, bytes};
+use crate::given::assert_same;
 use crate::sample::*;
 use std::alloc::Global;
 use std::process::Abort;
 use yp_answer::{Answered, RECORD_MAX, answer};
 use yp_board::PlainBoard;
 
-const NULL: &str = "00000000";
+// A call, and the reply to it. Where that is empty, there is none.
+type Case = (&'static str, &'static str, &'static str);
 
-const DOMAIN: &str = "00000001";
+static DOMAINS: [Case; 10] = [
+    ("NULL", "NULL", "SUCCESS"),
+    ("CLEAR", "CLEAR", "SUCCESS"),
+    ("DOMAIN of lab", "DOMAIN LAB", "SUCCESS SERVED"),
+    ("DOMAIN of zoo", "DOMAIN ZOO", "SUCCESS SERVED"),
+    ("DOMAIN of zzz", "DOMAIN ZZZ", "SUCCESS UNSERVED"),
+    ("DOMAIN of no name", "DOMAIN EMPTY", "SUCCESS UNSERVED"),
+    ("DOMAIN_NONACK of lab", "NONACK LAB", "SUCCESS SERVED"),
+    ("DOMAIN_NONACK of zzz", "NONACK ZZZ", ""),
+    ("DOMAIN_NONACK of no name", "NONACK EMPTY", ""),
+    ("the procedure 12", "TWELVE", "PROC_UNAVAIL"),
+];
 
-const DOMAIN_NONACK: &str = "00000002";
+static MATCHES: [Case; 7] = [
+    (
+        "MATCH of a key",
+        "MATCH LAB HOSTS ALPHA",
+        "SUCCESS YP_TRUE ADDRESS",
+    ),
+    (
+        "MATCH of an unknown key",
+        "MATCH LAB HOSTS 00000003 616c7000",
+        "SUCCESS YP_NOKEY EMPTY",
+    ),
+    (
+        "MATCH in a map without a name, of a domain that isn't served",
+        "MATCH ZZZ EMPTY ALPHA",
+        "SUCCESS YP_BADARGS EMPTY",
+    ),
+    (
+        "MATCH in a domain without a name",
+        "MATCH EMPTY HOSTS ALPHA",
+        "SUCCESS YP_BADARGS EMPTY",
+    ),
+    (
+        "MATCH in a domain that isn't served",
+        "MATCH ZZZ NO_MAP ALPHA",
+        "SUCCESS YP_NODOM EMPTY",
+    ),
+    (
+        "MATCH in an unknown map",
+        "MATCH LAB NO_MAP ALPHA",
+        "SUCCESS YP_NOMAP EMPTY",
+    ),
+    (
+        "MATCH in a map without a version",
+        "MATCH LAB BARE_MAP ALPHA",
+        "SUCCESS YP_NOMAP EMPTY",
+    ),
+];
 
-const CLEAR: &str = "00000007";
+static ROWS: [Case; 8] = [
+    ("FIRST", "FIRST LAB HOSTS", "SUCCESS YP_TRUE ADDRESS ALPHA"),
+    (
+        "FIRST with a key behind its arguments, which isn't read",
+        "FIRST LAB HOSTS ALPHA",
+        "SUCCESS YP_TRUE ADDRESS ALPHA",
+    ),
+    (
+        "FIRST of two rows",
+        "FIRST ZOO HOSTS",
+        "SUCCESS YP_TRUE 00000001 31000000 00000002 61620000",
+    ),
+    (
+        "FIRST of no rows",
+        "FIRST LAB EMPTY_MAP",
+        "SUCCESS YP_NOMORE EMPTY EMPTY",
+    ),
+    (
+        "NEXT behind the last row",
+        "NEXT LAB HOSTS ALPHA",
+        "SUCCESS YP_NOMORE EMPTY EMPTY",
+    ),
+    (
+        "NEXT behind an unknown key",
+        "NEXT LAB HOSTS 00000004 62657461",
+        "SUCCESS YP_NOKEY EMPTY EMPTY",
+    ),
+    (
+        "NEXT behind the first of two rows",
+        "NEXT ZOO HOSTS 00000002 61620000",
+        "SUCCESS YP_TRUE 00000001 32000000 00000001 62000000",
+    ),
+    (
+        "NEXT in an unknown map",
+        "NEXT LAB NO_MAP ALPHA",
+        "SUCCESS YP_NOMAP EMPTY EMPTY",
+    ),
+];
 
-// One behind the last procedure.
-const TWELVE: &str = "0000000c";
+static FACTS: [Case; 9] = [
+    ("MASTER", "MASTER LAB HOSTS", "SUCCESS YP_TRUE M1"),
+    (
+        "MASTER of a map without a version",
+        "MASTER LAB BARE_MAP",
+        "SUCCESS YP_NOMAP EMPTY",
+    ),
+    (
+        "ORDER of a map without rows",
+        "ORDER LAB EMPTY_MAP",
+        "SUCCESS YP_TRUE ORDER_100",
+    ),
+    (
+        "ORDER in a domain that isn't served",
+        "ORDER ZZZ HOSTS",
+        "SUCCESS YP_NODOM 00000000",
+    ),
+    ("ORDER without a map", "ORDER LAB", "GARBAGE_ARGS"),
+    (
+        "MAPLIST of lab",
+        "MAPLIST LAB",
+        "SUCCESS YP_TRUE MORE EMPTY_MAP MORE HOSTS END",
+    ),
+    (
+        "MAPLIST of zoo",
+        "MAPLIST ZOO",
+        "SUCCESS YP_TRUE MORE HOSTS END",
+    ),
+    (
+        "MAPLIST of a domain that isn't served",
+        "MAPLIST ZZZ",
+        "SUCCESS YP_NODOM END",
+    ),
+    (
+        "MAPLIST of no name",
+        "MAPLIST EMPTY",
+        "SUCCESS YP_BADARGS END",
+    ),
+];
 
-// Whether a domain is served.
-const SERVED: &str = "00000001";
-
-const UNSERVED: &str = "00000000";
-
-// What XFR asks for: an order, a host, and how to call back: transaction 9 of the program 0x40000000 at port 7002.
-const ORDER_0: &str = "00000000";
-
-const PEER_X: &str = "00000001 78000000";
-
-const CALL_BACK: &str = "00000009 40000000 00001b5a";
-
-// What it answers: the transaction, and a status.
-const TRANSACTION: &str = "00000009";
-
-const REFUSED: &str = "fffffff2";
-
-// A procedure, its arguments, and the reply from its status on. Where that is empty, there is none.
-#[derive(Clone, Copy)]
-struct Case {
-    row: &'static str,
-    procedure: &'static str,
-    arguments: &'static [&'static str],
-    words: &'static [&'static str],
-}
-
-const ON_BOTH_PATHS: &[Case] = &[
-    Case {
-        row: "NULL",
-        procedure: NULL,
-        arguments: &[],
-        words: &[SUCCESS],
-    },
-    Case {
-        row: "CLEAR",
-        procedure: CLEAR,
-        arguments: &[],
-        words: &[SUCCESS],
-    },
-    Case {
-        row: "DOMAIN of lab",
-        procedure: DOMAIN,
-        arguments: &[LAB],
-        words: &[SUCCESS, SERVED],
-    },
-    Case {
-        row: "DOMAIN of zoo",
-        procedure: DOMAIN,
-        arguments: &[ZOO],
-        words: &[SUCCESS, SERVED],
-    },
-    Case {
-        row: "DOMAIN of zzz",
-        procedure: DOMAIN,
-        arguments: &[ZZZ],
-        words: &[SUCCESS, UNSERVED],
-    },
-    Case {
-        row: "DOMAIN of no name",
-        procedure: DOMAIN,
-        arguments: &[EMPTY],
-        words: &[SUCCESS, UNSERVED],
-    },
-    Case {
-        row: "DOMAIN_NONACK of lab",
-        procedure: DOMAIN_NONACK,
-        arguments: &[LAB],
-        words: &[SUCCESS, SERVED],
-    },
-    Case {
-        row: "DOMAIN_NONACK of zzz",
-        procedure: DOMAIN_NONACK,
-        arguments: &[ZZZ],
-        words: &[],
-    },
-    Case {
-        row: "DOMAIN_NONACK of no name",
-        procedure: DOMAIN_NONACK,
-        arguments: &[EMPTY],
-        words: &[],
-    },
-    Case {
-        row: "MATCH of a key",
-        procedure: MATCH,
-        arguments: &[LAB, HOSTS, ALPHA],
-        words: &[SUCCESS, YP_TRUE, ADDRESS],
-    },
-    Case {
-        row: "MATCH of an unknown key",
-        procedure: MATCH,
-        arguments: &[LAB, HOSTS, "00000003 616c7000"],
-        words: &[SUCCESS, YP_NOKEY, EMPTY],
-    },
-    Case {
-        row: "MATCH in a map without a name, of a domain that isn't served",
-        procedure: MATCH,
-        arguments: &[ZZZ, EMPTY, ALPHA],
-        words: &[SUCCESS, YP_BADARGS, EMPTY],
-    },
-    Case {
-        row: "MATCH in a domain without a name",
-        procedure: MATCH,
-        arguments: &[EMPTY, HOSTS, ALPHA],
-        words: &[SUCCESS, YP_BADARGS, EMPTY],
-    },
-    Case {
-        row: "MATCH in a domain that isn't served",
-        procedure: MATCH,
-        arguments: &[ZZZ, NO_MAP, ALPHA],
-        words: &[SUCCESS, YP_NODOM, EMPTY],
-    },
-    Case {
-        row: "MATCH in an unknown map",
-        procedure: MATCH,
-        arguments: &[LAB, NO_MAP, ALPHA],
-        words: &[SUCCESS, YP_NOMAP, EMPTY],
-    },
-    Case {
-        row: "MATCH in a map without a version",
-        procedure: MATCH,
-        arguments: &[LAB, BARE_MAP, ALPHA],
-        words: &[SUCCESS, YP_NOMAP, EMPTY],
-    },
-    Case {
-        row: "FIRST",
-        procedure: FIRST,
-        arguments: &[LAB, HOSTS],
-        words: &[SUCCESS, YP_TRUE, ADDRESS, ALPHA],
-    },
-    Case {
-        row: "FIRST with a key behind its arguments, which isn't read",
-        procedure: FIRST,
-        arguments: &[LAB, HOSTS, ALPHA],
-        words: &[SUCCESS, YP_TRUE, ADDRESS, ALPHA],
-    },
-    Case {
-        row: "FIRST of two rows",
-        procedure: FIRST,
-        arguments: &[ZOO, HOSTS],
-        words: &[SUCCESS, YP_TRUE, "00000001 31000000", "00000002 61620000"],
-    },
-    Case {
-        row: "FIRST of no rows",
-        procedure: FIRST,
-        arguments: &[LAB, EMPTY_MAP],
-        words: &[SUCCESS, YP_NOMORE, EMPTY, EMPTY],
-    },
-    Case {
-        row: "NEXT behind the last row",
-        procedure: NEXT,
-        arguments: &[LAB, HOSTS, ALPHA],
-        words: &[SUCCESS, YP_NOMORE, EMPTY, EMPTY],
-    },
-    Case {
-        row: "NEXT behind an unknown key",
-        procedure: NEXT,
-        arguments: &[LAB, HOSTS, "00000004 62657461"],
-        words: &[SUCCESS, YP_NOKEY, EMPTY, EMPTY],
-    },
-    Case {
-        row: "NEXT behind the first of two rows",
-        procedure: NEXT,
-        arguments: &[ZOO, HOSTS, "00000002 61620000"],
-        words: &[SUCCESS, YP_TRUE, "00000001 32000000", "00000001 62000000"],
-    },
-    Case {
-        row: "NEXT in an unknown map",
-        procedure: NEXT,
-        arguments: &[LAB, NO_MAP, ALPHA],
-        words: &[SUCCESS, YP_NOMAP, EMPTY, EMPTY],
-    },
-    Case {
-        row: "MASTER",
-        procedure: MASTER,
-        arguments: &[LAB, HOSTS],
-        words: &[SUCCESS, YP_TRUE, "00000002 6d310000"],
-    },
-    Case {
-        row: "MASTER of a map without a version",
-        procedure: MASTER,
-        arguments: &[LAB, BARE_MAP],
-        words: &[SUCCESS, YP_NOMAP, EMPTY],
-    },
-    Case {
-        row: "ORDER of a map without rows",
-        procedure: ORDER,
-        arguments: &[LAB, EMPTY_MAP],
-        words: &[SUCCESS, YP_TRUE, "00000064"],
-    },
-    Case {
-        row: "ORDER in a domain that isn't served",
-        procedure: ORDER,
-        arguments: &[ZZZ, HOSTS],
-        words: &[SUCCESS, YP_NODOM, "00000000"],
-    },
-    Case {
-        row: "ORDER without a map",
-        procedure: ORDER,
-        arguments: &[LAB],
-        words: &[GARBAGE_ARGS],
-    },
-    Case {
-        row: "MAPLIST of lab",
-        procedure: MAPLIST,
-        arguments: &[LAB],
-        words: &[SUCCESS, YP_TRUE, MORE, EMPTY_MAP, MORE, HOSTS, END],
-    },
-    Case {
-        row: "MAPLIST of zoo",
-        procedure: MAPLIST,
-        arguments: &[ZOO],
-        words: &[SUCCESS, YP_TRUE, MORE, HOSTS, END],
-    },
-    Case {
-        row: "MAPLIST of a domain that isn't served",
-        procedure: MAPLIST,
-        arguments: &[ZZZ],
-        words: &[SUCCESS, YP_NODOM, END],
-    },
-    Case {
-        row: "MAPLIST of no name",
-        procedure: MAPLIST,
-        arguments: &[EMPTY],
-        words: &[SUCCESS, YP_BADARGS, END],
-    },
+static TRANSFERS: [Case; 7] = [
     // The board's own name is the master of each version.
-    Case {
-        row: "XFR of a map of the server's own",
-        procedure: XFR,
-        arguments: &[LAB, HOSTS, ORDER_0, PEER_X, CALL_BACK],
-        words: &[SUCCESS, TRANSACTION, REFUSED],
-    },
-    Case {
-        row: "XFR of a map without a version",
-        procedure: XFR,
-        arguments: &[LAB, BARE_MAP, ORDER_0, PEER_X, CALL_BACK],
-        words: &[SUCCESS, TRANSACTION, "00000001"],
-    },
-    Case {
-        row: "XFR of an unknown map",
-        procedure: XFR,
-        arguments: &[LAB, NO_MAP, ORDER_0, PEER_X, CALL_BACK],
-        words: &[SUCCESS, TRANSACTION, YP_NOMAP],
-    },
-    Case {
-        row: "XFR in a domain that isn't served",
-        procedure: XFR,
-        arguments: &[ZZZ, NO_MAP, ORDER_0, PEER_X, CALL_BACK],
-        words: &[SUCCESS, TRANSACTION, YP_NODOM],
-    },
-    Case {
-        row: "XFR from no host",
-        procedure: XFR,
-        arguments: &[ZZZ, HOSTS, ORDER_0, EMPTY, CALL_BACK],
-        words: &[SUCCESS, TRANSACTION, YP_BADARGS],
-    },
-    Case {
-        row: "XFR of a map of no name",
-        procedure: XFR,
-        arguments: &[LAB, EMPTY, ORDER_0, PEER_X, CALL_BACK],
-        words: &[SUCCESS, TRANSACTION, YP_BADARGS],
-    },
-    Case {
-        row: "XFR without a port",
-        procedure: XFR,
-        arguments: &[LAB, HOSTS, ORDER_0, PEER_X, "00000009 40000000"],
-        words: &[GARBAGE_ARGS],
-    },
-    Case {
-        row: "the procedure 12",
-        procedure: TWELVE,
-        arguments: &[],
-        words: &[PROC_UNAVAIL],
-    },
+    (
+        "XFR of a map of the server's own",
+        "XFR LAB HOSTS ORDER_0 PEER_X CALL_BACK",
+        "SUCCESS TRANSACTION XFR_REFUSED",
+    ),
+    (
+        "XFR of a map without a version",
+        "XFR LAB BARE_MAP ORDER_0 PEER_X CALL_BACK",
+        "SUCCESS TRANSACTION XFR_SUCC",
+    ),
+    (
+        "XFR of an unknown map",
+        "XFR LAB NO_MAP ORDER_0 PEER_X CALL_BACK",
+        "SUCCESS TRANSACTION YP_NOMAP",
+    ),
+    (
+        "XFR in a domain that isn't served",
+        "XFR ZZZ NO_MAP ORDER_0 PEER_X CALL_BACK",
+        "SUCCESS TRANSACTION YP_NODOM",
+    ),
+    (
+        "XFR from no host",
+        "XFR ZZZ HOSTS ORDER_0 EMPTY CALL_BACK",
+        "SUCCESS TRANSACTION YP_BADARGS",
+    ),
+    (
+        "XFR of a map of no name",
+        "XFR LAB EMPTY ORDER_0 PEER_X CALL_BACK",
+        "SUCCESS TRANSACTION YP_BADARGS",
+    ),
+    (
+        "XFR without a port",
+        "XFR LAB HOSTS ORDER_0 PEER_X 00000009 40000000",
+        "GARBAGE_ARGS",
+    ),
 ];
 
 // Compares what a call is answered as a record, and as a datagram.
-fn assert_case(
+fn try_case(
     rt: &impl Abort,
     alloc: Global,
     board: &mut PlainBoard,
     case: &Case,
-    by_datagram: &[&str],
+    by_datagram: &str,
 ) {
-    let call = call(rt, alloc, case.procedure, case.arguments);
-    let wanted = [reply(rt, alloc, case.words), reply(rt, alloc, by_datagram)];
+    let (name, call, reply) = case;
+    let call = words(rt, alloc, call);
+    let wanted = (words(rt, alloc, reply), words(rt, alloc, by_datagram));
     let came = answers_to(rt, alloc, board, OPEN_PORT, &call);
-    assert_same(rt, &came, &wanted, case.row);
+    assert_same(rt, &came, &wanted, name);
+}
+
+fn try_cases(rt: &impl Abort, alloc: Global, board: &mut PlainBoard, cases: &[Case]) {
+    for case in cases {
+        try_case(rt, alloc, board, case, case.2);
+    }
 }
 
 #[test]
 fn answers(rt: HostRuntime) {
     let alloc = rt.alloc();
     let mut board = two_domains(&rt, alloc);
-    for case in ON_BOTH_PATHS {
-        assert_case(&rt, alloc, &mut board, case, case.words);
-    }
+    try_cases(&rt, alloc, &mut board, &DOMAINS);
+    try_cases(&rt, alloc, &mut board, &MATCHES);
+    try_cases(&rt, alloc, &mut board, &ROWS);
+    try_cases(&rt, alloc, &mut board, &FACTS);
+    try_cases(&rt, alloc, &mut board, &TRANSFERS);
 }
 
 // Calls of ALL, which a datagram can't have.
-const ALL_OF: &[Case] = &[
-    Case {
-        row: "one row",
-        procedure: ALL,
-        arguments: &[LAB, HOSTS],
-        words: &[SUCCESS, MORE, YP_TRUE, ADDRESS, ALPHA, END],
-    },
-    Case {
-        row: "two rows",
-        procedure: ALL,
-        arguments: &[ZOO, HOSTS],
-        words: &[
-            SUCCESS,
-            MORE,
-            YP_TRUE,
-            "00000001 31000000",
-            "00000002 61620000",
-            MORE,
-            YP_TRUE,
-            "00000001 32000000",
-            "00000001 62000000",
-            END,
-        ],
-    },
-    Case {
-        row: "no rows",
-        procedure: ALL,
-        arguments: &[LAB, EMPTY_MAP],
-        words: &[SUCCESS, END],
-    },
-    Case {
-        row: "an unknown map",
-        procedure: ALL,
-        arguments: &[LAB, NO_MAP],
-        words: &[SUCCESS, MORE, YP_NOMAP, EMPTY, EMPTY, END],
-    },
-    Case {
-        row: "a domain that isn't served",
-        procedure: ALL,
-        arguments: &[ZZZ, HOSTS],
-        words: &[SUCCESS, MORE, YP_NODOM, EMPTY, EMPTY, END],
-    },
-    Case {
-        row: "without a map",
-        procedure: ALL,
-        arguments: &[LAB],
-        words: &[GARBAGE_ARGS],
-    },
+static ALL_OF: [Case; 6] = [
+    (
+        "one row",
+        "ALL LAB HOSTS",
+        "SUCCESS MORE YP_TRUE ADDRESS ALPHA END",
+    ),
+    (
+        "two rows",
+        "ALL ZOO HOSTS",
+        "SUCCESS MORE YP_TRUE 00000001 31000000 00000002 61620000 MORE YP_TRUE 00000001 32000000 00000001 62000000 END",
+    ),
+    ("no rows", "ALL LAB EMPTY_MAP", "SUCCESS END"),
+    (
+        "an unknown map",
+        "ALL LAB NO_MAP",
+        "SUCCESS MORE YP_NOMAP EMPTY EMPTY END",
+    ),
+    (
+        "a domain that isn't served",
+        "ALL ZZZ HOSTS",
+        "SUCCESS MORE YP_NODOM EMPTY EMPTY END",
+    ),
+    ("without a map", "ALL LAB", "GARBAGE_ARGS"),
 ];
 
 #[test]
 fn answers_all(rt: HostRuntime) {
     let alloc = rt.alloc();
     let mut board = two_domains(&rt, alloc);
-    for case in ALL_OF {
-        assert_case(&rt, alloc, &mut board, case, &[PROC_UNAVAIL]);
+    for case in &ALL_OF {
+        try_case(&rt, alloc, &mut board, case, "PROC_UNAVAIL");
     }
 }
 
-// The transfer that a call takes: its map, the host that has it, and how to call back.
-type Taken = (u32, Vec<u8>, u32, u32, u32);
-
-fn taken_by(
-    rt: &impl Abort,
-    alloc: Global,
-    board: &mut PlainBoard,
-    call: &[u8],
-    buf: &mut [u8],
-) -> Taken
+// Compares the transfer that a call takes: its map, the host that has it, and how to call back.
+fn assert_taken(rt: &impl Abort, board: &mut PlainBoard, call: &[u8], buf: &mut [u8])
     requires { record_max ≤ length buf.old }
 {
     match answer(board, call, caller(OPEN_PORT), buf) {
         Answered::Transfer { errand, .. } => {
-            let source = Vec::from_slice(alloc, errand.source).expect(rt, "bytes");
-            (errand.map, source, errand.transid, errand.prog, errand.port)
+            let call_back = (errand.transid, errand.prog, errand.port);
+            let came = (errand.map, errand.source, call_back);
+            let source: &[u8] = b"x";
+            let wanted = (2, source, (9, 0x4000_0000, 7_002));
+            assert_same(rt, &came, &wanted, "XFR of a map without a version");
         }
         _ => panic!(rt; "no transfer"),
     }
@@ -404,11 +268,8 @@ fn taken_by(
 #[test]
 fn takes_transfers(rt: HostRuntime) {
     let alloc = rt.alloc();
-    let mut board = two_domains(&rt, alloc);
-    let arguments = [LAB, BARE_MAP, ORDER_0, PEER_X, CALL_BACK];
-    let call = call(&rt, alloc, XFR, &arguments);
+    let call = words(&rt, alloc, "XFR LAB BARE_MAP ORDER_0 PEER_X CALL_BACK");
     let mut buf = filled(&rt, alloc, 9, RECORD_MAX);
-    let came = taken_by(&rt, alloc, &mut board, &call, &mut buf);
-    let wanted = (2, bytes(&rt, alloc, &["78"]), 9, 0x4000_0000, 7_002);
-    assert_same(&rt, &came, &wanted, "XFR of a map without a version");
+    let mut board = two_domains(&rt, alloc);
+    assert_taken(&rt, &mut board, &call, &mut buf);
 }

@@ -1,11 +1,12 @@
 //! Boards, calls and their replies, written out by hand from the protocol file yp.x and RFC 5531.
 
 ghost use Rattle.std.specs.Prelude.{◌≡◌, ◌≤◌, length};
+ghost use Rattle.yp_version.specs.Limits.{master_max};
 ghost use Rattle.yp_answer.specs.Numbers.{record_max, datagram_max};
 ghost use Rattle.yp_answer.specs.Maps.{maps_of};
 ghost use Rattle.yp_answer.specs.Answers.{IsInside};
 
-use crate::given::{assert_same, bytes};
+use crate::given::{assert_same, named};
 use std::alloc::Global;
 use std::process::Abort;
 use std::random::RandomSource;
@@ -17,73 +18,70 @@ use yp_version::{Version, VersionBuilder};
 
 // ---- words
 
-// Procedures of YP.
-pub const MATCH: &str = "00000003";
+// A name for each word or words of a call or a reply. A procedure stands for a call with the xid 7, without credential
+// or verifier, up to its arguments, and MAKE for one of the make program, with the xid 2. How a call was accepted
+// stands for a reply up to its results.
+static NAMES: &str = "\
+NULL = 00000007 00000000 00000002 000186a4 00000002 00000000 00000000 00000000 00000000 00000000
+DOMAIN = 00000007 00000000 00000002 000186a4 00000002 00000001 00000000 00000000 00000000 00000000
+NONACK = 00000007 00000000 00000002 000186a4 00000002 00000002 00000000 00000000 00000000 00000000
+MATCH = 00000007 00000000 00000002 000186a4 00000002 00000003 00000000 00000000 00000000 00000000
+FIRST = 00000007 00000000 00000002 000186a4 00000002 00000004 00000000 00000000 00000000 00000000
+NEXT = 00000007 00000000 00000002 000186a4 00000002 00000005 00000000 00000000 00000000 00000000
+XFR = 00000007 00000000 00000002 000186a4 00000002 00000006 00000000 00000000 00000000 00000000
+CLEAR = 00000007 00000000 00000002 000186a4 00000002 00000007 00000000 00000000 00000000 00000000
+ALL = 00000007 00000000 00000002 000186a4 00000002 00000008 00000000 00000000 00000000 00000000
+MASTER = 00000007 00000000 00000002 000186a4 00000002 00000009 00000000 00000000 00000000 00000000
+ORDER = 00000007 00000000 00000002 000186a4 00000002 0000000a 00000000 00000000 00000000 00000000
+MAPLIST = 00000007 00000000 00000002 000186a4 00000002 0000000b 00000000 00000000 00000000 00000000
+TWELVE = 00000007 00000000 00000002 000186a4 00000002 0000000c 00000000 00000000 00000000 00000000
+SUCCESS = 00000007 00000001 00000000 00000000 00000000 00000000
+PROC_UNAVAIL = 00000007 00000001 00000000 00000000 00000000 00000003
+GARBAGE_ARGS = 00000007 00000001 00000000 00000000 00000000 00000004
+YP_TRUE = 00000001
+YP_NOMORE = 00000002
+YP_NOMAP = ffffffff
+YP_NODOM = fffffffe
+YP_NOKEY = fffffffd
+YP_YPERR = fffffffa
+YP_BADARGS = fffffff9
+XFR_SUCC = 00000001
+XFR_REFUSED = fffffff2
+EMPTY = 00000000
+MORE = 00000001
+END = 00000000
+SERVED = 00000001
+UNSERVED = 00000000
+LAB = 00000003 6c616200
+ZOO = 00000003 7a6f6f00
+ZZZ = 00000003 7a7a7a00
+HOSTS = 0000000c 686f7374 732e6279 6e616d65
+BARE_MAP = 00000004 62617265
+EMPTY_MAP = 00000005 656d7074 79000000
+NO_MAP = 00000005 6e6f6d61 70000000
+ALPHA = 00000005 616c7068 61000000
+ADDRESS = 0000000e 31302e30 2e302e31 20616c70 68610000
+ORDER_0 = 00000000
+ORDER_100 = 00000064
+M1 = 00000002 6d310000
+PEER_X = 00000001 78000000
+TRANSACTION = 00000009
+CALL_BACK = 00000009 40000000 00001b5a
+MAKE = 00000002 00000000 00000002 20004e49 00000001 00000001 00000000 00000000 00000000 00000000
+MADE = 00000002 00000001 00000000 00000000 00000000 00000000
+PASSWD_KIND = 00000001
+HOSTS_KIND = 00000005
+BY_ADDRESS_KIND = 00000006
+KIND_0 = 00000000
+KIND_11 = 0000000b
+KIND_99 = 00000063
+";
 
-pub const FIRST: &str = "00000004";
-
-pub const NEXT: &str = "00000005";
-
-pub const XFR: &str = "00000006";
-
-pub const ALL: &str = "00000008";
-
-pub const MASTER: &str = "00000009";
-
-pub const ORDER: &str = "0000000a";
-
-pub const MAPLIST: &str = "0000000b";
-
-// How a call was accepted.
-pub const SUCCESS: &str = "00000000";
-
-pub const PROC_UNAVAIL: &str = "00000003";
-
-pub const GARBAGE_ARGS: &str = "00000004";
-
-// Statuses of YP.
-pub const YP_TRUE: &str = "00000001";
-
-pub const YP_NOMORE: &str = "00000002";
-
-pub const YP_NOMAP: &str = "ffffffff";
-
-pub const YP_NODOM: &str = "fffffffe";
-
-pub const YP_NOKEY: &str = "fffffffd";
-
-pub const YP_YPERR: &str = "fffffffa";
-
-pub const YP_BADARGS: &str = "fffffff9";
-
-// An empty name, key or value.
-pub const EMPTY: &str = "00000000";
-
-// Whether an item of ALL or of MAPLIST follows.
-pub const MORE: &str = "00000001";
-
-pub const END: &str = "00000000";
-
-// Domains: two that are served, and one that isn't.
-pub const LAB: &str = "00000003 6c616200";
-
-pub const ZOO: &str = "00000003 7a6f6f00";
-
-pub const ZZZ: &str = "00000003 7a7a7a00";
-
-// The maps hosts.byname, `bare`, `empty` and `nomap`, of which there is none.
-pub const HOSTS: &str = "0000000c 686f7374 732e6279 6e616d65";
-
-pub const BARE_MAP: &str = "00000004 62617265";
-
-pub const EMPTY_MAP: &str = "00000005 656d7074 79000000";
-
-pub const NO_MAP: &str = "00000005 6e6f6d61 70000000";
-
-// The key `alpha`, and its value `10.0.0.1 alpha`.
-pub const ALPHA: &str = "00000005 616c7068 61000000";
-
-pub const ADDRESS: &str = "0000000e 31302e30 2e302e31 20616c70 68610000";
+// The bytes of a text of these names and of other words. The domains LAB and ZOO are served, ZZZ isn't, and there is no
+// map NO_MAP. CALL_BACK is the transaction 9 of the program 0x40000000 at port 7002.
+pub fn words(rt: &impl Abort, alloc: Global, text: &str) -> Vec<u8> {
+    named(rt, alloc, NAMES, text)
+}
 
 // ---- boards
 
@@ -91,21 +89,39 @@ pub type Row<'a> = (&'a [u8], &'a [u8]);
 
 pub const HOST: Row<'static> = (b"alpha", b"10.0.0.1 alpha");
 
+pub fn push_row(rt: &impl Abort, builder: &mut VersionBuilder, row: Row<'_>) {
+    let (key, value) = row;
+    assert_same(rt, &builder.push(key, value), &Ok(true), "a row of a map");
+}
+
 fn push_rows(rt: &impl Abort, builder: &mut VersionBuilder, rows: &[Row<'_>]) {
-    for (key, value) in rows {
-        assert_same(rt, &builder.push(*key, *value), &Ok(true), "a row of a map");
+    for row in rows {
+        push_row(rt, builder, *row);
     }
 }
 
-// A version of order 100 of the master `m1`, with these rows.
-pub fn version<R: RandomSource + Abort>(rt: &R, alloc: Global, rows: &[Row<'_>]) -> Version {
-    let mut builder = VersionBuilder::new(alloc, rt, 100, b"m1").expect(rt, "a builder");
+// A version of this order and master, with these rows.
+pub fn version_of<R: RandomSource + Abort>(
+    rt: &R,
+    alloc: Global,
+    order: u32,
+    master: &[u8],
+    rows: &[Row<'_>],
+) -> Version
+    requires { length master.now ≤ master_max }
+{
+    let mut builder = VersionBuilder::new(alloc, rt, order, master).expect(rt, "a builder");
     push_rows(rt, &mut builder, rows);
     builder.finish().expect(rt, "a version")
 }
 
-fn shared<R: RandomSource + Abort>(rt: &R, alloc: Global, rows: &[Row<'_>]) -> Arc<Version> {
-    Arc::new(alloc, version(rt, alloc, rows)).expect(rt, "a shared version")
+// One of order 100 of the master `m1`.
+pub fn version<R: RandomSource + Abort>(rt: &R, alloc: Global, rows: &[Row<'_>]) -> Version {
+    version_of(rt, alloc, 100, b"m1", rows)
+}
+
+pub fn shared(rt: &impl Abort, alloc: Global, version: Version) -> Arc<Version> {
+    Arc::new(alloc, version).expect(rt, "a shared version")
 }
 
 // As many things as a catalogue has maps.
@@ -115,8 +131,8 @@ fn assert_fits(rt: &impl Abort, count: usize, catalog: &Catalog)
     assert_eq!(rt; count, catalog.len() as usize);
 }
 
-// A board of maps, each named by its domain and its map.
-fn board(
+// A board of maps of the host `m1`, each named by its domain and its map.
+pub fn board(
     rt: &impl Abort,
     alloc: Global,
     names: &[(&[u8], &[u8])],
@@ -136,27 +152,31 @@ fn board(
 
 // A board of the one map hosts.byname of the domain lab.
 pub fn board_of(rt: &impl Abort, alloc: Global, version: Version) -> PlainBoard {
-    let version = Arc::new(alloc, version).expect(rt, "a shared version");
-    let start = vec![in alloc; Some(version)].expect(rt, "versions");
+    let start = vec![in alloc; Some(shared(rt, alloc, version))].expect(rt, "versions");
     board(rt, alloc, &[(b"lab", b"hosts.byname")], start)
 }
+
+static TWO_DOMAINS: [(&[u8], &[u8]); 4] = [
+    (b"lab", b"hosts.byname"),
+    (b"zoo", b"hosts.byname"),
+    (b"lab", b"bare"),
+    (b"lab", b"empty"),
+];
 
 // The domain lab has a map with a row, one without a version and one without rows; the domain zoo has one with two
 // rows.
 pub fn two_domains<R: RandomSource + Abort>(rt: &R, alloc: Global) -> PlainBoard {
     let start = vec![in alloc;
-        Some(shared(rt, alloc, &[HOST])),
-        Some(shared(rt, alloc, &[(b"b", b"2"), (b"ab", b"1")])),
+        Some(shared(rt, alloc, version(rt, alloc, &[HOST]))),
+        Some(shared(
+            rt,
+            alloc,
+            version(rt, alloc, &[(b"b", b"2"), (b"ab", b"1")])
+        )),
         None,
-        Some(shared(rt, alloc, &[])),
+        Some(shared(rt, alloc, version(rt, alloc, &[]))),
     ];
-    let names: [(&[u8], &[u8]); 4] = [
-        (b"lab", b"hosts.byname"),
-        (b"zoo", b"hosts.byname"),
-        (b"lab", b"bare"),
-        (b"lab", b"empty"),
-    ];
-    board(rt, alloc, &names, start.expect(rt, "versions"))
+    board(rt, alloc, &TWO_DOMAINS, start.expect(rt, "versions"))
 }
 
 // ---- calls and replies
@@ -176,27 +196,6 @@ pub fn filled(rt: &impl Abort, alloc: Global, byte: u8, count: usize) -> Vec<u8>
     ensures { length result.items ≡ count }
 {
     vec![in alloc; byte; count].expect(rt, "memory")
-}
-
-// A call with the xid 7 of a procedure, without credential or verifier.
-pub fn call(rt: &impl Abort, alloc: Global, procedure: &str, arguments: &[&str]) -> Vec<u8> {
-    let head = "00000007 00000000 00000002 000186a4 00000002";
-    let unchecked = "00000000 00000000 00000000 00000000";
-    let mut call = bytes(rt, alloc, &[head, procedure, unchecked]);
-    extend(rt, &mut call, &bytes(rt, alloc, arguments));
-    call
-}
-
-// The reply to it, from its status on, or silence where there is nothing.
-pub fn reply(rt: &impl Abort, alloc: Global, texts: &[&str]) -> Vec<u8> {
-    let head = if texts.is_empty() {
-        ""
-    } else {
-        "00000007 00000001 00000000 00000000 00000000"
-    };
-    let mut reply = bytes(rt, alloc, &[head]);
-    extend(rt, &mut reply, &bytes(rt, alloc, texts));
-    reply
 }
 
 // A caller at this port of another host. Rows of secure maps are shown to ports under 1024.
@@ -326,9 +325,9 @@ pub fn answers_to(
     board: &mut PlainBoard,
     port: u16,
     call: &[u8],
-) -> [Vec<u8>; 2] {
-    [
+) -> (Vec<u8>, Vec<u8>) {
+    (
         record_reply(rt, alloc, board, port, call),
         datagram_reply(rt, alloc, board, port, call),
-    ]
+    )
 }

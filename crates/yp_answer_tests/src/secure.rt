@@ -7,65 +7,51 @@ use std::process::Abort;
 use yp_board::PlainBoard;
 
 // A call about a secure map, the reply to a port from 1024 on, and that to one below.
-#[derive(Clone, Copy)]
-struct Case {
-    row: &'static str,
-    procedure: &'static str,
-    arguments: &'static [&'static str],
-    open: &'static [&'static str],
-    reserved: &'static [&'static str],
-}
+type Case = (&'static str, &'static str, &'static str, &'static str);
 
-const SECURE: &[Case] = &[
-    Case {
-        row: "MATCH",
-        procedure: MATCH,
-        arguments: &[LAB, HOSTS, ALPHA],
-        open: &[SUCCESS, YP_YPERR, EMPTY],
-        reserved: &[SUCCESS, YP_TRUE, ADDRESS],
-    },
-    Case {
-        row: "FIRST",
-        procedure: FIRST,
-        arguments: &[LAB, HOSTS],
-        open: &[SUCCESS, YP_YPERR, EMPTY, EMPTY],
-        reserved: &[SUCCESS, YP_TRUE, ADDRESS, ALPHA],
-    },
-    Case {
-        row: "NEXT",
-        procedure: NEXT,
-        arguments: &[LAB, HOSTS, ALPHA],
-        open: &[SUCCESS, YP_YPERR, EMPTY, EMPTY],
-        reserved: &[SUCCESS, YP_NOMORE, EMPTY, EMPTY],
-    },
-    Case {
-        row: "ALL",
-        procedure: ALL,
-        arguments: &[LAB, HOSTS],
-        open: &[SUCCESS, MORE, YP_YPERR, EMPTY, EMPTY, END],
-        reserved: &[SUCCESS, MORE, YP_TRUE, ADDRESS, ALPHA, END],
-    },
-    Case {
-        row: "MASTER",
-        procedure: MASTER,
-        arguments: &[LAB, HOSTS],
-        open: &[SUCCESS, YP_TRUE, "00000002 6d310000"],
-        reserved: &[SUCCESS, YP_TRUE, "00000002 6d310000"],
-    },
-    Case {
-        row: "ORDER",
-        procedure: ORDER,
-        arguments: &[LAB, HOSTS],
-        open: &[SUCCESS, YP_TRUE, "00000064"],
-        reserved: &[SUCCESS, YP_TRUE, "00000064"],
-    },
-    Case {
-        row: "MAPLIST",
-        procedure: MAPLIST,
-        arguments: &[LAB],
-        open: &[SUCCESS, YP_TRUE, MORE, HOSTS, END],
-        reserved: &[SUCCESS, YP_TRUE, MORE, HOSTS, END],
-    },
+static SECURE: [Case; 7] = [
+    (
+        "MATCH",
+        "MATCH LAB HOSTS ALPHA",
+        "SUCCESS YP_YPERR EMPTY",
+        "SUCCESS YP_TRUE ADDRESS",
+    ),
+    (
+        "FIRST",
+        "FIRST LAB HOSTS",
+        "SUCCESS YP_YPERR EMPTY EMPTY",
+        "SUCCESS YP_TRUE ADDRESS ALPHA",
+    ),
+    (
+        "NEXT",
+        "NEXT LAB HOSTS ALPHA",
+        "SUCCESS YP_YPERR EMPTY EMPTY",
+        "SUCCESS YP_NOMORE EMPTY EMPTY",
+    ),
+    (
+        "ALL",
+        "ALL LAB HOSTS",
+        "SUCCESS MORE YP_YPERR EMPTY EMPTY END",
+        "SUCCESS MORE YP_TRUE ADDRESS ALPHA END",
+    ),
+    (
+        "MASTER",
+        "MASTER LAB HOSTS",
+        "SUCCESS YP_TRUE M1",
+        "SUCCESS YP_TRUE M1",
+    ),
+    (
+        "ORDER",
+        "ORDER LAB HOSTS",
+        "SUCCESS YP_TRUE ORDER_100",
+        "SUCCESS YP_TRUE ORDER_100",
+    ),
+    (
+        "MAPLIST",
+        "MAPLIST LAB",
+        "SUCCESS YP_TRUE MORE HOSTS END",
+        "SUCCESS YP_TRUE MORE HOSTS END",
+    ),
 ];
 
 // Compares the reply to a caller at this port.
@@ -73,24 +59,28 @@ fn assert_shown(
     rt: &impl Abort,
     alloc: Global,
     board: &mut PlainBoard,
-    case: &Case,
     port: u16,
-    texts: &[&str],
+    case: &Case,
+    reply: &str,
 ) {
-    let call = call(rt, alloc, case.procedure, case.arguments);
-    let wanted = (port, reply(rt, alloc, texts));
+    let call = words(rt, alloc, case.1);
+    let wanted = (port, words(rt, alloc, reply));
     let came = (port, record_reply(rt, alloc, board, port, &call));
-    assert_same(rt, &came, &wanted, case.row);
+    assert_same(rt, &came, &wanted, case.0);
+}
+
+fn try_case(rt: &impl Abort, alloc: Global, board: &mut PlainBoard, case: &Case) {
+    assert_shown(rt, alloc, board, 1_024, case, case.2);
+    assert_shown(rt, alloc, board, 65_535, case, case.2);
+    assert_shown(rt, alloc, board, 1_023, case, case.3);
+    assert_shown(rt, alloc, board, 0, case, case.3);
 }
 
 #[test]
 fn secure_rows(rt: HostRuntime) {
     let alloc = rt.alloc();
     let mut board = board_of(&rt, alloc, version(&rt, alloc, &[HOST]).marked(true));
-    for case in SECURE {
-        assert_shown(&rt, alloc, &mut board, case, 1_024, case.open);
-        assert_shown(&rt, alloc, &mut board, case, 65_535, case.open);
-        assert_shown(&rt, alloc, &mut board, case, 1_023, case.reserved);
-        assert_shown(&rt, alloc, &mut board, case, 0, case.reserved);
+    for case in &SECURE {
+        try_case(&rt, alloc, &mut board, case);
     }
 }

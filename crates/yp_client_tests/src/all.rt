@@ -3,12 +3,11 @@
 ghost use Rattle.std.specs.Prelude.{◌<◌};
 
 use crate::given::{assert_same, bytes};
-use crate::lent::{MemClient, builder, with_builder, with_client, with_version};
+use crate::lent::{MemClient, assert_sent, builder, client, with_builder};
 use std::alloc::Global;
 use std::process::Abort;
 use std::random::RandomSource;
 use yp_client::ClientFault;
-use yp_io::{MemSink, MemSource, MemWire, Pair};
 use yp_msgs::YpStat;
 use yp_rpc::ReplyHead;
 use yp_version::{Version, VersionBuilder, VersionFault};
@@ -24,16 +23,6 @@ const NEXT_REPLY: &str =
 
 // The most bytes of a value, and of a key.
 const LONGEST: usize = 65_536;
-
-// A wire with this input, of which a read gives at most so many bytes.
-fn wire(alloc: Global, input: Vec<u8>, piece: usize) -> MemWire
-    requires { 0 < piece }
-{
-    Pair {
-        source: MemSource::new(input, piece, Vec::new(alloc)),
-        sink: MemSink::new(alloc, 4096, Vec::new(alloc)),
-    }
-}
 
 // The head of a fragment.
 fn fragment<R: Abort>(rt: &R, last: bool, len: usize) -> [u8; 4] {
@@ -117,204 +106,276 @@ fn fetch(client: &mut MemClient, into: &mut VersionBuilder) -> Fetched {
 }
 
 // What came of it, and then of ORDER.
-fn fetch_and_order(
-    client: &mut MemClient,
-    into: &mut VersionBuilder,
-) -> (Fetched, Result<u32, ClientFault>) {
+type FetchedAndOrder = (Fetched, Result<u32, ClientFault>);
+
+// The answer to ORDER behind ALL, where the client goes on, and where it doesn't.
+const GOES_ON: Result<u32, ClientFault> = Ok(7);
+
+const SPENT: Result<u32, ClientFault> = Err(ClientFault::Spent);
+
+fn fetch_and_order(client: &mut MemClient, into: &mut VersionBuilder) -> FetchedAndOrder {
     (fetch(client, into), client.order(b"d", b"m"))
 }
 
-// What came of it, twice.
-fn fetch_twice(client: &mut MemClient, into: &mut VersionBuilder) -> [Fetched; 2] {
-    [fetch(client, into), fetch(client, into)]
+// The rows of a version where the key `k` came again: its first value stands.
+fn assert_three_rows<R: Abort>(rt: &R, version: &Version, row: &str) {
+    let (long, short, empty): (&[u8], &[u8], &[u8]) = (b"ww", b"v", b"");
+    let values = (version.get(b""), version.get(b"k"), version.get(b"lmnop"));
+    assert_same(rt, &values, &(Some(long), Some(short), Some(empty)), row);
+    assert_same(rt, &version.len(), &3, row);
 }
 
-// The value of a key.
-fn value_of(alloc: Global, version: &Version, key: &[u8]) -> Option<Vec<u8>> {
-    match version.get(key) {
-        Some(value) => value.to_vec(alloc).ok(),
-        None => None,
-    }
+// ROW, and rows of the empty key, of `k` and of `lmnop`.
+const ITEMS: &str = "00000001 00000001 00000002 77770000 00000000 \
+    00000001 00000001 00000001 78000000 00000001 6b000000 \
+    00000001 00000001 00000000 00000005 6c6d6e6f 70000000 \
+    00000000";
+
+const HOSTS_CALL: &str =
+    "80000040 00000008 00000000 00000002 000186a4 00000002 00000008 00000000 00000000 \
+    00000000 00000000 00000003 6c616200 0000000c 686f7374 732e6279 6e616d65";
+
+fn assert_version<R: Abort>(rt: &R, into: VersionBuilder, row: &str) {
+    let version = into.finish().expect(rt, "a version");
+    assert_three_rows(rt, &version, row);
 }
 
-// How many rows it has, and the values of the keys that are empty, `k` and `lmnop`.
-fn look(alloc: Global, version: &Version) -> (usize, [Option<Vec<u8>>; 3]) {
-    let values = [
-        value_of(alloc, version, b""),
-        value_of(alloc, version, b"k"),
-        value_of(alloc, version, b"lmnop"),
-    ];
-    (version.len(), values)
+fn try_fragments<R: RandomSource + Abort>(rt: &R, alloc: Global, size: usize, row: &str) {
+    let record = bytes(rt, alloc, &[HEAD, ROW, ITEMS]);
+    let mut client = client(rt, alloc, cut(rt, alloc, &record, size), 5);
+    let mut into = builder(rt, alloc);
+    let said = client.all(b"lab", b"hosts.byname", &mut into);
+    assert_sent(rt, alloc, client, HOSTS_CALL, row);
+    assert_version(rt, into, row);
+    assert_same(rt, &said, &Ok(()), row);
 }
 
-fn fetch_hosts(client: &mut MemClient, into: &mut VersionBuilder) -> Result<(), ClientFault> {
-    client.all(b"lab", b"hosts.byname", into)
-}
+static SIZES: [(usize, &str); 4] = [
+    (1, "fragments of 1 byte"),
+    (3, "fragments of 3 bytes"),
+    (8192, "fragments of 8192 bytes"),
+    (1_000_000, "one fragment"),
+];
 
 #[test]
 fn rows_in_any_fragments(rt: HostRuntime) {
-    let alloc = rt.alloc();
-    // The key `k` comes again, and its first value stands.
-    let items = "00000001 00000001 00000002 77770000 00000000 \
-        00000001 00000001 00000001 78000000 00000001 6b000000 \
-        00000001 00000001 00000000 00000005 6c6d6e6f 70000000 \
-        00000000";
-    let call = "80000040 00000008 00000000 00000002 000186a4 00000002 00000008 00000000 00000000 \
-        00000000 00000000 00000003 6c616200 0000000c 686f7374 732e6279 6e616d65";
-    let record = bytes(&rt, alloc, &[HEAD, ROW, items]);
-    let values = [
-        Some(b"ww".to_vec(alloc).expect(&rt, "a value")),
-        Some(b"v".to_vec(alloc).expect(&rt, "a value")),
-        Some(Vec::new(alloc)),
-    ];
-    let wanted = (Ok(()), bytes(&rt, alloc, &[call]), (3, values));
-    for (size, row) in [
-        (1, "fragments of 1 byte"),
-        (3, "fragments of 3 bytes"),
-        (8192, "fragments of 8192 bytes"),
-        (1_000_000, "one fragment"),
-    ] {
-        let wire = wire(alloc, cut(&rt, alloc, &record, size), 5);
-        let came = with_version(
-            &rt,
-            alloc,
-            wire,
-            fetch_hosts,
-            |version| look(alloc, version),
-        );
-        assert_same(&rt, &came, &wanted, row);
+    for (size, row) in &SIZES {
+        try_fragments(&rt, rt.alloc(), *size, *row);
     }
 }
 
-// How many rows a version has, whether each of these keys has its own bytes as its value, and the value of `k`.
-type LongRows = (usize, [bool; 7], Option<Vec<u8>>);
-
-fn look_for_long(alloc: Global, version: &Version, keys: &[Vec<u8>]) -> LongRows {
-    let mut are_held = [false; 7];
-    for (key, is_held) in keys.iter().zip(are_held.iter_mut()) {
-        *is_held = version.get(key) == Some(key.as_slice());
+// A reply of seven long rows and a short one.
+fn long_rows<R: Abort>(rt: &R, alloc: Global) -> Vec<u8> {
+    let mut record = bytes(rt, alloc, &[HEAD]);
+    for byte in 0..7 {
+        put_long_row(rt, alloc, &mut record, byte);
     }
-    (version.len(), are_held, value_of(alloc, version, b"k"))
+    add(rt, &mut record, &bytes(rt, alloc, &[ROW, "00000000"]));
+    record
+}
+
+// Each of the long rows has its key as its value.
+fn assert_long_row<R: Abort>(rt: &R, alloc: Global, version: &Version, byte: u8, row: &str) {
+    let long = longest(rt, alloc, byte);
+    let is_held = version.get(&long) == Some(long.as_slice());
+    assert_same(rt, &(byte, is_held), &(byte, true), row);
+}
+
+fn assert_long_rows<R: Abort>(rt: &R, alloc: Global, version: &Version, row: &str) {
+    for byte in 0..7 {
+        assert_long_row(rt, alloc, version, byte, row);
+    }
+    let short: &[u8] = b"v";
+    assert_same(
+        rt,
+        &(version.len(), version.get(b"k")),
+        &(8, Some(short)),
+        row,
+    );
+}
+
+fn assert_long_version<R: Abort>(rt: &R, alloc: Global, into: VersionBuilder, row: &str) {
+    let version = into.finish().expect(rt, "a version");
+    assert_long_rows(rt, alloc, &version, row);
+}
+
+// What comes of ALL, whose rows are looked at.
+fn fetch_long_rows<R: RandomSource + Abort>(
+    rt: &R,
+    alloc: Global,
+    size: usize,
+    row: &str,
+) -> Fetched {
+    let record = long_rows(rt, alloc);
+    let mut client = client(rt, alloc, cut(rt, alloc, &record, size), 50_000);
+    let mut into = builder(rt, alloc);
+    let fetched = fetch(&mut client, &mut into);
+    assert_long_version(rt, alloc, into, row);
+    fetched
+}
+
+fn try_long_rows<R: RandomSource + Abort>(rt: &R, alloc: Global, size: usize, row: &str) {
+    let fetched = fetch_long_rows(rt, alloc, size, row);
+    assert_same(rt, &fetched, &(Ok(()), 8), row);
 }
 
 #[test]
 fn reply_longer_than_the_buffer(rt: HostRuntime) {
-    let alloc = rt.alloc();
-    let mut record = bytes(&rt, alloc, &[HEAD]);
-    let mut keys = Vec::new(alloc);
-    for byte in 0..7 {
-        put_long_row(&rt, alloc, &mut record, byte);
-        keys.push(longest(&rt, alloc, byte)).expect(&rt, "room");
-    }
-    add(&rt, &mut record, &bytes(&rt, alloc, &[ROW, "00000000"]));
-    let value = b"v".to_vec(alloc).expect(&rt, "a value");
-    let wanted = ((Ok(()), 8), (8, [true; 7], Some(value)));
-    for (size, row) in [
-        (8192, "fragments of 8192 bytes"),
-        (10_000_000, "one fragment"),
-    ] {
-        let wire = wire(alloc, cut(&rt, alloc, &record, size), 50_000);
-        let (fetched, _sent, long) = with_version(&rt, alloc, wire, fetch, |version| {
-            look_for_long(alloc, version, &keys)
-        });
-        assert_same(&rt, &(fetched, long), &wanted, row);
-    }
+    try_long_rows(&rt, rt.alloc(), 8192, "fragments of 8192 bytes");
+    try_long_rows(&rt, rt.alloc(), 10_000_000, "one fragment");
+}
+
+// The items of a reply, what came of ALL, how many rows the builder has, and what came of ORDER.
+type End = (
+    &'static str,
+    Result<(), ClientFault>,
+    usize,
+    Result<u32, ClientFault>,
+);
+
+static ENDS: [End; 8] = [
+    ("00000000", Ok(()), 0, GOES_ON),
+    (ROW, Err(ClientFault::BadReply { at: 48 }), 1, SPENT),
+    // NOMORE is a good end, another status is the server's refusal, and what is behind either is skipped.
+    ("00000001 00000002", Ok(()), 0, GOES_ON),
+    (
+        "00000001 00000002 00000000 00000000 00000000",
+        Ok(()),
+        0,
+        GOES_ON,
+    ),
+    (
+        "00000001 fffffffe 00000000 00000000 00000000",
+        Err(ClientFault::Yp(YpStat::Nodom)),
+        0,
+        GOES_ON,
+    ),
+    (
+        "00000001 ffffffff",
+        Err(ClientFault::Yp(YpStat::Nomap)),
+        0,
+        GOES_ON,
+    ),
+    // Behind FALSE too.
+    ("00000000 00000001 00000001 00", Ok(()), 0, GOES_ON),
+    ("00000000 00000009 ffffffff ffffffff", Ok(()), 0, GOES_ON),
+];
+
+fn try_end<R: RandomSource + Abort>(rt: &R, alloc: Global, end: &End) {
+    let (items, said, rows, next) = *end;
+    let input = stream(rt, alloc, items, "");
+    let came = with_builder(rt, alloc, input, 5, fetch_and_order);
+    assert_same(rt, &came, &((said, rows), next), items);
 }
 
 #[test]
 fn ends_of_rows(rt: HostRuntime) {
-    let alloc = rt.alloc();
-    for (items, said, rows) in [
-        ("00000000", Ok(()), 0),
-        (ROW, Err(ClientFault::BadReply { at: 48 }), 1),
-        // NOMORE is a good end, another status is the server's refusal, and what is behind either is skipped.
-        ("00000001 00000002", Ok(()), 0),
-        ("00000001 00000002 00000000 00000000 00000000", Ok(()), 0),
-        (
-            "00000001 fffffffe 00000000 00000000 00000000",
-            Err(ClientFault::Yp(YpStat::Nodom)),
-            0,
-        ),
-        ("00000001 ffffffff", Err(ClientFault::Yp(YpStat::Nomap)), 0),
-        // Behind FALSE too.
-        ("00000000 00000001 00000001 00", Ok(()), 0),
-        ("00000000 00000009 ffffffff ffffffff", Ok(()), 0),
-    ] {
-        let next = match said {
-            Err(ClientFault::BadReply { .. }) => Err(ClientFault::Spent),
-            _ => Ok(7),
-        };
-        let wire = wire(alloc, stream(&rt, alloc, items, ""), 5);
-        let came = with_builder(&rt, alloc, wire, fetch_and_order);
-        assert_same(&rt, &came, &((said, rows), next), items);
+    for end in &ENDS {
+        try_end(&rt, rt.alloc(), end);
     }
+}
+
+// An item, and its first byte that is wrong. A good row goes before each, so that the item begins at 48.
+static BAD_ITEMS: [(&str, usize); 12] = [
+    // A boolean, and a status.
+    ("00000002", 48),
+    ("00000001 00000003", 52),
+    // A value: its length, and the first byte of its padding that isn't zero.
+    ("00000001 00000001 00010001", 56),
+    ("00000001 00000001 00000001 76000001", 63),
+    // A key.
+    ("00000001 00000001 00000001 76000000 00010001", 64),
+    ("00000001 00000001 00000001 76000000 00000001 6b010100", 69),
+    // What is cut short.
+    ("", 48),
+    ("0000", 48),
+    ("00000001", 52),
+    ("00000001 00000001", 56),
+    ("00000001 00000001 00000005 76767676 760000", 56),
+    ("00000001 00000001 00000001 76000000 00000002 6b", 64),
+];
+
+fn fetch_twice(client: &mut MemClient, into: &mut VersionBuilder) -> (Fetched, Fetched) {
+    (fetch(client, into), fetch(client, into))
+}
+
+fn try_bad_item<R: RandomSource + Abort>(rt: &R, alloc: Global, item: &str, at: usize) {
+    let input = stream(rt, alloc, ROW, item);
+    let came = with_builder(rt, alloc, input, 5, fetch_twice);
+    let bad = (Err(ClientFault::BadReply { at }), 1);
+    assert_same(rt, &came, &(bad, (Err(ClientFault::Spent), 1)), item);
 }
 
 #[test]
 fn places_of_bad_items(rt: HostRuntime) {
-    let alloc = rt.alloc();
-    // A good row goes before each, so that the item begins at 48.
-    for (item, at) in [
-        // A boolean, and a status.
-        ("00000002", 48),
-        ("00000001 00000003", 52),
-        // A value: its length, and the first byte of its padding that isn't zero.
-        ("00000001 00000001 00010001", 56),
-        ("00000001 00000001 00000001 76000001", 63),
-        // A key.
-        ("00000001 00000001 00000001 76000000 00010001", 64),
-        ("00000001 00000001 00000001 76000000 00000001 6b010100", 69),
-        // What is cut short.
-        ("", 48),
-        ("0000", 48),
-        ("00000001", 52),
-        ("00000001 00000001", 56),
-        ("00000001 00000001 00000005 76767676 760000", 56),
-        ("00000001 00000001 00000001 76000000 00000002 6b", 64),
-    ] {
-        let wire = wire(alloc, stream(&rt, alloc, ROW, item), 5);
-        let came = with_builder(&rt, alloc, wire, fetch_twice);
-        let wanted = [
-            (Err(ClientFault::BadReply { at }), 1),
-            (Err(ClientFault::Spent), 1),
-        ];
-        assert_same(&rt, &came, &wanted, item);
+    for (item, at) in &BAD_ITEMS {
+        try_bad_item(&rt, rt.alloc(), *item, *at);
     }
+}
+
+// A reply, what is behind it, why it is refused, and what came of ORDER.
+type BadHead = (
+    &'static str,
+    &'static str,
+    ClientFault,
+    Result<u32, ClientFault>,
+);
+
+static BAD_HEADS: [BadHead; 7] = [
+    (
+        "80000018 00000007 00000001 00000000 00000000 00000000 00000000",
+        "",
+        ClientFault::BadXid { want: 8, got: 7 },
+        SPENT,
+    ),
+    (
+        "80000008 00000008 00000000",
+        "",
+        ClientFault::BadReply { at: 4 },
+        SPENT,
+    ),
+    (
+        "80000018 00000008 00000001 00000000 00000000 00000000 00000003",
+        NEXT_REPLY,
+        ClientFault::Denied(ReplyHead::ProcUnavail),
+        GOES_ON,
+    ),
+    ("", "", ClientFault::Torn { at: 0 }, SPENT),
+    ("8000", "", ClientFault::Torn { at: 0 }, SPENT),
+    // 33,554,432 bytes may be named, and no byte more.
+    ("02000000 000000", "", ClientFault::Torn { at: 0 }, SPENT),
+    ("82000001", "", ClientFault::TooLong { at: 0 }, SPENT),
+];
+
+fn try_bad_head<R: RandomSource + Abort>(rt: &R, alloc: Global, head: &BadHead) {
+    let (reply, behind, fault, next) = *head;
+    let input = bytes(rt, alloc, &[reply, behind]);
+    let came = with_builder(rt, alloc, input, 5, fetch_and_order);
+    assert_same(rt, &came, &((Err(fault), 0), next), reply);
 }
 
 #[test]
 fn refused_heads(rt: HostRuntime) {
-    let alloc = rt.alloc();
-    let spent = Err(ClientFault::Spent);
-    for (reply, behind, fault, next) in [
-        (
-            "80000018 00000007 00000001 00000000 00000000 00000000 00000000",
-            "",
-            ClientFault::BadXid { want: 8, got: 7 },
-            spent,
-        ),
-        (
-            "80000008 00000008 00000000",
-            "",
-            ClientFault::BadReply { at: 4 },
-            spent,
-        ),
-        (
-            "80000018 00000008 00000001 00000000 00000000 00000000 00000003",
-            NEXT_REPLY,
-            ClientFault::Denied(ReplyHead::ProcUnavail),
-            Ok(7),
-        ),
-        ("", "", ClientFault::Torn { at: 0 }, spent),
-        ("8000", "", ClientFault::Torn { at: 0 }, spent),
-        // 33,554,432 bytes may be named, and no byte more.
-        ("02000000 000000", "", ClientFault::Torn { at: 0 }, spent),
-        ("82000001", "", ClientFault::TooLong { at: 0 }, spent),
-    ] {
-        let wire = wire(alloc, bytes(&rt, alloc, &[reply, behind]), 5);
-        let came = with_builder(&rt, alloc, wire, fetch_and_order);
-        assert_same(&rt, &came, &((Err(fault), 0), next), reply);
+    for head in &BAD_HEADS {
+        try_bad_head(&rt, rt.alloc(), head);
     }
+}
+
+// How many empty fragments go before a reply, and what came of ALL.
+static EMPTY: [(usize, Result<(), ClientFault>); 3] = [
+    (0, Ok(())),
+    (1024, Ok(())),
+    (1025, Err(ClientFault::TooLong { at: 0 })),
+];
+
+fn try_empty<R: RandomSource + Abort>(
+    rt: &R,
+    alloc: Global,
+    empty: usize,
+    said: Result<(), ClientFault>,
+) {
+    let came = with_builder(rt, alloc, hollow(rt, alloc, empty), 4096, fetch);
+    assert_same(rt, &(empty, came.0), &(empty, said), "empty fragments");
 }
 
 // The answers to ALL, and then to NULL.
@@ -324,40 +385,33 @@ fn fetch_and_ping(client: &mut MemClient, into: &mut VersionBuilder) -> AllAndNu
     (client.all(b"d", b"m", into), client.ping())
 }
 
+// Makes both, where so many bytes of a reply come.
+fn try_torn<R: RandomSource + Abort>(rt: &R, alloc: Global, len: usize) {
+    let input = torn(rt, alloc, len);
+    let input_len = input.len();
+    let came = with_builder(rt, alloc, input, 4096, fetch_and_ping);
+    let wanted = (Err(ClientFault::Torn { at: 0 }), Err(ClientFault::Spent));
+    assert_same(rt, &(input_len, came), &(len, wanted), "bytes of it");
+}
+
 #[test]
 fn torn_and_failing_records(rt: HostRuntime) {
-    let alloc = rt.alloc();
-    // Empty fragments go before the reply, which ends in the middle of the second row.
-    for (empty, said) in [
-        (0, Ok(())),
-        (1024, Ok(())),
-        (1025, Err(ClientFault::TooLong { at: 0 })),
-    ] {
-        let input = hollow(&rt, alloc, empty);
-        let came = with_builder(&rt, alloc, wire(alloc, input, 4096), fetch);
-        assert_same(&rt, &(empty, came.0), &(empty, said), "empty fragments");
+    for (empty, said) in &EMPTY {
+        try_empty(&rt, rt.alloc(), *empty, *said);
     }
-    for len in [1, 30, 90, 107] {
-        let input = torn(&rt, alloc, len);
-        let input_len = input.len();
-        let came = with_builder(&rt, alloc, wire(alloc, input, 4096), fetch_and_ping);
-        let wanted = (Err(ClientFault::Torn { at: 0 }), Err(ClientFault::Spent));
-        assert_same(&rt, &(input_len, came), &(len, wanted), "bytes of it");
+    // They end in the middle of the second row.
+    for len in &[1, 30, 90, 107] {
+        try_torn(&rt, rt.alloc(), *len);
     }
 }
 
-// Whether a builder has added all rows that it was given first, and what came of ALL and of ORDER.
-type Refused = (bool, Fetched, Result<u32, ClientFault>);
-
-// 255 rows with this value go before.
-fn fetch_behind(client: &mut MemClient, into: &mut VersionBuilder, value: &[u8]) -> Refused {
+// Whether a builder has added all rows that it was given: 255 of this value.
+fn fill(into: &mut VersionBuilder, value: &[u8]) -> bool {
     let mut are_added = true;
     for key in 0..255 {
         are_added &= into.push(&[key, 0], value) == Ok(true);
     }
-    let fetched = fetch(client, into);
-    let next = client.order(b"d", b"m");
-    (are_added, fetched, next)
+    are_added
 }
 
 // A reply whose third row is long, and then NEXT_REPLY.
@@ -370,28 +424,40 @@ fn short_rows_and_a_long<R: Abort>(rt: &R, alloc: Global) -> Vec<u8> {
     stream
 }
 
+// Whether all rows are added that a builder is given, and what comes of both calls then.
+fn fetch_behind<R: RandomSource + Abort>(rt: &R, alloc: Global) -> (bool, FetchedAndOrder) {
+    let value = longest(rt, alloc, 0);
+    let mut client = client(rt, alloc, short_rows_and_a_long(rt, alloc), 4096);
+    let mut into = builder(rt, alloc);
+    let are_added = fill(&mut into, &value);
+    (are_added, fetch_and_order(&mut client, &mut into))
+}
+
 #[test]
 fn row_that_is_refused(rt: HostRuntime) {
-    let alloc = rt.alloc();
-    // 255 rows of 65,548 bytes leave room for 62,456 more, of 16,777,216.
-    let value = longest(&rt, alloc, 0);
-    let wire = wire(alloc, short_rows_and_a_long(&rt, alloc), 4096);
-    let came = with_builder(&rt, alloc, wire, |client, into| {
-        fetch_behind(client, into, &value)
-    });
-    // The third row is refused, though the second has the key of the first.
+    // 255 rows of 65,548 bytes leave room for 62,456 more, of 16,777,216. The third row is refused, though the second
+    // has the key of the first.
     let fault = ClientFault::Rows {
         row: 3,
         fault: VersionFault::TooBig,
     };
-    let wanted = (true, (Err(fault), 256), Ok(7));
+    let came = fetch_behind(&rt, rt.alloc());
+    let wanted = (true, ((Err(fault), 256), Ok(7)));
     assert_same(&rt, &came, &wanted, "a row too many");
 }
 
-// What came of ALL into a new builder.
+// What comes of ALL into a new builder.
 fn fetch_anew<R: RandomSource + Abort>(rt: &R, alloc: Global, client: &mut MemClient) -> Fetched {
     let mut into = builder(rt, alloc);
     fetch(client, &mut into)
+}
+
+// What comes of ALL three times, over one wire.
+fn fetch_thrice<R: RandomSource + Abort>(rt: &R, alloc: Global, input: Vec<u8>) -> [Fetched; 3] {
+    let mut client = client(rt, alloc, input, 5);
+    let first = fetch_anew(rt, alloc, &mut client);
+    let second = fetch_anew(rt, alloc, &mut client);
+    [first, second, fetch_anew(rt, alloc, &mut client)]
 }
 
 #[test]
@@ -405,13 +471,6 @@ fn one_map_after_another(rt: HostRuntime) {
         (Ok(()), 0),
         (Err(ClientFault::Torn { at: 88 }), 0),
     ];
-    let wire = wire(alloc, bytes(&rt, alloc, &[replies]), 5);
-    let came = with_client(&rt, alloc, wire, 8, |client| {
-        [
-            fetch_anew(&rt, alloc, client),
-            fetch_anew(&rt, alloc, client),
-            fetch_anew(&rt, alloc, client),
-        ]
-    });
-    assert_same(&rt, &came.0, &wanted, "three maps");
+    let came = fetch_thrice(&rt, alloc, bytes(&rt, alloc, &[replies]));
+    assert_same(&rt, &came, &wanted, "three maps");
 }

@@ -1,37 +1,33 @@
 //! Calls and replies written out by hand, from RFC 5531 and yp.x.
 
 use crate::given::{assert_same, bytes};
-use crate::lent::{MemClient, with_client};
+use crate::lent::{MemClient, assert_sent, client_over};
 use std::alloc::Global;
 use std::process::Abort;
 use yp_client::{ClientFault, Row};
-use yp_io::{MemSink, MemSource, MemWire, Pair};
-use yp_msgs::{Names, ReqXfr, XfrStat, YpStat};
+use yp_io::{MemSink, MemSource, Pair};
+use yp_msgs::{MapList, ReqXfr, XfrStat, YpStat};
 use yp_rpc::ReplyHead;
 
-// A wire with this input, of whose source and sink the calls that are listed fail.
-fn wire(alloc: Global, input: Vec<u8>, reads: Vec<u64>, writes: Vec<u64>) -> MemWire {
-    Pair {
-        source: MemSource::new(input, 5, reads),
-        sink: MemSink::new(alloc, 7, writes),
-    }
-}
-
-// A wire with this input, which never fails.
-fn fair_wire(alloc: Global, input: Vec<u8>) -> MemWire {
-    wire(alloc, input, Vec::new(alloc), Vec::new(alloc))
-}
-
-// Bytes that are lent, as the test's own.
-fn copied<R: Abort>(
+// A client over a wire with this input, whose first call has a number. The calls of the wire that are listed fail.
+fn client<R: Abort>(
     rt: &R,
     alloc: Global,
-    lent: Result<&[u8], ClientFault>,
-) -> Result<Vec<u8>, ClientFault> {
-    match lent {
-        Ok(bytes) => Ok(bytes.to_vec(alloc).expect(rt, "a copy")),
-        Err(fault) => Err(fault),
-    }
+    input: &[&str],
+    xid: u32,
+    reads: Vec<u64>,
+    writes: Vec<u64>,
+) -> MemClient {
+    let wire = Pair {
+        source: MemSource::new(bytes(rt, alloc, input), 5, reads),
+        sink: MemSink::new(alloc, 7, writes),
+    };
+    client_over(rt, alloc, wire, xid)
+}
+
+// The same over a wire that never fails.
+fn fair_client<R: Abort>(rt: &R, alloc: Global, input: &[&str], xid: u32) -> MemClient {
+    client(rt, alloc, input, xid, Vec::new(alloc), Vec::new(alloc))
 }
 
 #[test]
@@ -42,14 +38,11 @@ fn first_match(rt: HostRuntime) {
     let call = "8000004c 00000001 00000000 00000002 000186a4 00000002 00000003 00000000 00000000 \
         00000000 00000000 00000003 6c616200 0000000c 686f7374 732e6279 6e616d65 \
         00000005 616c7068 61000000";
-    let value = b"10.0.0.1 alpha".to_vec(alloc).expect(&rt, "a value");
-    let wanted = (Ok(value), bytes(&rt, alloc, &[call]));
-    let wire = fair_wire(alloc, bytes(&rt, alloc, &[reply]));
-    let came = with_client(&rt, alloc, wire, 1, |client| {
-        let value = client.match_key(b"lab", b"hosts.byname", b"alpha");
-        copied(&rt, alloc, value)
-    });
-    assert_same(&rt, &came, &wanted, "MATCH");
+    let value: &[u8] = b"10.0.0.1 alpha";
+    let mut client = fair_client(&rt, alloc, &[reply], 1);
+    let came = client.match_key(b"lab", b"hosts.byname", b"alpha");
+    assert_same(&rt, &came, &Ok(value), "MATCH");
+    assert_sent(&rt, alloc, client, call, "MATCH");
 }
 
 #[test]
@@ -63,146 +56,139 @@ fn order_and_master(rt: HostRuntime) {
         00000000 00000000 00000003 6c616200 0000000c 686f7374 732e6279 6e616d65 \
         80000040 00000000 00000000 00000002 000186a4 00000002 00000009 00000000 00000000 \
         00000000 00000000 00000003 6c616200 0000000c 686f7374 732e6279 6e616d65";
-    let master = b"m1".to_vec(alloc).expect(&rt, "a name");
-    let wanted = ((Ok(100), Ok(master)), bytes(&rt, alloc, &[calls]));
-    let wire = fair_wire(alloc, bytes(&rt, alloc, &[replies]));
-    let came = with_client(&rt, alloc, wire, u32::MAX, |client| {
-        let order = client.order(b"lab", b"hosts.byname");
-        let master = client.master(b"lab", b"hosts.byname");
-        (order, copied(&rt, alloc, master))
-    });
-    assert_same(&rt, &came, &wanted, "ORDER and MASTER");
+    let master: &[u8] = b"m1";
+    let mut client = fair_client(&rt, alloc, &[replies], u32::MAX);
+    assert_same(
+        &rt,
+        &client.order(b"lab", b"hosts.byname"),
+        &Ok(100),
+        "ORDER",
+    );
+    assert_same(
+        &rt,
+        &client.master(b"lab", b"hosts.byname"),
+        &Ok(master),
+        "MASTER",
+    );
+    assert_sent(&rt, alloc, client, calls, "ORDER and MASTER");
 }
 
-// A row as its key and its value.
-type KeyAndValue = (Vec<u8>, Vec<u8>);
-
-// The answers to FIRST, NEXT and MAPLIST: rows, and names with a line feed behind each.
-type Listed = (
-    [Result<KeyAndValue, ClientFault>; 2],
-    Result<Vec<u8>, ClientFault>,
-);
-
-fn lines<R: Abort>(rt: &R, alloc: Global, names: &Names) -> Vec<u8> {
-    let mut lines = Vec::new(alloc);
-    for i in 0..names.len() {
-        let name = names.get(i).unwrap_or(b"?");
-        lines.extend_from_slice(name).expect(rt, "room");
-        lines.push(b'\n').expect(rt, "room");
-    }
-    lines
-}
-
-fn key_and_value<R: Abort>(
-    rt: &R,
-    alloc: Global,
-    found: Result<Row<'_>, ClientFault>,
-) -> Result<KeyAndValue, ClientFault> {
+// The key and the value of a row.
+fn key_and_value(found: Result<Row<'_>, ClientFault>) -> Result<(&[u8], &[u8]), ClientFault> {
     match found {
-        Ok(row) => {
-            let key = row.key.to_vec(alloc).expect(rt, "a copy");
-            Ok((key, row.value.to_vec(alloc).expect(rt, "a copy")))
-        }
+        Ok(row) => Ok((row.key, row.value)),
         Err(fault) => Err(fault),
     }
 }
 
-fn list<R: Abort>(rt: &R, alloc: Global, client: &mut MemClient) -> Listed {
-    let first = key_and_value(rt, alloc, client.first(b"d", b"m"));
-    let next = key_and_value(rt, alloc, client.next(b"d", b"m", b"k"));
+// How many names there are, and the first two.
+type TwoNames<'a> = (usize, Option<&'a [u8]>, Option<&'a [u8]>);
+
+fn two_names(found: &Result<MapList, ClientFault>) -> Result<TwoNames<'_>, ClientFault> {
+    match found {
+        Ok(list) => Ok((list.maps.len(), list.maps.get(0), list.maps.get(1))),
+        Err(fault) => Err(*fault),
+    }
+}
+
+// Makes FIRST, NEXT and MAPLIST.
+fn try_lists<R: Abort>(rt: &R, client: &mut MemClient) {
+    let (key, value): (&[u8], &[u8]) = (b"k", b"v");
+    let first = key_and_value(client.first(b"d", b"m"));
+    assert_same(rt, &first, &Ok((key, value)), "FIRST");
+    let empty: &[u8] = b"";
+    let next = key_and_value(client.next(b"d", b"m", b"k"));
+    assert_same(rt, &next, &Ok((empty, empty)), "NEXT");
+    let (a, b): (&[u8], &[u8]) = (b"a", b"b");
     let maps = client.maplist(b"d");
-    let names = match maps {
-        Ok(list) => Ok(lines(rt, alloc, &list.maps)),
-        Err(fault) => Err(fault),
-    };
-    ([first, next], names)
+    assert_same(rt, &two_names(&maps), &Ok((2, Some(a), Some(b))), "MAPLIST");
 }
 
 #[test]
 fn rows_and_maps(rt: HostRuntime) {
-    let alloc = rt.alloc();
     let replies = "8000002c 00000001 00000001 00000000 00000000 00000000 00000000 \
         00000001 00000001 76000000 00000001 6b000000 \
         80000024 00000002 00000001 00000000 00000000 00000000 00000000 00000001 00000000 00000000 00000000 \
         80000038 00000003 00000001 00000000 00000000 00000000 00000000 00000001 \
         00000001 00000001 61000000 00000001 00000001 62000000 00000000";
-    let key = b"k".to_vec(alloc).expect(&rt, "a key");
-    let value = b"v".to_vec(alloc).expect(&rt, "a value");
-    let maps = b"a\nb\n".to_vec(alloc).expect(&rt, "names");
-    let rows = [Ok((key, value)), Ok((Vec::new(alloc), Vec::new(alloc)))];
-    let wanted = (rows, Ok(maps));
-    let wire = fair_wire(alloc, bytes(&rt, alloc, &[replies]));
-    let came = with_client(&rt, alloc, wire, 1, |client| list(&rt, alloc, client));
-    assert_same(&rt, &came.0, &wanted, "FIRST, NEXT and MAPLIST");
+    let mut client = fair_client(&rt, rt.alloc(), &[replies], 1);
+    try_lists(&rt, &mut client);
 }
 
 // The reply to call 9: the order number 7.
 const NEXT_REPLY: &str =
     "80000020 00000009 00000001 00000000 00000000 00000000 00000000 00000001 00000007";
 
-// Replies to call 8 that refuse it, and whether the client goes on.
-const REFUSALS: [(&str, ClientFault, bool); 13] = [
+// The answer to that, where the client goes on, and where it doesn't.
+const GOES_ON: Result<u32, ClientFault> = Ok(7);
+
+const SPENT: Result<u32, ClientFault> = Err(ClientFault::Spent);
+
+// A reply to call 8 that refuses it, and the answers to that call and the next one.
+type Refusal = (&'static str, ClientFault, Result<u32, ClientFault>);
+
+static REFUSALS: [Refusal; 13] = [
     // Another call's reply, and one that can't be read.
     (
         "80000020 00000009 00000001 00000000 00000000 00000000 00000000 00000001 00000064",
         ClientFault::BadXid { want: 8, got: 9 },
-        false,
+        SPENT,
     ),
-    ("80000000", ClientFault::BadReply { at: 0 }, false),
+    ("80000000", ClientFault::BadReply { at: 0 }, SPENT),
     (
         "80000008 00000008 00000000",
         ClientFault::BadReply { at: 4 },
-        false,
+        SPENT,
     ),
     (
         "80000018 00000008 00000001 00000000 00000000 00000000 00000006",
         ClientFault::BadReply { at: 20 },
-        false,
+        SPENT,
     ),
     (
         "8000001c 00000008 00000001 00000000 00000000 00000000 00000000 00000003",
         ClientFault::BadReply { at: 24 },
-        false,
+        SPENT,
     ),
     (
         "8000001e 00000008 00000001 00000000 00000000 00000000 00000000 00000001 0000",
         ClientFault::BadReply { at: 28 },
-        false,
+        SPENT,
     ),
     // Refused by RPC, and by the server.
     (
         "80000014 00000008 00000001 00000001 00000001 00000002",
         ClientFault::Denied(ReplyHead::AuthError { stat: 2 }),
-        true,
+        GOES_ON,
     ),
     (
         "80000018 00000008 00000001 00000000 00000000 00000000 00000003",
         ClientFault::Denied(ReplyHead::ProcUnavail),
-        true,
+        GOES_ON,
     ),
     (
         "80000020 00000008 00000001 00000000 00000000 00000000 00000000 ffffffff 00000000",
         ClientFault::Yp(YpStat::Nomap),
-        true,
+        GOES_ON,
     ),
     // What follows a status is skipped.
     (
         "8000001c 00000008 00000001 00000000 00000000 00000000 00000000 fffffffe",
         ClientFault::Yp(YpStat::Nodom),
-        true,
+        GOES_ON,
     ),
     // The number goes before the refusal, and the head before the number.
     (
         "80000014 00000007 00000001 00000001 00000001 00000002",
         ClientFault::BadXid { want: 8, got: 7 },
-        false,
+        SPENT,
     ),
     (
         "80000010 00000007 00000001 00000001 00000002",
         ClientFault::BadReply { at: 12 },
-        false,
+        SPENT,
     ),
-    ("80040001", ClientFault::TooLong { at: 0 }, false),
+    ("80040001", ClientFault::TooLong { at: 0 }, SPENT),
 ];
 
 // The answers to ORDER, twice.
@@ -210,43 +196,59 @@ fn orders(client: &mut MemClient) -> [Result<u32, ClientFault>; 2] {
     [client.order(b"d", b"m"), client.order(b"d", b"m")]
 }
 
+fn try_refusal<R: Abort>(rt: &R, alloc: Global, refusal: &Refusal) {
+    let (reply, fault, next) = *refusal;
+    let mut client = fair_client(rt, alloc, &[reply, NEXT_REPLY], 8);
+    assert_same(rt, &orders(&mut client), &[Err(fault), next], reply);
+}
+
 #[test]
 fn client_refusals(rt: HostRuntime) {
-    let alloc = rt.alloc();
-    for (reply, fault, goes_on) in &REFUSALS {
-        let next = if *goes_on {
-            Ok(7)
-        } else {
-            Err(ClientFault::Spent)
-        };
-        let wire = fair_wire(alloc, bytes(&rt, alloc, &[*reply, NEXT_REPLY]));
-        let came = with_client(&rt, alloc, wire, 8, orders);
-        assert_same(&rt, &came.0, &[Err(*fault), next], *reply);
+    for refusal in &REFUSALS {
+        try_refusal(&rt, rt.alloc(), refusal);
     }
+}
+
+// The input, the read and the write that fail, the answer, and how many bytes were taken. A call has 60 bytes.
+type Failing = (&'static str, u64, u64, ClientFault, usize);
+
+static FAILING: [Failing; 7] = [
+    ("", 9, 99, ClientFault::Torn { at: 0 }, 60),
+    ("80000020 00000008", 99, 99, ClientFault::Torn { at: 0 }, 60),
+    (NEXT_REPLY, 0, 99, ClientFault::ReadFault, 60),
+    (NEXT_REPLY, 3, 99, ClientFault::ReadFault, 60),
+    (NEXT_REPLY, 99, 0, ClientFault::WriteFault, 0),
+    (NEXT_REPLY, 99, 2, ClientFault::WriteFault, 14),
+    // The flush behind nine writes of at most seven bytes.
+    (NEXT_REPLY, 99, 9, ClientFault::WriteFault, 60),
+];
+
+// The answers to ORDER, twice, and how many bytes were taken, where a read and a write fail.
+fn orders_over<R: Abort>(
+    rt: &R,
+    alloc: Global,
+    input: &str,
+    read: u64,
+    write: u64,
+) -> ([Result<u32, ClientFault>; 2], usize) {
+    let reads = Vec::from_slice(alloc, &[read]).expect(rt, "a list");
+    let writes = Vec::from_slice(alloc, &[write]).expect(rt, "a list");
+    let mut client = client(rt, alloc, &[input], 8, reads, writes);
+    let said = orders(&mut client);
+    (said, client.into_wire().sink.taken().len())
+}
+
+fn try_failing<R: Abort>(rt: &R, alloc: Global, failing: &Failing) {
+    let (input, read, write, fault, taken) = *failing;
+    let came = (read, write, orders_over(rt, alloc, input, read, write));
+    let said = [Err(fault), Err(ClientFault::Spent)];
+    assert_same(rt, &came, &(read, write, (said, taken)), input);
 }
 
 #[test]
 fn one_failing_call(rt: HostRuntime) {
-    let alloc = rt.alloc();
-    // The input, the reads and the writes that fail, the answer, and how many bytes were taken. A call has 60 bytes.
-    for (input, reads, writes, fault, taken) in [
-        ("", 9, 99, ClientFault::Torn { at: 0 }, 60),
-        ("80000020 00000008", 99, 99, ClientFault::Torn { at: 0 }, 60),
-        (NEXT_REPLY, 0, 99, ClientFault::ReadFault, 60),
-        (NEXT_REPLY, 3, 99, ClientFault::ReadFault, 60),
-        (NEXT_REPLY, 99, 0, ClientFault::WriteFault, 0),
-        (NEXT_REPLY, 99, 2, ClientFault::WriteFault, 14),
-        // The flush behind nine writes of at most seven bytes.
-        (NEXT_REPLY, 99, 9, ClientFault::WriteFault, 60),
-    ] {
-        let bytes = bytes(&rt, alloc, &[input]);
-        let failing_reads = vec![in alloc; reads].expect(&rt, "a list");
-        let failing_writes = vec![in alloc; writes].expect(&rt, "a list");
-        let wire = wire(alloc, bytes, failing_reads, failing_writes);
-        let (said, sent) = with_client(&rt, alloc, wire, 8, orders);
-        let came = (reads, writes, said, sent.len());
-        let faults = [Err(fault), Err(ClientFault::Spent)];
-        assert_same(&rt, &came, &(reads, writes, faults, taken), input);
+    for failing in &FAILING {
+        try_failing(&rt, rt.alloc(), failing);
     }
 }
 
@@ -278,7 +280,6 @@ fn make_others(client: &mut MemClient) -> Others {
 
 #[test]
 fn other_procedures(rt: HostRuntime) {
-    let alloc = rt.alloc();
     // NULL, CLEAR, DOMAIN twice, XFR, and a boolean that is neither.
     let replies = "80000018 00000001 00000001 00000000 00000000 00000000 00000000 \
         80000018 00000002 00000001 00000000 00000000 00000000 00000000 \
@@ -292,9 +293,8 @@ fn other_procedures(rt: HostRuntime) {
         Ok(XfrStat::Refused),
         Err(ClientFault::BadReply { at: 24 }),
     );
-    let wire = fair_wire(alloc, bytes(&rt, alloc, &[replies]));
-    let came = with_client(&rt, alloc, wire, 1, make_others);
-    assert_same(&rt, &came.0, &wanted, "others");
+    let mut client = fair_client(&rt, rt.alloc(), &[replies], 1);
+    assert_same(&rt, &make_others(&mut client), &wanted, "others");
 }
 
 #[test]
@@ -303,8 +303,7 @@ fn make_program(rt: HostRuntime) {
     let reply = "8000001c 00000002 00000001 00000000 00000000 00000000 00000000 00000001";
     let call = "80000034 00000002 00000000 00000002 20004e49 00000001 00000001 00000000 00000000 \
         00000000 00000000 00000003 6c616200 00000005";
-    let wanted = (Ok(XfrStat::Succ), bytes(&rt, alloc, &[call]));
-    let wire = fair_wire(alloc, bytes(&rt, alloc, &[reply]));
-    let came = with_client(&rt, alloc, wire, 2, |client| client.make(b"lab", 5));
-    assert_same(&rt, &came, &wanted, "MAKE");
+    let mut client = fair_client(&rt, alloc, &[reply], 2);
+    assert_same(&rt, &client.make(b"lab", 5), &Ok(XfrStat::Succ), "MAKE");
+    assert_sent(&rt, alloc, client, call, "MAKE");
 }

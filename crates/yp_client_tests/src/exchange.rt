@@ -2,5 +2,5 @@
 
 mod exchanges;
 mod server;
-mod told;
+pub mod told;
 mod worked;

@@ -4,6 +4,8 @@
 #[cfg(test)]
 mod all;
 #[cfg(test)]
+mod asked;
+#[cfg(test)]
 mod calls;
 #[cfg(test)]
 mod exchange;

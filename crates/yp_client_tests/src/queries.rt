@@ -1,158 +1,16 @@
 //! Questions over wires in memory: calls and replies written out by hand, from RFC 5531 and yp.x.
 
-ghost use Rattle.std.specs.Prelude.{◌<◌};
-ghost use Rattle.yp_client.specs.Questions.{bytes_of, QuestionIsWithin};
-
+use crate::asked::{Asked, FAIR, Fixed, SERVER, Weather, ask, asked_peer};
 use crate::given::{assert_same, bytes};
 use std::alloc::Global;
 use std::process::Abort;
 use std::random::RandomSource;
 use yp_client::{ClientFault, Question};
-use yp_io::{MemDial, MemDialed, MemSink, MemSource, Pair, Peer};
+use yp_io::Peer;
 use yp_msgs::YpStat;
-use yp_query::{QueryFault, query};
+use yp_query::QueryFault;
 use yp_rpc::ReplyHead;
 use yp_version::VersionFault;
-
-const SERVER: Peer = Peer {
-    addr: [10, 0, 0, 1],
-    port: 834,
-};
-
-/// The calls that fail, counted from 0: of the dial, of the wire's source and sink, and of the sink that is printed
-/// to.
-#[derive(Clone, Copy, Debug)]
-struct Weather<'a> {
-    dials: &'a [u64],
-    reads: &'a [u64],
-    writes: &'a [u64],
-    prints: &'a [u64],
-}
-
-const FAIR: Weather<'static> = Weather {
-    dials: &[],
-    reads: &[],
-    writes: &[],
-    prints: &[],
-};
-
-/// What came of a question: its result, how many wires were given back, what was sent over them, and what was printed.
-type Asked = (Result<(), QueryFault>, usize, Vec<u8>, Vec<u8>);
-
-fn assert_within<R: Abort>(rt: &R, question: &Question<Vec<u8>>)
-    ensures { QuestionIsWithin (bytes_of question.now) }
-{
-    assert!(rt; question.is_within());
-}
-
-/// A question in bytes that a constant has.
-type Fixed = Question<&'static [u8]>;
-
-fn text<R: Abort>(rt: &R, alloc: Global, text: &[u8]) -> Vec<u8> {
-    text.to_vec(alloc).expect(rt, "a text")
-}
-
-fn given<R: Abort>(rt: &R, alloc: Global, given: Option<&[u8]>) -> Option<Vec<u8>> {
-    match given {
-        Some(bytes) => Some(text(rt, alloc, bytes)),
-        None => None,
-    }
-}
-
-// The same in bytes of its own.
-fn owned<R: Abort>(rt: &R, alloc: Global, question: &Fixed) -> Question<Vec<u8>> {
-    match *question {
-        Question::Cat { domain, map } => Question::Cat {
-            domain: text(rt, alloc, domain),
-            map: text(rt, alloc, map),
-        },
-        Question::Catk { domain, map } => Question::Catk {
-            domain: text(rt, alloc, domain),
-            map: text(rt, alloc, map),
-        },
-        Question::Match { domain, map, key } => Question::Match {
-            domain: text(rt, alloc, domain),
-            map: text(rt, alloc, map),
-            key: text(rt, alloc, key),
-        },
-        Question::Which { domain, map } => Question::Which {
-            domain: text(rt, alloc, domain),
-            map: text(rt, alloc, map),
-        },
-        Question::Poll { domain, map } => Question::Poll {
-            domain: text(rt, alloc, domain),
-            map: text(rt, alloc, map),
-        },
-        Question::Maps { domain } => Question::Maps {
-            domain: text(rt, alloc, domain),
-        },
-        Question::Innetgr {
-            domain,
-            group,
-            host,
-            user,
-            user_domain,
-        } => Question::Innetgr {
-            domain: text(rt, alloc, domain),
-            group: text(rt, alloc, group),
-            host: given(rt, alloc, host),
-            user: given(rt, alloc, user),
-            user_domain: given(rt, alloc, user_domain),
-        },
-    }
-}
-
-// The numbers of calls that fail.
-fn list<R: Abort>(rt: &R, alloc: Global, calls: &[u64]) -> Vec<u64> {
-    Vec::from_slice(alloc, calls).expect(rt, "a list")
-}
-
-// Asks over this dial, and prints to this sink.
-fn ask_over<R: RandomSource + Abort>(
-    rt: &R,
-    alloc: Global,
-    question: &Question<Vec<u8>>,
-    dial: &mut MemDial,
-    sink: &mut MemSink,
-) -> Asked {
-    assert_within(rt, question);
-    let result = query(alloc, rt, dial, SERVER, question, sink);
-    let mut sent = Vec::new(alloc);
-    for wire in dial.past() {
-        sent.extend_from_slice(wire.sink.taken())
-            .expect(rt, "a copy");
-    }
-    let printed = sink.taken().to_vec(alloc).expect(rt, "a copy");
-    (result, dial.past().len(), sent, printed)
-}
-
-// Asks over one wire with this input, and prints to a sink that takes at most `piece` bytes in a write.
-fn ask<R: RandomSource + Abort>(
-    rt: &R,
-    alloc: Global,
-    question: &Fixed,
-    input: Vec<u8>,
-    piece: usize,
-    weather: Weather<'_>,
-) -> Asked
-    requires { 0 < piece }
-{
-    let reads = list(rt, alloc, weather.reads);
-    let writes = list(rt, alloc, weather.writes);
-    let dials = list(rt, alloc, weather.dials);
-    let prints = list(rt, alloc, weather.prints);
-    let mut wires = Vec::new(alloc);
-    wires
-        .push(Pair {
-            source: MemSource::new(input, 9, reads),
-            sink: MemSink::new(alloc, 16, writes),
-        })
-        .expect(rt, "a list of one wire");
-    let mut dial = MemDial::new(alloc, wires, dials);
-    let mut sink = MemSink::new(alloc, piece, prints);
-    let question = owned(rt, alloc, question);
-    ask_over(rt, alloc, &question, &mut dial, &mut sink)
-}
 
 const CAT: Fixed = Question::Cat {
     domain: b"lab",
@@ -216,50 +74,122 @@ const MAPS_CALL: &str =
     "80000030 00000001 00000000 00000002 000186a4 00000002 0000000b 00000000 00000000 \
     00000000 00000000 00000003 6c616200";
 
+const NO_ROWS: &str = "8000001c 00000001 00000001 00000000 00000000 00000000 00000000 00000000";
+
+const MASTER_REPLY: &str =
+    "80000024 00000001 00000001 00000000 00000000 00000000 00000000 00000001 00000002 6d310000";
+
+const POLL_REPLIES: &str =
+    "80000020 00000001 00000001 00000000 00000000 00000000 00000000 00000001 00000064 \
+    80000024 00000002 00000001 00000000 00000000 00000000 00000000 00000001 00000002 6d310000";
+
+const MAPS_REPLY: &str = "80000038 00000001 00000001 00000000 00000000 00000000 00000000 00000001 \
+    00000001 00000001 62000000 00000001 00000001 61000000 00000000";
+
+const NO_MAPS: &str =
+    "80000020 00000001 00000001 00000000 00000000 00000000 00000000 00000001 00000000";
+
+const BINARY_REPLY: &str =
+    "80000024 00000001 00000001 00000000 00000000 00000000 00000000 00000001 00000003 000aff00";
+
+/// A question, the replies, the calls, and what is printed.
+struct Answer {
+    row: &'static str,
+    question: Fixed,
+    input: &'static str,
+    calls: &'static str,
+    result: Result<(), QueryFault>,
+    printed: &'static [u8],
+}
+
+static ANSWERS: [Answer; 9] = [
+    Answer {
+        row: "values",
+        question: CAT,
+        input: ROWS_REPLY,
+        calls: ALL_CALL,
+        result: Ok(()),
+        printed: b"1\n2\n",
+    },
+    Answer {
+        row: "rows",
+        question: CATK,
+        input: ROWS_REPLY,
+        calls: ALL_CALL,
+        result: Ok(()),
+        printed: b"a 1\nb 2\n",
+    },
+    Answer {
+        row: "no rows",
+        question: CATK,
+        input: NO_ROWS,
+        calls: ALL_CALL,
+        result: Ok(()),
+        printed: b"",
+    },
+    Answer {
+        row: "a value",
+        question: ALPHA,
+        input: ALPHA_REPLY,
+        calls: ALPHA_CALL,
+        result: Ok(()),
+        printed: b"10.0.0.1 alpha\n",
+    },
+    Answer {
+        row: "bytes",
+        question: ALPHA,
+        input: BINARY_REPLY,
+        calls: ALPHA_CALL,
+        result: Ok(()),
+        printed: b"\x00\n\xff\n",
+    },
+    Answer {
+        row: "a master",
+        question: WHICH,
+        input: MASTER_REPLY,
+        calls: MASTER_CALL,
+        result: Ok(()),
+        printed: b"m1\n",
+    },
+    Answer {
+        row: "a standing",
+        question: POLL,
+        input: POLL_REPLIES,
+        calls: POLL_CALLS,
+        result: Ok(()),
+        printed: b"order 100\nmaster m1\n",
+    },
+    Answer {
+        row: "maps",
+        question: MAPS,
+        input: MAPS_REPLY,
+        calls: MAPS_CALL,
+        result: Ok(()),
+        printed: b"b\na\n",
+    },
+    Answer {
+        row: "no maps",
+        question: MAPS,
+        input: NO_MAPS,
+        calls: MAPS_CALL,
+        result: Ok(()),
+        printed: b"",
+    },
+];
+
+fn try_answer<R: RandomSource + Abort>(rt: &R, alloc: Global, answer: &Answer) {
+    let input = bytes(rt, alloc, &[answer.input]);
+    let calls = bytes(rt, alloc, &[answer.calls]);
+    let (result, wires, sent, printed) = ask(rt, alloc, &answer.question, input, 4, &FAIR);
+    let came = (result, wires, sent.as_slice(), printed.as_slice());
+    let wanted = (answer.result, 1, calls.as_slice(), answer.printed);
+    assert_same(rt, &came, &wanted, answer.row);
+}
+
 #[test]
 fn answers_are_printed(rt: HostRuntime) {
-    let alloc = rt.alloc();
-    let no_rows = "8000001c 00000001 00000001 00000000 00000000 00000000 00000000 00000000";
-    let master =
-        "80000024 00000001 00000001 00000000 00000000 00000000 00000000 00000001 00000002 6d310000";
-    let standing =
-        "80000020 00000001 00000001 00000000 00000000 00000000 00000000 00000001 00000064 \
-        80000024 00000002 00000001 00000000 00000000 00000000 00000000 00000001 00000002 6d310000";
-    let maps = "80000038 00000001 00000001 00000000 00000000 00000000 00000000 00000001 \
-        00000001 00000001 62000000 00000001 00000001 61000000 00000000";
-    let no_maps =
-        "80000020 00000001 00000001 00000000 00000000 00000000 00000000 00000001 00000000";
-    let binary =
-        "80000024 00000001 00000001 00000000 00000000 00000000 00000000 00000001 00000003 000aff00";
-    let cases: [(&str, Fixed, &str, &str, &[u8]); 9] = [
-        ("values", CAT, ROWS_REPLY, ALL_CALL, b"1\n2\n"),
-        ("rows", CATK, ROWS_REPLY, ALL_CALL, b"a 1\nb 2\n"),
-        ("no rows", CATK, no_rows, ALL_CALL, b""),
-        (
-            "a value",
-            ALPHA,
-            ALPHA_REPLY,
-            ALPHA_CALL,
-            b"10.0.0.1 alpha\n",
-        ),
-        ("bytes", ALPHA, binary, ALPHA_CALL, b"\x00\n\xff\n"),
-        ("a master", WHICH, master, MASTER_CALL, b"m1\n"),
-        (
-            "a standing",
-            POLL,
-            standing,
-            POLL_CALLS,
-            b"order 100\nmaster m1\n",
-        ),
-        ("maps", MAPS, maps, MAPS_CALL, b"b\na\n"),
-        ("no maps", MAPS, no_maps, MAPS_CALL, b""),
-    ];
-    for (row, question, input, calls, printed) in &cases {
-        let input = bytes(&rt, alloc, &[*input]);
-        let printed = printed.to_vec(alloc).expect(&rt, "a text");
-        let wanted = (Ok(()), 1, bytes(&rt, alloc, &[*calls]), printed);
-        let asked = ask(&rt, alloc, question, input, 4, FAIR);
-        assert_same(&rt, &asked, &wanted, *row);
+    for answer in &ANSWERS {
+        try_answer(&rt, rt.alloc(), answer);
     }
 }
 
@@ -278,127 +208,119 @@ const REPEATED_REPLY: &str = "8000005c 00000001 00000001 00000000 00000000 00000
     00000001 00000001 00000009 2868312c 2c6c6162 29000000 00000001 61000000 \
     00000001 00000001 00000009 2868322c 2c6c6162 29000000 00000001 61000000 00000000";
 
-fn innetgr_of(
-    group: &'static [u8],
-    host: Option<&'static [u8]>,
-    user: Option<&'static [u8]>,
-) -> Fixed {
-    Question::Innetgr {
+/// A member, and nobody.
+const MEMBER: Answer = Answer {
+    row: "a user",
+    question: Question::Innetgr {
         domain: b"lab",
-        group,
-        host,
-        user,
+        group: b"a",
+        host: None,
+        user: Some(b"joe"),
         user_domain: None,
-    }
-}
+    },
+    input: GROUPS_REPLY,
+    calls: GROUPS_CALL,
+    result: Ok(()),
+    printed: b"yes\n",
+};
 
-/// What comes of such a question, and what is printed.
-fn told_of(is_member: bool) -> (Result<(), QueryFault>, &'static [u8]) {
-    if is_member {
-        (Ok(()), b"yes\n")
-    } else {
-        (Err(QueryFault::NotMember), b"no\n")
-    }
-}
+const NOBODY: Answer = Answer {
+    row: "no such group",
+    question: Question::Innetgr {
+        domain: b"lab",
+        group: b"c",
+        host: None,
+        user: None,
+        user_domain: None,
+    },
+    result: Err(QueryFault::NotMember),
+    printed: b"no\n",
+    ..MEMBER
+};
+
+static MEMBERS: [Answer; 6] = [
+    MEMBER,
+    Answer {
+        row: "a dash for the host",
+        question: Question::Innetgr {
+            domain: b"lab",
+            group: b"a",
+            host: Some(b"h1"),
+            user: Some(b"joe"),
+            user_domain: None,
+        },
+        ..NOBODY
+    },
+    NOBODY,
+    Answer {
+        row: "a user in capitals",
+        question: Question::Innetgr {
+            domain: b"lab",
+            group: b"a",
+            host: None,
+            user: Some(b"Joe"),
+            user_domain: None,
+        },
+        ..NOBODY
+    },
+    Answer {
+        row: "the first of equal keys",
+        question: Question::Innetgr {
+            domain: b"lab",
+            group: b"a",
+            host: Some(b"H1"),
+            user: None,
+            user_domain: None,
+        },
+        input: REPEATED_REPLY,
+        ..MEMBER
+    },
+    Answer {
+        row: "the second",
+        question: Question::Innetgr {
+            domain: b"lab",
+            group: b"a",
+            host: Some(b"h2"),
+            user: None,
+            user_domain: None,
+        },
+        input: REPEATED_REPLY,
+        ..NOBODY
+    },
+];
 
 #[test]
 fn members_of_groups(rt: HostRuntime) {
-    let alloc = rt.alloc();
-    let cases: [(&str, &str, Fixed, bool); 6] = [
-        (
-            "a user",
-            GROUPS_REPLY,
-            innetgr_of(b"a", None, Some(b"joe")),
-            true,
-        ),
-        (
-            "a dash for the host",
-            GROUPS_REPLY,
-            innetgr_of(b"a", Some(b"h1"), Some(b"joe")),
-            false,
-        ),
-        (
-            "no such group",
-            GROUPS_REPLY,
-            innetgr_of(b"c", None, None),
-            false,
-        ),
-        (
-            "a user in capitals",
-            GROUPS_REPLY,
-            innetgr_of(b"a", None, Some(b"Joe")),
-            false,
-        ),
-        (
-            "the first of equal keys",
-            REPEATED_REPLY,
-            innetgr_of(b"a", Some(b"H1"), None),
-            true,
-        ),
-        (
-            "the second",
-            REPEATED_REPLY,
-            innetgr_of(b"a", Some(b"h2"), None),
-            false,
-        ),
-    ];
-    for (row, input, question, is_member) in &cases {
-        let input = bytes(&rt, alloc, &[*input]);
-        let calls = bytes(&rt, alloc, &[GROUPS_CALL]);
-        let (result, line) = told_of(*is_member);
-        let wanted = (result, 1, calls, text(&rt, alloc, line));
-        let asked = ask(&rt, alloc, question, input, 4, FAIR);
-        assert_same(&rt, &asked, &wanted, *row);
+    for answer in &MEMBERS {
+        try_answer(&rt, rt.alloc(), answer);
     }
 }
 
-// The peer of the one wire that came.
-fn one_peer(came: &[MemDialed]) -> Option<Peer> {
-    match came {
-        [wire] => Some(wire.peer),
-        _ => None,
-    }
-}
+const OTHER_SERVER: Peer = Peer {
+    addr: [192, 168, 7, 254],
+    port: 65_535,
+};
 
-// The peer that is asked a question over the one wire that a dial has.
-fn asked<R: RandomSource + Abort>(
-    rt: &R,
-    alloc: Global,
-    question: &Fixed,
-    to: Peer,
-) -> Option<Peer> {
-    let wire = Pair {
-        source: MemSource::new(Vec::new(alloc), 9, Vec::new(alloc)),
-        sink: MemSink::new(alloc, 16, Vec::new(alloc)),
-    };
-    let wires = Vec::from_array(alloc, [wire]).expect(rt, "a list of one wire");
-    let mut dial = MemDial::new(alloc, wires, Vec::new(alloc));
-    let mut sink = MemSink::new(alloc, 16, Vec::new(alloc));
-    let question = owned(rt, alloc, question);
-    assert_within(rt, &question);
-    let _ = query(alloc, rt, &mut dial, to, &question, &mut sink);
-    one_peer(dial.came())
-}
+static QUESTIONS: [(&str, Fixed); 6] = [
+    ("CAT", CAT),
+    ("CATK", CATK),
+    ("MATCH", ALPHA),
+    ("WHICH", WHICH),
+    ("POLL", POLL),
+    ("MAPS", MAPS),
+];
 
 #[test]
 fn server_that_is_asked(rt: HostRuntime) {
-    let other = Peer {
-        addr: [192, 168, 7, 254],
-        port: 65_535,
-    };
-    for (row, question) in &[
-        ("CAT", CAT),
-        ("CATK", CATK),
-        ("MATCH", ALPHA),
-        ("WHICH", WHICH),
-        ("POLL", POLL),
-        ("MAPS", MAPS),
-    ] {
-        let peers = [
-            asked(&rt, rt.alloc(), question, SERVER),
-            asked(&rt, rt.alloc(), question, other),
-        ];
-        assert_same(&rt, &peers, &[Some(SERVER), Some(other)], *row);
+    for (row, question) in &QUESTIONS {
+        let own = asked_peer(&rt, rt.alloc(), question, SERVER);
+        let other = asked_peer(&rt, rt.alloc(), question, OTHER_SERVER);
+        assert_same(
+            &rt,
+            &(own, other),
+            &(Some(SERVER), Some(OTHER_SERVER)),
+            *row,
+        );
     }
 }
 
@@ -436,83 +358,157 @@ const TORN: QueryFault = QueryFault::Client(ClientFault::Torn { at: 0 });
 
 const TORN_BEHIND_ORDER: QueryFault = QueryFault::Client(ClientFault::Torn { at: 36 });
 
+/// The question, the input, the fault, and how many bytes were sent. A call has 68 bytes, or 80 with the key.
+type Refusal = (&'static str, Fixed, &'static str, QueryFault, usize);
+
+static REFUSALS: [Refusal; 11] = [
+    ("CAT, no map", CAT, NOMAP_ROWS_REPLY, NO_MAP, 68),
+    ("CATK, torn", CATK, TORN_REPLY, TORN, 68),
+    ("MATCH, no key", ALPHA, NOKEY_REPLY, QueryFault::NoKey, 80),
+    ("MATCH, no map", ALPHA, NOMAP_REPLY, NO_MAP, 80),
+    ("WHICH, no key", WHICH, NOKEY_REPLY, NO_KEY, 68),
+    ("POLL, no map", POLL, NOMAP_REPLY, NO_MAP, 68),
+    ("POLL, torn", POLL, ORDER_REPLY, TORN_BEHIND_ORDER, 136),
+    ("POLL, other reply", POLL, OTHER_REPLY, OTHER_XID, 68),
+    ("MAPS, torn", MAPS, "", TORN, 52),
+    ("MAPS, denied", MAPS, DENIED_REPLY, DENIED, 52),
+    ("MAPS, no key", MAPS, NOKEY_REPLY, NO_KEY, 52),
+];
+
+fn try_refusal<R: RandomSource + Abort>(rt: &R, alloc: Global, refusal: &Refusal) {
+    let (row, question, input, fault, sent) = refusal;
+    let input = bytes(rt, alloc, &[*input]);
+    let asked = ask(rt, alloc, question, input, 4, &FAIR);
+    let came = (asked.0, asked.1, asked.2.len(), asked.3.len());
+    assert_same(rt, &came, &(Err(*fault), 1, *sent, 0), *row);
+}
+
 #[test]
 fn refusals_print_nothing(rt: HostRuntime) {
-    let alloc = rt.alloc();
-    // The question, the input, the fault, and how many bytes were sent. A call has 68 bytes, or 80 with the key.
-    for (row, question, input, fault, sent) in &[
-        ("CAT, no map", CAT, NOMAP_ROWS_REPLY, NO_MAP, 68),
-        ("CATK, torn", CATK, TORN_REPLY, TORN, 68),
-        ("MATCH, no key", ALPHA, NOKEY_REPLY, QueryFault::NoKey, 80),
-        ("MATCH, no map", ALPHA, NOMAP_REPLY, NO_MAP, 80),
-        ("WHICH, no key", WHICH, NOKEY_REPLY, NO_KEY, 68),
-        ("POLL, no map", POLL, NOMAP_REPLY, NO_MAP, 68),
-        ("POLL, torn", POLL, ORDER_REPLY, TORN_BEHIND_ORDER, 136),
-        ("POLL, other reply", POLL, OTHER_REPLY, OTHER_XID, 68),
-        ("MAPS, torn", MAPS, "", TORN, 52),
-        ("MAPS, denied", MAPS, DENIED_REPLY, DENIED, 52),
-        ("MAPS, no key", MAPS, NOKEY_REPLY, NO_KEY, 52),
-    ] {
-        let input = bytes(&rt, alloc, &[*input]);
-        let asked = ask(&rt, alloc, question, input, 4, FAIR);
-        let came = (asked.0, asked.1, asked.2.len(), asked.3.len());
-        assert_same(&rt, &came, &(Err(*fault), 1, *sent, 0), *row);
+    for refusal in &REFUSALS {
+        try_refusal(&rt, rt.alloc(), refusal);
     }
 }
 
-/// That these calls of the dial fail, and so on.
-const fn dials(failing: &[u64]) -> Weather<'_> {
-    Weather {
-        dials: failing,
-        ..FAIR
-    }
-}
+const READ_FAULT: QueryFault = QueryFault::Client(ClientFault::ReadFault);
 
-const fn reads(failing: &[u64]) -> Weather<'_> {
-    Weather {
-        reads: failing,
-        ..FAIR
-    }
-}
+const WRITE_FAULT: QueryFault = QueryFault::Client(ClientFault::WriteFault);
 
-const fn writes(failing: &[u64]) -> Weather<'_> {
-    Weather {
-        writes: failing,
-        ..FAIR
-    }
-}
+/// What fails, the fault, how many wires were given back, and what was printed.
+type Failing = (
+    &'static str,
+    Weather<'static>,
+    QueryFault,
+    usize,
+    &'static [u8],
+);
 
-const fn prints(failing: &[u64]) -> Weather<'_> {
-    Weather {
-        prints: failing,
-        ..FAIR
-    }
+/// The text goes out in four writes of at most four bytes, and a flush.
+static FAILING: [Failing; 9] = [
+    (
+        "the dial",
+        Weather {
+            dials: &[0],
+            ..FAIR
+        },
+        QueryFault::Dial,
+        0,
+        b"",
+    ),
+    (
+        "the first read",
+        Weather {
+            reads: &[0],
+            ..FAIR
+        },
+        READ_FAULT,
+        1,
+        b"",
+    ),
+    (
+        "the fifth read",
+        Weather {
+            reads: &[4],
+            ..FAIR
+        },
+        READ_FAULT,
+        1,
+        b"",
+    ),
+    (
+        "the first write",
+        Weather {
+            writes: &[0],
+            ..FAIR
+        },
+        WRITE_FAULT,
+        1,
+        b"",
+    ),
+    (
+        "the fourth write",
+        Weather {
+            writes: &[3],
+            ..FAIR
+        },
+        WRITE_FAULT,
+        1,
+        b"",
+    ),
+    (
+        "the first print",
+        Weather {
+            prints: &[0],
+            ..FAIR
+        },
+        QueryFault::Output,
+        1,
+        b"",
+    ),
+    (
+        "the second print",
+        Weather {
+            prints: &[1],
+            ..FAIR
+        },
+        QueryFault::Output,
+        1,
+        b"10.0",
+    ),
+    (
+        "the fourth print",
+        Weather {
+            prints: &[3],
+            ..FAIR
+        },
+        QueryFault::Output,
+        1,
+        b"10.0.0.1 alp",
+    ),
+    (
+        "the flush",
+        Weather {
+            prints: &[4],
+            ..FAIR
+        },
+        QueryFault::Output,
+        1,
+        b"10.0.0.1 alpha\n",
+    ),
+];
+
+fn try_failing<R: RandomSource + Abort>(rt: &R, alloc: Global, failing: &Failing) {
+    let (row, weather, fault, wires, printed) = failing;
+    let input = bytes(rt, alloc, &[ALPHA_REPLY]);
+    let asked = ask(rt, alloc, &ALPHA, input, 4, weather);
+    let came = (asked.0, asked.1, asked.3.as_slice());
+    assert_same(rt, &came, &(Err(*fault), *wires, *printed), *row);
 }
 
 #[test]
 fn one_failing_call(rt: HostRuntime) {
-    let alloc = rt.alloc();
-    let read_fault = QueryFault::Client(ClientFault::ReadFault);
-    let write_fault = QueryFault::Client(ClientFault::WriteFault);
-    let output = QueryFault::Output;
-    // The text goes out in four writes of at most four bytes, and a flush.
-    let cases: [(&str, Weather<'_>, QueryFault, usize, &[u8]); 9] = [
-        ("the dial", dials(&[0]), QueryFault::Dial, 0, b""),
-        ("the first read", reads(&[0]), read_fault, 1, b""),
-        ("the fifth read", reads(&[4]), read_fault, 1, b""),
-        ("the first write", writes(&[0]), write_fault, 1, b""),
-        ("the fourth write", writes(&[3]), write_fault, 1, b""),
-        ("the first print", prints(&[0]), output, 1, b""),
-        ("the second print", prints(&[1]), output, 1, b"10.0"),
-        ("the fourth print", prints(&[3]), output, 1, b"10.0.0.1 alp"),
-        ("the flush", prints(&[4]), output, 1, b"10.0.0.1 alpha\n"),
-    ];
-    for (row, weather, fault, wires, printed) in &cases {
-        let input = bytes(&rt, alloc, &[ALPHA_REPLY]);
-        let printed = printed.to_vec(alloc).expect(&rt, "a text");
-        let asked = ask(&rt, alloc, &ALPHA, input, 4, *weather);
-        let came = (asked.0, asked.1, asked.3);
-        assert_same(&rt, &came, &(Err(*fault), *wires, printed), *row);
+    for failing in &FAILING {
+        try_failing(&rt, rt.alloc(), failing);
     }
 }
 
@@ -520,48 +516,86 @@ fn add<R: Abort>(rt: &R, input: &mut Vec<u8>, bytes: &[u8]) {
     input.extend_from_slice(bytes).expect(rt, "room");
 }
 
+// A reply with a value as long as the buffer, behind which the line feed has no room.
+fn long_reply<R: Abort>(rt: &R, alloc: Global) -> Vec<u8> {
+    let head = "80010020 00000001 00000001 00000000 00000000 00000000 00000000 00000001 00010000";
+    let value = vec![in alloc; b'v'; 65_536].expect(rt, "a value");
+    let mut reply = bytes(rt, alloc, &[head]);
+    add(rt, &mut reply, &value);
+    reply
+}
+
+// The result, and how many bytes were printed.
+fn result_and_len(asked: &Asked) -> (Result<(), QueryFault>, usize) {
+    (asked.0, asked.3.len())
+}
+
+/// What fails, the result, and how many bytes were printed.
+static LONG_TEXTS: [(&str, Weather, Result<(), QueryFault>, usize); 4] = [
+    ("none", FAIR, Ok(()), 65_537),
+    (
+        "the first print",
+        Weather {
+            prints: &[0],
+            ..FAIR
+        },
+        Err(QueryFault::Output),
+        0,
+    ),
+    (
+        "the second print",
+        Weather {
+            prints: &[1],
+            ..FAIR
+        },
+        Err(QueryFault::Output),
+        65_536,
+    ),
+    (
+        "the flush",
+        Weather {
+            prints: &[2],
+            ..FAIR
+        },
+        Err(QueryFault::Output),
+        65_537,
+    ),
+];
+
 #[test]
 fn long_text_in_full_buffers(rt: HostRuntime) {
     let alloc = rt.alloc();
-    // A value as long as the buffer, behind which the line feed has no room.
-    let head = "80010020 00000001 00000001 00000000 00000000 00000000 00000000 00000001 00010000";
-    let value = vec![in alloc; b'v'; 65_536].expect(&rt, "a value");
-    let mut reply = bytes(&rt, alloc, &[head]);
-    add(&rt, &mut reply, &value);
-    let cases: [(&str, &[u64], Result<(), QueryFault>, usize); 4] = [
-        ("none", &[], Ok(()), 65_537),
-        ("the first print", &[0], Err(QueryFault::Output), 0),
-        ("the second print", &[1], Err(QueryFault::Output), 65_536),
-        ("the flush", &[2], Err(QueryFault::Output), 65_537),
-    ];
-    for (row, failing, result, printed) in &cases {
-        let input = reply.to_vec(alloc).expect(&rt, "a reply");
-        let asked = ask(&rt, alloc, &ALPHA, input, 100_000, prints(*failing));
-        let came = (asked.0, asked.3.len());
-        assert_same(&rt, &came, &(*result, *printed), *row);
+    for (row, weather, result, printed) in &LONG_TEXTS {
+        let asked = ask(&rt, alloc, &ALPHA, long_reply(&rt, alloc), 100_000, weather);
+        assert_same(&rt, &result_and_len(&asked), &(*result, *printed), *row);
     }
+}
+
+// A reply with one row more than a version may have, of 20 bytes each.
+fn too_many_rows<R: Abort>(rt: &R, alloc: Global) -> Vec<u8> {
+    let head = "80500030 00000001 00000001 00000000 00000000 00000000 00000000";
+    let mut reply = bytes(rt, alloc, &[head]);
+    for key in 0..262_145u32 {
+        let row = [0, 0, 0, 1, 0, 0, 0, 1, 0, 0, 0, 0, 0, 0, 0, 4];
+        add(rt, &mut reply, &row);
+        add(rt, &mut reply, &key.to_be_bytes());
+    }
+    add(rt, &mut reply, &[0; 4]);
+    reply
 }
 
 #[test]
 fn first_row_that_no_version_takes(rt: HostRuntime) {
     let alloc = rt.alloc();
-    // One row more than a version may have, of 20 bytes each.
-    let head = "80500030 00000001 00000001 00000000 00000000 00000000 00000000";
-    let mut input = bytes(&rt, alloc, &[head]);
-    for i in 0..262_145u32 {
-        add(
-            &rt,
-            &mut input,
-            &[0, 0, 0, 1, 0, 0, 0, 1, 0, 0, 0, 0, 0, 0, 0, 4],
-        );
-        add(&rt, &mut input, &i.to_be_bytes());
-    }
-    add(&rt, &mut input, &[0; 4]);
-    let asked = ask(&rt, alloc, &CAT, input, 100_000, FAIR);
+    let asked = ask(&rt, alloc, &CAT, too_many_rows(&rt, alloc), 100_000, &FAIR);
     let fault = QueryFault::Client(ClientFault::Rows {
         row: 262_145,
         fault: VersionFault::TooManyRows,
     });
-    let came = (asked.0, asked.3.len());
-    assert_same(&rt, &came, &(Err(fault), 0), "a row too many");
+    assert_same(
+        &rt,
+        &result_and_len(&asked),
+        &(Err(fault), 0),
+        "a row too many",
+    );
 }

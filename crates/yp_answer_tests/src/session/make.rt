@@ -1,6 +1,7 @@
 //! Calls of MAKE in a session.
 
-use crate::given::{assert_same, bytes};
+use crate::given::assert_same;
+use crate::sample::{shared, version_of};
 use crate::session::host::TestHost;
 use crate::session::sample::*;
 use std::alloc::Global;
@@ -10,60 +11,50 @@ use yp_io::Peer;
 use yp_session::*;
 
 // The maps of the kinds 1 to 6.
-const MAPS: [&[u8]; 6] = [
-    b"passwd.byname",
-    b"passwd.byuid",
-    b"group.byname",
-    b"group.bygid",
-    b"hosts.byname",
-    b"hosts.byaddr",
+static MAPS: [(&[u8], &[u8]); 6] = [
+    (b"d", b"passwd.byname"),
+    (b"d", b"passwd.byuid"),
+    (b"d", b"group.byname"),
+    (b"d", b"group.bygid"),
+    (b"d", b"hosts.byname"),
+    (b"d", b"hosts.byaddr"),
 ];
-
-// MAKE in the domain `d`, up to the kind, and the reply to it, up to the status.
-const MAKE: &str = "80000034 00000002 00000000 00000002 20004e49 00000001 00000001
-    00000000 00000000 00000000 00000000 00000001 64000000";
-
-const MADE: &str = "8000001c 00000002 00000001 00000000 00000000 00000000 00000000";
-
-// MATCH of `alpha` in passwd.byname, and the replies where there is no version and where the value is `alpha:1`.
-const MATCH: &str = "80000050 00000001 00000000 00000002 000186a4 00000002 00000003
-    00000000 00000000 00000000 00000000 00000001 64000000
-    0000000d 70617373 77642e62 796e616d 65000000 00000005 616c7068 61000000";
-
-const NO_MAP: &str =
-    "80000020 00000001 00000001 00000000 00000000 00000000 00000000 ffffffff 00000000";
-
-const VALUE: &str =
-    "80000028 00000001 00000001 00000000 00000000 00000000 00000000 00000001 00000007 616c7068 613a3100";
 
 // A host that shows two versions, one of another master and one of the last order.
 fn unmade<R: RandomSource + Abort>(rt: &R, runtime: HostRuntime, alloc: Global) -> TestHost {
-    let foreign = version(rt, alloc, 7, b"m2", &[]);
-    let last = version(rt, alloc, u32::MAX, b"m1", &[]);
+    let foreign = shared(rt, alloc, version_of(rt, alloc, 7, b"m2", &[]));
+    let last = shared(rt, alloc, version_of(rt, alloc, u32::MAX, b"m1", &[]));
     let start = vec![in alloc; None, Some(foreign), Some(last), None, None, None];
     host_of(rt, runtime, alloc, &MAPS, start.expect(rt, "versions"))
 }
 
-// The kind, the status, and how often a map was to be made and had FILE by then.
-const STATUSES: &[(&str, &str, u64, u64)] = &[
-    ("00000001", "00000001", 1, 0),
-    ("00000002", "fffffff2", 2, 0),
-    ("00000003", "00000002", 3, 0),
-    ("00000004", "fffffff8", 4, 0),
-    ("00000005", "fffffff7", 5, 1),
-    ("00000006", "fffffffd", 6, 1),
+// The call, the reply, and how often a map was to be made and had FILE by then.
+type Status = (&'static str, &'static str, u64, u64);
+
+static STATUSES: [Status; 7] = [
+    ("MAKE 00000001", "MADE 00000001", 1, 0),
+    ("MAKE 00000002", "MADE fffffff2", 2, 0),
+    ("MAKE 00000003", "MADE 00000002", 3, 0),
+    ("MAKE 00000004", "MADE fffffff8", 4, 0),
+    ("MAKE 00000005", "MADE fffffff7", 5, 1),
+    ("MAKE 00000006", "MADE fffffffd", 6, 1),
     // The domain has no map of the kind 7, so that none is made.
-    ("00000007", "ffffffff", 6, 1),
+    ("MAKE 00000007", "MADE ffffffff", 6, 1),
 ];
 
-fn assert_statuses(rt: &impl Abort, alloc: Global, session: &mut Session, host: &mut TestHost) {
-    for &(kind, stat, makes, files) in STATUSES {
-        let input = bytes(rt, alloc, &[MAKE, kind]);
-        let output = bytes(rt, alloc, &[MADE, stat]);
-        let came = run(rt, alloc, session, host, PEER, input, UNBOUNDED);
-        let wanted = ((End::Clean, 1, 0, output), makes, files);
-        assert_same(rt, &(came, host.makes, host.files), &wanted, kind);
-    }
+fn try_status(
+    rt: &impl Abort,
+    alloc: Global,
+    session: &mut Session,
+    host: &mut TestHost,
+    row: &Status,
+) {
+    let (make, made, makes, files) = row;
+    let input = words(rt, alloc, make);
+    let output = words(rt, alloc, made);
+    let came = run(rt, alloc, session, host, PEER, input, &UNBOUNDED);
+    let wanted = ((End::Clean, 1, 0, output), *makes, *files);
+    assert_same(rt, &(came, host.makes, host.files), &wanted, make);
 }
 
 #[test]
@@ -71,7 +62,9 @@ fn statuses_of_makes(rt: HostRuntime) {
     let alloc = rt.alloc();
     let mut session = Session::new(alloc).expect(&rt, "a session");
     let mut host = unmade(&rt, rt, alloc);
-    assert_statuses(&rt, alloc, &mut session, &mut host);
+    for row in &STATUSES {
+        try_status(&rt, alloc, &mut session, &mut host, row);
+    }
 }
 
 // What came of a session over such a host, how often a map was to be made, and whether one was shown.
@@ -83,7 +76,7 @@ fn run_unmade<R: RandomSource + Abort>(
     alloc: Global,
     peer: Peer,
     input: Vec<u8>,
-    bounds: Bounds,
+    bounds: &Bounds,
 ) -> Makes {
     let mut session = Session::new(alloc).expect(rt, "a session");
     let mut host = unmade(rt, runtime, alloc);
@@ -94,9 +87,9 @@ fn run_unmade<R: RandomSource + Abort>(
 #[test]
 fn make_then_match(rt: HostRuntime) {
     let alloc = rt.alloc();
-    let input = bytes(&rt, alloc, &[MATCH, MAKE, "00000001", MATCH]);
-    let output = bytes(&rt, alloc, &[NO_MAP, MADE, "00000001", VALUE]);
-    let came = run_unmade(&rt, rt, alloc, PEER, input, UNBOUNDED);
+    let input = words(&rt, alloc, "MATCH MAKE 00000001 MATCH");
+    let output = words(&rt, alloc, "NO_MAP MADE 00000001 VALUE");
+    let came = run_unmade(&rt, rt, alloc, PEER, input, &UNBOUNDED);
     let wanted = ((End::Clean, 3, 0, output), 1, true);
     assert_same(&rt, &came, &wanted, "MATCH, MAKE, MATCH");
 }
@@ -104,19 +97,19 @@ fn make_then_match(rt: HostRuntime) {
 #[test]
 fn make_from_another_host(rt: HostRuntime) {
     let alloc = rt.alloc();
-    let input = bytes(&rt, alloc, &[MAKE, "00000001", MATCH]);
-    let output = bytes(&rt, alloc, &[MADE, "fffffff2", NO_MAP]);
+    let input = words(&rt, alloc, "MAKE 00000001 MATCH");
+    let output = words(&rt, alloc, "MADE fffffff2 NO_MAP");
     let peer = Peer {
         addr: [10, 0, 0, 9],
         port: 700,
     };
-    let came = run_unmade(&rt, rt, alloc, peer, input, UNBOUNDED);
+    let came = run_unmade(&rt, rt, alloc, peer, input, &UNBOUNDED);
     let wanted = ((End::Clean, 2, 0, output), 0, false);
     assert_same(&rt, &came, &wanted, "MAKE, MATCH");
 }
 
 // A reply of 32 bytes is four writes and a flush. The call of the sink that fails, and what it took.
-const LOST: &[(u64, &str)] = &[
+static LOST: [(u64, &str); 4] = [
     (0, ""),
     (1, "8000001c 00000002 0000"),
     (
@@ -129,16 +122,28 @@ const LOST: &[(u64, &str)] = &[
     ),
 ];
 
+fn try_lost<R: RandomSource + Abort>(
+    rt: &R,
+    runtime: HostRuntime,
+    alloc: Global,
+    row: &(u64, &str),
+) {
+    let (write, taken) = row;
+    let input = words(rt, alloc, "MAKE 00000001 MATCH");
+    let output = words(rt, alloc, taken);
+    let bounds = Bounds {
+        write: *write,
+        ..UNBOUNDED
+    };
+    let came = run_unmade(rt, runtime, alloc, PEER, input, &bounds);
+    // The record of MATCH, of 84 bytes, isn't read.
+    let wanted = ((End::WriteFault, 1, 84, output), 1, true);
+    assert_same(rt, &(*write, came), &(*write, wanted), "call that fails");
+}
+
 #[test]
 fn make_whose_reply_is_lost(rt: HostRuntime) {
-    let alloc = rt.alloc();
-    for &(write, taken) in LOST {
-        let input = bytes(&rt, alloc, &[MAKE, "00000001", MATCH]);
-        let output = bytes(&rt, alloc, &[taken]);
-        let bounds = Bounds { write, ..UNBOUNDED };
-        let came = run_unmade(&rt, rt, alloc, PEER, input, bounds);
-        // The record of MATCH, of 84 bytes, isn't read.
-        let wanted = ((End::WriteFault, 1, 84, output), 1, true);
-        assert_same(&rt, &(write, came), &(write, wanted), "call that fails");
+    for row in &LOST {
+        try_lost(&rt, rt, rt.alloc(), row);
     }
 }

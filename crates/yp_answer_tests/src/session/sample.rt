@@ -1,18 +1,14 @@
 //! Hosts, and sessions over wires in memory.
 
-ghost use Rattle.std.specs.Prelude.{◌≡◌, ◌≤◌, length};
-ghost use Rattle.yp_version.specs.Limits.{master_max};
-
-use crate::given::assert_same;
+use crate::given::named;
+use crate::sample::{board, shared};
 use crate::session::host::TestHost;
 use std::alloc::Global;
 use std::process::Abort;
-use std::random::RandomSource;
 use std::sync::Arc;
-use yp_board::{Catalog, MapName, PlainBoard};
 use yp_io::{MemSink, MemSource, MemWire, Pair, Peer, Source};
 use yp_session::*;
-use yp_version::{Version, VersionBuilder};
+use yp_version::Version;
 
 pub const PEER: Peer = Peer {
     addr: [127, 0, 0, 1],
@@ -25,57 +21,66 @@ pub const NEVER: u64 = u64::MAX;
 // More records than any of these wires has.
 pub const ENOUGH: u8 = 9;
 
+// ---- words
+
+// A name for each record. A call of the domain `d` stands for 52 bytes (DOMAIN) or 44 (NULL); NONACK, also of 52, is of
+// the domain `e`, which isn't served, so that it has no reply. ALL is of the map `m`, and MATCH of `alpha` in
+// passwd.byname, with the replies where there is no version and where the value is `alpha:1`. MAKE and MADE lack a kind
+// and a status. The transfers are of the map `n`, which has no version, from the host `x`, with the transactions 9 and
+// 11, and of the map `m`, of which the host is the master.
+static NAMES: &str = "\
+NULL = 80000028 00000001 00000000 00000002 000186a4 00000002 00000000 00000000 00000000 00000000 \
+    00000000
+NULL_REPLY = 80000018 00000001 00000001 00000000 00000000 00000000 00000000
+DOMAIN = 80000030 00000002 00000000 00000002 000186a4 00000002 00000001 00000000 00000000 \
+    00000000 00000000 00000001 64000000
+DOMAIN_REPLY = 8000001c 00000002 00000001 00000000 00000000 00000000 00000000 00000001
+NONACK = 80000030 00000003 00000000 00000002 000186a4 00000002 00000002 00000000 00000000 \
+    00000000 00000000 00000001 65000000
+ALL = 80000038 00000004 00000000 00000002 000186a4 00000002 00000008 00000000 00000000 00000000 \
+    00000000 00000001 64000000 00000001 6d000000
+MAKE = 80000034 00000002 00000000 00000002 20004e49 00000001 00000001 00000000 00000000 00000000 \
+    00000000 00000001 64000000
+MADE = 8000001c 00000002 00000001 00000000 00000000 00000000 00000000
+MATCH = 80000050 00000001 00000000 00000002 000186a4 00000002 00000003 00000000 00000000 \
+    00000000 00000000 00000001 64000000 0000000d 70617373 77642e62 796e616d 65000000 00000005 \
+    616c7068 61000000
+NO_MAP = 80000020 00000001 00000001 00000000 00000000 00000000 00000000 ffffffff 00000000
+VALUE = 80000028 00000001 00000001 00000000 00000000 00000000 00000000 00000001 00000007 \
+    616c7068 613a3100
+FIRST_XFR = 80000050 00000005 00000000 00000002 000186a4 00000002 00000006 00000000 00000000 \
+    00000000 00000000 00000001 64000000 00000001 6e000000 00000000 00000001 78000000 00000009 \
+    40000000 00001b5a
+FIRST_XFR_REPLY = 80000020 00000005 00000001 00000000 00000000 00000000 00000000 00000009 \
+    00000001
+SECOND_XFR = 80000050 00000006 00000000 00000002 000186a4 00000002 00000006 00000000 00000000 \
+    00000000 00000000 00000001 64000000 00000001 6e000000 00000000 00000001 78000000 0000000b \
+    40000000 00001b5a
+SECOND_XFR_REPLY = 80000020 00000006 00000001 00000000 00000000 00000000 00000000 0000000b \
+    00000001
+OWN_XFR = 80000050 00000005 00000000 00000002 000186a4 00000002 00000006 00000000 00000000 \
+    00000000 00000000 00000001 64000000 00000001 6d000000 00000000 00000001 78000000 00000009 \
+    40000000 00001b5a
+OWN_XFR_REPLY = 80000020 00000005 00000001 00000000 00000000 00000000 00000000 00000009 fffffff2
+";
+
+// The bytes of a text of these names and of other words.
+pub fn words(rt: &impl Abort, alloc: Global, text: &str) -> Vec<u8> {
+    named(rt, alloc, NAMES, text)
+}
+
 // ---- hosts
 
-fn push_rows(rt: &impl Abort, builder: &mut VersionBuilder, rows: &[(&[u8], &[u8])]) {
-    for (key, value) in rows {
-        assert_same(rt, &builder.push(*key, *value), &Ok(true), "a row of a map");
-    }
-}
-
-// A version with these rows.
-pub fn version<R: RandomSource + Abort>(
-    rt: &R,
-    alloc: Global,
-    order: u32,
-    master: &[u8],
-    rows: &[(&[u8], &[u8])],
-) -> Arc<Version>
-    requires { length master.now ≤ master_max }
-{
-    let mut builder = VersionBuilder::new(alloc, rt, order, master).expect(rt, "a builder");
-    push_rows(rt, &mut builder, rows);
-    let version = builder.finish().expect(rt, "a version");
-    Arc::new(alloc, version).expect(rt, "a shared version")
-}
-
-// As many things as a catalogue has maps.
-fn assert_fits(rt: &impl Abort, count: usize, catalog: &Catalog)
-    ensures { count ≡ length catalog.now.maps }
-{
-    assert_eq!(rt; count, catalog.len() as usize);
-}
-
-// A host of these maps of the domain `d`, which shows these versions.
+// A host of these maps, which shows these versions.
 pub fn host_of(
     rt: &impl Abort,
     runtime: HostRuntime,
     alloc: Global,
-    maps: &[&[u8]],
+    maps: &[(&[u8], &[u8])],
     start: Vec<Option<Arc<Version>>>,
 ) -> TestHost {
-    let mut names = Vec::new(alloc);
-    for map in maps {
-        let domain = Vec::from_slice(alloc, b"d").expect(rt, "a domain");
-        let map = Vec::from_slice(alloc, *map).expect(rt, "a map");
-        names.push(MapName { domain, map }).expect(rt, "a name");
-    }
-    let own = Vec::from_slice(alloc, b"m1").expect(rt, "a name");
-    let catalog = Catalog::new(alloc, own, names).expect(rt, "a catalogue");
-    assert_fits(rt, start.len(), &catalog);
-    let board = PlainBoard::new(alloc, catalog, start).expect(rt, "a board");
     TestHost {
-        board,
+        board: board(rt, alloc, maps, start),
         alloc,
         rt: runtime,
         makes: 0,
@@ -86,16 +91,15 @@ pub fn host_of(
     }
 }
 
-// A host that shows a version with these rows of the map `m`.
-pub fn host_with<R: RandomSource + Abort>(
-    rt: &R,
+// A host that shows this version of the map `m` of the domain `d`.
+pub fn host_with(
+    rt: &impl Abort,
     runtime: HostRuntime,
     alloc: Global,
-    rows: &[(&[u8], &[u8])],
+    version: Version,
 ) -> TestHost {
-    let shown = version(rt, alloc, 7, b"m1", rows);
-    let start = vec![in alloc; Some(shown)].expect(rt, "versions");
-    host_of(rt, runtime, alloc, &[b"m"], start)
+    let start = vec![in alloc; Some(shared(rt, alloc, version))].expect(rt, "versions");
+    host_of(rt, runtime, alloc, &[(b"d", b"m")], start)
 }
 
 // ---- sessions
@@ -136,7 +140,7 @@ pub fn run(
     host: &mut TestHost,
     peer: Peer,
     input: Vec<u8>,
-    bounds: Bounds,
+    bounds: &Bounds,
 ) -> Came {
     let mut wire = wire(rt, alloc, input, bounds.read, bounds.write);
     let mut trail = Trail::new();

@@ -1,24 +1,20 @@
 //! Clients that ask a server in memory: calls written out by hand, from RFC 5531 and yp.x, what the server replies to
 //! them, and what the client makes of that.
 
-ghost use Rattle.yp_client.specs.Questions.{bytes_of, QuestionIsWithin};
-
+use crate::asked::{FAIR, Fixed, ask};
 use crate::exchange::server::{Given, add_record, add_reply, board, show};
 use crate::exchange::told;
 use crate::given::{assert_same, bytes};
+use crate::lent::{MemClient, client_over};
 use std::alloc::Global;
 use std::process::Abort;
 use std::random::RandomSource;
-use yp_client::{Client, ClientFault, Question, Row};
-use yp_io::{MemDial, MemSink, MemSource, Pair, Peer};
+use yp_board::PlainBoard;
+use yp_client::{ClientFault, Question, Row};
+use yp_io::{MemSink, MemSource, Pair};
 use yp_msgs::{MapList, YpStat};
 use yp_query::QueryFault;
 use yp_version::VersionBuilder;
-
-const SERVER: Peer = Peer {
-    addr: [10, 0, 0, 1],
-    port: 834,
-};
 
 const HOSTS: Given<'static> = Given {
     order: 100,
@@ -68,9 +64,6 @@ const MAPS_CALL: &str = "00000001 00000000 00000002 000186a4 00000002 0000000b 0
     00000000 00000000 00000003 6c616200";
 
 // ---- questions
-
-/// A question in bytes that a constant has.
-type Fixed = Question<&'static [u8]>;
 
 const CAT: Fixed = Question::Cat {
     domain: b"lab",
@@ -126,150 +119,65 @@ const ANYBODY: Fixed = Question::Innetgr {
 
 const NO_MAP: QueryFault = QueryFault::Client(ClientFault::Yp(YpStat::Nomap));
 
-/// What came of a question: its result, what was sent over its wire, and what was printed.
-type Asked = (Result<(), QueryFault>, Vec<u8>, Vec<u8>);
+/// A call as texts of words.
+type Call = &'static [&'static str];
 
-fn assert_within<R: Abort>(rt: &R, question: &Question<Vec<u8>>)
-    ensures { QuestionIsWithin (bytes_of question.now) }
-{
-    assert!(rt; question.is_within());
-}
-
-fn text<R: Abort>(rt: &R, alloc: Global, text: &[u8]) -> Vec<u8> {
-    text.to_vec(alloc).expect(rt, "a text")
-}
-
-fn given<R: Abort>(rt: &R, alloc: Global, given: Option<&[u8]>) -> Option<Vec<u8>> {
-    match given {
-        Some(bytes) => Some(text(rt, alloc, bytes)),
-        None => None,
-    }
-}
-
-// The same question in bytes of its own.
-fn owned<R: Abort>(rt: &R, alloc: Global, question: &Fixed) -> Question<Vec<u8>> {
-    let own = |bytes: &[u8]| text(rt, alloc, bytes);
-    match *question {
-        Question::Cat { domain, map } => Question::Cat {
-            domain: own(domain),
-            map: own(map),
-        },
-        Question::Catk { domain, map } => Question::Catk {
-            domain: own(domain),
-            map: own(map),
-        },
-        Question::Match { domain, map, key } => Question::Match {
-            domain: own(domain),
-            map: own(map),
-            key: own(key),
-        },
-        Question::Which { domain, map } => Question::Which {
-            domain: own(domain),
-            map: own(map),
-        },
-        Question::Poll { domain, map } => Question::Poll {
-            domain: own(domain),
-            map: own(map),
-        },
-        Question::Maps { domain } => Question::Maps {
-            domain: own(domain),
-        },
-        Question::Innetgr {
-            domain,
-            group,
-            host,
-            user,
-            user_domain,
-        } => Question::Innetgr {
-            domain: own(domain),
-            group: own(group),
-            host: given(rt, alloc, host),
-            user: given(rt, alloc, user),
-            user_domain: given(rt, alloc, user_domain),
-        },
-    }
-}
-
-// What was sent over the wires of a dial.
-fn sent<R: Abort>(rt: &R, alloc: Global, dial: &MemDial) -> Vec<u8> {
-    let mut sent = Vec::new(alloc);
-    for wire in dial.past() {
-        sent.extend_from_slice(wire.sink.taken())
-            .expect(rt, "a copy");
-    }
-    sent
-}
-
-fn ask_over<R: RandomSource + Abort>(
+// Adds what a server sends for these calls.
+fn add_replies<R: Abort>(
     rt: &R,
     alloc: Global,
-    question: &Question<Vec<u8>>,
-    dial: &mut MemDial,
-    sink: &mut MemSink,
-) -> Asked {
-    assert_within(rt, question);
-    let result = told::query_told(alloc, rt, dial, SERVER, question, sink);
-    let printed = sink.taken().to_vec(alloc).expect(rt, "a copy");
-    (result, sent(rt, alloc, dial), printed)
-}
-
-// Asks over one wire with this input.
-fn ask<R: RandomSource + Abort>(rt: &R, alloc: Global, question: &Fixed, input: Vec<u8>) -> Asked {
-    let question = owned(rt, alloc, question);
-    let mut wires = Vec::new(alloc);
-    wires
-        .push(Pair {
-            source: MemSource::new(input, 9, Vec::new(alloc)),
-            sink: MemSink::new(alloc, 16, Vec::new(alloc)),
-        })
-        .expect(rt, "a list of one wire");
-    let mut dial = MemDial::new(alloc, wires, Vec::new(alloc));
-    let mut sink = MemSink::new(alloc, 16, Vec::new(alloc));
-    ask_over(rt, alloc, &question, &mut dial, &mut sink)
-}
-
-// What a server sends for these calls, before which it shows these versions.
-fn served<R: RandomSource + Abort>(
-    rt: &R,
-    alloc: Global,
-    calls: &[(Option<Given<'_>>, &str)],
-) -> Vec<u8> {
-    let mut maps = board(rt, alloc, &HOSTS);
-    let mut stream = Vec::new(alloc);
-    for (shown, call) in calls {
-        if let Some(given) = shown {
-            show(rt, alloc, &mut maps, given);
-        }
-        add_reply(rt, alloc, &mut maps, &[*call], &mut stream);
+    maps: &mut PlainBoard,
+    calls: &[Call],
+    stream: &mut Vec<u8>,
+) {
+    for call in calls {
+        add_reply(rt, alloc, maps, *call, stream);
     }
-    stream
 }
 
-// These calls in records, each of one fragment.
-fn records<R: Abort>(rt: &R, alloc: Global, calls: &[(Option<Given<'_>>, &str)]) -> Vec<u8> {
-    let mut stream = Vec::new(alloc);
-    for (_shown, call) in calls {
-        add_record(rt, &mut stream, &bytes(rt, alloc, &[*call]));
+// Adds these calls in records, each of one fragment.
+fn add_records<R: Abort>(rt: &R, alloc: Global, calls: &[Call], stream: &mut Vec<u8>) {
+    for call in calls {
+        add_record(rt, stream, &bytes(rt, alloc, *call));
     }
-    stream
 }
 
-/// A question, the calls that are made for it and what is shown before each, what the server sends, and what is printed
-/// or why nothing is.
+/// A question, the calls that are made for it, and those before which the newer version is shown; what the server sends,
+/// and what is printed or why nothing is.
 struct Case {
     row: &'static str,
     question: Fixed,
-    calls: &'static [(Option<Given<'static>>, &'static str)],
+    calls: &'static [Call],
+    newer: &'static [Call],
     replies: &'static str,
     result: Result<(), QueryFault>,
     printed: &'static [u8],
 }
 
-const CASES: &[Case] = &[
+// What a server sends for the calls of a case.
+fn served<R: RandomSource + Abort>(rt: &R, alloc: Global, case: &Case) -> Vec<u8> {
+    let mut maps = board(rt, alloc, &HOSTS);
+    let mut stream = Vec::new(alloc);
+    add_replies(rt, alloc, &mut maps, case.calls, &mut stream);
+    show(rt, alloc, &mut maps, &NEWER);
+    add_replies(rt, alloc, &mut maps, case.newer, &mut stream);
+    stream
+}
+
+// Those calls.
+fn records<R: Abort>(rt: &R, alloc: Global, case: &Case) -> Vec<u8> {
+    let mut stream = Vec::new(alloc);
+    add_records(rt, alloc, case.calls, &mut stream);
+    add_records(rt, alloc, case.newer, &mut stream);
+    stream
+}
+
+static CASES: [Case; 12] = [
     Case {
         row: "values",
         question: CAT,
-        calls: &[(None, ALL_CALL)],
+        calls: &[&[ALL_CALL]],
+        newer: &[],
         replies: "80000068 00000001 00000001 00000000 00000000 00000000 00000000 \
             00000001 00000001 0000000e 31302e30 2e302e31 20616c70 68610000 00000005 616c7068 61000000 \
             00000001 00000001 0000000d 31302e30 2e302e32 20626574 61000000 00000004 62657461 00000000",
@@ -279,7 +187,8 @@ const CASES: &[Case] = &[
     Case {
         row: "rows",
         question: CATK,
-        calls: &[(None, ALL_CALL)],
+        calls: &[&[ALL_CALL]],
+        newer: &[],
         replies: "80000068 00000001 00000001 00000000 00000000 00000000 00000000 \
             00000001 00000001 0000000e 31302e30 2e302e31 20616c70 68610000 00000005 616c7068 61000000 \
             00000001 00000001 0000000d 31302e30 2e302e32 20626574 61000000 00000004 62657461 00000000",
@@ -289,7 +198,8 @@ const CASES: &[Case] = &[
     Case {
         row: "rows of the newer version alone",
         question: CATK,
-        calls: &[(Some(NEWER), ALL_CALL)],
+        calls: &[],
+        newer: &[&[ALL_CALL]],
         replies: "80000044 00000001 00000001 00000000 00000000 00000000 00000000 \
             00000001 00000001 0000000e 31302e30 2e302e33 2067616d 6d610000 00000005 67616d6d 61000000 00000000",
         result: Ok(()),
@@ -298,7 +208,8 @@ const CASES: &[Case] = &[
     Case {
         row: "rows of no version",
         question: CAT_BARE,
-        calls: &[(None, ALL_BARE_CALL)],
+        calls: &[&[ALL_BARE_CALL]],
+        newer: &[],
         replies: "8000002c 00000001 00000001 00000000 00000000 00000000 00000000 \
             00000001 ffffffff 00000000 00000000 00000000",
         result: Err(NO_MAP),
@@ -307,7 +218,8 @@ const CASES: &[Case] = &[
     Case {
         row: "members of no map",
         question: ANYBODY,
-        calls: &[(None, GROUPS_CALL)],
+        calls: &[&[GROUPS_CALL]],
+        newer: &[],
         replies: "8000002c 00000001 00000001 00000000 00000000 00000000 00000000 \
             00000001 ffffffff 00000000 00000000 00000000",
         result: Err(NO_MAP),
@@ -316,7 +228,8 @@ const CASES: &[Case] = &[
     Case {
         row: "a value",
         question: ALPHA,
-        calls: &[(None, ALPHA_CALL)],
+        calls: &[&[ALPHA_CALL]],
+        newer: &[],
         replies: "80000030 00000001 00000001 00000000 00000000 00000000 00000000 \
             00000001 0000000e 31302e30 2e302e31 20616c70 68610000",
         result: Ok(()),
@@ -325,7 +238,8 @@ const CASES: &[Case] = &[
     Case {
         row: "no value",
         question: DELTA,
-        calls: &[(None, DELTA_CALL)],
+        calls: &[&[DELTA_CALL]],
+        newer: &[],
         replies: "80000020 00000001 00000001 00000000 00000000 00000000 00000000 fffffffd 00000000",
         result: Err(QueryFault::NoKey),
         printed: b"",
@@ -333,7 +247,8 @@ const CASES: &[Case] = &[
     Case {
         row: "a master",
         question: WHICH,
-        calls: &[(None, MASTER_CALL)],
+        calls: &[&[MASTER_CALL]],
+        newer: &[],
         replies: "80000024 00000001 00000001 00000000 00000000 00000000 00000000 00000001 00000002 6d310000",
         result: Ok(()),
         printed: b"m1\n",
@@ -341,7 +256,8 @@ const CASES: &[Case] = &[
     Case {
         row: "a standing",
         question: POLL,
-        calls: &[(None, ORDER_CALL), (None, SECOND_MASTER_CALL)],
+        calls: &[&[ORDER_CALL], &[SECOND_MASTER_CALL]],
+        newer: &[],
         replies: "80000020 00000001 00000001 00000000 00000000 00000000 00000000 00000001 00000064 \
             80000024 00000002 00000001 00000000 00000000 00000000 00000000 00000001 00000002 6d310000",
         result: Ok(()),
@@ -350,7 +266,8 @@ const CASES: &[Case] = &[
     Case {
         row: "a master that is shown behind the order",
         question: POLL,
-        calls: &[(None, ORDER_CALL), (Some(NEWER), SECOND_MASTER_CALL)],
+        calls: &[&[ORDER_CALL]],
+        newer: &[&[SECOND_MASTER_CALL]],
         replies: "80000020 00000001 00000001 00000000 00000000 00000000 00000000 00000001 00000064 \
             80000024 00000002 00000001 00000000 00000000 00000000 00000000 00000001 00000002 6d320000",
         result: Ok(()),
@@ -359,7 +276,8 @@ const CASES: &[Case] = &[
     Case {
         row: "no standing",
         question: POLL_BARE,
-        calls: &[(None, ORDER_BARE_CALL)],
+        calls: &[&[ORDER_BARE_CALL]],
+        newer: &[],
         replies: "80000020 00000001 00000001 00000000 00000000 00000000 00000000 ffffffff 00000000",
         result: Err(NO_MAP),
         printed: b"",
@@ -367,7 +285,8 @@ const CASES: &[Case] = &[
     Case {
         row: "maps",
         question: MAPS,
-        calls: &[(None, MAPS_CALL)],
+        calls: &[&[MAPS_CALL]],
+        newer: &[],
         replies: "80000034 00000001 00000001 00000000 00000000 00000000 00000000 \
             00000001 00000001 0000000c 686f7374 732e6279 6e616d65 00000000",
         result: Ok(()),
@@ -375,26 +294,32 @@ const CASES: &[Case] = &[
     },
 ];
 
+fn try_case<R: RandomSource + Abort>(rt: &R, alloc: Global, case: &Case) {
+    let replies = bytes(rt, alloc, &[case.replies]);
+    let calls = records(rt, alloc, case);
+    let input = served(rt, alloc, case);
+    assert_same(rt, &input, &replies, case.row);
+    let (result, _wires, sent, printed) = ask(rt, alloc, &case.question, input, 16, &FAIR);
+    let came = (result, sent.as_slice(), printed.as_slice());
+    assert_same(
+        rt,
+        &came,
+        &(case.result, calls.as_slice(), case.printed),
+        case.row,
+    );
+}
+
 #[test]
 fn queries_print_what_is_shown(rt: HostRuntime) {
-    let alloc = rt.alloc();
-    for case in CASES {
-        let printed = case.printed.to_vec(alloc).expect(&rt, "a text");
-        let wanted = (case.result, records(&rt, alloc, case.calls), printed);
-        let input = served(&rt, alloc, case.calls);
-        assert_same(&rt, &input, &bytes(&rt, alloc, &[case.replies]), case.row);
-        let asked = ask(&rt, alloc, &case.question, input);
-        assert_same(&rt, &asked, &wanted, case.row);
+    for case in &CASES {
+        try_case(&rt, rt.alloc(), case);
     }
 }
 
 // ---- calls of a client
 
-/// A client over a wire in memory.
-type MemClient = Client<MemSource, MemSink>;
-
 /// The calls from number 1 on: each up to its procedure, its procedure, and its arguments.
-const CALLS: &[&[&str]] = &[
+static CALLS: [Call; 9] = [
     &[
         "00000001 00000000 00000002 000186a4 00000002 00000001",
         UNCHECKED,
@@ -504,13 +429,17 @@ fn count(found: Result<MapList, ClientFault>) -> Result<usize, ClientFault> {
     }
 }
 
-fn find(client: &mut MemClient) -> Found {
-    let served = told::domain(client, b"lab");
-    let value = len(told::match_key(client, b"lab", b"hosts.byname", b"alpha"));
+fn find_rows(client: &mut MemClient) -> [Lens; 3] {
     let first = row_lens(told::first(client, b"lab", b"hosts.byname"));
     let next = row_lens(told::next(client, b"lab", b"hosts.byname", b"alpha"));
     let last = row_lens(told::next(client, b"lab", b"hosts.byname", b"beta"));
-    (served, value, [first, next, last])
+    [first, next, last]
+}
+
+fn find(client: &mut MemClient) -> Found {
+    let served = told::domain(client, b"lab");
+    let value = len(told::match_key(client, b"lab", b"hosts.byname", b"alpha"));
+    (served, value, find_rows(client))
 }
 
 fn tell(client: &mut MemClient, into: &mut VersionBuilder) -> Told {
@@ -527,7 +456,7 @@ fn call<R: RandomSource + Abort>(rt: &R, alloc: Global, input: Vec<u8>) -> (Foun
         source: MemSource::new(input, 9, Vec::new(alloc)),
         sink: MemSink::new(alloc, 16, Vec::new(alloc)),
     };
-    let mut client = Client::new(alloc, wire, 1).ok().expect(rt, "a client");
+    let mut client = client_over(rt, alloc, wire, 1);
     let mut into = VersionBuilder::new(alloc, rt, 100, b"m1").expect(rt, "a builder");
     let found = find(&mut client);
     (found, tell(&mut client, &mut into))
@@ -537,9 +466,7 @@ fn call<R: RandomSource + Abort>(rt: &R, alloc: Global, input: Vec<u8>) -> (Foun
 fn replies<R: RandomSource + Abort>(rt: &R, alloc: Global) -> Vec<u8> {
     let mut maps = board(rt, alloc, &HOSTS);
     let mut stream = Vec::new(alloc);
-    for call in CALLS {
-        add_reply(rt, alloc, &mut maps, *call, &mut stream);
-    }
+    add_replies(rt, alloc, &mut maps, &CALLS, &mut stream);
     stream
 }
 

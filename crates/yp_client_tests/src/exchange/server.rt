@@ -67,14 +67,24 @@ fn assert_fits(rt: &impl Abort, count: usize, catalog: &Catalog)
     assert_eq!(rt; count, catalog.len() as usize);
 }
 
+fn catalog(rt: &impl Abort, alloc: Global) -> Catalog {
+    let own = Vec::from_slice(alloc, b"m1").expect(rt, "a name");
+    let mut maps = Vec::new(alloc);
+    maps.push(name(rt, alloc, b"lab", b"hosts.byname"))
+        .expect(rt, "names");
+    maps.push(name(rt, alloc, b"lab", b"bare"))
+        .expect(rt, "names");
+    Catalog::new(alloc, own, maps).expect(rt, "a catalogue")
+}
+
 /// A board of the maps hosts.byname, of this version, and `bare`, of none, in the domain lab.
 pub fn board<R: RandomSource + Abort>(rt: &R, alloc: Global, given: &Given<'_>) -> PlainBoard {
-    let hosts = name(rt, alloc, b"lab", b"hosts.byname");
-    let bare = name(rt, alloc, b"lab", b"bare");
-    let maps = vec![in alloc; hosts, bare].expect(rt, "names");
-    let own = Vec::from_slice(alloc, b"m1").expect(rt, "a name");
-    let catalog = Catalog::new(alloc, own, maps).expect(rt, "a catalogue");
-    let start = vec![in alloc; Some(version(rt, alloc, given)), None].expect(rt, "versions");
+    let catalog = catalog(rt, alloc);
+    let mut start = Vec::new(alloc);
+    start
+        .push(Some(version(rt, alloc, given)))
+        .expect(rt, "versions");
+    start.push(None).expect(rt, "versions");
     assert_fits(rt, start.len(), &catalog);
     PlainBoard::new(alloc, catalog, start).expect(rt, "a board")
 }
