@@ -3,22 +3,22 @@
 #![tactic(auto)]
 
 ghost use Rattle.std.specs.Prelude.{◌≡◌, IfOk, unwrap_or};
-ghost use Rattle.yp_office.specs.Disks.{names_of};
-ghost use Rattle.yp_office.specs.Status.{IsTellable};
-ghost use Rattle.yp_words.specs.Words.{connections_of, meaning, port_of, stores_of};
+ghost use Rattle.yp_command.specs.office.Disks.{names_of};
+ghost use Rattle.yp_command.specs.inside.office.Status.{IsTellable};
+ghost use Rattle.yp_command.specs.Words.{meaning, stores_of};
+ghost use Rattle.yp_command.specs.inside.Words.{connections_of, port_of};
 
 use std::alloc::{AllocError, Global};
 use std::process::ExitCode;
 use yp_board::MapName;
-use yp_io::{Listen, NoMemory, Sink};
-use yp_session::Trail;
+use yp_io::{Listen, NoMemory, Sink, Trail};
+use yp_program::{
+    Command, NamedDisk, Outside, ParseFault, Status, connections_of, named_disks, parse, port_of,
+    run_command, stores_of, tell,
+};
 use yp_system::{
     BlockReader, DirectWriter, FileDisk, Locking, Patient, StandardStream, SystemClock, TcpDial,
     TcpListen, TextFolder, UdpInbox, read_words,
-};
-use yp_tools::{
-    Command, NamedDisk, Outside, ParseFault, Status, connections_of, named_disks, parse, port_of,
-    run_command, stores_of, tell,
 };
 
 /// When the file of a map is locked, which a command reads or writes. A session answers from what it loaded, and may

@@ -4,8 +4,9 @@ use Rattle.std.proofs.lemmas.Option.{slice_get_within, slice_get_past, same_Some
 use Rattle.std.proofs.lemmas.List.{length-map}
 use Rattle.yp_xdr.specs.Kind.{Value}
 use Rattle.yp_xdr.specs.Spelling.{spelling}
-use Rattle.yp_msgs.specs.Messages.{key_val, all_item}
-use Rattle.yp_version.specs.Bodies.{spelled_row}
+use Rattle.yp_messages.specs.Messages.{key_val}
+use Rattle.yp_messages.specs.inside.Messages.{all_item}
+use Rattle.yp_version.specs.inside.Bodies.{spelled_row}
 use Rattle.yp_version.specs.Rows.{Row}
 use Rattle.yp_answer.specs.Results.{row_item}
 

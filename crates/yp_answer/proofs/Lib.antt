@@ -5,5 +5,6 @@ pub mod Itemized
 pub mod Streaming
 pub mod Fronts
 pub mod Opened
+mod ReadArguments
 mod Targets
 mod Untaken

@@ -11,12 +11,13 @@ use Rattle.std.specs.declared.cmp.Ordering.{Ordering}
 use Rattle.std.specs.declared.cmp.Ordering.TheVariants.{Less, Equal, Greater}
 use Rattle.yp_xdr.specs.Kind.{ListOf}
 use Rattle.yp_xdr.specs.Spelling.{spelling}
-use Rattle.yp_msgs.specs.Messages.{name}
-use Rattle.yp_msgs.specs.MapLists.{map_item}
+use Rattle.yp_messages.specs.Messages.{name}
+use Rattle.yp_messages.specs.inside.MapLists.{map_item}
 use Rattle.yp_board.specs.Catalogues.{Name, Catalogue, IsCatalogue, name_max, is_named, is_same, listed, inserted, name_cmp}
 use Rattle.yp_board.specs.Logs.{shown}
 use Rattle.yp_answer.specs.Maps.{Maps, version_of}
-use Rattle.yp_answer.specs.Results.{is_listed, map_part}
+use Rattle.yp_answer.specs.Results.{is_listed}
+use Rattle.yp_answer.specs.inside.Results.{map_part}
 
 -- a name is the one of its parts
 is_own : (name : Name) → is_named name.0 name.1 name ≡ true

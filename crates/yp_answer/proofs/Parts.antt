@@ -6,15 +6,16 @@ use Rattle.std.proofs.lemmas.Grind.{flat_map-append}
 use Rattle.std.proofs.Math.Nat.{sub_self}
 use Rattle.yp_xdr.specs.Kind.{Value, ListOf}
 use Rattle.yp_xdr.specs.Spelling.{spelling}
-use Rattle.yp_msgs.specs.Messages.{key_val, all_item}
-use Rattle.yp_msgs.specs.declared.stat.YpStat.{YpStat}
+use Rattle.yp_messages.specs.Messages.{key_val}
+use Rattle.yp_messages.specs.inside.Messages.{all_item}
+use Rattle.yp_messages.specs.declared.stat.YpStat.{YpStat}
 use Rattle.yp_rpc.specs.Reply.{reply_head}
 use Rattle.yp_rpc.specs.declared.reply.ReplyHead.TheVariants.{Success}
 use Rattle.yp_version.specs.Versions.{MapVersion}
 use Rattle.yp_answer.specs.Reply.{success}
 use Rattle.yp_answer.specs.Results.{all_items}
 use Rattle.yp_rpc.specs.Records.{joined}
-use Rattle.yp_answer.specs.Streams.{parts, item_parts, between, Gives}
+use Rattle.yp_answer.specs.inside.Streams.{parts, item_parts, between, GivesParts}
 
 -- items behind the word that says that they are there, and then the end, are a list
 joined_items : (items : List (Value key_val)) → joined (map (spelling all_item) (map (λ item. Some item) items ++ None ∷ [])) ≡ spelling (ListOf key_val) items
@@ -52,7 +53,7 @@ between_more start at list part le there =
 
 -- the head, and items from the first one on
 pub gives_first : (xid : ℕ) (source : Result MapVersion YpStat) (next : ℕ) (bytes : List ℕ) → bytes ≡ reply_head xid Success ++ joined (between 0 next (item_parts source))
-    → Gives bytes (parts xid source) (drop (next + 1) (parts xid source))
+    → GivesParts bytes (parts xid source) (drop (next + 1) (parts xid source))
 gives_first xid source next bytes is =
     let all : next - 0 ≡ next = omega arith in
     record {
@@ -63,7 +64,7 @@ gives_first xid source next bytes is =
 
 -- items behind those that were given
 pub gives_later : (xid : ℕ) (source : Result MapVersion YpStat) (given next : ℕ) (bytes : List ℕ) → 0 < given → given - 1 ≤ next → bytes ≡ joined (between (given - 1) next (item_parts source))
-    → Gives bytes (drop given (parts xid source)) (drop (next + 1) (parts xid source))
+    → GivesParts bytes (drop given (parts xid source)) (drop (next + 1) (parts xid source))
 gives_later xid source zero next bytes some le is = absurd (omega arith)
 gives_later xid source (suc before) next bytes some le is =
     let same : suc before - 1 ≡ before = omega arith in

@@ -6,17 +6,20 @@ use Rattle.yp_xdr.specs.Spelling.{word, padding_len, padding, opaque, fixed, spe
 use Rattle.yp_rpc.specs.declared.reply.ReplyHead.{ReplyHead}
 use Rattle.yp_rpc.specs.declared.reply.ReplyHead.TheVariants.{Success, ProgUnavail, ProgMismatch, ProcUnavail, GarbageArgs, SystemErr, RpcMismatch, AuthError}
 use Rattle.yp_rpc.specs.Reply.{reply_head}
-use Rattle.yp_msgs.specs.declared.results.AllItem.TheVariants.{More, End}
-use Rattle.yp_msgs.specs.declared.results.RespMaster.{RespMaster}
-use Rattle.yp_msgs.specs.Messages.{resp_master, resp_master_view}
+use Rattle.yp_messages.specs.declared.results.AllItem.TheVariants.{More, End}
+use Rattle.yp_messages.specs.declared.results.RespMaster.{RespMaster}
+use Rattle.yp_messages.specs.Messages.{resp_master}
+use Rattle.yp_messages.specs.inside.Messages.{resp_master_view}
 use Rattle.yp_answer.specs.declared.stream.Item.{Item}
 use Rattle.yp_answer.specs.declared.stream.Item.TheVariants.{Row, Plain}
-use Rattle.yp_msgs.specs.Statuses.{stat, stat_number}
+use Rattle.yp_messages.specs.Statuses.{stat, stat_number}
 use Rattle.yp_answer.specs.declared.look_up.Valued.{Valued}
-use Rattle.yp_answer.specs.Items.{item_bytes, IsWithin, valued_bytes}
+use Rattle.yp_answer.specs.inside.Items.{item_bytes, IsWithin, valued_bytes}
 use Rattle.yp_answer.specs.declared.procedure.Path.{Path}
 use Rattle.yp_answer.specs.declared.procedure.Path.TheVariants.{Stream, Datagram}
-use Rattle.yp_answer.specs.Numbers.{room_of, record_max, datagram_max}
+use Rattle.yp_rpc.specs.Turns.{datagram_max}
+use Rattle.yp_answer.specs.Numbers.{record_max}
+use Rattle.yp_answer.specs.inside.Numbers.{room_of}
 use Rattle.yp_answer.specs.Reply.{exceeds}
 
 -- bytes with their length and padding

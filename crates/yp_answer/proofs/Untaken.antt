@@ -3,8 +3,8 @@ use Rattle.std.proofs.Common.{◌≡◌, ◌≢◌, ℕ, Bool, true, false, not,
 use Rattle.std.specs.Prelude.{bytes_eq, length, ◌||◌, ◌==◌}
 use Rattle.std.proofs.lemmas.Slice.Eq.{bytes_eq-Decides}
 use Rattle.yp_io.specs.declared.stream.Peer.{Peer}
-use Rattle.yp_msgs.specs.declared.transfer.XfrStat.{XfrStat}
-use Rattle.yp_msgs.specs.declared.transfer.XfrStat.TheVariants.{Refused, Badargs, Nodom}
+use Rattle.yp_messages.specs.declared.transfer.XfrStat.{XfrStat}
+use Rattle.yp_messages.specs.declared.transfer.XfrStat.TheVariants.{Refused, Badargs, Nodom}
 use Rattle.yp_version.specs.Versions.{MapVersion}
 use Rattle.yp_board.specs.Catalogues.{find, serves}
 use Rattle.yp_board.specs.Logs.{shown}

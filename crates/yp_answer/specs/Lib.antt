@@ -1,14 +1,12 @@
 pub mod Numbers
 pub mod Maps
 pub mod Served
-pub mod Held
 pub mod Results
 pub mod Procedures
 pub mod Make
 pub mod Causes
 pub mod Transfer
 pub mod Reply
-pub mod Streams
-pub mod Items
 pub mod Answers
-pub mod Laws
+pub mod session
+pub mod inside

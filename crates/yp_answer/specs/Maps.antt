@@ -2,13 +2,14 @@
 use Rattle.std.specs.Prelude.{ℕ, not, ◌&&◌, ◌||◌, ◌==◌, nat_le, if◌then◌else◌, List, length, Option}
 use Rattle.std.specs.Prelude.{Result, Ok, Err}
 use Rattle.std.specs.Option.{option_and_then, ok_or}
-use Rattle.yp_msgs.specs.declared.stat.YpStat.{YpStat}
-use Rattle.yp_msgs.specs.declared.stat.YpStat.TheVariants.{Badargs, Nodom, Nomap, Yperr}
+use Rattle.yp_messages.specs.declared.stat.YpStat.{YpStat}
+use Rattle.yp_messages.specs.declared.stat.YpStat.TheVariants.{Badargs, Nodom, Nomap, Yperr}
 use Rattle.yp_version.specs.Versions.{MapVersion}
 use Rattle.yp_board.specs.Catalogues.{Catalogue, find, serves}
 use Rattle.yp_board.specs.Logs.{Log, shown}
 use Rattle.yp_board.specs.Views.{Seen}
 
+-- a catalogue and a log
 pub record Maps : Type 0 where
   pub catalogue : Catalogue
   pub log : Log
@@ -21,7 +22,7 @@ maps_of seen = record { catalogue = seen.catalogue; log = seen.known }
 abbrev pub version_of : Maps → List ℕ → List ℕ → Option MapVersion
 version_of maps domain map = option_and_then (λ number. shown number maps.log) (find domain map maps.catalogue)
 
--- the version of a map, or the status that refuses a question about it, the first that applies
+-- the version of a map, or the status (ypstat of yp.x) that refuses a question about it, the first that applies
 abbrev pub map_check : Maps → List ℕ → List ℕ → Result MapVersion YpStat
 map_check maps domain map =
     if length domain == 0 || length map == 0 then Err Badargs

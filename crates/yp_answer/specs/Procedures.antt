@@ -1,6 +1,8 @@
--- The procedures that are answered, with their numbers: those of YP version 2 (yp.x) and of the make program.
+-- The programs that are answered, with their versions and the numbers of their procedures: YP version 2 (yp.x) and the
+-- make program.
 use Rattle.std.specs.Prelude.{ℕ, ◌==◌, if◌then◌else◌, Option, Some, None}
-use Rattle.yp_msgs.specs.Numbers as numbers
+use Rattle.yp_rpc.specs.Judging.{ProgramTable}
+use Rattle.yp_messages.specs.Numbers as numbers
 use Rattle.yp_answer.specs.declared.procedure.Path.{Path}
 use Rattle.yp_answer.specs.declared.procedure.Path.TheVariants.{Stream, Datagram}
 use Rattle.yp_answer.specs.declared.procedure.Procedure.{Procedure}
@@ -35,3 +37,16 @@ make_procedure_of number =
     if number == numbers.make_null_procedure then Some Null
     else (if number == numbers.make_procedure then Some Make
     else None)
+
+-- the programs that are answered on a path
+abbrev pub programs_on : Path → ProgramTable Procedure
+programs_on path = record {
+  version = λ prog.
+      if prog == numbers.program then Some numbers.version
+      else (if prog == numbers.make_program then Some numbers.make_version
+      else None);
+  procedure = λ prog number.
+      if prog == numbers.program then procedure_of path number
+      else (if prog == numbers.make_program then make_procedure_of number
+      else None);
+}

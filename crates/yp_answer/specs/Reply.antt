@@ -1,28 +1,23 @@
 -- What a record gets: silence, its one reply, which may take a transfer, or a map that is made first (yp.x, RFC 5531
 -- section 9).
-use Rattle.std.specs.Prelude.{ℕ, Bool, true, false, not, ◌&&◌, ◌==◌, nat_lt, if◌then◌else◌, List, ◌++◌, length, drop}
+use Rattle.std.specs.Prelude.{ℕ, Bool, true, false, nat_lt, if◌then◌else◌, List, ◌++◌, length, drop}
 use Rattle.std.specs.Prelude.{Option, Some, None, Result, Ok, Err, is_ok}
-use Rattle.std.specs.Option.{ok_or}
 use Rattle.yp_xdr.specs.declared.fault.XdrFault.{XdrFault}
 use Rattle.yp_xdr.specs.Kind.{Kind, Boolean, ListOf, Value}
 use Rattle.yp_xdr.specs.Spelling.{spelling}
-use Rattle.yp_xdr.specs.Reading.{Unread, reading}
-use Rattle.yp_rpc.specs.declared.call.CallHead.{CallHead}
-use Rattle.yp_rpc.specs.declared.call.Heard.{Heard}
-use Rattle.yp_rpc.specs.declared.call.Heard.TheVariants.{Call, WrongRpc, Noise}
-use Rattle.yp_rpc.specs.declared.reply.ReplyHead.{ReplyHead}
-use Rattle.yp_rpc.specs.declared.reply.ReplyHead.TheVariants.{Success, ProgUnavail, ProgMismatch, ProcUnavail}
-use Rattle.yp_rpc.specs.declared.reply.ReplyHead.TheVariants.{GarbageArgs, RpcMismatch, AuthError}
-use Rattle.yp_rpc.specs.Call.{heard}
+use Rattle.yp_xdr.specs.Reading.{Remaining, reading}
+use Rattle.yp_rpc.specs.declared.judging.Judged.{Judged}
+use Rattle.yp_rpc.specs.declared.judging.Judged.TheVariants.{Ignored, Refused, Admitted}
+use Rattle.yp_rpc.specs.declared.reply.ReplyHead.TheVariants.{Success, GarbageArgs}
+use Rattle.yp_rpc.specs.Judging.{judged}
 use Rattle.yp_rpc.specs.Reply.{reply_head}
-use Rattle.yp_msgs.specs.declared.stat.YpStat.TheVariants.{Yperr}
-use Rattle.yp_msgs.specs.declared.transfer.XfrStat.{XfrStat}
-use Rattle.yp_msgs.specs.declared.transfer.XfrStat.TheVariants.{Succ}
+use Rattle.yp_messages.specs.declared.stat.YpStat.TheVariants.{Yperr}
+use Rattle.yp_messages.specs.declared.transfer.XfrStat.{XfrStat}
+use Rattle.yp_messages.specs.declared.transfer.XfrStat.TheVariants.{Succ}
 use Rattle.yp_io.specs.declared.stream.Peer.{Peer}
-use Rattle.yp_msgs.specs.Numbers.{program, version, make_program, make_version}
-use Rattle.yp_msgs.specs.Messages.{req_domain, req_key, req_nokey, resp_val, key_val, resp_master, resp_order}
-use Rattle.yp_msgs.specs.MapLists.{map_list}
-use Rattle.yp_msgs.specs.Transfers.{req_xfr, resp_xfr, req_make, resp_make, xfr_number}
+use Rattle.yp_messages.specs.Messages.{req_domain, req_key, req_nokey, resp_val, key_val, resp_master, resp_order}
+use Rattle.yp_messages.specs.MapLists.{map_list}
+use Rattle.yp_messages.specs.Transfers.{req_xfr, resp_xfr, req_make, resp_make, xfr_number}
 use Rattle.yp_board.specs.Catalogues.{serves}
 use Rattle.yp_answer.specs.declared.procedure.Path.{Path}
 use Rattle.yp_answer.specs.declared.procedure.Path.TheVariants.{Stream, Datagram}
@@ -30,13 +25,12 @@ use Rattle.yp_answer.specs.declared.procedure.Procedure.{Procedure}
 use Rattle.yp_answer.specs.declared.caller.Caller.{Caller}
 use Rattle.yp_answer.specs.declared.procedure.Procedure.TheVariants.{Null, Domain, DomainNonack, Match, First, Next}
 use Rattle.yp_answer.specs.declared.procedure.Procedure.TheVariants.{Xfr, Clear, All, Master, Order, Maplist, Make}
-use Rattle.yp_rpc.specs.Numbers.{auth_none, auth_sys, auth_rejectedcred, rpc_version}
-use Rattle.yp_answer.specs.Numbers.{datagram_max}
+use Rattle.yp_rpc.specs.Turns.{datagram_max}
 use Rattle.yp_answer.specs.Maps.{Maps, map_check, row_check}
 use Rattle.yp_answer.specs.Results.{no_value, no_row, matched, first_row, next_row, all_items, mastered, ordered}
 use Rattle.yp_answer.specs.Results.{maps_listed}
-use Rattle.yp_answer.specs.Procedures.{procedure_of, make_procedure_of}
-use Rattle.yp_answer.specs.declared.make.Job.{Job}
+use Rattle.yp_answer.specs.Procedures.{programs_on}
+use Rattle.yp_answer.specs.declared.make.MakeJob.{MakeJob}
 use Rattle.yp_answer.specs.Make.{make_check}
 use Rattle.yp_answer.specs.Transfer.{XfrRequest, Taken, asked_transid, taken_for, xfr_check}
 
@@ -46,12 +40,7 @@ pub data Response : Type 0 where
   Silence : Response
   Bytes : (bytes : List ℕ) → Response
   Takes : (bytes : List ℕ) (taken : Taken) → Response
-  Open : (xid : ℕ) (job : Job) → Response
-
--- these bytes, or silence
-abbrev pub bytes_or_silence : Option (List ℕ) → Response
-bytes_or_silence (Some bytes) = Bytes bytes
-bytes_or_silence None = Silence
+  Open : (xid : ℕ) (job : MakeJob) → Response
 
 -- the reply that goes out at once, where there is one
 abbrev pub reply_at_once : Response → Option (List ℕ)
@@ -74,21 +63,30 @@ abbrev pub look_up : Path → ℕ → (kind : Kind) → Value kind → Value kin
 look_up path xid kind found instead =
     if exceeds path (length (success xid kind found)) then success xid kind instead else success xid kind found
 
--- what is made of the arguments, or the refusal of arguments that no front of the bytes spells
-abbrev pub with_arguments : {V : Type 0} → ℕ → Result (V × Unread) XdrFault → (V → Response) → Response
-with_arguments xid (Ok read) reply_to = reply_to read.0
-with_arguments xid (Err fault) reply_to = Bytes (reply_head xid GarbageArgs)
+-- the refusal of arguments that no front of the bytes spells
+abbrev pub garbage : ℕ → Response
+garbage xid = Bytes (reply_head xid GarbageArgs)
 
--- arguments are at the front of these bytes
-abbrev pub arguments_of : (kind : Kind) → List ℕ → Result (Value kind × Unread) XdrFault
-arguments_of kind bytes = reading kind (record { at = 0; bytes = bytes })
+-- what is made of the arguments, or the refusal of those that can't be read
+abbrev pub with_arguments : {V : Type 0} → ℕ → Result V XdrFault → (V → Response) → Response
+with_arguments xid (Ok arguments) reply_to = reply_to arguments
+with_arguments xid (Err fault) reply_to = garbage xid
+
+-- what was read, without what is left
+abbrev pub value_read : {V : Type 0} → Result (V × Remaining) XdrFault → Result V XdrFault
+value_read (Ok read) = Ok read.0
+value_read (Err fault) = Err fault
+
+-- the arguments at the front of these bytes
+abbrev pub arguments_of : (kind : Kind) → List ℕ → Result (Value kind) XdrFault
+arguments_of kind bytes = value_read (reading kind (record { at = 0; bytes = bytes }))
 
 -- the reply of MAKE with a status
 abbrev pub make_reply : ℕ → XfrStat → List ℕ
 make_reply xid stat = success xid resp_make (xfr_number stat)
 
 -- MAKE has the status that refuses it, or its map is made first
-abbrev pub make_response : ℕ → Result Job XfrStat → Response
+abbrev pub make_response : ℕ → Result MakeJob XfrStat → Response
 make_response xid (Err stat) = Bytes (make_reply xid stat)
 make_response xid (Ok job) = Open xid job
 
@@ -142,33 +140,16 @@ procedure_reply maps caller Make bytes =
     with_arguments caller.xid (arguments_of req_make bytes)
     (λ asked. make_response caller.xid (make_check maps.catalogue caller.peer asked))
 
--- a procedure of a program that is spoken in one version
-abbrev pub in_version : ℕ → ℕ → Option Procedure → Result Procedure ReplyHead
-in_version spoken asked found =
-    if not (asked == spoken) then Err (ProgMismatch spoken spoken) else ok_or found ProcUnavail
-
--- the procedure that a call is let to, or the first reason why it isn't let to one
-abbrev pub admitted : Path → CallHead → Result Procedure ReplyHead
-admitted path call =
-    if not (call.flavor == auth_none) && not (call.flavor == auth_sys) then Err (AuthError auth_rejectedcred)
-    else (if call.prog == program then in_version version call.vers (procedure_of path call.procedure)
-    else (if call.prog == make_program then in_version make_version call.vers (make_procedure_of call.procedure)
-    else Err ProgUnavail))
-
--- the reply to a call that is let to a procedure, or isn't
-abbrev pub call_reply : Path → Maps → Peer → List ℕ → CallHead → Result Procedure ReplyHead → Response
-call_reply path maps peer message call (Ok procedure) =
+-- the reply to a message that isn't answered, or to a call that isn't let to a procedure, or is
+abbrev pub judged_reply : Path → Maps → Peer → List ℕ → Judged Procedure → Response
+judged_reply path maps peer message Ignored = Silence
+judged_reply path maps peer message (Refused xid head) = Bytes (reply_head xid head)
+judged_reply path maps peer message (Admitted call procedure) =
     procedure_reply maps (record { path = path; xid = call.xid; peer = peer }) procedure (drop call.body message)
-call_reply path maps peer message call (Err head) = Bytes (reply_head call.xid head)
-
-abbrev pub heard_reply : Path → Maps → Peer → List ℕ → Heard → Response
-heard_reply path maps peer message Noise = Silence
-heard_reply path maps peer message (WrongRpc xid) = Bytes (reply_head xid (RpcMismatch rpc_version rpc_version))
-heard_reply path maps peer message (Call call) = call_reply path maps peer message call (admitted path call)
 
 -- what a record from a caller gets
 abbrev pub reply : Path → Maps → Peer → List ℕ → Response
-reply path maps peer message = heard_reply path maps peer message (heard message)
+reply path maps peer message = judged_reply path maps peer message (judged (programs_on path) message)
 
 -- ---- which replies rest on versions
 
@@ -188,15 +169,11 @@ asks_for Master bytes = is_ok (arguments_of req_nokey bytes)
 asks_for Order bytes = is_ok (arguments_of req_nokey bytes)
 asks_for Maplist bytes = is_ok (arguments_of req_domain bytes)
 
-abbrev pub admitted_asks : List ℕ → CallHead → Result Procedure ReplyHead → Bool
-admitted_asks message call (Ok procedure) = asks_for procedure (drop call.body message)
-admitted_asks message call (Err head) = false
-
-abbrev pub heard_asks : Path → List ℕ → Heard → Bool
-heard_asks path message Noise = false
-heard_asks path message (WrongRpc xid) = false
-heard_asks path message (Call call) = admitted_asks message call (admitted path call)
+abbrev pub judged_asks : List ℕ → Judged Procedure → Bool
+judged_asks message Ignored = false
+judged_asks message (Refused xid head) = false
+judged_asks message (Admitted call procedure) = asks_for procedure (drop call.body message)
 
 -- the reply to a record rests on versions, so a read step goes before it
 abbrev pub asks : Path → List ℕ → Bool
-asks path message = heard_asks path message (heard message)
+asks path message = judged_asks message (judged (programs_on path) message)

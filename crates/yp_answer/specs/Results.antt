@@ -2,12 +2,11 @@
 use Rattle.std.specs.Prelude.{ℕ, Bool, not, ◌&&◌, ◌==◌, if◌then◌else◌, List, [], ◌∷◌, length, map, filter, Option, Some}
 use Rattle.std.specs.Prelude.{None, is_some, Result, Ok, Err, bytes_eq}
 use Rattle.yp_xdr.specs.Kind.{Value}
-use Rattle.yp_xdr.specs.Spelling.{spelling}
-use Rattle.yp_msgs.specs.declared.stat.YpStat.{YpStat}
-use Rattle.yp_msgs.specs.declared.stat.YpStat.TheVariants.{True, Nomore, Nokey, Badargs, Nodom}
-use Rattle.yp_msgs.specs.Statuses.{stat_number}
-use Rattle.yp_msgs.specs.Messages.{resp_val, key_val, resp_master, resp_order}
-use Rattle.yp_msgs.specs.MapLists.{map_list, map_item}
+use Rattle.yp_messages.specs.declared.stat.YpStat.{YpStat}
+use Rattle.yp_messages.specs.declared.stat.YpStat.TheVariants.{True, Nomore, Nokey, Badargs, Nodom}
+use Rattle.yp_messages.specs.Statuses.{stat_number}
+use Rattle.yp_messages.specs.Messages.{resp_val, key_val, resp_master, resp_order}
+use Rattle.yp_messages.specs.MapLists.{map_list}
 use Rattle.yp_version.specs.Rows.{Row, value_of, first_of, following}
 use Rattle.yp_version.specs.Versions.{MapVersion}
 use Rattle.yp_board.specs.Catalogues.{Name, serves, listed}
@@ -71,10 +70,6 @@ is_listed maps domain name = bytes_eq name.0 domain && is_some (version_of maps 
 
 abbrev pub maps_in : Maps → List ℕ → List (List ℕ)
 maps_in maps domain = map (λ name. name.1) (filter (is_listed maps domain) (listed maps.catalogue.maps))
-
--- the bytes of a map in the list, and none where it isn't listed
-abbrev pub map_part : Maps → List ℕ → Name → List ℕ
-map_part maps domain named = if is_listed maps domain named then spelling map_item (Some named.1) else []
 
 abbrev pub maps_listed : Maps → List ℕ → Value map_list
 maps_listed maps domain =

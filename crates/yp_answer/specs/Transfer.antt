@@ -2,13 +2,12 @@
 use Rattle.std.specs.Prelude.{ℕ, Bool, false, not, ◌||◌, ◌==◌, if◌then◌else◌, List, length, Option, Some, None, Result}
 use Rattle.std.specs.Prelude.{Ok, Err, bytes_eq}
 use Rattle.yp_xdr.specs.Kind.{Value}
-use Rattle.yp_msgs.specs.declared.transfer.XfrStat.{XfrStat}
-use Rattle.yp_msgs.specs.declared.transfer.XfrStat.TheVariants.{Refused, Badargs, Nodom, Nomap}
-use Rattle.yp_msgs.specs.Transfers.{req_xfr}
+use Rattle.yp_messages.specs.declared.transfer.XfrStat.{XfrStat}
+use Rattle.yp_messages.specs.declared.transfer.XfrStat.TheVariants.{Refused, Badargs, Nodom, Nomap}
+use Rattle.yp_messages.specs.Transfers.{req_xfr}
 use Rattle.yp_version.specs.Versions.{MapVersion}
 use Rattle.yp_board.specs.Catalogues.{find, serves}
 use Rattle.yp_board.specs.Logs.{shown}
-use Rattle.yp_answer.specs.declared.transfer.Errand.{Errand}
 use Rattle.yp_answer.specs.Maps.{Maps}
 
 -- what XFR asks for: a domain, a map, its order, the host that has it, and how to call back: transaction, program, port
@@ -37,15 +36,6 @@ taken_for asked map = record {
   transid = asked_transid asked;
   prog = asked.1.1.1.1.1.0;
   port = asked.1.1.1.1.1.1;
-}
-
-abbrev pub taken_view : Errand → Taken
-taken_view errand = record {
-  map = errand.map;
-  source = errand.source.now;
-  transid = errand.transid;
-  prog = errand.prog;
-  port = errand.port;
 }
 
 -- the version that is shown has this master

@@ -3,4 +3,3 @@ pub mod Progress
 pub mod Hosts
 pub mod LogRuns
 pub mod Runs
-pub mod Trails

@@ -2,9 +2,9 @@
 
 ghost use Rattle.std.specs.Prelude.{◌≡◌, ◌+◌, ◌≤◌, length, take};
 ghost use Rattle.yp_xdr.specs.Kind.{Boolean};
-ghost use Rattle.yp_xdr.specs.Writing.{Sets};
+ghost use Rattle.yp_xdr.specs.inside.Writing.{Sets};
 ghost use Rattle.yp_rpc.specs.Reply.{reply_head};
-ghost use Rattle.yp_answer.specs.Numbers.{datagram_max};
+ghost use Rattle.yp_rpc.specs.Turns.{datagram_max};
 ghost use Rattle.yp_answer.specs.Reply.{success};
 
 use crate::procedure::Path;

@@ -1,29 +1,31 @@
 //! The reply to one call.
 
-ghost use Rattle.std.specs.Prelude.{◌≡◌, ◌≢◌, ◌≤◌, length, take, drop, option_map, IfSome};
+ghost use Rattle.std.specs.Prelude.{◌≡◌, ◌≢◌, ◌≤◌, length, IfOk, MatchResult};
 ghost use Rattle.yp_answer.specs.declared.procedure.Path.TheVariants as paths;
-ghost use Rattle.yp_answer.specs.Numbers.{record_max, datagram_max, room_of};
+ghost use Rattle.yp_rpc.specs.Turns.{datagram_max};
+ghost use Rattle.yp_answer.specs.Numbers.{record_max};
+ghost use Rattle.yp_answer.specs.inside.Numbers.{room_of};
 ghost use Rattle.yp_answer.specs.Maps.{maps_of};
-ghost use Rattle.yp_answer.specs.Reply.{admitted, asks, asks_for};
-ghost use Rattle.yp_answer.specs.Answers.{IsAnswer, IsNoStream, IsProcedureAnswer, StepsWhere};
+ghost use Rattle.yp_answer.specs.Reply.{asks, asks_for, garbage, procedure_reply};
+ghost use Rattle.yp_answer.specs.Answers.{StepsWhere};
+ghost use Rattle.yp_answer.specs.inside.Answers.{IsAnswer, IsNoStream, IsProcedureAnswer, IsReadAnswer, Streams};
 
+use crate::arguments::{read_arguments, read_refreshed};
 use crate::caller::{Caller, put_head};
 use crate::check::row_check;
 use crate::facts::{
     answer_domain, answer_domain_nonack, answer_maplist, answer_master, answer_order,
 };
 use crate::look_up::{answer_first, answer_match, answer_next};
-use crate::make::{Job, make_check, make_reply};
+use crate::make::{MakeJob, make_check, make_reply};
 use crate::procedure::{Path, Procedure};
 use crate::stream::AllStream;
-use crate::transfer::{Errand, answer_xfr};
+use crate::transfer::{TransferJob, answer_xfr};
 use yp_board::View;
 use yp_io::Peer;
-use yp_msgs::protocol::{MAKEPROG, MAKEVERS, YPPROG, YPVERS};
-use yp_msgs::{ReadMessage, ReqMake, ReqNokey};
-use yp_rpc::protocol::{AUTH_NONE, AUTH_REJECTEDCRED, AUTH_SYS, RPC_VERSION};
-use yp_rpc::{CallHead, Heard, ReplyHead, read_call};
-use yp_xdr::Cursor;
+use yp_messages::{ReqMake, ReqNokey};
+use yp_rpc::{Judged, ReplyHead, judge};
+use yp_xdr::XdrFault;
 
 /// The answer to a record.
 #[derive(Debug, Drop)]
@@ -38,58 +40,29 @@ pub enum Answered<'a> {
     Stream(AllStream),
 
     /// The reply is the first `len` bytes of the buffer. Once it is out, the transfer is carried out.
-    Transfer { len: usize, errand: Errand<'a> },
+    Transfer { len: usize, job: TransferJob<'a> },
 
     /// A map is made first, and then the reply has the status of that, by [`make_reply`](crate::make_reply).
-    Make { xid: u32, job: Job },
-}
-
-/// The procedure that a call is let to, or the first reason why it isn't let to one.
-fn admit(path: Path, call: &CallHead) -> Result<Procedure, ReplyHead>
-    ensures { result ≡ admitted path call.now }
-{
-    if call.flavor != AUTH_NONE && call.flavor != AUTH_SYS {
-        return Err(ReplyHead::AuthError {
-            stat: AUTH_REJECTEDCRED,
-        });
-    }
-    let (version, procedure) = match call.prog {
-        YPPROG => (YPVERS, Procedure::of_number(path, call.procedure)),
-        MAKEPROG => (MAKEVERS, Procedure::of_make_number(call.procedure)),
-        _ => return Err(ReplyHead::ProgUnavail),
-    };
-    if call.vers != version {
-        return Err(ReplyHead::ProgMismatch {
-            low: version,
-            high: version,
-        });
-    }
-    procedure.ok_or(ReplyHead::ProcUnavail)
+    Make { xid: u32, job: MakeJob },
 }
 
 /// Answers ALL: the rows go out in pieces.
-fn answer_all<'a, V: View>(
+fn answer_all<V: View>(
     view: &mut V,
     caller: &Caller,
-    arguments: &'a [u8],
-    buf: &mut [u8],
-) -> Answered<'a>
-    requires { room_of caller.now.path ≤ length buf.old }
-    ensures reply { IsProcedureAnswer (maps_of (V.seen view.new)) caller.now Procedure.All arguments.now
-        result buf.new }
+    arguments: &[u8],
+) -> Result<AllStream, XdrFault>
+    ensures reply { let maps = maps_of (V.seen view.new) in
+        let expected = procedure_reply maps caller.now Procedure.All arguments.now in
+        MatchResult result (λ stream. Streams maps expected stream) (λ _. garbage caller.now.xid ≡ expected) }
     ensures step { StepsWhere (asks_for Procedure.All arguments.now) V.stepped V.seen view.old view.new }
 {
-    let Ok(asked) = ReqNokey::read(&mut Cursor::new(arguments)) else {
-        return Answered::Reply {
-            len: put_head(buf, caller.xid, &ReplyHead::GarbageArgs),
-        };
-    };
-    view.refresh();
+    let asked: ReqNokey<'_> = read_refreshed(view, arguments)?;
     let source = match row_check(view, caller.peer.port, asked.domain, asked.map) {
         Ok(held) => Ok(held.map),
         Err(stat) => Err(stat),
     };
-    Answered::Stream(AllStream::new(caller.xid, source))
+    Ok(AllStream::new(caller.xid, source))
 }
 
 /// Answers MAKE: with the status that refuses it, or with what is to be made.
@@ -98,18 +71,13 @@ fn answer_make<'a, V: View>(
     caller: &Caller,
     arguments: &'a [u8],
     buf: &mut [u8],
-) -> Answered<'a>
+) -> Result<Answered<'a>, XdrFault>
     requires { room_of caller.now.path ≤ length buf.old }
-    ensures reply { IsProcedureAnswer (maps_of (V.seen view.now)) caller.now Procedure.Make arguments.now
-        result buf.new }
-    ensures no_stream { IsNoStream result }
+    ensures reply { IsReadAnswer (maps_of (V.seen view.now)) caller.now Procedure.Make arguments.now result buf.new }
+    ensures no_stream { IfOk result IsNoStream }
 {
-    let Ok(request) = ReqMake::read(&mut Cursor::new(arguments)) else {
-        return Answered::Reply {
-            len: put_head(buf, caller.xid, &ReplyHead::GarbageArgs),
-        };
-    };
-    match make_check(view.catalog(), caller.peer, &request) {
+    let request: ReqMake<'_> = read_arguments(arguments)?;
+    Ok(match make_check(view.catalog(), caller.peer, &request) {
         Err(stat) => Answered::Reply {
             len: make_reply(buf, caller.xid, stat),
         },
@@ -117,7 +85,40 @@ fn answer_make<'a, V: View>(
             xid: caller.xid,
             job,
         },
-    }
+    })
+}
+
+/// Answers a call that is let to a procedure, where its arguments can be read.
+fn answer_arguments<'a, V: View>(
+    view: &mut V,
+    caller: &Caller,
+    procedure: Procedure,
+    arguments: &'a [u8],
+    buf: &mut [u8],
+) -> Result<Answered<'a>, XdrFault>
+    requires { room_of caller.now.path ≤ length buf.old }
+    ensures reply { IsReadAnswer (maps_of (V.seen view.new)) caller.now procedure arguments.now result buf.new }
+    ensures step { StepsWhere (asks_for procedure arguments.now) V.stepped V.seen view.old view.new }
+    ensures no_stream { procedure ≢ Procedure.All → IfOk result IsNoStream }
+{
+    let len = match procedure {
+        Procedure::Null | Procedure::Clear => put_head(buf, caller.xid, &ReplyHead::Success),
+        Procedure::Domain => answer_domain(view, caller, arguments, buf)?,
+        Procedure::DomainNonack => match answer_domain_nonack(view, caller, arguments, buf)? {
+            None => return Ok(Answered::Silent),
+            Some(len) => len,
+        },
+        Procedure::Match => answer_match(view, caller, arguments, buf)?,
+        Procedure::First => answer_first(view, caller, arguments, buf)?,
+        Procedure::Next => answer_next(view, caller, arguments, buf)?,
+        Procedure::Xfr => return answer_xfr(view, caller, arguments, buf),
+        Procedure::All => return Ok(Answered::Stream(answer_all(view, caller, arguments)?)),
+        Procedure::Master => answer_master(view, caller, arguments, buf)?,
+        Procedure::Order => answer_order(view, caller, arguments, buf)?,
+        Procedure::Maplist => answer_maplist(view, caller, arguments, buf)?,
+        Procedure::Make => return answer_make(view, caller, arguments, buf),
+    };
+    Ok(Answered::Reply { len })
 }
 
 /// Answers a call that is let to a procedure.
@@ -133,26 +134,12 @@ fn answer_procedure<'a, V: View>(
     ensures step { StepsWhere (asks_for procedure arguments.now) V.stepped V.seen view.old view.new }
     ensures no_stream { procedure ≢ Procedure.All → IsNoStream result }
 {
-    let len = match procedure {
-        Procedure::Null | Procedure::Clear => put_head(buf, caller.xid, &ReplyHead::Success),
-        Procedure::Domain => answer_domain(view, caller, arguments, buf),
-        Procedure::DomainNonack => {
-            return match answer_domain_nonack(view, caller, arguments, buf) {
-                None => Answered::Silent,
-                Some(len) => Answered::Reply { len },
-            };
-        }
-        Procedure::Match => answer_match(view, caller, arguments, buf),
-        Procedure::First => answer_first(view, caller, arguments, buf),
-        Procedure::Next => answer_next(view, caller, arguments, buf),
-        Procedure::Xfr => return answer_xfr(view, caller, arguments, buf),
-        Procedure::All => return answer_all(view, caller, arguments, buf),
-        Procedure::Master => answer_master(view, caller, arguments, buf),
-        Procedure::Order => answer_order(view, caller, arguments, buf),
-        Procedure::Maplist => answer_maplist(view, caller, arguments, buf),
-        Procedure::Make => return answer_make(view, caller, arguments, buf),
-    };
-    Answered::Reply { len }
+    match answer_arguments(view, caller, procedure, arguments, buf) {
+        Ok(answered) => answered,
+        Err(_) => Answered::Reply {
+            len: put_head(buf, caller.xid, &ReplyHead::GarbageArgs),
+        },
+    }
 }
 
 /// Answers a record that came on a path.
@@ -168,31 +155,19 @@ fn answer_on<'a, V: View>(
     ensures step { StepsWhere (asks path record.now) V.stepped V.seen view.old view.new }
     ensures no_stream { path ≡ Path.Datagram → IsNoStream result }
 {
-    match read_call(record) {
-        Heard::Noise => Answered::Silent,
-        Heard::WrongRpc { xid } => Answered::Reply {
-            len: put_head(
-                buf,
-                xid,
-                &ReplyHead::RpcMismatch {
-                    low: RPC_VERSION,
-                    high: RPC_VERSION,
-                },
-            ),
+    match judge(&path, record) {
+        Judged::Ignored => Answered::Silent,
+        Judged::Refused { xid, head } => Answered::Reply {
+            len: put_head(buf, xid, &head),
         },
-        Heard::Call(call) => match admit(path, &call) {
-            Err(head) => Answered::Reply {
-                len: put_head(buf, call.xid, &head),
-            },
-            Ok(procedure) => {
-                let caller = Caller {
-                    path,
-                    xid: call.xid,
-                    peer,
-                };
-                answer_procedure(view, &caller, procedure, &record[call.body..], buf)
-            }
-        },
+        Judged::Admitted { call, procedure } => {
+            let caller = Caller {
+                path,
+                xid: call.xid,
+                peer,
+            };
+            answer_procedure(view, &caller, procedure, &record[call.body..], buf)
+        }
     }
 }
 

@@ -1,41 +1,49 @@
 //! The procedures that tell of domains and maps, and not of rows (yp.x).
 
 ghost use Rattle.std.specs.Prelude.{◌≡◌, ◌+◌, ◌*◌, ◌<◌, ◌≤◌, ◌++◌, length, slice_index_or, take, option_map, []};
-ghost use Rattle.std.specs.Prelude.{IfSome};
+ghost use Rattle.std.specs.Prelude.{IfSome, IfOk, MatchResult};
 ghost use Rattle.yp_xdr.specs.Kind.{ListOf};
 ghost use Rattle.yp_xdr.specs.Spelling.{spelling};
-ghost use Rattle.yp_msgs.specs.Statuses.{stat_number};
-ghost use Rattle.yp_msgs.specs.Numbers.{name_max};
-ghost use Rattle.yp_msgs.specs.Messages.{name, resp_master_view};
-ghost use Rattle.yp_msgs.specs.MapLists.{map_list};
+ghost use Rattle.yp_messages.specs.Statuses.{stat_number};
+ghost use Rattle.yp_messages.specs.Numbers.{name_max};
+ghost use Rattle.yp_messages.specs.Messages.{name};
+ghost use Rattle.yp_messages.specs.inside.Messages.{resp_master_view};
+ghost use Rattle.yp_messages.specs.MapLists.{map_list};
 ghost use Rattle.yp_answer.specs.declared.procedure.Procedure.TheVariants as procedures;
-ghost use Rattle.yp_answer.specs.Numbers.{datagram_max};
+ghost use Rattle.yp_rpc.specs.Turns.{datagram_max};
 ghost use Rattle.yp_answer.specs.declared.facts.TheConstants.{MAP_MAX};
 ghost use Rattle.yp_board.specs.declared.catalog.TheConstants.{MAPS_MAX};
 ghost use Rattle.yp_answer.specs.Maps.{maps_of};
-ghost use Rattle.yp_answer.specs.Results.{mastered, maps_in, map_part};
-ghost use Rattle.yp_answer.specs.Held.{checked};
-ghost use Rattle.yp_answer.specs.Reply.{Bytes, bytes_or_silence, procedure_reply, asks_for};
+ghost use Rattle.yp_answer.specs.Results.{mastered, maps_in};
+ghost use Rattle.yp_answer.specs.inside.Results.{map_part};
+ghost use Rattle.yp_answer.specs.inside.ShownVersion.{checked};
+ghost use Rattle.yp_answer.specs.Reply.{garbage, procedure_reply, asks_for};
+ghost use Rattle.yp_answer.specs.inside.Reply.{bytes_or_silence};
 ghost use Rattle.yp_answer.specs.Answers.{StepsWhere};
+ghost use Rattle.yp_answer.specs.inside.Answers.{IsPut};
 
+use crate::arguments::{read_arguments, read_refreshed};
 use crate::caller::{Caller, put_head, put_truth};
-use crate::check::{Held, map_check};
+use crate::check::{ShownVersion, map_check};
 use yp_board::{MAPS_MAX, View};
-use yp_msgs::{MapItem, Message, ReadMessage, ReqDomain, ReqNokey, RespMaster, RespOrder, YpStat};
+use yp_messages::{MapItem, Message, ReqDomain, ReqNokey, RespMaster, RespOrder, YpStat};
 use yp_rpc::ReplyHead;
-use yp_xdr::Cursor;
+use yp_xdr::XdrFault;
 
 /// Answers DOMAIN.
-pub fn answer_domain<V: View>(view: &V, caller: &Caller, arguments: &[u8], buf: &mut [u8]) -> usize
+pub fn answer_domain<V: View>(
+    view: &V,
+    caller: &Caller,
+    arguments: &[u8],
+    buf: &mut [u8],
+) -> Result<usize, XdrFault>
     requires { datagram_max ≤ length buf.old }
-    ensures reply { Bytes (take result buf.new) ≡ procedure_reply (maps_of (V.seen view.now)) caller.now
-        procedures.Domain arguments.now }
-    ensures within { result ≤ length buf.new }
+    ensures reply { IsPut (maps_of (V.seen view.now)) caller.now procedures.Domain arguments.now result buf.new }
+    ensures within { IfOk result (λ len. len ≤ length buf.new) }
 {
-    let Ok(asked) = ReqDomain::read(&mut Cursor::new(arguments)) else {
-        return put_head(buf, caller.xid, &ReplyHead::GarbageArgs);
-    };
-    put_truth(buf, caller.xid, view.catalog().serves(asked.domain))
+    let asked: ReqDomain<'_> = read_arguments(arguments)?;
+    let serves = view.catalog().serves(asked.domain);
+    Ok(put_truth(buf, caller.xid, serves))
 }
 
 /// Answers DOMAIN_NONACK, or keeps silent where the domain isn't served.
@@ -44,24 +52,24 @@ pub fn answer_domain_nonack<V: View>(
     caller: &Caller,
     arguments: &[u8],
     buf: &mut [u8],
-) -> Option<usize>
+) -> Result<Option<usize>, XdrFault>
     requires { datagram_max ≤ length buf.old }
-    ensures reply { bytes_or_silence (option_map (λ len. take len buf.new) result) ≡ procedure_reply
-        (maps_of (V.seen view.now)) caller.now procedures.DomainNonack arguments.now }
-    ensures within { IfSome result (λ len. len ≤ length buf.new) }
+    ensures reply { let expected = procedure_reply (maps_of (V.seen view.now)) caller.now procedures.DomainNonack
+        arguments.now in MatchResult result
+        (λ found. bytes_or_silence (option_map (λ len. take len buf.new) found) ≡ expected)
+        (λ _. garbage caller.now.xid ≡ expected) }
+    ensures within { IfOk result (λ found. IfSome found (λ len. len ≤ length buf.new)) }
 {
-    let Ok(asked) = ReqDomain::read(&mut Cursor::new(arguments)) else {
-        return Some(put_head(buf, caller.xid, &ReplyHead::GarbageArgs));
-    };
+    let asked: ReqDomain<'_> = read_arguments(arguments)?;
     if view.catalog().serves(asked.domain) {
-        Some(put_truth(buf, caller.xid, true))
+        Ok(Some(put_truth(buf, caller.xid, true)))
     } else {
-        None
+        Ok(None)
     }
 }
 
 /// The master of a version.
-fn mastered<'a>(found: &Result<Held<'a>, YpStat>) -> RespMaster<'a>
+fn mastered<'a>(found: &Result<ShownVersion<'a>, YpStat>) -> RespMaster<'a>
     ensures view { resp_master_view result ≡ mastered (checked found.now) }
     ensures len { length result.peer.now ≤ name_max }
 {
@@ -83,20 +91,16 @@ pub fn answer_master<V: View>(
     caller: &Caller,
     arguments: &[u8],
     buf: &mut [u8],
-) -> usize
+) -> Result<usize, XdrFault>
     requires { datagram_max ≤ length buf.old }
-    ensures reply { Bytes (take result buf.new) ≡ procedure_reply (maps_of (V.seen view.new)) caller.now
-        procedures.Master arguments.now }
-    ensures within { result ≤ length buf.new }
+    ensures reply { IsPut (maps_of (V.seen view.new)) caller.now procedures.Master arguments.now result buf.new }
+    ensures within { IfOk result (λ len. len ≤ length buf.new) }
     ensures step { StepsWhere (asks_for procedures.Master arguments.now) V.stepped V.seen view.old view.new }
 {
-    let Ok(asked) = ReqNokey::read(&mut Cursor::new(arguments)) else {
-        return put_head(buf, caller.xid, &ReplyHead::GarbageArgs);
-    };
-    view.refresh();
+    let asked: ReqNokey<'_> = read_refreshed(view, arguments)?;
     let found = map_check(view, asked.domain, asked.map);
     let at = put_head(buf, caller.xid, &ReplyHead::Success);
-    mastered(&found).set(buf, at)
+    Ok(mastered(&found).set(buf, at))
 }
 
 /// Answers ORDER.
@@ -105,17 +109,13 @@ pub fn answer_order<V: View>(
     caller: &Caller,
     arguments: &[u8],
     buf: &mut [u8],
-) -> usize
+) -> Result<usize, XdrFault>
     requires { datagram_max ≤ length buf.old }
-    ensures reply { Bytes (take result buf.new) ≡ procedure_reply (maps_of (V.seen view.new)) caller.now
-        procedures.Order arguments.now }
-    ensures within { result ≤ length buf.new }
+    ensures reply { IsPut (maps_of (V.seen view.new)) caller.now procedures.Order arguments.now result buf.new }
+    ensures within { IfOk result (λ len. len ≤ length buf.new) }
     ensures step { StepsWhere (asks_for procedures.Order arguments.now) V.stepped V.seen view.old view.new }
 {
-    let Ok(asked) = ReqNokey::read(&mut Cursor::new(arguments)) else {
-        return put_head(buf, caller.xid, &ReplyHead::GarbageArgs);
-    };
-    view.refresh();
+    let asked: ReqNokey<'_> = read_refreshed(view, arguments)?;
     let told = match map_check(view, asked.domain, asked.map) {
         Err(stat) => RespOrder { stat, ordernum: 0 },
         Ok(held) => RespOrder {
@@ -124,7 +124,7 @@ pub fn answer_order<V: View>(
         },
     };
     let at = put_head(buf, caller.xid, &ReplyHead::Success);
-    told.set(buf, at)
+    Ok(told.set(buf, at))
 }
 
 /// The most bytes that a map takes in a list: two words, and its name padded.
@@ -169,26 +169,22 @@ pub fn answer_maplist<V: View>(
     caller: &Caller,
     arguments: &[u8],
     buf: &mut [u8],
-) -> usize
+) -> Result<usize, XdrFault>
     requires { datagram_max ≤ length buf.old }
-    ensures reply { Bytes (take result buf.new) ≡ procedure_reply (maps_of (V.seen view.new)) caller.now
-        procedures.Maplist arguments.now }
-    ensures within { result ≤ length buf.new }
+    ensures reply { IsPut (maps_of (V.seen view.new)) caller.now procedures.Maplist arguments.now result buf.new }
+    ensures within { IfOk result (λ len. len ≤ length buf.new) }
     ensures step { StepsWhere (asks_for procedures.Maplist arguments.now) V.stepped V.seen view.old view.new }
 {
-    let Ok(asked) = ReqDomain::read(&mut Cursor::new(arguments)) else {
-        return put_head(buf, caller.xid, &ReplyHead::GarbageArgs);
-    };
-    view.refresh();
+    let asked: ReqDomain<'_> = read_refreshed(view, arguments)?;
     let at = put_head(buf, caller.xid, &ReplyHead::Success);
     if asked.domain.is_empty() {
-        return put_no_maps(buf, at, YpStat::Badargs);
+        return Ok(put_no_maps(buf, at, YpStat::Badargs));
     }
     if !view.catalog().serves(asked.domain) {
-        return put_no_maps(buf, at, YpStat::Nodom);
+        return Ok(put_no_maps(buf, at, YpStat::Nodom));
     }
     let at = YpStat::True.set(buf, at);
-    put_maps(view, asked.domain, buf, at)
+    Ok(put_maps(view, asked.domain, buf, at))
 }
 
 /// Puts a status and an empty list behind a place of the buffer, and answers the place behind them.

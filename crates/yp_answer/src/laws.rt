@@ -1,6 +1,6 @@
 //! Laws of calls of MAKE that are left open and of transfers that are taken, as contracts of functions that do nothing.
 
-ghost use Rattle.yp_answer.specs.Laws.{OpenIsFromOwnHost, TakenIsOfAnother};
+ghost use Rattle.yp_answer.specs.inside.Laws.{OpenIsFromOwnHost, TakenIsOfAnother};
 
 /// The caller of an open MAKE is on the server's own host.
 pub fn open_is_from_own_host()

@@ -1,10 +1,15 @@
 //! The reply to one call, on one state of the maps.
 //!
 //! A record is answered by [`answer`], and a call in a datagram by [`answer_datagram`]. That each gives the one reply
-//! of YP version 2 (yp.x) over RPC (RFC 5531) on what its view knows, after at most one read step, stands on their
-//! clauses. The reply of ALL goes out in pieces of whole items, by [`AllStream::piece`].
+//! of YP version 2 (yp.x) over RPC (RFC 5531) on what its view knows, after at most one read step, and that it takes a
+//! transfer or leaves a MAKE open exactly where that reply does, stands on their clauses. The reply of ALL goes out in
+//! pieces of whole items, by [`AllStream::piece`]. [`laws`] say of which callers a MAKE is left open, and of which maps
+//! a transfer is taken.
+//!
+//! [`session`] answers the records of one connection in turn.
 #![tactic(auto)]
 
+mod arguments;
 mod caller;
 mod calls;
 mod check;
@@ -14,12 +19,13 @@ mod limits;
 mod look_up;
 mod make;
 mod procedure;
+pub mod session;
 mod stream;
 mod transfer;
 
 pub use calls::{Answered, answer, answer_datagram};
-pub use limits::{DATAGRAM_MAX, RECORD_MAX};
-pub use make::{Job, make_reply};
+pub use limits::RECORD_MAX;
+pub use make::{MakeJob, make_reply};
 pub use procedure::{Path, Procedure};
 pub use stream::AllStream;
-pub use transfer::Errand;
+pub use transfer::TransferJob;

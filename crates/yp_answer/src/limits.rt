@@ -4,12 +4,10 @@ ghost use Rattle.std.specs.Prelude.{◌≡◌};
 ghost use Rattle.yp_answer.specs.Reply.{exceeds};
 
 use crate::procedure::Path;
+use yp_rpc::DATAGRAM_MAX;
 
 /// The most bytes of a call's record, and the bytes that a buffer for its reply, or a piece of it, needs.
 pub const RECORD_MAX: usize = 262_144;
-
-/// The most bytes of a datagram, a call's or a reply's.
-pub const DATAGRAM_MAX: usize = 8_192;
 
 /// Whether a reply of so many bytes can't go on the path.
 pub(crate) fn exceeds(path: Path, len: usize) -> bool

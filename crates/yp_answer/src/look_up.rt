@@ -1,28 +1,31 @@
 //! The procedures that look a key or a row up: MATCH, FIRST and NEXT (yp.x).
 
-ghost use Rattle.std.specs.Prelude.{◌≡◌, ◌+◌, ◌≤◌, length, take};
+ghost use Rattle.std.specs.Prelude.{◌≡◌, ◌+◌, ◌≤◌, length, take, IfOk};
 ghost use Rattle.yp_xdr.specs.Kind.{Value};
-ghost use Rattle.yp_xdr.specs.Writing.{Sets};
-ghost use Rattle.yp_msgs.specs.Messages.{resp_val, key_val, key_val_view};
+ghost use Rattle.yp_xdr.specs.inside.Writing.{Sets};
+ghost use Rattle.yp_messages.specs.Messages.{resp_val, key_val};
+ghost use Rattle.yp_messages.specs.inside.Messages.{key_val_view};
 ghost use Rattle.yp_version.specs.Limits.{key_max, value_max};
-ghost use Rattle.yp_msgs.specs.declared.stat.YpStat.TheVariants.{Yperr};
+ghost use Rattle.yp_messages.specs.declared.stat.YpStat.TheVariants.{Yperr};
 ghost use Rattle.yp_answer.specs.declared.procedure.Procedure.TheVariants as procedures;
-ghost use Rattle.yp_answer.specs.Numbers.{room_of};
+ghost use Rattle.yp_answer.specs.inside.Numbers.{room_of};
 ghost use Rattle.yp_answer.specs.Maps.{maps_of};
 ghost use Rattle.yp_answer.specs.Results.{no_value, no_row, row_item, matched, first_row, next_row};
-ghost use Rattle.yp_answer.specs.Held.{checked};
-ghost use Rattle.yp_answer.specs.Reply.{Bytes, look_up, procedure_reply, asks_for};
+ghost use Rattle.yp_answer.specs.inside.ShownVersion.{checked};
+ghost use Rattle.yp_answer.specs.Reply.{look_up, asks_for};
 ghost use Rattle.yp_answer.specs.Answers.{StepsWhere};
-ghost use Rattle.yp_answer.specs.Items.{valued_bytes, Tells};
+ghost use Rattle.yp_answer.specs.inside.Answers.{IsPut};
+ghost use Rattle.yp_answer.specs.inside.Items.{valued_bytes, IsStatusAndValue};
 
+use crate::arguments::read_refreshed;
 use crate::caller::{Caller, copy, put_head};
-use crate::check::{Held, row_check};
+use crate::check::{ShownVersion, row_check};
 use crate::limits::exceeds;
 use yp_board::View;
-use yp_msgs::{KeyVal, Message, ReadMessage, ReqKey, ReqNokey, YpStat};
+use yp_messages::{KeyVal, Message, ReqKey, ReqNokey, YpStat};
 use yp_rpc::ReplyHead;
 use yp_version::Next;
-use yp_xdr::Cursor;
+use yp_xdr::XdrFault;
 
 /// No value, behind its length.
 const NO_VALUE: [u8; 4] = [0; 4];
@@ -36,7 +39,7 @@ struct Valued<'a> {
 
 /// A status without a value.
 fn no_value(stat: YpStat) -> Valued<'static>
-    ensures tells { Tells result (no_value stat) }
+    ensures tells { IsStatusAndValue result (no_value stat) }
     ensures len { length result.val.now ≤ 4 }
 {
     Valued {
@@ -88,8 +91,8 @@ pub fn row<'a>(key: &'a [u8], val: &'a [u8]) -> KeyVal<'a>
 }
 
 /// The value of a key.
-fn matched<'a>(found: &Result<Held<'a>, YpStat>, key: &[u8]) -> Valued<'a>
-    ensures tells { Tells result (matched key.now (checked found.now)) }
+fn matched<'a>(found: &Result<ShownVersion<'a>, YpStat>, key: &[u8]) -> Valued<'a>
+    ensures tells { IsStatusAndValue result (matched key.now (checked found.now)) }
     ensures len { length result.val.now ≤ 4 + value_max }
 {
     match found {
@@ -105,7 +108,7 @@ fn matched<'a>(found: &Result<Held<'a>, YpStat>, key: &[u8]) -> Valued<'a>
 }
 
 /// The first row.
-fn first_row<'a>(found: &Result<Held<'a>, YpStat>) -> KeyVal<'a>
+fn first_row<'a>(found: &Result<ShownVersion<'a>, YpStat>) -> KeyVal<'a>
     ensures view { key_val_view result ≡ first_row (checked found.now) }
     ensures val_len { length result.val.now ≤ value_max }
     ensures key_len { length result.key.now ≤ key_max }
@@ -120,7 +123,7 @@ fn first_row<'a>(found: &Result<Held<'a>, YpStat>) -> KeyVal<'a>
 }
 
 /// The row behind the one with a key.
-fn next_row<'a>(found: &Result<Held<'a>, YpStat>, key: &[u8]) -> KeyVal<'a>
+fn next_row<'a>(found: &Result<ShownVersion<'a>, YpStat>, key: &[u8]) -> KeyVal<'a>
     ensures view { key_val_view result ≡ next_row key.now (checked found.now) }
     ensures val_len { length result.val.now ≤ value_max }
     ensures key_len { length result.key.now ≤ key_max }
@@ -139,7 +142,7 @@ fn next_row<'a>(found: &Result<Held<'a>, YpStat>, key: &[u8]) -> KeyVal<'a>
 fn put_value(caller: &Caller, found: &Valued<'_>, buf: &mut [u8]) -> usize
     requires room { room_of caller.now.path ≤ length buf.old }
     requires len { length found.now.val.now ≤ 4 + value_max }
-    ensures reply { (told : Value resp_val) → Tells found.now told → take result buf.new
+    ensures reply { (told : Value resp_val) → IsStatusAndValue found.now told → take result buf.new
         ≡ look_up caller.now.path caller.now.xid resp_val told (no_value Yperr) }
     ensures within { result ≤ length buf.new }
 {
@@ -172,19 +175,15 @@ pub fn answer_match<V: View>(
     caller: &Caller,
     arguments: &[u8],
     buf: &mut [u8],
-) -> usize
+) -> Result<usize, XdrFault>
     requires { room_of caller.now.path ≤ length buf.old }
-    ensures reply { Bytes (take result buf.new) ≡ procedure_reply (maps_of (V.seen view.new)) caller.now
-        procedures.Match arguments.now }
-    ensures within { result ≤ length buf.new }
+    ensures reply { IsPut (maps_of (V.seen view.new)) caller.now procedures.Match arguments.now result buf.new }
+    ensures within { IfOk result (λ len. len ≤ length buf.new) }
     ensures step { StepsWhere (asks_for procedures.Match arguments.now) V.stepped V.seen view.old view.new }
 {
-    let Ok(asked) = ReqKey::read(&mut Cursor::new(arguments)) else {
-        return put_head(buf, caller.xid, &ReplyHead::GarbageArgs);
-    };
-    view.refresh();
+    let asked: ReqKey<'_> = read_refreshed(view, arguments)?;
     let found = row_check(view, caller.peer.port, asked.domain, asked.map);
-    put_value(caller, &matched(&found, asked.key), buf)
+    Ok(put_value(caller, &matched(&found, asked.key), buf))
 }
 
 /// Answers FIRST.
@@ -193,19 +192,15 @@ pub fn answer_first<V: View>(
     caller: &Caller,
     arguments: &[u8],
     buf: &mut [u8],
-) -> usize
+) -> Result<usize, XdrFault>
     requires { room_of caller.now.path ≤ length buf.old }
-    ensures reply { Bytes (take result buf.new) ≡ procedure_reply (maps_of (V.seen view.new)) caller.now
-        procedures.First arguments.now }
-    ensures within { result ≤ length buf.new }
+    ensures reply { IsPut (maps_of (V.seen view.new)) caller.now procedures.First arguments.now result buf.new }
+    ensures within { IfOk result (λ len. len ≤ length buf.new) }
     ensures step { StepsWhere (asks_for procedures.First arguments.now) V.stepped V.seen view.old view.new }
 {
-    let Ok(asked) = ReqNokey::read(&mut Cursor::new(arguments)) else {
-        return put_head(buf, caller.xid, &ReplyHead::GarbageArgs);
-    };
-    view.refresh();
+    let asked: ReqNokey<'_> = read_refreshed(view, arguments)?;
     let found = row_check(view, caller.peer.port, asked.domain, asked.map);
-    put_row(caller, &first_row(&found), buf)
+    Ok(put_row(caller, &first_row(&found), buf))
 }
 
 /// Answers NEXT.
@@ -214,17 +209,13 @@ pub fn answer_next<V: View>(
     caller: &Caller,
     arguments: &[u8],
     buf: &mut [u8],
-) -> usize
+) -> Result<usize, XdrFault>
     requires { room_of caller.now.path ≤ length buf.old }
-    ensures reply { Bytes (take result buf.new) ≡ procedure_reply (maps_of (V.seen view.new)) caller.now
-        procedures.Next arguments.now }
-    ensures within { result ≤ length buf.new }
+    ensures reply { IsPut (maps_of (V.seen view.new)) caller.now procedures.Next arguments.now result buf.new }
+    ensures within { IfOk result (λ len. len ≤ length buf.new) }
     ensures step { StepsWhere (asks_for procedures.Next arguments.now) V.stepped V.seen view.old view.new }
 {
-    let Ok(asked) = ReqKey::read(&mut Cursor::new(arguments)) else {
-        return put_head(buf, caller.xid, &ReplyHead::GarbageArgs);
-    };
-    view.refresh();
+    let asked: ReqKey<'_> = read_refreshed(view, arguments)?;
     let found = row_check(view, caller.peer.port, asked.domain, asked.map);
-    put_row(caller, &next_row(&found, asked.key), buf)
+    Ok(put_row(caller, &next_row(&found, asked.key), buf))
 }

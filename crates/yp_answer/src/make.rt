@@ -1,28 +1,28 @@
 //! The make program: a map is made anew where a caller on the server's own host asks for it.
 
 ghost use Rattle.std.specs.Prelude.{◌≡◌, ◌<◌, ◌≤◌, length, take, IfOk};
-ghost use Rattle.yp_msgs.specs.Transfers.{req_make_view};
-ghost use Rattle.yp_answer.specs.Numbers.{datagram_max};
+ghost use Rattle.yp_messages.specs.inside.Transfers.{req_make_view};
+ghost use Rattle.yp_rpc.specs.Turns.{datagram_max};
 ghost use Rattle.yp_answer.specs.Make.{make_check, IsKindOf};
 ghost use Rattle.yp_answer.specs.Reply.{make_reply};
 
 use crate::caller::put_head;
 use yp_board::Catalog;
-use yp_build::Kind;
 use yp_io::{OWN_HOST, Peer};
-use yp_msgs::{Message, ReqMake, RespMake, XfrStat};
+use yp_messages::{Message, ReqMake, RespMake, XfrStat};
 use yp_rpc::ReplyHead;
+use yp_texts::Kind;
 
 /// A map that is made: its number from 0, and its kind.
 #[derive(Clone, Copy, Debug, PartialEq, Eq)]
-pub struct Job {
+pub struct MakeJob {
     pub map: u32,
     pub kind: Kind,
 }
 
 /// The map that is made for a caller, or the status that refuses to, the first that applies. It rests on the catalogue
 /// alone.
-pub fn make_check(catalog: &Catalog, peer: Peer, asked: &ReqMake<'_>) -> Result<Job, XfrStat>
+pub fn make_check(catalog: &Catalog, peer: Peer, asked: &ReqMake<'_>) -> Result<MakeJob, XfrStat>
     ensures check { result ≡ make_check catalog.now peer (req_make_view asked.now) }
     ensures inside { IfOk result (λ job. job.map < length catalog.now.maps) }
     ensures kind { IfOk result (λ job. IsKindOf catalog.now job.map job.kind) }
@@ -40,7 +40,7 @@ pub fn make_check(catalog: &Catalog, peer: Peer, asked: &ReqMake<'_>) -> Result<
         return Err(XfrStat::Nomap);
     };
     match catalog.find(asked.domain, kind.name()) {
-        Some(map) => Ok(Job { map, kind }),
+        Some(map) => Ok(MakeJob { map, kind }),
         None => Err(XfrStat::Nomap),
     }
 }

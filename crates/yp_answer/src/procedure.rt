@@ -1,12 +1,13 @@
-//! The procedures that are answered: those of YP version 2 (yp.x) and of the make program.
+//! The programs that are answered and their procedures: YP version 2 (yp.x) and the make program.
 
 ghost use Rattle.std.specs.Prelude.{◌≡◌};
-ghost use Rattle.yp_answer.specs.Procedures.{procedure_of, make_procedure_of};
+ghost use Rattle.yp_answer.specs.Procedures.{procedure_of, make_procedure_of, programs_on};
 
-use yp_msgs::protocol::{
-    ALL, CLEAR, DOMAIN, DOMAIN_NONACK, FIRST, MAKE, MAKE_NULL, MAPLIST, MASTER, MATCH, NEXT, NULL,
-    ORDER, XFR,
+use yp_messages::protocol::{
+    ALL, CLEAR, DOMAIN, DOMAIN_NONACK, FIRST, MAKE, MAKE_NULL, MAKEPROG, MAKEVERS, MAPLIST, MASTER,
+    MATCH, NEXT, NULL, ORDER, XFR, YPPROG, YPVERS,
 };
+use yp_rpc::Programs;
 
 /// How a call comes and its reply goes.
 #[derive(Clone, Copy, Debug, PartialEq, Eq)]
@@ -37,7 +38,7 @@ pub enum Procedure {
 
 impl Procedure {
     /// The procedure of YP with this number on a path. ALL is sent over a stream alone.
-    pub(crate) fn of_number(path: Path, number: u32) -> Option<Procedure>
+    fn of_number(path: Path, number: u32) -> Option<Procedure>
         ensures { result ≡ procedure_of path number }
     {
         match number {
@@ -61,12 +62,35 @@ impl Procedure {
     }
 
     /// The procedure of the make program with this number.
-    pub(crate) fn of_make_number(number: u32) -> Option<Procedure>
+    fn of_make_number(number: u32) -> Option<Procedure>
         ensures { result ≡ make_procedure_of number }
     {
         match number {
             MAKE_NULL => Some(Procedure::Null),
             MAKE => Some(Procedure::Make),
+            _ => None,
+        }
+    }
+}
+
+/// The programs that are answered on a path.
+impl Programs for Path {
+    type Procedure = Procedure;
+
+    ghost table = { programs_on };
+
+    fn version(&self, prog: u32) -> Option<u32> {
+        match prog {
+            YPPROG => Some(YPVERS),
+            MAKEPROG => Some(MAKEVERS),
+            _ => None,
+        }
+    }
+
+    fn procedure(&self, prog: u32, number: u32) -> Option<Procedure> {
+        match prog {
+            YPPROG => Procedure::of_number(*self, number),
+            MAKEPROG => Procedure::of_make_number(number),
             _ => None,
         }
     }

@@ -2,20 +2,20 @@
 
 ghost use Rattle.std.specs.Prelude.{◌≡◌, ◌+◌, ◌<◌, ◌≤◌, ◌↔◌, ◌++◌, [], length, take, slice_get, option_map, IfSome};
 ghost use Rattle.yp_version.specs.Limits.{rows_max};
-ghost use Rattle.yp_xdr.specs.Writing.{Sets};
+ghost use Rattle.yp_xdr.specs.inside.Writing.{Sets};
 ghost use Rattle.yp_answer.specs.Numbers.{record_max};
 ghost use Rattle.yp_answer.specs.Maps.{maps_of};
 ghost use Rattle.yp_rpc.specs.Records.{joined};
-ghost use Rattle.yp_answer.specs.Streams.{Gives, item_parts, parts_left, source_of, between};
+ghost use Rattle.yp_answer.specs.inside.Streams.{GivesParts, item_parts, parts_left, source_of, between};
 ghost use Rattle.yp_answer.specs.declared.stream.TheConstants.{ITEM_MAX};
-ghost use Rattle.yp_answer.specs.Answers.{IsInside};
-ghost use Rattle.yp_answer.specs.Items.{items_view, item_bytes, IsWithin};
+ghost use Rattle.yp_answer.specs.inside.Answers.{StreamIsInside};
+ghost use Rattle.yp_answer.specs.inside.Items.{items_view, item_bytes, IsWithin};
 
 use crate::caller::{copy, put_head};
 use crate::look_up::no_row;
 use std::marker::Model;
 use yp_board::View;
-use yp_msgs::{AllItem, Message, YpStat};
+use yp_messages::{AllItem, Message, YpStat};
 use yp_rpc::ReplyHead;
 use yp_version::{KEY_MAX, VALUE_MAX, Version};
 use yp_xdr::laws::sets_join;
@@ -37,7 +37,7 @@ pub struct AllStream {
 }
 
 impl Model for AllStream {
-    ghost use Rattle.yp_answer.specs.Streams.{Streamed};
+    ghost use Rattle.yp_answer.specs.inside.Streams.{Streamed};
 
     ghost Value = { Streamed };
 
@@ -153,8 +153,8 @@ impl AllStream {
     /// in bytes: 0 exactly at the end.
     pub fn piece<V: View>(&mut self, view: &V, buf: &mut [u8]) -> usize
         requires room { record_max ≤ length buf.old }
-        requires inside { IsInside (maps_of (V.seen view.now)) self.old.source }
-        ensures gives { Gives (take result buf.new) (parts_left (V.seen view.now).known self.old)
+        requires inside { StreamIsInside (maps_of (V.seen view.now)) self.old.source }
+        ensures gives { GivesParts (take result buf.new) (parts_left (V.seen view.now).known self.old)
             (parts_left (V.seen view.now).known self.new) }
         ensures end { (result ≡ 0) ↔ (parts_left (V.seen view.now).known self.old ≡ []) }
         ensures same { self.new ≡ record self.old { given = self.new.given } }
@@ -176,7 +176,7 @@ impl AllStream {
 
 /// What is listed of a source.
 fn items_of<V: View>(view: &V, source: Result<u32, YpStat>) -> Items<'_>
-    requires { IsInside (maps_of (V.seen view.now)) source }
+    requires { StreamIsInside (maps_of (V.seen view.now)) source }
     ensures { items_view result ≡ source_of (V.seen view.now).known source }
 {
     match source {

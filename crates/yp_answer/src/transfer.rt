@@ -1,25 +1,28 @@
 //! XFR: a map is fetched from the host that has it (yp.x).
 
 ghost use Rattle.std.specs.Prelude.{◌≡◌, ◌<◌, ◌≤◌, length, take, IfOk};
-ghost use Rattle.yp_msgs.specs.Transfers.{req_xfr_view};
+ghost use Rattle.yp_messages.specs.inside.Transfers.{req_xfr_view};
 ghost use Rattle.yp_answer.specs.declared.procedure.Procedure.TheVariants as procedures;
-ghost use Rattle.yp_answer.specs.Numbers.{datagram_max, room_of};
+ghost use Rattle.yp_rpc.specs.Turns.{datagram_max};
+ghost use Rattle.yp_answer.specs.inside.Numbers.{room_of};
 ghost use Rattle.yp_answer.specs.Maps.{maps_of};
 ghost use Rattle.yp_answer.specs.Transfer.{xfr_check};
 ghost use Rattle.yp_answer.specs.Reply.{xfr_reply, asks_for};
-ghost use Rattle.yp_answer.specs.Answers.{IsNoStream, IsProcedureAnswer, StepsWhere};
+ghost use Rattle.yp_answer.specs.Answers.{StepsWhere};
+ghost use Rattle.yp_answer.specs.inside.Answers.{IsNoStream, IsReadAnswer};
 
+use crate::arguments::read_refreshed;
 use crate::caller::{Caller, put_head};
 use crate::calls::Answered;
 use yp_board::View;
-use yp_msgs::{Message, ReadMessage, ReqXfr, RespXfr, XfrStat};
+use yp_messages::{Message, ReqXfr, RespXfr, XfrStat};
 use yp_rpc::ReplyHead;
-use yp_xdr::Cursor;
+use yp_xdr::XdrFault;
 
 /// A transfer that was taken: the number of its map from 0, the name of the host that has the map, and how to call
 /// back: the transaction, the program and its port.
 #[derive(Clone, Copy, Debug)]
-pub struct Errand<'a> {
+pub struct TransferJob<'a> {
     pub map: u32,
     pub source: &'a [u8],
     pub transid: u32,
@@ -69,26 +72,20 @@ pub fn answer_xfr<'a, V: View>(
     caller: &Caller,
     arguments: &'a [u8],
     buf: &mut [u8],
-) -> Answered<'a>
+) -> Result<Answered<'a>, XdrFault>
     requires { room_of caller.now.path ≤ length buf.old }
-    ensures reply { IsProcedureAnswer (maps_of (V.seen view.new)) caller.now procedures.Xfr arguments.now
-        result buf.new }
+    ensures reply { IsReadAnswer (maps_of (V.seen view.new)) caller.now procedures.Xfr arguments.now result buf.new }
     ensures step { StepsWhere (asks_for procedures.Xfr arguments.now) V.stepped V.seen view.old view.new }
-    ensures no_stream { IsNoStream result }
+    ensures no_stream { IfOk result IsNoStream }
 {
-    let Ok(asked) = ReqXfr::read(&mut Cursor::new(arguments)) else {
-        return Answered::Reply {
-            len: put_head(buf, caller.xid, &ReplyHead::GarbageArgs),
-        };
-    };
-    view.refresh();
-    match xfr_check(view, &asked) {
+    let asked: ReqXfr<'_> = read_refreshed(view, arguments)?;
+    Ok(match xfr_check(view, &asked) {
         Err(stat) => Answered::Reply {
             len: put_xfr(buf, caller.xid, asked.transid, stat),
         },
         Ok(map) => Answered::Transfer {
             len: put_xfr(buf, caller.xid, asked.transid, XfrStat::Succ),
-            errand: Errand {
+            job: TransferJob {
                 map,
                 source: asked.peer,
                 transid: asked.transid,
@@ -96,5 +93,5 @@ pub fn answer_xfr<'a, V: View>(
                 port: asked.port,
             },
         },
-    }
+    })
 }

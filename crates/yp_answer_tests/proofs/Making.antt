@@ -1,16 +1,16 @@
 -- What a host of the tests makes.
 use Rattle.std.proofs.Common.{◌≡◌, inl, inr, ℕ, List, [], ◌∷◌, ◌++◌, Option, Some, None, Ok, refl, sym, ◌∙◌, ap, subst}
 use Rattle.std.proofs.lemmas.List.{append-nil}
-use Rattle.yp_msgs.specs.declared.transfer.XfrStat.{XfrStat}
-use Rattle.yp_msgs.specs.declared.transfer.XfrStat.TheVariants.{Succ, Age, Nomap, Nodom, Rsrc, Rpc, Maddr, Yperr, Badargs, Dbm, File, Skew, Clear, Force, Xfrerr, Refused}
+use Rattle.yp_messages.specs.declared.transfer.XfrStat.{XfrStat}
+use Rattle.yp_messages.specs.declared.transfer.XfrStat.TheVariants.{Succ, Age, Nomap, Nodom, Rsrc, Rpc, Maddr, Yperr, Badargs, Dbm, File, Skew, Clear, Force, Xfrerr, Refused}
 use Rattle.yp_version.specs.Versions.{MapVersion}
 use Rattle.yp_board.specs.Logs.{Log, shown}
 use Rattle.yp_board.specs.Views.{IsFront}
-use Rattle.yp_build.specs.declared.kind.Kind.{Kind}
-use Rattle.yp_build.specs.After.{Material, material_of, basis_of, other_master, built_after, IsOver}
-use Rattle.yp_answer.specs.declared.make.Job.{Job}
+use Rattle.yp_texts.specs.declared.kind.Kind.{Kind}
+use Rattle.yp_texts.specs.After.{Material, material_of, basis_of, other_master, built_after, HasLaterOrder}
+use Rattle.yp_answer.specs.declared.make.MakeJob.{MakeJob}
 use Rattle.yp_answer.specs.Causes.{IsCaused, basis_at}
-use Rattle.yp_session.specs.Hosts.{Counts, counts_after}
+use Rattle.yp_answer.specs.session.Hosts.{Counts, counts_after}
 
 pub front : (log : Log) → IsFront log log
 front log = ([], sym (append-nil log))
@@ -20,18 +20,18 @@ pub other_so : {own name : List ℕ} {last now : Option MapVersion} {found : Opt
 other_so {own} {name} {last} o l e = ap (λ (v : Option MapVersion). other_master name v) (sym l) ∙ ap (λ (n : List ℕ). other_master n last) (sym o) ∙ sym e
 
 pub built_so : {own name : List ℕ} {last now : Option MapVersion} (kind : Kind) (text : List ℕ) (moment : ℕ) (version : MapVersion) → own ≡ name → last ≡ now
-    → built_after (basis_of kind own None last) (material_of text moment) ≡ Ok version → IsOver last version
-    → (material : Material) × (built_after (basis_of kind name None now) material ≡ Ok version) × IsOver now version
+    → built_after (basis_of kind own None last) (material_of text moment) ≡ Ok version → HasLaterOrder last version
+    → (material : Material) × (built_after (basis_of kind name None now) material ≡ Ok version) × HasLaterOrder now version
 built_so {own} {name} {last} {now} kind text moment version o l e over = (
   material_of text moment,
   subst (λ (v : Option MapVersion). built_after (basis_of kind name None v) (material_of text moment) ≡ Ok version) l
       (subst (λ (n : List ℕ). built_after (basis_of kind n None last) (material_of text moment) ≡ Ok version) o e),
-  subst (λ (v : Option MapVersion). IsOver v version) l over,
+  subst (λ (v : Option MapVersion). HasLaterOrder v version) l over,
 )
 
 -- a version that was built and is shown
-pub shown_anew : (own : List ℕ) (job : Job) (log : Log) (version : MapVersion) (new : Log)
-    → (material : Material) × (built_after (basis_at own job log) material ≡ Ok version) × IsOver (shown job.map log) version
+pub shown_anew : (own : List ℕ) (job : MakeJob) (log : Log) (version : MapVersion) (new : Log)
+    → (material : Material) × (built_after (basis_at own job log) material ≡ Ok version) × HasLaterOrder (shown job.map log) version
     → new ≡ log ++ (job.map, version) ∷ [] → IsCaused (record { text = λ file. None; moment = None }) own job Succ log new
 shown_anew own job log version new made is = record {
   version = version;

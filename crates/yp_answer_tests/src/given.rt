@@ -9,30 +9,14 @@ pub fn bytes<R: Abort>(rt: &R, alloc: Global, texts: &[&str]) -> Vec<u8> {
     yp_for_tests::bytes(alloc, texts).expect(rt, "hexadecimal words")
 }
 
-/// What a word stands for by a line `WORD = 8000004c 00000001` of these names. Without one it stands for itself.
-fn meaning<'n>(names: &'n str, word: &'n str) -> &'n str {
-    for line in names.lines() {
-        if let Some((name, words)) = line.split_once(" = ") {
-            if name == word {
-                return words;
-            }
-        }
-    }
-    word
-}
-
-fn extend_with_word<R: Abort>(rt: &R, alloc: Global, all: &mut Vec<u8>, word: &str) {
-    let more = bytes(rt, alloc, &[word]);
-    all.extend_from_slice(&more).expect(rt, "memory for words");
-}
-
 /// The bytes of a text of hexadecimal words and of names, each told by a line.
 pub fn named<R: Abort>(rt: &R, alloc: Global, names: &str, text: &str) -> Vec<u8> {
-    let mut all = Vec::new(alloc);
-    for word in text.split_whitespace() {
-        extend_with_word(rt, alloc, &mut all, meaning(names, word));
-    }
-    all
+    yp_for_tests::named(alloc, names, text).expect(rt, "hexadecimal words and names")
+}
+
+/// The parts of a row `NAME: CALL -> REPLY`.
+pub fn parts<'r, R: Abort>(rt: &R, row: &'r str) -> (&'r str, &'r str, &'r str) {
+    yp_for_tests::parts(row).expect(rt, "a row")
 }
 
 /// Ends the test where what came isn't what is wanted, and tells of which row.

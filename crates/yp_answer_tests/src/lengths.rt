@@ -5,8 +5,19 @@ use crate::sample::*;
 use std::alloc::Global;
 use std::process::Abort;
 use std::random::RandomSource;
-use yp_board::PlainBoard;
 use yp_version::{Version, VersionBuilder};
+
+// The whole reply to a call where the map has this version, and its pieces.
+fn reply_on(rt: &impl Abort, alloc: Global, version: Version, call: &[u8]) -> Streamed {
+    let mut board = board_of(rt, alloc, version);
+    streamed(rt, alloc, &mut board, OPEN_PORT, call)
+}
+
+// The reply to a call in a datagram.
+fn datagram_on(rt: &impl Abort, alloc: Global, version: Version, call: &[u8]) -> Vec<u8> {
+    let mut board = board_of(rt, alloc, version);
+    datagram_reply(rt, alloc, &mut board, OPEN_PORT, call)
+}
 
 // What a call of MATCH has in the place of `alpha`: a length, the bytes behind it, and the reply.
 type LongKey = (&'static str, usize, &'static str);
@@ -17,21 +28,19 @@ static LONG_KEYS: [LongKey; 3] = [
     ("00010001", 65_540, "GARBAGE_ARGS"),
 ];
 
-fn try_long_key(rt: &impl Abort, alloc: Global, board: &mut PlainBoard, row: &LongKey) {
+fn try_long_key<R: RandomSource + Abort>(rt: &R, alloc: Global, row: &LongKey) {
     let (length, count, reply) = row;
     let mut call = words(rt, alloc, "MATCH LAB HOSTS");
     extend(rt, &mut call, &bytes(rt, alloc, &[*length]));
     extend_with(rt, alloc, &mut call, 0, *count);
-    let came = record_reply(rt, alloc, board, OPEN_PORT, &call);
+    let (came, _) = reply_on(rt, alloc, version(rt, alloc, &[HOST]), &call);
     assert_same(rt, &came, &words(rt, alloc, reply), length);
 }
 
 #[test]
 fn long_keys(rt: HostRuntime) {
-    let alloc = rt.alloc();
-    let mut board = board_of(&rt, alloc, version(&rt, alloc, &[HOST]));
     for row in &LONG_KEYS {
-        try_long_key(&rt, alloc, &mut board, row);
+        try_long_key(&rt, rt.alloc(), row);
     }
 }
 
@@ -42,17 +51,6 @@ fn value_reply(rt: &impl Abort, alloc: Global, length: &str, count: usize, rest:
     extend_with(rt, alloc, &mut value, b'x', count);
     extend(rt, &mut value, &bytes(rt, alloc, &[rest]));
     value
-}
-
-// The replies to a call where the map has one row with this value.
-fn replies_on_value<R: RandomSource + Abort>(
-    rt: &R,
-    alloc: Global,
-    value: &[u8],
-    call: &[u8],
-) -> (Vec<u8>, Vec<u8>) {
-    let mut board = board_of(rt, alloc, version(rt, alloc, &[(b"alpha", value)]));
-    answers_to(rt, alloc, &mut board, OPEN_PORT, call)
 }
 
 // A value: its length, as a word and as a number, its padding, the length of the reply, and whether a datagram has it.
@@ -70,7 +68,9 @@ fn try_value<R: RandomSource + Abort>(rt: &R, alloc: Global, row: &Value) {
     let refused = words(rt, alloc, "SUCCESS YP_YPERR EMPTY");
     let whole = value_reply(rt, alloc, length, *count, padding);
     let value = filled(rt, alloc, b'x', *count);
-    let (by_record, by_datagram) = replies_on_value(rt, alloc, &value, &call);
+    let rows: [Row<'_>; 1] = [(b"alpha", &value)];
+    let (by_record, _) = reply_on(rt, alloc, version(rt, alloc, &rows), &call);
+    let by_datagram = datagram_on(rt, alloc, version(rt, alloc, &rows), &call);
     let wanted = if *fits { &whole } else { &refused };
     // The length of the reply, and whether it came by record and by datagram.
     let came = (whole.len(), by_record == whole, &by_datagram == wanted);
@@ -130,20 +130,6 @@ pub fn items_between(
     reply
 }
 
-// The replies to two calls in datagrams where the map has these rows.
-fn datagram_replies<R: RandomSource + Abort>(
-    rt: &R,
-    alloc: Global,
-    items: &[Item],
-    first: &[u8],
-    second: &[u8],
-) -> (Vec<u8>, Vec<u8>) {
-    let mut board = board_of(rt, alloc, version_with(rt, alloc, items));
-    let to_first = datagram_reply(rt, alloc, &mut board, OPEN_PORT, first);
-    let to_second = datagram_reply(rt, alloc, &mut board, OPEN_PORT, second);
-    (to_first, to_second)
-}
-
 // With a key of 5 bytes the reply has 8,196 bytes, with one of 1 byte 8,192.
 static TWO_ROWS: [Item; 2] = [
     (b"alpha", "00000005 616c7068 61000000", 8_152, "00001fd8"),
@@ -153,24 +139,15 @@ static TWO_ROWS: [Item; 2] = [
 #[test]
 fn rows_too_long_for_a_datagram(rt: HostRuntime) {
     let alloc = rt.alloc();
-    let asks_first = words(&rt, alloc, "FIRST LAB HOSTS");
+    let first = words(&rt, alloc, "FIRST LAB HOSTS");
     let refused = words(&rt, alloc, "SUCCESS YP_YPERR EMPTY EMPTY");
-    let asks_next = words(&rt, alloc, "NEXT LAB HOSTS ALPHA");
+    let came = datagram_on(&rt, alloc, version_with(&rt, alloc, &TWO_ROWS), &first);
+    assert_same(&rt, &came, &refused, "FIRST");
+    let next = words(&rt, alloc, "NEXT LAB HOSTS ALPHA");
     let whole = value_reply(&rt, alloc, "00001fd8", 8_152, "00000001 62000000");
-    let (to_first, to_next) = datagram_replies(&rt, alloc, &TWO_ROWS, &asks_first, &asks_next);
-    let came = (to_first, whole.len(), to_next == whole);
-    assert_same(&rt, &came, &(refused, 8_192, true), "FIRST and NEXT");
-}
-
-// The pieces of the reply to a call where the map has these rows.
-fn pieces_on<R: RandomSource + Abort>(
-    rt: &R,
-    alloc: Global,
-    items: &[Item],
-    call: &[u8],
-) -> Vec<Vec<u8>> {
-    let mut board = board_of(rt, alloc, version_with(rt, alloc, items));
-    pieces(rt, alloc, &mut board, OPEN_PORT, call)
+    let came = datagram_on(&rt, alloc, version_with(&rt, alloc, &TWO_ROWS), &next);
+    let is = (whole.len(), came == whole);
+    assert_same(&rt, &is, &(8_192, true), "NEXT");
 }
 
 // Items of 65,556 bytes: three fit into 262,144 bytes beside a head of 24, then two and the end.
@@ -186,29 +163,11 @@ static FIVE_ROWS: [Item; 5] = [
 fn pieces_are_whole_items(rt: HostRuntime) {
     let alloc = rt.alloc();
     let call = words(&rt, alloc, "ALL LAB HOSTS");
-    let first = items_between(&rt, alloc, "SUCCESS", &FIVE_ROWS[..3], "");
-    let second = items_between(&rt, alloc, "", &FIVE_ROWS[3..], "END");
-    let third = Vec::new(alloc);
-    let pieces = pieces_on(&rt, alloc, &FIVE_ROWS, &call);
-    let came = [
-        first.len() == 24 + 3 * 65_556,
-        pieces.first() == Some(&first),
-        pieces.get(1) == Some(&second),
-        pieces.get(2) == Some(&third),
-        pieces.len() == 3,
-    ];
-    assert_same(&rt, &came, &[true; 5], "three pieces");
-}
-
-// The whole reply to a call where the map has these rows.
-fn reply_on<R: RandomSource + Abort>(
-    rt: &R,
-    alloc: Global,
-    items: &[Item],
-    call: &[u8],
-) -> Vec<u8> {
-    let mut board = board_of(rt, alloc, version_with(rt, alloc, items));
-    record_reply(rt, alloc, &mut board, OPEN_PORT, call)
+    let whole = items_between(&rt, alloc, "SUCCESS", &FIVE_ROWS, "END");
+    let (reply, lens) = reply_on(&rt, alloc, version_with(&rt, alloc, &FIVE_ROWS), &call);
+    let came = (reply == whole, lens);
+    let wanted = (true, [24 + 3 * 65_556, 2 * 65_556 + 4, 0]);
+    assert_same(&rt, &came, &wanted, "three pieces");
 }
 
 // Rows whose reply to ALL has 8,196 bytes.
@@ -227,8 +186,8 @@ pub static EIGHT_ROWS: [Item; 8] = [
 fn all_in_two_fragments(rt: HostRuntime) {
     let alloc = rt.alloc();
     let call = words(&rt, alloc, "ALL LAB HOSTS");
-    let wanted = items_between(&rt, alloc, "SUCCESS", &EIGHT_ROWS, "END");
-    let is_whole = reply_on(&rt, alloc, &EIGHT_ROWS, &call) == wanted;
-    let came = (wanted.len(), is_whole);
+    let whole = items_between(&rt, alloc, "SUCCESS", &EIGHT_ROWS, "END");
+    let (reply, _) = reply_on(&rt, alloc, version_with(&rt, alloc, &EIGHT_ROWS), &call);
+    let came = (whole.len(), reply == whole);
     assert_same(&rt, &came, &(8_196, true), "the whole reply");
 }

@@ -1,4 +1,4 @@
-//! Tests of `yp_answer` and `yp_session`: the answers to calls, and sessions of them.
+//! Tests of `yp_answer` and `yp_answer::session`: the answers to calls, and sessions of them.
 #![tactic(auto)]
 
 #[cfg(test)]

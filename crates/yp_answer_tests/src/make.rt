@@ -3,15 +3,17 @@
 ghost use Rattle.std.specs.Prelude.{◌≤◌, length};
 ghost use Rattle.yp_answer.specs.Numbers.{record_max};
 
-use crate::given::assert_same;
+use crate::given::{assert_same, parts};
 use crate::sample::*;
 use std::alloc::Global;
 use std::process::Abort;
+use std::random::RandomSource;
 use yp_answer::*;
 use yp_board::PlainBoard;
-use yp_build::Kind;
 use yp_io::Peer;
-use yp_msgs::XfrStat;
+use yp_messages::XfrStat;
+use yp_rpc::DATAGRAM_MAX;
+use yp_texts::Kind;
 
 const OWN_HOST: [u8; 4] = [127, 0, 0, 1];
 
@@ -65,167 +67,84 @@ fn replied(
     replied_by(rt, alloc, path, board, addr, call, &mut buf)
 }
 
-// Compares what a call from this address is answered as a record, and as a datagram.
-fn assert_replies(
-    rt: &impl Abort,
-    alloc: Global,
-    board: &mut PlainBoard,
-    addr: [u8; 4],
-    row: &str,
-    call: &[u8],
-    reply: &str,
-) {
-    let wanted = (words(rt, alloc, reply), words(rt, alloc, reply));
-    let came = (
-        replied(rt, alloc, Path::Stream, board, addr, call),
-        replied(rt, alloc, Path::Datagram, board, addr, call),
-    );
-    assert_same(rt, &came, &wanted, row);
+// Compares what a call of a row from this address is answered as a record, and as a datagram.
+fn try_row(rt: &impl Abort, alloc: Global, board: &mut PlainBoard, addr: [u8; 4], row: &str) {
+    let (name, call, reply) = parts(rt, row);
+    let call = words(rt, alloc, call);
+    let wanted = words(rt, alloc, reply);
+    let came = replied(rt, alloc, Path::Stream, board, addr, &call);
+    assert_same(rt, &came, &wanted, name);
+    let came = replied(rt, alloc, Path::Datagram, board, addr, &call);
+    assert_same(rt, &came, &wanted, name);
 }
 
-// Who calls, what is asked for, and the reply.
-type RefusedMake = (&'static str, [u8; 4], &'static str, &'static str);
+fn try_from<R: RandomSource + Abort>(rt: &R, alloc: Global, addr: [u8; 4], rows: &[&str]) {
+    let mut board = two_domains(rt, alloc);
+    for row in rows {
+        try_row(rt, alloc, &mut board, addr, *row);
+    }
+}
 
-static REFUSED_MAKES: [RefusedMake; 13] = [
-    (
-        "another host",
-        OTHER_HOST,
-        "MAKE LAB HOSTS_KIND",
-        "MADE XFR_REFUSED",
-    ),
-    (
-        "another host of the own net",
-        [127, 0, 0, 2],
-        "MAKE LAB HOSTS_KIND",
-        "MADE XFR_REFUSED",
-    ),
-    (
-        "a host of another net",
-        [126, 0, 0, 1],
-        "MAKE LAB HOSTS_KIND",
-        "MADE XFR_REFUSED",
-    ),
-    (
-        "another host, before all else",
-        [0, 0, 0, 0],
-        "MAKE EMPTY KIND_99",
-        "MADE XFR_REFUSED",
-    ),
-    (
-        "an empty domain",
-        OWN_HOST,
-        "MAKE EMPTY HOSTS_KIND",
-        "MADE YP_BADARGS",
-    ),
-    (
-        "an empty domain, before an unknown kind",
-        OWN_HOST,
-        "MAKE EMPTY KIND_99",
-        "MADE YP_BADARGS",
-    ),
-    (
-        "a domain that isn't served",
-        OWN_HOST,
-        "MAKE ZZZ HOSTS_KIND",
-        "MADE YP_NODOM",
-    ),
-    (
-        "a domain that isn't served, before an unknown kind",
-        OWN_HOST,
-        "MAKE ZZZ KIND_99",
-        "MADE YP_NODOM",
-    ),
-    ("the kind 99", OWN_HOST, "MAKE LAB KIND_99", "MADE YP_NOMAP"),
-    ("the kind 0", OWN_HOST, "MAKE LAB KIND_0", "MADE YP_NOMAP"),
-    ("the kind 11", OWN_HOST, "MAKE LAB KIND_11", "MADE YP_NOMAP"),
-    (
-        "hosts.byaddr, of which lab has no map",
-        OWN_HOST,
-        "MAKE LAB BY_ADDRESS_KIND",
-        "MADE YP_NOMAP",
-    ),
-    (
-        "passwd.byname, of which zoo has no map",
-        OWN_HOST,
-        "MAKE ZOO PASSWD_KIND",
-        "MADE YP_NOMAP",
-    ),
+static OF_OTHERS: [&str; 2] = [
+    "another host: MAKE LAB HOSTS_KIND -> MADE XFR_REFUSED",
+    "another host, before all else: MAKE EMPTY KIND_99 -> MADE XFR_REFUSED",
 ];
 
-fn try_refused(rt: &impl Abort, alloc: Global, board: &mut PlainBoard, row: &RefusedMake) {
-    let (name, addr, call, reply) = row;
-    let call = words(rt, alloc, call);
-    assert_replies(rt, alloc, board, *addr, name, &call, reply);
-}
+static REFUSED_MAKES: [&str; 9] = [
+    "an empty domain: MAKE EMPTY HOSTS_KIND -> MADE YP_BADARGS",
+    "an empty domain, before an unknown kind: MAKE EMPTY KIND_99 -> MADE YP_BADARGS",
+    "a domain that isn't served: MAKE ZZZ HOSTS_KIND -> MADE YP_NODOM",
+    "a domain that isn't served, before an unknown kind: MAKE ZZZ KIND_99 -> MADE YP_NODOM",
+    "the kind 99: MAKE LAB KIND_99 -> MADE YP_NOMAP",
+    "the kind 0: MAKE LAB KIND_0 -> MADE YP_NOMAP",
+    "the kind 11: MAKE LAB KIND_11 -> MADE YP_NOMAP",
+    "hosts.byaddr, of which lab has no map: MAKE LAB BY_ADDRESS_KIND -> MADE YP_NOMAP",
+    "passwd.byname, of which zoo has no map: MAKE ZOO PASSWD_KIND -> MADE YP_NOMAP",
+];
 
 #[test]
 fn refused_makes(rt: HostRuntime) {
-    let alloc = rt.alloc();
-    let mut board = two_domains(&rt, alloc);
-    for row in &REFUSED_MAKES {
-        try_refused(&rt, alloc, &mut board, row);
-    }
+    try_from(&rt, rt.alloc(), OTHER_HOST, &OF_OTHERS);
+    // Another host of the own net, and one of another net.
+    try_from(&rt, rt.alloc(), [127, 0, 0, 2], &OF_OTHERS);
+    try_from(&rt, rt.alloc(), [126, 0, 0, 1], &OF_OTHERS);
+    try_from(&rt, rt.alloc(), [0, 0, 0, 0], &OF_OTHERS);
+    try_from(&rt, rt.alloc(), OWN_HOST, &REFUSED_MAKES);
 }
 
-// A whole call of the make program, and the reply to it.
-type OtherCall = (&'static str, &'static str, &'static str);
-
-static OTHER_CALLS: [OtherCall; 7] = [
-    (
-        "NULL, whose arguments aren't read",
-        "00000002 00000000 00000002 20004e49 00000001 00000000 00000000 00000000 00000000 00000000",
-        "00000002 00000001 00000000 00000000 00000000 00000000",
-    ),
-    (
-        "the version 2, before an unknown procedure",
-        "00000003 00000000 00000002 20004e49 00000002 00000009 00000000 00000000 00000000 00000000",
-        "00000003 00000001 00000000 00000000 00000000 00000002 00000001 00000001",
-    ),
-    (
-        "the version 0",
-        "00000003 00000000 00000002 20004e49 00000000 00000001 00000000 00000000 00000000 00000000",
-        "00000003 00000001 00000000 00000000 00000000 00000002 00000001 00000001",
-    ),
-    (
-        "the procedure 2",
-        "00000002 00000000 00000002 20004e49 00000001 00000002 00000000 00000000 00000000 00000000",
-        "00000002 00000001 00000000 00000000 00000000 00000003",
-    ),
-    (
-        "MAKE without arguments",
-        "00000002 00000000 00000002 20004e49 00000001 00000001 00000000 00000000 00000000 00000000",
-        "00000002 00000001 00000000 00000000 00000000 00000004",
-    ),
-    (
-        "MAKE without a kind",
-        "00000002 00000000 00000002 20004e49 00000001 00000001 00000000 00000000 00000000 00000000 00000003 6c616200",
-        "00000002 00000001 00000000 00000000 00000000 00000004",
-    ),
-    (
-        "MAKE of a domain of 65 bytes",
-        "00000002 00000000 00000002 20004e49 00000001 00000001 00000000 00000000 00000000 00000000 00000041",
-        "00000002 00000001 00000000 00000000 00000000 00000004",
-    ),
+// Whole calls of the make program, and the replies to them.
+static OTHER_CALLS: [&str; 7] = [
+    "NULL, whose arguments aren't read: 00000002 00000000 00000002 20004e49 00000001 00000000 \
+        00000000 00000000 00000000 00000000 \
+        -> 00000002 00000001 00000000 00000000 00000000 00000000",
+    "the version 2, before an unknown procedure: 00000003 00000000 00000002 20004e49 00000002 \
+        00000009 00000000 00000000 00000000 00000000 \
+        -> 00000003 00000001 00000000 00000000 00000000 00000002 00000001 00000001",
+    "the version 0: 00000003 00000000 00000002 20004e49 00000000 00000001 00000000 00000000 \
+        00000000 00000000 \
+        -> 00000003 00000001 00000000 00000000 00000000 00000002 00000001 00000001",
+    "the procedure 2: 00000002 00000000 00000002 20004e49 00000001 00000002 00000000 00000000 \
+        00000000 00000000 \
+        -> 00000002 00000001 00000000 00000000 00000000 00000003",
+    "MAKE without arguments: 00000002 00000000 00000002 20004e49 00000001 00000001 00000000 \
+        00000000 00000000 00000000 \
+        -> 00000002 00000001 00000000 00000000 00000000 00000004",
+    "MAKE without a kind: 00000002 00000000 00000002 20004e49 00000001 00000001 00000000 \
+        00000000 00000000 00000000 00000003 6c616200 \
+        -> 00000002 00000001 00000000 00000000 00000000 00000004",
+    "MAKE of a domain of 65 bytes: 00000002 00000000 00000002 20004e49 00000001 00000001 \
+        00000000 00000000 00000000 00000000 00000041 \
+        -> 00000002 00000001 00000000 00000000 00000000 00000004",
 ];
-
-fn try_other(rt: &impl Abort, alloc: Global, board: &mut PlainBoard, row: &OtherCall) {
-    let (name, call, reply) = row;
-    let call = words(rt, alloc, call);
-    assert_replies(rt, alloc, board, OWN_HOST, name, &call, reply);
-    assert_replies(rt, alloc, board, OTHER_HOST, name, &call, reply);
-}
 
 #[test]
 fn other_calls_of_the_make_program(rt: HostRuntime) {
-    let alloc = rt.alloc();
-    let mut board = two_domains(&rt, alloc);
-    for row in &OTHER_CALLS {
-        try_other(&rt, alloc, &mut board, row);
-    }
+    try_from(&rt, rt.alloc(), OWN_HOST, &OTHER_CALLS);
+    try_from(&rt, rt.alloc(), OTHER_HOST, &OTHER_CALLS);
 }
 
 // The xid of a call that is left open, and the map that it asks for.
-type Opened = (u32, Job);
+type Opened = (u32, MakeJob);
 
 fn opened_by(
     rt: &impl Abort,
@@ -253,29 +172,24 @@ fn open_make(
     opened_by(rt, path, board, call, &mut buf)
 }
 
-// A call that is left open, and the number of the map that it asks for.
-type Open = (&'static str, &'static str, u32);
-
-static OPEN: [Open; 3] = [
-    ("in lab", "MAKE LAB HOSTS_KIND", 0),
-    (
-        "with bytes behind the arguments, which aren't read",
-        "MAKE LAB HOSTS_KIND 01020304",
-        0,
-    ),
-    ("in zoo", "MAKE ZOO HOSTS_KIND", 1),
+// Calls that are left open, and the number of the map that each asks for. Bytes behind the arguments aren't read.
+static OPEN: [(&str, u32); 3] = [
+    ("MAKE LAB HOSTS_KIND", 0),
+    ("MAKE LAB HOSTS_KIND 01020304", 0),
+    ("MAKE ZOO HOSTS_KIND", 1),
 ];
 
-fn try_open(rt: &impl Abort, alloc: Global, board: &mut PlainBoard, row: &Open) {
-    let (name, call, map) = row;
-    let call = words(rt, alloc, call);
-    let job = Job {
+fn try_open(rt: &impl Abort, alloc: Global, board: &mut PlainBoard, row: &(&str, u32)) {
+    let (name, map) = row;
+    let call = words(rt, alloc, name);
+    let job = MakeJob {
         map: *map,
         kind: Kind::HostsByname,
     };
     let by_record = open_make(rt, alloc, Path::Stream, board, &call);
+    assert_same(rt, &by_record, &(2, job), name);
     let by_datagram = open_make(rt, alloc, Path::Datagram, board, &call);
-    assert_same(rt, &(by_record, by_datagram), &((2, job), (2, job)), name);
+    assert_same(rt, &by_datagram, &(2, job), name);
 }
 
 #[test]
@@ -288,15 +202,13 @@ fn open_makes(rt: HostRuntime) {
 }
 
 // A status of a MAKE that was tried, and the reply.
-type Status = (&'static str, XfrStat, &'static str);
-
-static STATUSES: [Status; 6] = [
-    ("SUCC", XfrStat::Succ, "MADE 00000001"),
-    ("AGE", XfrStat::Age, "MADE 00000002"),
-    ("RSRC", XfrStat::Rsrc, "MADE fffffffd"),
-    ("DBM", XfrStat::Dbm, "MADE fffffff8"),
-    ("FILE", XfrStat::File, "MADE fffffff7"),
-    ("REFUSED", XfrStat::Refused, "MADE fffffff2"),
+static STATUSES: [(XfrStat, &str); 6] = [
+    (XfrStat::Succ, "MADE 00000001"),
+    (XfrStat::Age, "MADE 00000002"),
+    (XfrStat::Rsrc, "MADE fffffffd"),
+    (XfrStat::Dbm, "MADE fffffff8"),
+    (XfrStat::File, "MADE fffffff7"),
+    (XfrStat::Refused, "MADE fffffff2"),
 ];
 
 // The reply to a MAKE of this status.
@@ -306,10 +218,10 @@ fn made(rt: &impl Abort, alloc: Global, stat: XfrStat) -> Vec<u8> {
     front(rt, alloc, &buf, len)
 }
 
-fn try_status(rt: &impl Abort, alloc: Global, row: &Status) {
-    let (name, stat, reply) = row;
+fn try_status(rt: &impl Abort, alloc: Global, row: &(XfrStat, &str)) {
+    let (stat, reply) = row;
     let wanted = words(rt, alloc, reply);
-    assert_same(rt, &made(rt, alloc, *stat), &wanted, name);
+    assert_same(rt, &made(rt, alloc, *stat), &wanted, reply);
 }
 
 #[test]

@@ -2,11 +2,12 @@
 
 ghost use Rattle.std.specs.Prelude.{◌≡◌, ◌≤◌, length};
 ghost use Rattle.yp_version.specs.Limits.{master_max};
-ghost use Rattle.yp_answer.specs.Numbers.{record_max, datagram_max};
+ghost use Rattle.yp_rpc.specs.Turns.{datagram_max};
+ghost use Rattle.yp_answer.specs.Numbers.{record_max};
 ghost use Rattle.yp_answer.specs.Maps.{maps_of};
-ghost use Rattle.yp_answer.specs.Answers.{IsInside};
+ghost use Rattle.yp_answer.specs.inside.Answers.{StreamIsInside};
 
-use crate::given::{assert_same, named};
+use crate::given::{assert_same, named, parts};
 use std::alloc::Global;
 use std::process::Abort;
 use std::random::RandomSource;
@@ -14,6 +15,7 @@ use std::sync::Arc;
 use yp_answer::*;
 use yp_board::{Catalog, MapName, PlainBoard};
 use yp_io::Peer;
+use yp_rpc::DATAGRAM_MAX;
 use yp_version::{Version, VersionBuilder};
 
 // ---- words
@@ -216,60 +218,68 @@ pub fn front(rt: &impl Abort, alloc: Global, buf: &[u8], len: usize) -> Vec<u8> 
     Vec::from_slice(alloc, front).expect(rt, "bytes")
 }
 
-// The next piece of a reply of ALL.
-fn piece(
+// Adds the next piece of a reply of ALL, and answers its length.
+fn extend_with_piece(
     rt: &impl Abort,
-    alloc: Global,
     board: &PlainBoard,
     stream: &mut AllStream,
     buf: &mut [u8],
-) -> Vec<u8>
+    reply: &mut Vec<u8>,
+) -> usize
     requires room { record_max ≤ length buf.old }
-    requires inside { IsInside (maps_of board.now) stream.old.source }
-    ensures inside { IsInside (maps_of board.now) stream.new.source }
+    requires inside { StreamIsInside (maps_of board.now) stream.old.source }
+    ensures inside { StreamIsInside (maps_of board.now) stream.new.source }
     ensures room { length buf.new ≡ length buf.old }
 {
     let len = stream.piece(board, buf);
-    front(rt, alloc, buf, len)
+    extend(rt, reply, buf.get(..len).unwrap_or(&[]));
+    len
 }
 
-// The answer to a record of a stream, in the pieces in which it goes out, each put into this buffer.
-fn pieces_by(
+// The whole answer to a record, and the lengths of the three pieces in which it goes out where it is a stream. Behind
+// the last piece they are empty.
+pub type Streamed = (Vec<u8>, [usize; 3]);
+
+// The answer to a record of a stream, put into this buffer.
+fn streamed_by(
     rt: &impl Abort,
     alloc: Global,
     board: &mut PlainBoard,
     port: u16,
     record: &[u8],
     buf: &mut [u8],
-) -> Vec<Vec<u8>>
+) -> Streamed
     requires { record_max ≤ length buf.old }
 {
     match answer(board, record, caller(port), buf) {
-        Answered::Silent => Vec::new(alloc),
+        Answered::Silent => (Vec::new(alloc), [0; 3]),
         Answered::Reply { len } | Answered::Transfer { len, .. } => {
-            vec![in alloc; front(rt, alloc, buf, len)].expect(rt, "a piece")
+            (front(rt, alloc, buf, len), [0; 3])
         }
         Answered::Make { .. } => panic!(rt; "a MAKE that is left open"),
         Answered::Stream(stream) => {
             let mut stream = stream;
-            let first = piece(rt, alloc, board, &mut stream, buf);
-            let second = piece(rt, alloc, board, &mut stream, buf);
-            let third = piece(rt, alloc, board, &mut stream, buf);
-            vec![in alloc; first, second, third].expect(rt, "pieces")
+            let mut reply = Vec::new(alloc);
+            let lens = [
+                extend_with_piece(rt, board, &mut stream, buf, &mut reply),
+                extend_with_piece(rt, board, &mut stream, buf, &mut reply),
+                extend_with_piece(rt, board, &mut stream, buf, &mut reply),
+            ];
+            (reply, lens)
         }
     }
 }
 
-// The same, with a buffer of its own. Behind the last piece they are empty.
-pub fn pieces(
+// The same, with a buffer of its own.
+pub fn streamed(
     rt: &impl Abort,
     alloc: Global,
     board: &mut PlainBoard,
     port: u16,
     record: &[u8],
-) -> Vec<Vec<u8>> {
+) -> Streamed {
     let mut buf = filled(rt, alloc, 9, RECORD_MAX);
-    pieces_by(rt, alloc, board, port, record, &mut buf)
+    streamed_by(rt, alloc, board, port, record, &mut buf)
 }
 
 // The whole answer to a record of a stream.
@@ -280,10 +290,7 @@ pub fn record_reply(
     port: u16,
     record: &[u8],
 ) -> Vec<u8> {
-    let mut reply = Vec::new(alloc);
-    for piece in &pieces(rt, alloc, board, port, record) {
-        extend(rt, &mut reply, piece);
-    }
+    let (reply, _) = streamed(rt, alloc, board, port, record);
     reply
 }
 
@@ -318,16 +325,24 @@ pub fn datagram_reply(
     datagram_reply_by(rt, alloc, board, port, call, &mut buf)
 }
 
-// What a call is answered as a record, and as a datagram.
-pub fn answers_to(
-    rt: &impl Abort,
-    alloc: Global,
-    board: &mut PlainBoard,
-    port: u16,
-    call: &[u8],
-) -> (Vec<u8>, Vec<u8>) {
-    (
-        record_reply(rt, alloc, board, port, call),
-        datagram_reply(rt, alloc, board, port, call),
-    )
+// Compares what a call of a row is answered as a record, and as a datagram. Behind `|` stands the reply to a datagram,
+// where that is another one.
+fn try_row(rt: &impl Abort, alloc: Global, board: &mut PlainBoard, port: u16, row: &str) {
+    let (name, call, replies) = parts(rt, row);
+    let (by_record, by_datagram) = replies.split_once("|").unwrap_or((replies, replies));
+    let call = words(rt, alloc, call);
+    let wanted = words(rt, alloc, by_record);
+    let came = record_reply(rt, alloc, board, port, &call);
+    assert_same(rt, &came, &wanted, name);
+    let wanted = words(rt, alloc, by_datagram);
+    let came = datagram_reply(rt, alloc, board, port, &call);
+    assert_same(rt, &came, &wanted, name);
+}
+
+// The same for each row, where a caller at this port calls.
+pub fn try_rows(rt: &impl Abort, alloc: Global, board: PlainBoard, port: u16, rows: &[&str]) {
+    let mut board = board;
+    for row in rows {
+        try_row(rt, alloc, &mut board, port, *row);
+    }
 }

@@ -8,19 +8,20 @@ use Rattle.std.proofs.lemmas.Bool.Decides.{Decides-eqb}
 use Rattle.std.proofs.lemmas.List.{length-set, get_or-set_same, get_or-set_other, get_or-replicate, length-replicate}
 use Rattle.std.proofs.lemmas.List.{length-map, get_or-map, get_or_read}
 use Rattle.yp_io.specs.declared.stream.Peer.{Peer}
-use Rattle.yp_bind.specs.declared.binder.Policy.{Policy}
-use Rattle.yp_bind.specs.declared.event.Binding.{Binding}
-use Rattle.yp_bind.specs.declared.event.Event.{Event}
-use Rattle.yp_bind.specs.declared.event.Event.TheVariants.{Pinged, Quiet}
-use Rattle.yp_bind.specs.declared.standing.Standing.{Standing}
-use Rattle.yp_bind.specs.Events.{is_quiet, server_for, latest, quiet_turns, binding_of}
-use Rattle.yp_bind.specs.Rounds.{Bindings, with_event, round_begin, this_round, out, first_number, targets}
-use Rattle.yp_bind.specs.Rounds.{pings_left}
-use Rattle.yp_bind.specs.Standings.{fresh, rested, bound_to, standing_of}
-use Rattle.yp_bind.specs.Kept.{domains_max, servers_max, Keeps, Binds}
-use Rattle.yp_bind.proofs.Lists.{slice_get-there}
-use Rattle.yp_bind.proofs.Steps.{begin_heard, out_other, out_ping, out_quiet, first_heard, first_quiet, standing_bound}
-use Rattle.yp_bind.proofs.Steps.{standing_other, standing_quiet, asked_standing}
+use Rattle.yp_binding.specs.declared.binder.Policy.{Policy}
+use Rattle.yp_binding.specs.declared.event.Binding.{Binding}
+use Rattle.yp_binding.specs.declared.event.Event.{Event}
+use Rattle.yp_binding.specs.declared.event.Event.TheVariants.{Pinged, Quiet}
+use Rattle.yp_binding.specs.declared.standing.BindingState.{BindingState}
+use Rattle.yp_binding.specs.Events.{is_quiet, server_for, latest, quiet_turns, binding_of}
+use Rattle.yp_binding.specs.Rounds.{Bindings, with_event, round_begin, this_round, out, first_number, targets}
+use Rattle.yp_binding.specs.inside.Rounds.{pings_left}
+use Rattle.yp_binding.specs.inside.Standings.{fresh, rested, bound_to, standing_of}
+use Rattle.yp_binding.specs.Kept.{servers_max}
+use Rattle.yp_binding.specs.inside.Kept.{domains_max, Keeps, Binds}
+use Rattle.yp_binding.proofs.Lists.{slice_get-there}
+use Rattle.yp_binding.proofs.Steps.{begin_heard, out_other, out_ping, out_quiet, first_heard, first_quiet, standing_bound}
+use Rattle.yp_binding.proofs.Steps.{standing_other, standing_quiet, asked_standing}
 
 -- the targets of a round stay as they were when it began
 targets_same : (bindings : Bindings) (e : Event) → is_quiet e ≡ false
@@ -36,7 +37,7 @@ server_other : (domain other : ℕ) (server : Peer) → other ≢ domain
     → server_for other (Some (record { domain = domain; server = server })) ≡ None
 server_other domain other server differs = rw (ne_eqb domain other (λ q. differs (sym q))) refl
 
-pub binds_one : (bindings : Bindings) (standings : List Standing) (pinged first next : ℕ) (binding : Binding)
+pub binds_one : (bindings : Bindings) (standings : List BindingState) (pinged first next : ℕ) (binding : Binding)
     (e : Event)
     → Keeps bindings standings pinged first next → Binds (length bindings.domains) (Some binding) e
     → Keeps (with_event bindings e)
@@ -57,7 +58,7 @@ binds_one bindings standings pinged first next binding e kept told =
             | inl is ↦
                 rw is
                 (get_or-set_same standings domain new fresh within
-                ∙ ap (λ (s : Standing). bound_to s server) (kept.by_events domain within)
+                ∙ ap (λ (s : BindingState). bound_to s server) (kept.by_events domain within)
                 ∙ sym (standing_bound domain e es server (told.bound domain ∙ server_same domain server) told.is_heard))
             | inr differs ↦
                 get_or-set_other standings domain d new fresh differs ∙ kept.by_events d inside
@@ -69,7 +70,7 @@ binds_one bindings standings pinged first next binding e kept told =
       next = rw (first_heard e es told.is_heard) kept.next;
     }
 
-pub passes : (bindings : Bindings) (standings : List Standing) (pinged first next : ℕ) (e : Event)
+pub passes : (bindings : Bindings) (standings : List BindingState) (pinged first next : ℕ) (e : Event)
     → Keeps bindings standings pinged first next → Binds (length bindings.domains) None e
     → Keeps (with_event bindings e) standings pinged first next
 passes bindings standings pinged first next e kept told =
@@ -89,7 +90,7 @@ more_mod : (number pinged next : ℕ) → next ≡ (number + pinged) % 2 ^ 32
     → (next + 1) % 2 ^ 32 ≡ (number + (pinged + 1)) % 2 ^ 32
 more_mod number pinged next is = omega (arith, is)
 
-pub pings : (bindings : Bindings) (standings : List Standing) (pinged first next : ℕ) (to : Binding)
+pub pings : (bindings : Bindings) (standings : List BindingState) (pinged first next : ℕ) (to : Binding)
     → Keeps bindings standings pinged first next → Some to ≡ slice_get (targets bindings) pinged
     → Keeps (with_event bindings Pinged) standings (pinged + 1) first ((next + 1) % 2 ^ 32)
 pings bindings standings pinged first next to kept there =
@@ -107,14 +108,14 @@ pings bindings standings pinged first next to kept there =
       next = rw (first_heard Pinged es refl) (more_mod (first_number es) pinged next kept.next);
     }
 
-pub fewer : (bindings : Bindings) (standings : List Standing) (pinged first next : ℕ) (to : Binding)
+pub fewer : (bindings : Bindings) (standings : List BindingState) (pinged first next : ℕ) (to : Binding)
     → Keeps bindings standings pinged first next → Some to ≡ slice_get (targets bindings) pinged
     → pings_left (with_event bindings Pinged) < pings_left bindings
 fewer bindings standings pinged first next to kept there =
     let under = slice_get-there (targets bindings) pinged to (sym there) in
     rw (targets_same bindings Pinged refl, out_ping bindings.events) (omega (arith, under, kept.are_out))
 
-pub quiets : (bindings : Bindings) (standings : List Standing) (pinged first next : ℕ)
+pub quiets : (bindings : Bindings) (standings : List BindingState) (pinged first next : ℕ)
     → Keeps bindings standings pinged first next
     → Keeps (with_event bindings Quiet) (map rested standings) 0 next next
 quiets bindings standings pinged first next kept =
@@ -155,10 +156,10 @@ begins domains servers policy few few_servers = record {
 }
 
 -- the server that a domain was bound to when the round began
-pub asked_at : (bindings : Bindings) (standings : List Standing) (pinged first next domain : ℕ) (standing : Standing)
+pub asked_at : (bindings : Bindings) (standings : List BindingState) (pinged first next domain : ℕ) (standing : BindingState)
     → Keeps bindings standings pinged first next → domain < length standings
     → standing ≡ get_or standings domain standing → standing.asked ≡ binding_of domain (round_begin bindings.events)
 asked_at bindings standings pinged first next domain standing kept within read =
-    ap (λ (s : Standing). s.asked)
+    ap (λ (s : BindingState). s.asked)
     (get_or_read standings domain standing within read fresh ∙ kept.by_events domain within)
     ∙ asked_standing domain bindings.events

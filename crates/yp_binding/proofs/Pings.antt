@@ -8,13 +8,13 @@ use Rattle.std.proofs.lemmas.Bool.{cases_eq, ne_eqb, le-ltb, lt-ltb}
 use Rattle.std.proofs.lemmas.Bool.Decides.{Decides-eqb, nat_tests}
 use Rattle.std.proofs.lemmas.List.{length-append, length-map}
 use Rattle.yp_io.specs.declared.stream.Peer.{Peer}
-use Rattle.yp_bind.specs.declared.binder.Ping.{Ping}
-use Rattle.yp_bind.specs.declared.event.Binding.{Binding}
-use Rattle.yp_bind.specs.declared.event.Event.{Event}
-use Rattle.yp_bind.specs.Events.{binding_of}
-use Rattle.yp_bind.specs.Rounds.{Bindings, target, targets_of, targets_from, targets, round_begin, ping_at, pings_from}
-use Rattle.yp_bind.specs.Rounds.{round_of, out, first_number, ping_with, next_ping_of, target_of, taken_at, taken_from}
-use Rattle.yp_bind.proofs.Lists.{slice_get-front, slice_get-behind}
+use Rattle.yp_binding.specs.declared.binder.Ping.{Ping}
+use Rattle.yp_binding.specs.declared.event.Binding.{Binding}
+use Rattle.yp_binding.specs.declared.event.Event.{Event}
+use Rattle.yp_binding.specs.Events.{binding_of}
+use Rattle.yp_binding.specs.Rounds.{Bindings, target, targets_of, targets_from, targets, round_begin, ping_at, pings_from}
+use Rattle.yp_binding.specs.Rounds.{round_of, out, first_number, ping_with, next_ping_of, target_of, taken_at, taken_from}
+use Rattle.yp_binding.proofs.Lists.{slice_get-front, slice_get-behind}
 
 -- the ping at a place is to the target there
 pub ping_there : (number : ℕ) (to : List Binding) (place : ℕ)

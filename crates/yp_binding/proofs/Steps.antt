@@ -4,12 +4,12 @@ use Rattle.std.proofs.Common.{length, drop, Some, None, refl, ap, ◌∙◌, ari
 use Rattle.std.specs.Prelude.{filter, is_some}
 use Rattle.std.proofs.lemmas.Bool.Decides.{nat_tests}
 use Rattle.yp_io.specs.declared.stream.Peer.{Peer}
-use Rattle.yp_bind.specs.declared.event.Event.{Event}
-use Rattle.yp_bind.specs.declared.event.Event.TheVariants.{Called, Pinged, Offered, Quiet}
-use Rattle.yp_bind.specs.Events.{binds, is_quiet, is_ping, latest, quiet_turns, binding_of}
-use Rattle.yp_bind.specs.Rounds.{this_round, round_begin, ping_count, out, first_number}
-use Rattle.yp_bind.specs.Standings.{bound_by, rested, bound_to, standing_of}
-use Rattle.yp_bind.proofs.Lists.{before_first-yes, before_first-no}
+use Rattle.yp_binding.specs.declared.event.Event.{Event}
+use Rattle.yp_binding.specs.declared.event.Event.TheVariants.{Called, Pinged, Offered, Quiet}
+use Rattle.yp_binding.specs.Events.{binds, is_quiet, is_ping, latest, quiet_turns, binding_of}
+use Rattle.yp_binding.specs.Rounds.{this_round, round_begin, ping_count, out, first_number}
+use Rattle.yp_binding.specs.inside.Standings.{bound_by, rested, bound_to, standing_of}
+use Rattle.yp_binding.proofs.Lists.{before_first-yes, before_first-no}
 
 -- ---- an event that binds the domain
 

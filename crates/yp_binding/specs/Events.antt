@@ -3,9 +3,9 @@ use Rattle.std.specs.Prelude.{ℕ, Bool, true, false, List, [], ◌∷◌, lengt
 use Rattle.std.specs.Prelude.{nat_lt, if◌then◌else◌}
 use Rattle.std.specs.List.{filter_map, before_first}
 use Rattle.yp_io.specs.declared.stream.Peer.{Peer}
-use Rattle.yp_bind.specs.declared.event.Binding.{Binding}
-use Rattle.yp_bind.specs.declared.event.Event.{Event}
-use Rattle.yp_bind.specs.declared.event.Event.TheVariants.{Called, Pinged, Offered, Quiet}
+use Rattle.yp_binding.specs.declared.event.Binding.{Binding}
+use Rattle.yp_binding.specs.declared.event.Event.{Event}
+use Rattle.yp_binding.specs.declared.event.Event.TheVariants.{Called, Pinged, Offered, Quiet}
 
 -- the quiet turns that end a binding
 abbrev pub quiet_max : ℕ

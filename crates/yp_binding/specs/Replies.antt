@@ -1,6 +1,6 @@
 -- What a request gets of the binder, and which binding it sets (ypbind of yp.x).
-use Rattle.std.specs.Prelude.{◌≡◌, ℕ, ◌<◌, ◌≤◌, Bool, true, false, List}
-use Rattle.std.specs.Prelude.{[], ◌∷◌, ◌++◌, length, take, Option, Some, None}
+use Rattle.std.specs.Prelude.{ℕ, Bool, true, false, List}
+use Rattle.std.specs.Prelude.{◌++◌, Option, Some, None}
 use Rattle.std.specs.Prelude.{option_map, position, ◌&&◌, ◌==◌, bytes_eq, if◌then◌else◌}
 use Rattle.std.specs.Int.{w16, w32, to_be_bytes, cast_unsigned}
 use Rattle.std.proofs.Common.{inl, inr}
@@ -10,19 +10,15 @@ use Rattle.yp_xdr.specs.Kind.{Value}
 use Rattle.yp_xdr.specs.Spelling.{spelling}
 use Rattle.yp_rpc.specs.declared.reply.ReplyHead.TheVariants.{Success}
 use Rattle.yp_rpc.specs.Reply.{reply_head}
-use Rattle.yp_msgs.specs.declared.binding.BindErr.{BindErr}
-use Rattle.yp_msgs.specs.declared.binding.BindErr.TheVariants.{Err, Noserv}
-use Rattle.yp_msgs.specs.Bindings.{bind_err_number, bind_resp}
-use Rattle.yp_bind.specs.declared.binder.Policy.{Policy}
-use Rattle.yp_bind.specs.declared.binder.Policy.TheVariants.{Fixed, Ypsetme, Ypset}
-use Rattle.yp_bind.specs.declared.event.Binding.{Binding}
-use Rattle.yp_bind.specs.Events.{binding_of}
-use Rattle.yp_bind.specs.Rounds.{Bindings, target}
-use Rattle.yp_bind.specs.Requests.{Asked, AsksNothing, AsksHead, AsksDomain, AsksSetdom}
-
--- the most bytes of a datagram, which any reply is within
-abbrev pub datagram_max : ℕ
-datagram_max = 8192
+use Rattle.yp_messages.specs.declared.binding.BindErr.{BindErr}
+use Rattle.yp_messages.specs.declared.binding.BindErr.TheVariants.{Err, Noserv}
+use Rattle.yp_messages.specs.Bindings.{bind_err_number, bind_resp}
+use Rattle.yp_binding.specs.declared.binder.Policy.{Policy}
+use Rattle.yp_binding.specs.declared.binder.Policy.TheVariants.{Fixed, Ypsetme, Ypset}
+use Rattle.yp_binding.specs.declared.event.Binding.{Binding}
+use Rattle.yp_binding.specs.Events.{binding_of}
+use Rattle.yp_binding.specs.Rounds.{Bindings, target}
+use Rattle.yp_binding.specs.Requests.{BinderCall, AsksNothing, AsksHead, AsksDomain, AsksSetdom}
 
 -- the version of YP that a server speaks that a domain may be bound to
 abbrev pub served_version : ℕ
@@ -50,17 +46,12 @@ abbrev pub domain_answer : Bindings → List ℕ → Value bind_resp
 domain_answer bindings domain = number_answer bindings (domain_number bindings domain)
 
 -- the bytes of the reply, or silence
-abbrev pub reply_to : Bindings → Asked → Option (List ℕ)
+abbrev pub reply_to : Bindings → BinderCall → Option (List ℕ)
 reply_to bindings AsksNothing = None
 reply_to bindings (AsksHead xid head) = Some (reply_head xid head)
 reply_to bindings (AsksDomain xid domain) =
     Some (reply_head xid Success ++ spelling bind_resp (domain_answer bindings domain))
 reply_to bindings (AsksSetdom xid asked server) = Some (reply_head xid Success)
-
--- the reply is at the front of the buffer; of silence the length is 0
-abbrev pub IsReply : Option (List ℕ) → ℕ → List ℕ → Type 0
-IsReply None len buf = len ≡ 0
-IsReply (Some bytes) len buf = (take len buf ≡ bytes) × (0 < len) × (len ≤ length buf)
 
 -- a caller may set bindings
 abbrev pub lets : Policy → Peer → Bool
@@ -69,7 +60,7 @@ lets Ypsetme from = bytes_eq from.addr own_host
 lets Ypset from = true
 
 -- the binding that a caller's request sets
-abbrev pub set_by : Bindings → Peer → Asked → Option Binding
+abbrev pub set_by : Bindings → Peer → BinderCall → Option Binding
 set_by bindings from AsksNothing = None
 set_by bindings from (AsksHead xid head) = None
 set_by bindings from (AsksDomain xid domain) = None

@@ -1,15 +1,15 @@
 -- A binder as a whole, and the pings of a round.
-use Rattle.std.specs.Prelude.{ℕ, zero, suc, ◌+◌, ◌-◌, ◌%◌, ◌^◌, Bool, true}
+use Rattle.std.specs.Prelude.{ℕ, zero, suc, ◌+◌, ◌%◌, ◌^◌, Bool, true}
 use Rattle.std.specs.Prelude.{List, [], ◌∷◌, ◌++◌, length, map, filter, take, drop}
 use Rattle.std.specs.Prelude.{Option, Some, None, ◌&&◌, ◌==◌, bytes_eq, if◌then◌else◌}
 use Rattle.std.specs.List.{slice_get, find, before_first}
 use Rattle.yp_io.specs.declared.stream.Peer.{Peer}
-use Rattle.yp_bind.specs.declared.binder.Ping.{Ping}
-use Rattle.yp_bind.specs.declared.binder.Policy.{Policy}
-use Rattle.yp_bind.specs.declared.event.Binding.{Binding}
-use Rattle.yp_bind.specs.declared.event.Event.{Event}
-use Rattle.yp_bind.specs.declared.event.Event.TheVariants.{Pinged}
-use Rattle.yp_bind.specs.Events.{is_quiet, is_ping, binding_of}
+use Rattle.yp_binding.specs.declared.binder.Ping.{Ping}
+use Rattle.yp_binding.specs.declared.binder.Policy.{Policy}
+use Rattle.yp_binding.specs.declared.event.Binding.{Binding}
+use Rattle.yp_binding.specs.declared.event.Event.{Event}
+use Rattle.yp_binding.specs.declared.event.Event.TheVariants.{Pinged}
+use Rattle.yp_binding.specs.Events.{is_quiet, is_ping, binding_of}
 
 -- the domains, the servers that are pinged, who may bind a domain, and what happened, the last event first
 pub record Bindings : Type 0 where
@@ -18,7 +18,7 @@ pub record Bindings : Type 0 where
   pub policy : Policy
   pub events : List Event
 
--- one more thing happened
+-- the bindings after one more event
 abbrev pub with_event : Bindings → Event → Bindings
 with_event bindings event = record bindings { events = event ∷ bindings.events }
 
@@ -41,12 +41,13 @@ out events = ping_count (this_round events)
 abbrev pub target : ℕ → Peer → Binding
 target domain server = record { domain = domain; server = server }
 
--- An unbound domain pings every server, and another one the server that it is bound to.
+-- the servers that a round pings for a domain: every server where the domain is unbound, else the server that it is
+-- bound to
 abbrev pub targets_of : List Peer → ℕ → Option Peer → List Binding
 targets_of servers domain None = map (target domain) servers
 targets_of servers domain (Some server) = target domain server ∷ []
 
--- of so many domains, from this one on, as they were bound after these events
+-- the pings of this many domains, the first of which has this number, as the domains are bound after these events
 abbrev pub targets_from : List Peer → List Event → ℕ → ℕ → List Binding
 targets_from servers events domain zero = []
 targets_from servers events domain (suc n) =
@@ -76,10 +77,6 @@ round_of bindings = pings_from (first_number bindings.events) (targets bindings)
 abbrev pub next_ping_of : Bindings → Option Ping
 next_ping_of bindings = slice_get (round_of bindings) (out bindings.events)
 
--- how many pings of the round aren't out
-abbrev pub pings_left : Bindings → ℕ
-pings_left bindings = length (targets bindings) - out bindings.events
-
 -- the binder behind such an answer
 abbrev pub after_ping : Bindings → Option Ping → Bindings
 after_ping bindings None = bindings
@@ -107,7 +104,7 @@ abbrev pub taken_at : Binding → Option Peer → Peer → Option Binding
 taken_at to bound from =
     if is_same_peer to.server from && may_bind bound from then Some (target to.domain from) else None
 
--- the same by the ping that is answered
+-- the binding that an answer of a server makes, by the ping that it answers, if there is one
 abbrev pub taken_from : Bindings → Peer → Option Ping → Option Binding
 taken_from bindings from None = None
 taken_from bindings from (Some ping) =

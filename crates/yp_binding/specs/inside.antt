@@ -1,7 +1,6 @@
-pub mod Histories
-pub mod Events
 pub mod Rounds
 pub mod Requests
 pub mod Replies
 pub mod Standings
 pub mod Kept
+pub mod portmap

@@ -3,27 +3,33 @@
 ghost use Rattle.std.specs.Prelude.{◌≡◌, ◌<◌, ◌≤◌, ◌++◌, ℕ, [], length, take, map, IfOk, IfSome, is_some, option_map};
 ghost use Rattle.std.specs.List.{slice_get};
 ghost use Rattle.yp_rpc.specs.Reply.{reply_head};
-ghost use Rattle.yp_msgs.specs.Bindings.{bind_resp, bind_resp_view, BindRespIsWithin};
+ghost use Rattle.yp_messages.specs.Bindings.{bind_resp};
+ghost use Rattle.yp_messages.specs.inside.Bindings.{bind_resp_view, BindRespIsWithin};
 ghost use Rattle.yp_xdr.specs.Spelling.{spelling};
 ghost use Rattle.yp_rpc.specs.declared.reply.ReplyHead.TheVariants.{Success};
-ghost use Rattle.yp_bind.specs.declared.event.Event.TheVariants.{Called, Offered, Quiet};
-ghost use Rattle.yp_bind.specs.Events.{binding_of};
-ghost use Rattle.yp_bind.specs.Rounds.{with_event, next_ping_of, after_ping, taken_by, targets, ping_with, targets_of};
-ghost use Rattle.yp_bind.specs.Rounds.{is_same_peer, may_bind, target_of, taken_at, taken_from, pings_left};
-ghost use Rattle.yp_bind.specs.Requests.{asked_by, asked_view};
-ghost use Rattle.yp_bind.specs.Replies.{datagram_max, domain_number, bound_answer, error_number, reply_to, IsReply};
-ghost use Rattle.yp_bind.specs.Replies.{lets, set_by};
+ghost use Rattle.yp_binding.specs.declared.event.Event.TheVariants.{Called, Offered, Quiet};
+ghost use Rattle.yp_binding.specs.Events.{binding_of};
+ghost use Rattle.yp_binding.specs.Rounds.{with_event, next_ping_of, after_ping, taken_by, targets, ping_with};
+ghost use Rattle.yp_binding.specs.Rounds.{targets_of, is_same_peer, may_bind, target_of, taken_at, taken_from};
+ghost use Rattle.yp_binding.specs.inside.Rounds.{pings_left};
+ghost use Rattle.yp_binding.specs.Requests.{asked_by};
+ghost use Rattle.yp_binding.specs.inside.Requests.{asked_view};
+ghost use Rattle.yp_rpc.specs.Turns.{datagram_max};
+ghost use Rattle.yp_binding.specs.Replies.{domain_number, bound_answer, error_number, reply_to};
+ghost use Rattle.yp_binding.specs.inside.Replies.{IsReply};
+ghost use Rattle.yp_binding.specs.Replies.{lets, set_by};
 ghost use Rattle.std.proofs.Common.{inr};
-ghost use Rattle.yp_bind.specs.Kept.{domains_max, servers_max, Binds};
+ghost use Rattle.yp_binding.specs.Kept.{servers_max};
+ghost use Rattle.yp_binding.specs.inside.Kept.{domains_max, Binds};
 
 use crate::event::{Binding, Event, History};
 use crate::request::{Request, read_request};
-use crate::standing::{Standing, rest_all};
+use crate::standing::{BindingState, rest_all};
 use std::alloc::Global;
 use std::marker::Model;
 use yp_io::{NoMemory, OWN_HOST, Peer};
-use yp_msgs::protocol::YPVERS;
-use yp_msgs::{BindErr, BindResp, Message};
+use yp_messages::protocol::YPVERS;
+use yp_messages::{BindErr, BindResp, Message};
 use yp_rpc::{ReplyHead, write_reply};
 use yp_xdr::NoRoom;
 
@@ -56,7 +62,7 @@ pub struct Binder {
     domains: Vec<Vec<u8>>,
     servers: Vec<Peer>,
     policy: Policy,
-    standings: Vec<Standing>,
+    standings: Vec<BindingState>,
     /// How many pings of the round are out.
     pinged: usize,
     /// The xid of the round's first ping.
@@ -67,11 +73,11 @@ pub struct Binder {
 }
 
 impl Model for Binder {
-    ghost use Rattle.yp_bind.specs.Rounds.{Bindings};
+    ghost use Rattle.yp_binding.specs.Rounds.{Bindings};
 
     ghost Value = { Bindings };
 
-    ghost use Rattle.yp_bind.specs.Kept.{bindings_of, IsKept};
+    ghost use Rattle.yp_binding.specs.inside.Kept.{bindings_of, IsKept};
 
     ghost view = { bindings_of };
 
@@ -95,7 +101,7 @@ impl Binder {
           events = [];
         }) }
     {
-        let Ok(standings) = vec![in alloc; Standing::new(); domains.len()] else {
+        let Ok(standings) = vec![in alloc; BindingState::new(); domains.len()] else {
             return Err(NoMemory);
         };
         Ok(Binder {

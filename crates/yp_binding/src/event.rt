@@ -3,8 +3,7 @@
 ghost use Rattle.std.specs.Prelude.{◌≡◌, [], ◌∷◌};
 
 use std::marker::Model;
-use std::snapshot::Snapshot;
-use yp_io::Peer;
+use yp_io::{Peer, Trail};
 
 /// A server for a domain, which goes by its number from 0.
 #[derive(Clone, Copy, Debug, PartialEq, Eq)]
@@ -26,30 +25,19 @@ pub enum Event {
     Quiet,
 }
 
-/// The events so far, the last one first.
-#[derive(Drop)]
-enum Past {
-    Empty,
-    Grown {
-        before: Snapshot<Past>,
-        event: Snapshot<Event>,
-    },
-}
-
 /// A list of events, the last one first, that takes no memory: it is there for contracts alone.
 #[derive(Drop)]
 pub(crate) struct History {
-    past: Past,
+    trail: Trail<Event>,
 }
 
 impl Model for History {
-    ghost use Rattle.std.specs.Prelude.{List};
-    ghost use Rattle.yp_bind.specs.declared.event.Event.{Event};
-    ghost use Rattle.yp_bind.specs.Histories.{events_of};
+    ghost use Rattle.std.specs.Prelude.{List, reverse};
+    ghost use Rattle.yp_binding.specs.declared.event.Event.{Event};
 
     ghost Value = { List Event };
 
-    ghost view = { λ history. events_of history.past };
+    ghost view = { λ history. reverse history.trail };
 }
 
 impl History {
@@ -57,15 +45,15 @@ impl History {
     pub(crate) fn new() -> History
         ensures { result ≡ [] }
     {
-        History { past: Past::Empty }
+        History {
+            trail: Trail::new(),
+        }
     }
 
     /// Adds an event.
     pub(crate) fn add(&mut self, event: Event)
         ensures { self.new ≡ event ∷ self.old }
     {
-        let before = Snapshot::of(&self.past);
-        let event = Snapshot::of(&event);
-        self.past = Past::Grown { before, event };
+        self.trail.push(&event);
     }
 }

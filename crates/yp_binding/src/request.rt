@@ -1,15 +1,49 @@
 //! What a datagram asks of the binder.
 
 ghost use Rattle.std.specs.Prelude.{◌≡◌, ◌≤◌, length};
-ghost use Rattle.yp_msgs.specs.Bindings.{set_dom_view, SetDomIsWithin};
-ghost use Rattle.yp_bind.specs.Requests.{server_of};
-ghost use Rattle.yp_bind.specs.Requests.{asked_view, asked_by, procedure_asked};
+ghost use Rattle.yp_messages.specs.inside.Bindings.{set_dom_view, SetDomIsWithin};
+ghost use Rattle.yp_binding.specs.Requests.{server_of};
+ghost use Rattle.yp_binding.specs.Requests.{programs, asked_by, procedure_asked};
+ghost use Rattle.yp_binding.specs.inside.Requests.{asked_view};
 
 use yp_io::Peer;
-use yp_msgs::protocol::{BIND_DOMAIN, BIND_NULL, BINDPROG, BINDVERS, SETDOM};
-use yp_msgs::{ReadMessage, ReqDomain, SetDom};
-use yp_rpc::{CallHead, Judged, ReplyHead, judge};
+use yp_messages::protocol::{BIND_DOMAIN, BIND_NULL, BINDPROG, BINDVERS, SETDOM};
+use yp_messages::{ReadMessage, ReqDomain, SetDom};
+use yp_rpc::{Judged, Programs, ReplyHead, judge};
 use yp_xdr::Cursor;
+
+/// A procedure of the binder.
+#[derive(Clone, Copy, Debug)]
+enum Procedure {
+    Null,
+    Domain,
+    Setdom,
+}
+
+/// The program of the binder alone.
+struct BindProgram;
+
+impl Programs for BindProgram {
+    type Procedure = Procedure;
+
+    ghost table = { λ _. programs };
+
+    fn version(&self, prog: u32) -> Option<u32> {
+        match prog {
+            BINDPROG => Some(BINDVERS),
+            _ => None,
+        }
+    }
+
+    fn procedure(&self, _prog: u32, number: u32) -> Option<Procedure> {
+        match number {
+            BIND_NULL => Some(Procedure::Null),
+            BIND_DOMAIN => Some(Procedure::Domain),
+            SETDOM => Some(Procedure::Setdom),
+            _ => None,
+        }
+    }
+}
 
 /// What a datagram asks of the binder.
 #[derive(Clone, Copy, Debug)]
@@ -48,25 +82,24 @@ fn server_of(asked: &SetDom<'_>) -> Peer
     }
 }
 
-/// What the arguments of a call ask of its procedure.
-fn ask_procedure<'a>(call: &CallHead, arguments: &'a [u8]) -> Request<'a>
-    ensures { asked_view result ≡ procedure_asked call.now arguments.now }
+/// What a call asks of a procedure with its arguments.
+fn ask_procedure(xid: u32, procedure: Procedure, arguments: &[u8]) -> Request<'_>
+    ensures { asked_view result ≡ procedure_asked xid procedure arguments.now }
 {
-    let xid = call.xid;
     let mut cursor = Cursor::new(arguments);
-    match call.procedure {
-        BIND_NULL => Request::Answer {
+    match procedure {
+        Procedure::Null => Request::Answer {
             xid,
             head: ReplyHead::Success,
         },
-        BIND_DOMAIN => match ReqDomain::read(&mut cursor) {
+        Procedure::Domain => match ReqDomain::read(&mut cursor) {
             Ok(asked) => Request::Domain { xid, asked },
             Err(_) => Request::Answer {
                 xid,
                 head: ReplyHead::GarbageArgs,
             },
         },
-        SETDOM => match SetDom::read(&mut cursor) {
+        Procedure::Setdom => match SetDom::read(&mut cursor) {
             Ok(asked) => Request::Setdom {
                 xid,
                 asked,
@@ -77,10 +110,6 @@ fn ask_procedure<'a>(call: &CallHead, arguments: &'a [u8]) -> Request<'a>
                 head: ReplyHead::GarbageArgs,
             },
         },
-        _ => Request::Answer {
-            xid,
-            head: ReplyHead::ProcUnavail,
-        },
     }
 }
 
@@ -88,9 +117,11 @@ fn ask_procedure<'a>(call: &CallHead, arguments: &'a [u8]) -> Request<'a>
 pub(crate) fn read_request(datagram: &[u8]) -> Request<'_>
     ensures { asked_view result ≡ asked_by datagram.now }
 {
-    match judge(datagram, BINDPROG, BINDVERS) {
+    match judge(&BindProgram, datagram) {
         Judged::Ignored => Request::Nothing,
         Judged::Refused { xid, head } => Request::Answer { xid, head },
-        Judged::Admitted(call) => ask_procedure(&call, &datagram[call.body..]),
+        Judged::Admitted { call, procedure } => {
+            ask_procedure(call.xid, procedure, &datagram[call.body..])
+        }
     }
 }

@@ -1,7 +1,7 @@
 //! What is kept of each domain.
 
 ghost use Rattle.std.specs.Prelude.{◌≡◌, ◌<◌, map, length};
-ghost use Rattle.yp_bind.specs.Standings.{fresh, bound_by, rested, bound_to};
+ghost use Rattle.yp_binding.specs.inside.Standings.{fresh, bound_by, rested, bound_to};
 
 use yp_io::Peer;
 
@@ -10,7 +10,7 @@ const QUIET_MAX: u32 = 3;
 
 /// How a domain is bound.
 #[derive(Clone, Copy, Debug, PartialEq, Eq)]
-pub(crate) struct Standing {
+pub(crate) struct BindingState {
     /// The server of the last SETDOM that was let, or offer that was taken.
     pub(crate) latest: Option<Peer>,
     /// The quiet turns since then, up to those that end it.
@@ -19,11 +19,11 @@ pub(crate) struct Standing {
     pub(crate) asked: Option<Peer>,
 }
 
-impl Standing {
-    pub(crate) fn new() -> Standing
+impl BindingState {
+    pub(crate) fn new() -> BindingState
         ensures { result ≡ fresh }
     {
-        Standing {
+        BindingState {
             latest: None,
             quiet: 0,
             asked: None,
@@ -63,7 +63,7 @@ impl Standing {
 }
 
 /// A quiet turn passes for each domain.
-pub(crate) fn rest_all(standings: &mut [Standing])
+pub(crate) fn rest_all(standings: &mut [BindingState])
     ensures { standings.new ≡ map rested standings.old }
 {
     for standing in standings {

@@ -3,7 +3,8 @@ use Rattle.std.proofs.Common.{◌≡◌, ℕ, ◌+◌, ◌<◌, ◌≤◌, cond,
 use Rattle.std.proofs.Common.{min, map}
 use Rattle.std.specs.List.{list_any}
 use Rattle.std.proofs.lemmas.List.{drop_more, take_more, drop_all, take_min, take-map}
-use Rattle.yp_board.specs.Catalogues.{Name, is_same, again_from}
+use Rattle.yp_board.specs.Catalogues.{Name, is_same}
+use Rattle.yp_board.specs.inside.Catalogues.{again_from}
 
 pub again_from-drop : (names : List Name) (i : ℕ) (d : Name) → i < length names
     → again_from i (take i names) (drop i names)

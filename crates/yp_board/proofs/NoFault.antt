@@ -10,8 +10,10 @@ use Rattle.std.proofs.lemmas.List.Elements.{All-from_recursion}
 use Rattle.std.proofs.lemmas.Bool.Decides.{nat_tests}
 use Rattle.std.proofs.lemmas.Cmp.{nat_list_eq_equiv}
 use Rattle.yp_board.specs.declared.catalog.CatalogFault.TheVariants.{OwnName, BadName, Twice, TooMany}
-use Rattle.yp_board.specs.Catalogues.{Name, IsName, IsCatalogue, is_name, is_map_name, is_same, with_numbers, bad_name}
-use Rattle.yp_board.specs.Catalogues.{again_from, twice, maps_fault, catalog_fault, name_max, maps_max}
+use Rattle.yp_board.specs.Catalogues.{Name, IsName, IsCatalogue, is_name, is_same}
+use Rattle.yp_board.specs.inside.Catalogues.{is_map_name, with_numbers, bad_name}
+use Rattle.yp_board.specs.Catalogues.{name_max, maps_max}
+use Rattle.yp_board.specs.inside.Catalogues.{again_from, twice, maps_fault, catalog_fault}
 
 -- a test that no element passes
 head_fails : (b : Bool) (n m : ℕ) → suc n ≤ cond (not b) (1 + m) 0 → (b ≡ false) × (n ≤ m)

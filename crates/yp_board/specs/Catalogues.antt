@@ -1,14 +1,13 @@
 -- The maps that are served, each named by its domain and its map, and numbered from 0.
-use Rattle.std.specs.Prelude.{ℕ, ◌+◌, ◌<◌, ◌≤◌, Bool, not, ◌&&◌, List, [], ◌∷◌, ◌++◌, map, length, take, position, All}
-use Rattle.std.specs.Prelude.{Option, None, Some, if◌then◌else◌, bytes_eq, nat_lt, nat_le}
+use Rattle.std.specs.Prelude.{ℕ, ◌<◌, ◌≤◌, Bool, ◌&&◌, List, [], ◌∷◌, map, length, position, All}
+use Rattle.std.specs.Prelude.{Option, bytes_eq, nat_lt, nat_le}
 use Rattle.std.specs.List.{IsDistinct, list_any}
-use Rattle.std.specs.Option.{option_map_or}
 use Rattle.std.specs.Ordering.{ordering_then, match_ordering}
 use Rattle.std.specs.declared.cmp.Ordering.{Ordering}
+-- the most bytes of a name (`yp.x`, YPMAXDOMAIN, YPMAXMAP, YPMAXPEER)
+pub use Rattle.yp_messages.specs.Numbers.{name_max}
 use Rattle.yp_version.specs.Rows.{key_cmp}
 use Rattle.yp_board.specs.declared.catalog.MapName.{MapName}
-use Rattle.yp_board.specs.declared.catalog.CatalogFault.{CatalogFault}
-use Rattle.yp_board.specs.declared.catalog.CatalogFault.TheVariants.{OwnName, BadName, Twice, TooMany}
 
 -- a map's name: its domain and its map
 abbrev pub Name : Type 0
@@ -22,10 +21,6 @@ name_view name = (name.domain.items, name.map.items)
 pub record Catalogue : Type 0 where
   pub own : List ℕ
   pub maps : List Name
-
--- the most bytes of a name (`yp.x`, YPMAXDOMAIN, YPMAXMAP, YPMAXPEER)
-abbrev pub name_max : ℕ
-name_max = 64
 
 -- the most maps
 abbrev pub maps_max : ℕ
@@ -47,43 +42,9 @@ find domain map catalogue = position (is_named domain map) catalogue.maps
 abbrev pub serves : List ℕ → Catalogue → Bool
 serves domain catalogue = list_any (λ name. bytes_eq name.0 domain) catalogue.maps
 
--- one byte or more, within the limit
+-- A name has at least one byte, and at most the limit.
 abbrev pub is_name : List ℕ → Bool
 is_name bytes = nat_lt 0 (length bytes) && nat_le (length bytes) name_max
-
--- both parts of a name are such bytes
-abbrev pub is_map_name : Name → Bool
-is_map_name name = is_name name.0 && is_name name.1
-
--- the maps that have a number of 32 bits
-abbrev pub with_numbers : List Name → List Name
-with_numbers maps = take 4294967296 maps
-
--- the first name that stands among those before it, counted from a number
-abbrev pub again_from : ℕ → List Name → List Name → Option ℕ
-again_from at before [] = None
-again_from at before (name ∷ names) =
-    if list_any (is_same name) before then Some at else again_from (at + 1) (before ++ name ∷ []) names
-
--- the number of the first map whose name has a part that is empty or too long
-abbrev pub bad_name : List Name → Option ℕ
-bad_name maps = position (λ name. not (is_map_name name)) (with_numbers maps)
-
--- the number of the first map whose name stands a second time
-abbrev pub twice : List Name → Option ℕ
-twice maps = again_from 0 [] (with_numbers maps)
-
--- what is wrong with maps whose names are good
-abbrev pub maps_fault : List Name → Option CatalogFault
-maps_fault maps =
-    option_map_or (λ index. Some (Twice index)) (twice maps)
-    (if nat_lt maps_max (length maps) then Some TooMany else None)
-
--- what is wrong with an own name and maps, the first fault that applies
-abbrev pub catalog_fault : List ℕ → List Name → Option CatalogFault
-catalog_fault own maps =
-    if not (is_name own) then Some OwnName
-    else option_map_or (λ index. Some (BadName index)) (bad_name maps) (maps_fault maps)
 
 -- bytes that a part of a name may have
 pub record IsName (bytes : List ℕ) : Type 0 where

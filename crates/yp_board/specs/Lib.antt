@@ -2,6 +2,5 @@ pub mod Catalogues
 pub mod Logs
 pub mod Views
 pub mod Between
-pub mod Trails
-pub mod Catalog
-pub mod PlainBoard
+pub mod readers
+pub mod inside

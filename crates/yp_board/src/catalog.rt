@@ -2,16 +2,18 @@
 
 ghost use Rattle.std.specs.Prelude.{◌≡◌, ℕ, ◌<◌, ◌↔◌, ◌⊎◌, [], All, map, length, slice_get, slice_index_or, None, Some};
 ghost use Rattle.std.specs.Prelude.{IsTrue, IfOk, IfErr, OnOk};
-ghost use Rattle.yp_board.specs.Catalogues.{IsCatalogue, name_view, is_named, find, serves, catalog_fault, listed};
+ghost use Rattle.yp_board.specs.Catalogues.{IsCatalogue, name_view, is_named, find, serves, listed};
+ghost use Rattle.yp_board.specs.inside.Catalogues.{catalog_fault};
 
 use crate::faults::fault_of;
 use crate::order::rising;
 use std::alloc::{AllocError, Global};
 use std::marker::Model;
 use yp_io::NoMemory;
+use yp_messages::protocol;
 
 /// The most bytes of a name (`yp.x`, YPMAXDOMAIN, YPMAXMAP, YPMAXPEER).
-pub const NAME_MAX: usize = 64;
+pub const NAME_MAX: usize = protocol::NAME_MAX as usize;
 
 /// The most maps of a catalogue.
 pub const MAPS_MAX: usize = 64;
@@ -31,7 +33,7 @@ impl MapName {
         self.domain.as_slice() == domain && self.map.as_slice() == map
     }
 
-    /// The same name once more.
+    /// A copy of the name.
     pub fn copy(&self, alloc: Global) -> Result<MapName, AllocError>
         ensures { IfOk result (λ copy. name_view copy ≡ name_view self.now) }
     {
@@ -41,7 +43,7 @@ impl MapName {
     }
 }
 
-/// The same names once more.
+/// A copy of the names.
 pub fn copy_names(alloc: Global, names: &[MapName]) -> Result<Vec<MapName>, AllocError>
     ensures { IfOk result (λ copies. map name_view copies.items ≡ map name_view names.now) }
 {
@@ -84,7 +86,7 @@ impl Model for Catalog {
 
     ghost Value = { Catalogue };
 
-    ghost use Rattle.yp_board.specs.Catalog.{catalogue_of, IsKept};
+    ghost use Rattle.yp_board.specs.inside.Catalog.{catalogue_of, IsKept};
 
     ghost view = { catalogue_of };
 
@@ -168,7 +170,7 @@ impl Catalog {
         self.listed.as_slice()
     }
 
-    /// The same catalogue once more.
+    /// A copy of the catalogue.
     pub fn copy(&self, alloc: Global) -> Result<Catalog, NoMemory>
         ensures { IfOk result (λ catalog. catalog ≡ self.now) }
     {

@@ -2,8 +2,9 @@
 
 ghost use Rattle.std.specs.Prelude.{◌≡◌, ◌≤◌, ◌^◌, map, length};
 ghost use Rattle.std.specs.List.{list_any};
-ghost use Rattle.yp_board.specs.Catalogues.{name_view, is_name, is_map_name, is_same, with_numbers, bad_name, twice};
-ghost use Rattle.yp_board.specs.Catalogues.{catalog_fault};
+ghost use Rattle.yp_board.specs.Catalogues.{name_view, is_name, is_same};
+ghost use Rattle.yp_board.specs.inside.Catalogues.{is_map_name, with_numbers, bad_name, twice};
+ghost use Rattle.yp_board.specs.inside.Catalogues.{catalog_fault};
 
 use crate::catalog::{CatalogFault, MAPS_MAX, MapName, NAME_MAX};
 

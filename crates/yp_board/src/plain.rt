@@ -8,7 +8,7 @@ ghost use Rattle.yp_board.specs.Catalogues.{IsCatalogue};
 ghost use Rattle.yp_board.specs.Logs.{starts};
 
 use crate::catalog::Catalog;
-use crate::trail::{Count, Trail};
+use crate::log::PlainLog;
 use crate::view::{Show, ShowRefused, View};
 use std::alloc::Global;
 use std::marker::Model;
@@ -21,8 +21,8 @@ use yp_version::Version;
 pub struct PlainBoard {
     catalog: Catalog,
     last: Vec<Option<Arc<Version>>>,
-    log: Trail,
-    asked: Count,
+    log: PlainLog,
+    asked: u64,
 }
 
 impl Model for PlainBoard {
@@ -30,7 +30,7 @@ impl Model for PlainBoard {
 
     ghost Value = { Seen };
 
-    ghost use Rattle.yp_board.specs.PlainBoard.{seen_of, IsKept};
+    ghost use Rattle.yp_board.specs.inside.PlainBoard.{seen_of, IsKept};
 
     ghost view = { seen_of };
 
@@ -58,7 +58,7 @@ impl PlainBoard {
             catalog,
             last: start,
             log,
-            asked: Count::new(),
+            asked: 0,
         })
     }
 
@@ -73,11 +73,11 @@ impl PlainBoard {
 }
 
 /// The log that begins with these versions, of as many maps as there are.
-fn begun(count: u32, start: &[Option<Arc<Version>>]) -> Trail
+fn begun(count: u32, start: &[Option<Arc<Version>>]) -> PlainLog
     requires { count ≡ length start.now }
     ensures { result ≡ starts 0 (map (option_map arc_value) start.now) }
 {
-    let mut log = Trail::new();
+    let mut log = PlainLog::new();
     for map in 0..count {
         begin(&mut log, map, &start[map as usize]);
     }
@@ -85,7 +85,7 @@ fn begun(count: u32, start: &[Option<Arc<Version>>]) -> Trail
 }
 
 /// Adds the version of a map that a log begins with, if there is one.
-fn begin(log: &mut Trail, map: u32, version: &Option<Arc<Version>>)
+fn begin(log: &mut PlainLog, map: u32, version: &Option<Arc<Version>>)
     ensures { log.new ≡ log.old ++ starts map (option_map arc_value version.now ∷ []) }
 {
     if let Some(version) = version {
@@ -103,7 +103,7 @@ impl View for PlainBoard {
     }
 
     fn refresh(&mut self) {
-        self.asked.rise();
+        self.asked = self.asked.saturating_add(1);
     }
 
     fn held(&self, map: u32) -> Option<&Version> {

@@ -2,11 +2,10 @@
 //!
 //! Its log is the ghost history of a book (`logbook`), in the order in which versions were shown. What readers see
 //! of it is a table that `left_right` carries. That what a [`Reader`] knows is always a front of the one log stands on
-//! its clauses for [`View`](yp_board::View), on [`Reader::meet`] and on those of [`Writer`] for
-//! [`Tell`](yp_board::Tell), of which `covers` says it of a [`Front`] that was known at any moment; that a version
-//! which is shown is one pair more of it, on the clauses of [`Writer`] for [`Show`](yp_board::Show). No call of a
+//! its clauses for [`View`](crate::View), on [`Reader::meet`] and on those of [`Writer`] for
+//! [`Tell`](crate::Tell), of which `covers` says it of a [`Front`] that was known at any moment; that a version
+//! which is shown is one pair more of it, on the clauses of [`Writer`] for [`Show`](crate::Show). No call of a
 //! reader waits, takes memory or a lock.
-#![tactic(auto)]
 
 mod beside;
 mod history;
@@ -18,7 +17,7 @@ mod writer;
 
 pub use beside::show_beside;
 pub use history::{Front, Naming, Opened, Shown};
-pub use opening::board;
+pub use opening::{WORKERS_MAX, board};
 pub use reader::Reader;
 pub use table::{Note, Table};
 pub use writer::Writer;

@@ -3,7 +3,7 @@
 ghost use Rattle.std.specs.Prelude.{◌≡◌};
 
 use std::alloc::Global;
-use std::fmt::Debug;
+use std::fmt::{Debug, Display};
 use std::process::Abort;
 use yp_io::{Failed, Letter, Peer, Source};
 
@@ -15,6 +15,12 @@ pub fn bytes<R: Abort>(rt: &R, alloc: Global, texts: &[&str]) -> Vec<u8> {
 /// Ends the test where what came isn't what is wanted, and tells of which row.
 pub fn assert_same<R: Abort, T: PartialEq + Debug>(rt: &R, came: &T, wanted: &T, row: &str) {
     assert!(rt; came == wanted, "{row}: {came:?} came, not {wanted:?}");
+}
+
+/// Ends the test where a value isn't shown as this text.
+pub fn assert_shown<R: Abort, T: Display>(rt: &R, alloc: Global, value: &T, text: &str) {
+    let shown = format!(in alloc; "{value}").expect(rt, "a text");
+    assert_same(rt, &shown.as_str(), &text, text);
 }
 
 // Bytes of its own.

@@ -1,5 +1,5 @@
-//! Tests of `yp_io`, `yp_xdr`, `yp_rpc`, `yp_msgs` and `yp_system`: what is spelled in bytes, and what is outside, in
-//! memory and of the system.
+//! Tests of `yp_io`, `yp_xdr`, `yp_rpc`, `yp_messages` and `yp_system`: what is spelled in bytes, and what is outside,
+//! in memory and of the system.
 #![tactic(auto)]
 
 #[cfg(test)]

@@ -8,8 +8,8 @@ use std::alloc::Global;
 use std::process::Abort;
 use yp_client::read_found;
 use yp_io::{MemSink, MemSource};
-use yp_msgs::protocol::{FIRST, YPPROG, YPVERS};
-use yp_msgs::{Message, ReqNokey};
+use yp_messages::protocol::{FIRST, YPPROG, YPVERS};
+use yp_messages::{Message, ReqNokey};
 use yp_rpc::{RecordReader, RecordWriter, write_call};
 
 const FIRST_CALL: &str = "80000040 00000005 00000000 00000002 000186a4 00000002 00000004

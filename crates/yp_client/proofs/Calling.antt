@@ -7,16 +7,17 @@ use Rattle.std.specs.Io.KnownBytes.{Appends}
 use Rattle.yp_io.specs.Dials.{WireState}
 use Rattle.yp_xdr.specs.Kind.{Value}
 use Rattle.yp_xdr.specs.Spelling.{word, padding_len, padding, opaque, fixed, spelling}
-use Rattle.yp_msgs.specs.Numbers.{name_max, key_max}
-use Rattle.yp_msgs.specs.Messages.{req_domain, req_nokey, req_key}
-use Rattle.yp_msgs.specs.Transfers.{req_xfr, req_make}
+use Rattle.yp_messages.specs.Numbers.{name_max, key_max}
+use Rattle.yp_messages.specs.Messages.{req_domain, req_nokey, req_key}
+use Rattle.yp_messages.specs.Transfers.{req_xfr, req_make}
 use Rattle.yp_client.specs.Limits.{reply_max}
-use Rattle.yp_xdr.specs.Writing.{Sets, written}
-use Rattle.yp_xdr.specs.Laws.{WrittenIsJoined}
+use Rattle.yp_xdr.specs.inside.Writing.{Sets, written}
+use Rattle.yp_xdr.specs.inside.Laws.{WrittenIsJoined}
 use Rattle.yp_rpc.specs.declared.record.RecordFault.{RecordFault}
 use Rattle.yp_rpc.specs.declared.record.RecordFault.TheVariants.{Torn, TooLong, ReadFault}
 use Rattle.yp_rpc.specs.Records.{sent}
-use Rattle.yp_client.specs.Calls.{Sends, of_record}
+use Rattle.yp_client.specs.Calls.{SendsCall}
+use Rattle.yp_client.specs.inside.Calls.{of_record}
 
 take_none : (xs : List ℕ) → take 0 xs ≡ []
 take_none [] = refl
@@ -49,7 +50,7 @@ sets_none at old = record {
 -- a record that can't be read leaves what was sent
 pub sends_record : (X : Type 0) (call : List ℕ) (fault : RecordFault) (before after : WireState)
     → Appends before.output after.output (sent call) × IsTrue after.flushed
-    → Sends {X = X} call (Err (of_record fault)) before after
+    → SendsCall {X = X} call (Err (of_record fault)) before after
 sends_record X call (Torn at) before after h = h
 sends_record X call (TooLong at) before after h = h
 sends_record X call ReadFault before after h = h

@@ -6,7 +6,7 @@ use Rattle.std.specs.Option.{option_map_or}
 use Rattle.std.proofs.lemmas.Bool.{lt-ltb}
 use Rattle.std.proofs.lemmas.List.{length-append}
 use Rattle.std.proofs.lemmas.List.Sums.{fold-append}
-use Rattle.yp_xdr.specs.Reading.{Unread, bool_at, word_at}
+use Rattle.yp_xdr.specs.Reading.{Remaining, bool_at, word_at}
 use Rattle.yp_version.specs.declared.builder.VersionFault.{VersionFault}
 use Rattle.yp_version.specs.Rows.{Row}
 use Rattle.yp_version.specs.Drafts.{Draft, refused, with_row, with_rows, refused_from}
@@ -14,11 +14,13 @@ use Rattle.yp_client.specs.declared.fault.ClientFault.{ClientFault}
 use Rattle.yp_client.specs.declared.fault.ClientFault.TheVariants.{Yp, Denied, BadReply, BadXid, Torn, TooLong}
 use Rattle.yp_client.specs.declared.fault.ClientFault.TheVariants.{ReadFault, WriteFault, Spent, Rows, NoMemory}
 use Rattle.yp_client.specs.declared.all.AllReply.{AllReply}
-use Rattle.yp_rpc.specs.Pieces.{Reader}
+use Rattle.yp_rpc.specs.Pieces.{ReaderState}
 use Rattle.yp_client.specs.Limits.{all_max}
-use Rattle.yp_client.specs.All.{AllSaid, ItemRead, all_item_at, by_refusal, by_item, filled, IsSaid, Grows}
-use Rattle.yp_client.specs.Windows.{waiting, ahead, Progress, progress, GivesMore, IsUnderway, MayCome, StaysWhole}
-use Rattle.yp_client.specs.Windows.{IsRefusal, Advances, Pushes}
+use Rattle.yp_client.specs.All.{AllSaid, ItemRead, all_item_at, by_refusal, by_item, filled, IsSaid}
+use Rattle.yp_client.specs.inside.All.{Grows}
+use Rattle.yp_client.specs.inside.Windows.{waiting, ahead, RecordProgress, progress, GivesMore, IsUnderway, MayCome}
+use Rattle.yp_client.specs.inside.Windows.{StaysWhole}
+use Rattle.yp_client.specs.inside.Windows.{TakesMore, IsRowRefusal, Advances, PushesRows}
 use Rattle.yp_client.proofs.Waiting.{gives_nothing, gives_then, underway_within, underway_more, underway_same}
 
 -- ---- builders
@@ -76,13 +78,13 @@ said_err said draft rows Spent is = is
 said_err said draft rows (Rows row fault) is = is
 said_err said draft rows NoMemory is = tt
 
-filled_item : (n rows : ℕ) (draft : Draft) (left : Unread) (read : ItemRead) → all_item_at left ≡ read
+filled_item : (n rows : ℕ) (draft : Draft) (left : Remaining) (read : ItemRead) → all_item_at left ≡ read
     → filled (n + 1) draft rows left ≡ by_item (filled n) draft rows read
 unfolding filled
 filled_item n rows draft left read is = rw add-one (ap (by_item (filled n) draft rows) is)
 
 -- a row that is pushed
-pub row_pushed : (n rows : ℕ) (before after : Draft) (row : Row) (left rest : Unread)
+pub row_pushed : (n rows : ℕ) (before after : Draft) (row : Row) (left rest : Remaining)
     → all_item_at left ≡ Ok (Some row, rest) → refused before row ≡ None → after ≡ with_row before row
     → filled (n + 1) before rows left ≡ filled n after (rows + 1) rest
 row_pushed n rows before after row left rest says fits is =
@@ -92,8 +94,8 @@ row_pushed n rows before after row left rest says fits is =
     ∙ ap (λ (d : Draft). filled n d (rows + 1) rest) (sym is)
 
 -- one that is refused
-pub row_refused : (n rows number : ℕ) (before after : Draft) (row : Row) (left rest : Unread) (fault : ClientFault)
-    → number ≡ rows + 1 → all_item_at left ≡ Ok (Some row, rest) → IsRefusal number (refused before row) fault
+pub row_refused : (n rows number : ℕ) (before after : Draft) (row : Row) (left rest : Remaining) (fault : ClientFault)
+    → number ≡ rows + 1 → all_item_at left ≡ Ok (Some row, rest) → IsRowRefusal number (refused before row) fault
     → after ≡ before → IsSaid (filled (n + 1) before rows left) after number (Err fault)
 row_refused n rows number before after row left rest (Rows at fault) count says cause same =
     filled_item n rows before left (Ok (Some row, rest)) says
@@ -114,12 +116,12 @@ row_refused n rows number before after row left rest WriteFault count says cause
 row_refused n rows number before after row left rest Spent count says cause same = absurd cause
 
 -- no more rows
-pub rows_ended : (n rows : ℕ) (draft : Draft) (left rest : Unread) → all_item_at left ≡ Ok (None, rest)
+pub rows_ended : (n rows : ℕ) (draft : Draft) (left rest : Remaining) → all_item_at left ≡ Ok (None, rest)
     → filled (n + 1) draft rows left ≡ record { draft = draft; rows = rows; end = Ok tt }
 rows_ended n rows draft left rest says = filled_item n rows draft left (Ok (None, rest)) says
 
 -- an item that is refused
-pub rows_refused : (n rows rows' : ℕ) (draft : Draft) (left : Unread) (fault : ClientFault) → rows' ≡ rows
+pub rows_refused : (n rows rows' : ℕ) (draft : Draft) (left : Remaining) (fault : ClientFault) → rows' ≡ rows
     → all_item_at left ≡ Err fault → IsSaid (filled (n + 1) draft rows left) draft rows' (Err fault)
 rows_refused n rows rows' draft left fault same says =
     said_err _ draft rows' fault
@@ -127,14 +129,14 @@ rows_refused n rows rows' draft left fault same says =
     ∙ ap (λ (k : ℕ). record { draft = draft; rows = k; end = Err fault }) (sym same))
 
 -- where there are no bytes, it ends at once, whatever number of items may be read
-filled_none : (draft : Draft) (rows : ℕ) (left : Unread) → length left.bytes ≡ 0
+filled_none : (draft : Draft) (rows : ℕ) (left : Remaining) → length left.bytes ≡ 0
     → filled 0 draft rows left ≡ filled 1 draft rows left
 unfolding filled all_item_at bool_at word_at
 filled_none draft rows left none =
     let short : ltb (length left.bytes) 4 ≡ true = lt-ltb _ _ (omega arith) in
     rw short refl
 
-filled_more : (n : ℕ) (draft : Draft) (rows : ℕ) (left : Unread) → length left.bytes ≤ n
+filled_more : (n : ℕ) (draft : Draft) (rows : ℕ) (left : Remaining) → length left.bytes ≤ n
     → (k : ℕ) × (filled n draft rows left ≡ filled (k + 1) draft rows left)
 filled_more zero draft rows left enough = (0, filled_none draft rows left (omega arith))
 filled_more (suc n) draft rows left enough = (n, ap (λ (k : ℕ). filled k draft rows left) (sym (add-one n)))
@@ -144,7 +146,7 @@ filled_more (suc n) draft rows left enough = (n, ap (λ (k : ℕ). filled k draf
 -- More of the record was read, and some rows were pushed: what was said at first is what is said now, whatever comes
 -- behind.
 pub record PushedSoFar (before after : Draft) (old new : AllReply) (buf buf' : List ℕ)
-    (was now : Progress) : Type 0 where
+    (was now : RecordProgress) : Type 0 where
   pub more : List ℕ
   pub stays : StaysWhole more was.whole now.whole
   pub given : GivesMore more was now
@@ -152,7 +154,7 @@ pub record PushedSoFar (before after : Draft) (old new : AllReply) (buf buf' : L
       → (m : ℕ) × (length (waiting new buf' ++ rest) ≤ m)
       × (filled n before old.rows (ahead old buf (more ++ rest)) ≡ filled m after new.rows (ahead new buf' rest))
 
-pub pushed_nothing : (draft : Draft) (reply : AllReply) (buf : List ℕ) (now : Progress)
+pub pushed_nothing : (draft : Draft) (reply : AllReply) (buf : List ℕ) (now : RecordProgress)
     → PushedSoFar draft draft reply reply buf buf now now
 pushed_nothing draft reply buf now =
     record {
@@ -164,7 +166,7 @@ pushed_nothing draft reply buf now =
     }
 
 -- more of the record is read
-pub so_far_read : (before after : Draft) (old mid new : AllReply) (buf buf' buf'' : List ℕ) (was now now' : Progress)
+pub so_far_read : (before after : Draft) (old mid new : AllReply) (buf buf' buf'' : List ℕ) (was now now' : RecordProgress)
     (more : List ℕ) → PushedSoFar before after old mid buf buf' was now → GivesMore more now now'
     → StaysWhole more now.whole now'.whole → waiting new buf'' ≡ waiting mid buf' ++ more → new.at ≡ mid.at
     → new.rows ≡ mid.rows → PushedSoFar before after old new buf buf'' was now'
@@ -191,7 +193,7 @@ so_far_read before after old mid new buf buf' buf'' was now now' more so_far giv
 }
 
 -- one row more is pushed
-pub so_far_pushed : (before mid after : Draft) (old half new : AllReply) (buf buf' : List ℕ) (was now : Progress)
+pub so_far_pushed : (before mid after : Draft) (old half new : AllReply) (buf buf' : List ℕ) (was now : RecordProgress)
     → PushedSoFar before mid old half buf buf' was now
     → ((more : List ℕ) (n : ℕ) → MayCome more now.whole
     → Advances mid after half.rows new.rows (Ok true) n (ahead half buf' more) (ahead new buf' more))
@@ -214,12 +216,12 @@ so_far_pushed before mid after old half new buf buf' was now so_far advances for
 }
 
 -- the end of the rows, or a refusal
-pub so_far_ended : (before mid after : Draft) (old half new : AllReply) (buf buf' : List ℕ) (was now : Progress)
+pub so_far_ended : (before mid after : Draft) (old half new : AllReply) (buf buf' : List ℕ) (was now : RecordProgress)
     (end : Result (Unit {0}) ClientFault) → PushedSoFar before mid old half buf buf' was now
     → now.whole ≡ new.whole →
     ((more : List ℕ) (n : ℕ) → MayCome more now.whole
     → IsSaid (filled (n + 1) mid half.rows (ahead half buf' more)) after new.rows end)
-    → Pushes before after old new buf was now end
+    → PushesRows before after old new buf was now end
 so_far_ended before mid after old half new buf buf' was now end so_far same ends = record {
   more = so_far.more;
   stays = so_far.stays;
@@ -234,58 +236,67 @@ so_far_ended before mid after old half new buf buf' was now end so_far same ends
 -- ---- one turn of the loop
 
 -- Some rows were pushed, and more of the record may come.
-pub record Ready (before after : Draft) (old new : AllReply) (buf buf' : List ℕ) (was now : Progress) : Type 0 where
+pub record Ready (before after : Draft) (old new : AllReply) (buf buf' : List ℕ) (was now : RecordProgress) : Type 0 where
   pub so_far : PushedSoFar before after old new buf buf' was now
   pub underway : IsUnderway (new.at + length (waiting new buf')) now
 
-pub ready : (before after : Draft) (old mid new : AllReply) (buf buf' buf'' : List ℕ) (was now now' : Progress)
+pub ready : (before after : Draft) (old mid new : AllReply) (buf buf' buf'' : List ℕ) (was now now' : RecordProgress)
     → PushedSoFar before after old mid buf buf' was now → IsUnderway (mid.at + length (waiting mid buf')) now
-    → (more : List ℕ) × StaysWhole more now.whole now'.whole × GivesMore more now now'
-    × (waiting new buf'' ≡ waiting mid buf' ++ more) → new.at ≡ mid.at → new.rows ≡ mid.rows
+    → TakesMore mid new buf' buf'' now now'
+    → new ≡ record mid { start = new.start; end = new.end; whole = new.whole }
     → Ready before after old new buf buf'' was now'
-ready before after old mid new buf buf' buf'' was now now' so_far underway h at rows = record {
-  so_far = so_far_read before after old mid new buf buf' buf'' was now now' h.0 so_far h.2 h.1 h.3 at rows;
-  underway = underway_more (mid.at + length (waiting mid buf')) (new.at + length (waiting new buf'')) h.0 now now' h.2
-      (omega (arith, at, ap length h.3, length-append (waiting mid buf') h.0)) underway;
-}
+ready before after old mid new buf buf' buf'' was now now' so_far underway h same =
+    let at : new.at ≡ mid.at = ap (λ (r : AllReply). r.at) same in
+    let rows : new.rows ≡ mid.rows = ap (λ (r : AllReply). r.rows) same in
+    record {
+      so_far = so_far_read before after old mid new buf buf' buf'' was now now' h.0 so_far h.2 h.1 h.3 at rows;
+      underway = underway_more (mid.at + length (waiting mid buf')) (new.at + length (waiting new buf'')) h.0 now now'
+          h.2 (omega (arith, at, ap length h.3, length-append (waiting mid buf') h.0)) underway;
+    }
 
-pub ready_next : (before mid after : Draft) (old half new : AllReply) (buf buf' : List ℕ) (was : Progress)
-    (input : Option (List ℕ)) (reader : Reader)
+pub ready_next : (before mid after : Draft) (old half new : AllReply) (buf buf' : List ℕ) (was : RecordProgress)
+    (input : Option (List ℕ)) (reader : ReaderState)
     → Ready before mid old half buf buf' was (progress input reader half.whole)
     → ((more : List ℕ) (n : ℕ) → MayCome more half.whole
     → Advances mid after half.rows new.rows (Ok true) n (ahead half buf' more) (ahead new buf' more))
     → half.at < new.at → new.at + length (waiting new buf') ≡ half.at + length (waiting half buf')
-    → new.whole ≡ half.whole → Ready before after old new buf buf' was (progress input reader new.whole)
+    → new ≡ record half { start = new.start; at = new.at; rows = new.rows }
+    → Ready before after old new buf buf' was (progress input reader new.whole)
 ready_next before mid after old half new buf buf' was input reader h advances forward total same =
+    let whole : new.whole ≡ half.whole = ap (λ (r : AllReply). r.whole) same in
     let now = progress input reader half.whole in
-    subst (λ (whole : Bool). Ready before after old new buf buf' was (progress input reader whole)) (sym same) (record {
+    subst (λ (whole : Bool). Ready before after old new buf buf' was (progress input reader whole)) (sym whole) (record {
       so_far = so_far_pushed before mid after old half new buf buf' was now h.so_far advances forward total;
       underway = underway_same (half.at + length (waiting half buf'))
           (new.at + length (waiting new buf')) now total h.underway;
     })
 
-pub ready_ended : (before mid after : Draft) (old half new : AllReply) (buf buf' : List ℕ) (was : Progress)
-    (input : Option (List ℕ)) (reader : Reader) (end : Result (Unit {0}) ClientFault)
+pub ready_ended : (before mid after : Draft) (old half new : AllReply) (buf buf' : List ℕ) (was : RecordProgress)
+    (input : Option (List ℕ)) (reader : ReaderState) (end : Result (Unit {0}) ClientFault)
     → Ready before mid old half buf buf' was (progress input reader half.whole)
     → ((more : List ℕ) (n : ℕ) → MayCome more half.whole
-    → IsSaid (filled (n + 1) mid half.rows (ahead half buf' more)) after new.rows end) → new.whole ≡ half.whole
-    → Pushes before after old new buf was (progress input reader new.whole) end
+    → IsSaid (filled (n + 1) mid half.rows (ahead half buf' more)) after new.rows end)
+    → new ≡ record half { start = new.start; at = new.at; rows = new.rows }
+    → PushesRows before after old new buf was (progress input reader new.whole) end
 ready_ended before mid after old half new buf buf' was input reader end h ends same =
-    subst (λ (whole : Bool). Pushes before after old new buf was (progress input reader whole) end) (sym same)
+    let whole : new.whole ≡ half.whole = ap (λ (r : AllReply). r.whole) same in
+    subst (λ (whole : Bool). PushesRows before after old new buf was (progress input reader whole) end) (sym whole)
     (so_far_ended before mid after old half new buf buf' was (progress input reader half.whole) end h.so_far
-    (sym same) ends)
+    (sym whole) ends)
 
-pub ready_underway : (before mid : Draft) (old half new : AllReply) (buf buf' : List ℕ) (was : Progress)
-    (input : Option (List ℕ)) (reader : Reader)
+pub ready_underway : (before mid : Draft) (old half new : AllReply) (buf buf' : List ℕ) (was : RecordProgress)
+    (input : Option (List ℕ)) (reader : ReaderState)
     → Ready before mid old half buf buf' was (progress input reader half.whole)
-    → new.at + length (waiting new buf') ≡ half.at + length (waiting half buf') → new.whole ≡ half.whole
+    → new.at + length (waiting new buf') ≡ half.at + length (waiting half buf')
+    → new ≡ record half { start = new.start; at = new.at; rows = new.rows }
     → IsUnderway (new.at + length (waiting new buf')) (progress input reader new.whole)
 ready_underway before mid old half new buf buf' was input reader h total same =
-    subst (λ (whole : Bool). IsUnderway (new.at + length (waiting new buf')) (progress input reader whole)) (sym same)
+    let whole : new.whole ≡ half.whole = ap (λ (r : AllReply). r.whole) same in
+    subst (λ (whole : Bool). IsUnderway (new.at + length (waiting new buf')) (progress input reader whole)) (sym whole)
     (underway_same (half.at + length (waiting half buf')) (new.at + length (waiting new buf'))
     (progress input reader half.whole) total h.underway)
 
 -- what is left of the record falls
-pub at_falls : (old new rest : ℕ) (now : Progress) → old < new → IsUnderway (new + rest) now
+pub at_falls : (old new rest : ℕ) (now : RecordProgress) → old < new → IsUnderway (new + rest) now
     → all_max - new < all_max - old
 at_falls old new rest now forward underway = let within = underway_within (new + rest) now underway in omega arith

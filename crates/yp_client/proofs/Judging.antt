@@ -12,11 +12,12 @@ use Rattle.yp_client.specs.declared.fault.ClientFault.TheVariants.{ReadFault}
 use Rattle.yp_client.specs.declared.fault.ClientFault.TheVariants.{WriteFault, Spent, Rows, NoMemory}
 use Rattle.yp_client.specs.Results.{Says}
 use Rattle.yp_client.specs.States.{ClientState}
-use Rattle.yp_client.specs.Calls.{Sends, Waits, Hears, NoReply, Answers, spends, Calls, IsOfReply}
+use Rattle.yp_client.specs.Calls.{SendsCall, WaitsForReply, HearsReply, NoReply, Answers, spends, Calls}
+use Rattle.yp_client.specs.inside.Calls.{IsOfReply}
 
 sends_of_reply : (X : Type 0) (call : List ℕ) (result : Result X ClientFault) (before after : WireState)
     → IsOfReply result → Appends before.output after.output (sent call) × IsTrue after.flushed
-    → Sends call result before after
+    → SendsCall call result before after
 sends_of_reply X call (Ok x) before after of h = h
 sends_of_reply X call (Err (Yp status)) before after of h = h
 sends_of_reply X call (Err (Denied head)) before after of h = h
@@ -31,7 +32,7 @@ sends_of_reply X call (Err WriteFault) before after of h = absurd of
 sends_of_reply X call (Err Spent) before after of h = absurd of
 
 waits_of_reply : (X : Type 0) (result : Result X ClientFault) (waited before after : WireState) → IsOfReply result
-    → waited ≡ wire_state before.input after.output after.flushed → Waits result waited before after
+    → waited ≡ wire_state before.input after.output after.flushed → WaitsForReply result waited before after
 waits_of_reply X (Ok x) waited before after of h = h
 waits_of_reply X (Err (Yp status)) waited before after of h = h
 waits_of_reply X (Err (Denied head)) waited before after of h = h
@@ -46,7 +47,7 @@ waits_of_reply X (Err WriteFault) waited before after of h = absurd of
 waits_of_reply X (Err Spent) waited before after of h = absurd of
 
 answers_of_reply : (X : Type 0) (limit : ℕ) (answers : List ℕ → Result X ClientFault → Type 0)
-    (result : Result X ClientFault) (old new : ClientState) → IsOfReply result → Hears limit answers result old new
+    (result : Result X ClientFault) (old new : ClientState) → IsOfReply result → HearsReply limit answers result old new
     → Answers limit answers result old new
 answers_of_reply X limit answers (Ok x) old new of h = h
 answers_of_reply X limit answers (Err (Yp status)) old new of h = h
@@ -86,7 +87,7 @@ called_ok X limit call answers result message old new fresh of says out waited t
 }
 
 sends_none : (X Y : Type 0) (call : List ℕ) (fault : ClientFault) (before after : WireState)
-    → Sends {X = X} call (Err fault) before after → Sends {X = Y} call (Err fault) before after
+    → SendsCall {X = X} call (Err fault) before after → SendsCall {X = Y} call (Err fault) before after
 sends_none X Y call (Yp status) before after h = h
 sends_none X Y call (Denied head) before after h = h
 sends_none X Y call (BadReply at) before after h = h
@@ -100,7 +101,7 @@ sends_none X Y call (Rows row fault) before after h = h
 sends_none X Y call NoMemory before after h = h
 
 waits_none : (X Y : Type 0) (fault : ClientFault) (waited before after : WireState)
-    → Waits {X = X} (Err fault) waited before after → Waits {X = Y} (Err fault) waited before after
+    → WaitsForReply {X = X} (Err fault) waited before after → WaitsForReply {X = Y} (Err fault) waited before after
 waits_none X Y (Yp status) waited before after h = h
 waits_none X Y (Denied head) waited before after h = h
 waits_none X Y (BadReply at) waited before after h = h
@@ -145,8 +146,8 @@ fault_of (Err fault) = fault
 pub called_err : (X Y : Type 0) (limit : ℕ) (call : ℕ → List ℕ)
     (answers : ℕ → List ℕ → Result X ClientFault → Type 0) (fault : ClientFault) (old new : ClientState)
     → old.spent ≡ false → NoReply limit fault (fresh_at old.xid old) (fresh_at old.xid new)
-    → Sends {X = Y} (call old.xid) (Err fault) old.wire new.wire
-    → Waits {X = Y} (Err fault) new.waited old.wire new.wire
+    → SendsCall {X = Y} (call old.xid) (Err fault) old.wire new.wire
+    → WaitsForReply {X = Y} (Err fault) new.waited old.wire new.wire
     → new.spent ≡ spends {X = X} (Err fault) → new.xid ≡ (old.xid + 1) % 2 ^ 32 → old.reads ≤ new.reads
     → old.writes ≤ new.writes → Calls limit call answers (Err fault) old new
 called_err X Y limit call answers fault old new fresh none out waited spent xid reads writes = record {
@@ -167,14 +168,14 @@ called_err X Y limit call answers fault old new fresh none out waited spent xid 
 pub called_err_at : (X Y : Type 0) (limit : ℕ) (call : ℕ → List ℕ)
     (answers : ℕ → List ℕ → Result X ClientFault → Type 0) (fault : ClientFault) (old new : ClientState) (number : ℕ)
     → number ≡ old.xid → old.spent ≡ false → NoReply limit fault (fresh_at number old) (fresh_at number new)
-    → Sends {X = Y} (call number) (Err fault) old.wire new.wire
-    → Waits {X = Y} (Err fault) new.waited old.wire new.wire
+    → SendsCall {X = Y} (call number) (Err fault) old.wire new.wire
+    → WaitsForReply {X = Y} (Err fault) new.waited old.wire new.wire
     → new.spent ≡ spends {X = X} (Err fault) → new.xid ≡ (old.xid + 1) % 2 ^ 32 → old.reads ≤ new.reads
     → old.writes ≤ new.writes → Calls limit call answers (Err fault) old new
 called_err_at X Y limit call answers fault old new number same fresh none out waited spent xid reads writes =
     called_err X Y limit call answers fault old new fresh
     (subst (λ (n : ℕ). NoReply limit fault (fresh_at n old) (fresh_at n new)) same none)
-    (subst (λ (n : ℕ). Sends {X = Y} (call n) (Err fault) old.wire new.wire) same out) waited spent xid reads writes
+    (subst (λ (n : ℕ). SendsCall {X = Y} (call n) (Err fault) old.wire new.wire) same out) waited spent xid reads writes
 
 -- a client that has no reply is spent
 pub no_reply_spends : (X : Type 0) (limit : ℕ) (fault : ClientFault) (old new : ClientState)

@@ -5,17 +5,19 @@ use Rattle.std.proofs.lemmas.List.{length-drop}
 use Rattle.yp_xdr.specs.declared.fault.XdrFault.{XdrFault}
 use Rattle.yp_xdr.specs.declared.fault.XdrFault.TheVariants.{Short, TooLong as OverLimit, Pad, BadBool, BadEnum}
 use Rattle.yp_xdr.specs.Kind.{Boolean, Opaque}
-use Rattle.yp_xdr.specs.Reading.{Unread, end_of, reading}
+use Rattle.yp_xdr.specs.Reading.{Remaining, reading}
+use Rattle.yp_xdr.specs.inside.Reading.{end_of}
 use Rattle.yp_rpc.specs.declared.reply.ReplyHead.{ReplyHead}
 use Rattle.yp_rpc.specs.declared.reply.ReplyHead.TheVariants.{Success, ProgUnavail, ProgMismatch, ProcUnavail}
 use Rattle.yp_rpc.specs.declared.reply.ReplyHead.TheVariants.{GarbageArgs, SystemErr, RpcMismatch, AuthError}
 use Rattle.yp_rpc.specs.Read.{reply_at}
-use Rattle.yp_msgs.specs.Numbers.{key_max, value_max}
-use Rattle.yp_msgs.specs.Statuses.{stat}
+use Rattle.yp_messages.specs.Numbers.{key_max, value_max}
+use Rattle.yp_messages.specs.Statuses.{stat}
 use Rattle.yp_version.specs.Rows.{Row}
 use Rattle.yp_client.specs.declared.fault.ClientFault.{ClientFault}
 use Rattle.yp_client.specs.declared.fault.ClientFault.TheVariants.{Yp, BadReply}
-use Rattle.yp_client.specs.Results.{◌>>=◌, of_reply, item, by_head, by_xid, results_of, stat_with, further, IsIn}
+use Rattle.yp_client.specs.Results.{◌>>=◌, of_reply, item, by_head, by_xid, results_of, stat_with}
+use Rattle.yp_client.specs.inside.Results.{further, IsIn}
 use Rattle.yp_xdr.specs.Faults.{fault_place}
 use Rattle.yp_client.specs.All.{row_at, by_row_stat, status_at, all_item_at}
 use Rattle.yp_client.proofs.Local.{Enough, enough_less, enough_behind, onward, shifted, moved, IsCut, Cuts, IsLocal}
@@ -25,19 +27,19 @@ use Rattle.yp_client.proofs.LocalHead.{local_reply}
 -- ---- readings of a reply
 
 -- what a reading gives further on, with more behind
-abbrev pub moved_reply : {V : Type 0} → ℕ → List ℕ → Result (V × Unread) ClientFault → Result (V × Unread) ClientFault
+abbrev pub moved_reply : {V : Type 0} → ℕ → List ℕ → Result (V × Remaining) ClientFault → Result (V × Remaining) ClientFault
 moved_reply n more (Ok read) = Ok (read.0, onward n more read.1)
 moved_reply n more (Err fault) = Err (further n fault)
 
 -- A reading takes from min to max bytes, or finds its fault among those that there are.
-abbrev pub CutsReply : {V : Type 0} → ℕ → ℕ → Unread → Result (V × Unread) ClientFault → Type 0
+abbrev pub CutsReply : {V : Type 0} → ℕ → ℕ → Remaining → Result (V × Remaining) ClientFault → Type 0
 CutsReply min max left (Ok read) = IsCut min max left read.1
 CutsReply min max left (Err fault) = IsIn (end_of left) fault
 
-pub record IsLocalReply {V : Type 0} (min max : ℕ) (read : Unread → Result (V × Unread) ClientFault) : Type 0 where
-  pub moves : (n : ℕ) (more : List ℕ) (left : Unread) → Enough max left more
+pub record IsLocalReply {V : Type 0} (min max : ℕ) (read : Remaining → Result (V × Remaining) ClientFault) : Type 0 where
+  pub moves : (n : ℕ) (more : List ℕ) (left : Remaining) → Enough max left more
       → read (onward n more left) ≡ moved_reply n more (read left)
-  pub cuts : (left : Unread) → CutsReply min max left (read left)
+  pub cuts : (left : Remaining) → CutsReply min max left (read left)
 
 place_shifted : (n : ℕ) (fault : XdrFault) → fault_place (shifted n fault) ≡ n + fault_place fault
 place_shifted n (Short at) = refl
@@ -46,26 +48,26 @@ place_shifted n (Pad at) = refl
 place_shifted n (BadBool at) = refl
 place_shifted n (BadEnum at) = refl
 
-of_reply_moved : {V : Type 0} (n : ℕ) (more : List ℕ) (read : Result (V × Unread) XdrFault)
+of_reply_moved : {V : Type 0} (n : ℕ) (more : List ℕ) (read : Result (V × Remaining) XdrFault)
     → of_reply (moved n more read) ≡ moved_reply n more (of_reply read)
 of_reply_moved n more (Ok read) = refl
 of_reply_moved n more (Err fault) = ap (λ (at : ℕ). Err (BadReply at)) (place_shifted n fault)
 
-of_reply_cuts : {V : Type 0} (min max : ℕ) (left : Unread) (read : Result (V × Unread) XdrFault)
+of_reply_cuts : {V : Type 0} (min max : ℕ) (left : Remaining) (read : Result (V × Remaining) XdrFault)
     → Cuts min max left read → CutsReply min max left (of_reply read)
 of_reply_cuts min max left (Ok read) c = c
 of_reply_cuts min max left (Err fault) c = c
 
-local_of_reply : {V : Type 0} (min max : ℕ) (read : Unread → Result (V × Unread) XdrFault) → IsLocal min max read
+local_of_reply : {V : Type 0} (min max : ℕ) (read : Remaining → Result (V × Remaining) XdrFault) → IsLocal min max read
     → IsLocalReply min max (λ left. of_reply (read left))
 local_of_reply min max read h = record {
   moves = λ n more left enough. ap of_reply (h.moves n more left enough) ∙ of_reply_moved n more (read left);
   cuts = λ left. of_reply_cuts min max left (read left) (h.cuts left);
 }
 
-bind_moved_reply : {A B : Type 0} (n : ℕ) (more : List ℕ) (first : Result (A × Unread) ClientFault)
-    (f f' : A × Unread → Result (B × Unread) ClientFault)
-    → ((read : A × Unread) → first ≡ Ok read → f' (read.0, onward n more read.1) ≡ moved_reply n more (f read))
+bind_moved_reply : {A B : Type 0} (n : ℕ) (more : List ℕ) (first : Result (A × Remaining) ClientFault)
+    (f f' : A × Remaining → Result (B × Remaining) ClientFault)
+    → ((read : A × Remaining) → first ≡ Ok read → f' (read.0, onward n more read.1) ≡ moved_reply n more (f read))
     → (moved_reply n more first >>= f') ≡ moved_reply n more (first >>= f)
 bind_moved_reply n more (Ok read) f f' h = h read refl
 bind_moved_reply n more (Err fault) f f' h = refl
@@ -73,8 +75,8 @@ bind_moved_reply n more (Err fault) f f' h = refl
 is_in_end : (end end' : ℕ) (fault : ClientFault) → end ≡ end' → IsIn end fault → IsIn end' fault
 is_in_end end end' fault same h = let P : ℕ → Type 0 = λ n. IsIn n fault in subst P same h
 
-cuts_reply_behind : {B : Type 0} (min max min' max' : ℕ) (left mid : Unread)
-    (second : Result (B × Unread) ClientFault) → IsCut min max left mid → CutsReply min' max' mid second
+cuts_reply_behind : {B : Type 0} (min max min' max' : ℕ) (left mid : Remaining)
+    (second : Result (B × Remaining) ClientFault) → IsCut min max left mid → CutsReply min' max' mid second
     → CutsReply (min + min') (max + max') left second
 cuts_reply_behind {B = B} min max min' max' left mid (Ok read) one other =
     cuts_behind {B = B} min max min' max' left mid (Ok read) one other
@@ -82,31 +84,31 @@ cuts_reply_behind min max min' max' left mid (Err fault) one other =
     is_in_end (end_of mid) (end_of left) fault
     (omega (
       arith,
-      ap (λ (u : Unread). u.at) one.cut,
+      ap (λ (u : Remaining). u.at) one.cut,
       ap
-          (λ (u : Unread). length u.bytes) one.cut,
+          (λ (u : Remaining). length u.bytes) one.cut,
       length-drop one.count left.bytes,
       one.there,
     )) other
 
-bind_cuts_reply : {A B : Type 0} (min max min' max' : ℕ) (left : Unread) (first : Result (A × Unread) ClientFault)
-    (f : A × Unread → Result (B × Unread) ClientFault)
-    → CutsReply min max left first → ((read : A × Unread) → CutsReply min' max' read.1 (f read))
+bind_cuts_reply : {A B : Type 0} (min max min' max' : ℕ) (left : Remaining) (first : Result (A × Remaining) ClientFault)
+    (f : A × Remaining → Result (B × Remaining) ClientFault)
+    → CutsReply min max left first → ((read : A × Remaining) → CutsReply min' max' read.1 (f read))
     → CutsReply (min + min') (max + max') left (first >>= f)
 bind_cuts_reply min max min' max' left (Ok read) f one h =
     cuts_reply_behind min max min' max' left read.1 (f read) one (h read)
 bind_cuts_reply min max min' max' left (Err fault) f one h = one
 
-cut_reply_leaves : {A : Type 0} (min max : ℕ) (left : Unread) (first : Result (A × Unread) ClientFault)
-    (read : A × Unread) → CutsReply min max left first → first ≡ Ok read
+cut_reply_leaves : {A : Type 0} (min max : ℕ) (left : Remaining) (first : Result (A × Remaining) ClientFault)
+    (read : A × Remaining) → CutsReply min max left first → first ≡ Ok read
     → length left.bytes ≤ length read.1.bytes + max
 cut_reply_leaves {A = A} min max left first read one is =
-    let c : IsCut min max left read.1 = let P : Result (A × Unread) ClientFault → Type 0 =
+    let c : IsCut min max left read.1 = let P : Result (A × Remaining) ClientFault → Type 0 =
     λ r. CutsReply min max left r in subst P is one in
-    omega (arith, ap (λ (u : Unread). length u.bytes) c.cut, length-drop c.count left.bytes, c.there, c.most)
+    omega (arith, ap (λ (u : Remaining). length u.bytes) c.cut, length-drop c.count left.bytes, c.there, c.most)
 
-reply_then : {A B : Type 0} (min max min' max' : ℕ) (read : Unread → Result (A × Unread) ClientFault)
-    (f : A → Unread → Result (B × Unread) ClientFault)
+reply_then : {A B : Type 0} (min max min' max' : ℕ) (read : Remaining → Result (A × Remaining) ClientFault)
+    (f : A → Remaining → Result (B × Remaining) ClientFault)
     → IsLocalReply min max read → ((value : A) → IsLocalReply min' max' (f value))
     → IsLocalReply (min + min') (max + max') (λ left. read left >>= (λ one. f one.0 one.1))
 reply_then min max min' max' read f one other = record {
@@ -133,19 +135,19 @@ reply_ok max value = record {
   };
 }
 
-reply_choice : {V : Type 0} (min max : ℕ) (b : Bool) (one other : Unread → Result (V × Unread) ClientFault)
+reply_choice : {V : Type 0} (min max : ℕ) (b : Bool) (one other : Remaining → Result (V × Remaining) ClientFault)
     → IsLocalReply min max one → IsLocalReply min max other
     → IsLocalReply min max (λ left. cond b (one left) (other left))
 reply_choice min max true one other h k = h
 reply_choice min max false one other h k = k
 
-cuts_reply_wider : {V : Type 0} (min max min' max' : ℕ) (left : Unread) (read : Result (V × Unread) ClientFault)
+cuts_reply_wider : {V : Type 0} (min max min' max' : ℕ) (left : Remaining) (read : Result (V × Remaining) ClientFault)
     → min' ≤ min → max ≤ max' → CutsReply min max left read → CutsReply min' max' left read
 cuts_reply_wider {V = V} min max min' max' left (Ok read) low high c =
     cuts_wider {V = V} min max min' max' left (Ok read) low high c
 cuts_reply_wider min max min' max' left (Err fault) low high c = c
 
-reply_wider : {V : Type 0} (min max min' max' : ℕ) (read : Unread → Result (V × Unread) ClientFault) → min' ≤ min
+reply_wider : {V : Type 0} (min max min' max' : ℕ) (read : Remaining → Result (V × Remaining) ClientFault) → min' ≤ min
     → max ≤ max' → IsLocalReply min max read → IsLocalReply min' max' read
 reply_wider min max min' max' read low high h = record {
   moves = λ n more left enough. h.moves n more left (enough_less max max' left more high enough);
@@ -194,11 +196,11 @@ local_item =
 -- ---- the head
 
 -- what is left there, where a head was read
-abbrev pub moved_head : List ℕ → Result Unread ClientFault → Result Unread ClientFault
+abbrev pub moved_head : List ℕ → Result Remaining ClientFault → Result Remaining ClientFault
 moved_head more (Ok left) = Ok (record { at = left.at; bytes = left.bytes ++ more })
 moved_head more (Err fault) = Err fault
 
-by_head_moved : (more : List ℕ) (head : ReplyHead) (left : Unread)
+by_head_moved : (more : List ℕ) (head : ReplyHead) (left : Remaining)
     → by_head head (onward 0 more left) ≡ moved_head more (by_head head left)
 by_head_moved more Success left =
     ap (λ (at : ℕ). Ok (record { at = at; bytes = left.bytes ++ more })) (zero-add left.at)
@@ -210,16 +212,16 @@ by_head_moved more SystemErr left = refl
 by_head_moved more (RpcMismatch low high) left = refl
 by_head_moved more (AuthError number) left = refl
 
-by_xid_moved : (more : List ℕ) (xid got : ℕ) (head : ReplyHead) (left : Unread) (b : Bool) → eqb got xid ≡ b
+by_xid_moved : (more : List ℕ) (xid got : ℕ) (head : ReplyHead) (left : Remaining) (b : Bool) → eqb got xid ≡ b
     → by_xid xid got head (onward 0 more left) ≡ moved_head more (by_xid xid got head left)
 by_xid_moved more xid got head left true e = rw e (by_head_moved more head left)
 by_xid_moved more xid got head left false e = rw e refl
 
 -- the results, by what was read of the reply's head
-abbrev pub results_by : ℕ → Result ((ℕ × ReplyHead) × Unread) ClientFault → Result Unread ClientFault
+abbrev pub results_by : ℕ → Result ((ℕ × ReplyHead) × Remaining) ClientFault → Result Remaining ClientFault
 results_by xid read = read >>= (λ x. by_xid xid x.0.0 x.0.1 x.1)
 
-results_by_moved : (xid : ℕ) (more : List ℕ) (read : Result ((ℕ × ReplyHead) × Unread) XdrFault)
+results_by_moved : (xid : ℕ) (more : List ℕ) (read : Result ((ℕ × ReplyHead) × Remaining) XdrFault)
     → results_by xid (of_reply (moved 0 more read)) ≡ moved_head more (results_by xid (of_reply read))
 results_by_moved xid more (Ok read) = by_xid_moved more xid read.0.0 read.0.1 read.1 _ refl
 results_by_moved xid more (Err fault) =
@@ -233,7 +235,7 @@ results_moved xid front more enough =
     ∙ results_by_moved xid more (reply_at (record { at = 0; bytes = front }))
 
 -- the results are what is behind the first bytes of the reply
-by_xid_left : (xid got : ℕ) (head : ReplyHead) (left rest : Unread) (b : Bool) → eqb got xid ≡ b
+by_xid_left : (xid got : ℕ) (head : ReplyHead) (left rest : Remaining) (b : Bool) → eqb got xid ≡ b
     → by_xid xid got head left ≡ Ok rest → left ≡ rest
 by_xid_left xid got Success left rest true e is = let h = rw e at is in cc
 by_xid_left xid got ProgUnavail left rest true e is = let h = rw e at is in absurd cc
@@ -245,13 +247,13 @@ by_xid_left xid got (RpcMismatch low high) left rest true e is = let h = rw e at
 by_xid_left xid got (AuthError number) left rest true e is = let h = rw e at is in absurd cc
 by_xid_left xid got head left rest false e is = let h = rw e at is in absurd cc
 
-results_by_cut : (xid : ℕ) (left rest : Unread) (read : Result ((ℕ × ReplyHead) × Unread) XdrFault)
+results_by_cut : (xid : ℕ) (left rest : Remaining) (read : Result ((ℕ × ReplyHead) × Remaining) XdrFault)
     → Cuts 12 432 left read → results_by xid (of_reply read) ≡ Ok rest → IsCut 12 432 left rest
 results_by_cut xid left rest (Ok read) c is =
-    subst (λ (u : Unread). IsCut 12 432 left u) (by_xid_left xid read.0.0 read.0.1 read.1 rest _ refl is) c
+    subst (λ (u : Remaining). IsCut 12 432 left u) (by_xid_left xid read.0.0 read.0.1 read.1 rest _ refl is) c
 results_by_cut xid left rest (Err fault) c is = absurd cc
 
-pub results_cut : (xid : ℕ) (front : List ℕ) (rest : Unread) → results_of xid front ≡ Ok rest
+pub results_cut : (xid : ℕ) (front : List ℕ) (rest : Remaining) → results_of xid front ≡ Ok rest
     → IsCut 12 432 (record { at = 0; bytes = front }) rest
 results_cut xid front rest is =
     results_by_cut xid (record { at = 0; bytes = front }) rest (reply_at (record { at = 0; bytes = front }))

@@ -13,11 +13,13 @@ use borrow.Rule.Slice.PartMut.{put_mid, post_of}
 use Rattle.yp_rpc.specs.declared.record.RecordFault.{RecordFault}
 use Rattle.yp_rpc.specs.declared.record.RecordFault.TheVariants.{Torn, TooLong, ReadFault}
 use Rattle.yp_rpc.specs.Records.{joined}
-use Rattle.yp_rpc.specs.Pieces.{Reader, not_begun, HasGiven, Gives, HasNoPiece}
+use Rattle.yp_rpc.specs.Pieces.{ReaderState, not_begun}
+use Rattle.yp_rpc.specs.inside.Pieces.{HasGiven, GivesPiece, HasNoPiece}
 use Rattle.yp_client.specs.declared.all.AllReply.{AllReply}
 use Rattle.yp_client.specs.Limits.{all_max}
-use Rattle.yp_client.specs.Windows.{waiting, StandsIn, Progress, progress, HasRead, HasReached, GivesMore, IsUnderway}
-use Rattle.yp_client.specs.Windows.{StaysWhole}
+use Rattle.yp_client.specs.inside.Windows.{waiting, StandsIn, RecordProgress, progress, HasRead, HasReadUpTo, GivesMore}
+use Rattle.yp_client.specs.inside.Windows.{IsUnderway}
+use Rattle.yp_client.specs.inside.Windows.{StaysWhole}
 
 -- ---- the bytes in the buffer
 
@@ -62,20 +64,20 @@ is_nil (x ∷ xs) none = absurd (omega arith)
 
 -- ---- what the record gave
 
-pub gives_nothing : (now : Progress) → GivesMore [] now now
-gives_nothing now = λ front start place h. subst (λ (bytes : List ℕ). HasReached bytes start place now)
+pub gives_nothing : (now : RecordProgress) → GivesMore [] now now
+gives_nothing now = λ front start place h. subst (λ (bytes : List ℕ). HasReadUpTo bytes start place now)
     (sym (append-nil front)) h
 
-pub gives_then : (more others : List ℕ) (was mid now : Progress) → GivesMore more was mid → GivesMore others mid now
+pub gives_then : (more others : List ℕ) (was mid now : RecordProgress) → GivesMore more was mid → GivesMore others mid now
     → GivesMore (more ++ others) was now
 gives_then more others was mid now one other = λ front start place h.
-    subst (λ (bytes : List ℕ). HasReached bytes start place now) (append_assoc front more others)
+    subst (λ (bytes : List ℕ). HasReadUpTo bytes start place now) (append_assoc front more others)
     (other (front ++ more) start place (one front start place h))
 
 -- by one piece, which is empty at the record's end
-gives_by : (front piece : List ℕ) (start input : Option (List ℕ)) (old new : Reader) (count : ℕ) (b : Bool)
+gives_by : (front piece : List ℕ) (start input : Option (List ℕ)) (old new : ReaderState) (count : ℕ) (b : Bool)
     (place : ℕ) → (count == 0) ≡ b → length piece ≡ count → old.place ≡ place
-    → Gives all_max front piece start input old new → HasRead (front ++ piece) start place input new b
+    → GivesPiece all_max front piece start input old new → HasRead (front ++ piece) start place input new b
 gives_by front piece start input old new count true place e len at g =
     let zero : count ≡ 0 = elim
     (eqb_tells count 0) [ inl w ↦ w.1 | inr w ↦ absurd (let c : true ≡ false = sym e ∙ w.0 in cc) ] in
@@ -91,10 +93,10 @@ gives_by front piece start input old new count false place e len at g =
     let given = g.more some in
     (given.0, given.1 ∙ at)
 
-pub gives_piece : (piece : List ℕ) (input input' : Option (List ℕ)) (old new : Reader) (count : ℕ)
+pub gives_piece : (piece : List ℕ) (input input' : Option (List ℕ)) (old new : ReaderState) (count : ℕ)
     → length piece ≡ count
     → ((front : List ℕ) (start : Option (List ℕ)) → HasGiven all_max front start input old.part
-    → Gives all_max front piece start input' old new)
+    → GivesPiece all_max front piece start input' old new)
     → GivesMore piece (progress input old false) (progress input' new (count == 0))
 gives_piece piece input input' old new count len given =
     λ front start place h. gives_by front piece start input' old new count (count == 0) place refl len h.1
@@ -113,7 +115,7 @@ joined_push pieces piece =
       length-append piece [],
     )
 
-given_within : (front : List ℕ) (start now : Option (List ℕ)) (reader : Reader)
+given_within : (front : List ℕ) (start now : Option (List ℕ)) (reader : ReaderState)
     → HasGiven all_max front start now reader.part → length front ≤ all_max
 given_within front start now reader (inl h) = omega (arith, ap length h.1)
 given_within front start now reader (inr h) =
@@ -127,18 +129,18 @@ given_within front start now reader (inr h) =
       h.within.len,
     )
 
-read_within : (front : List ℕ) (start : Option (List ℕ)) (place : ℕ) (input : Option (List ℕ)) (reader : Reader)
+read_within : (front : List ℕ) (start : Option (List ℕ)) (place : ℕ) (input : Option (List ℕ)) (reader : ReaderState)
     (whole : Bool) → HasRead front start place input reader whole → length front ≤ all_max
 read_within front start place input reader false h = given_within front start input reader h.0
 read_within front start place input reader true h =
     let f = h.0.fragments in
     omega (arith, ap length f.whole, length-append (joined f.pieces) f.last, joined_push f.pieces f.last, f.within.len)
 
-pub underway_within : (count : ℕ) (now : Progress) → IsUnderway count now → count ≤ all_max
+pub underway_within : (count : ℕ) (now : RecordProgress) → IsUnderway count now → count ≤ all_max
 underway_within count now h =
     omega (arith, h.counted, read_within h.front h.start h.place now.input now.reader now.whole h.reached)
 
-pub underway_more : (count count' : ℕ) (more : List ℕ) (was now : Progress) → GivesMore more was now
+pub underway_more : (count count' : ℕ) (more : List ℕ) (was now : RecordProgress) → GivesMore more was now
     → count' ≡ count + length more → IsUnderway count was → IsUnderway count' now
 underway_more count count' more was now given size h = record {
   front = h.front ++ more;
@@ -149,8 +151,8 @@ underway_more count count' more was now given size h = record {
 }
 
 -- a record that begins
-pub begun_here : (input : Option (List ℕ)) (reader : Reader) → reader.part ≡ not_begun
-    → HasReached [] input reader.place (progress input reader false)
+pub begun_here : (input : Option (List ℕ)) (reader : ReaderState) → reader.part ≡ not_begun
+    → HasReadUpTo [] input reader.place (progress input reader false)
 begun_here input reader new = (inl (new, refl, Consumes-nil input), refl)
 
 -- ---- why it gives no more
@@ -180,8 +182,8 @@ no_piece_at place place' before mid now start new fault same rose cause =
 
 -- a piece that doesn't come, of a record that isn't at its end
 pub no_piece : (front : List ℕ) (start : Option (List ℕ)) (place before mid now : ℕ) (input new : Option (List ℕ))
-    (old : Reader) (whole : Bool) (fault : RecordFault) → whole ≡ false → before ≤ mid
-    → HasReached front start place (progress input old whole)
+    (old : ReaderState) (whole : Bool) (fault : RecordFault) → whole ≡ false → before ≤ mid
+    → HasReadUpTo front start place (progress input old whole)
     → ((front : List ℕ) (start : Option (List ℕ)) → HasGiven all_max front start input old.part
     → HasNoPiece all_max old.place start new mid now fault)
     → HasNoPiece all_max place start new before now fault
@@ -192,7 +194,7 @@ no_piece front start place before mid now input new old false fault going rose r
 -- ---- reading on
 
 -- More of the record was read into the buffer.
-pub record ReadsOn (old new : AllReply) (buf buf' : List ℕ) (was now : Progress) : Type 0 where
+pub record ReadsOn (old new : AllReply) (buf buf' : List ℕ) (was now : RecordProgress) : Type 0 where
   pub more : List ℕ
   pub stays : StaysWhole more old.whole new.whole
   pub given : GivesMore more was now
@@ -200,7 +202,7 @@ pub record ReadsOn (old new : AllReply) (buf buf' : List ℕ) (was now : Progres
   pub stands : StandsIn new buf'
   pub same : new ≡ record old { end = new.end; whole = new.whole }
 
-pub reads_nothing : (reply : AllReply) (buf : List ℕ) (now : Progress) → StandsIn reply buf
+pub reads_nothing : (reply : AllReply) (buf : List ℕ) (now : RecordProgress) → StandsIn reply buf
     → ReadsOn reply reply buf buf now now
 reads_nothing reply buf now stands =
     record {
@@ -224,11 +226,11 @@ put_within a k n xs ys within fits =
     )
 
 -- by one piece more
-pub reads_more : (old mid new : AllReply) (k count : ℕ) (buf buf' room : List ℕ) (was : Progress)
-    (input input' : Option (List ℕ)) (reader reader' : Reader)
+pub reads_more : (old mid new : AllReply) (k count : ℕ) (buf buf' room : List ℕ) (was : RecordProgress)
+    (input input' : Option (List ℕ)) (reader reader' : ReaderState)
     → ReadsOn old mid buf buf' was (progress input reader mid.whole) → mid.whole ≡ false → count ≤ length room
     → ((front : List ℕ) (start : Option (List ℕ)) → HasGiven all_max front start input reader.part
-    → Gives all_max front (take count room) start input' reader reader')
+    → GivesPiece all_max front (take count room) start input' reader reader')
     → new ≡ record mid { end = mid.end + count; whole = (count == 0) }
     → ReadsOn old new buf (put_mid mid.end k buf' room) was (progress input' reader' new.whole)
 reads_more old mid new k count buf buf' room was input input' reader reader' so_far going few piece is =
@@ -252,22 +254,22 @@ reads_more old mid new k count buf buf' room was input input' reader reader' so_
 -- ---- skipping the rest
 
 -- More of the record was read, up to a place, and none where it was at its end.
-pub record Skips (was now : Progress) (at : ℕ) : Type 0 where
+pub record Skips (was now : RecordProgress) (at : ℕ) : Type 0 where
   pub more : List ℕ
   pub given : GivesMore more was now
   pub ended : StaysWhole more was.whole now.whole
   pub underway : IsUnderway at now
 
-pub skips_nothing : (now : Progress) (at : ℕ) → IsUnderway at now → Skips now now at
+pub skips_nothing : (now : RecordProgress) (at : ℕ) → IsUnderway at now → Skips now now at
 skips_nothing now at underway =
     record { more = []; given = gives_nothing now; ended = λ whole. (refl, whole); underway = underway }
 
 -- one piece more
-pub skips_more : (was : Progress) (at count : ℕ) (room : List ℕ) (input input' : Option (List ℕ))
-    (reader reader' : Reader) (whole : Bool)
+pub skips_more : (was : RecordProgress) (at count : ℕ) (room : List ℕ) (input input' : Option (List ℕ))
+    (reader reader' : ReaderState) (whole : Bool)
     → Skips was (progress input reader whole) at → whole ≡ false → count ≤ length room
     → ((front : List ℕ) (start : Option (List ℕ)) → HasGiven all_max front start input reader.part
-    → Gives all_max front (take count room) start input' reader reader')
+    → GivesPiece all_max front (take count room) start input' reader reader')
     → Skips was (progress input' reader' (count == 0)) (at + count)
 skips_more was at count room input input' reader reader' true so_far going few piece = absurd cc
 skips_more was at count room input input' reader reader' false so_far going few piece =
@@ -292,7 +294,7 @@ falls_by count at false e within =
     omega (arith, nonzero)
 
 -- what is left of the record falls
-pub skip_falls : (was : Progress) (at count : ℕ) (input : Option (List ℕ)) (reader : Reader) (whole : Bool)
+pub skip_falls : (was : RecordProgress) (at count : ℕ) (input : Option (List ℕ)) (reader : ReaderState) (whole : Bool)
     → whole ≡ false → Skips was (progress input reader (count == 0)) (at + count)
     → all_max - (at + count) + cond (count == 0) 0 1 < all_max - at + cond whole 0 1
 skip_falls was at count input reader true going h = absurd cc
@@ -300,13 +302,13 @@ skip_falls was at count input reader false going h =
     falls_by count at (count == 0) refl (underway_within (at + count) (progress input reader (count == 0)) h.underway)
 
 -- the same count, written otherwise
-pub underway_same : (count count' : ℕ) (now : Progress) → count' ≡ count → IsUnderway count now → IsUnderway count' now
+pub underway_same : (count count' : ℕ) (now : RecordProgress) → count' ≡ count → IsUnderway count now → IsUnderway count' now
 underway_same count count' now same h =
     record { front = h.front; start = h.start; place = h.place; reached = h.reached; counted = h.counted ∙ sym same }
 
 -- a record of which all was read
-pub whole_reached : (front : List ℕ) (start : Option (List ℕ)) (place : ℕ) (input : Option (List ℕ)) (reader : Reader)
-    (whole : Bool) → whole ≡ true → HasReached front start place (progress input reader whole)
-    → HasReached front start place (progress input reader true)
+pub whole_reached : (front : List ℕ) (start : Option (List ℕ)) (place : ℕ) (input : Option (List ℕ)) (reader : ReaderState)
+    (whole : Bool) → whole ≡ true → HasReadUpTo front start place (progress input reader whole)
+    → HasReadUpTo front start place (progress input reader true)
 whole_reached front start place input reader true is h = h
 whole_reached front start place input reader false is h = absurd cc

@@ -1,24 +1,12 @@
 -- The bytes of each call, by the number that it has (yp.x).
-use Rattle.std.specs.Prelude.{ℕ, List, []}
-use Rattle.yp_xdr.specs.Kind.{Fixed, Value}
+use Rattle.std.specs.Prelude.{ℕ, List}
+use Rattle.yp_xdr.specs.Kind.{Value}
 use Rattle.yp_rpc.specs.Called.{call_of}
-use Rattle.yp_msgs.specs.Numbers.{program, version, null_procedure, domain_procedure, match_procedure}
-use Rattle.yp_msgs.specs.Numbers.{first_procedure, next_procedure, xfr_procedure, clear_procedure, all_procedure}
-use Rattle.yp_msgs.specs.Numbers.{master_procedure, order_procedure, maplist_procedure, make_program, make_version}
-use Rattle.yp_msgs.specs.Numbers.{make_procedure}
-use Rattle.yp_msgs.specs.Messages.{req_domain, req_key, req_nokey}
-use Rattle.yp_msgs.specs.Transfers.{req_xfr, req_make}
-
--- a procedure without arguments: they have no bytes
-abbrev pub null_call : ℕ → List ℕ
-null_call xid = call_of (Fixed 0) xid program version null_procedure []
-
-abbrev pub clear_call : ℕ → List ℕ
-clear_call xid = call_of (Fixed 0) xid program version clear_procedure []
-
--- of a domain
-abbrev pub domain_call : List ℕ → ℕ → List ℕ
-domain_call domain xid = call_of req_domain xid program version domain_procedure domain
+use Rattle.yp_messages.specs.Numbers.{program, version, match_procedure}
+use Rattle.yp_messages.specs.Numbers.{first_procedure, next_procedure, xfr_procedure, all_procedure}
+use Rattle.yp_messages.specs.Numbers.{master_procedure, order_procedure, maplist_procedure}
+use Rattle.yp_messages.specs.Messages.{req_domain, req_key, req_nokey}
+use Rattle.yp_messages.specs.Transfers.{req_xfr}
 
 abbrev pub maplist_call : List ℕ → ℕ → List ℕ
 maplist_call domain xid = call_of req_domain xid program version maplist_procedure domain
@@ -46,7 +34,3 @@ next_call domain map key xid = call_of req_key xid program version next_procedur
 -- of a transfer
 abbrev pub xfr_call : Value req_xfr → ℕ → List ℕ
 xfr_call request xid = call_of req_xfr xid program version xfr_procedure request
-
--- of the make program: a map of a domain, by the number of its kind
-abbrev pub make_call : List ℕ → ℕ → ℕ → List ℕ
-make_call domain kind xid = call_of req_make xid make_program make_version make_procedure (domain, kind)

@@ -16,30 +16,24 @@ use Rattle.yp_client.specs.States.{ClientState}
 
 -- What the output took: the record of the call, which was flushed; a front of it where the output failed; and nothing
 -- of a spent client.
-abbrev pub Sends : {X : Type 0} → List ℕ → Result X ClientFault → WireState → WireState → Type 0
-Sends call (Err Spent) before after = Keeps before.output after.output
-Sends call (Err WriteFault) before after = (n : ℕ) × Appends before.output after.output (take n (sent call))
-Sends call result before after = Appends before.output after.output (sent call) × IsTrue after.flushed
+abbrev pub SendsCall : {X : Type 0} → List ℕ → Result X ClientFault → WireState → WireState → Type 0
+SendsCall call (Err Spent) before after = Keeps before.output after.output
+SendsCall call (Err WriteFault) before after = (n : ℕ) × Appends before.output after.output (take n (sent call))
+SendsCall call result before after = Appends before.output after.output (sent call) × IsTrue after.flushed
 
 -- The reply was waited for when the record of the call was out and flushed, and not before: the wire was then as it is
 -- behind the call, but for its input, of which nothing was read.
-abbrev pub Waits : {X : Type 0} → Result X ClientFault → WireState → WireState → WireState → Type 0
-Waits (Err Spent) waited before after = ⊤
-Waits (Err WriteFault) waited before after = ⊤
-Waits result waited before after = waited ≡ wire_state before.input after.output after.flushed
+abbrev pub WaitsForReply : {X : Type 0} → Result X ClientFault → WireState → WireState → WireState → Type 0
+WaitsForReply (Err Spent) waited before after = ⊤
+WaitsForReply (Err WriteFault) waited before after = ⊤
+WaitsForReply result waited before after = waited ≡ wire_state before.input after.output after.flushed
 
 -- The whole reply was read, and the call answers by it. What was taken of the input fixes the reply.
-pub record Hears {X : Type 0} (limit : ℕ) (answers : List ℕ → Result X ClientFault → Type 0)
+pub record HearsReply {X : Type 0} (limit : ℕ) (answers : List ℕ → Result X ClientFault → Type 0)
     (result : Result X ClientFault) (old new : ClientState) : Type 0 where
   pub reply : List ℕ
   pub taken : TakesRecord limit reply old.wire.input new.wire.input old.place new.place
   pub answered : answers reply result
-
--- the fault of a call that has no reply
-abbrev pub of_record : RecordFault → ClientFault
-of_record (record_faults.Torn at) = Torn at
-of_record (record_faults.TooLong at) = TooLong at
-of_record record_faults.ReadFault = ReadFault
 
 -- the cause of a fault of a record
 abbrev pub RecordHasCause : ℕ → RecordFault → ClientState → ClientState → Type 0
@@ -64,7 +58,7 @@ Answers limit answers (Err WriteFault) old new = NoReply limit WriteFault old ne
 Answers limit answers (Err ReadFault) old new = NoReply limit ReadFault old new
 Answers limit answers (Err (Torn at)) old new = NoReply limit (Torn at) old new
 Answers limit answers (Err (TooLong at)) old new = NoReply limit (TooLong at) old new
-Answers limit answers result old new = Hears limit answers result old new
+Answers limit answers result old new = HearsReply limit answers result old new
 
 -- whether a client is spent by an answer
 abbrev pub spends : {X : Type 0} → Result X ClientFault → Bool
@@ -75,23 +69,15 @@ spends (Err (Rows row fault)) = false
 spends (Err NoMemory) = false
 spends result = true
 
--- One call: its bytes and its answers, by the number that it has.
+-- What one call of a client does. The bytes of the call, and what its reply says, depend on the number (xid) of the
+-- call.
 pub record Calls {X : Type 0} (limit : ℕ) (call : ℕ → List ℕ) (answers : ℕ → List ℕ → Result X ClientFault → Type 0)
     (result : Result X ClientFault) (old new : ClientState) : Type 0 where
-  pub sent : Sends (call old.xid) result old.wire new.wire
-  pub waited : Waits result new.waited old.wire new.wire
+  pub sent : SendsCall (call old.xid) result old.wire new.wire
+  pub waited : WaitsForReply result new.waited old.wire new.wire
   pub answered : Answers limit (answers old.xid) result old new
   pub exactly : (result ≡ Err Spent) ↔ (old.spent ≡ true)
   pub spent : new.spent ≡ spends result
   pub xid : new.xid ≡ (if old.spent then old.xid else (old.xid + 1) % 2 ^ 32)
   pub reads : old.reads ≤ new.reads
   pub writes : old.writes ≤ new.writes
-
--- These come of a reply alone.
-abbrev pub IsOfReply : {X : Type 0} → Result X ClientFault → Type 0
-IsOfReply (Err Spent) = ⊥
-IsOfReply (Err WriteFault) = ⊥
-IsOfReply (Err ReadFault) = ⊥
-IsOfReply (Err (Torn at)) = ⊥
-IsOfReply (Err (TooLong at)) = ⊥
-IsOfReply result = Unit {0}

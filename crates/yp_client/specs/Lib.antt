@@ -3,9 +3,9 @@ pub mod Results
 pub mod Said
 pub mod Asked
 pub mod States
+pub mod Dialed
 pub mod Calls
 pub mod All
-pub mod Windows
-pub mod Listed
-pub mod Lent
 pub mod Questions
+pub mod query
+pub mod inside

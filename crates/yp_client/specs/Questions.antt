@@ -1,8 +1,7 @@
 -- What a client asks of a server.
-use Rattle.std.specs.Prelude.{ℕ, ◌≤◌, List, length, Vec}
+use Rattle.std.specs.Prelude.{ℕ, List, Vec}
 use Rattle.std.specs.Option.{option_map}
 use Rattle.std.specs.declared.alloc.Global.{Global}
-use Rattle.yp_msgs.specs.Numbers.{name_max, key_max}
 use Rattle.yp_client.specs.declared.question.Question.{Question}
 use Rattle.yp_client.specs.declared.question.Question.TheVariants.{Cat, Catk, Match, Which, Poll, Maps, Innetgr}
 
@@ -23,14 +22,3 @@ ByteQuestion = Question (List ℕ)
 
 abbrev pub bytes_of : Question (Vec ℕ Global) → ByteQuestion
 bytes_of question = question_map (λ bytes. bytes.items) question
-
--- its names and its key are within their limits
-abbrev pub QuestionIsWithin : ByteQuestion → Type 0
-QuestionIsWithin (Cat domain map) = (length domain ≤ name_max) × (length map ≤ name_max)
-QuestionIsWithin (Catk domain map) = (length domain ≤ name_max) × (length map ≤ name_max)
-QuestionIsWithin (Match domain map key) =
-    (length domain ≤ name_max) × (length map ≤ name_max) × (length key ≤ key_max)
-QuestionIsWithin (Which domain map) = (length domain ≤ name_max) × (length map ≤ name_max)
-QuestionIsWithin (Poll domain map) = (length domain ≤ name_max) × (length map ≤ name_max)
-QuestionIsWithin (Maps domain) = length domain ≤ name_max
-QuestionIsWithin (Innetgr domain group host user user_domain) = length domain ≤ name_max

@@ -1,22 +1,21 @@
 -- What a reply says to a call: the value of its results, or the first refusal that its bytes meet, in the order of the
--- reply (RFC 5531
--- section 9, yp.x).
-use Rattle.std.specs.Prelude.{◌≡◌, ℕ, ◌+◌, ◌≤◌, ℤ, pos, negsuc, Bool, List, Result, Ok, Err, ⊤, ◌==◌, if◌then◌else◌}
+-- reply (RFC 5531 section 9, RFC 4506, yp.x).
+use Rattle.std.specs.Prelude.{◌≡◌, ℕ, ℤ, pos, negsuc, List, Result, Ok, Err, ⊤, ◌==◌, if◌then◌else◌}
 use Rattle.std.specs.Ordering.{int_eq}
 use Rattle.yp_xdr.specs.declared.fault.XdrFault.{XdrFault}
 use Rattle.yp_xdr.specs.Faults.{fault_place}
-use Rattle.yp_xdr.specs.Kind.{Kind, U32, Boolean, Opaque, Value}
-use Rattle.yp_xdr.specs.Reading.{Unread, reading}
+use Rattle.yp_xdr.specs.Kind.{Kind, U32, Opaque, Value}
+use Rattle.yp_xdr.specs.Reading.{Remaining, reading}
 use Rattle.yp_rpc.specs.declared.reply.ReplyHead.{ReplyHead}
 use Rattle.yp_rpc.specs.declared.reply.ReplyHead.TheVariants.{Success}
 use Rattle.yp_rpc.specs.Read.{reply_at}
-use Rattle.yp_msgs.specs.declared.stat.YpStat.{YpStat}
-use Rattle.yp_msgs.specs.declared.stat.YpStat.TheVariants as stats
-use Rattle.yp_msgs.specs.Numbers.{key_max, value_max}
-use Rattle.yp_msgs.specs.Statuses.{stat}
-use Rattle.yp_msgs.specs.Messages.{name}
-use Rattle.yp_msgs.specs.MapLists.{map_list}
-use Rattle.yp_msgs.specs.Transfers.{resp_xfr, resp_make}
+use Rattle.yp_messages.specs.declared.stat.YpStat.{YpStat}
+use Rattle.yp_messages.specs.declared.stat.YpStat.TheVariants as stats
+use Rattle.yp_messages.specs.Numbers.{key_max, value_max}
+use Rattle.yp_messages.specs.Statuses.{stat}
+use Rattle.yp_messages.specs.Messages.{name}
+use Rattle.yp_messages.specs.MapLists.{map_list}
+use Rattle.yp_messages.specs.Transfers.{resp_xfr}
 use Rattle.yp_client.specs.declared.fault.ClientFault.{ClientFault}
 use Rattle.yp_client.specs.declared.fault.ClientFault.TheVariants.{Yp, Denied, BadReply, BadXid, NoMemory}
 
@@ -25,36 +24,26 @@ abbrev pub ◌>>=◌ : {A B : Type 0} → Result A ClientFault → (A → Result
 (Ok x) >>= f = f x
 (Err fault) >>= f = Err fault
 
--- a fault that was found behind so many bytes of a reply
-abbrev pub further : ℕ → ClientFault → ClientFault
-further n (BadReply at) = BadReply (n + at)
-further n fault = fault
-
--- a fault has its place among so many bytes
-abbrev pub IsIn : ℕ → ClientFault → Type 0
-IsIn end (BadReply at) = at ≤ end
-IsIn end fault = ⊤
-
 -- what was read of a reply, where an item that can't be read is a bad reply
 abbrev pub of_reply : {A : Type 0} → Result A XdrFault → Result A ClientFault
 of_reply (Ok read) = Ok read
 of_reply (Err fault) = Err (BadReply (fault_place fault))
 
 -- an item of the reply, and what is left behind it
-abbrev pub item : (kind : Kind) → Unread → Result (Value kind × Unread) ClientFault
+abbrev pub item : (kind : Kind) → Remaining → Result (Value kind × Remaining) ClientFault
 item kind left = of_reply (reading kind left)
 
 -- the results follow a head that is SUCCESS
-abbrev pub by_head : ReplyHead → Unread → Result Unread ClientFault
+abbrev pub by_head : ReplyHead → Remaining → Result Remaining ClientFault
 by_head Success left = Ok left
 by_head head left = Err (Denied head)
 
 -- and that answers the call with this number
-abbrev pub by_xid : ℕ → ℕ → ReplyHead → Unread → Result Unread ClientFault
+abbrev pub by_xid : ℕ → ℕ → ReplyHead → Remaining → Result Remaining ClientFault
 by_xid xid got head left = if got == xid then by_head head left else Err (BadXid xid got)
 
 -- the results of the reply to the call with this number
-abbrev pub results_of : ℕ → List ℕ → Result Unread ClientFault
+abbrev pub results_of : ℕ → List ℕ → Result Remaining ClientFault
 results_of xid message = do
   read ← of_reply (reply_at (record { at = 0; bytes = message }))
   by_xid xid read.0.0 read.0.1 read.1
@@ -75,28 +64,15 @@ stat_with number =
     else stats.Vers)))))))))
 
 -- what is left behind a status, where it is TRUE
-abbrev pub by_stat : ℤ → Unread → Result Unread ClientFault
+abbrev pub by_stat : ℤ → Remaining → Result Remaining ClientFault
 by_stat number left = if int_eq number (pos 1) then Ok left else Err (Yp (stat_with number))
 
-abbrev pub behind_true : Unread → Result Unread ClientFault
+abbrev pub behind_true : Remaining → Result Remaining ClientFault
 behind_true left = do
   status ← item stat left
   by_stat status.0 status.1
 
 -- ---- the values
-
--- of calls without results
-abbrev pub nothing_of : ℕ → List ℕ → Result (Unit {0}) ClientFault
-nothing_of xid message = do
-  left ← results_of xid message
-  Ok tt
-
--- of DOMAIN: whether it is served
-abbrev pub served_of : ℕ → List ℕ → Result Bool ClientFault
-served_of xid message = do
-  left ← results_of xid message
-  served ← item Boolean left
-  Ok served.0
 
 -- of MATCH: the value
 abbrev pub value_of : ℕ → List ℕ → Result (List ℕ) ClientFault
@@ -146,21 +122,14 @@ taken_of xid message = do
   taken ← item resp_xfr left
   Ok taken.0.1
 
--- of MAKE: the number of a status, whichever it is
-abbrev pub made_of : ℕ → List ℕ → Result ℤ ClientFault
-made_of xid message = do
-  left ← results_of xid message
-  made ← item resp_make left
-  Ok made.0
-
 -- ---- what a call answers
 
--- It answers what the reply says, seen by view.
+-- The result is what the reply says, seen by `view`.
 abbrev pub Says : {X V : Type 0} → (X → V) → Result V ClientFault → Result X ClientFault → Type 0
 Says view said (Ok x) = said ≡ Ok (view x)
 Says view said (Err fault) = said ≡ Err fault
 
--- The same, unless memory runs out for what it says.
+-- The result is what the reply says, seen by `view`, or there was no memory for it.
 abbrev pub SaysInMemory : {X V : Type 0} → (X → V) → Result V ClientFault → Result X ClientFault → Type 0
 SaysInMemory view said (Ok x) = said ≡ Ok (view x)
 SaysInMemory view said (Err NoMemory) = ⊤

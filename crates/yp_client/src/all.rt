@@ -1,31 +1,34 @@
 //! The reply to ALL (yp.x), which may be longer than the buffer. It is read piece by piece, and its rows go to a
 //! builder.
 
-ghost use Rattle.std.specs.Prelude.{◌≡◌, ℕ, ◌+◌, ◌-◌, ◌*◌, ◌^◌, ◌<◌, ◌≤◌, ◌⊎◌, true, false, [], ◌++◌, List, Option};
+ghost use Rattle.std.specs.Prelude.{◌≡◌, ℕ, ◌+◌, ◌-◌, ◌*◌, ◌^◌, ◌<◌, ◌≤◌, ◌⊎◌, true, false, [], ◌++◌, List};
 ghost use Rattle.std.specs.Prelude.{length, take, drop, IfOk, IfErr, OnOk, OnErr, option_map, Ok, Err};
-ghost use Rattle.yp_xdr.specs.Reading.{end_of};
-ghost use Rattle.yp_xdr.specs.Cursor.{unread};
-ghost use Rattle.yp_rpc.specs.Pieces.{not_begun, HasNoPiece};
+ghost use Rattle.yp_xdr.specs.inside.Reading.{end_of};
+ghost use Rattle.yp_xdr.specs.inside.Cursor.{unread};
+ghost use Rattle.yp_rpc.specs.Pieces.{not_begun};
+ghost use Rattle.yp_rpc.specs.inside.Pieces.{HasNoPiece};
 ghost use Rattle.yp_rpc.specs.Records.{TakesRecord};
 ghost use Rattle.yp_version.specs.Drafts.{refused, with_row};
 ghost use Rattle.yp_client.specs.Limits.{reply_max, all_max};
 ghost use Rattle.yp_client.specs.Results.{Says};
-ghost use Rattle.yp_client.specs.Calls.{IsOfReply, Sends, Waits, NoReply};
-ghost use Rattle.yp_client.specs.States.{told_by, state_of, unspent};
+ghost use Rattle.yp_client.specs.Calls.{SendsCall, WaitsForReply, NoReply};
+ghost use Rattle.yp_client.specs.inside.Calls.{IsOfReply};
+ghost use Rattle.yp_client.specs.inside.States.{told_by, state_of, unspent};
 ghost use Rattle.yp_client.specs.Asked.{all_call};
-ghost use Rattle.yp_msgs.specs.Messages.{ReqNokeyIsWithin};
-ghost use Rattle.yp_client.specs.All.{row_at, all_item_at, Grows, SaysAll};
-ghost use Rattle.yp_client.specs.Listed.{row_view};
-ghost use Rattle.yp_client.specs.Windows.{IsRefusal};
+ghost use Rattle.yp_messages.specs.inside.Messages.{ReqNokeyIsWithin};
+ghost use Rattle.yp_client.specs.All.{row_at, all_item_at, SaysAll};
+ghost use Rattle.yp_client.specs.inside.All.{Grows};
+ghost use Rattle.yp_client.specs.inside.Listed.{row_view};
+ghost use Rattle.yp_client.specs.inside.Windows.{IsRowRefusal};
 
 use crate::answers::read_results;
-use crate::exchange::{Called, ask};
+use crate::exchange::{RemoteProcedure, ask};
 use crate::fault::ClientFault;
 use crate::limits::ALL_MAX;
 use std::snapshot::Snapshot;
 use yp_io::{Failed, Pair, Sink, Source};
-use yp_msgs::protocol::{ALL, KEY_MAX, VALUE_MAX, YPPROG, YPVERS};
-use yp_msgs::{ReadMessage, ReqNokey, YpStat};
+use yp_messages::protocol::{ALL, KEY_MAX, VALUE_MAX, YPPROG, YPVERS};
+use yp_messages::{ReadMessage, ReqNokey, YpStat};
 use yp_rpc::{RecordFault, RecordReader, RecordWriter};
 use yp_version::{VersionBuilder, VersionFault};
 use yp_xdr::Cursor;
@@ -84,7 +87,7 @@ fn read_item<'a>(cursor: &mut Cursor<'a>) -> Result<Option<ListedRow<'a>>, Clien
 fn push(into: &mut VersionBuilder, number: u32, row: ListedRow<'_>) -> Result<(), ClientFault>
     ensures fits { OnOk result (refused into.old (row_view row.entry) ≡ None) }
     ensures rows { OnOk result (into.new ≡ with_row into.old (row_view row.entry)) }
-    ensures cause { IfErr result (IsRefusal number (refused into.old (row_view row.entry))) }
+    ensures cause { IfErr result (IsRowRefusal number (refused into.old (row_view row.entry))) }
     ensures err { OnErr result (into.new ≡ into.old) }
 {
     match into.push(row.key, row.value) {
@@ -96,9 +99,9 @@ fn push(into: &mut VersionBuilder, number: u32, row: ListedRow<'_>) -> Result<()
 
 impl AllReply {
     ghost use Rattle.std.specs.Prelude.{slice_range};
-    ghost use Rattle.yp_client.specs.Windows.{waiting, ahead, progress, HasReached, GivesMore, IsUnderway, MayCome};
-    ghost use Rattle.yp_client.specs.Windows.{StaysWhole, StandsIn, HasItem};
-    ghost use Rattle.yp_client.specs.Windows.{Heads, Advances, Pushes, SaysSoFar};
+    ghost use Rattle.yp_client.specs.inside.Windows.{waiting, ahead, progress, GivesMore, IsUnderway, MayCome};
+    ghost use Rattle.yp_client.specs.inside.Windows.{StandsIn, HasItem, TakesMore, IsCutOff};
+    ghost use Rattle.yp_client.specs.inside.Windows.{Heads, Advances, PushesRows, SaysSoFar};
 
     /// The reply to the call with this number, of which nothing was read.
     pub fn new(xid: u32) -> AllReply
@@ -135,15 +138,12 @@ impl AllReply {
         buf: &mut [u8],
     ) -> Result<(), RecordFault>
         requires { StandsIn self.old buf.old }
-        ensures more { OnOk result ((more : List ℕ) × StaysWhole more self.old.whole self.new.whole
-            × GivesMore more (progress (S.input source.old) reader.old self.old.whole)
-            (progress (S.input source.new) reader.new self.new.whole)
-            × (waiting self.new buf.new ≡ waiting self.old buf.old ++ more)) }
+        ensures more { OnOk result (TakesMore self.old self.new buf.old buf.new
+            (progress (S.input source.old) reader.old self.old.whole)
+            (progress (S.input source.new) reader.new self.new.whole)) }
         ensures full { OnOk result ((self.new.end ≡ length buf.new) ⊎ (self.new.whole ≡ true)) }
-        ensures cause { (front : List ℕ) (start : Option (List ℕ)) (place : ℕ)
-            → HasReached front start place (progress (S.input source.old) reader.old self.old.whole)
-            → IfErr result (HasNoPiece all_max place start (S.input source.new) (S.faults source.old)
-            (S.faults source.new)) }
+        ensures cause { IsCutOff result (progress (S.input source.old) reader.old self.old.whole)
+            (S.input source.new) (S.faults source.old) (S.faults source.new) }
         ensures stands { StandsIn self.new buf.new }
         ensures same { self.new ≡ record self.old { end = self.new.end; whole = self.new.whole } }
         ensures counted { S.faults source.old ≤ S.faults source.new }
@@ -165,15 +165,12 @@ impl AllReply {
     ) -> Result<(), RecordFault>
         requires stands { StandsIn self.old buf.old }
         requires room { length buf.old ≡ reply_max }
-        ensures more { OnOk result ((more : List ℕ) × StaysWhole more self.old.whole self.new.whole
-            × GivesMore more (progress (S.input source.old) reader.old self.old.whole)
-            (progress (S.input source.new) reader.new self.new.whole)
-            × (waiting self.new buf.new ≡ waiting self.old buf.old ++ more)) }
+        ensures more { OnOk result (TakesMore self.old self.new buf.old buf.new
+            (progress (S.input source.old) reader.old self.old.whole)
+            (progress (S.input source.new) reader.new self.new.whole)) }
         ensures item { OnOk result (HasItem self.new buf.new) }
-        ensures cause { (front : List ℕ) (start : Option (List ℕ)) (place : ℕ)
-            → HasReached front start place (progress (S.input source.old) reader.old self.old.whole)
-            → IfErr result (HasNoPiece all_max place start (S.input source.new) (S.faults source.old)
-            (S.faults source.new)) }
+        ensures cause { IsCutOff result (progress (S.input source.old) reader.old self.old.whole)
+            (S.input source.new) (S.faults source.old) (S.faults source.new) }
         ensures stands { StandsIn self.new buf.new }
         ensures same { self.new ≡ record self.old
             { start = self.new.start; end = self.new.end; whole = self.new.whole } }
@@ -280,7 +277,7 @@ impl AllReply {
             (progress (S.input source.old) reader.old self.old.whole) }
         requires few { self.old.rows ≤ self.old.at }
         ensures pushes { IfOk result
-            (Pushes into.old into.new self.old self.new buf.old
+            (PushesRows into.old into.new self.old self.new buf.old
             (progress (S.input source.old) reader.old self.old.whole)
             (progress (S.input source.new) reader.new self.new.whole)) }
         ensures kept { Grows into.old into.new }
@@ -288,10 +285,8 @@ impl AllReply {
         ensures underway { OnOk result
             (IsUnderway (self.new.at + length (waiting self.new buf.new))
             (progress (S.input source.new) reader.new self.new.whole)) }
-        ensures cause { (front : List ℕ) (start : Option (List ℕ)) (place : ℕ)
-            → HasReached front start place (progress (S.input source.old) reader.old self.old.whole)
-            → IfErr result (HasNoPiece all_max place start (S.input source.new) (S.faults source.old)
-            (S.faults source.new)) }
+        ensures cause { IsCutOff result (progress (S.input source.old) reader.old self.old.whole)
+            (S.input source.new) (S.faults source.old) (S.faults source.new) }
         ensures stands { StandsIn self.new buf.new }
         ensures counted { S.faults source.old ≤ S.faults source.new }
     {
@@ -351,10 +346,8 @@ impl AllReply {
         ensures more { OnOk result ((more : List ℕ) × (MayCome more self.old.whole)
             × GivesMore more (progress (S.input source.old) reader.old self.old.whole)
             (progress (S.input source.new) reader.new true)) }
-        ensures cause { (front : List ℕ) (start : Option (List ℕ)) (place : ℕ)
-            → HasReached front start place (progress (S.input source.old) reader.old self.old.whole)
-            → IfErr result (HasNoPiece all_max place start (S.input source.new) (S.faults source.old)
-            (S.faults source.new)) }
+        ensures cause { IsCutOff result (progress (S.input source.old) reader.old self.old.whole)
+            (S.input source.new) (S.faults source.old) (S.faults source.new) }
         ensures counted { S.faults source.old ≤ S.faults source.new }
     {
         self.pass(self.end - self.start);
@@ -416,9 +409,9 @@ pub fn fetch<S: Source, K: Sink>(
     requires new { reply.old ≡ record { xid = reply.old.xid; start = 0; end = 0; at = 0; whole = false; rows = 0 } }
     ensures idle { writer.new ≡ [] }
     ensures between { OnOk result (reader.new.part ≡ not_begun) }
-    ensures sent { Sends (all_call asked.now.domain.now asked.now.map.now reply.old.xid) result
+    ensures sent { SendsCall (all_call asked.now.domain.now asked.now.map.now reply.old.xid) result
         (told_by S.Source K.Sink wire.old) (told_by S.Source K.Sink wire.new) }
-    ensures waited { Waits result (told_by S.Source K.Sink waited.new.value)
+    ensures waited { WaitsForReply result (told_by S.Source K.Sink waited.new.value)
         (told_by S.Source K.Sink wire.old) (told_by S.Source K.Sink wire.new) }
     ensures says { IfOk result (λ said. (message : List ℕ)
         × TakesRecord all_max message (S.input wire.old.source)
@@ -432,7 +425,7 @@ pub fn fetch<S: Source, K: Sink>(
     ensures reads { S.faults wire.old.source ≤ S.faults wire.new.source }
     ensures writes { K.faults wire.old.sink ≤ K.faults wire.new.sink }
 {
-    let called = Called {
+    let called = RemoteProcedure {
         prog: YPPROG,
         vers: YPVERS,
         procedure: ALL,

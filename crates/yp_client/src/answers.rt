@@ -1,17 +1,20 @@
 //! What a reply says to a call.
 
 ghost use Rattle.std.specs.Prelude.{◌≡◌, ℕ, List, Result, Ok, Err, IfOk, IfErr};
-ghost use Rattle.yp_xdr.specs.Cursor.{unread};
+ghost use Rattle.yp_xdr.specs.inside.Cursor.{unread};
 ghost use Rattle.yp_client.specs.Results.{results_of, behind_true, Says};
-ghost use Rattle.yp_client.specs.Results.{nothing_of, served_of, value_of, row_of, master_of, order_of, maps_of};
-ghost use Rattle.yp_client.specs.Results.{taken_of, made_of};
-ghost use Rattle.yp_client.specs.Calls.{IsOfReply};
-ghost use Rattle.yp_client.specs.Said.{SaysNothing, SaysBool, SaysNumber, SaysBytes, SaysRow, SaysNames, SaysStat};
+ghost use Rattle.yp_client.specs.Results.{value_of, row_of, master_of, order_of, maps_of};
+ghost use Rattle.yp_client.specs.inside.Results.{nothing_of, served_of};
+ghost use Rattle.yp_client.specs.Results.{taken_of};
+ghost use Rattle.yp_client.specs.inside.Results.{made_of};
+ghost use Rattle.yp_client.specs.inside.Calls.{IsOfReply};
+ghost use Rattle.yp_client.specs.Said.{SaysNumber, SaysBytes, SaysNames, SaysStat};
+ghost use Rattle.yp_client.specs.inside.Said.{SaysNothing, SaysBool, SaysRow};
 
 use crate::fault::ClientFault;
 use std::alloc::Global;
-use yp_msgs::protocol::{KEY_MAX, NAME_MAX, VALUE_MAX};
-use yp_msgs::{MapList, MapListFault, ReadMessage, RespMake, RespXfr, XfrStat, YpStat};
+use yp_messages::protocol::{KEY_MAX, NAME_MAX, VALUE_MAX};
+use yp_messages::{MapList, MapListFault, ReadMessage, RespMake, RespXfr, XfrStat, YpStat};
 use yp_rpc::{ReplyHead, read_reply_at};
 use yp_xdr::Cursor;
 
@@ -23,7 +26,7 @@ pub struct Row<'a> {
 }
 
 /// What is taken from the reply to a call.
-pub trait Answer {
+pub trait ProcedureResult {
     type Value;
 
     ghost use Rattle.yp_client.specs.declared.fault.ClientFault.{ClientFault};
@@ -81,9 +84,9 @@ pub trait Lending {
 }
 
 /// No results.
-pub struct Nothing;
+pub struct NullResult;
 
-impl Answer for Nothing {
+impl ProcedureResult for NullResult {
     type Value = ();
 
     ghost answers = { SaysNothing nothing_of };
@@ -95,9 +98,9 @@ impl Answer for Nothing {
 }
 
 /// The result of DOMAIN.
-pub struct Served;
+pub struct DomainResult;
 
-impl Answer for Served {
+impl ProcedureResult for DomainResult {
     type Value = bool;
 
     ghost answers = { SaysBool served_of };
@@ -109,9 +112,9 @@ impl Answer for Served {
 }
 
 /// The result of MATCH.
-pub struct Matched;
+pub struct MatchResult;
 
-impl Lending for Matched {
+impl Lending for MatchResult {
     ghost said = { value_of };
 
     fn read<'m>(&self, message: &'m [u8], xid: u32) -> Result<&'m [u8], ClientFault> {
@@ -122,9 +125,9 @@ impl Lending for Matched {
 }
 
 /// The result of MASTER.
-pub struct Mastered;
+pub struct MasterResult;
 
-impl Lending for Mastered {
+impl Lending for MasterResult {
     ghost said = { master_of };
 
     fn read<'m>(&self, message: &'m [u8], xid: u32) -> Result<&'m [u8], ClientFault> {
@@ -155,9 +158,9 @@ pub fn read_found(message: &[u8], xid: u32) -> Result<Row<'_>, ClientFault>
 }
 
 /// The result of ORDER.
-pub struct Ordered;
+pub struct OrderResult;
 
-impl Answer for Ordered {
+impl ProcedureResult for OrderResult {
     type Value = u32;
 
     ghost answers = { SaysNumber order_of };
@@ -178,9 +181,9 @@ pub fn read_order(message: &[u8], xid: u32) -> Result<u32, ClientFault>
 }
 
 /// The result of MAPLIST.
-pub struct Listed;
+pub struct MaplistResult;
 
-impl Answer for Listed {
+impl ProcedureResult for MaplistResult {
     type Value = MapList;
 
     ghost answers = { SaysNames maps_of };
@@ -198,9 +201,9 @@ impl Answer for Listed {
 }
 
 /// The result of XFR.
-pub struct Taken;
+pub struct XfrResult;
 
-impl Answer for Taken {
+impl ProcedureResult for XfrResult {
     type Value = XfrStat;
 
     ghost answers = { SaysStat taken_of };
@@ -213,9 +216,9 @@ impl Answer for Taken {
 }
 
 /// The result of MAKE.
-pub struct Made;
+pub struct MakeResult;
 
-impl Answer for Made {
+impl ProcedureResult for MakeResult {
     type Value = XfrStat;
 
     ghost answers = { SaysStat made_of };

@@ -6,26 +6,27 @@ ghost use Rattle.yp_xdr.specs.Spelling.{spelling};
 ghost use Rattle.yp_rpc.specs.Called.{call_of};
 ghost use Rattle.yp_version.specs.Rows.{Row as PushedRow};
 ghost use Rattle.yp_version.specs.Drafts.{with_rows, first_refused};
-ghost use Rattle.yp_msgs.specs.Numbers.{name_max};
+ghost use Rattle.yp_messages.specs.Numbers.{name_max};
 ghost use Rattle.yp_client.specs.Limits.{reply_max, all_max};
 ghost use Rattle.yp_client.specs.Asked.{all_call};
 ghost use Rattle.yp_client.specs.All.{SaysAll};
-ghost use Rattle.yp_client.specs.States.{state_of, unspent};
-ghost use Rattle.yp_client.specs.Said.{SaysBytes, SaysRow};
+ghost use Rattle.yp_client.specs.inside.States.{state_of, unspent};
+ghost use Rattle.yp_client.specs.Said.{SaysBytes};
+ghost use Rattle.yp_client.specs.inside.Said.{SaysRow};
 ghost use Rattle.yp_client.specs.Results.{row_of};
 ghost use Rattle.yp_client.specs.Calls.{Calls};
-ghost use Rattle.yp_client.specs.Lent.{ClientRests};
+ghost use Rattle.yp_client.specs.inside.Lent.{ClientRests};
 
 use crate::all::{AllReply, fetch};
-use crate::answers::{Answer, Lending, Row, read_found};
-use crate::exchange::{Called, exchange};
+use crate::answers::{Lending, ProcedureResult, Row, read_found};
+use crate::exchange::{RemoteProcedure, exchange};
 use crate::fault::{ClientFault, is_spent_by};
 use crate::limits::REPLY_MAX;
 use std::alloc::Global;
 use std::marker::Model;
 use std::snapshot::Snapshot;
 use yp_io::{Pair, Sink, Source, zeros};
-use yp_msgs::{Message, ReqNokey};
+use yp_messages::{Message, ReqNokey};
 use yp_rpc::{RecordReader, RecordWriter};
 use yp_version::VersionBuilder;
 
@@ -52,9 +53,9 @@ pub struct Client<S: Source, K: Sink> {
 }
 
 impl<S: Source, K: Sink> Model for Client<S, K> {
-    ghost use Rattle.yp_client.specs.States.{Held};
+    ghost use Rattle.yp_client.specs.States.{ClientModel};
 
-    ghost Value = { Held S K };
+    ghost Value = { ClientModel S K };
 
     ghost use Rattle.std.specs.Prelude.{◌≡◌, false, [], length};
     ghost use Rattle.yp_rpc.specs.Pieces.{not_begun};
@@ -150,9 +151,9 @@ impl<S: Source, K: Sink> Client<S, K> {
     }
 
     /// One call: it is sent, its reply is read whole, and judged.
-    pub(crate) fn call<M: Message, A: Answer>(
+    pub(crate) fn call<M: Message, A: ProcedureResult>(
         &mut self,
-        called: Called,
+        called: RemoteProcedure,
         arguments: &M,
         answer: &A,
     ) -> Result<A::Value, ClientFault>
@@ -185,10 +186,10 @@ impl<S: Source, K: Sink> Client<S, K> {
         judged
     }
 
-    /// The same, where bytes of the reply are lent.
+    /// One call whose value lends bytes of the reply.
     pub(crate) fn lend<M: Message, L: Lending>(
         &mut self,
-        called: Called,
+        called: RemoteProcedure,
         arguments: &M,
         lending: &L,
     ) -> Result<&[u8], ClientFault>
@@ -225,10 +226,10 @@ impl<S: Source, K: Sink> Client<S, K> {
         lending.read(&reply[..len], xid)
     }
 
-    /// The same, where a row of the reply is lent.
+    /// One call whose value is a row that lends bytes of the reply.
     pub(crate) fn lend_row<M: Message>(
         &mut self,
-        called: Called,
+        called: RemoteProcedure,
         arguments: &M,
     ) -> Result<Row<'_>, ClientFault>
         requires within { M.is_within arguments.now }

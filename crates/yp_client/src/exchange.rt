@@ -8,26 +8,31 @@ ghost use Rattle.yp_rpc.specs.Records.{sent, TakesRecord};
 ghost use Rattle.yp_rpc.specs.Pieces.{not_begun};
 ghost use Rattle.yp_rpc.specs.Called.{call_of};
 ghost use Rattle.yp_client.specs.Limits.{reply_max};
-ghost use Rattle.yp_client.specs.States.{told_by, state_of, unspent};
-ghost use Rattle.yp_client.specs.Calls.{Sends, Waits, NoReply};
+ghost use Rattle.yp_client.specs.inside.States.{told_by, state_of, unspent};
+ghost use Rattle.yp_client.specs.Calls.{SendsCall, WaitsForReply, NoReply};
 
 use crate::fault::ClientFault;
 use std::snapshot::Snapshot;
 use yp_io::{Failed, Pair, Sink, Source};
-use yp_msgs::Message;
+use yp_messages::Message;
 use yp_rpc::{RecordReader, RecordWriter, write_call};
 use yp_xdr::{NoRoom, laws};
 
 /// A procedure of a version of a program.
 #[derive(Clone, Copy)]
-pub struct Called {
+pub struct RemoteProcedure {
     pub prog: u32,
     pub vers: u32,
     pub procedure: u32,
 }
 
 /// Puts a call at the front of the buffer, and answers its length.
-pub fn set_call<M: Message>(buf: &mut [u8], xid: u32, called: Called, arguments: &M) -> usize
+pub fn set_call<M: Message>(
+    buf: &mut [u8],
+    xid: u32,
+    called: RemoteProcedure,
+    arguments: &M,
+) -> usize
     requires within { M.is_within arguments.now }
     requires room { 40 + length (spelling M.kind (M.view arguments.now)) ≤ length buf.old }
     ensures call { take result buf.new
@@ -49,7 +54,7 @@ pub fn ask<K: Sink, M: Message>(
     writer: &mut RecordWriter,
     buf: &mut [u8],
     xid: u32,
-    called: Called,
+    called: RemoteProcedure,
     arguments: &M,
 ) -> Result<(), Failed>
     requires idle { writer.old ≡ [] }
@@ -76,7 +81,7 @@ pub fn exchange<S: Source, K: Sink, M: Message>(
     buf: &mut [u8],
     waited: &mut Snapshot<Pair<S, K>>,
     xid: u32,
-    called: Called,
+    called: RemoteProcedure,
     arguments: &M,
 ) -> Result<usize, ClientFault>
     requires idle { writer.old ≡ [] }
@@ -86,9 +91,9 @@ pub fn exchange<S: Source, K: Sink, M: Message>(
     requires room { 40 + length (spelling M.kind (M.view arguments.now)) ≤ reply_max }
     ensures idle { writer.new ≡ [] }
     ensures between { reader.new.part ≡ not_begun }
-    ensures sent { Sends (call_of M.kind xid called.prog called.vers called.procedure (M.view arguments.now)) result
+    ensures sent { SendsCall (call_of M.kind xid called.prog called.vers called.procedure (M.view arguments.now)) result
         (told_by S.Source K.Sink wire.old) (told_by S.Source K.Sink wire.new) }
-    ensures waited { Waits result (told_by S.Source K.Sink waited.new.value)
+    ensures waited { WaitsForReply result (told_by S.Source K.Sink waited.new.value)
         (told_by S.Source K.Sink wire.old) (told_by S.Source K.Sink wire.new) }
     ensures within { IfOk result (λ len. len ≤ length buf.new) }
     ensures taken { IfOk result (λ len. TakesRecord reply_max (take len buf.new)

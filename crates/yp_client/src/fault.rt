@@ -3,7 +3,7 @@
 ghost use Rattle.std.specs.Prelude.{◌≡◌};
 ghost use Rattle.yp_client.specs.Calls.{spends};
 
-use yp_msgs::YpStat;
+use yp_messages::YpStat;
 use yp_rpc::{RecordFault, ReplyHead};
 use yp_version::VersionFault;
 use yp_xdr::XdrFault;
@@ -39,7 +39,7 @@ pub enum ClientFault {
 
 impl ClientFault {
     ghost use Rattle.std.specs.Prelude.{◌≡◌, ℕ, ◌+◌, ◌<◌, ◌^◌};
-    ghost use Rattle.yp_client.specs.Results.{further, IsIn};
+    ghost use Rattle.yp_client.specs.inside.Results.{further, IsIn};
 
     /// The fault of an item that was read from this place of the reply on.
     pub(crate) fn further(self, at: usize) -> ClientFault
@@ -67,7 +67,7 @@ impl From<XdrFault> for ClientFault {
 
 impl From<RecordFault> for ClientFault {
     ghost use Rattle.std.specs.Prelude.{◌≡◌};
-    ghost use Rattle.yp_client.specs.Calls.{of_record};
+    ghost use Rattle.yp_client.specs.inside.Calls.{of_record};
 
     ghost from_gives = { λ fault given. given ≡ of_record fault };
 

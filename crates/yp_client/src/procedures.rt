@@ -3,29 +3,37 @@
 ghost use Rattle.std.specs.Prelude.{◌≡◌, ◌≤◌, [], length};
 ghost use Rattle.std.specs.Borrow.{sem};
 ghost use Rattle.yp_xdr.specs.Kind.{Fixed};
-ghost use Rattle.yp_msgs.specs.Numbers.{name_max, key_max};
-ghost use Rattle.yp_msgs.specs.Transfers.{req_xfr_view, ReqXfrIsWithin};
-ghost use Rattle.yp_client.specs.Results.{nothing_of, served_of, value_of, row_of, master_of, order_of, maps_of};
-ghost use Rattle.yp_client.specs.Results.{taken_of, made_of};
-ghost use Rattle.yp_client.specs.Said.{SaysNothing, SaysBool, SaysNumber, SaysBytes, SaysRow, SaysNames, SaysStat};
-ghost use Rattle.yp_client.specs.Asked.{null_call, clear_call, domain_call, maplist_call, first_call, master_call};
+ghost use Rattle.yp_messages.specs.Numbers.{name_max, key_max};
+ghost use Rattle.yp_messages.specs.inside.Transfers.{req_xfr_view, ReqXfrIsWithin};
+ghost use Rattle.yp_client.specs.Results.{value_of, row_of, master_of, order_of, maps_of};
+ghost use Rattle.yp_client.specs.inside.Results.{nothing_of, served_of};
+ghost use Rattle.yp_client.specs.Results.{taken_of};
+ghost use Rattle.yp_client.specs.inside.Results.{made_of};
+ghost use Rattle.yp_client.specs.Said.{SaysNumber, SaysBytes, SaysNames, SaysStat};
+ghost use Rattle.yp_client.specs.inside.Said.{SaysNothing, SaysBool, SaysRow};
+ghost use Rattle.yp_client.specs.Asked.{maplist_call, first_call, master_call};
+ghost use Rattle.yp_client.specs.inside.Asked.{null_call, clear_call, domain_call};
 ghost use Rattle.yp_client.specs.Asked.{order_call};
-ghost use Rattle.yp_client.specs.Asked.{match_call, next_call, xfr_call, make_call};
+ghost use Rattle.yp_client.specs.Asked.{match_call, next_call, xfr_call};
+ghost use Rattle.yp_client.specs.inside.Asked.{make_call};
 ghost use Rattle.yp_client.specs.Limits.{reply_max};
-ghost use Rattle.yp_client.specs.States.{state_of};
+ghost use Rattle.yp_client.specs.inside.States.{state_of};
 ghost use Rattle.yp_client.specs.Calls.{Calls};
-ghost use Rattle.yp_client.specs.Lent.{ClientRests};
+ghost use Rattle.yp_client.specs.inside.Lent.{ClientRests};
 
-use crate::answers::{Listed, Made, Mastered, Matched, Nothing, Ordered, Row, Served, Taken};
+use crate::answers::{
+    DomainResult, MakeResult, MaplistResult, MasterResult, MatchResult, NullResult, OrderResult,
+    Row, XfrResult,
+};
 use crate::client::Client;
-use crate::exchange::Called;
+use crate::exchange::RemoteProcedure;
 use crate::fault::ClientFault;
 use yp_io::{Sink, Source};
-use yp_msgs::protocol::{
+use yp_messages::protocol::{
     CLEAR, DOMAIN, FIRST, MAKE, MAKEPROG, MAKEVERS, MAPLIST, MASTER, MATCH, NEXT, NULL, ORDER, XFR,
     YPPROG, YPVERS,
 };
-use yp_msgs::{MapList, Message, ReqDomain, ReqKey, ReqMake, ReqNokey, ReqXfr, XfrStat};
+use yp_messages::{MapList, Message, ReqDomain, ReqKey, ReqMake, ReqNokey, ReqXfr, XfrStat};
 
 /// No arguments.
 struct NoArguments;
@@ -54,13 +62,13 @@ impl<S: Source, K: Sink> Client<S, K> {
             (state_of S.Source K.Sink self.old) (state_of S.Source K.Sink self.new) }
     {
         self.call(
-            Called {
+            RemoteProcedure {
                 prog: YPPROG,
                 vers: YPVERS,
                 procedure: NULL,
             },
             &NoArguments,
-            &Nothing,
+            &NullResult,
         )
     }
 
@@ -71,13 +79,13 @@ impl<S: Source, K: Sink> Client<S, K> {
             (state_of S.Source K.Sink self.old) (state_of S.Source K.Sink self.new) }
     {
         self.call(
-            Called {
+            RemoteProcedure {
                 prog: YPPROG,
                 vers: YPVERS,
                 procedure: DOMAIN,
             },
             &ReqDomain { domain },
-            &Served,
+            &DomainResult,
         )
     }
 
@@ -91,13 +99,13 @@ impl<S: Source, K: Sink> Client<S, K> {
             (state_of S.Source K.Sink self.old) (state_of S.Source K.Sink last))) }
     {
         self.lend(
-            Called {
+            RemoteProcedure {
                 prog: YPPROG,
                 vers: YPVERS,
                 procedure: MATCH,
             },
             &ReqKey { domain, map, key },
-            &Matched,
+            &MatchResult,
         )
     }
 
@@ -110,7 +118,7 @@ impl<S: Source, K: Sink> Client<S, K> {
             (state_of S.Source K.Sink self.old) (state_of S.Source K.Sink last))) }
     {
         self.lend_row(
-            Called {
+            RemoteProcedure {
                 prog: YPPROG,
                 vers: YPVERS,
                 procedure: FIRST,
@@ -129,7 +137,7 @@ impl<S: Source, K: Sink> Client<S, K> {
             (state_of S.Source K.Sink self.old) (state_of S.Source K.Sink last))) }
     {
         self.lend_row(
-            Called {
+            RemoteProcedure {
                 prog: YPPROG,
                 vers: YPVERS,
                 procedure: NEXT,
@@ -147,13 +155,13 @@ impl<S: Source, K: Sink> Client<S, K> {
             (state_of S.Source K.Sink self.old) (state_of S.Source K.Sink last))) }
     {
         self.lend(
-            Called {
+            RemoteProcedure {
                 prog: YPPROG,
                 vers: YPVERS,
                 procedure: MASTER,
             },
             &ReqNokey { domain, map },
-            &Mastered,
+            &MasterResult,
         )
     }
 
@@ -165,13 +173,13 @@ impl<S: Source, K: Sink> Client<S, K> {
             (state_of S.Source K.Sink self.old) (state_of S.Source K.Sink self.new) }
     {
         self.call(
-            Called {
+            RemoteProcedure {
                 prog: YPPROG,
                 vers: YPVERS,
                 procedure: ORDER,
             },
             &ReqNokey { domain, map },
-            &Ordered,
+            &OrderResult,
         )
     }
 
@@ -182,13 +190,13 @@ impl<S: Source, K: Sink> Client<S, K> {
             (state_of S.Source K.Sink self.old) (state_of S.Source K.Sink self.new) }
     {
         self.call(
-            Called {
+            RemoteProcedure {
                 prog: YPPROG,
                 vers: YPVERS,
                 procedure: MAPLIST,
             },
             &ReqDomain { domain },
-            &Listed,
+            &MaplistResult,
         )
     }
 
@@ -198,13 +206,13 @@ impl<S: Source, K: Sink> Client<S, K> {
             (state_of S.Source K.Sink self.old) (state_of S.Source K.Sink self.new) }
     {
         self.call(
-            Called {
+            RemoteProcedure {
                 prog: YPPROG,
                 vers: YPVERS,
                 procedure: CLEAR,
             },
             &NoArguments,
-            &Nothing,
+            &NullResult,
         )
     }
 
@@ -215,13 +223,13 @@ impl<S: Source, K: Sink> Client<S, K> {
             (state_of S.Source K.Sink self.old) (state_of S.Source K.Sink self.new) }
     {
         self.call(
-            Called {
+            RemoteProcedure {
                 prog: YPPROG,
                 vers: YPVERS,
                 procedure: XFR,
             },
             request,
-            &Taken,
+            &XfrResult,
         )
     }
 
@@ -232,13 +240,13 @@ impl<S: Source, K: Sink> Client<S, K> {
             (state_of S.Source K.Sink self.old) (state_of S.Source K.Sink self.new) }
     {
         self.call(
-            Called {
+            RemoteProcedure {
                 prog: MAKEPROG,
                 vers: MAKEVERS,
                 procedure: MAKE,
             },
             &ReqMake { domain, kind },
-            &Made,
+            &MakeResult,
         )
     }
 }

@@ -1,8 +1,7 @@
 //! What the client commands ask of a YP server, and what they print.
 //!
-//! A query dials a server, makes its calls, gives the wire back, and prints the whole answer or nothing of it. Its
-//! promise stands on [`query`].
-#![tactic(auto)]
+//! A query dials a server, makes its calls, gives the wire back, and prints the whole answer, or nothing of a refusal.
+//! Its promise stands on [`query`].
 
 mod answer;
 mod dialed;

@@ -1,10 +1,11 @@
 //! The questions of the client commands.
 
 ghost use Rattle.std.specs.Prelude.{◌↔◌, ◌≤◌, length, IsTrue};
-ghost use Rattle.yp_msgs.specs.Numbers.{name_max};
-ghost use Rattle.yp_client.specs.Questions.{bytes_of, QuestionIsWithin};
+ghost use Rattle.yp_messages.specs.Numbers.{name_max};
+ghost use Rattle.yp_client.specs.Questions.{bytes_of};
+ghost use Rattle.yp_client.specs.inside.Questions.{QuestionIsWithin};
 
-use yp_msgs::protocol::{KEY_MAX, NAME_MAX};
+use yp_messages::protocol::{KEY_MAX, NAME_MAX};
 
 /// What a client asks of a server: of a domain, and mostly of one of its maps. A `T` is a name or a key, or says where
 /// it stands.

@@ -8,7 +8,7 @@ use std::alloc::Global;
 use std::process::Abort;
 use std::random::RandomSource;
 use yp_client::ClientFault;
-use yp_msgs::YpStat;
+use yp_messages::YpStat;
 use yp_rpc::ReplyHead;
 use yp_version::{Version, VersionBuilder, VersionFault};
 

@@ -1,15 +1,16 @@
 //! Questions that are asked over a wire in memory.
 
 ghost use Rattle.std.specs.Prelude.{◌<◌};
-ghost use Rattle.yp_client.specs.Questions.{bytes_of, QuestionIsWithin};
+ghost use Rattle.yp_client.specs.Questions.{bytes_of};
+ghost use Rattle.yp_client.specs.inside.Questions.{QuestionIsWithin};
 
 use crate::exchange::told::query_told;
 use std::alloc::Global;
 use std::process::Abort;
 use std::random::RandomSource;
 use yp_client::Question;
+use yp_client::query::QueryFault;
 use yp_io::{MemDial, MemSink, MemSource, Pair, Peer};
-use yp_query::QueryFault;
 
 /// Who is asked.
 pub const SERVER: Peer = Peer {

@@ -6,7 +6,7 @@ use std::alloc::Global;
 use std::process::Abort;
 use yp_client::{ClientFault, Row};
 use yp_io::{MemSink, MemSource, Pair};
-use yp_msgs::{MapList, ReqXfr, XfrStat, YpStat};
+use yp_messages::{MapList, ReqXfr, XfrStat, YpStat};
 use yp_rpc::ReplyHead;
 
 // A client over a wire with this input, whose first call has a number. The calls of the wire that are listed fail.

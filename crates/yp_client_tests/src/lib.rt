@@ -1,4 +1,4 @@
-//! Tests of `yp_client`, `yp_query` and `yp_exchange`: clients, and clients that ask servers.
+//! Tests of `yp_client`, `yp_client::query` and `yp_end_to_end::exchange`: clients, and clients that ask servers.
 #![tactic(auto)]
 
 #[cfg(test)]

@@ -5,10 +5,10 @@ use crate::given::{assert_same, bytes};
 use std::alloc::Global;
 use std::process::Abort;
 use std::random::RandomSource;
+use yp_client::query::QueryFault;
 use yp_client::{ClientFault, Question};
 use yp_io::Peer;
-use yp_msgs::YpStat;
-use yp_query::QueryFault;
+use yp_messages::YpStat;
 use yp_rpc::ReplyHead;
 use yp_version::VersionFault;
 

@@ -9,21 +9,26 @@ use Rattle.std.proofs.lemmas.Bool.Decides.{nat_tests}
 use Rattle.std.proofs.lemmas.List.{append-nil, length-map, map-append, take_all}
 use Rattle.std.proofs.lemmas.List.Elements.{filter-append, All-append}
 use Rattle.yp_version.specs.Limits.{key_max}
-use Rattle.yp_bind.specs.Kept.{servers_max}
-use Rattle.yp_bind.specs.Rounds.{is_same_peer}
-use Rattle.yp_board.specs.Catalogues.{Name, name_max, maps_max, is_same, is_map_name, is_name as is_short_name}
-use Rattle.yp_board.specs.Catalogues.{again_from, with_numbers, bad_name, twice, catalog_fault}
-use Rattle.yp_words.specs.Forms.{Form, has_form, before, after, is_name, is_store, is_kind_store, is_text, is_key}
-use Rattle.yp_words.specs.Forms.{is_host, is_reverse, is_number, window_of, window_max, workers_of, workers_max}
+use Rattle.yp_binding.specs.Kept.{servers_max}
+use Rattle.yp_binding.specs.Rounds.{is_same_peer}
+use Rattle.yp_board.specs.Catalogues.{Name, name_max, maps_max, is_same, is_name as is_short_name}
+use Rattle.yp_board.specs.inside.Catalogues.{again_from, with_numbers, bad_name, twice, is_map_name, catalog_fault}
+use Rattle.yp_command.specs.Forms.{Form, has_form, before, after, is_name, is_store, is_kind_store, is_text, is_key}
+use Rattle.yp_command.specs.Forms.{is_host, is_reverse, is_number, window_of, window_max, workers_of}
+use Rattle.yp_board.specs.readers.Boards.{workers_max}
 use Rattle.std.specs.Str.Parse.{digits_value}
-use Rattle.yp_words.specs.Words.{Meaning, Further, Sentence, once, session, serve, check, build, build_flagged, xfr}
-use Rattle.yp_words.specs.Words.{xfr_flagged, sample, push, bind, portmap, getport, cat, catk, which, poll, IsOneMap}
-use Rattle.yp_words.specs.Words.{walk, walk_flagged, revnet, AreMaps as MakeMaps}
-use Rattle.yp_words.specs.Words.{match_key, maps, innetgr, asking, sentences, further_fitting}
-use Rattle.yp_words.specs.Words.{serving_fitting, joins, is_new_store, served, fitting, is_whole, asked, name_of}
-use Rattle.yp_words.specs.Words.{kind_of, joins_servers, servers_fitting, peer_word, host_of, IsNamed, HasNames}
+use Rattle.yp_command.specs.Words.{Meaning, Further, Sentence, once, session, serve, check, build, build_flagged, xfr}
+use Rattle.yp_command.specs.Words.{xfr_flagged, sample, push, bind, portmap, getport, cat, catk, which, poll}
+use Rattle.yp_command.specs.inside.Words.{IsOneMap}
+use Rattle.yp_command.specs.Words.{walk, walk_flagged, revnet}
+use Rattle.yp_command.specs.inside.Words.{AreMaps as MakeMaps}
+use Rattle.yp_command.specs.Words.{match_key, maps, innetgr, asking, sentences, further_fitting}
+use Rattle.yp_command.specs.Words.{serving_fitting, joins, is_new_store, served, fitting, is_whole, asked, name_of}
+use Rattle.yp_command.specs.Words.{kind_of, joins_servers, servers_fitting, peer_word, host_of}
+use Rattle.yp_command.specs.inside.Words.{IsNamed, HasNames}
 use Rattle.yp_client.specs.declared.question.Question.TheVariants.{Cat, Catk, Which, Poll}
-use Rattle.yp_client.specs.Questions.{ByteQuestion, QuestionIsWithin}
+use Rattle.yp_client.specs.Questions.{ByteQuestion}
+use Rattle.yp_client.specs.inside.Questions.{QuestionIsWithin}
 
 -- words have these forms, in turn
 HaveForms : List Form → List (List ℕ) → Type 0

@@ -7,9 +7,8 @@ use Rattle.std.specs.Str.Parse.{digits_value}
 use Rattle.yp_io.specs.declared.stream.Peer.{Peer}
 use Rattle.yp_version.specs.Limits.{key_max, value_max}
 use Rattle.yp_board.specs.Catalogues.{name_max}
-use Rattle.yp_build.specs.Kinds.{kinds, name_of as kind_name}
-use Rattle.yp_words.specs.declared.form.Form.{Form as CodeForm}
-use Rattle.yp_words.specs.declared.form.Form.TheVariants as code
+use Rattle.yp_board.specs.readers.Boards.{workers_max}
+use Rattle.yp_texts.specs.Kinds.{kinds, name_of as kind_name}
 
 infixl 10 ◌>>=◌
 abbrev pub ◌>>=◌ : {A B : Type 0} → Option A → (A → Option B) → Option B
@@ -82,10 +81,7 @@ abbrev pub window_of : List ℕ → Option ℕ
 window_of word = if is_number word && nat_le 1 (digits_value 10 word)
     && nat_le (digits_value 10 word) window_max then Some (digits_value 10 word) else None
 
--- how many workers a server has: 1 to 8
-abbrev pub workers_max : ℕ
-workers_max = 8
-
+-- how many workers a server has
 abbrev pub workers_of : List ℕ → Option ℕ
 workers_of word = if is_number word && nat_le 1 (digits_value 10 word)
     && nat_le (digits_value 10 word) workers_max then Some (digits_value 10 word) else None
@@ -181,23 +177,3 @@ has_form Key word = is_key word
 has_form Flag word = is_secure word || is_plain word
 has_form Mode word = is_force word || is_newer word
 has_form Host word = is_host word
-
--- the form that a `Form` of the code is
-abbrev pub form_view : CodeForm → Form
-form_view (code.Exactly text) = Exactly text.now
-form_view code.Name = Name
-form_view code.Store = Store
-form_view code.KindStore = KindStore
-form_view code.ReverseStore = ReverseStore
-form_view code.Pair = Pair
-form_view code.Number = Number
-form_view code.Port = Port
-form_view code.Window = Window
-form_view code.Workers = Workers
-form_view code.Policy = Policy
-form_view code.Address = Address
-form_view code.Text = Text
-form_view code.Key = Key
-form_view code.Flag = Flag
-form_view code.Mode = Mode
-form_view code.Host = Host

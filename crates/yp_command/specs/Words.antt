@@ -1,38 +1,30 @@
 -- The command line: sentences made of words.
-use Rattle.std.specs.Prelude.{◌≡◌, ℕ, ◌+◌, ◌≤◌, ◌<◌, Bool, true, not, nat_le, nat_lt, bytes_eq, IsSome, ⊤, ◌&&◌}
+use Rattle.std.specs.Prelude.{ℕ, ◌+◌, Bool, true, not, nat_le, nat_lt, bytes_eq, ◌&&◌}
 use Rattle.std.specs.Prelude.{◌==◌, max}
-use Rattle.std.specs.Prelude.{if◌then◌else◌, List, [], ◌∷◌, ◌++◌, All, length, drop, map, filter, fold}
+use Rattle.std.specs.Prelude.{if◌then◌else◌, List, [], ◌∷◌, ◌++◌, length, drop, map, filter, fold}
 use Rattle.std.specs.Prelude.{slice_index_or, Option, Some, None, unwrap_or, Result, Ok, Err, codes, string_bytes}
 use Rattle.std.specs.List.{find, list_any}
-use Rattle.std.specs.Option.{option_map, option_and_then, ok_or}
+use Rattle.std.specs.Option.{option_map, ok_or}
 use Rattle.std.specs.declared.string.String.{String}
 use Rattle.std.specs.declared.alloc.Global.{Global}
 use Rattle.yp_version.specs.Rows.{Row}
 use Rattle.yp_io.specs.declared.stream.Peer.{Peer}
-use Rattle.yp_bind.specs.declared.binder.Policy.{Policy}
-use Rattle.yp_bind.specs.declared.binder.Policy.TheVariants.{Fixed, Ypsetme, Ypset}
-use Rattle.yp_bind.specs.Kept.{servers_max}
-use Rattle.yp_bind.specs.Rounds.{is_same_peer}
-use Rattle.yp_board.specs.Catalogues.{Name, name_max, maps_max, name_view, is_same, catalog_fault}
-use Rattle.yp_build.specs.declared.kind.Kind.{Kind}
-use Rattle.yp_build.specs.Kinds.{kinds, name_of as kind_name}
-use Rattle.yp_client.specs.declared.question.Question.{Question}
+use Rattle.yp_binding.specs.declared.binder.Policy.{Policy}
+use Rattle.yp_binding.specs.declared.binder.Policy.TheVariants.{Fixed, Ypsetme, Ypset}
+use Rattle.yp_binding.specs.Kept.{servers_max}
+use Rattle.yp_binding.specs.Rounds.{is_same_peer}
+use Rattle.yp_board.specs.Catalogues.{Name, maps_max, name_view, is_same}
+use Rattle.yp_texts.specs.declared.kind.Kind.{Kind}
+use Rattle.yp_texts.specs.Kinds.{kinds, name_of as kind_name}
 use Rattle.yp_client.specs.declared.question.Question.TheVariants.{Cat, Catk, Match, Which, Poll, Maps, Innetgr}
-use Rattle.yp_client.specs.Questions.{ByteQuestion, bytes_of, question_map, QuestionIsWithin}
-use Rattle.yp_words.specs.declared.command.KeyValue.{KeyValue}
-use Rattle.yp_words.specs.declared.command.HostWord.{HostWord}
-use Rattle.yp_words.specs.declared.command.Command.{Command}
-use Rattle.yp_words.specs.declared.command.Command.TheVariants as command
-use Rattle.yp_words.specs.declared.sentence.Sentence.{Sentence as CodeSentence}
-use Rattle.yp_words.specs.declared.sentence.Further.{Further as CodeFurther}
-use Rattle.yp_words.specs.declared.sentence.Further.TheVariants as further
-use Rattle.yp_words.specs.declared.sentence.Task.{Task}
-use Rattle.yp_words.specs.declared.sentence.Task.TheVariants as task
-use Rattle.yp_words.specs.declared.words.ParseFault.{ParseFault}
-use Rattle.yp_words.specs.declared.words.ParseFault.TheVariants.{Usage, NoMemory}
-use Rattle.yp_words.specs.Forms.{Form, has_form, form_view, before, after, number_of, is_store, is_host, address_of}
-use Rattle.yp_words.specs.Forms.{is_secure, is_force, is_ypsetme, is_ypset, is_any, is_reverse, workers_max}
-use Rattle.yp_words.specs.Forms as form
+use Rattle.yp_client.specs.Questions.{ByteQuestion, bytes_of}
+use Rattle.yp_command.specs.declared.command.KeyValue.{KeyValue}
+use Rattle.yp_command.specs.declared.command.HostWord.{HostWord}
+use Rattle.yp_command.specs.declared.command.Command.{Command}
+use Rattle.yp_command.specs.declared.command.Command.TheVariants as command
+use Rattle.yp_command.specs.Forms.{Form, has_form, before, after, number_of, is_store, is_host, address_of}
+use Rattle.yp_command.specs.Forms.{is_secure, is_force, is_ypsetme, is_ypset, is_any}
+use Rattle.yp_command.specs.Forms as form
 
 -- ---- what words mean
 
@@ -438,28 +430,6 @@ stores_in (Err word) = []
 abbrev pub disk_names : List (List ℕ) → List Name
 disk_names words = stores_in (command_of words)
 
--- the port at which a command receives datagrams, where it does
-abbrev pub port_of : Meaning → Option ℕ
-port_of (Once store rows) = None
-port_of (Session own peer stores hosts) = None
-port_of (Serve own port workers connections turns stores hosts) = Some port
-port_of (Check store) = None
-port_of (Build name store flag) = None
-port_of (Xfr name force store host flag) = None
-port_of (Walk name force store host port turns flag) = Some port
-port_of (Revnet name store) = None
-port_of (Sample start count) = None
-port_of (Push name port window turns store hosts) = Some port
-port_of (Bind port policy turns domain hosts) = Some port
-port_of (Portmap port turns) = Some port
-port_of (Getport port turns peer prog vers prot) = Some port
-port_of (Ask peer question) = None
-
--- how many connections a command accepts
-abbrev pub connections_of : Meaning → ℕ
-connections_of (Serve own port workers connections turns stores hosts) = connections
-connections_of _ = 0
-
 -- ---- what the code has
 
 abbrev pub row_view : KeyValue → Row
@@ -495,86 +465,6 @@ meaning (command.Ask addr question) = Ask addr (bytes_of question)
 abbrev pub texts : List (String Global) → List (List ℕ)
 texts words = map string_bytes words
 
--- who may be in a group, of the word with this number
-abbrev pub given_at : Option ℕ → List (List ℕ) → Option (List ℕ)
-given_at at words = option_and_then (λ i. given_of (word_at i words)) at
-
--- the question that is made of words, of the numbers where they stand
-abbrev pub question_of : Question ℕ → List (List ℕ) → ByteQuestion
-question_of (Innetgr domain group host user user_domain) words =
-    Innetgr (word_at domain words) (word_at group words) (given_at host words) (given_at user words)
-    (given_at user_domain words)
-question_of question words = question_map (λ at. word_at at words) question
-
--- what the words of a sentence ask for, of its task
-abbrev pub asks_of : Task → List (List ℕ) → Meaning
-asks_of task.Once = once.asks
-asks_of task.Session = session.asks
-asks_of task.Serve = serve.asks
-asks_of task.Check = check.asks
-asks_of task.Build = build.asks
-asks_of task.BuildFlagged = build_flagged.asks
-asks_of task.Xfr = xfr.asks
-asks_of task.XfrFlagged = xfr_flagged.asks
-asks_of task.Walk = walk.asks
-asks_of task.WalkFlagged = walk_flagged.asks
-asks_of task.Revnet = revnet.asks
-asks_of task.Sample = sample.asks
-asks_of task.Push = push.asks
-asks_of task.Bind = bind.asks
-asks_of task.Portmap = portmap.asks
-asks_of task.Getport = getport.asks
-asks_of (task.Ask question) =
-    λ words. Ask (peer_of (word_at 1 words)) (question_of question words)
-
--- the further words that a `Further` of the code stands for
-abbrev pub further_view : CodeFurther → Further
-further_view further.NoMore = NoMore
-further_view (further.Each form) = Each (form_view form)
-further_view further.StoresAndHosts = StoresAndHosts
-further_view further.Servers = Servers
-
--- the sentence that a row of the code's table is
-abbrev pub sentence_view : CodeSentence → Sentence
-sentence_view row = record {
-  forms = map form_view row.forms.now;
-  further = further_view row.further;
-  asks = asks_of row.task;
-}
-
--- ---- names
-
--- the names of a domain and a map are within their limit
-abbrev pub IsNamed : Name → Type 0
-IsNamed store = (length store.0 ≤ name_max) × (length store.1 ≤ name_max)
-
--- an own name and one map make a catalogue, whose names are within their limits
-abbrev pub IsOneMap : List ℕ → Name → Type 0
-IsOneMap name store = (catalog_fault name (store ∷ []) ≡ None) × (length name ≤ name_max) × IsNamed store
-
--- an own name and maps make a catalogue, whose names are within their limits
-abbrev pub AreMaps : List ℕ → List Name → Type 0
-AreMaps own stores =
-    (catalog_fault own stores ≡ None) × All IsNamed stores × (length own ≤ name_max) × (length stores ≤ maps_max)
-
--- each name of a command is within its limit, and a map that is built has a kind
-abbrev pub HasNames : Meaning → Type 0
-HasNames (Once store rows) = IsNamed store
-HasNames (Session own peer stores hosts) = AreMaps own stores
-HasNames (Serve own port workers connections turns stores hosts) =
-    (1 ≤ workers) × (workers ≤ workers_max) × AreMaps own stores
-HasNames (Check store) = IsNamed store
-HasNames (Build name store flag) = IsOneMap name store × IsSome (kind_of store)
-HasNames (Xfr name force store host flag) = IsOneMap name store
-HasNames (Walk name force store host port turns flag) = IsOneMap name store
-HasNames (Revnet name store) = (length name ≤ name_max) × IsNamed store × (is_reverse store.1 ≡ true)
-HasNames (Sample start count) = ⊤
-HasNames (Push name port window turns store hosts) = (length name ≤ name_max) × (0 < window) × IsNamed store
-HasNames (Bind port policy turns domain hosts) = (length domain ≤ name_max) × (length hosts ≤ servers_max)
-HasNames (Portmap port turns) = ⊤
-HasNames (Getport port turns peer prog vers prot) = ⊤
-HasNames (Ask peer question) = QuestionIsWithin question
-
 -- ---- refusals
 
 -- The command takes over words, so that memory may run out. Numbers alone take none.
@@ -593,13 +483,3 @@ TakesMemory (Bind port policy turns domain hosts) = Unit {0}
 TakesMemory (Portmap port turns) = ⊥
 TakesMemory (Getport port turns peer prog vers prot) = ⊥
 TakesMemory (Ask peer question) = Unit {0}
-
--- the words are a sentence whose command takes memory
-abbrev pub IsSentenceOfWords : Result Meaning ℕ → Type 0
-IsSentenceOfWords (Ok meaning) = TakesMemory meaning
-IsSentenceOfWords (Err word) = ⊥
-
--- The fault names the word that is wrong. Memory runs out only where words are taken over.
-abbrev pub IsUsage : Result Meaning ℕ → ParseFault → Type 0
-IsUsage expected (Usage word) = expected ≡ Err word
-IsUsage expected NoMemory = IsSentenceOfWords expected

@@ -1,6 +1,6 @@
 //! What the program can be asked to do.
 
-use yp_bind::Policy;
+use yp_binding::Policy;
 use yp_board::MapName;
 use yp_client::Question;
 use yp_io::Peer;

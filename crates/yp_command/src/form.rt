@@ -2,13 +2,15 @@
 
 ghost use Rattle.std.specs.Prelude.{◌≡◌, ◌<◌, ◌≤◌};
 ghost use Rattle.std.specs.List.{list_all};
-ghost use Rattle.yp_words.specs.Forms.{is_name_byte, is_name, is_store, is_kind_store, is_row, number_of, octet_of};
-ghost use Rattle.yp_words.specs.Forms.{port_of, address_of, is_host, is_text, is_key, before, after, has_form};
-ghost use Rattle.yp_words.specs.Forms.{is_reverse_store, window_of, workers_of, form_view};
+ghost use Rattle.yp_command.specs.Forms.{is_name_byte, is_name, is_store, is_kind_store, is_row, number_of, octet_of};
+ghost use Rattle.yp_command.specs.Forms.{port_of, address_of, is_host, is_text, is_key, before, after, has_form};
+ghost use Rattle.yp_command.specs.Forms.{is_reverse_store, window_of, workers_of};
+ghost use Rattle.yp_command.specs.inside.Forms.{form_view};
 
 use yp_board::NAME_MAX;
-use yp_build::Kind;
+use yp_board::readers::WORKERS_MAX;
 use yp_io::Peer;
+use yp_texts::Kind;
 use yp_version::{KEY_MAX, VALUE_MAX};
 
 /// The flag of a secure version, and that of another.
@@ -28,9 +30,6 @@ const NEWER: &str = "newer";
 
 /// The most slaves of a push that may be outstanding.
 const WINDOW_MAX: u32 = 4_096;
-
-/// The most workers of a server.
-const WORKERS_MAX: u32 = 8;
 
 /// The policies of a binder: nobody binds a domain by a call, a caller on its own host does, or anybody.
 const FIXED: &str = "fixed";

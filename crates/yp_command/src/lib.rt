@@ -2,10 +2,13 @@
 //!
 //! The sentences are a table, and one reader judges the words by it. The promise stands on [`parse`]; which maps' files
 //! a command reads or writes, on [`disk_names`].
+//!
+//! [`office`] is what every command has before it and behind it.
 #![tactic(auto)]
 
 mod command;
 mod form;
+pub mod office;
 mod sentence;
 mod serving;
 mod words;

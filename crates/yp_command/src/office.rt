@@ -1,8 +1,8 @@
 //! What every command has before it and behind it: the outside that it reaches, and the status with which it ends.
 //!
 //! A command takes an [`Office`] by `&mut` and answers a [`Status`]. What it did is a relation between the office
-//! before and after; what the parts of an office tell is seen through one record, `Seeing`.
-#![tactic(auto)]
+//! before and after; what the parts of an office tell is seen through one record, `Seeing`. The code and the line of a
+//! status stand on [`Status::code`] and [`Status::note`], and disks under the names of their maps on [`named_disks`].
 
 mod disks;
 mod file;

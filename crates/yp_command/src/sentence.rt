@@ -2,10 +2,12 @@
 
 ghost use Rattle.std.specs.Prelude.{◌≡◌, ◌≤◌, [], length, map};
 ghost use Rattle.std.specs.Option.{option_map};
-ghost use Rattle.yp_words.specs.Forms.{form_view};
-ghost use Rattle.yp_words.specs.Words.{sentences, fits_to, fitting, each_fitting, serving_fitting, further_fitting};
-ghost use Rattle.yp_words.specs.Words.{further_view, has_enough, joins, is_whole, asked, wrong_word, asks_of};
-ghost use Rattle.yp_words.specs.Words.{sentence_view, servers_fitting, texts};
+ghost use Rattle.yp_command.specs.inside.Forms.{form_view};
+ghost use Rattle.yp_command.specs.Words.{sentences, fits_to, fitting, each_fitting, serving_fitting, further_fitting};
+ghost use Rattle.yp_command.specs.Words.{has_enough, joins, is_whole, asked, wrong_word};
+ghost use Rattle.yp_command.specs.inside.Words.{further_view, asks_of};
+ghost use Rattle.yp_command.specs.Words.{servers_fitting, texts};
+ghost use Rattle.yp_command.specs.inside.Words.{sentence_view};
 
 use crate::form::Form;
 use crate::serving::{has_store, joins, joins_servers};

@@ -3,13 +3,13 @@
 ghost use Rattle.std.specs.Prelude.{◌≡◌, length, map};
 ghost use Rattle.std.specs.List.{list_any};
 ghost use Rattle.yp_board.specs.Catalogues.{is_same};
-ghost use Rattle.yp_words.specs.Forms.{is_store};
-ghost use Rattle.yp_bind.specs.Rounds.{is_same_peer};
-ghost use Rattle.yp_words.specs.Words.{joins, joins_servers, name_of, peer_word, served, texts};
+ghost use Rattle.yp_command.specs.Forms.{is_store};
+ghost use Rattle.yp_binding.specs.Rounds.{is_same_peer};
+ghost use Rattle.yp_command.specs.Words.{joins, joins_servers, name_of, peer_word, served, texts};
 
 use crate::form::{cut_at, is_host, is_store};
 use crate::words::peer_of;
-use yp_bind::{SERVERS_MAX, is_same_peer};
+use yp_binding::{SERVERS_MAX, is_same_peer};
 use yp_board::MAPS_MAX;
 use yp_io::Peer;
 

@@ -3,16 +3,19 @@
 ghost use Rattle.std.specs.Prelude.{◌≡◌, [], ◌∷◌, drop, map, option_map, Ok, IfOk, IfErr, OnErr};
 ghost use Rattle.yp_board.specs.Catalogues.{name_view};
 ghost use Rattle.yp_client.specs.Questions.{bytes_of};
-ghost use Rattle.yp_words.specs.Words.{name_of, row_of, value_of, peer_of, host_of, served, known, word_at};
-ghost use Rattle.yp_words.specs.Words.{given_at, question_of};
-ghost use Rattle.yp_words.specs.Words.{command_of, connections_of, disk_names, stores_of, port_of};
-ghost use Rattle.yp_words.specs.Words.{row_view, host_view, meaning, texts};
-ghost use Rattle.yp_words.specs.Words.{asks_of, once, session, serve, check, sample, portmap, getport, Build};
-ghost use Rattle.yp_words.specs.Words.{Xfr, bind, port_value, policy_of, TakesMemory, IsSentenceOfWords, revnet};
-ghost use Rattle.yp_words.specs.Words.{netgroup_of, push, window_value, workers_value, ypservers_of, is_ypservers};
-ghost use Rattle.yp_words.specs.Words.{with_ypservers, Walk};
-ghost use Rattle.yp_words.specs.Forms.{is_force};
-ghost use Rattle.yp_words.specs.Words.{IsUsage, HasNames};
+ghost use Rattle.yp_command.specs.Words.{name_of, row_of, value_of, peer_of, host_of, served, known, word_at};
+ghost use Rattle.yp_command.specs.inside.Words.{given_at, question_of};
+ghost use Rattle.yp_command.specs.Words.{command_of, disk_names, stores_of};
+ghost use Rattle.yp_command.specs.inside.Words.{connections_of, port_of};
+ghost use Rattle.yp_command.specs.Words.{row_view, host_view, meaning, texts};
+ghost use Rattle.yp_command.specs.Words.{once, session, serve, check, sample, portmap, getport, Build};
+ghost use Rattle.yp_command.specs.inside.Words.{asks_of};
+ghost use Rattle.yp_command.specs.Words.{Xfr, bind, port_value, policy_of, TakesMemory, revnet};
+ghost use Rattle.yp_command.specs.inside.Words.{IsSentenceOfWords};
+ghost use Rattle.yp_command.specs.Words.{netgroup_of, push, window_value, workers_value, ypservers_of, is_ypservers};
+ghost use Rattle.yp_command.specs.Words.{with_ypservers, Walk};
+ghost use Rattle.yp_command.specs.Forms.{is_force};
+ghost use Rattle.yp_command.specs.inside.Words.{IsUsage, HasNames};
 
 use crate::command::{Command, HostWord, KeyValue, PushJob, ServeJob, WalkJob, XfrJob};
 use crate::form::{
@@ -21,11 +24,11 @@ use crate::form::{
 };
 use crate::sentence::{Task, task_of, wrong_word};
 use std::alloc::{AllocError, Global};
-use yp_bind::Policy;
+use yp_binding::Policy;
 use yp_board::{MapName, copy_names};
-use yp_build::Kind;
 use yp_client::Question;
 use yp_io::{NoMemory, Peer};
+use yp_texts::Kind;
 
 /// The map of the servers of a domain.
 const YPSERVERS: &[u8] = b"ypservers";

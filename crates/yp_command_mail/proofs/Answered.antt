@@ -5,16 +5,16 @@ use Rattle.std.specs.Prelude.{nat_le, ◌&&◌, option_map}
 use Rattle.std.proofs.lemmas.Bool.{le-leb, lt-leb}
 use Rattle.yp_io.specs.declared.stream.Failed.{Failed}
 use Rattle.yp_io.specs.declared.stream.Peer.{Peer}
-use Rattle.yp_io.specs.Inboxes.{Post, Arrived, Silent, Sent}
+use Rattle.yp_io.specs.Inboxes.{InboxEvent, Arrived, Silent, Sent}
 use Rattle.yp_rpc.specs.declared.turns.Ended.{Ended}
-use Rattle.yp_rpc.specs.Turns.{Want, Letter, Turn, Nothing, Meets, Runs, mail_max}
+use Rattle.yp_rpc.specs.Turns.{Want, Letter, Turn, Nothing, Meets, Runs, datagram_max}
 use Rattle.yp_rpc.specs.Turns as turns
-use Rattle.yp_portmap.specs.Asking.{port_read}
-use Rattle.yp_mailing.specs.declared.getport.Asking.{Asking}
-use Rattle.yp_mailing.specs.Getport.{Answer, is_answer, wanted, sent, heard, asking_ways, first_answer}
+use Rattle.yp_binding.specs.portmap.Asking.{port_read}
+use Rattle.yp_command_mail.specs.declared.getport.Asking.{Asking}
+use Rattle.yp_command_mail.specs.Getport.{PortAnswer, is_answer, wanted, sent, heard, asking_ways, first_answer}
 
 -- an answer that is there, or what is read of the one that was found
-abbrev later : Option Answer → Option (List ℕ) → Option Answer
+abbrev later : Option PortAnswer → Option (List ℕ) → Option PortAnswer
 later (Some answer) found = Some answer
 later None found = option_map port_read found
 
@@ -31,7 +31,7 @@ no_end true asking e = absurd cc
 no_end false asking e = absurd cc
 
 -- with one there is nothing else
-no_more : (answer : Answer) (due : Bool) (asking : Asking) (want : Want) → want ≡ wanted (Some answer) due asking
+no_more : (answer : PortAnswer) (due : Bool) (asking : Asking) (want : Want) → want ≡ wanted (Some answer) due asking
     → want ≡ Nothing
 no_more answer due asking want e = e
 
@@ -44,15 +44,15 @@ no_turn e = absurd cc
 -- ---- a turn
 
 -- what a turn does to a question without an answer
-record Met (turn : Post) (answers : List Post) (old new : Asking) : Type 0 where
+record Met (turn : InboxEvent) (answers : List InboxEvent) (old new : Asking) : Type 0 where
   none : answers ≡ []
   answer : new.answer ≡ option_map port_read (first_answer old.mapper (turn ∷ []))
   mapper : new.mapper ≡ old.mapper
 
-over_limit : (from : Peer) (bytes : List ℕ) (old : Asking) → mail_max < length bytes → old.answer ≡ None
+over_limit : (from : Peer) (bytes : List ℕ) (old : Asking) → datagram_max < length bytes → old.answer ≡ None
     → old.answer ≡ option_map port_read (first_answer old.mapper (Arrived from bytes ∷ []))
 over_limit from bytes old over e =
-    let long : nat_le (length bytes) mail_max ≡ false = lt-leb (length bytes) mail_max over in rw long e
+    let long : nat_le (length bytes) datagram_max ≡ false = lt-leb (length bytes) datagram_max over in rw long e
 
 by_test : (fits : Bool) (mail : List ℕ) (old new : Asking) → old.answer ≡ None
     → new ≡ cond fits (record old { answer = Some (port_read mail) }) old
@@ -60,17 +60,17 @@ by_test : (fits : Bool) (mail : List ℕ) (old new : Asking) → old.answer ≡ 
 by_test true mail old new e is = (ap (λ (a : Asking). a.answer) is, ap (λ (a : Asking). a.mapper) is)
 by_test false mail old new e is = (ap (λ (a : Asking). a.answer) is ∙ e, ap (λ (a : Asking). a.mapper) is)
 
-heard_met : (from : Peer) (bytes : List ℕ) (old new : Asking) → length bytes ≤ mail_max → old.answer ≡ None
+heard_met : (from : Peer) (bytes : List ℕ) (old new : Asking) → length bytes ≤ datagram_max → old.answer ≡ None
     → new ≡ heard from bytes old → Met (Arrived from bytes) [] old new
 heard_met from bytes old new few e is =
-    let short : nat_le (length bytes) mail_max ≡ true = le-leb (length bytes) mail_max few in
+    let short : nat_le (length bytes) datagram_max ≡ true = le-leb (length bytes) datagram_max few in
     let told = by_test (is_answer old.mapper from bytes) bytes old new e is in
     record { none = refl; answer = rw short told.0; mapper = told.1 }
 
-met : (turn : Post) (answers : List Post) (old new : Asking) → Meets asking_ways turn answers old new
+met : (turn : InboxEvent) (answers : List InboxEvent) (old new : Asking) → Meets asking_ways turn answers old new
     → old.answer ≡ None → Met turn answers old new
-met turn answers old new (turns.drops from bytes errand over) e =
-    record { none = refl; answer = over_limit from bytes errand over e; mapper = refl }
+met turn answers old new (turns.drops from bytes handler over) e =
+    record { none = refl; answer = over_limit from bytes handler over e; mapper = refl }
 met turn answers old new (turns.listens from bytes before after few hears) e =
     heard_met from bytes before after few e hears.1
 met turn answers old new (turns.replies from bytes reply before after few hears) e =
@@ -86,12 +86,12 @@ by_first : (fits : Bool) (mail : List ℕ) (more : Option (List ℕ))
 by_first true mail more = refl
 by_first false mail more = refl
 
-first_of : (mapper : Peer) (turn : Post) (posts : List Post)
-    → first_answer mapper (turn ∷ posts) ≡ either (first_answer mapper (turn ∷ [])) (first_answer mapper posts)
-first_of mapper (Arrived from mail) posts =
-    by_first (nat_le (length mail) mail_max && is_answer mapper from mail) mail (first_answer mapper posts)
-first_of mapper Silent posts = refl
-first_of mapper (Sent to mail) posts = refl
+first_of : (mapper : Peer) (turn : InboxEvent) (events : List InboxEvent)
+    → first_answer mapper (turn ∷ events) ≡ either (first_answer mapper (turn ∷ [])) (first_answer mapper events)
+first_of mapper (Arrived from mail) events =
+    by_first (nat_le (length mail) datagram_max && is_answer mapper from mail) mail (first_answer mapper events)
+first_of mapper Silent events = refl
+first_of mapper (Sent to mail) events = refl
 
 joined : (first more : Option (List ℕ)) → later (option_map port_read first) more ≡ later None (either first more)
 joined (Some mail) more = refl
@@ -100,42 +100,42 @@ joined None more = refl
 -- ---- a run
 
 module _ where
-  same_sent : (a : Option Answer) (old new : Asking) → old.answer ≡ a → new ≡ sent old.answer old
+  same_sent : (a : Option PortAnswer) (old new : Asking) → old.answer ≡ a → new ≡ sent old.answer old
       → (new.answer ≡ a) × (new.mapper ≡ old.mapper)
   same_sent (Some x) old new e is =
-      let same : new ≡ sent (Some x) old = subst (λ (o : Option Answer). new ≡ sent o old) e is in
+      let same : new ≡ sent (Some x) old = subst (λ (o : Option PortAnswer). new ≡ sent o old) e is in
       (ap (λ (q : Asking). q.answer) same ∙ e, ap (λ (q : Asking). q.mapper) same)
   same_sent None old new e is =
-      let same : new ≡ sent None old = subst (λ (o : Option Answer). new ≡ sent o old) e is in
+      let same : new ≡ sent None old = subst (λ (o : Option PortAnswer). new ≡ sent o old) e is in
       (ap (λ (q : Asking). q.answer) same ∙ e, ap (λ (q : Asking). q.mapper) same)
 
-  wants : (a : Option Answer) (want : Want) (old : Asking) → old.answer ≡ a
+  wants : (a : Option PortAnswer) (want : Want) (old : Asking) → old.answer ≡ a
       → want ≡ wanted old.answer old.is_due old → want ≡ wanted a old.is_due old
-  wants a want old e is = subst (λ (o : Option Answer). want ≡ wanted o old.is_due old) e is
+  wants a want old e is = subst (λ (o : Option PortAnswer). want ≡ wanted o old.is_due old) e is
 
-  run_answered : (most : ℕ) (posts : List Post) (end : Result Ended Failed) (old last : Asking)
-      → Runs asking_ways most posts end old last → (a : Option Answer) → old.answer ≡ a
-      → last.answer ≡ later a (first_answer old.mapper posts)
-  run_answered most posts end old last (turns.is_spent errand) (Some x) e = e
-  run_answered most posts end old last (turns.is_spent errand) None e = e
-  run_answered most posts end old last (turns.is_done more before after goes) (Some x) e =
+  run_answered : (most : ℕ) (events : List InboxEvent) (end : Result Ended Failed) (old last : Asking)
+      → Runs asking_ways most events end old last → (a : Option PortAnswer) → old.answer ≡ a
+      → last.answer ≡ later a (first_answer old.mapper events)
+  run_answered most events end old last (turns.is_spent handler) (Some x) e = e
+  run_answered most events end old last (turns.is_spent handler) None e = e
+  run_answered most events end old last (turns.is_done more before after goes) (Some x) e =
       (same_sent (Some x) before after e goes.1).0
-  run_answered most posts end old last (turns.is_done more before after goes) None e =
+  run_answered most events end old last (turns.is_done more before after goes) None e =
       absurd (no_end before.is_due before (wants None Nothing before e goes.0))
-  run_answered most posts end old last (turns.sends more to bytes rest how before next after goes runs) (Some x) e =
+  run_answered most events end old last (turns.sends more to bytes rest how before next after goes runs) (Some x) e =
       absurd (no_letter to bytes (wants (Some x) (Letter to bytes) before e goes.0))
-  run_answered most posts end old last (turns.sends more to bytes rest how before next after goes runs) None e =
+  run_answered most events end old last (turns.sends more to bytes rest how before next after goes runs) None e =
       let same = same_sent None before next e goes.1 in
       run_answered (suc more) rest how next after runs None same.0
       ∙ ap (λ (mapper : Peer). option_map port_read (first_answer mapper rest)) same.1
-  run_answered most posts end old last (turns.loses_letter more to bytes why before after goes) (Some x) e =
+  run_answered most events end old last (turns.loses_letter more to bytes why before after goes) (Some x) e =
       absurd (no_letter to bytes (wants (Some x) (Letter to bytes) before e goes.0))
-  run_answered most posts end old last (turns.loses_letter more to bytes why before after goes) None e =
+  run_answered most events end old last (turns.loses_letter more to bytes why before after goes) None e =
       (same_sent None before after e goes.1).0
-  run_answered most posts end old last
+  run_answered most events end old last
       (turns.takes more turn answers rest how before waiting next after goes meets runs) (Some x) e =
       absurd (no_turn (wants (Some x) Turn before e goes.0))
-  run_answered most posts end old last
+  run_answered most events end old last
       (turns.takes more turn answers rest how before waiting next after goes meets runs) None e =
       let same = same_sent None before waiting e goes.1 in
       let met = met turn answers waiting next meets same.0 in
@@ -145,20 +145,20 @@ module _ where
       ∙ joined found (first_answer waiting.mapper rest)
       ∙ ap (λ (o : Option (List ℕ)). later None o) (sym (first_of waiting.mapper turn rest))
       ∙ ap (λ (mapper : Peer). later None (first_answer mapper (turn ∷ rest))) same.1
-      ∙ ap (λ (l : List Post). later None (first_answer before.mapper (turn ∷ l ++ rest))) (sym met.none)
-  run_answered most posts end old last (turns.loses_turn more why before after goes) (Some x) e =
+      ∙ ap (λ (l : List InboxEvent). later None (first_answer before.mapper (turn ∷ l ++ rest))) (sym met.none)
+  run_answered most events end old last (turns.loses_turn more why before after goes) (Some x) e =
       absurd (no_turn (wants (Some x) Turn before e goes.0))
-  run_answered most posts end old last (turns.loses_turn more why before after goes) None e =
+  run_answered most events end old last (turns.loses_turn more why before after goes) None e =
       (same_sent None before after e goes.1).0
-  run_answered most posts end old last (turns.loses_reply more turn reply why before waiting after goes meets) (Some x) e =
+  run_answered most events end old last (turns.loses_reply more turn reply why before waiting after goes meets) (Some x) e =
       absurd (no_turn (wants (Some x) Turn before e goes.0))
-  run_answered most posts end old last (turns.loses_reply more turn reply why before waiting after goes meets) None e =
+  run_answered most events end old last (turns.loses_reply more turn reply why before waiting after goes meets) None e =
       let same = same_sent None before waiting e goes.1 in
       let some = (met turn (reply ∷ []) waiting after meets same.0).none in
       absurd cc
 
 -- the first answer among what happened counts
-pub first_counts : (most : ℕ) (posts : List Post) (end : Result Ended Failed) (old last : Asking)
-    → Runs asking_ways most posts end old last → old.answer ≡ None
-    → last.answer ≡ option_map port_read (first_answer old.mapper posts)
-first_counts most posts end old last runs none = run_answered most posts end old last runs None none
+pub first_counts : (most : ℕ) (events : List InboxEvent) (end : Result Ended Failed) (old last : Asking)
+    → Runs asking_ways most events end old last → old.answer ≡ None
+    → last.answer ≡ option_map port_read (first_answer old.mapper events)
+first_counts most events end old last runs none = run_answered most events end old last runs None none

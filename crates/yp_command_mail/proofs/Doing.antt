@@ -3,16 +3,16 @@ use Rattle.std.proofs.Common.{◌≡◌, ℕ, Ok, Err, None, refl, inl}
 use Rattle.yp_io.specs.Counts.{HasRisen}
 use Rattle.yp_io.specs.declared.stream.Failed.{Failed}
 use Rattle.yp_rpc.specs.declared.turns.Ended.{Ended}
-use Rattle.yp_rpc.specs.Turns.{TakesTurns, Box, box_of}
-use Rattle.yp_office.specs.declared.status.Status.{Status}
-use Rattle.yp_office.specs.declared.status.Status.TheVariants.{WriteFault, InboxFault}
-use Rattle.yp_office.specs.declared.office.Office.{Office}
-use Rattle.yp_office.specs.Seeing.{Seeing}
-use Rattle.yp_mailing.specs.declared.getport.Asking.{Asking}
-use Rattle.yp_mailing.specs.Telling.{Tells, HasCauses, box}
-use Rattle.yp_mailing.specs.Getport.{asking_ways, answer_text, answer_status, GetportDoes}
-use Rattle.yp_mailing.proofs.Told.{told_whole}
-use Rattle.yp_mailing.proofs.Answered.{first_counts}
+use Rattle.yp_rpc.specs.Turns.{TakesTurns, InboxTells, inbox_tells}
+use Rattle.yp_command.specs.declared.office.status.Status.{Status}
+use Rattle.yp_command.specs.declared.office.status.Status.TheVariants.{WriteFault, InboxFault}
+use Rattle.yp_command.specs.declared.office.office.Office.{Office}
+use Rattle.yp_command.specs.office.Seeing.{Seeing}
+use Rattle.yp_command_mail.specs.declared.getport.Asking.{Asking}
+use Rattle.yp_command_mail.specs.Telling.{TellsText, HasInboxCauses, box}
+use Rattle.yp_command_mail.specs.Getport.{asking_ways, answer_text, answer_status, GetportDoes}
+use Rattle.yp_command_mail.proofs.Told.{told_whole}
+use Rattle.yp_command_mail.proofs.Answered.{first_counts}
 
 module _ {S K D C A I T : Type 0} (seen : Seeing S K D C A I T) (turns : ℕ) (old : Office S K D C A I T) where
   -- the office behind turns, and behind a text
@@ -23,8 +23,8 @@ module _ {S K D C A I T : Type 0} (seen : Seeing S K D C A I T) (turns : ℕ) (o
   told inbox sink = record old { wire = record old.wire { sink = sink }; inbox = inbox }
 
   -- what the inbox tells then
-  abbrev pub told_box : I → Box
-  told_box inbox = box_of seen.inbox.past seen.inbox.turns seen.inbox.quiets inbox
+  abbrev pub told_box : I → InboxTells
+  told_box inbox = inbox_tells seen.inbox.past seen.inbox.turns seen.inbox.quiets inbox
 
   -- the count of the sink's or the inbox's faults rose
   abbrev pub SinkFails : K → Type 0
@@ -33,7 +33,7 @@ module _ {S K D C A I T : Type 0} (seen : Seeing S K D C A I T) (turns : ℕ) (o
   abbrev pub BoxFails : I → Type 0
   BoxFails inbox = HasRisen (seen.inbox.faults old.inbox) (seen.inbox.faults inbox)
 
-  failed : (inbox : I) → BoxFails inbox → HasCauses seen InboxFault old (turned inbox)
+  failed : (inbox : I) → BoxFails inbox → HasInboxCauses seen InboxFault old (turned inbox)
   failed inbox fails = record { write_fault = λ e. absurd cc; inbox_fault = λ e. fails }
 
   -- ---- `getport`
@@ -47,7 +47,7 @@ module _ {S K D C A I T : Type 0} (seen : Seeing S K D C A I T) (turns : ℕ) (o
       last = last;
       takes = takes;
       tells = (refl, refl);
-      answered = first_counts turns takes.posts (Err why) first last takes.runs none;
+      answered = first_counts turns takes.events (Err why) first last takes.runs none;
       complete = λ sound whole. absurd (sound fails);
     });
     causes = failed inbox fails;
@@ -57,7 +57,7 @@ module _ {S K D C A I T : Type 0} (seen : Seeing S K D C A I T) (turns : ℕ) (o
   pub getport_told : (first last : Asking) (inbox : I) (sink : K) (status : Status) (end : Ended)
       → first.answer ≡ None
       → TakesTurns asking_ways turns (Ok end) first last (box seen old) (told_box inbox)
-      → Tells (answer_text last.answer) (answer_status turns last.answer) status (seen.sink.output old.wire.sink)
+      → TellsText (answer_text last.answer) (answer_status turns last.answer) status (seen.sink.output old.wire.sink)
       (seen.sink.output sink)
       → (status ≡ WriteFault → SinkFails sink) → (status ≡ InboxFault → ⊥)
       → GetportDoes seen turns first status old (told inbox sink)
@@ -67,7 +67,7 @@ module _ {S K D C A I T : Type 0} (seen : Seeing S K D C A I T) (turns : ℕ) (o
       last = last;
       takes = takes;
       tells = tells;
-      answered = first_counts turns takes.posts (Ok end) first last takes.runs none;
+      answered = first_counts turns takes.events (Ok end) first last takes.runs none;
       complete = λ sound whole.
           told_whole (answer_text last.answer) (answer_status turns last.answer) status
           (seen.sink.output old.wire.sink) (seen.sink.output sink) tells (λ e. whole (cause e));

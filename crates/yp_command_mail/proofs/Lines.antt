@@ -2,8 +2,8 @@
 use Rattle.std.proofs.Common.{◌≡◌, ℕ, zero, suc, List, [], ◌∷◌, ◌++◌, take, Some, refl, sym, ap, ◌∙◌, append_assoc}
 use Rattle.std.specs.Prelude.{slice_get}
 use Rattle.std.proofs.lemmas.List.{append-nil}
-use Rattle.yp_portmap.specs.declared.mapping.Mapping.{Mapping}
-use Rattle.yp_mailing.specs.Portmap.{mapping_line, mappings_text}
+use Rattle.yp_binding.specs.declared.portmap.mapping.Mapping.{Mapping}
+use Rattle.yp_command_mail.specs.Portmap.{mapping_line, mappings_text}
 
 take_none : (xs : List Mapping) → take 0 xs ≡ []
 take_none [] = refl

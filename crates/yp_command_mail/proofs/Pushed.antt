@@ -6,42 +6,44 @@ use Rattle.std.proofs.lemmas.List.{length-map}
 use Rattle.yp_io.specs.Disk.{History}
 use Rattle.yp_io.specs.declared.stream.Failed.{Failed}
 use Rattle.yp_version.specs.Versions.{MapVersion}
-use Rattle.yp_slot.specs.declared.fault.SlotFault.{SlotFault}
-use Rattle.yp_slot.specs.declared.fault.SlotFault.TheVariants as slot
-use Rattle.yp_slot.specs.Loads.{Loads}
-use Rattle.yp_slot.specs.Stands.{Stands, Stored, stands}
+use Rattle.yp_map_file.specs.declared.fault.SlotFault.{SlotFault}
+use Rattle.yp_map_file.specs.declared.fault.SlotFault.TheVariants as slot
+use Rattle.yp_map_file.specs.Loads.{Loads}
+use Rattle.yp_map_file.specs.Stands.{Stands, Stored, stands}
 use Rattle.yp_board.specs.Catalogues.{Name, name_view}
 use Rattle.yp_board.specs.declared.catalog.MapName.{MapName}
 use Rattle.yp_rpc.specs.declared.turns.Ended.{Ended}
 use Rattle.yp_push.specs.Ledgers.{Ledger, slaves_max}
-use Rattle.yp_pushing.specs.Kept.{slave_view, request_view}
-use Rattle.yp_pushing.specs.Sendings.{Request}
-use Rattle.yp_pushing.specs.Pushers.{Slave, Pushing}
-use Rattle.yp_words.specs.Words.{is_ypservers, ypservers_of}
-use Rattle.yp_office.specs.declared.office.Office.{Office}
-use Rattle.yp_office.specs.declared.status.Status.{Status}
-use Rattle.yp_office.specs.declared.status.Status.TheVariants.{Done, No, WriteFault, NoMemory, InboxFault, Rows}
-use Rattle.yp_office.specs.declared.status.Status.TheVariants.{Damaged, NoVersion, DiskFault}
-use Rattle.yp_office.specs.Disks.{told_at}
-use Rattle.yp_office.specs.Files.{Fails}
-use Rattle.yp_office.specs.Seeing.{Seeing, moment, WriteFails, DiskFails, InboxFails}
-use Rattle.yp_mailing.specs.declared.finding.Found.{Found}
-use Rattle.yp_mailing.specs.declared.finding.Loaded.{Loaded}
-use Rattle.yp_mailing.specs.declared.finding.Stop.{Stop}
-use Rattle.yp_mailing.specs.declared.finding.Stop.TheVariants as stop
-use Rattle.yp_mailing.specs.declared.finding.Which.{Which}
-use Rattle.yp_mailing.specs.declared.finding.Which.TheVariants.{Store, Servers}
-use Rattle.yp_mailing.specs.declared.push.Plan.{Plan}
-use Rattle.yp_mailing.specs.Finding.{Load, LoadsMaps, LoadsFrom, LoadsServers, Stops, judged, which_of}
-use Rattle.yp_mailing.specs.Push.{Job, slaves_in, ledger_of, begun, begun_by, IsPlan, Plans, PlansFrom}
-use Rattle.yp_mailing.specs.Push.{IsEnd, TellsEnd, Takes, dial_seen, IsSentBy, IsUnsent, IsSent}
-use Rattle.yp_mailing.specs.Push.{Pushes, IsFree, IsWhole, FailsAt, OwnDiskFails, PushDoes}
-use Rattle.yp_mailing.specs.Telling.{Tells, box}
+use Rattle.yp_push.specs.inside.turns.Kept.{slave_view, request_view}
+use Rattle.yp_push.specs.turns.Sendings.{Request}
+use Rattle.yp_push.specs.turns.Pushers.{Slave, Pushing}
+use Rattle.yp_command.specs.Words.{is_ypservers, ypservers_of}
+use Rattle.yp_command.specs.declared.office.office.Office.{Office}
+use Rattle.yp_command.specs.declared.office.status.Status.{Status}
+use Rattle.yp_command.specs.declared.office.status.Status.TheVariants.{Done, No, WriteFault, NoMemory, InboxFault, Rows}
+use Rattle.yp_command.specs.declared.office.status.Status.TheVariants.{Damaged, NoVersion, DiskFault}
+use Rattle.yp_command.specs.office.Disks.{told_at}
+use Rattle.yp_command.specs.office.Files.{Fails}
+use Rattle.yp_command.specs.office.Seeing.{Seeing, moment, WriteFails, DiskFails, InboxFails}
+use Rattle.yp_command_mail.specs.declared.finding.Found.{Found}
+use Rattle.yp_command_mail.specs.declared.finding.LoadedFiles.{LoadedFiles}
+use Rattle.yp_command_mail.specs.declared.finding.PushStop.{PushStop}
+use Rattle.yp_command_mail.specs.declared.finding.PushStop.TheVariants as stop
+use Rattle.yp_command_mail.specs.declared.finding.Which.{Which}
+use Rattle.yp_command_mail.specs.declared.finding.Which.TheVariants.{Store, Servers}
+use Rattle.yp_command_mail.specs.declared.push.PushPlan.{PushPlan}
+use Rattle.yp_command_mail.specs.Finding.{Load, LoadsMaps, LoadsFrom, LoadsServers, StopsPush, judged, which_of}
+use Rattle.yp_command_mail.specs.Push.{Job, slaves_in, ledger_of, begun}
+use Rattle.yp_command_mail.specs.inside.Push.{begun_by, IsPlan, Plans, PlansFrom}
+use Rattle.yp_command_mail.specs.Push.{IsPushEnd, TellsPushEnd, TakesPushTurns, dial_seen, IsUnsent, IsSent}
+use Rattle.yp_command_mail.specs.inside.Push.{IsSentBy}
+use Rattle.yp_command_mail.specs.Push.{Pushes, CanPush, PushIsComplete, FailsAt, OwnDiskFails, PushDoes}
+use Rattle.yp_command_mail.specs.Telling.{TellsText, box}
 
 -- ---- statuses
 
 -- a text that is told ends as was wanted, or the output failed
-told_as : (text : List ℕ) (wanted status : Status) (before after : Option (List ℕ)) → Tells text wanted status before after
+told_as : (text : List ℕ) (wanted status : Status) (before after : Option (List ℕ)) → TellsText text wanted status before after
     → (status ≡ wanted) ⊎ (status ≡ WriteFault)
 told_as [] wanted status before after h = inl h.0
 told_as (byte ∷ text) wanted status before after (inl h) = inl h.0
@@ -49,9 +51,9 @@ told_as (byte ∷ text) wanted status before after (inr h) = inr h.0
 
 -- how it ends where nothing stands in the way
 abbrev Ends : Status → Type 0
-Ends status = IsWhole status ⊎ ((status ≡ WriteFault) ⊎ (status ≡ InboxFault))
+Ends status = PushIsComplete status ⊎ ((status ≡ WriteFault) ⊎ (status ≡ InboxFault))
 
-wanted_ends : {A : Type 0} (pushing : Pushing A) (wanted status : Status) → IsEnd pushing wanted
+wanted_ends : {A : Type 0} (pushing : Pushing A) (wanted status : Status) → IsPushEnd pushing wanted
     → (status ≡ wanted) ⊎ (status ≡ WriteFault) → Ends status
 wanted_ends pushing Done status is (inl e) = inl (inl e)
 wanted_ends pushing No status is (inl e) = inl (inr (inl e))
@@ -59,7 +61,7 @@ wanted_ends pushing _ status is (inl e) = absurd is
 wanted_ends pushing wanted status is (inr e) = inr (inl e)
 
 told_ends : {A : Type 0} (end : Result Ended Failed) (last : Pushing A) (status : Status) (before after : Option (List ℕ))
-    → TellsEnd end last status before after → Ends status
+    → TellsPushEnd end last status before after → Ends status
 told_ends (Ok end) last status before after (inl h) =
     wanted_ends last h.wanted status h.is_end (told_as _ h.wanted status before after h.tells)
 told_ends (Ok end) last status before after (inr h) = inl (inr (inr h.0))
@@ -72,7 +74,7 @@ no_disk status map (inl (inr (inr h))) e = let no = sym h ∙ e in absurd cc
 no_disk status map (inr (inl h)) e = let no = sym h ∙ e in absurd cc
 no_disk status map (inr (inr h)) e = let no = sym h ∙ e in absurd cc
 
-whole_of : (status : Status) → Ends status → (status ≡ WriteFault → ⊥) → (status ≡ InboxFault → ⊥) → IsWhole status
+whole_of : (status : Status) → Ends status → (status ≡ WriteFault → ⊥) → (status ≡ InboxFault → ⊥) → PushIsComplete status
 whole_of status (inl h) writes hears = h
 whole_of status (inr (inl h)) writes hears = absurd (writes h)
 whole_of status (inr (inr h)) writes hears = absurd (hears h)
@@ -94,7 +96,7 @@ IsOfDisk store map file servers =
     ((map ≡ store) × IsErrOf file slot.DiskFault)
     ⊎ ((map ≡ ypservers_of store) × ((load : Load) × (servers ≡ Some load) × IsErrOf load slot.DiskFault))
 
-none_of_disk : (store : Name) (which : Which) (status : Status) (map : MapName) → Stops store (stop.NoVersion which) status
+none_of_disk : (store : Name) (which : Which) (status : Status) (map : MapName) → StopsPush store (stop.NoVersion which) status
     → status ≡ DiskFault map → ⊥
 none_of_disk store which (NoVersion other) map h e = absurd cc
 none_of_disk store which _ map h e = absurd h
@@ -144,13 +146,13 @@ module _ {S K D C A I T : Type 0} (seen : Seeing S K D C A I T) (job : Job) (now
 
   module _ (writes : status ≡ WriteFault → ⊥) (hears : status ≡ InboxFault → ⊥) where
     found_whole : (found : Found) → length (slaves_in job found) ≤ slaves_max
-        → Pushes seen job now (Ok found) status old new → IsWhole status
+        → Pushes seen job now (Ok found) status old new → PushIsComplete status
     found_whole found few (inl (inl h)) = inl h.1
     found_whole found few (inl (inr (inl h))) = absurd (omega (arith, few, h.0))
     found_whole found few (inl (inr (inr h))) = whole_of status (sent_ends found h.2) writes hears
     found_whole found few (inr h) = inr (inr h.0)
 
-    memory_whole : (which : Which) → Pushes seen job now (Err (stop.Unloaded which slot.NoMemory)) status old new → IsWhole status
+    memory_whole : (which : Which) → Pushes seen job now (Err (stop.Unloaded which slot.NoMemory)) status old new → PushIsComplete status
     memory_whole which (inl h, unsent) = inr (inr (is_memory (which_of job.store which) status h))
       where
         is_memory : (store : Name) (status : Status) → Fails store slot.NoMemory status → status ≡ NoMemory
@@ -165,8 +167,8 @@ module _ {S K D C A I T : Type 0} (seen : Seeing S K D C A I T) (job : Job) (now
         let same : named ≡ version = cc in
         subst (λ (v : MapVersion). length (slaves_in job (found_as order v)) ≤ slaves_max) same few
 
-    whole_alone : (a : Stands) (file : Load) → Loads a file → IsFree job a a → (IsErrOf file slot.DiskFault → ⊥)
-        → Pushes seen job now (judged file None) status old new → IsWhole status
+    whole_alone : (a : Stands) (file : Load) → Loads a file → CanPush job a a → (IsErrOf file slot.DiskFault → ⊥)
+        → Pushes seen job now (judged file None) status old new → PushIsComplete status
     whole_alone a (Ok None) loads free disk h = let no = sym free.is_stored ∙ loads in absurd cc
     whole_alone a (Ok (Some version)) loads free disk h =
         found_whole (found_as version.order version) (few_of free.named version (sym free.is_named ∙ loads) free.few version.order) h
@@ -174,9 +176,9 @@ module _ {S K D C A I T : Type 0} (seen : Seeing S K D C A I T) (job : Job) (now
     whole_alone a (Err slot.DiskFault) loads free disk h = absurd (disk refl)
     whole_alone a (Err slot.NoMemory) loads free disk h = memory_whole Store h
 
-    whole_both : (a b : Stands) (file load : Load) → Loads a file → Loads b load → IsFree job a b
+    whole_both : (a b : Stands) (file load : Load) → Loads a file → Loads b load → CanPush job a b
         → (IsErrOf file slot.DiskFault → ⊥) → (IsErrOf load slot.DiskFault → ⊥)
-        → Pushes seen job now (judged file (Some load)) status old new → IsWhole status
+        → Pushes seen job now (judged file (Some load)) status old new → PushIsComplete status
     whole_both a b (Err (slot.Damaged at rule)) load loads more free disk other h =
         let no = sym free.is_stored ∙ loads in absurd cc
     whole_both a b (Err slot.DiskFault) load loads more free disk other h = absurd (disk refl)
@@ -196,8 +198,8 @@ module _ {S K D C A I T : Type 0} (seen : Seeing S K D C A I T) (job : Job) (now
 
   abbrev Whole : History → History → Type 0
   Whole h s =
-      IsFree job (stands h.state.reads) (stands s.state.reads) → ¬ DiskFails seen old new → ¬ InboxFails seen old new
-      → ¬ WriteFails seen old new → IsWhole status
+      CanPush job (stands h.state.reads) (stands s.state.reads) → ¬ DiskFails seen old new → ¬ InboxFails seen old new
+      → ¬ WriteFails seen old new → PushIsComplete status
 
   module _ (writes : status ≡ WriteFault → WriteFails seen old new) (hears : status ≡ InboxFault → InboxFails seen old new)
       (file : Load) (disk : IsErrOf file slot.DiskFault → DiskFails seen old new) where
@@ -240,7 +242,7 @@ module _ {S K D C A I T : Type 0} (seen : Seeing S K D C A I T) (job : Job) (now
       inr (h.0, other (same ∙ h.1.2))
 
   -- all that `push` does
-  pub push_does : (loaded : Loaded)
+  pub push_does : (loaded : LoadedFiles)
       → LoadsMaps seen.disk.history seen.disk.faults job.store loaded old.disks.items new.disks.items
       → IfSome (moment seen old) (λ moment. now ≡ moment)
       → Pushes seen job now (judged loaded.file loaded.servers) status old new
@@ -283,13 +285,13 @@ module _ {S K D C A I T : Type 0} (seen : Seeing S K D C A I T) (job : Job) (now
   not_found found _ h unsent = absurd h
 
   -- none was made
-  pub unplanned : (judged : Result Found Stop) (status : Status) → PlansFrom job now judged (Err status) → IsUnsent old new
+  pub unplanned : (judged : Result Found PushStop) (status : Status) → PlansFrom job now judged (Err status) → IsUnsent old new
       → Pushes seen job now judged status old new
   unplanned (Ok found) status h unsent = not_found found status h unsent
   unplanned (Err stop) status h unsent = (h, unsent)
 
   -- there is no slave
-  pub unneeded : (judged : Result Found Stop) → PlansFrom job now judged (Ok None) → IsUnsent old new
+  pub unneeded : (judged : Result Found PushStop) → PlansFrom job now judged (Ok None) → IsUnsent old new
       → Pushes seen job now judged Done old new
   unneeded (Ok found) h unsent = inl (inl (h, refl, unsent))
   unneeded (Err stop) h unsent = absurd h
@@ -298,17 +300,17 @@ module _ {S K D C A I T : Type 0} (seen : Seeing S K D C A I T) (job : Job) (now
   push_of dial ledger slaves request =
       record { dial = dial; ledger = ledger; slaves = slaves; request = request; starved = false }
 
-  begun_is : (found : Found) (plan : Plan) (dial : A) → IsPlan job now found plan
+  begun_is : (found : Found) (plan : PushPlan) (dial : A) → IsPlan job now found plan
       → length plan.slaves.items ≡ length (slaves_in job found) → begun_by plan dial ≡ begun job now found dial
   begun_is found plan dial h count =
-      ap (λ (l : Ledger). push_of dial l (map slave_view plan.slaves.items) (request_view plan.order))
+      ap (λ (l : Ledger). push_of dial l (map slave_view plan.slaves.items) (request_view plan.request))
       (h.ledger ∙ ap (ledger_of job now) count)
-      ∙ ap (λ (slaves : List Slave). push_of dial (ledger_of job now (length (slaves_in job found))) slaves (request_view plan.order))
+      ∙ ap (λ (slaves : List Slave). push_of dial (ledger_of job now (length (slaves_in job found))) slaves (request_view plan.request))
       h.slaves
       ∙ ap (push_of dial (ledger_of job now (length (slaves_in job found))) (slaves_in job found)) h.request
 
   -- it was pushed
-  pub planned : (judged : Result Found Stop) (plan : Plan) (status : Status) (mid : Office S K D C A I T)
+  pub planned : (judged : Result Found PushStop) (plan : PushPlan) (status : Status) (mid : Office S K D C A I T)
       → mid ≡ record old { disks = mid.disks; clock = mid.clock }
       → PlansFrom job now judged (Ok (Some plan)) → IsSentBy seen job.turns plan status mid new
       → Pushes seen job now judged status old new
@@ -327,6 +329,6 @@ module _ {S K D C A I T : Type 0} (seen : Seeing S K D C A I T) (job : Job) (now
       let count : length plan.slaves.items ≡ length (slaves_in job found) =
       sym (length-map plan.slaves.items slave_view) ∙ ap length h.slaves in
       let sent : IsSent seen job now found status old new =
-      subst (λ (first : Pushing A). Takes (dial_seen seen) job.turns first status new.dial (box seen old) (box seen new) (seen.sink.output old.wire.sink) (seen.sink.output new.wire.sink))
-      (begun_is found plan old.dial h count) (subst (λ (o : Office S K D C A I T). Takes (dial_seen seen) job.turns (begun_by plan o.dial) status new.dial (box seen o) (box seen new) (seen.sink.output o.wire.sink) (seen.sink.output new.wire.sink)) is takes) in
+      subst (λ (first : Pushing A). TakesPushTurns (dial_seen seen) job.turns first status new.dial (box seen old) (box seen new) (seen.sink.output old.wire.sink) (seen.sink.output new.wire.sink))
+      (begun_is found plan old.dial h count) (subst (λ (o : Office S K D C A I T). TakesPushTurns (dial_seen seen) job.turns (begun_by plan o.dial) status new.dial (box seen o) (box seen new) (seen.sink.output o.wire.sink) (seen.sink.output new.wire.sink)) is takes) in
       inl (inr (inr (omega (arith, count, h.some_), omega (arith, count, h.few), sent)))

@@ -6,29 +6,29 @@ use Rattle.yp_io.specs.declared.stream.Failed.{Failed}
 use Rattle.yp_io.specs.declared.stream.Peer.{Peer}
 use Rattle.yp_xdr.specs.declared.fault.XdrFault.{XdrFault}
 use Rattle.yp_xdr.specs.Kind.{Boolean}
-use Rattle.yp_xdr.specs.Reading.{Unread, reading}
+use Rattle.yp_xdr.specs.Reading.{Remaining, reading}
 use Rattle.yp_rpc.specs.declared.reply.ReplyHead.{ReplyHead}
 use Rattle.yp_rpc.specs.declared.reply.ReplyHead.TheVariants.{Success}
 use Rattle.yp_rpc.specs.Called.{call_of}
 use Rattle.yp_rpc.specs.Read.{reply_at}
-use Rattle.yp_msgs.specs.Messages.{req_domain}
-use Rattle.yp_msgs.specs.Numbers.{program, version, domain_nonack_procedure}
+use Rattle.yp_messages.specs.Messages.{req_domain}
+use Rattle.yp_messages.specs.Numbers.{program, version, domain_nonack_procedure}
 use Rattle.yp_rpc.specs.declared.turns.Ended.{Ended}
 use Rattle.yp_rpc.specs.Turns.{Want, Letter, Turn, Ways, ways_of, TakesTurns}
-use Rattle.yp_bind.specs.declared.binder.Ping.{Ping}
-use Rattle.yp_bind.specs.declared.binder.Policy.{Policy}
-use Rattle.yp_bind.specs.declared.event.Event.TheVariants.{Called, Offered, Quiet}
-use Rattle.yp_bind.specs.Events.{binding_of}
-use Rattle.yp_bind.specs.Requests.{asked_by}
-use Rattle.yp_bind.specs.Replies.{reply_to, set_by}
-use Rattle.yp_bind.specs.Rounds.{Bindings, with_event, next_ping_of, after_ping, taken_by}
-use Rattle.yp_office.specs.declared.status.Status.{Status}
-use Rattle.yp_office.specs.declared.status.Status.TheVariants.{Done, WriteFault, NoMemory, InboxFault}
-use Rattle.yp_office.specs.declared.office.Office.{Office}
-use Rattle.yp_words.specs.Words.{Host}
-use Rattle.yp_office.specs.Seeing.{Seeing, output, WriteFails, InboxFails}
-use Rattle.yp_mailing.specs.declared.binding.Offer.{Offer}
-use Rattle.yp_mailing.specs.Telling.{Tells, box, HasCauses, IsMailing}
+use Rattle.yp_binding.specs.declared.binder.Ping.{Ping}
+use Rattle.yp_binding.specs.declared.binder.Policy.{Policy}
+use Rattle.yp_binding.specs.declared.event.Event.TheVariants.{Called, Offered, Quiet}
+use Rattle.yp_binding.specs.Events.{binding_of}
+use Rattle.yp_binding.specs.Requests.{asked_by}
+use Rattle.yp_binding.specs.Replies.{reply_to, set_by}
+use Rattle.yp_binding.specs.Rounds.{Bindings, with_event, next_ping_of, after_ping, taken_by}
+use Rattle.yp_command.specs.declared.office.status.Status.{Status}
+use Rattle.yp_command.specs.declared.office.status.Status.TheVariants.{Done, WriteFault, NoMemory, InboxFault}
+use Rattle.yp_command.specs.declared.office.office.Office.{Office}
+use Rattle.yp_command.specs.Words.{Host}
+use Rattle.yp_command.specs.office.Seeing.{Seeing, output, WriteFails, InboxFails}
+use Rattle.yp_command_mail.specs.declared.binding.Offer.{Offer}
+use Rattle.yp_command_mail.specs.Telling.{TellsText, box, HasInboxCauses, IsMailing}
 
 -- ---- the turns
 
@@ -51,15 +51,15 @@ abbrev pub is_reply : List ℕ → Bool
 is_reply mail = starts_with ◌==◌ (drop 4 mail) (0 ∷ 0 ∷ 0 ∷ 1 ∷ [])
 
 -- what a reply with results offers: whether the server has the domain
-abbrev pub offer_behind : ℕ → Result (Bool × Unread) XdrFault → Option Offer
+abbrev pub offer_behind : ℕ → Result (Bool × Remaining) XdrFault → Option Offer
 offer_behind xid (Ok read) = Some (record { xid = xid; yes = read.0 })
 offer_behind xid (Err fault) = None
 
-abbrev pub offer_in : ℕ → ReplyHead → Unread → Option Offer
+abbrev pub offer_in : ℕ → ReplyHead → Remaining → Option Offer
 offer_in xid Success left = offer_behind xid (reading Boolean left)
 offer_in xid head left = None
 
-abbrev pub offer_at : Result ((ℕ × ReplyHead) × Unread) XdrFault → Option Offer
+abbrev pub offer_at : Result ((ℕ × ReplyHead) × Remaining) XdrFault → Option Offer
 offer_at (Ok read) = offer_in read.0.0 read.0.1 read.1
 offer_at (Err fault) = None
 
@@ -90,7 +90,7 @@ binding_ways = ways_of Goes Hears Rests
 abbrev pub servers_of : List Host → List Peer
 servers_of hosts = map (λ host. host.1) hosts
 
--- one domain, and the servers that are asked for it, before anything happened
+-- a binder of one domain with these servers, before its first event
 abbrev pub unbound : List ℕ → List Peer → Policy → Bindings
 unbound domain servers policy =
     record { domains = domain ∷ []; servers = servers; policy = policy; events = [] }
@@ -138,7 +138,7 @@ pub record TellsBinding {S K D C A I T : Type 0} (seen : Seeing S K D C A I T) (
   pub end : Result Ended Failed
   pub last : Bindings
   pub takes : TakesTurns binding_ways turns end (unbound domain servers policy) last (box seen old) (box seen new)
-  pub tells : Tells (bound_text end domain last) (bound_status end) status (output seen old) (output seen new)
+  pub tells : TellsText (bound_text end domain last) (bound_status end) status (output seen old) (output seen new)
 
 -- What `bind` does: it asks and answers in its turns, and tells the server that the domain is bound to; or memory runs
 -- out before it asks. Where nothing fails the server is told.
@@ -146,5 +146,5 @@ pub record BindDoes {S K D C A I T : Type 0} (seen : Seeing S K D C A I T) (turn
     (servers : List Peer) (policy : Policy) (status : Status) (old new : Office S K D C A I T) : Type 0 where
   pub binds : TellsBinding seen turns domain servers policy status old new ⊎ ((status ≡ NoMemory) × (new ≡ old))
   pub complete : ¬ InboxFails seen old new → ¬ WriteFails seen old new → (status ≡ Done) ⊎ (status ≡ NoMemory)
-  pub causes : HasCauses seen status old new
+  pub causes : HasInboxCauses seen status old new
   pub stays : IsMailing old new

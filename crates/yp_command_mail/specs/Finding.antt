@@ -4,42 +4,42 @@ use Rattle.std.specs.Prelude.{IfSome, IsErrOf}
 use Rattle.yp_io.specs.Counts.{HasRisen}
 use Rattle.yp_io.specs.Disk.{History}
 use Rattle.yp_version.specs.Versions.{MapVersion}
-use Rattle.yp_slot.specs.declared.fault.SlotFault.{SlotFault}
-use Rattle.yp_slot.specs.declared.fault.SlotFault.TheVariants as slot
-use Rattle.yp_slot.specs.Loads.{Loads}
-use Rattle.yp_slot.specs.Stands.{stands}
+use Rattle.yp_map_file.specs.declared.fault.SlotFault.{SlotFault}
+use Rattle.yp_map_file.specs.declared.fault.SlotFault.TheVariants as slot
+use Rattle.yp_map_file.specs.Loads.{Loads}
+use Rattle.yp_map_file.specs.Stands.{stands}
 use Rattle.yp_board.specs.Catalogues.{Name, name_view}
-use Rattle.yp_words.specs.Words.{is_ypservers, ypservers_of}
-use Rattle.yp_office.specs.declared.disks.NamedDisk.{NamedDisk}
-use Rattle.yp_office.specs.declared.status.Status.{Status}
-use Rattle.yp_office.specs.declared.status.Status.TheVariants.{NoVersion}
-use Rattle.yp_office.specs.Disks.{names_of, faults_of, faults_at, told_at, IsOnlyRead}
-use Rattle.yp_office.specs.Files.{Fails}
-use Rattle.yp_mailing.specs.declared.finding.Found.{Found}
-use Rattle.yp_mailing.specs.declared.finding.Loaded.{Loaded}
-use Rattle.yp_mailing.specs.declared.finding.Stop.{Stop}
-use Rattle.yp_mailing.specs.declared.finding.Stop.TheVariants as stop
-use Rattle.yp_mailing.specs.declared.finding.Which.{Which}
-use Rattle.yp_mailing.specs.declared.finding.Which.TheVariants.{Store, Servers}
+use Rattle.yp_command.specs.Words.{is_ypservers, ypservers_of}
+use Rattle.yp_command.specs.declared.office.disks.NamedDisk.{NamedDisk}
+use Rattle.yp_command.specs.declared.office.status.Status.{Status}
+use Rattle.yp_command.specs.declared.office.status.Status.TheVariants.{NoVersion}
+use Rattle.yp_command.specs.office.Disks.{names_of, faults_of, faults_at, told_at, IsOnlyRead}
+use Rattle.yp_command.specs.office.Files.{Fails}
+use Rattle.yp_command_mail.specs.declared.finding.Found.{Found}
+use Rattle.yp_command_mail.specs.declared.finding.LoadedFiles.{LoadedFiles}
+use Rattle.yp_command_mail.specs.declared.finding.PushStop.{PushStop}
+use Rattle.yp_command_mail.specs.declared.finding.PushStop.TheVariants as stop
+use Rattle.yp_command_mail.specs.declared.finding.Which.{Which}
+use Rattle.yp_command_mail.specs.declared.finding.Which.TheVariants.{Store, Servers}
 
 -- what was loaded of a file, or why nothing was
 abbrev pub Load : Type 0
 Load = Result (Option MapVersion) SlotFault
 
 -- the version of a map that is also that of the servers
-abbrev pub found_alone : Option MapVersion → Result Found Stop
+abbrev pub found_alone : Option MapVersion → Result Found PushStop
 found_alone None = Err (stop.NoVersion Store)
 found_alone (Some version) = Ok (record { order = version.order; servers = version })
 
 -- the versions of both maps, or the first of them that has none
-abbrev pub found_both : Option MapVersion → Option MapVersion → Result Found Stop
+abbrev pub found_both : Option MapVersion → Option MapVersion → Result Found PushStop
 found_both None servers = Err (stop.NoVersion Store)
 found_both (Some version) None = Err (stop.NoVersion Servers)
 found_both (Some version) (Some servers) = Ok (record { order = version.order; servers = servers })
 
 -- What is found in loaded files, or the first reason why nothing is: the map's file wasn't loaded, or that of the
 -- servers wasn't, or the map has no version, or that of the servers has none.
-abbrev pub judged : Load → Option Load → Result Found Stop
+abbrev pub judged : Load → Option Load → Result Found PushStop
 judged (Err fault) servers = Err (stop.Unloaded Store fault)
 judged (Ok last) None = found_alone last
 judged (Ok last) (Some (Err fault)) = Err (stop.Unloaded Servers fault)
@@ -51,16 +51,16 @@ which_of store Store = store
 which_of store Servers = ypservers_of store
 
 -- The status of a reason: it names the map.
-abbrev pub Stops : Name → Stop → Status → Type 0
-Stops store (stop.Unloaded which fault) status = Fails (which_of store which) fault status
-Stops store (stop.NoVersion which) (NoVersion map) = name_view map ≡ which_of store which
-Stops store (stop.NoVersion which) _ = ⊥
+abbrev pub StopsPush : Name → PushStop → Status → Type 0
+StopsPush store (stop.Unloaded which fault) status = Fails (which_of store which) fault status
+StopsPush store (stop.NoVersion which) (NoVersion map) = name_view map ≡ which_of store which
+StopsPush store (stop.NoVersion which) _ = ⊥
 
 -- what was loaded is what a disk's file stands for
 abbrev pub LoadsFrom : Option History → Load → Type 0
 LoadsFrom history load = IfSome history (λ h. Loads (stands h.state.reads) load)
 
--- the file of the servers was loaded, where it is another one than the map's
+-- The file of the servers was loaded, unless the map of the servers is the map that is pushed.
 abbrev pub LoadsServers : Bool → Option History → Option Load → Type 0
 LoadsServers true history load = load ≡ None
 LoadsServers false history None = ⊥
@@ -68,7 +68,7 @@ LoadsServers false history (Some load) = LoadsFrom history load
 
 -- The files of a map and of the servers were loaded from the first and the second disk, to which nothing was written.
 -- A fault of a disk is that of the file's own.
-pub record LoadsMaps {D : Type 0} (history : D → Option History) (faults : D → ℕ) (store : Name) (loaded : Loaded)
+pub record LoadsMaps {D : Type 0} (history : D → Option History) (faults : D → ℕ) (store : Name) (loaded : LoadedFiles)
     (old new : List (NamedDisk D)) : Type 0 where
   pub file : LoadsFrom (told_at history 0 old) loaded.file
   pub servers : LoadsServers (is_ypservers store) (told_at history 1 old) loaded.servers

@@ -10,24 +10,24 @@ use Rattle.yp_xdr.specs.Faults.{fault_place}
 use Rattle.yp_rpc.specs.declared.reply.ReplyHead.{ReplyHead}
 use Rattle.yp_rpc.specs.declared.reply.ReplyHead.TheVariants.{Success}
 use Rattle.yp_rpc.specs.declared.turns.Ended.{Ended}
-use Rattle.yp_io.specs.Inboxes.{Post, Arrived, Silent, Sent}
-use Rattle.yp_rpc.specs.Turns.{Want, Letter, Turn, Nothing, Ways, ways_of, TakesTurns, mail_max}
-use Rattle.yp_bind.specs.Rounds.{is_same_peer}
-use Rattle.yp_portmap.specs.declared.asking.PortReply.{PortReply}
-use Rattle.yp_portmap.specs.Asking.{getport_call, port_read}
-use Rattle.yp_office.specs.declared.status.Status.{Status}
-use Rattle.yp_office.specs.declared.status.Status.TheVariants.{Done, No, WriteFault, NoMemory, Denied, BadReply}
-use Rattle.yp_office.specs.declared.status.Status.TheVariants.{InboxFault, Unanswered}
-use Rattle.yp_office.specs.declared.office.Office.{Office}
-use Rattle.yp_office.specs.Seeing.{Seeing, output, WriteFails, InboxFails}
-use Rattle.yp_mailing.specs.declared.getport.Asking.{Asking}
-use Rattle.yp_mailing.specs.Telling.{Tells, box, HasCauses, IsMailing}
+use Rattle.yp_io.specs.Inboxes.{InboxEvent, Arrived, Silent, Sent}
+use Rattle.yp_rpc.specs.Turns.{Want, Letter, Turn, Nothing, Ways, ways_of, TakesTurns, datagram_max}
+use Rattle.yp_binding.specs.Rounds.{is_same_peer}
+use Rattle.yp_binding.specs.declared.portmap.asking.PortReply.{PortReply}
+use Rattle.yp_binding.specs.portmap.Asking.{getport_call, port_read}
+use Rattle.yp_command.specs.declared.office.status.Status.{Status}
+use Rattle.yp_command.specs.declared.office.status.Status.TheVariants.{Done, No, WriteFault, NoMemory, Denied, BadReply}
+use Rattle.yp_command.specs.declared.office.status.Status.TheVariants.{InboxFault, Unanswered}
+use Rattle.yp_command.specs.declared.office.office.Office.{Office}
+use Rattle.yp_command.specs.office.Seeing.{Seeing, output, WriteFails, InboxFails}
+use Rattle.yp_command_mail.specs.declared.getport.Asking.{Asking}
+use Rattle.yp_command_mail.specs.Telling.{TellsText, box, HasInboxCauses, IsMailing}
 
 -- ---- the turns
 
 -- what is read of an answer
-abbrev pub Answer : Type 0
-Answer = Result PortReply XdrFault
+abbrev pub PortAnswer : Type 0
+PortAnswer = Result PortReply XdrFault
 
 -- the number of each call
 abbrev pub call_number : ℕ
@@ -46,13 +46,13 @@ abbrev pub call_of : Asking → List ℕ
 call_of asking = getport_call call_number asking.prog asking.vers asking.prot
 
 -- Nothing more is wanted once an answer came. Before it the call is sent, where it is due, and else a turn is taken.
-abbrev pub wanted : Option Answer → Bool → Asking → Want
+abbrev pub wanted : Option PortAnswer → Bool → Asking → Want
 wanted (Some answer) due asking = Nothing
 wanted None true asking = Letter asking.mapper (call_of asking)
 wanted None false asking = Turn
 
 -- the call that is sent is due no more
-abbrev pub sent : Option Answer → Asking → Asking
+abbrev pub sent : Option PortAnswer → Asking → Asking
 sent (Some answer) asking = asking
 sent None asking = record asking { is_due = false }
 
@@ -75,12 +75,12 @@ abbrev pub asking_ways : Ways Asking
 asking_ways = ways_of Goes Hears Rests
 
 -- the first answer among what happened at an inbox: none that is over the limit of a datagram is heard
-abbrev pub first_answer : Peer → List Post → Option (List ℕ)
+abbrev pub first_answer : Peer → List InboxEvent → Option (List ℕ)
 first_answer mapper [] = None
-first_answer mapper (Arrived from mail ∷ posts) =
-    if nat_le (length mail) mail_max && is_answer mapper from mail then Some mail else first_answer mapper posts
-first_answer mapper (Silent ∷ posts) = first_answer mapper posts
-first_answer mapper (Sent to mail ∷ posts) = first_answer mapper posts
+first_answer mapper (Arrived from mail ∷ events) =
+    if nat_le (length mail) datagram_max && is_answer mapper from mail then Some mail else first_answer mapper events
+first_answer mapper (Silent ∷ events) = first_answer mapper events
+first_answer mapper (Sent to mail ∷ events) = first_answer mapper events
 
 -- before the first turn
 abbrev pub begun : Peer → (prog vers prot : ℕ) → Asking
@@ -112,22 +112,22 @@ reply_text Success port = port_line port
 reply_text head port = []
 
 -- the status of an answer, or of none in so many turns
-abbrev pub answer_status : ℕ → Option Answer → Status
+abbrev pub answer_status : ℕ → Option PortAnswer → Status
 answer_status turns None = Unanswered turns
 answer_status turns (Some (Err fault)) = BadReply (fault_place fault)
 answer_status turns (Some (Ok reply)) = reply_status reply.head reply.port
 
-abbrev pub answer_text : Option Answer → List ℕ
+abbrev pub answer_text : Option PortAnswer → List ℕ
 answer_text None = []
 answer_text (Some (Err fault)) = []
 answer_text (Some (Ok reply)) = reply_text reply.head reply.port
 
--- the same of turns that ended so
-abbrev pub asked_status : ℕ → Result Ended Failed → Option Answer → Status
+-- the status of `getport`, once its turns have ended so
+abbrev pub asked_status : ℕ → Result Ended Failed → Option PortAnswer → Status
 asked_status turns (Ok end) answer = answer_status turns answer
 asked_status turns (Err why) answer = InboxFault
 
-abbrev pub asked_text : Result Ended Failed → Option Answer → List ℕ
+abbrev pub asked_text : Result Ended Failed → Option PortAnswer → List ℕ
 asked_text (Ok end) answer = answer_text answer
 asked_text (Err why) answer = []
 
@@ -152,9 +152,9 @@ pub record AsksMapper {S K D C A I T : Type 0} (seen : Seeing S K D C A I T) (tu
   pub end : Result Ended Failed
   pub last : Asking
   pub takes : TakesTurns asking_ways turns end first last (box seen old) (box seen new)
-  pub tells : Tells (asked_text end last.answer) (asked_status turns end last.answer) status (output seen old)
+  pub tells : TellsText (asked_text end last.answer) (asked_status turns end last.answer) status (output seen old)
       (output seen new)
-  pub answered : last.answer ≡ option_map port_read (first_answer first.mapper takes.posts)
+  pub answered : last.answer ≡ option_map port_read (first_answer first.mapper takes.events)
   pub complete : ¬ InboxFails seen old new → ¬ WriteFails seen old new → status ≡ answer_status turns last.answer
 
 -- What `getport` does: it asks, and tells the port of the answer, or why there is none; or memory runs out before it
@@ -162,5 +162,5 @@ pub record AsksMapper {S K D C A I T : Type 0} (seen : Seeing S K D C A I T) (tu
 pub record GetportDoes {S K D C A I T : Type 0} (seen : Seeing S K D C A I T) (turns : ℕ) (first : Asking)
     (status : Status) (old new : Office S K D C A I T) : Type 0 where
   pub asks : AsksMapper seen turns first status old new ⊎ ((status ≡ NoMemory) × (new ≡ old))
-  pub causes : HasCauses seen status old new
+  pub causes : HasInboxCauses seen status old new
   pub stays : IsMailing old new

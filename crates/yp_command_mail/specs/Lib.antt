@@ -4,3 +4,4 @@ pub mod Portmap
 pub mod Bind
 pub mod Finding
 pub mod Push
+pub mod inside

@@ -5,14 +5,14 @@ use Rattle.yp_io.specs.declared.stream.Failed.{Failed}
 use Rattle.yp_io.specs.declared.stream.Peer.{Peer}
 use Rattle.yp_rpc.specs.declared.turns.Ended.{Ended}
 use Rattle.yp_rpc.specs.Turns.{Want, Turn, Ways, ways_of, TakesTurns}
-use Rattle.yp_portmap.specs.declared.mapping.Mapping.{Mapping}
-use Rattle.yp_portmap.specs.Replies.{reply as reply_to, after}
-use Rattle.yp_office.specs.declared.status.Status.{Status}
-use Rattle.yp_office.specs.declared.status.Status.TheVariants.{Done, WriteFault, NoMemory, InboxFault}
-use Rattle.yp_office.specs.declared.office.Office.{Office}
-use Rattle.yp_office.specs.Seeing.{Seeing, output, WriteFails, InboxFails}
-use Rattle.yp_mailing.specs.declared.portmap.Mapper.{Mapper}
-use Rattle.yp_mailing.specs.Telling.{Tells, box, HasCauses, IsMailing}
+use Rattle.yp_binding.specs.declared.portmap.mapping.Mapping.{Mapping}
+use Rattle.yp_binding.specs.portmap.Replies.{reply as reply_to, after}
+use Rattle.yp_command.specs.declared.office.status.Status.{Status}
+use Rattle.yp_command.specs.declared.office.status.Status.TheVariants.{Done, WriteFault, NoMemory, InboxFault}
+use Rattle.yp_command.specs.declared.office.office.Office.{Office}
+use Rattle.yp_command.specs.office.Seeing.{Seeing, output, WriteFails, InboxFails}
+use Rattle.yp_command_mail.specs.declared.portmap.Mapper.{Mapper}
+use Rattle.yp_command_mail.specs.Telling.{TellsText, box, HasInboxCauses, IsMailing}
 
 -- ---- the turns
 
@@ -77,7 +77,7 @@ pub record TellsPorts {S K D C A I T : Type 0} (seen : Seeing S K D C A I T) (tu
   pub end : Result Ended Failed
   pub mappings : List Mapping
   pub serves : ServesPorts seen turns end mappings old new
-  pub tells : Tells (served_text end mappings) (served_status end) status (output seen old) (output seen new)
+  pub tells : TellsText (served_text end mappings) (served_status end) status (output seen old) (output seen new)
 
 -- Memory ran out before the first turn, or behind the last one, and nothing is told.
 abbrev pub ForgoesPorts : {S K D C A I T : Type 0} → Seeing S K D C A I T → ℕ → Status
@@ -92,5 +92,5 @@ pub record PortmapDoes {S K D C A I T : Type 0} (seen : Seeing S K D C A I T) (t
     (old new : Office S K D C A I T) : Type 0 where
   pub tells : TellsPorts seen turns status old new ⊎ ForgoesPorts seen turns status old new
   pub complete : ¬ InboxFails seen old new → ¬ WriteFails seen old new → (status ≡ Done) ⊎ (status ≡ NoMemory)
-  pub causes : HasCauses seen status old new
+  pub causes : HasInboxCauses seen status old new
   pub stays : IsMailing old new

@@ -1,39 +1,35 @@
 -- What `push` does: it asks the slaves of a map's domain to fetch it, and tells what came of each.
-use Rattle.std.specs.Prelude.{◌≡◌, ◌⊎◌, ℕ, ◌+◌, ◌<◌, ◌≤◌, Bool, true, false, List, [], length, map, Option, Some, None}
-use Rattle.std.specs.Prelude.{Result, Ok, Err, IfSome, if◌then◌else◌, ⊤}
+use Rattle.std.specs.Prelude.{◌≡◌, ◌⊎◌, ℕ, ◌+◌, ◌<◌, ◌≤◌, Bool, true, false, List, [], length, map, Option}
+use Rattle.std.specs.Prelude.{Result, Ok, Err, IfSome, if◌then◌else◌}
 use Rattle.yp_io.specs.Counts.{HasRisen}
 use Rattle.yp_io.specs.Disk.{History}
 use Rattle.yp_io.specs.Dials.{DialTells, dial_tells}
 use Rattle.yp_io.specs.declared.stream.Failed.{Failed}
 use Rattle.yp_version.specs.Versions.{MapVersion}
-use Rattle.yp_slot.specs.Stands.{Stands, Stored, stands}
+use Rattle.yp_map_file.specs.Stands.{Stands, Stored, stands}
 use Rattle.yp_board.specs.Catalogues.{Name, name_view}
 use Rattle.yp_board.specs.declared.catalog.MapName.{MapName}
-use Rattle.yp_xfr.specs.HostTable.{HostList}
+use Rattle.yp_transfer.specs.HostTable.{HostList}
 use Rattle.yp_rpc.specs.declared.turns.Ended.{Ended}
-use Rattle.yp_rpc.specs.Turns.{TakesTurns, Box}
+use Rattle.yp_rpc.specs.Turns.{TakesTurns, InboxTells}
 use Rattle.yp_push.specs.Ledgers.{Ledger, slaves_max}
-use Rattle.yp_pushing.specs.Kept.{slave_view, request_view, IsWithin}
-use Rattle.yp_pushing.specs.Sendings.{Request}
-use Rattle.yp_pushing.specs.Slaves.{slaves_of}
-use Rattle.yp_pushing.specs.Pushers.{Slave, Pushing, pushing_ways}
-use Rattle.yp_pushing.specs.Printed.{push_text, AllHaveMap}
-use Rattle.yp_words.specs.Words.{host_view, is_ypservers, ypservers_of}
-use Rattle.yp_words.specs.declared.command.PushJob.{PushJob}
-use Rattle.yp_office.specs.declared.disks.NamedDisk.{NamedDisk}
-use Rattle.yp_office.specs.declared.office.Office.{Office}
-use Rattle.yp_office.specs.declared.status.Status.{Status}
-use Rattle.yp_office.specs.declared.status.Status.TheVariants.{Done, No, WriteFault, NoMemory, InboxFault, Rows}
-use Rattle.yp_office.specs.declared.status.Status.TheVariants.{Damaged, NoVersion, DiskFault}
-use Rattle.yp_office.specs.Disks.{told_at, faults_at}
-use Rattle.yp_office.specs.Rows.{rows_rule}
-use Rattle.yp_office.specs.Seeing.{Seeing, output, moment, WriteFails, DiskFails, InboxFails}
-use Rattle.yp_mailing.specs.declared.finding.Found.{Found}
-use Rattle.yp_mailing.specs.declared.finding.Loaded.{Loaded}
-use Rattle.yp_mailing.specs.declared.finding.Stop.{Stop}
-use Rattle.yp_mailing.specs.declared.push.Plan.{Plan}
-use Rattle.yp_mailing.specs.Finding.{LoadsMaps, Stops, judged}
-use Rattle.yp_mailing.specs.Telling.{Tells, box}
+use Rattle.yp_push.specs.turns.Sendings.{Request}
+use Rattle.yp_push.specs.turns.Slaves.{slaves_of}
+use Rattle.yp_push.specs.turns.Pushers.{Slave, Pushing, pushing_ways}
+use Rattle.yp_push.specs.turns.Printed.{push_text, AllHaveMap}
+use Rattle.yp_command.specs.Words.{is_ypservers, ypservers_of}
+use Rattle.yp_command.specs.declared.office.office.Office.{Office}
+use Rattle.yp_command.specs.declared.office.status.Status.{Status}
+use Rattle.yp_command.specs.declared.office.status.Status.TheVariants.{Done, No, WriteFault, NoMemory, InboxFault, Rows}
+use Rattle.yp_command.specs.declared.office.status.Status.TheVariants.{Damaged, NoVersion, DiskFault}
+use Rattle.yp_command.specs.office.Disks.{told_at, faults_at}
+use Rattle.yp_command.specs.office.Rows.{rows_rule}
+use Rattle.yp_command.specs.office.Seeing.{Seeing, output, moment, WriteFails, DiskFails, InboxFails}
+use Rattle.yp_command_mail.specs.declared.finding.Found.{Found}
+use Rattle.yp_command_mail.specs.declared.finding.LoadedFiles.{LoadedFiles}
+use Rattle.yp_command_mail.specs.declared.finding.PushStop.{PushStop}
+use Rattle.yp_command_mail.specs.Finding.{LoadsMaps, StopsPush, judged}
+use Rattle.yp_command_mail.specs.Telling.{TellsText, box}
 
 -- ---- what is to be pushed
 
@@ -50,10 +46,6 @@ abbrev pub job_of : List ℕ → (port window turns : ℕ) → Name → HostList
 job_of name port window turns store hosts =
     record { name = name; port = port; window = window; turns = turns; store = store; hosts = hosts }
 
-abbrev pub job_view : PushJob → Job
-job_view job =
-    job_of job.name.items job.port job.window job.turns (name_view job.store) (map host_view job.hosts.items)
-
 -- the slaves: the servers of the domain but the own name, in rising order
 abbrev pub slaves_in : Job → Found → List Slave
 slaves_in job found = slaves_of job.name job.hosts found.servers.rows
@@ -66,7 +58,7 @@ request_of job found = record { store = job.store; order = found.order; name = j
 abbrev pub ledger_of : Job → (now count : ℕ) → Ledger
 ledger_of job now count = record { slaves = count; first = now; window = job.window; events = [] }
 
--- such a push, over a dial
+-- a push of this version to these slaves, over a dial, before its first turn
 abbrev pub begun : {A : Type 0} → Job → (now : ℕ) → Found → A → Pushing A
 begun job now found dial = record {
   dial = dial;
@@ -76,102 +68,45 @@ begun job now found dial = record {
   starved = false;
 }
 
--- a plan, over a dial
-abbrev pub begun_by : {A : Type 0} → Plan → A → Pushing A
-begun_by plan dial = record {
-  dial = dial;
-  ledger = plan.push;
-  slaves = map slave_view plan.slaves.items;
-  request = request_view plan.order;
-  starved = false;
-}
-
--- ---- how it is planned
-
--- a plan to push what was found
-pub record IsPlan (job : Job) (now : ℕ) (found : Found) (plan : Plan) : Type 0 where
-  pub slaves : map slave_view plan.slaves.items ≡ slaves_in job found
-  pub ledger : plan.push ≡ ledger_of job now (length plan.slaves.items)
-  pub request : request_view plan.order ≡ request_of job found
-  pub some_ : 0 < length plan.slaves.items
-  pub few : length plan.slaves.items ≤ slaves_max
-
--- a plan with which a push can start
-pub record CanStart (plan : Plan) : Type 0 where
-  pub counted : plan.push.slaves ≡ length plan.slaves.items
-  pub few : length plan.slaves.items ≤ slaves_max
-  pub within : IsWithin (request_view plan.order)
-
--- There is a plan, unless there is no slave, or there are too many.
-abbrev pub Plans : Job → ℕ → Found → Result (Option Plan) Status → Type 0
-Plans job now found (Ok None) = slaves_in job found ≡ []
-Plans job now found (Ok (Some plan)) = IsPlan job now found plan
-Plans job now found (Err (Rows row rule)) =
-    (row ≡ slaves_max + 1) × (rule ≡ rows_rule) × (slaves_max < length (slaves_in job found))
-Plans job now found (Err NoMemory) = ⊤
-Plans job now found (Err _) = ⊥
-
--- the same of what was found, or of the reason why nothing is pushed
-abbrev pub PlansFrom : Job → ℕ → Result Found Stop → Result (Option Plan) Status → Type 0
-PlansFrom job now (Ok found) result = Plans job now found result
-PlansFrom job now (Err stop) (Ok plan) = ⊥
-PlansFrom job now (Err stop) (Err status) = Stops job.store stop status ⊎ (status ≡ NoMemory)
-
--- Both files were loaded, and the moment was read.
-pub record Readies {D : Type 0} (history : D → Option History) (faults : D → ℕ) (told : Option ℕ) (job : Job)
-    (result : Result (Option Plan) Status) (old new : List (NamedDisk D)) : Type 0 where
-  pub loaded : Loaded
-  pub loads : LoadsMaps history faults job.store loaded old new
-  pub now : ℕ
-  pub is_now : IfSome told (λ moment. now ≡ moment)
-  pub plans : PlansFrom job now (judged loaded.file loaded.servers) result
-
 -- ---- how it ends
 
 -- the status of slaves of which each has the map, and of others
-abbrev pub IsEnd : {A : Type 0} → Pushing A → Status → Type 0
-IsEnd pushing Done = AllHaveMap pushing
-IsEnd pushing No = ¬ AllHaveMap pushing
-IsEnd pushing _ = ⊥
+abbrev pub IsPushEnd : {A : Type 0} → Pushing A → Status → Type 0
+IsPushEnd pushing Done = AllHaveMap pushing
+IsPushEnd pushing No = ¬ AllHaveMap pushing
+IsPushEnd pushing _ = ⊥
 
 -- The lines of the slaves are told, with that status.
 pub record TellsSlaves {A : Type 0} (pushing : Pushing A) (status : Status) (before after : Option (List ℕ))
     : Type 0 where
   pub fed : pushing.starved ≡ false
   pub wanted : Status
-  pub is_end : IsEnd pushing wanted
-  pub tells : Tells (push_text pushing) wanted status before after
+  pub is_end : IsPushEnd pushing wanted
+  pub tells : TellsText (push_text pushing) wanted status before after
 
 -- How a push that ended so is told: by its lines, or that memory ran out, or that the inbox failed.
-abbrev pub TellsEnd : {A : Type 0} → Result Ended Failed → Pushing A → Status → (before after : Option (List ℕ))
+abbrev pub TellsPushEnd : {A : Type 0} → Result Ended Failed → Pushing A → Status → (before after : Option (List ℕ))
     → Type 0
-TellsEnd (Ok end) pushing status before after =
+TellsPushEnd (Ok end) pushing status before after =
     TellsSlaves pushing status before after ⊎ ((status ≡ NoMemory) × (after ≡ before))
-TellsEnd (Err why) pushing status before after = (status ≡ InboxFault) × (after ≡ before)
+TellsPushEnd (Err why) pushing status before after = (status ≡ InboxFault) × (after ≡ before)
 
 -- The turns were taken in which slaves are asked and tell how it went, and that is told. The dial is then as they left
 -- it.
-pub record Takes {A : Type 0} (tells : A → DialTells) (turns : ℕ) (first : Pushing A) (status : Status) (dial : A)
-    (before after : Box) (out out' : Option (List ℕ)) : Type 0 where
+pub record TakesPushTurns {A : Type 0} (tells : A → DialTells) (turns : ℕ) (first : Pushing A) (status : Status)
+    (dial : A)
+    (before after : InboxTells) (out out' : Option (List ℕ)) : Type 0 where
   pub end : Result Ended Failed
   pub last : Pushing A
   pub takes : TakesTurns (pushing_ways tells) turns end first last before after
   pub dial_is : dial ≡ last.dial
-  pub told : TellsEnd end last status out out'
+  pub told : TellsPushEnd end last status out out'
 
 -- ---- the command
 
 -- what the dial of an office tells
 abbrev pub dial_seen : {S K D C A I T : Type 0} → Seeing S K D C A I T → A → DialTells
 dial_seen seen = dial_tells seen.dial.past seen.dial.letters seen.dial.faults
-
--- what is planned was pushed, or memory ran out before that
-abbrev pub IsSentBy : {S K D C A I T : Type 0} → Seeing S K D C A I T → ℕ → Plan → Status
-    → (old new : Office S K D C A I T) → Type 0
-IsSentBy seen turns plan status old new =
-    Takes (dial_seen seen) turns (begun_by plan old.dial) status new.dial (box seen old) (box seen new)
-    (output seen old) (output seen new)
-    ⊎ ((status ≡ NoMemory) × (new ≡ old))
 
 -- no slave was asked, and nothing was told
 pub record IsUnsent {S K D C A I T : Type 0} (old new : Office S K D C A I T) : Type 0 where
@@ -183,7 +118,8 @@ pub record IsUnsent {S K D C A I T : Type 0} (old new : Office S K D C A I T) : 
 abbrev pub IsSent : {S K D C A I T : Type 0} → Seeing S K D C A I T → Job → ℕ → Found → Status
     → (old new : Office S K D C A I T) → Type 0
 IsSent seen job now found status old new =
-    Takes (dial_seen seen) job.turns (begun job now found old.dial) status new.dial (box seen old) (box seen new)
+    TakesPushTurns (dial_seen seen) job.turns (begun job now found old.dial) status new.dial (box seen old)
+    (box seen new)
     (output seen old) (output seen new)
 
 -- By the number of slaves: where there is none, nothing is asked or told, and all is done; where there are too many,
@@ -197,12 +133,12 @@ PushesTo seen job now found status old new =
     × IsSent seen job now found status old new))
 
 -- What is done with what was found: it is pushed, or memory runs out, or the reason why not is told.
-abbrev pub Pushes : {S K D C A I T : Type 0} → Seeing S K D C A I T → Job → ℕ → Result Found Stop → Status
+abbrev pub Pushes : {S K D C A I T : Type 0} → Seeing S K D C A I T → Job → ℕ → Result Found PushStop → Status
     → (old new : Office S K D C A I T) → Type 0
 Pushes seen job now (Ok found) status old new =
     PushesTo seen job now found status old new ⊎ ((status ≡ NoMemory) × IsUnsent old new)
 Pushes seen job now (Err stop) status old new =
-    (Stops job.store stop status ⊎ (status ≡ NoMemory)) × IsUnsent old new
+    (StopsPush job.store stop status ⊎ (status ≡ NoMemory)) × IsUnsent old new
 
 -- the statuses with which `push` may end
 abbrev pub push_may_end : Status → Bool
@@ -218,7 +154,7 @@ push_may_end (Rows row rule) = true
 push_may_end _ = false
 
 -- A version of the map stands, and one of the servers that names no more slaves than a push may have.
-pub record IsFree (job : Job) (file servers : Stands) : Type 0 where
+pub record CanPush (job : Job) (file servers : Stands) : Type 0 where
   pub version : MapVersion
   pub named : MapVersion
   pub is_stored : file ≡ Stored version
@@ -248,15 +184,15 @@ OwnDiskFails seen store map old new =
     ((map ≡ store) × FailsAt seen 0 old new) ⊎ ((map ≡ ypservers_of store) × FailsAt seen 1 old new)
 
 -- A fault that is told has its cause.
-pub record HasCauses {S K D C A I T : Type 0} (seen : Seeing S K D C A I T) (store : Name) (status : Status)
+pub record HasPushCauses {S K D C A I T : Type 0} (seen : Seeing S K D C A I T) (store : Name) (status : Status)
     (old new : Office S K D C A I T) : Type 0 where
   pub write_fault : status ≡ WriteFault → WriteFails seen old new
   pub inbox_fault : status ≡ InboxFault → InboxFails seen old new
   pub disk_fault : (map : MapName) → status ≡ DiskFault map → OwnDiskFails seen store (name_view map) old new
 
 -- the slaves were told of, or memory ran out
-abbrev pub IsWhole : Status → Type 0
-IsWhole status = (status ≡ Done) ⊎ ((status ≡ No) ⊎ (status ≡ NoMemory))
+abbrev pub PushIsComplete : Status → Type 0
+PushIsComplete status = (status ≡ Done) ⊎ ((status ≡ No) ⊎ (status ≡ NoMemory))
 
 -- What `push` does: the files of its map and of the domain's servers are read, the slaves are asked in their turns, and
 -- what came of each is told; or the first reason why not is. To the disks nothing is written. Where nothing is in the
@@ -264,15 +200,15 @@ IsWhole status = (status ≡ Done) ⊎ ((status ≡ No) ⊎ (status ≡ NoMemory
 -- ran out.
 pub record PushDoes {S K D C A I T : Type 0} (seen : Seeing S K D C A I T) (job : Job) (status : Status)
     (old new : Office S K D C A I T) : Type 0 where
-  pub loaded : Loaded
+  pub loaded : LoadedFiles
   pub loads : LoadsMaps seen.disk.history seen.disk.faults job.store loaded old.disks.items new.disks.items
   pub now : ℕ
   pub is_now : IfSome (moment seen old) (λ moment. now ≡ moment)
   pub pushes : Pushes seen job now (judged loaded.file loaded.servers) status old new
   pub complete : IfSome (store_history seen old) (λ h. IfSome (servers_history seen job.store old) (λ s.
-      IsFree job (stands h.state.reads) (stands s.state.reads)
-      → ¬ DiskFails seen old new → ¬ InboxFails seen old new → ¬ WriteFails seen old new → IsWhole status))
-  pub causes : HasCauses seen job.store status old new
+      CanPush job (stands h.state.reads) (stands s.state.reads)
+      → ¬ DiskFails seen old new → ¬ InboxFails seen old new → ¬ WriteFails seen old new → PushIsComplete status))
+  pub causes : HasPushCauses seen job.store status old new
   pub told : moment seen new ≡ moment seen old
   pub stays : new ≡ record old {
     wire = record old.wire { sink = new.wire.sink };

@@ -2,26 +2,26 @@
 use Rattle.std.specs.Prelude.{◌≡◌, ◌⊎◌, ℕ, List, [], ◌∷◌, Option}
 use Rattle.std.specs.Io.KnownBytes.{Appends}
 use Rattle.yp_io.specs.Streams.{AppendsFront}
-use Rattle.yp_rpc.specs.Turns.{Box, box_of}
-use Rattle.yp_office.specs.declared.status.Status.{Status}
-use Rattle.yp_office.specs.declared.status.Status.TheVariants.{WriteFault, InboxFault}
-use Rattle.yp_office.specs.declared.office.Office.{Office}
-use Rattle.yp_office.specs.Seeing.{Seeing, WriteFails, InboxFails}
+use Rattle.yp_rpc.specs.Turns.{InboxTells, inbox_tells}
+use Rattle.yp_command.specs.declared.office.status.Status.{Status}
+use Rattle.yp_command.specs.declared.office.status.Status.TheVariants.{WriteFault, InboxFault}
+use Rattle.yp_command.specs.declared.office.office.Office.{Office}
+use Rattle.yp_command.specs.office.Seeing.{Seeing, WriteFails, InboxFails}
 
 -- A text is printed, with the status that was wanted, or a front of it where the output failed. Nothing is printed of
 -- an empty one.
-abbrev pub Tells : List ℕ → (wanted status : Status) → Option (List ℕ) → Option (List ℕ) → Type 0
-Tells [] wanted status before after = (status ≡ wanted) × (after ≡ before)
-Tells (byte ∷ text) wanted status before after =
+abbrev pub TellsText : List ℕ → (wanted status : Status) → Option (List ℕ) → Option (List ℕ) → Type 0
+TellsText [] wanted status before after = (status ≡ wanted) × (after ≡ before)
+TellsText (byte ∷ text) wanted status before after =
     ((status ≡ wanted) × Appends before after (byte ∷ text))
     ⊎ ((status ≡ WriteFault) × AppendsFront (byte ∷ text) before after)
 
 -- what the inbox of an office tells
-abbrev pub box : {S K D C A I T : Type 0} → Seeing S K D C A I T → Office S K D C A I T → Box
-box seen office = box_of seen.inbox.past seen.inbox.turns seen.inbox.quiets office.inbox
+abbrev pub box : {S K D C A I T : Type 0} → Seeing S K D C A I T → Office S K D C A I T → InboxTells
+box seen office = inbox_tells seen.inbox.past seen.inbox.turns seen.inbox.quiets office.inbox
 
 -- A fault that is told has its cause.
-pub record HasCauses {S K D C A I T : Type 0} (seen : Seeing S K D C A I T) (status : Status)
+pub record HasInboxCauses {S K D C A I T : Type 0} (seen : Seeing S K D C A I T) (status : Status)
     (old new : Office S K D C A I T) : Type 0 where
   pub write_fault : status ≡ WriteFault → WriteFails seen old new
   pub inbox_fault : status ≡ InboxFault → InboxFails seen old new

@@ -4,30 +4,30 @@ ghost use Rattle.std.specs.Prelude.{◌≡◌, ◌≢◌, ◌≤◌, ◌+◌, �
 ghost use Rattle.arrayvec.specs.ArrayVec.{array_vec_len};
 ghost use Rattle.yp_io.specs.Counts.{HasRisen};
 ghost use Rattle.yp_rpc.specs.Called.{call_of};
-ghost use Rattle.yp_msgs.specs.Messages.{req_domain};
-ghost use Rattle.yp_msgs.specs.Numbers.{program, version, domain_nonack_procedure};
-ghost use Rattle.yp_bind.specs.Events.{binding_of};
-ghost use Rattle.yp_bind.specs.Kept.{servers_max};
-ghost use Rattle.yp_bind.specs.Rounds.{pings_left};
+ghost use Rattle.yp_messages.specs.Messages.{req_domain};
+ghost use Rattle.yp_messages.specs.Numbers.{program, version, domain_nonack_procedure};
+ghost use Rattle.yp_binding.specs.Events.{binding_of};
+ghost use Rattle.yp_binding.specs.Kept.{servers_max};
+ghost use Rattle.yp_binding.specs.inside.Rounds.{pings_left};
 ghost use Rattle.yp_board.specs.Catalogues.{name_max};
-ghost use Rattle.yp_words.specs.Words.{host_view};
-ghost use Rattle.yp_office.specs.Seeing.{seeing, IsPassedOn};
-ghost use Rattle.yp_office.specs.Status.{IsTellable};
-ghost use Rattle.yp_office.specs.declared.status.Status.TheVariants.{Done, WriteFault};
-ghost use Rattle.yp_mailing.specs.Telling.{Tells};
-ghost use Rattle.yp_mailing.specs.Bind.{Goes, Hears, Rests, is_reply, offer_of, unbound, peer_text, server_text};
-ghost use Rattle.yp_mailing.specs.Bind.{bound_line, servers_of, bind_may_end, BindDoes};
+ghost use Rattle.yp_command.specs.Words.{host_view};
+ghost use Rattle.yp_command.specs.office.Seeing.{seeing, IsPassedOn};
+ghost use Rattle.yp_command.specs.inside.office.Status.{IsTellable};
+ghost use Rattle.yp_command.specs.declared.office.status.Status.TheVariants.{Done, WriteFault};
+ghost use Rattle.yp_command_mail.specs.Telling.{TellsText};
+ghost use Rattle.yp_command_mail.specs.Bind.{Goes, Hears, Rests, is_reply, offer_of, unbound, peer_text, server_text};
+ghost use Rattle.yp_command_mail.specs.Bind.{bound_line, servers_of, bind_may_end, BindDoes};
 
 use crate::text::tell_text;
 use std::alloc::{AllocError, Global};
 use std::marker::Model;
-use yp_bind::{Binder, Policy};
+use yp_binding::{Binder, Policy};
+use yp_command::HostWord;
+use yp_command::office::{LINE_MAX, Line, Office, Status, add, add_number};
 use yp_io::{Clock, Dial, Disk, Failed, Inbox, NoMemory, Peer, Sink, Source, Texts};
-use yp_msgs::protocol::{DOMAIN_NONACK, YPPROG, YPVERS};
-use yp_msgs::{Message, ReqDomain};
-use yp_office::{LINE_MAX, Line, Office, Status, add, add_number};
-use yp_rpc::{Errand, MAIL_MAX, ReplyHead, Room, Wish, read_reply_at, take_turns, write_call};
-use yp_words::HostWord;
+use yp_messages::protocol::{DOMAIN_NONACK, YPPROG, YPVERS};
+use yp_messages::{Message, ReqDomain};
+use yp_rpc::{DATAGRAM_MAX, Handler, ReplyHead, Room, Wish, read_reply_at, take_turns, write_call};
 use yp_xdr::{Cursor, NoRoom, laws};
 
 /// The second word of a reply.
@@ -35,14 +35,14 @@ const REPLY: [u8; 4] = [0, 0, 0, 1];
 
 /// A binder of one domain.
 #[derive(Drop)]
-pub struct Binding {
+pub struct DomainBinder {
     binder: Binder,
     domain: Vec<u8>,
 }
 
-impl Model for Binding {
+impl Model for DomainBinder {
     ghost use Rattle.std.specs.Prelude.{◌≡◌, ◌≤◌, [], ◌∷◌, length};
-    ghost use Rattle.yp_bind.specs.Rounds.{Bindings};
+    ghost use Rattle.yp_binding.specs.Rounds.{Bindings};
     ghost use Rattle.yp_board.specs.Catalogues.{name_max};
 
     ghost Value = { Bindings };
@@ -90,7 +90,7 @@ fn offer_of(mail: &[u8]) -> Option<Offer>
 
 /// Puts the call of a ping at the front of the buffer, and answers its length.
 fn put_ping(buf: &mut [u8], xid: u32, domain: &[u8]) -> usize
-    requires room { MAIL_MAX ≤ length buf.old }
+    requires room { DATAGRAM_MAX ≤ length buf.old }
     requires domain { length domain.now ≤ name_max }
     ensures call { take result buf.new ≡ call_of req_domain xid program version domain_nonack_procedure domain.now }
     ensures within { result ≤ length buf.new }
@@ -104,7 +104,7 @@ fn put_ping(buf: &mut [u8], xid: u32, domain: &[u8]) -> usize
     arguments.set(buf, at)
 }
 
-impl Errand for Binding {
+impl Handler for DomainBinder {
     ghost goes = { Goes };
 
     ghost hears = { Hears };
@@ -180,14 +180,14 @@ fn line(domain: &[u8], bound: Option<Peer>) -> Line
     line
 }
 
-impl Binding {
+impl DomainBinder {
     /// A binder of a domain, which asks these hosts for it.
     fn new(
         alloc: Global,
         policy: Policy,
         domain: &[u8],
         hosts: &[HostWord],
-    ) -> Result<Binding, NoMemory>
+    ) -> Result<DomainBinder, NoMemory>
         requires domain { length domain.now ≤ name_max }
         requires hosts { length hosts.now ≤ servers_max }
         ensures { IfOk result (λ binding.
@@ -206,7 +206,7 @@ impl Binding {
             return Err(NoMemory);
         };
         let binder = Binder::new(alloc, domains, servers, policy)?;
-        Ok(Binding { binder, domain })
+        Ok(DomainBinder { binder, domain })
     }
 
     /// The server that the domain is bound to.
@@ -249,7 +249,7 @@ pub fn bind_domain<S: Source, K: Sink, D: Disk, C: Clock, A: Dial, I: Inbox, T: 
     let Ok(mut room) = Room::new(alloc) else {
         return Status::NoMemory;
     };
-    let Ok(mut binding) = Binding::new(alloc, policy, &domain, &hosts) else {
+    let Ok(mut binding) = DomainBinder::new(alloc, policy, &domain, &hosts) else {
         return Status::NoMemory;
     };
     match take_turns(&mut office.inbox, &mut binding, &mut room, turns) {

@@ -3,23 +3,25 @@
 ghost use Rattle.std.specs.Prelude.{◌≡◌, ◌⊎◌, ◌≤◌, ◌∷◌, [], true, false, IfOk, IsErrOf};
 ghost use Rattle.yp_io.specs.Counts.{HasRisen};
 ghost use Rattle.yp_board.specs.Catalogues.{name_view};
-ghost use Rattle.yp_words.specs.Words.{IsNamed, ypservers_of, is_ypservers, with_ypservers};
-ghost use Rattle.yp_office.specs.Disks.{names_of, faults_of, told_at, IsOnlyRead};
-ghost use Rattle.yp_office.specs.Status.{IsTellable};
-ghost use Rattle.yp_mailing.specs.Finding.{LoadsFrom, LoadsMaps, judged, found_alone, found_both, which_of, Stops};
+ghost use Rattle.yp_command.specs.Words.{ypservers_of, is_ypservers, with_ypservers};
+ghost use Rattle.yp_command.specs.inside.Words.{IsNamed};
+ghost use Rattle.yp_command.specs.office.Disks.{names_of, faults_of, told_at, IsOnlyRead};
+ghost use Rattle.yp_command.specs.inside.office.Status.{IsTellable};
+ghost use Rattle.yp_command_mail.specs.Finding.{LoadsFrom, LoadsMaps, judged, found_alone, found_both, which_of};
+ghost use Rattle.yp_command_mail.specs.Finding.{StopsPush};
 
 use std::alloc::{AllocError, Global};
 use std::random::RandomSource;
 use yp_board::MapName;
+use yp_command::office::{NamedDisk, Status, status_of_file};
+use yp_command::{is_ypservers, ypservers_of};
 use yp_io::Disk;
-use yp_office::{NamedDisk, Status, status_of_file};
-use yp_slot::{Slot, SlotFault};
+use yp_map_file::{Slot, SlotFault};
 use yp_version::Version;
-use yp_words::{is_ypservers, ypservers_of};
 
 /// What was loaded of the two files.
 #[derive(Drop)]
-pub struct Loaded {
+pub struct LoadedFiles {
     /// That of the map.
     pub file: Result<Option<Version>, SlotFault>,
     /// That of the servers, where it is another one.
@@ -44,7 +46,7 @@ pub enum Which {
 
 /// Why nothing is pushed.
 #[derive(Clone, Copy, Debug, PartialEq, Eq)]
-pub enum Stop {
+pub enum PushStop {
     /// The file of this map wasn't loaded.
     Unloaded { which: Which, fault: SlotFault },
     /// This map has no version.
@@ -73,7 +75,7 @@ fn load_one<D: Disk>(
     rt: &impl RandomSource,
     store: &MapName,
     disks: &mut Vec<NamedDisk<D>>,
-) -> Loaded
+) -> LoadedFiles
     requires same { is_ypservers (name_view store.now) ≡ true }
     requires only { names_of disks.old.items ≡ name_view store.now ∷ [] }
     ensures { LoadsMaps D.history D.faults (name_view store.now) result disks.old.items disks.new.items }
@@ -83,7 +85,7 @@ fn load_one<D: Disk>(
     };
     let (file, disk) = load_disk(alloc, rt, disk);
     disks.push_reserved(NamedDisk { name, disk });
-    Loaded {
+    LoadedFiles {
         file,
         servers: None,
     }
@@ -95,7 +97,7 @@ fn load_two<D: Disk>(
     rt: &impl RandomSource,
     store: &MapName,
     disks: &mut Vec<NamedDisk<D>>,
-) -> Loaded
+) -> LoadedFiles
     requires other { is_ypservers (name_view store.now) ≡ false }
     requires both { names_of disks.old.items ≡ name_view store.now ∷ ypservers_of (name_view store.now) ∷ [] }
     ensures { LoadsMaps D.history D.faults (name_view store.now) result disks.old.items disks.new.items }
@@ -116,7 +118,7 @@ fn load_two<D: Disk>(
         name: second.name,
         disk,
     });
-    Loaded {
+    LoadedFiles {
         file,
         servers: Some(servers),
     }
@@ -128,7 +130,7 @@ pub(crate) fn load_maps<D: Disk>(
     rt: &impl RandomSource,
     store: &MapName,
     disks: &mut Vec<NamedDisk<D>>,
-) -> Loaded
+) -> LoadedFiles
     requires { names_of disks.old.items ≡ with_ypservers (name_view store.now) }
     ensures { LoadsMaps D.history D.faults (name_view store.now) result disks.old.items disks.new.items }
 {
@@ -140,11 +142,11 @@ pub(crate) fn load_maps<D: Disk>(
 }
 
 /// What is found of a version of a map that is also that of the servers.
-fn find_alone(last: Option<Version>) -> Result<Found, Stop>
+fn find_alone(last: Option<Version>) -> Result<Found, PushStop>
     ensures { result ≡ found_alone last }
 {
     match last {
-        None => Err(Stop::NoVersion {
+        None => Err(PushStop::NoVersion {
             which: Which::Store,
         }),
         Some(version) => Ok(Found {
@@ -155,16 +157,16 @@ fn find_alone(last: Option<Version>) -> Result<Found, Stop>
 }
 
 /// What is found of the versions of both maps.
-fn find_both(last: Option<Version>, servers: Option<Version>) -> Result<Found, Stop>
+fn find_both(last: Option<Version>, servers: Option<Version>) -> Result<Found, PushStop>
     ensures { result ≡ found_both last servers }
 {
     let Some(version) = last else {
-        return Err(Stop::NoVersion {
+        return Err(PushStop::NoVersion {
             which: Which::Store,
         });
     };
     let Some(servers) = servers else {
-        return Err(Stop::NoVersion {
+        return Err(PushStop::NoVersion {
             which: Which::Servers,
         });
     };
@@ -175,13 +177,13 @@ fn find_both(last: Option<Version>, servers: Option<Version>) -> Result<Found, S
 }
 
 /// What is found in the two files, or the first reason why nothing is.
-pub(crate) fn judge(loaded: Loaded) -> Result<Found, Stop>
+pub(crate) fn judge(loaded: LoadedFiles) -> Result<Found, PushStop>
     ensures { result ≡ judged loaded.file loaded.servers }
 {
-    let Loaded { file, servers } = loaded;
+    let LoadedFiles { file, servers } = loaded;
     let last = match file {
         Ok(last) => last,
-        Err(fault) => return Err(Stop::Unloaded {
+        Err(fault) => return Err(PushStop::Unloaded {
             which: Which::Store,
             fault,
         }),
@@ -189,7 +191,7 @@ pub(crate) fn judge(loaded: Loaded) -> Result<Found, Stop>
     match servers {
         None => find_alone(last),
         Some(Ok(servers)) => find_both(last, servers),
-        Some(Err(fault)) => Err(Stop::Unloaded {
+        Some(Err(fault)) => Err(PushStop::Unloaded {
             which: Which::Servers,
             fault,
         }),
@@ -207,17 +209,17 @@ fn name_of(alloc: Global, store: MapName, which: Which) -> Result<MapName, Alloc
 }
 
 /// The status of a reason why nothing is pushed, unless memory runs out for the name.
-pub(crate) fn status_of_stop(alloc: Global, store: MapName, stop: Stop) -> Status
+pub(crate) fn status_of_stop(alloc: Global, store: MapName, stop: PushStop) -> Status
     requires { IsNamed (name_view store) }
-    ensures stops { Stops (name_view store) stop result ⊎ (result ≡ Status.NoMemory) }
+    ensures stops { StopsPush (name_view store) stop result ⊎ (result ≡ Status.NoMemory) }
     ensures tellable { IsTellable result }
 {
     match stop {
-        Stop::Unloaded { which, fault } => match name_of(alloc, store, which) {
+        PushStop::Unloaded { which, fault } => match name_of(alloc, store, which) {
             Ok(map) => status_of_file(map, fault),
             Err(_) => Status::NoMemory,
         },
-        Stop::NoVersion { which } => match name_of(alloc, store, which) {
+        PushStop::NoVersion { which } => match name_of(alloc, store, which) {
             Ok(map) => Status::NoVersion { map },
             Err(_) => Status::NoMemory,
         },

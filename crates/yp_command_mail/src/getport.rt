@@ -2,20 +2,20 @@
 
 ghost use Rattle.std.specs.Prelude.{◌≡◌, ◌≢◌, IsTrue, if◌then◌else◌};
 ghost use Rattle.yp_io.specs.Counts.{HasRisen};
-ghost use Rattle.yp_office.specs.Seeing.{seeing, IsPassedOn};
-ghost use Rattle.yp_office.specs.Status.{IsTellable};
-ghost use Rattle.yp_office.specs.declared.status.Status.TheVariants.{WriteFault, InboxFault};
-ghost use Rattle.yp_mailing.specs.Telling.{Tells};
-ghost use Rattle.yp_mailing.specs.Getport.{Goes, Hears, Rests, is_answer, begun, port_line, port_status, answer_text};
-ghost use Rattle.yp_mailing.specs.Getport.{answer_status, getport_may_end, GetportDoes};
+ghost use Rattle.yp_command.specs.office.Seeing.{seeing, IsPassedOn};
+ghost use Rattle.yp_command.specs.inside.office.Status.{IsTellable};
+ghost use Rattle.yp_command.specs.declared.office.status.Status.TheVariants.{WriteFault, InboxFault};
+ghost use Rattle.yp_command_mail.specs.Telling.{TellsText};
+ghost use Rattle.yp_command_mail.specs.Getport.{Goes, Hears, Rests, is_answer, begun, port_line, port_status};
+ghost use Rattle.yp_command_mail.specs.Getport.{answer_text, answer_status, getport_may_end, GetportDoes};
 
 use crate::text::tell_text;
 use std::alloc::Global;
-use yp_bind::is_same_peer;
+use yp_binding::is_same_peer;
+use yp_binding::portmap::{PortReply, ask_port, read_port};
+use yp_command::office::{Line, Office, Status, add, add_number};
 use yp_io::{Clock, Dial, Disk, Failed, Inbox, Peer, Sink, Source, Texts};
-use yp_office::{Line, Office, Status, add, add_number};
-use yp_portmap::{PortReply, ask_port, read_port};
-use yp_rpc::{Errand, ReplyHead, Room, Wish, take_turns};
+use yp_rpc::{Handler, ReplyHead, Room, Wish, take_turns};
 use yp_xdr::{NoRoom, XdrFault};
 
 /// The number of each call.
@@ -46,7 +46,7 @@ fn is_answer(mapper: Peer, from: Peer, mail: &[u8]) -> bool
     is_same_peer(mapper, from) && mail.starts_with(&ANSWER_FRONT)
 }
 
-impl Errand for Asking {
+impl Handler for Asking {
     ghost goes = { Goes };
 
     ghost hears = { Hears };
@@ -108,7 +108,7 @@ fn tell_answer<K: Sink>(
     turns: u32,
     answer: Option<Result<PortReply, XdrFault>>,
 ) -> Status
-    ensures tells { Tells (answer_text answer) (answer_status turns answer) result
+    ensures tells { TellsText (answer_text answer) (answer_status turns answer) result
         (K.output sink.old) (K.output sink.new) }
     ensures may_end { IsTrue (getport_may_end result) }
     ensures heard { result ≢ InboxFault }

@@ -1,8 +1,9 @@
 //! The commands that ask and answer in datagrams: `bind`, which binds a domain to a server, `portmap`, which keeps the
-//! mappings of a port mapper, and `getport`, which asks one for a port.
+//! mappings of a port mapper, `getport`, which asks one for a port, and `push`, which has slaves fetch a map.
 //!
 //! Each takes the office of the outside, and ensures the one relation that says what it does to it: [`bind_domain`],
-//! [`serve_ports`] and [`ask_mapper`]. Each brings an errand alone; the turns of the inbox are those of `yp_rpc`.
+//! [`serve_ports`], [`ask_mapper`] and [`push_map`]. Each brings a handler alone; the turns of the inbox are those of
+//! `yp_rpc`.
 #![tactic(auto)]
 
 mod binding;

@@ -2,19 +2,19 @@
 
 ghost use Rattle.std.specs.Prelude.{◌≡◌, ◌≢◌, ◌⊎◌, IsTrue, IfOk};
 ghost use Rattle.yp_io.specs.Counts.{HasRisen};
-ghost use Rattle.yp_office.specs.Seeing.{seeing, IsPassedOn};
-ghost use Rattle.yp_office.specs.Status.{IsTellable};
-ghost use Rattle.yp_office.specs.declared.status.Status.TheVariants.{Done, WriteFault, InboxFault};
-ghost use Rattle.yp_mailing.specs.Telling.{Tells};
-ghost use Rattle.yp_mailing.specs.Portmap.{Goes, Hears, Rests, mapping_line, mappings_text, portmap_may_end};
-ghost use Rattle.yp_mailing.specs.Portmap.{PortmapDoes};
+ghost use Rattle.yp_command.specs.office.Seeing.{seeing, IsPassedOn};
+ghost use Rattle.yp_command.specs.inside.office.Status.{IsTellable};
+ghost use Rattle.yp_command.specs.declared.office.status.Status.TheVariants.{Done, WriteFault, InboxFault};
+ghost use Rattle.yp_command_mail.specs.Telling.{TellsText};
+ghost use Rattle.yp_command_mail.specs.Portmap.{Goes, Hears, Rests, mapping_line, mappings_text, portmap_may_end};
+ghost use Rattle.yp_command_mail.specs.Portmap.{PortmapDoes};
 
 use crate::text::tell_text;
 use std::alloc::Global;
+use yp_binding::portmap::{Mapping, Registry};
+use yp_command::office::{Line, Office, Status, add, add_number};
 use yp_io::{Clock, Dial, Disk, Failed, Inbox, NoMemory, Peer, Sink, Source, Texts};
-use yp_office::{Line, Office, Status, add, add_number};
-use yp_portmap::{Mapping, Registry};
-use yp_rpc::{Errand, Room, Wish, take_turns};
+use yp_rpc::{Handler, Room, Wish, take_turns};
 
 /// What a port mapper knows, as what its turns change.
 #[derive(Drop)]
@@ -22,7 +22,7 @@ pub struct Mapper {
     pub registry: Registry,
 }
 
-impl Errand for Mapper {
+impl Handler for Mapper {
     ghost goes = { Goes };
 
     ghost hears = { Hears };
@@ -76,7 +76,7 @@ fn text_of(alloc: Global, registry: &Registry) -> Result<Vec<u8>, NoMemory>
 
 /// Tells all mappings, or that memory ran out.
 fn tell_ports<K: Sink>(alloc: Global, sink: &mut K, registry: &Registry) -> Status
-    ensures tells { Tells (mappings_text registry.now) Done result (K.output sink.old) (K.output sink.new)
+    ensures tells { TellsText (mappings_text registry.now) Done result (K.output sink.old) (K.output sink.new)
         ⊎ ((result ≡ Status.NoMemory) × (sink.new ≡ sink.old)) }
     ensures may_end { IsTrue (portmap_may_end result) }
     ensures heard { result ≢ InboxFault }

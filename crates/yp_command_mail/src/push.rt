@@ -2,35 +2,39 @@
 
 ghost use Rattle.std.specs.Prelude.{◌≡◌, ◌≢◌, ◌⊎◌, ◌<◌, ◌≤◌, length, map, IsTrue, IfErr, IfSome, IfOk};
 ghost use Rattle.yp_io.specs.Counts.{HasRisen};
-ghost use Rattle.yp_io.specs.Dials.{dial_tells};
+ghost use Rattle.yp_transfer.specs.inside.Dials.{dial_by};
 ghost use Rattle.yp_board.specs.Catalogues.{name_view, name_max};
-ghost use Rattle.yp_rpc.specs.Turns.{box_of};
-ghost use Rattle.yp_pushing.specs.Kept.{slave_view};
-ghost use Rattle.yp_pushing.specs.Slaves.{slaves_of};
-ghost use Rattle.yp_words.specs.Words.{IsNamed, with_ypservers, host_view};
-ghost use Rattle.yp_office.specs.Disks.{names_of};
-ghost use Rattle.yp_office.specs.Seeing.{seeing, IsPassedOn};
-ghost use Rattle.yp_office.specs.Status.{IsTellable};
-ghost use Rattle.yp_mailing.specs.Push.{job_view, Plans, Readies, CanStart, IsEnd, TellsSlaves, Takes, IsSentBy};
-ghost use Rattle.yp_mailing.specs.Push.{PushDoes, push_may_end};
+ghost use Rattle.yp_rpc.specs.inside.Turns.{box_by};
+ghost use Rattle.yp_push.specs.inside.turns.Kept.{slave_view};
+ghost use Rattle.yp_push.specs.turns.Slaves.{slaves_of};
+ghost use Rattle.yp_command.specs.Words.{with_ypservers, host_view};
+ghost use Rattle.yp_command.specs.inside.Words.{IsNamed};
+ghost use Rattle.yp_command.specs.office.Disks.{names_of};
+ghost use Rattle.yp_command.specs.office.Seeing.{seeing, IsPassedOn};
+ghost use Rattle.yp_command.specs.inside.office.Status.{IsTellable};
+ghost use Rattle.yp_command_mail.specs.Push.{IsPushEnd, TellsSlaves};
+ghost use Rattle.yp_command_mail.specs.inside.Push.{job_view, Plans, Readies, CanStart};
+ghost use Rattle.yp_command_mail.specs.Push.{TakesPushTurns};
+ghost use Rattle.yp_command_mail.specs.inside.Push.{IsSentBy};
+ghost use Rattle.yp_command_mail.specs.Push.{PushDoes, push_may_end};
 
 use crate::finding::{Found, judge, load_maps, status_of_stop};
 use crate::text::tell_text;
 use std::alloc::Global;
 use std::random::RandomSource;
+use yp_command::office::{NamedDisk, Office, ROWS_RULE, Status, table_of};
+use yp_command::{HostWord, PushJob};
 use yp_io::{Clock, Dial, Disk, Failed, Inbox, NoMemory, Sink, Source, Texts};
-use yp_office::{NamedDisk, Office, ROWS_RULE, Status, table_of};
+use yp_push::turns::{PushRequest, Pusher, Slave, all_have_map, slaves_of, text_of};
 use yp_push::{Push, SLAVES_MAX};
-use yp_pushing::{Order, Pusher, Slave, all_have_map, slaves_of, text_of};
 use yp_rpc::{Room, take_turns};
-use yp_words::{HostWord, PushJob};
 
 /// What is to be pushed, and to whom.
 #[derive(Drop)]
-pub struct Plan {
+pub struct PushPlan {
     pub push: Push,
     pub slaves: Vec<Slave>,
-    pub order: Order,
+    pub request: PushRequest,
 }
 
 /// The slaves that the map of servers names, each with its address among these hosts.
@@ -48,7 +52,7 @@ fn find_slaves(
 }
 
 /// What is to be pushed of what was found. There is nothing where there are no slaves.
-fn plan_of(alloc: Global, job: PushJob, found: &Found, now: u32) -> Result<Option<Plan>, Status>
+fn plan_of(alloc: Global, job: PushJob, found: &Found, now: u32) -> Result<Option<PushPlan>, Status>
     requires window { 0 < job.window }
     requires name { length job.name.items ≤ name_max }
     requires named { IsNamed (name_view job.store) }
@@ -79,16 +83,16 @@ fn plan_of(alloc: Global, job: PushJob, found: &Found, now: u32) -> Result<Optio
     let Ok(push) = Push::new(alloc, slaves.len() as u32, now, window) else {
         return Err(Status::NoMemory);
     };
-    let order = Order {
+    let request = PushRequest {
         store,
         order: found.order,
         name,
         port,
     };
-    Ok(Some(Plan {
+    Ok(Some(PushPlan {
         push,
         slaves,
-        order,
+        request,
     }))
 }
 
@@ -99,7 +103,7 @@ fn ready<D: Disk, C: Clock>(
     job: PushJob,
     disks: &mut Vec<NamedDisk<D>>,
     clock: &mut C,
-) -> Result<Option<Plan>, Status>
+) -> Result<Option<PushPlan>, Status>
     requires window { 0 < job.window }
     requires name { length job.name.items ≤ name_max }
     requires named { IsNamed (name_view job.store) }
@@ -120,7 +124,7 @@ fn ready<D: Disk, C: Clock>(
 
 /// The status of slaves that have the map, or not.
 fn end_of<A>(pusher: &Pusher<A>) -> Status
-    ensures { IsEnd pusher.now result }
+    ensures { IsPushEnd pusher.now result }
 {
     if all_have_map(pusher) {
         Status::Done
@@ -157,9 +161,8 @@ fn take<K: Sink, A: Dial, I: Inbox>(
     inbox: &mut I,
     sink: &mut K,
 ) -> (Status, A)
-    ensures takes { Takes (dial_tells A.past A.letters A.faults) turns pusher result.0 result.1
-        (box_of I.past I.turns I.quiets inbox.old) (box_of I.past I.turns I.quiets inbox.new)
-        (K.output sink.old) (K.output sink.new) }
+    ensures takes { TakesPushTurns (dial_by A.Dial) turns pusher result.0 result.1
+        (box_by I.Inbox inbox.old) (box_by I.Inbox inbox.new) (K.output sink.old) (K.output sink.new) }
     ensures flushed { result.0 ≢ Status.WriteFault → IsTrue (K.flushed sink.old) → IsTrue (K.flushed sink.new) }
     ensures write_fault { result.0 ≡ Status.WriteFault → HasRisen (K.faults sink.old) (K.faults sink.new) }
     ensures inbox_fault { result.0 ≡ Status.InboxFault → HasRisen (I.faults inbox.old) (I.faults inbox.new) }
@@ -180,7 +183,7 @@ fn take<K: Sink, A: Dial, I: Inbox>(
 fn push_plan<S: Source, K: Sink, D: Disk, C: Clock, A: Dial, I: Inbox, T: Texts>(
     alloc: Global,
     turns: u32,
-    plan: Plan,
+    plan: PushPlan,
     office: Office<S, K, D, C, A, I, T>,
 ) -> (Status, Office<S, K, D, C, A, I, T>)
     requires { CanStart plan }
@@ -203,10 +206,10 @@ fn push_plan<S: Source, K: Sink, D: Disk, C: Clock, A: Dial, I: Inbox, T: Texts>
     let Ok(mut room) = Room::new(alloc) else {
         return (Status::NoMemory, office);
     };
-    let Plan {
+    let PushPlan {
         push,
         slaves,
-        order,
+        request,
     } = plan;
     let Office {
         mut wire,
@@ -216,7 +219,7 @@ fn push_plan<S: Source, K: Sink, D: Disk, C: Clock, A: Dial, I: Inbox, T: Texts>
         mut inbox,
         texts,
     } = office;
-    let pusher = Pusher::new(alloc, dial, push, slaves, order);
+    let pusher = Pusher::new(alloc, dial, push, slaves, request);
     let (status, dial) = take(alloc, turns, &mut room, pusher, &mut inbox, &mut wire.sink);
     let office = Office {
         wire,

@@ -5,16 +5,16 @@ use Rattle.std.proofs.lemmas.List.{length-append}
 use Rattle.yp_io.specs.Counts.{HasRisen}
 use Rattle.yp_io.specs.Disk.{History}
 use Rattle.yp_version.specs.Versions.{MapVersion}
-use Rattle.yp_slot.specs.Stands.{Stored, stands}
+use Rattle.yp_map_file.specs.Stands.{Stored, stands}
 use Rattle.yp_board.specs.declared.catalog.MapName.{MapName}
 use Rattle.yp_board.specs.Catalogues.{Name, name_view}
-use Rattle.yp_office.specs.declared.status.Status.{Status}
-use Rattle.yp_office.specs.declared.status.Status.TheVariants.{Done, Usage, ReadFault, WriteFault, Torn, TooLong, NoMemory, Damaged, NoVersion, DiskFault, Rows, OrderSpent, Refused, GenerationsSpent, Enough}
-use Rattle.yp_office.specs.declared.disks.NamedDisk.{NamedDisk}
-use Rattle.yp_office.specs.declared.office.Office.{Office}
-use Rattle.yp_office.specs.Disks.{names_of, history_of, IsOnlyRead}
-use Rattle.yp_office.specs.Seeing.{Seeing, output, DiskFails, WriteFails}
-use Rattle.yp_storing.specs.Check.{Checks, CheckDoes, check_may_end}
+use Rattle.yp_command.specs.declared.office.status.Status.{Status}
+use Rattle.yp_command.specs.declared.office.status.Status.TheVariants.{Done, Usage, ReadFault, WriteFault, Torn, TooLong, NoMemory, Damaged, NoVersion, DiskFault, Rows, OrderSpent, Refused, GenerationsSpent, Enough}
+use Rattle.yp_command.specs.declared.office.disks.NamedDisk.{NamedDisk}
+use Rattle.yp_command.specs.declared.office.office.Office.{Office}
+use Rattle.yp_command.specs.office.Disks.{names_of, history_of, IsOnlyRead}
+use Rattle.yp_command.specs.office.Seeing.{Seeing, output, DiskFails, WriteFails}
+use Rattle.yp_command_maps.specs.Check.{Checks, CheckDoes, check_may_end}
 
 -- a version that stands is told, but for faults and want of memory
 pub checked_whole : (store : Name) (file : List ℕ) (version : MapVersion) (status : Status) (before after : Option (List ℕ)) → Checks store file status before after → stands file ≡ Stored version

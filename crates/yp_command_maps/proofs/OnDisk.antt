@@ -7,24 +7,27 @@ use Rattle.std.proofs.lemmas.List.{length-append}
 use Rattle.yp_io.specs.Counts.{HasRisen}
 use Rattle.yp_io.specs.Texts.{text_max}
 use Rattle.yp_io.specs.Disk.{History, LeavesOnly, MayLeave}
-use Rattle.yp_io.specs.DiskLaws.{stays, only_now, goes_on, splits, counts_now}
+use Rattle.yp_io.specs.inside.DiskLaws.{stays, only_now, goes_on, splits, counts_now}
 use Rattle.yp_version.specs.Versions.{MapVersion}
-use Rattle.yp_slot.specs.Commits.{generation_of, winning}
-use Rattle.yp_slot.specs.Stands.{Stands, file_max, stands}
-use Rattle.yp_publish.specs.Standing.{Kept, Level, OfMap, At, stands_for}
-use Rattle.yp_publish.specs.declared.open.OpenFault.{OpenFault}
-use Rattle.yp_publish.specs.declared.open.OpenFault.TheVariants as opening
-use Rattle.yp_publish.specs.Begins.{IsUnwritten, IsUnopened}
-use Rattle.yp_publish.specs.Opens.{IsOpened, IsRefused, IsStopped}
-use Rattle.yp_slot.specs.declared.fault.SlotFault.{SlotFault}
-use Rattle.yp_slot.specs.declared.fault.SlotFault.TheVariants as slot
-use Rattle.yp_slot.specs.Loads.{Loads}
-use Rattle.yp_slot.specs.Stands as stood
-use Rattle.yp_office.specs.Disks.{only_history, total_faults}
-use Rattle.yp_storing.specs.declared.build.Built.{Built}
-use Rattle.yp_storing.specs.declared.build.Stop.{Stop}
-use Rattle.yp_storing.specs.declared.build.Stop.TheVariants as stop
-use Rattle.yp_storing.specs.Build.{Job, site_of, Unplanned, IsLong, IsDamaged, stop_of_open, over, offered, with_generation, planned, plan_of, is_early, Stops, IsBuilt, IsPlanned, IsShownOrPlanned, IsBeforeOrPlanned, IsStored, LeavesFew, BuildsOn}
+use Rattle.yp_map_file.specs.Commits.{generation_of, winning}
+use Rattle.yp_map_file.specs.Stands.{Stands, file_max, stands}
+use Rattle.yp_publisher.specs.Standing.{StoredMap, Level, OfMap, At, stands_for}
+use Rattle.yp_publisher.specs.declared.open.OpenFault.{OpenFault}
+use Rattle.yp_publisher.specs.declared.open.OpenFault.TheVariants as opening
+use Rattle.yp_publisher.specs.Begins.{IsUnwritten, IsUnopened}
+use Rattle.yp_publisher.specs.Opens.{IsOpened, DiskIsRefused, OpeningStopped}
+use Rattle.yp_map_file.specs.declared.fault.SlotFault.{SlotFault}
+use Rattle.yp_map_file.specs.declared.fault.SlotFault.TheVariants as slot
+use Rattle.yp_map_file.specs.Loads.{Loads}
+use Rattle.yp_map_file.specs.Stands as stood
+use Rattle.yp_command.specs.office.Disks.{only_history, total_faults}
+use Rattle.yp_command_maps.specs.declared.build.Built.{Built}
+use Rattle.yp_command_maps.specs.declared.build.BuildStop.{BuildStop}
+use Rattle.yp_command_maps.specs.declared.build.BuildStop.TheVariants as stop
+use Rattle.yp_command_maps.specs.Build.{Job, build_inputs, Unplanned, IsLong, IsDamaged, over, offered, with_generation}
+use Rattle.yp_command_maps.specs.Build.{planned, StandsForPlan, IsBeforeOrPlanned, PlanIsStored, LeavesFew}
+use Rattle.yp_command_maps.specs.inside.Build.{stop_of_open, plan_of, is_early, StopsBuild, IsBuiltAsPlanned}
+use Rattle.yp_command_maps.specs.inside.Build.{IsShownOrPlanned, BuildsOn}
 
 -- ---- options and results
 
@@ -51,8 +54,8 @@ short text job plan true e = absurd cc
 short text job plan false e = refl
 
 -- what is planned by the file is what is planned by what is shown
-planned_is : {D : Type 0} (job : Job) (text : List ℕ) (now : ℕ) (kept : Kept D) (h : History) → length text ≤ text_max → stands h.state.reads ≡ stands_for kept.version
-    → kept.generation ≡ generation_of (winning h.state.reads) → plan_of job text now kept ≡ planned job (site_of text now h)
+planned_is : {D : Type 0} (job : Job) (text : List ℕ) (now : ℕ) (kept : StoredMap D) (h : History) → length text ≤ text_max → stands h.state.reads ≡ stands_for kept.version
+    → kept.generation ≡ generation_of (winning h.state.reads) → plan_of job text now kept ≡ planned job (build_inputs text now h)
 planned_is job text now kept h few stood numbers =
     sym (short text job (over job text now (generation_of (winning h.state.reads)) (stands h.state.reads)) (nat_lt text_max (length text)) (grind (arith, nat_tests))
     ∙ ap (λ (s : Stands). over job text now (generation_of (winning h.state.reads)) s) stood
@@ -60,10 +63,10 @@ planned_is job text now kept h few stood numbers =
     ∙ ap (λ (n : ℕ). with_generation n (offered job text now kept.version)) (sym numbers))
 
 -- where the history is told, the plan is that of the file
-told_plan : {D : Type 0} (history : Option History) (job : Job) (text : List ℕ) (now : ℕ) (kept : Kept D) (P : History → Result MapVersion Unplanned → Type 0) → length text ≤ text_max
+told_plan : {D : Type 0} (history : Option History) (job : Job) (text : List ℕ) (now : ℕ) (kept : StoredMap D) (P : History → Result MapVersion Unplanned → Type 0) → length text ≤ text_max
     → IfSome history (λ h. stands h.state.reads ≡ stands_for kept.version) → IfSome history (λ h. kept.generation ≡ generation_of (winning h.state.reads))
     → ((h : History) → stands h.state.reads ≡ stands_for kept.version → kept.generation ≡ generation_of (winning h.state.reads) → P h (plan_of job text now kept))
-    → IfSome history (λ h. P h (planned job (site_of text now h)))
+    → IfSome history (λ h. P h (planned job (build_inputs text now h)))
 told_plan None job text now kept P few stood numbers f = tt
 told_plan (Some h) job text now kept P few stood numbers f = subst (P h) (planned_is job text now kept h few stood numbers) (f h stood numbers)
 
@@ -82,10 +85,10 @@ pub nothing_left : (history : Option History) (P : List ℕ → Type 0) → ((im
 nothing_left history P f = record { goes_on = stays history; each = λ image left. f image (only_now history image left) }
 
 -- what a build on the only map of a publisher did to it
-pub record Renews {D : Type 0} (history : D → Option History) (faults : D → ℕ) (job : Job) (text : List ℕ) (now : ℕ) (result : Result Built Stop) (old new : List (Kept D)) : Type 0 where
-  pub built : IfOk result (λ made. OfMap 0 old (λ kept. IsBuilt (plan_of job text now kept) kept.generation made))
-  pub stopped : IfErr result (λ why. OfMap 0 old (λ kept. Stops (plan_of job text now kept) why))
-  pub stored : OnOk result (At 0 old new (λ before after. (image : List ℕ) → MayLeave (history after.disk) image → IsPlanned (plan_of job text now before) image))
+pub record Renews {D : Type 0} (history : D → Option History) (faults : D → ℕ) (job : Job) (text : List ℕ) (now : ℕ) (result : Result Built BuildStop) (old new : List (StoredMap D)) : Type 0 where
+  pub built : IfOk result (λ made. OfMap 0 old (λ kept. IsBuiltAsPlanned (plan_of job text now kept) kept.generation made))
+  pub stopped : IfErr result (λ why. OfMap 0 old (λ kept. StopsBuild (plan_of job text now kept) why))
+  pub stored : OnOk result (At 0 old new (λ before after. (image : List ℕ) → MayLeave (history after.disk) image → StandsForPlan (plan_of job text now before) image))
   pub any_moment : At 0 old new (λ before after. LeavesOnly (history before.disk) (history after.disk) (IsShownOrPlanned (plan_of job text now before) before))
   pub few : At 0 old new (λ before after. LeavesFew (history before.disk) (history after.disk))
   pub early : IfErr result (λ why. IsTrue (is_early why) → new ≡ old)
@@ -93,17 +96,17 @@ pub record Renews {D : Type 0} (history : D → Option History) (faults : D → 
   pub never_falls : At 0 old new (λ before after. faults before.disk ≤ faults after.disk)
   pub cause : IfErr result (λ why. why ≡ stop.Disk → At 0 old new (λ before after. HasRisen (faults before.disk) (faults after.disk)))
 
-module _ {D : Type 0} (history : D → Option History) (faults : D → ℕ) (job : Job) (text : List ℕ) (now : ℕ) (short : length text ≤ text_max) (result : Result Built Stop) where
-  module _ (disk : D) (before after : Kept D) (opened : IsOpened history faults disk before) (did : Renews history faults job text now result (before ∷ []) (after ∷ [])) where
+module _ {D : Type 0} (history : D → Option History) (faults : D → ℕ) (job : Job) (text : List ℕ) (now : ℕ) (short : length text ≤ text_max) (result : Result Built BuildStop) where
+  module _ (disk : D) (before after : StoredMap D) (opened : IsOpened history faults disk before) (did : Renews history faults job text now result (before ∷ []) (after ∷ [])) where
     by_plan : (P : History → Result MapVersion Unplanned → Type 0) → ((h : History) → stands h.state.reads ≡ stands_for before.version → before.generation ≡ generation_of (winning h.state.reads) → P h (plan_of job text now before))
-        → IfSome (history disk) (λ h. P h (planned job (site_of text now h)))
+        → IfSome (history disk) (λ h. P h (planned job (build_inputs text now h)))
     by_plan P f = told_plan (history disk) job text now before P short opened.stood.version opened.stood.generation f
 
-    moments : IfSome (history disk) (λ h. LeavesOnly (history disk) (history after.disk) (IsBeforeOrPlanned job (site_of text now h) (history disk)))
+    moments : IfSome (history disk) (λ h. LeavesOnly (history disk) (history after.disk) (IsBeforeOrPlanned job (build_inputs text now h) (history disk)))
     moments =
-        by_plan (λ h plan. LeavesOnly (history disk) (history after.disk) (λ image. MayLeave (history disk) image ⊎ ((stands image ≡ stands h.state.reads) ⊎ IsPlanned plan image))) (λ h stood numbers.
+        by_plan (λ h plan. LeavesOnly (history disk) (history after.disk) (λ image. MayLeave (history disk) image ⊎ ((stands image ≡ stands h.state.reads) ⊎ StandsForPlan plan image))) (λ h stood numbers.
         then (history disk) (history before.disk) (history after.disk) (MayLeave (history disk)) (IsShownOrPlanned (plan_of job text now before) before)
-        (λ image. MayLeave (history disk) image ⊎ ((stands image ≡ stands h.state.reads) ⊎ IsPlanned (plan_of job text now before) image))
+        (λ image. MayLeave (history disk) image ⊎ ((stands image ≡ stands h.state.reads) ⊎ StandsForPlan (plan_of job text now before) image))
         (λ image left. inl left) (λ image left. inr (⊎_elim (λ e. inl (e ∙ sym stood)) (λ p. inr p) left)) opened.moments did.any_moment)
 
     few_left : LeavesFew (history disk) (history after.disk)
@@ -112,21 +115,21 @@ module _ {D : Type 0} (history : D → Option History) (faults : D → ℕ) (job
         (λ image. MayLeave (history disk) image ⊎ (length image ≤ file_max)) (λ image left. inl left)
         (λ image left. ⊎_elim (λ now. inl (opened.moments.each image (counts_now (history disk) (history before.disk) image opened.moments.goes_on now))) (λ few. inr few) left) opened.moments did.few
 
-    early_left : (why : Stop) → after ∷ [] ≡ before ∷ [] → LeavesOnly (history disk) (history after.disk) (MayLeave (history disk))
+    early_left : (why : BuildStop) → after ∷ [] ≡ before ∷ [] → LeavesOnly (history disk) (history after.disk) (MayLeave (history disk))
     early_left why same =
         let is : before ≡ after = cc in
-        subst (λ (k : Kept D). LeavesOnly (history disk) (history k.disk) (MayLeave (history disk))) is opened.moments
+        subst (λ (k : StoredMap D). LeavesOnly (history disk) (history k.disk) (MayLeave (history disk))) is opened.moments
 
     on_one : BuildsOn job text now result (history disk) (history after.disk) (faults disk + 0) (faults after.disk + 0)
     on_one = record {
-      built = ok_more result (λ made. IsBuilt (plan_of job text now before) before.generation made)
-          (λ made. IfSome (history disk) (λ h. IsBuilt (planned job (site_of text now h)) (generation_of (winning h.state.reads)) made))
-          (λ made is. by_plan (λ h plan. IsBuilt plan (generation_of (winning h.state.reads)) made) (λ h stood numbers. subst (λ (n : ℕ). IsBuilt (plan_of job text now before) n made) numbers is)) did.built;
-      stopped = err_more result (λ why. Stops (plan_of job text now before) why) (λ why. IfSome (history disk) (λ h. Stops (planned job (site_of text now h)) why))
-          (λ why is. by_plan (λ h plan. Stops plan why) (λ h stood numbers. is)) did.stopped;
-      stored = on_ok_more result ((image : List ℕ) → MayLeave (history after.disk) image → IsPlanned (plan_of job text now before) image)
-          (IfSome (history disk) (λ h. IsStored job (site_of text now h) (history after.disk)))
-          (λ is. by_plan (λ h plan. (image : List ℕ) → MayLeave (history after.disk) image → IsPlanned plan image) (λ h stood numbers. is)) did.stored;
+      built = ok_more result (λ made. IsBuiltAsPlanned (plan_of job text now before) before.generation made)
+          (λ made. IfSome (history disk) (λ h. IsBuiltAsPlanned (planned job (build_inputs text now h)) (generation_of (winning h.state.reads)) made))
+          (λ made is. by_plan (λ h plan. IsBuiltAsPlanned plan (generation_of (winning h.state.reads)) made) (λ h stood numbers. subst (λ (n : ℕ). IsBuiltAsPlanned (plan_of job text now before) n made) numbers is)) did.built;
+      stopped = err_more result (λ why. StopsBuild (plan_of job text now before) why) (λ why. IfSome (history disk) (λ h. StopsBuild (planned job (build_inputs text now h)) why))
+          (λ why is. by_plan (λ h plan. StopsBuild plan why) (λ h stood numbers. is)) did.stopped;
+      stored = on_ok_more result ((image : List ℕ) → MayLeave (history after.disk) image → StandsForPlan (plan_of job text now before) image)
+          (IfSome (history disk) (λ h. PlanIsStored job (build_inputs text now h) (history after.disk)))
+          (λ is. by_plan (λ h plan. (image : List ℕ) → MayLeave (history after.disk) image → StandsForPlan plan image) (λ h stood numbers. is)) did.stored;
       any_moment = moments;
       few = few_left;
       early = err_more result (λ why. IsTrue (is_early why) → after ∷ [] ≡ before ∷ []) (λ why. IsTrue (is_early why) → LeavesOnly (history disk) (history after.disk) (MayLeave (history disk)))
@@ -136,7 +139,7 @@ module _ {D : Type 0} (history : D → Option History) (faults : D → ℕ) (job
           (λ why risen is. omega (arith, opened.never_falls, risen is)) did.cause;
     }
 
-  pub over_only : (disks news : List D) (old new : List (Kept D)) → length disks ≡ 1 → AllZip (IsOpened history faults) disks old → news ≡ map (λ (kept : Kept D). kept.disk) new
+  pub over_only : (disks news : List D) (old new : List (StoredMap D)) → length disks ≡ 1 → AllZip (IsOpened history faults) disks old → news ≡ map (λ (kept : StoredMap D). kept.disk) new
       → Renews history faults job text now result old new
       → BuildsOn job text now result (only_history history disks) (only_history history news) (total_faults faults disks) (total_faults faults news)
   over_only [] news old new one opened same did = absurd (omega (arith, one))
@@ -157,7 +160,7 @@ forgone job text now old faults = record {
   built = tt;
   stopped = all_told old _ (λ h. tt);
   stored = tt;
-  any_moment = all_told old (λ h. LeavesOnly old old (IsBeforeOrPlanned job (site_of text now h) old)) (λ h. nothing_left old _ (λ image left. inl left));
+  any_moment = all_told old (λ h. LeavesOnly old old (IsBeforeOrPlanned job (build_inputs text now h) old)) (λ h. nothing_left old _ (λ image left. inl left));
   few = nothing_left old _ (λ image left. inl left);
   early = λ early. absurd cc;
   never_falls = omega arith;
@@ -165,7 +168,7 @@ forgone job text now old faults = record {
 }
 
 -- the same of equal disks
-pub same_disks : {D : Type 0} (history : D → Option History) (faults : D → ℕ) (job : Job) (text : List ℕ) (now : ℕ) (result : Result Built Stop) (old olds new news : List D) → olds ≡ old → news ≡ new
+pub same_disks : {D : Type 0} (history : D → Option History) (faults : D → ℕ) (job : Job) (text : List ℕ) (now : ℕ) (result : Result Built BuildStop) (old olds new news : List D) → olds ≡ old → news ≡ new
     → BuildsOn job text now result (only_history history olds) (only_history history new) (total_faults faults olds) (total_faults faults new)
     → BuildsOn job text now result (only_history history old) (only_history history news) (total_faults faults old) (total_faults faults news)
 same_disks history faults job text now result old olds new news first second h = rw (sym first, second) h
@@ -173,9 +176,9 @@ same_disks history faults job text now result old olds new news first second h =
 -- ---- where no publisher was opened
 
 -- the only disk is the one that was refused
-pub by_front : {D : Type 0} (history : D → Option History) (faults : D → ℕ) (front : List D) (opened : List (Kept D)) (b a : D) (rest : List D) (before after : D) (P : D → D → Type 0)
+pub by_front : {D : Type 0} (history : D → Option History) (faults : D → ℕ) (front : List D) (opened : List (StoredMap D)) (b a : D) (rest : List D) (before after : D) (P : D → D → Type 0)
     → before ∷ [] ≡ front ++ b ∷ rest
-    → after ∷ [] ≡ map (λ (kept : Kept D). kept.disk) opened ++ a ∷ rest → AllZip (IsOpened history faults) front opened → P b a → P before after
+    → after ∷ [] ≡ map (λ (kept : StoredMap D). kept.disk) opened ++ a ∷ rest → AllZip (IsOpened history faults) front opened → P b a → P before after
 by_front {D} history faults [] [] b a rest before after P first last each h =
     let one : b ≡ before = cc in
     let two : a ≡ after = cc in
@@ -184,20 +187,20 @@ by_front history faults [] (kept ∷ opened) b a rest before after P first last 
 by_front history faults (disk ∷ front) opened b a rest before after P first last each h =
     absurd (omega (arith, ap length first, length-append front (b ∷ rest)))
 
-stops_at : (job : Job) (text : List ℕ) (now : ℕ) (short : length text ≤ text_max) (h : History) (at rule : ℕ) → stands h.state.reads ≡ stood.Damaged at rule → planned job (site_of text now h) ≡ Err (IsDamaged at rule)
+stops_at : (job : Job) (text : List ℕ) (now : ℕ) (short : length text ≤ text_max) (h : History) (at rule : ℕ) → stands h.state.reads ≡ stood.Damaged at rule → planned job (build_inputs text now h) ≡ Err (IsDamaged at rule)
 stops_at job text now few h at rule damaged =
     short text job (over job text now (generation_of (winning h.state.reads)) (stands h.state.reads)) (nat_lt text_max (length text)) (grind (arith, nat_tests))
     ∙ ap (λ (s : Stands). over job text now (generation_of (winning h.state.reads)) s) damaged
 
 module _ {D : Type 0} (history : D → Option History) (faults : D → ℕ) (job : Job) (text : List ℕ) (now : ℕ) (few : length text ≤ text_max) where
-  unwritten_only : (why : Stop) (before after : D) → IsUnwritten history faults before after
-      → IfSome (history before) (λ h. Stops (planned job (site_of text now h)) why) → (why ≡ stop.Disk → HasRisen (faults before) (faults after))
+  unwritten_only : (why : BuildStop) (before after : D) → IsUnwritten history faults before after
+      → IfSome (history before) (λ h. StopsBuild (planned job (build_inputs text now h)) why) → (why ≡ stop.Disk → HasRisen (faults before) (faults after))
       → BuildsOn job text now (Err why) (history before) (history after) (faults before + 0) (faults after + 0)
   unwritten_only why before after kept stopped cause = record {
     built = tt;
     stopped = stopped;
     stored = tt;
-    any_moment = all_told (history before) (λ h. LeavesOnly (history before) (history after) (IsBeforeOrPlanned job (site_of text now h) (history before)))
+    any_moment = all_told (history before) (λ h. LeavesOnly (history before) (history after) (IsBeforeOrPlanned job (build_inputs text now h) (history before)))
         (λ h. record { goes_on = kept.moments.goes_on; each = λ image left. inl (kept.moments.each image left) });
     few = record { goes_on = kept.moments.goes_on; each = λ image left. inl (kept.moments.each image left) };
     early = λ early. kept.moments;
@@ -205,7 +208,7 @@ module _ {D : Type 0} (history : D → Option History) (faults : D → ℕ) (job
     cause = λ is. omega (arith, cause is);
   }
 
-  damaged_told : (told : Option History) (fault : SlotFault) → IfSome told (λ h. Loads (stands h.state.reads) (Err fault)) → IfSome told (λ h. Stops (planned job (site_of text now h)) (stop_of_open (opening.Refused 0 fault)))
+  damaged_told : (told : Option History) (fault : SlotFault) → IfSome told (λ h. Loads (stands h.state.reads) (Err fault)) → IfSome told (λ h. StopsBuild (planned job (build_inputs text now h)) (stop_of_open (opening.Refused 0 fault)))
   damaged_told None fault h = tt
   damaged_told (Some told) (slot.Damaged at rule) h = stops_at job text now few told at rule h
   damaged_told (Some told) slot.DiskFault h = tt
@@ -221,11 +224,11 @@ module _ {D : Type 0} (history : D → Option History) (faults : D → ℕ) (job
   same_stop number slot.DiskFault = refl
   same_stop number slot.NoMemory = refl
 
-  refused_one : (number : ℕ) (fault : SlotFault) (before after : D) → IsUnwritten history faults before after → IsStopped history faults (before ∷ []) (after ∷ []) number fault
+  refused_one : (number : ℕ) (fault : SlotFault) (before after : D) → IsUnwritten history faults before after → OpeningStopped history faults (before ∷ []) (after ∷ []) number fault
       → BuildsOn job text now (Err (stop_of_open (opening.Refused number fault))) (history before) (history after) (faults before + 0) (faults after + 0)
   refused_one number fault before after kept stopped =
-      let refused = by_front history faults stopped.front stopped.opened stopped.before stopped.after stopped.rest before after (λ b a. IsRefused history faults b a fault) stopped.old_is stopped.new_is stopped.each stopped.refused in
-      subst (λ (why : Stop). BuildsOn job text now (Err why) (history before) (history after) (faults before + 0) (faults after + 0)) (same_stop number fault)
+      let refused = by_front history faults stopped.front stopped.opened stopped.before stopped.after stopped.rest before after (λ b a. DiskIsRefused history faults b a fault) stopped.old_is stopped.new_is stopped.each stopped.refused in
+      subst (λ (why : BuildStop). BuildsOn job text now (Err why) (history before) (history after) (faults before + 0) (faults after + 0)) (same_stop number fault)
       (unwritten_only (stop_of_open (opening.Refused 0 fault)) before after kept (damaged_told (history before) fault refused.cause) (λ e. refused.disk_fault (disk_cause fault e)))
 
   by_fault : (fault : OpenFault) (before after : D) → IsUnwritten history faults before after → IsUnopened history faults fault (before ∷ []) (after ∷ [])
@@ -242,7 +245,7 @@ module _ {D : Type 0} (history : D → Option History) (faults : D → ℕ) (job
   refused_only fault (disk ∷ []) (after ∷ other ∷ more) one all why = absurd all.1
   refused_only fault (disk ∷ []) (after ∷ []) one all why = by_fault fault disk after all.0 why
 
-  pub level_only : (disks : List D) (maps : List (Kept D)) → AllZip (IsOpened history faults) disks maps → OfMap 0 maps (λ kept. kept.standing ≡ Level)
+  pub level_only : (disks : List D) (maps : List (StoredMap D)) → AllZip (IsOpened history faults) disks maps → OfMap 0 maps (λ kept. kept.standing ≡ Level)
   level_only [] [] all = tt
   level_only [] (kept ∷ maps) all = absurd all
   level_only (disk ∷ disks) [] all = absurd all

@@ -7,71 +7,74 @@ use Rattle.yp_io.specs.Counts.{HasRisen}
 use Rattle.yp_io.specs.Disk.{History, LeavesOnly, MayLeave}
 use Rattle.yp_io.specs.Streams.{AppendsFront}
 use Rattle.yp_version.specs.Versions.{MapVersion}
-use Rattle.yp_revnet.specs.Refused.{RefusesRow}
+use Rattle.yp_netgroup.specs.reverse.Refused.{RefusesRow}
 use Rattle.yp_version.specs.Drafts.{empty_draft}
-use Rattle.yp_slot.specs.Commits.{generation_of, winning}
-use Rattle.yp_slot.specs.Stands.{Stands, Stored, stands}
-use Rattle.yp_slot.specs.Stands as stood
+use Rattle.yp_map_file.specs.Commits.{generation_of, winning}
+use Rattle.yp_map_file.specs.Stands.{Stands, Stored, stands}
+use Rattle.yp_map_file.specs.Stands as stood
 use Rattle.yp_board.specs.Catalogues.{Name, name_view}
 use Rattle.yp_board.specs.declared.catalog.MapName.{MapName}
-use Rattle.yp_build.specs.Builds.{order_after}
-use Rattle.yp_build.specs.After.{other_master, last_order}
-use Rattle.yp_publish.specs.Standing.{stands_for}
-use Rattle.yp_office.specs.declared.office.Office.{Office}
-use Rattle.yp_office.specs.declared.status.Status.{Status}
-use Rattle.yp_office.specs.declared.status.Status.TheVariants.{Done, ReadFault, WriteFault, NoMemory, Damaged, NoVersion}
-use Rattle.yp_office.specs.declared.status.Status.TheVariants.{DiskFault, Rows, OrderSpent, Refused, GenerationsSpent}
-use Rattle.yp_office.specs.Disks.{names_of, faults_of, faults_at}
-use Rattle.yp_office.specs.Seeing.{Seeing, output, moment, WriteFails, DiskFails}
-use Rattle.yp_storing.specs.declared.build.Built.{Built}
-use Rattle.yp_storing.specs.Build.{build_line, TellsLine, tells_stored, may_have_written}
-use Rattle.yp_storing.specs.Revnet.{Job, job_of, Site, site_of, HasOrder, Held, IsHeld, IsPlanned, IsHindered}
-use Rattle.yp_storing.specs.Revnet.{IsFree, Stops, is_stop}
-use Rattle.yp_storing.specs.Revnet.{revnet_may_end, OfMade, IsOf, line_of, Reverses, AtFiles, IsBeforeOrMade, Ends, Renews}
-use Rattle.yp_storing.specs.Revnet.{OwnDiskFails}
-use Rattle.yp_storing.specs.Revnet.{IsToldEnd, store_history, netgroup_history, AtSite, RevnetDoes}
-use Rattle.yp_storing.proofs.OnDisk.{nothing_left}
-use Rattle.yp_storing.proofs.Ending.{line_written, line_no_disk}
-use Rattle.yp_storing.proofs.Reversing.{at_each, at_all, unread}
+use Rattle.yp_texts.specs.Builds.{order_after}
+use Rattle.yp_texts.specs.After.{other_master, last_order}
+use Rattle.yp_publisher.specs.Standing.{stands_for}
+use Rattle.yp_command.specs.declared.office.office.Office.{Office}
+use Rattle.yp_command.specs.declared.office.status.Status.{Status}
+use Rattle.yp_command.specs.declared.office.status.Status.TheVariants.{Done, ReadFault, WriteFault, NoMemory, Damaged, NoVersion}
+use Rattle.yp_command.specs.declared.office.status.Status.TheVariants.{DiskFault, Rows, OrderSpent, Refused, GenerationsSpent}
+use Rattle.yp_command.specs.office.Disks.{names_of, faults_of, faults_at}
+use Rattle.yp_command.specs.office.Seeing.{Seeing, output, moment, WriteFails, DiskFails}
+use Rattle.yp_command_maps.specs.declared.build.Built.{Built}
+use Rattle.yp_command_maps.specs.Build.{build_line, TellsLine, tells_stored, may_have_written}
+use Rattle.yp_command_maps.specs.Revnet.{Job, job_of, RevnetInputs, revnet_inputs, HasNextOrder, FileVersions, AreFileVersions, ReverseIsPlanned, ReverseIsHindered}
+use Rattle.yp_command_maps.specs.Revnet.{CanReverse, StopsRevnet, is_stop}
+use Rattle.yp_command_maps.specs.Revnet.{revnet_may_end, OfMade, StandsForVersion, line_of, Reverses, AtFiles}
+use Rattle.yp_command_maps.specs.Revnet.{IsBeforeOrMade}
+use Rattle.yp_command_maps.specs.inside.Revnet.{Ends, Renews}
+use Rattle.yp_command_maps.specs.Revnet.{OwnDiskFails}
+use Rattle.yp_command_maps.specs.Revnet.{store_history, netgroup_history, AtRevnetInputs, RevnetDoes}
+use Rattle.yp_command_maps.specs.inside.Revnet.{IsToldEnd}
+use Rattle.yp_command_maps.proofs.OnDisk.{nothing_left}
+use Rattle.yp_command_maps.proofs.Ending.{line_written, line_no_disk}
+use Rattle.yp_command_maps.proofs.Reversing.{at_each, at_all, unread}
 
 -- ---- what is told
 
-stop_told : (job : Job) (site : Site) (made : Option MapVersion) (status : Status) (before : Option (List ℕ))
-    → Stops job site status → Reverses job site made status before before
-stop_told job site made Done before stops = absurd stops
-stop_told job site made WriteFault before stops = absurd stops
-stop_told job site made _ before stops = (stops, refl)
+stop_told : (job : Job) (inputs : RevnetInputs) (made : Option MapVersion) (status : Status) (before : Option (List ℕ))
+    → StopsRevnet job inputs status → Reverses job inputs made status before before
+stop_told job inputs made Done before stops = absurd stops
+stop_told job inputs made WriteFault before stops = absurd stops
+stop_told job inputs made _ before stops = (stops, refl)
 
-line_is : (job : Job) (site : Site) (store : Name) (version : MapVersion) (built : Built) → store ≡ job.store
+line_is : (job : Job) (inputs : RevnetInputs) (store : Name) (version : MapVersion) (built : Built) → store ≡ job.store
     → built ≡ record {
       order = version.order;
       rows = length version.rows;
-      generation = generation_of (winning site.file) + 1;
-    } → build_line store built.order built.rows built.generation ≡ line_of job site version
-line_is job site store version built named is =
+      generation = generation_of (winning inputs.file) + 1;
+    } → build_line store built.order built.rows built.generation ≡ line_of job inputs version
+line_is job inputs store version built named is =
     ap (λ (n : Name). build_line n built.order built.rows built.generation) named
     ∙ ap (λ (b : Built). build_line job.store b.order b.rows b.generation) is
 
-line_told : (job : Job) (site : Site) (store : Name) (made : Option MapVersion) (built : Built) (status : Status)
-    (before after : Option (List ℕ)) → store ≡ job.store → Ends job site made (Ok built)
+line_told : (job : Job) (inputs : RevnetInputs) (store : Name) (made : Option MapVersion) (built : Built) (status : Status)
+    (before after : Option (List ℕ)) → store ≡ job.store → Ends job inputs made (Ok built)
     → TellsLine (build_line store built.order built.rows built.generation) status before after
-    → Reverses job site made status before after
-line_told job site store None built status before after named ends told = absurd ends
-line_told job site store (Some version) built Done before after named ends told =
-    subst (λ (l : List ℕ). Appends before after l) (line_is job site store version built named ends) told
-line_told job site store (Some version) built WriteFault before after named ends told =
-    subst (λ (l : List ℕ). AppendsFront l before after) (line_is job site store version built named ends) told
-line_told job site store (Some version) built _ before after named ends told = absurd told
+    → Reverses job inputs made status before after
+line_told job inputs store None built status before after named ends told = absurd ends
+line_told job inputs store (Some version) built Done before after named ends told =
+    subst (λ (l : List ℕ). Appends before after l) (line_is job inputs store version built named ends) told
+line_told job inputs store (Some version) built WriteFault before after named ends told =
+    subst (λ (l : List ℕ). AppendsFront l before after) (line_is job inputs store version built named ends) told
+line_told job inputs store (Some version) built _ before after named ends told = absurd told
 
-end_told : (job : Job) (site : Site) (store : Name) (made : Option MapVersion) (result : Result Built Status)
-    (status : Status) (before after : Option (List ℕ)) → store ≡ job.store → Ends job site made result
-    → IsToldEnd store result status before after → Reverses job site made status before after
-end_told job site store made (Ok built) status before after named ends told =
-    line_told job site store made built status before after named ends told
-end_told job site store made (Err why) status before after named ends told =
-    subst (λ (s : Status). Reverses job site made s before after) (sym told.0)
-    (subst (λ (o : Option (List ℕ)). Reverses job site made why before o) (sym told.1)
-    (stop_told job site made why before ends))
+end_told : (job : Job) (inputs : RevnetInputs) (store : Name) (made : Option MapVersion) (result : Result Built Status)
+    (status : Status) (before after : Option (List ℕ)) → store ≡ job.store → Ends job inputs made result
+    → IsToldEnd store result status before after → Reverses job inputs made status before after
+end_told job inputs store made (Ok built) status before after named ends told =
+    line_told job inputs store made built status before after named ends told
+end_told job inputs store made (Err why) status before after named ends told =
+    subst (λ (s : Status). Reverses job inputs made s before after) (sym told.0)
+    (subst (λ (o : Option (List ℕ)). Reverses job inputs made why before o) (sym told.1)
+    (stop_told job inputs made why before ends))
 
 -- ---- what follows from the status
 
@@ -117,28 +120,28 @@ not_damaged : (last : Option MapVersion) (at rule : ℕ) → stands_for last ≡
 not_damaged None at rule e = cc
 not_damaged (Some version) at rule e = cc
 
-module _ (job : Job) (site : Site) (free : IsFree job site) where
-  last_is : (held : Held) → IsHeld site held → held.last ≡ free.held.last
+module _ (job : Job) (inputs : RevnetInputs) (free : CanReverse job inputs) where
+  last_is : (held : FileVersions) → AreFileVersions inputs held → held.last ≡ free.held.last
   last_is held is = last_same held.last free.held.last (sym is.last ∙ free.is_held.last)
 
-  netgroup_is : (held : Held) → IsHeld site held → held.netgroup ≡ free.held.netgroup
+  netgroup_is : (held : FileVersions) → AreFileVersions inputs held → held.netgroup ≡ free.held.netgroup
   netgroup_is held is = let e : Stored held.netgroup ≡ Stored free.held.netgroup = sym is.netgroup ∙ free.is_held.netgroup in cc
 
-  not_refused : (master : List ℕ) (held : Held) → IsHeld site held → other_master job.name held.last ≡ Some master → ⊥
+  not_refused : (master : List ℕ) (held : FileVersions) → AreFileVersions inputs held → other_master job.name held.last ≡ Some master → ⊥
   not_refused master held is other =
       let no : None ≡ Some master = sym free.has_order.own ∙ ap (other_master job.name) (sym (last_is held is)) ∙ other in cc
 
-  not_spent : (held : Held) → IsHeld site held → order_after (last_order held.last) site.now ≡ None → ⊥
+  not_spent : (held : FileVersions) → AreFileVersions inputs held → order_after (last_order held.last) inputs.now ≡ None → ⊥
   not_spent held is none =
       let no : None ≡ Some free.order =
-      sym none ∙ ap (λ (l : Option MapVersion). order_after (last_order l) site.now) (last_is held is) ∙ free.has_order.next in cc
+      sym none ∙ ap (λ (l : Option MapVersion). order_after (last_order l) inputs.now) (last_is held is) ∙ free.has_order.next in cc
 
-  order_is : (held : Held) (order : ℕ) → IsHeld site held → HasOrder job.name site.now held.last order → order ≡ free.order
+  order_is : (held : FileVersions) (order : ℕ) → AreFileVersions inputs held → HasNextOrder job.name inputs.now held.last order → order ≡ free.order
   order_is held order is has =
       let e : Some order ≡ Some free.order =
-      sym has.next ∙ ap (λ (l : Option MapVersion). order_after (last_order l) site.now) (last_is held is) ∙ free.has_order.next in cc
+      sym has.next ∙ ap (λ (l : Option MapVersion). order_after (last_order l) inputs.now) (last_is held is) ∙ free.has_order.next in cc
 
-  fits_all : (held : Held) (order row rule : ℕ) → IsHeld site held → HasOrder job.name site.now held.last order
+  fits_all : (held : FileVersions) (order row rule : ℕ) → AreFileVersions inputs held → HasNextOrder job.name inputs.now held.last order
       → RefusesRow held.netgroup.rows job.field (empty_draft order job.name) row rule → ⊥
   fits_all held order row rule is has refuses =
       free.fits row rule
@@ -146,7 +149,7 @@ module _ (job : Job) (site : Site) (free : IsFree job site) where
       (subst (λ (v : MapVersion). RefusesRow v.rows job.field (empty_draft order job.name) row rule) (netgroup_is held is) refuses))
 
   -- where nothing is in the way, the version is stored and told, but for faults and want of memory
-  whole : (made : Option MapVersion) (status : Status) (before after : Option (List ℕ)) → Reverses job site made status before after
+  whole : (made : Option MapVersion) (status : Status) (before after : Option (List ℕ)) → Reverses job inputs made status before after
       → (status ≡ WriteFault → ⊥) → ((map : MapName) → status ≡ DiskFault map → ⊥) → (status ≡ Done) ⊎ (status ≡ NoMemory)
   whole made Done before after h writes disks = inl refl
   whole made NoMemory before after h writes disks = inr refl
@@ -210,29 +213,29 @@ revnet_does seen name store now result status old new did =
     let before = output seen old in
     let after = output seen new in
     let made = did.renews.made in
-    let at : (P : Site → Type 0) → AtFiles file netgroup now P → AtSite seen old P =
+    let at : (P : RevnetInputs → Type 0) → AtFiles file netgroup now P → AtRevnetInputs seen old P =
     λ P h. at_moment (moment seen old) now (λ n. AtFiles file netgroup n P) did.clock h in
-    let tells : AtFiles file netgroup now (λ site. Reverses job site made status before after) =
-    at_each file netgroup now (λ site. Ends job site made result) (λ site. Reverses job site made status before after)
-    (λ h n ends. end_told job (site_of h n now) store made result status before after refl ends did.ends) did.renews.ends in
+    let tells : AtFiles file netgroup now (λ inputs. Reverses job inputs made status before after) =
+    at_each file netgroup now (λ inputs. Ends job inputs made result) (λ inputs. Reverses job inputs made status before after)
+    (λ h n ends. end_told job (revnet_inputs h n now) store made result status before after refl ends did.ends) did.renews.ends in
     let disk : (map : MapName) → status ≡ DiskFault map → DiskFails seen old new =
     λ map e. disk_when store result status before after (λ map. DiskFails seen old new) map did.ends did.renews.cause e in
     record {
       made = made;
-      planned = some_more made (λ version. AtFiles file netgroup now (λ site. IsPlanned job site version))
-          (λ version. AtSite seen old (λ site. IsPlanned job site version))
-          (λ version h. at (λ site. IsPlanned job site version) h) did.renews.planned;
-      tells = at (λ site. Reverses job site made status before after) tells;
-      stored = stored_when store result status before after ((image : List ℕ) → MayLeave (store_history seen new) image → IsOf made image)
+      planned = some_more made (λ version. AtFiles file netgroup now (λ inputs. ReverseIsPlanned job inputs version))
+          (λ version. AtRevnetInputs seen old (λ inputs. ReverseIsPlanned job inputs version))
+          (λ version h. at (λ inputs. ReverseIsPlanned job inputs version) h) did.renews.planned;
+      tells = at (λ inputs. Reverses job inputs made status before after) tells;
+      stored = stored_when store result status before after ((image : List ℕ) → MayLeave (store_history seen new) image → StandsForVersion made image)
           did.stop did.ends did.renews.stored;
       any_moment = did.renews.any_moment;
       few = did.renews.few;
       early = early_when store result status before after (LeavesOnly file (store_history seen new) (MayLeave file)) did.ends did.renews.early;
       only_read = did.renews.only_read;
-      complete = at (λ site. IsFree job site → (DiskFails seen old new → ⊥) → (WriteFails seen old new → ⊥) → (status ≡ Done) ⊎ (status ≡ NoMemory))
-          (at_each file netgroup now (λ site. Reverses job site made status before after)
-          (λ site. IsFree job site → (DiskFails seen old new → ⊥) → (WriteFails seen old new → ⊥) → (status ≡ Done) ⊎ (status ≡ NoMemory))
-          (λ h n is free disks writes. whole job (site_of h n now) free made status before after is (λ e. writes (did.write_fault e)) (λ map e. disks (disk map e)))
+      complete = at (λ inputs. CanReverse job inputs → (DiskFails seen old new → ⊥) → (WriteFails seen old new → ⊥) → (status ≡ Done) ⊎ (status ≡ NoMemory))
+          (at_each file netgroup now (λ inputs. Reverses job inputs made status before after)
+          (λ inputs. CanReverse job inputs → (DiskFails seen old new → ⊥) → (WriteFails seen old new → ⊥) → (status ≡ Done) ⊎ (status ≡ NoMemory))
+          (λ h n is free disks writes. whole job (revnet_inputs h n now) free made status before after is (λ e. writes (did.write_fault e)) (λ map e. disks (disk map e)))
           tells);
       causes = record { read_fault = λ e. absurd (no_read status did.may_end e); write_fault = did.write_fault; disk_fault = disk };
       own_disk = λ map e.
@@ -260,16 +263,16 @@ forgone seen name store old =
     record {
       made = None;
       planned = tt;
-      tells = all_told (moment seen old) (λ now. AtFiles file netgroup now (λ site. Reverses job site None NoMemory (output seen old) (output seen old)))
-          (λ now. at_all file netgroup now (λ site. Reverses job site None NoMemory (output seen old) (output seen old)) (λ h n. (tt, refl)));
+      tells = all_told (moment seen old) (λ now. AtFiles file netgroup now (λ inputs. Reverses job inputs None NoMemory (output seen old) (output seen old)))
+          (λ now. at_all file netgroup now (λ inputs. Reverses job inputs None NoMemory (output seen old) (output seen old)) (λ h n. (tt, refl)));
       stored = λ told_it. absurd cc;
       any_moment = nothing_left file _ (λ image left. inl left);
       few = nothing_left file _ (λ image left. inl left);
       early = λ mild. nothing_left file (MayLeave file) (λ image left. left);
       only_read = unread netgroup;
       complete = all_told (moment seen old)
-          (λ now. AtFiles file netgroup now (λ site. IsFree job site → (DiskFails seen old old → ⊥) → (WriteFails seen old old → ⊥) → (NoMemory ≡ Done) ⊎ (NoMemory ≡ NoMemory)))
-          (λ now. at_all file netgroup now (λ site. IsFree job site → (DiskFails seen old old → ⊥) → (WriteFails seen old old → ⊥) → (NoMemory ≡ Done) ⊎ (NoMemory ≡ NoMemory))
+          (λ now. AtFiles file netgroup now (λ inputs. CanReverse job inputs → (DiskFails seen old old → ⊥) → (WriteFails seen old old → ⊥) → (NoMemory ≡ Done) ⊎ (NoMemory ≡ NoMemory)))
+          (λ now. at_all file netgroup now (λ inputs. CanReverse job inputs → (DiskFails seen old old → ⊥) → (WriteFails seen old old → ⊥) → (NoMemory ≡ Done) ⊎ (NoMemory ≡ NoMemory))
           (λ h n free disks writes. inr refl));
       causes = record { read_fault = λ e. absurd cc; write_fault = λ e. absurd cc; disk_fault = λ map e. absurd cc };
       own_disk = λ map e. absurd cc;

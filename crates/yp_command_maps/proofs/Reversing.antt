@@ -7,49 +7,50 @@ use Rattle.yp_io.specs.Counts.{HasRisen}
 use Rattle.yp_io.specs.Disk.{History, LeavesOnly, MayLeave, after_sync}
 use Rattle.yp_version.specs.Rows.{Row}
 use Rattle.yp_version.specs.Versions.{MapVersion}
-use Rattle.yp_revnet.specs.declared.field.Field.{Field}
-use Rattle.yp_slot.specs.declared.fault.SlotFault.{SlotFault}
-use Rattle.yp_slot.specs.declared.fault.SlotFault.TheVariants as slot
-use Rattle.yp_slot.specs.Commits.{generation_of, winning}
-use Rattle.yp_slot.specs.Loads.{Loads}
-use Rattle.yp_slot.specs.Slots.{IsAsBefore, HasGeneration}
-use Rattle.yp_slot.specs.Stands.{Stored, file_max, stands}
-use Rattle.yp_slot.specs.Stands as stood
+use Rattle.yp_netgroup.specs.declared.reverse.field.Field.{Field}
+use Rattle.yp_map_file.specs.declared.fault.SlotFault.{SlotFault}
+use Rattle.yp_map_file.specs.declared.fault.SlotFault.TheVariants as slot
+use Rattle.yp_map_file.specs.Commits.{generation_of, winning}
+use Rattle.yp_map_file.specs.Loads.{Loads}
+use Rattle.yp_map_file.specs.Slots.{IsAsBefore, HasGeneration}
+use Rattle.yp_map_file.specs.Stands.{Stored, file_max, stands}
+use Rattle.yp_map_file.specs.Stands as stood
 use Rattle.yp_board.specs.Catalogues.{Name, name_view}
 use Rattle.yp_board.specs.declared.catalog.MapName.{MapName}
-use Rattle.yp_publish.specs.Standing.{stands_for}
-use Rattle.yp_words.specs.Words.{netgroup_of}
-use Rattle.yp_office.specs.Files.{Fails}
-use Rattle.yp_office.specs.declared.status.Status.{Status}
-use Rattle.yp_office.specs.declared.status.Status.TheVariants.{NoMemory, Damaged, NoVersion, DiskFault}
-use Rattle.yp_office.specs.declared.status.Status.TheVariants.{Rows, OrderSpent, Refused, GenerationsSpent}
-use Rattle.yp_storing.specs.declared.build.Built.{Built}
-use Rattle.yp_storing.specs.Build.{LeavesFew, may_have_written}
-use Rattle.yp_office.specs.declared.disks.NamedDisk.{NamedDisk}
-use Rattle.yp_office.specs.Disks.{names_of, faults_at, IsOnlyRead}
-use Rattle.yp_storing.specs.Revnet.{Job, Site, site_of, IsMade, IsUnmade, Held, IsHeld, IsPlanned, IsHindered, IsSound}
-use Rattle.yp_storing.specs.Revnet.{OwnDiskFails, IsSpent, Stops, StopsCommit, AtFiles, IsOf, IsBeforeOrMade, Ends, Renews}
-use Rattle.yp_io.specs.DiskLaws.{counts_now}
-use Rattle.yp_storing.proofs.OnDisk.{then, nothing_left}
+use Rattle.yp_publisher.specs.Standing.{stands_for}
+use Rattle.yp_command.specs.Words.{netgroup_of}
+use Rattle.yp_command.specs.office.Files.{Fails}
+use Rattle.yp_command.specs.declared.office.status.Status.{Status}
+use Rattle.yp_command.specs.declared.office.status.Status.TheVariants.{NoMemory, Damaged, NoVersion, DiskFault}
+use Rattle.yp_command.specs.declared.office.status.Status.TheVariants.{Rows, OrderSpent, Refused, GenerationsSpent}
+use Rattle.yp_command_maps.specs.declared.build.Built.{Built}
+use Rattle.yp_command_maps.specs.Build.{LeavesFew, may_have_written}
+use Rattle.yp_command.specs.declared.office.disks.NamedDisk.{NamedDisk}
+use Rattle.yp_command.specs.office.Disks.{names_of, faults_at, IsOnlyRead}
+use Rattle.yp_command_maps.specs.Revnet.{Job, RevnetInputs, revnet_inputs, IsReverseVersion, IsUnmade, FileVersions, AreFileVersions, ReverseIsPlanned, ReverseIsHindered, MapFileIsSound}
+use Rattle.yp_command_maps.specs.Revnet.{OwnDiskFails, IsSpent, StopsRevnet, AtFiles, StandsForVersion, IsBeforeOrMade}
+use Rattle.yp_command_maps.specs.inside.Revnet.{StopsCommit, Ends, Renews}
+use Rattle.yp_io.specs.inside.DiskLaws.{counts_now}
+use Rattle.yp_command_maps.proofs.OnDisk.{then, nothing_left}
 
 -- ---- what two files hold
 
 -- what holds of both, where it holds of each
-pub at_files : (old netgroup : Option History) (now : ℕ) (P Q : History → Type 0) (R : Site → Type 0)
-    → ((h n : History) → P h → Q n → R (site_of h n now)) → IfSome old P → IfSome netgroup Q
+pub at_files : (old netgroup : Option History) (now : ℕ) (P Q : History → Type 0) (R : RevnetInputs → Type 0)
+    → ((h n : History) → P h → Q n → R (revnet_inputs h n now)) → IfSome old P → IfSome netgroup Q
     → AtFiles old netgroup now R
 at_files None netgroup now P Q R f p q = tt
 at_files (Some h) None now P Q R f p q = tt
 at_files (Some h) (Some n) now P Q R f p q = f h n p q
 
-pub at_each : (old netgroup : Option History) (now : ℕ) (P Q : Site → Type 0)
-    → ((h n : History) → P (site_of h n now) → Q (site_of h n now)) → AtFiles old netgroup now P
+pub at_each : (old netgroup : Option History) (now : ℕ) (P Q : RevnetInputs → Type 0)
+    → ((h n : History) → P (revnet_inputs h n now) → Q (revnet_inputs h n now)) → AtFiles old netgroup now P
     → AtFiles old netgroup now Q
 at_each None netgroup now P Q f p = tt
 at_each (Some h) None now P Q f p = tt
 at_each (Some h) (Some n) now P Q f p = f h n p
 
-pub at_all : (old netgroup : Option History) (now : ℕ) (P : Site → Type 0) → ((h n : History) → P (site_of h n now))
+pub at_all : (old netgroup : Option History) (now : ℕ) (P : RevnetInputs → Type 0) → ((h n : History) → P (revnet_inputs h n now))
     → AtFiles old netgroup now P
 at_all None netgroup now P f = tt
 at_all (Some h) None now P f = tt
@@ -137,11 +138,11 @@ renews_as job job' now result old new netgroup netgroup' faults faults' same h =
     subst (λ (j : Job). Renews j now result old new netgroup netgroup' faults faults') same h
 
 pub made_as : (name : List ℕ) (field field' : Field) (now : ℕ) (last last' : Option MapVersion) (rows : List Row)
-    (version : MapVersion) → field ≡ field' → last ≡ last' → IsMade name field now last rows version
-    → IsMade name field' now last' rows version
+    (version : MapVersion) → field ≡ field' → last ≡ last' → IsReverseVersion name field now last rows version
+    → IsReverseVersion name field' now last' rows version
 made_as name field field' now last last' rows version same same' h =
-    subst (λ (f : Field). IsMade name f now last' rows version) same
-    (subst (λ (l : Option MapVersion). IsMade name field now l rows version) same' h)
+    subst (λ (f : Field). IsReverseVersion name f now last' rows version) same
+    (subst (λ (l : Option MapVersion). IsReverseVersion name field now l rows version) same' h)
 
 pub unmade_as : (name : List ℕ) (field field' : Field) (now : ℕ) (last last' : Option MapVersion) (rows : List Row)
     (status : Status) → field ≡ field' → last ≡ last' → IsUnmade name field now last rows status
@@ -152,30 +153,30 @@ unmade_as name field field' now last last' rows status same same' h =
 
 -- ---- a file that wasn't loaded
 
-store_stops : (job : Job) (site : Site) (store : Name) (fault : SlotFault) (status : Status) → store ≡ job.store
-    → Fails store fault status → Loads (stands site.file) (Err fault) → Stops job site status
-store_stops job site store (slot.Damaged at rule) (Damaged map at' rule') named fails loads =
+store_stops : (job : Job) (inputs : RevnetInputs) (store : Name) (fault : SlotFault) (status : Status) → store ≡ job.store
+    → Fails store fault status → Loads (stands inputs.file) (Err fault) → StopsRevnet job inputs status
+store_stops job inputs store (slot.Damaged at rule) (Damaged map at' rule') named fails loads =
     inl (fails.0 ∙ named, loads ∙ ap (λ (n : ℕ). stood.Damaged n rule) (sym fails.1) ∙ ap (stood.Damaged at') (sym fails.2))
-store_stops job site store (slot.Damaged at rule) _ named fails loads = absurd fails
-store_stops job site store slot.DiskFault (DiskFault map) named fails loads = inl (fails ∙ named)
-store_stops job site store slot.DiskFault _ named fails loads = absurd fails
-store_stops job site store slot.NoMemory NoMemory named fails loads = tt
-store_stops job site store slot.NoMemory _ named fails loads = absurd fails
+store_stops job inputs store (slot.Damaged at rule) _ named fails loads = absurd fails
+store_stops job inputs store slot.DiskFault (DiskFault map) named fails loads = inl (fails ∙ named)
+store_stops job inputs store slot.DiskFault _ named fails loads = absurd fails
+store_stops job inputs store slot.NoMemory NoMemory named fails loads = tt
+store_stops job inputs store slot.NoMemory _ named fails loads = absurd fails
 
-netgroup_stops : (job : Job) (site : Site) (netgroup : Name) (fault : SlotFault) (status : Status)
-    → netgroup ≡ netgroup_of job.store → IsSound site → Fails netgroup fault status
-    → Loads (stands site.netgroup) (Err fault) → Stops job site status
-netgroup_stops job site netgroup (slot.Damaged at rule) (Damaged map at' rule') named sound fails loads =
+netgroup_stops : (job : Job) (inputs : RevnetInputs) (netgroup : Name) (fault : SlotFault) (status : Status)
+    → netgroup ≡ netgroup_of job.store → MapFileIsSound inputs → Fails netgroup fault status
+    → Loads (stands inputs.netgroup) (Err fault) → StopsRevnet job inputs status
+netgroup_stops job inputs netgroup (slot.Damaged at rule) (Damaged map at' rule') named sound fails loads =
     inr (
       fails.0 ∙ named,
       sound,
       loads ∙ ap (λ (n : ℕ). stood.Damaged n rule) (sym fails.1) ∙ ap (stood.Damaged at') (sym fails.2),
     )
-netgroup_stops job site netgroup (slot.Damaged at rule) _ named sound fails loads = absurd fails
-netgroup_stops job site netgroup slot.DiskFault (DiskFault map) named sound fails loads = inr (fails ∙ named)
-netgroup_stops job site netgroup slot.DiskFault _ named sound fails loads = absurd fails
-netgroup_stops job site netgroup slot.NoMemory NoMemory named sound fails loads = tt
-netgroup_stops job site netgroup slot.NoMemory _ named sound fails loads = absurd fails
+netgroup_stops job inputs netgroup (slot.Damaged at rule) _ named sound fails loads = absurd fails
+netgroup_stops job inputs netgroup slot.DiskFault (DiskFault map) named sound fails loads = inr (fails ∙ named)
+netgroup_stops job inputs netgroup slot.DiskFault _ named sound fails loads = absurd fails
+netgroup_stops job inputs netgroup slot.NoMemory NoMemory named sound fails loads = tt
+netgroup_stops job inputs netgroup slot.NoMemory _ named sound fails loads = absurd fails
 
 disk_fault_is : (store : Name) (fault : SlotFault) (status : Status) (map : MapName) → Fails store fault status
     → status ≡ DiskFault map → fault ≡ slot.DiskFault
@@ -208,7 +209,7 @@ loaded_is file None loads = loads
 loaded_is file (Some version) loads = loads
 
 sound_of : (h n : History) (now : ℕ) (last : Option MapVersion) → Loads (stands h.state.reads) (Ok last)
-    → IsSound (site_of h n now)
+    → MapFileIsSound (revnet_inputs h n now)
 sound_of h n now last loads = record { last = last; stood = loaded_is (stands h.state.reads) last loads }
 
 -- ---- a disk that is only read
@@ -232,7 +233,7 @@ same_reads (Some old) mid image (inr e) h = subst (λ (o : Option History). IsAs
 module _ (job : Job) (now : ℕ) (old netgroup : Option History) (faults : ℕ) where
   -- nothing is made
   pub not_made : (status : Status) (new netgroup' : Option History) (faults' : ℕ) → LeavesOnly old new (MayLeave old)
-      → IsOnlyRead netgroup netgroup' → AtFiles old netgroup now (λ site. Stops job site status)
+      → IsOnlyRead netgroup netgroup' → AtFiles old netgroup now (λ inputs. StopsRevnet job inputs status)
       → ((map : MapName) → status ≡ DiskFault map → HasRisen faults faults')
       → Renews job now (Err status) old new netgroup netgroup' faults faults'
   not_made status new netgroup' faults' left only stops cause = record {
@@ -254,8 +255,8 @@ module _ (job : Job) (now : ℕ) (old netgroup : Option History) (faults : ℕ) 
       → Renews job now (Err status) old new netgroup netgroup faults faults'
   store_unloaded store fault status new faults' named fails loads left cause =
       not_made status new netgroup faults' left (unread netgroup)
-      (at_files old netgroup now (λ h. Loads (stands h.state.reads) (Err fault)) (λ n. Unit {0}) (λ site. Stops job site status)
-      (λ h n loaded any. store_stops job (site_of h n now) store fault status named fails loaded) loads (always netgroup))
+      (at_files old netgroup now (λ h. Loads (stands h.state.reads) (Err fault)) (λ n. Unit {0}) (λ inputs. StopsRevnet job inputs status)
+      (λ h n loaded any. store_stops job (revnet_inputs h n now) store fault status named fails loaded) loads (always netgroup))
       (λ map e. cause (disk_fault_is store fault status map fails e))
 
   module _ (mid : Option History) (last : Option MapVersion) (loads : IfSome old (λ h. Loads (stands h.state.reads) (Ok last)))
@@ -269,8 +270,8 @@ module _ (job : Job) (now : ℕ) (old netgroup : Option History) (faults : ℕ) 
     netgroup_unloaded name fault status faults' named fails none cause =
         not_made status mid netgroup' faults' left only
         (at_files old netgroup now (λ h. Loads (stands h.state.reads) (Ok last))
-        (λ n. Loads (stands n.state.reads) (Err fault)) (λ site. Stops job site status)
-        (λ h n loaded unloaded. netgroup_stops job (site_of h n now) name fault status named (sound_of h n now last loaded) fails unloaded)
+        (λ n. Loads (stands n.state.reads) (Err fault)) (λ inputs. StopsRevnet job inputs status)
+        (λ h n loaded unloaded. netgroup_stops job (revnet_inputs h n now) name fault status named (sound_of h n now last loaded) fails unloaded)
         loads none)
         (λ map e. cause (disk_fault_is name fault status map fails e))
 
@@ -281,29 +282,29 @@ module _ (job : Job) (now : ℕ) (old netgroup : Option History) (faults : ℕ) 
     none_stands map faults' named none =
         not_made (NoVersion map) mid netgroup' faults' left only
         (at_files old netgroup now (λ h. Loads (stands h.state.reads) (Ok last))
-        (λ n. Loads (stands n.state.reads) (Ok None)) (λ site. Stops job site (NoVersion map))
+        (λ n. Loads (stands n.state.reads) (Ok None)) (λ inputs. StopsRevnet job inputs (NoVersion map))
         (λ h n loaded nothing. (named, sound_of h n now last loaded, nothing)) loads none)
         (λ other e. absurd cc)
 
     module _ (groups : MapVersion) (stored : IfSome netgroup (λ n. Loads (stands n.state.reads) (Ok (Some groups)))) where
-      held_at : (P : Site → Type 0)
-          → ((h n : History) → IsHeld (site_of h n now) (record { last = last; netgroup = groups }) → P (site_of h n now))
+      held_at : (P : RevnetInputs → Type 0)
+          → ((h n : History) → AreFileVersions (revnet_inputs h n now) (record { last = last; netgroup = groups }) → P (revnet_inputs h n now))
           → AtFiles old netgroup now P
       held_at P f =
           at_files old netgroup now (λ h. Loads (stands h.state.reads) (Ok last))
           (λ n. Loads (stands n.state.reads) (Ok (Some groups))) P
           (λ h n one two. f h n (record { last = loaded_is (stands h.state.reads) last one; netgroup = two })) loads stored
 
-      unmade_stops : (site : Site) (status : Status) → IsHeld site (record { last = last; netgroup = groups })
-          → IsUnmade job.name job.field site.now last groups.rows status → Stops job site status
-      unmade_stops site (Refused master) held why =
+      unmade_stops : (inputs : RevnetInputs) (status : Status) → AreFileVersions inputs (record { last = last; netgroup = groups })
+          → IsUnmade job.name job.field inputs.now last groups.rows status → StopsRevnet job inputs status
+      unmade_stops inputs (Refused master) held why =
           record { held = record { last = last; netgroup = groups }; is_held = held; unmade = why }
-      unmade_stops site OrderSpent held why =
+      unmade_stops inputs OrderSpent held why =
           record { held = record { last = last; netgroup = groups }; is_held = held; unmade = why }
-      unmade_stops site (Rows row rule) held why =
+      unmade_stops inputs (Rows row rule) held why =
           record { held = record { last = last; netgroup = groups }; is_held = held; unmade = why }
-      unmade_stops site NoMemory held why = tt
-      unmade_stops site _ held why = absurd why
+      unmade_stops inputs NoMemory held why = tt
+      unmade_stops inputs _ held why = absurd why
 
       unmade_no_disk : (status : Status) (map : MapName) → IsUnmade job.name job.field now last groups.rows status
           → status ≡ DiskFault map → ⊥
@@ -315,20 +316,20 @@ module _ (job : Job) (now : ℕ) (old netgroup : Option History) (faults : ℕ) 
           → Renews job now (Err status) old mid netgroup netgroup' faults faults'
       unmade status faults' why =
           not_made status mid netgroup' faults' left only
-          (held_at (λ site. Stops job site status) (λ h n held. unmade_stops (site_of h n now) status held why))
+          (held_at (λ inputs. StopsRevnet job inputs status) (λ h n held. unmade_stops (revnet_inputs h n now) status held why))
           (λ map e. absurd (unmade_no_disk status map why e))
 
-      module _ (version : MapVersion) (is_made : IsMade job.name job.field now last groups.rows version)
+      module _ (version : MapVersion) (is_made : IsReverseVersion job.name job.field now last groups.rows version)
           (same : (mid ≡ old) ⊎ (mid ≡ option_map after_sync old)) (generation : ℕ) (numbered : HasGeneration old generation)
           (new : Option History) (moments : LeavesOnly mid new (IsBeforeOrMade mid (Some version)))
           (few : LeavesFew mid new) where
-        planned_at : (h n : History) → IsHeld (site_of h n now) (record { last = last; netgroup = groups })
-            → IsPlanned job (site_of h n now) version
+        planned_at : (h n : History) → AreFileVersions (revnet_inputs h n now) (record { last = last; netgroup = groups })
+            → ReverseIsPlanned job (revnet_inputs h n now) version
         planned_at h n held =
             record { held = record { last = last; netgroup = groups }; is_held = held; made = is_made }
 
-        planned : AtFiles old netgroup now (λ site. IsPlanned job site version)
-        planned = held_at (λ site. IsPlanned job site version) planned_at
+        planned : AtFiles old netgroup now (λ inputs. ReverseIsPlanned job inputs version)
+        planned = held_at (λ inputs. ReverseIsPlanned job inputs version) planned_at
 
         any_moment : LeavesOnly old new (IsBeforeOrMade old (Some version))
         any_moment =
@@ -364,24 +365,24 @@ module _ (job : Job) (now : ℕ) (old netgroup : Option History) (faults : ℕ) 
         }
           where
             ends_at : (status : Status) → StopsCommit store generation status
-                → AtFiles old netgroup now (λ site. Stops job site status)
+                → AtFiles old netgroup now (λ inputs. StopsRevnet job inputs status)
             ends_at (GenerationsSpent map) stops =
-                spent_at old netgroup now (held_at (λ site. IsPlanned job site version) planned_at) numbered
+                spent_at old netgroup now (held_at (λ inputs. ReverseIsPlanned job inputs version) planned_at) numbered
               where
-                spent_at : (old netgroup : Option History) (now : ℕ) → AtFiles old netgroup now (λ site. IsPlanned job site version)
-                    → HasGeneration old generation → AtFiles old netgroup now (λ site. Stops job site (GenerationsSpent map))
+                spent_at : (old netgroup : Option History) (now : ℕ) → AtFiles old netgroup now (λ inputs. ReverseIsPlanned job inputs version)
+                    → HasGeneration old generation → AtFiles old netgroup now (λ inputs. StopsRevnet job inputs (GenerationsSpent map))
                 spent_at None netgroup now plan number = tt
                 spent_at (Some h) None now plan number = tt
                 spent_at (Some h) (Some n) now plan number =
                     (stops.0 ∙ named, record { version = version; planned = plan; last = sym number ∙ stops.1 })
             ends_at (DiskFault map) stops =
-                at_all old netgroup now (λ site. Stops job site (DiskFault map)) (λ h n. inl (stops ∙ named))
+                at_all old netgroup now (λ inputs. StopsRevnet job inputs (DiskFault map)) (λ h n. inl (stops ∙ named))
             ends_at _ stops = absurd stops
 
         -- the version is stored
         pub renewed : (built : Built) (faults' : ℕ)
             → built ≡ record { order = version.order; rows = length version.rows; generation = generation + 1 }
-            → ((image : List ℕ) → MayLeave new image → IsOf (Some version) image)
+            → ((image : List ℕ) → MayLeave new image → StandsForVersion (Some version) image)
             → Renews job now (Ok built) old new netgroup netgroup' faults faults'
         renewed built faults' is stands = record {
           made = Some version;
@@ -399,7 +400,7 @@ module _ (job : Job) (now : ℕ) (old netgroup : Option History) (faults : ℕ) 
             with_generation n = record { order = version.order; rows = length version.rows; generation = n + 1 }
 
             ends_at : (old netgroup : Option History) → HasGeneration old generation
-                → AtFiles old netgroup now (λ site. Ends job site (Some version) (Ok built))
+                → AtFiles old netgroup now (λ inputs. Ends job inputs (Some version) (Ok built))
             ends_at None netgroup number = tt
             ends_at (Some h) None number = tt
             ends_at (Some h) (Some n) number = is ∙ ap with_generation number

@@ -1,24 +1,25 @@
 -- What a transfer does to an office, by what was moved and told.
 use Rattle.std.proofs.Common.{◌≡◌, ◌⊎◌, inl, inr, ℕ, Bool, true, false, List, Option, Result, Ok, Err, refl, sym, ap, ◌∙◌, subst}
 use Rattle.std.specs.Prelude.{OnErr}
-use Rattle.yp_slot.specs.declared.fault.SlotFault.{SlotFault}
-use Rattle.yp_slot.specs.declared.fault.SlotFault.TheVariants as slot
+use Rattle.yp_map_file.specs.declared.fault.SlotFault.{SlotFault}
+use Rattle.yp_map_file.specs.declared.fault.SlotFault.TheVariants as slot
 use Rattle.yp_board.specs.Catalogues.{Name}
 use Rattle.yp_board.specs.declared.catalog.MapName.{MapName}
-use Rattle.yp_publish.specs.declared.install.Installed.{Installed}
-use Rattle.yp_xfr.specs.declared.fault.XfrFault.{XfrFault}
-use Rattle.yp_xfr.specs.declared.fault.XfrFault.TheVariants as fault
-use Rattle.yp_office.specs.declared.office.Office.{Office}
-use Rattle.yp_office.specs.declared.status.Status.{Status}
-use Rattle.yp_office.specs.declared.status.Status.TheVariants.{Done, WriteFault, NoMemory, Damaged, DiskFault, Xfr}
-use Rattle.yp_office.specs.Files.{Fails}
-use Rattle.yp_office.specs.Disks.{names_of}
-use Rattle.yp_office.specs.Seeing.{Seeing, output, history, WriteFails, DiskFails}
-use Rattle.yp_storing.specs.declared.xfr.XfrStop.{XfrStop}
-use Rattle.yp_storing.specs.declared.xfr.XfrStop.TheVariants as stop
-use Rattle.yp_storing.specs.Build.{TellsLine, LeavesFew}
-use Rattle.yp_storing.specs.Xfr.{Order, Moves, is_undialed, xfr_line, Tells, IsEnd, dialing, disk_faults}
-use Rattle.yp_storing.specs.Xfr.{Transfers, Declines, XfrDoes}
+use Rattle.yp_publisher.specs.declared.install.Installed.{Installed}
+use Rattle.yp_transfer.specs.declared.fault.XfrFault.{XfrFault}
+use Rattle.yp_transfer.specs.declared.fault.XfrFault.TheVariants as fault
+use Rattle.yp_command.specs.declared.office.office.Office.{Office}
+use Rattle.yp_command.specs.declared.office.status.Status.{Status}
+use Rattle.yp_command.specs.declared.office.status.Status.TheVariants.{Done, WriteFault, NoMemory, Damaged, DiskFault, Xfr}
+use Rattle.yp_command.specs.office.Files.{Fails}
+use Rattle.yp_command.specs.office.Disks.{names_of}
+use Rattle.yp_command.specs.office.Seeing.{Seeing, output, history, WriteFails, DiskFails}
+use Rattle.yp_command_maps.specs.declared.xfr.XfrStop.{XfrStop}
+use Rattle.yp_command_maps.specs.declared.xfr.XfrStop.TheVariants as stop
+use Rattle.yp_command_maps.specs.Build.{TellsLine, LeavesFew}
+use Rattle.yp_command_maps.specs.Xfr.{Job, xfr_line, TellsXfr, dialing, disk_faults}
+use Rattle.yp_command_maps.specs.inside.Xfr.{XfrMoves, is_undialed, IsXfrEnd}
+use Rattle.yp_command_maps.specs.Xfr.{XfrTransfers, XfrDeclines, XfrDoes}
 
 -- ---- no status of a transfer tells a fault of the disk, but where its file isn't loaded
 
@@ -29,7 +30,7 @@ line_no_disk text WriteFault before after map told e = cc
 line_no_disk text _ before after map told e = told
 
 fault_no_disk : (store : Name) (why : XfrFault) (status : Status) (before after : Option (List ℕ)) (map : MapName)
-    → Tells store (Err why) status before after → status ≡ DiskFault map → ⊥
+    → TellsXfr store (Err why) status before after → status ≡ DiskFault map → ⊥
 fault_no_disk store fault.NoMemory status before after map told e =
     let wrong : NoMemory ≡ DiskFault map = sym told.0 ∙ e in cc
 fault_no_disk store why status before after map told e =
@@ -52,19 +53,19 @@ not_loaded_no_write store slot.NoMemory NoMemory fails e = cc
 not_loaded_no_write store _ _ fails e = fails
 
 fault_no_write : (store : Name) (why : XfrFault) (status : Status) (before after : Option (List ℕ))
-    → Tells store (Err why) status before after → status ≡ WriteFault → ⊥
+    → TellsXfr store (Err why) status before after → status ≡ WriteFault → ⊥
 fault_no_write store fault.NoMemory status before after told e = let wrong : NoMemory ≡ WriteFault = sym told.0 ∙ e in cc
 fault_no_write store why status before after told e = let wrong : Xfr why ≡ WriteFault = sym told.0 ∙ e in cc
 
 pub stopped_no_write : (store : Name) (why : XfrStop) (status : Status) (before after : Option (List ℕ))
-    → IsEnd store (Err why) status before after → status ≡ WriteFault → ⊥
+    → IsXfrEnd store (Err why) status before after → status ≡ WriteFault → ⊥
 stopped_no_write store (stop.Fault why) status before after ends e = fault_no_write store why status before after ends e
 stopped_no_write store (stop.Unloaded why) status before after ends e =
     not_loaded_no_write store why status ends.0 e
 
 -- a fault of the disk is told where its file isn't loaded, and nowhere else
 pub end_disk : (store : Name) (done : Result Installed XfrStop) (status : Status) (before after : Option (List ℕ))
-    (map : MapName) → IsEnd store done status before after → status ≡ DiskFault map
+    (map : MapName) → IsXfrEnd store done status before after → status ≡ DiskFault map
     → done ≡ Err (stop.Unloaded slot.DiskFault)
 end_disk store (Ok installed) status before after map ends e =
     absurd (line_no_disk (xfr_line store installed.order installed.generation) status before after map ends e)
@@ -73,16 +74,16 @@ end_disk store (Err (stop.Fault why)) status before after map ends e =
 end_disk store (Err (stop.Unloaded why)) status before after map ends e =
     ap (λ (w : SlotFault). Err (stop.Unloaded w)) (was_disk store why status map ends.0 e)
 
-module _ {S K D C A I T : Type 0} (seen : Seeing S K D C A I T) (order : Order) (old new : Office S K D C A I T) where
+module _ {S K D C A I T : Type 0} (seen : Seeing S K D C A I T) (job : Job) (old new : Office S K D C A I T) where
   -- what was moved and told
   pub record Told (result : Result Installed XfrStop) (status : Status) : Type 0 where
-    pub moves : Moves order result (dialing seen old) (dialing seen new) (history seen old) (history seen new)
+    pub moves : XfrMoves job result (dialing seen old) (dialing seen new) (history seen old) (history seen new)
         (disk_faults seen old) (disk_faults seen new)
     pub few : LeavesFew (history seen old) (history seen new)
     pub undialed : is_undialed result ≡ true → new.dial ≡ old.dial
     pub silent : OnErr result (new.wire.sink ≡ old.wire.sink)
     pub letters : seen.dial.letters new.dial ≡ seen.dial.letters old.dial
-    pub ends : IsEnd order.store result status (output seen old) (output seen new)
+    pub ends : IsXfrEnd job.store result status (output seen old) (output seen new)
     pub write_fault : status ≡ WriteFault → WriteFails seen old new
     pub disk : (map : MapName) → status ≡ DiskFault map → result ≡ Err (stop.Unloaded slot.DiskFault)
     pub names : names_of new.disks.items ≡ names_of old.disks.items
@@ -101,7 +102,7 @@ module _ {S K D C A I T : Type 0} (seen : Seeing S K D C A I T) (order : Order) 
       ∙ ap (λ (k : K). record old { wire = record old.wire { sink = k }; disks = new.disks }) sink
 
   does : (result : Result Installed XfrStop) (status : Status) → Told result status
-      → Transfers seen order status old new ⊎ Declines seen order status old new
+      → XfrTransfers seen job status old new ⊎ XfrDeclines seen job status old new
   does (Ok installed) status told = inl (record { result = Ok installed; did = told.moves; tells = told.ends })
   does (Err (stop.Fault why)) status told = inl (record { result = Err why; did = told.moves; tells = told.ends })
   does (Err (stop.Unloaded why)) status told = inr (record {
@@ -115,11 +116,11 @@ module _ {S K D C A I T : Type 0} (seen : Seeing S K D C A I T) (order : Order) 
       → status ≡ DiskFault map → DiskFails seen old new
   disk_fault result status map told e =
       let is = told.disk map e in
-      (subst (λ (r : Result Installed XfrStop). Moves order r (dialing seen old) (dialing seen new) (history seen old)
+      (subst (λ (r : Result Installed XfrStop). XfrMoves job r (dialing seen old) (dialing seen new) (history seen old)
       (history seen new) (disk_faults seen old) (disk_faults seen new)) is told.moves).disk_fault refl
 
   pub xfr_does : (result : Result Installed XfrStop) (status : Status) → Told result status
-      → XfrDoes seen order status old new
+      → XfrDoes seen job status old new
   xfr_does result status told = record {
     does = does result status told;
     few = told.few;

@@ -6,52 +6,54 @@ use Rattle.std.specs.Option.{option_or}
 use Rattle.std.specs.List.{AllZip}
 use Rattle.yp_io.specs.Counts.{HasRisen}
 use Rattle.yp_io.specs.Disk.{History, LeavesOnly, MayLeave}
-use Rattle.yp_io.specs.DiskLaws.{counts_now}
+use Rattle.yp_io.specs.inside.DiskLaws.{counts_now}
 use Rattle.yp_version.specs.Versions.{MapVersion}
-use Rattle.yp_slot.specs.declared.fault.SlotFault.{SlotFault}
-use Rattle.yp_slot.specs.declared.fault.SlotFault.TheVariants as slot
-use Rattle.yp_slot.specs.Loads.{Loads}
-use Rattle.yp_slot.specs.Stands.{file_max, Stored, stands}
+use Rattle.yp_map_file.specs.declared.fault.SlotFault.{SlotFault}
+use Rattle.yp_map_file.specs.declared.fault.SlotFault.TheVariants as slot
+use Rattle.yp_map_file.specs.Loads.{Loads}
+use Rattle.yp_map_file.specs.Stands.{file_max, Stored, stands}
 use Rattle.yp_board.specs.Catalogues.{Catalogue, Name}
 use Rattle.yp_board.specs.Logs.{Log, shown, starts}
 use Rattle.yp_board.specs.Views.{Seen}
-use Rattle.yp_publish.specs.declared.install.InstallFault.{InstallFault}
-use Rattle.yp_publish.specs.declared.install.InstallFault.TheVariants as install
-use Rattle.yp_publish.specs.declared.install.Installed.{Installed}
-use Rattle.yp_publish.specs.declared.install.Origin.TheVariants.{Fetched}
-use Rattle.yp_publish.specs.declared.open.OpenFault.{OpenFault}
-use Rattle.yp_publish.specs.declared.open.OpenFault.TheVariants as opening
-use Rattle.yp_publish.specs.Begins.{BeginsLevel, IsUnwritten, IsUnopened, plain_log}
-use Rattle.yp_publish.specs.Installs.{Offer, Refusal, HasMaster, IsNotNewer, IsSpent, IsBehind, offer, not_following}
-use Rattle.yp_publish.specs.Installs.{no_further, is_behind, install_refusal, IsCause, Leaves}
-use Rattle.yp_publish.specs.Keeping.{Keeping, keeping_of, Upholds}
-use Rattle.yp_publish.specs.Opens.{IsOpened, IsRefused}
-use Rattle.yp_publish.specs.Standing.{MapStanding, Level, Behind, Kept, Published, OfMap, At, StandsAs, stands_for, versions}
-use Rattle.yp_xfr.specs.declared.fault.XfrFault.{XfrFault}
-use Rattle.yp_xfr.specs.declared.fault.XfrFault.TheVariants as fault
-use Rattle.yp_xfr.specs.Fetching.{Wanted, wanted_of, Outcome}
-use Rattle.yp_xfr.specs.HostTable.{HostList}
+use Rattle.yp_publisher.specs.declared.install.InstallFault.{InstallFault}
+use Rattle.yp_publisher.specs.declared.install.InstallFault.TheVariants as install
+use Rattle.yp_publisher.specs.declared.install.Installed.{Installed}
+use Rattle.yp_publisher.specs.declared.install.Origin.TheVariants.{Fetched}
+use Rattle.yp_publisher.specs.declared.open.OpenFault.{OpenFault}
+use Rattle.yp_publisher.specs.declared.open.OpenFault.TheVariants as opening
+use Rattle.yp_publisher.specs.Begins.{IsUnwritten, IsUnopened, plain_log}
+use Rattle.yp_publisher.specs.inside.Begins.{BeginsLevel}
+use Rattle.yp_publisher.specs.Installs.{OfferedVersion, Refusal, HasMaster, IsNotNewer, IsSpent, IsBehind, offer, not_following}
+use Rattle.yp_publisher.specs.Installs.{no_further, is_behind, install_refusal, IsInstallCause, FaultLeaves}
+use Rattle.yp_publisher.specs.Keeping.{Keeping, keeping_of, Upholds}
+use Rattle.yp_publisher.specs.Opens.{IsOpened, DiskIsRefused}
+use Rattle.yp_publisher.specs.Standing.{MapStanding, Level, Behind, StoredMap, Published, OfMap, At, StandsAs, stands_for, versions}
+use Rattle.yp_transfer.specs.declared.fault.XfrFault.{XfrFault}
+use Rattle.yp_transfer.specs.declared.fault.XfrFault.TheVariants as fault
+use Rattle.yp_transfer.specs.Fetching.{Wanted, wanted_of, FetchOutcome}
+use Rattle.yp_transfer.specs.HostTable.{HostList}
 use Rattle.yp_io.specs.Dials.{Dialing}
-use Rattle.yp_xfr.specs.Dialing.{FetchesFrom}
-use Rattle.yp_xfr.specs.Installing.{marking, of_install, fetched_offer, IsTaken, IsNotTaken, Offers, InstallsFetched}
-use Rattle.yp_xfr.specs.Installing.{OpensAndOffers}
-use Rattle.yp_xfr.specs.Transfers.{request_of, wanted_at, InstallsOutcome}
-use Rattle.yp_xfr.specs.Transfers as transfers
-use Rattle.yp_office.specs.Disks.{only_history, total_faults}
-use Rattle.yp_storing.specs.declared.xfr.XfrStop.TheVariants as stop
-use Rattle.yp_storing.specs.Build.{LeavesFew}
-use Rattle.yp_storing.specs.Xfr.{Order, Held, IsHeld, wanted, marked, against, IsFetchedIn, IsBeforeOrFetched, IsUnwanted}
-use Rattle.yp_storing.specs.Xfr.{IsNotStored, Comes, StoresOn, StoresFetched, TransfersOn, IsNotLoaded, Moves}
-use Rattle.yp_storing.specs.Xfr.{catalogue_of, why_of_open, KeepsLoaded, LeavesUnloaded}
-use Rattle.yp_storing.proofs.OnDisk.{then, nothing_left, all_told, by_front}
+use Rattle.yp_transfer.specs.Dialing.{FetchesFrom}
+use Rattle.yp_transfer.specs.Installing.{marking, of_install, fetched_offer, IsTaken, IsNotTaken, Offers, InstallsFetched}
+use Rattle.yp_transfer.specs.Installing.{OpensAndOffers}
+use Rattle.yp_transfer.specs.Transfers.{request_of, wanted_at, InstallsOutcome}
+use Rattle.yp_transfer.specs.Transfers as transfers
+use Rattle.yp_command.specs.office.Disks.{only_history, total_faults}
+use Rattle.yp_command_maps.specs.declared.xfr.XfrStop.TheVariants as stop
+use Rattle.yp_command_maps.specs.Build.{LeavesFew}
+use Rattle.yp_command_maps.specs.Xfr.{Job, FileVersion, IsFileVersion, wanted, marked, against, IsFetchedIn, IsBeforeOrFetched, IsUnwanted}
+use Rattle.yp_command_maps.specs.Xfr.{IsNotStored, StoresOutcome, StoresOn, TransfersOn, IsNotLoaded}
+use Rattle.yp_command_maps.specs.inside.Xfr.{StoresFetched, XfrMoves}
+use Rattle.yp_command_maps.specs.inside.Xfr.{catalogue_of, why_of_open, KeepsLoaded, LeavesUnloaded}
+use Rattle.yp_command_maps.proofs.OnDisk.{then, nothing_left, all_told, by_front}
 
 -- ---- one map
 
-of_one : {D : Type 0} (maps : List (Kept D)) (kept : Kept D) (P : Kept D → Type 0) → maps ≡ kept ∷ [] → OfMap 0 maps P
+of_one : {D : Type 0} (maps : List (StoredMap D)) (kept : StoredMap D) (P : StoredMap D → Type 0) → maps ≡ kept ∷ [] → OfMap 0 maps P
     → P kept
-of_one {D} maps kept P one h = subst (λ (l : List (Kept D)). OfMap 0 l P) one h
+of_one {D} maps kept P one h = subst (λ (l : List (StoredMap D)). OfMap 0 l P) one h
 
-at_one : {D : Type 0} (olds news : List (Kept D)) (before after : Kept D) (P : Kept D → Kept D → Type 0)
+at_one : {D : Type 0} (olds news : List (StoredMap D)) (before after : StoredMap D) (P : StoredMap D → StoredMap D → Type 0)
     → olds ≡ before ∷ [] → news ≡ after ∷ [] → At 0 olds news P → P before after
 at_one {D} olds news before after P old new h =
     of_one news after (P before) new (of_one olds before (λ kept. OfMap 0 news (P kept)) old h)
@@ -89,13 +91,13 @@ by_spent true e = cc
 by_spent false e = cc
 
 -- what stands against a version isn't that its map is behind
-never_behind : (own : List ℕ) (offered : Offer) (version : Option MapVersion) (generation : ℕ)
+never_behind : (own : List ℕ) (offered : OfferedVersion) (version : Option MapVersion) (generation : ℕ)
     → option_or (not_following own offered version) (no_further generation) ≡ Some IsBehind → ⊥
 never_behind own offered None generation e = by_spent _ e
 never_behind own offered (Some last) generation e = by_tests _ _ _ _ _ _ e
 
 not_stored : (cause : Option Refusal) (Failed : Type 0) (why : InstallFault) → (cause ≡ Some IsBehind → ⊥)
-    → IsCause why cause → (why ≡ install.DiskFault → Failed) → IsNotStored cause Failed (of_install why)
+    → IsInstallCause why cause → (why ≡ install.DiskFault → Failed) → IsNotStored cause Failed (of_install why)
 not_stored cause Failed install.Behind never is failed = absurd (never is)
 not_stored cause Failed (install.Refused master) never is failed = (master.items, is)
 not_stored cause Failed (install.Age was offered) never is failed = is
@@ -111,44 +113,44 @@ not_stored_more cause F G fault.File f h = ⊎_elim (λ spent. inl spent) (λ fa
 not_stored_more cause F G fault.NoMemory f h = tt
 not_stored_more cause F G _ f h = absurd h
 
-comes_more : (order : Order) (held : Held) (F G : Type 0) (outcome : Outcome) (result : Result Installed XfrFault)
-    → (F → G) → Comes order held F outcome result → Comes order held G outcome result
-comes_more order held F G (Err why) result f h = h
-comes_more order held F G (Ok version) (Ok installed) f h = h
-comes_more order held F G (Ok version) (Err why) f h = not_stored_more (against order held version) F G why f h
+comes_more : (job : Job) (held : FileVersion) (F G : Type 0) (outcome : FetchOutcome) (result : Result Installed XfrFault)
+    → (F → G) → StoresOutcome job held F outcome result → StoresOutcome job held G outcome result
+comes_more job held F G (Err why) result f h = h
+comes_more job held F G (Ok version) (Ok installed) f h = h
+comes_more job held F G (Ok version) (Err why) f h = not_stored_more (against job held version) F G why f h
 
-module _ {D : Type 0} (history : D → Option History) (faults : D → ℕ) (order : Order) where
+module _ {D : Type 0} (history : D → Option History) (faults : D → ℕ) (job : Job) where
   abbrev keeping : Keeping D Seen
   keeping = keeping_of history faults plain_log
 
-  abbrev held_of : Kept D → Held
+  abbrev held_of : StoredMap D → FileVersion
   held_of kept = record { version = kept.version; generation = kept.generation }
 
-  abbrev offer_of : Kept D → MapVersion → Offer
-  offer_of kept version = offer (marked order (held_of kept) version) Fetched order.force
+  abbrev offer_of : StoredMap D → MapVersion → OfferedVersion
+  offer_of kept version = offer (marked job (held_of kept) version) Fetched job.force
 
   -- a publisher of one map before and after, whose file was opened at first
-  record One (disk : D) (before after : Kept D) (old new : Published D Seen) : Type 0 where
+  record One (disk : D) (before after : StoredMap D) (old new : Published D Seen) : Type 0 where
     olds : old.maps ≡ before ∷ []
     news : new.maps ≡ after ∷ []
-    own : old.catalogue.own ≡ order.name
-    maps : old.catalogue.maps ≡ order.store ∷ []
+    own : old.catalogue.own ≡ job.name
+    maps : old.catalogue.maps ≡ job.store ∷ []
     shows : shown 0 old.board.known ≡ before.version
     opened : IsOpened history faults disk before
 
   -- what came of a fetch was stored, or wasn't
-  record Puts (outcome : Outcome) (result : Result Installed XfrFault) (before after : Kept D) : Type 0 where
-    comes : Comes order (held_of before) (HasRisen (faults before.disk) (faults after.disk)) outcome result
+  record Puts (outcome : FetchOutcome) (result : Result Installed XfrFault) (before after : StoredMap D) : Type 0 where
+    comes : StoresOutcome job (held_of before) (HasRisen (faults before.disk) (faults after.disk)) outcome result
     stored : OnOk result ((image : List ℕ) → MayLeave (history after.disk) image
-        → IsFetchedIn order (held_of before) outcome image)
+        → IsFetchedIn job (held_of before) outcome image)
     moments : LeavesOnly (history before.disk) (history after.disk)
-        (λ image. (stands image ≡ stands_for before.version) ⊎ IsFetchedIn order (held_of before) outcome image)
-    unwritten : IsUnwanted order (held_of before) outcome → after ≡ before
+        (λ image. (stands image ≡ stands_for before.version) ⊎ IsFetchedIn job (held_of before) outcome image)
+    unwritten : IsUnwanted job (held_of before) outcome → after ≡ before
     few : LeavesOnly (history before.disk) (history after.disk)
         (λ image. MayLeave (history before.disk) image ⊎ (length image ≤ file_max))
     never_falls : faults before.disk ≤ faults after.disk
 
-  module _ (disk : D) (before after : Kept D) (old new : Published D Seen) (one : One disk before after old new) where
+  module _ (disk : D) (before after : StoredMap D) (old new : Published D Seen) (one : One disk before after old new) where
     stood : (image : List ℕ) → MayLeave (history before.disk) image → stands image ≡ stands_for before.version
     stood image left =
         subst (λ (s : MapStanding). StandsAs s before.version image) one.opened.level (one.opened.standing image left)
@@ -163,7 +165,7 @@ module _ {D : Type 0} (history : D → Option History) (faults : D → ℕ) (ord
     nothing_put why same =
         let is = same_kept same in
         let stays = λ (P : List ℕ → Type 0) (f : (image : List ℕ) → MayLeave (history before.disk) image → P image).
-        subst (λ (kept : Kept D). LeavesOnly (history before.disk) (history kept.disk) P) (sym is)
+        subst (λ (kept : StoredMap D). LeavesOnly (history before.disk) (history kept.disk) P) (sym is)
         (nothing_left (history before.disk) P f) in
         record {
           comes = refl;
@@ -171,12 +173,12 @@ module _ {D : Type 0} (history : D → Option History) (faults : D → ℕ) (ord
           moments = stays (λ image. (stands image ≡ stands_for before.version) ⊎ ⊥) (λ image left. inl (stood image left));
           unwritten = λ none. is;
           few = stays (λ image. MayLeave (history before.disk) image ⊎ (length image ≤ file_max)) (λ image left. inl left);
-          never_falls = subst (λ (kept : Kept D). faults before.disk ≤ faults kept.disk) (sym is) (omega arith);
+          never_falls = subst (λ (kept : StoredMap D). faults before.disk ≤ faults kept.disk) (sym is) (omega arith);
         }
 
     -- what is against a version
     refusal_is : (version : MapVersion)
-        → install_refusal old.catalogue.own (offer_of before version) before ≡ against order (held_of before) version
+        → install_refusal old.catalogue.own (offer_of before version) before ≡ against job (held_of before) version
     refusal_is version =
         at_level before.standing _ one.opened.level
         ∙ ap (λ (own : List ℕ). option_or (not_following own (offer_of before version) before.version)
@@ -184,9 +186,9 @@ module _ {D : Type 0} (history : D → Option History) (faults : D → ℕ) (ord
 
     meanwhile : (version : MapVersion)
         → LeavesOnly (history before.disk) (history after.disk) (λ image.
-        StandsAs before.standing before.version image ⊎ (stands image ≡ Stored (marked order (held_of before) version)))
+        StandsAs before.standing before.version image ⊎ (stands image ≡ Stored (marked job (held_of before) version)))
         → LeavesOnly (history before.disk) (history after.disk) (λ image.
-        (stands image ≡ stands_for before.version) ⊎ (stands image ≡ Stored (marked order (held_of before) version)))
+        (stands image ≡ stands_for before.version) ⊎ (stands image ≡ Stored (marked job (held_of before) version)))
     meanwhile version h =
         leaves_more (history before.disk) (history after.disk) _ _ (λ image left. ⊎_elim
         (λ stand. inl (subst (λ (s : MapStanding). StandsAs s before.version image) one.opened.level stand))
@@ -226,21 +228,21 @@ module _ {D : Type 0} (history : D → Option History) (faults : D → ℕ) (ord
               generation = kept.generation + 1;
             }) one.olds h.answer,
           );
-          stored = λ image left. subst (λ (kept : Kept D). StandsAs kept.standing kept.version image) is
+          stored = λ image left. subst (λ (kept : StoredMap D). StandsAs kept.standing kept.version image) is
               (standing image left);
           moments = meanwhile version (at_one old.maps new.maps before after
               (λ b a. LeavesOnly (history b.disk) (history a.disk) (λ image.
               StandsAs b.standing b.version image ⊎ (stands image ≡ Stored offered.version)))
               one.olds one.news h.installs.meanwhile);
-          unwritten = λ unwanted. absurd (some_none (against order (held_of before) version) unwanted
+          unwritten = λ unwanted. absurd (some_none (against job (held_of before) version) unwanted
               (sym (refusal_is version) ∙ unopposed));
           few = few_left h.installs.upheld;
           never_falls = kept_count h.installs.upheld;
         }
 
     -- what a fault leaves where something stands against the version
-    left_same : (version : MapVersion) (why : InstallFault) → IsSome (against order (held_of before) version)
-        → IsCause why (against order (held_of before) version) → Leaves keeping 0 (offer_of before version) why old new
+    left_same : (version : MapVersion) (why : InstallFault) → IsSome (against job (held_of before) version)
+        → IsInstallCause why (against job (held_of before) version) → FaultLeaves keeping 0 (offer_of before version) why old new
         → new ≡ old
     left_same version install.Behind unwanted cause left = left
     left_same version (install.Refused master) unwanted cause left = left
@@ -248,11 +250,11 @@ module _ {D : Type 0} (history : D → Option History) (faults : D → ℕ) (ord
     left_same version install.GenerationsSpent unwanted cause left = left
     left_same version install.DiskFault unwanted cause left = absurd (some_none _ unwanted cause)
     left_same version install.NoMemory unwanted cause left =
-        ⊎_elim (λ same. same) (λ fails. absurd (some_none (against order (held_of before) version) unwanted
+        ⊎_elim (λ same. same) (λ fails. absurd (some_none (against job (held_of before) version) unwanted
         (sym (refusal_is version) ∙ of_one old.maps before
         (λ kept. install_refusal old.catalogue.own (offer_of before version) kept ≡ None) one.olds fails.unopposed))) left
 
-    disk_risen : (version : MapVersion) (why : InstallFault) → Leaves keeping 0 (offer_of before version) why old new
+    disk_risen : (version : MapVersion) (why : InstallFault) → FaultLeaves keeping 0 (offer_of before version) why old new
         → why ≡ install.DiskFault → HasRisen (faults before.disk) (faults after.disk)
     disk_risen version install.DiskFault left is =
         at_one old.maps new.maps before after (λ b a. HasRisen (faults b.disk) (faults a.disk)) one.olds one.news
@@ -264,15 +266,15 @@ module _ {D : Type 0} (history : D → Option History) (faults : D → ℕ) (ord
     not_taken version why h =
         let offered = offer_of before version in
         let held = held_of before in
-        let cause : IsCause h.why (against order held version) =
-        subst (λ (o : Option Refusal). IsCause h.why o) (refusal_is version)
-        (of_one old.maps before (λ kept. IsCause h.why (install_refusal old.catalogue.own offered kept)) one.olds
+        let cause : IsInstallCause h.why (against job held version) =
+        subst (λ (o : Option Refusal). IsInstallCause h.why o) (refusal_is version)
+        (of_one old.maps before (λ kept. IsInstallCause h.why (install_refusal old.catalogue.own offered kept)) one.olds
         h.refuses.cause) in
         record {
-          comes = subst (λ (f : XfrFault). IsNotStored (against order held version)
+          comes = subst (λ (f : XfrFault). IsNotStored (against job held version)
               (HasRisen (faults before.disk) (faults after.disk)) f) (sym h.fault_is)
-              (not_stored (against order held version) _ h.why
-              (never_behind order.name offered before.version before.generation) cause
+              (not_stored (against job held version) _ h.why
+              (never_behind job.name offered before.version before.generation) cause
               (disk_risen version h.why h.refuses.left));
           stored = tt;
           moments = meanwhile version (at_one old.maps new.maps before after
@@ -291,43 +293,43 @@ module _ {D : Type 0} (history : D → Option History) (faults : D → ℕ) (ord
 
     -- the map is level, so it isn't opened again
     opens_put : (version : MapVersion) (result : Result Installed XfrFault)
-        → InstallsFetched keeping 0 version order.force order.flag result old new → Puts (Ok version) result before after
+        → InstallsFetched keeping 0 version job.force job.flag result old new → Puts (Ok version) result before after
     opens_put version result (inl h) =
         absurd (of_one old.maps before (λ kept. kept.standing ≡ Level → ⊥) one.olds h.stays.behind one.opened.level)
     opens_put version result (inr h) =
         let same = of_one old.maps before (λ kept. kept.standing ≡ Level → h.middle ≡ old) one.olds h.opens.unchanged
         one.opened.level in
         let here = subst (λ (p : Published D Seen).
-        Offers keeping 0 (fetched_offer keeping 0 version order.force order.flag p) result p new) same h.offers in
+        Offers keeping 0 (fetched_offer keeping 0 version job.force job.flag p) result p new) same h.offers in
         offered_put version result (subst (λ (v : Option MapVersion).
-        Offers keeping 0 (offer (record version { secure = marking order.flag v }) Fetched order.force) result old new)
+        Offers keeping 0 (offer (record version { secure = marking job.flag v }) Fetched job.force) result old new)
         one.shows here)
 
-    put : (outcome : Outcome) (result : Result Installed XfrFault)
-        → InstallsOutcome keeping (request_of 0 order.host.0 order.force order.flag) outcome result old new
+    put : (outcome : FetchOutcome) (result : Result Installed XfrFault)
+        → InstallsOutcome keeping (request_of 0 job.host.0 job.force job.flag) outcome result old new
         → Puts outcome result before after
     put (Ok version) result h = opens_put version result h
     put (Err why) result h =
         subst (λ (r : Result Installed XfrFault). Puts (Err why) r before after) (sym h.0) (nothing_put why h.1)
 
     -- what the disk shows of it
-    on_one : (outcome : Outcome) (result : Result Installed XfrFault) → Puts outcome result before after
-        → StoresOn order (held_of before) outcome result (history disk) (history after.disk) (faults disk + 0)
+    on_one : (outcome : FetchOutcome) (result : Result Installed XfrFault) → Puts outcome result before after
+        → StoresOn job (held_of before) outcome result (history disk) (history after.disk) (faults disk + 0)
         (faults after.disk + 0)
     on_one outcome result puts = record {
       is_held = record { version = one.opened.stood.version; generation = one.opened.stood.generation };
-      comes = comes_more order (held_of before) (HasRisen (faults before.disk) (faults after.disk)) _ outcome result
+      comes = comes_more job (held_of before) (HasRisen (faults before.disk) (faults after.disk)) _ outcome result
           (λ risen. omega (arith, one.opened.never_falls, risen)) puts.comes;
       stored = puts.stored;
       any_moment = then (history disk) (history before.disk) (history after.disk) (MayLeave (history disk))
-          (λ image. (stands image ≡ stands_for before.version) ⊎ IsFetchedIn order (held_of before) outcome image)
-          (IsBeforeOrFetched order (held_of before) outcome (history disk)) (λ image left. inl left)
+          (λ image. (stands image ≡ stands_for before.version) ⊎ IsFetchedIn job (held_of before) outcome image)
+          (IsBeforeOrFetched job (held_of before) outcome (history disk)) (λ image left. inl left)
           (λ image left. inr left) one.opened.moments puts.moments;
-      unwritten = λ unwanted. subst (λ (kept : Kept D). LeavesOnly (history disk) (history kept.disk)
+      unwritten = λ unwanted. subst (λ (kept : StoredMap D). LeavesOnly (history disk) (history kept.disk)
           (MayLeave (history disk))) (sym (puts.unwritten unwanted)) one.opened.moments;
     }
 
-    few_on_one : (outcome : Outcome) (result : Result Installed XfrFault) → Puts outcome result before after
+    few_on_one : (outcome : FetchOutcome) (result : Result Installed XfrFault) → Puts outcome result before after
         → LeavesFew (history disk) (history after.disk)
     few_on_one outcome result puts =
         then (history disk) (history before.disk) (history after.disk) (MayLeave (history disk))
@@ -340,17 +342,17 @@ module _ {D : Type 0} (history : D → Option History) (faults : D → ℕ) (ord
   -- ---- the only disk
 
   -- what was installed on it
-  pub record Installs (outcome : Outcome) (result : Result Installed XfrFault) (shows : Option MapVersion)
+  pub record Installs (outcome : FetchOutcome) (result : Result Installed XfrFault) (shows : Option MapVersion)
       (disks news : List D) : Type 0 where
-    pub stores : StoresFetched order shows outcome result (only_history history disks) (only_history history news)
+    pub stores : StoresFetched job shows outcome result (only_history history disks) (only_history history news)
         (total_faults faults disks) (total_faults faults news)
     pub count : length news ≡ 1
 
-  installed_one : (disk : D) (before : Kept D) (afters : List (Kept D)) (news : List D) (old new : Published D Seen)
-      (outcome : Outcome) (result : Result Installed XfrFault) → BeginsLevel history faults (catalogue_of order) (disk ∷ []) old
+  installed_one : (disk : D) (before : StoredMap D) (afters : List (StoredMap D)) (news : List D) (old new : Published D Seen)
+      (outcome : FetchOutcome) (result : Result Installed XfrFault) → BeginsLevel history faults (catalogue_of job) (disk ∷ []) old
       → old.maps ≡ before ∷ [] → IsOpened history faults disk before → new.maps ≡ afters → length afters ≡ 1
-      → news ≡ map (λ (kept : Kept D). kept.disk) afters
-      → InstallsOutcome keeping (request_of 0 order.host.0 order.force order.flag) outcome result old new
+      → news ≡ map (λ (kept : StoredMap D). kept.disk) afters
+      → InstallsOutcome keeping (request_of 0 job.host.0 job.force job.flag) outcome result old new
       → Installs outcome result (shown 0 old.board.known) (disk ∷ []) news
   installed_one disk before [] news old new outcome result begins olds opened news_are count disks did =
       absurd (omega (arith, count))
@@ -359,7 +361,7 @@ module _ {D : Type 0} (history : D → Option History) (faults : D → ℕ) (ord
   installed_one disk before (after ∷ []) news old new outcome result begins olds opened news_are count disks did =
       let log : old.board.known ≡ starts 0 (before.version ∷ []) =
       ap (λ (b : Seen). b.known) begins.board
-      ∙ ap (λ (l : List (Kept D)). starts 0 (versions l)) olds in
+      ∙ ap (λ (l : List (StoredMap D)). starts 0 (versions l)) olds in
       let one : One disk before after old new = record {
         olds = olds;
         news = news_are;
@@ -380,8 +382,8 @@ module _ {D : Type 0} (history : D → Option History) (faults : D → ℕ) (ord
       })
 
   -- as many maps after as before
-  count_kept : (old new : Published D Seen) (outcome : Outcome) (result : Result Installed XfrFault)
-      → InstallsOutcome keeping (request_of 0 order.host.0 order.force order.flag) outcome result old new
+  count_kept : (old new : Published D Seen) (outcome : FetchOutcome) (result : Result Installed XfrFault)
+      → InstallsOutcome keeping (request_of 0 job.host.0 job.force job.flag) outcome result old new
       → length new.maps ≡ length old.maps
   count_kept old new (Err why) result h = ap (λ (p : Published D Seen). length p.maps) h.1
   count_kept old new (Ok version) result (inl h) = h.stays.upheld.elsewhere.count
@@ -390,12 +392,12 @@ module _ {D : Type 0} (history : D → Option History) (faults : D → ℕ) (ord
   count_kept old new (Ok version) (Err why) (inr h) =
       h.offers.refuses.upheld.elsewhere.count ∙ h.opens.upheld.elsewhere.count
 
-  by_maps : (disks : List D) (befores : List (Kept D)) (news : List D) (old new : Published D Seen) (outcome : Outcome)
+  by_maps : (disks : List D) (befores : List (StoredMap D)) (news : List D) (old new : Published D Seen) (outcome : FetchOutcome)
       (result : Result Installed XfrFault) → length disks ≡ 1
-      → BeginsLevel history faults (catalogue_of order) disks old
+      → BeginsLevel history faults (catalogue_of job) disks old
       → old.maps ≡ befores → AllZip (IsOpened history faults) disks befores
-      → news ≡ map (λ (kept : Kept D). kept.disk) new.maps
-      → InstallsOutcome keeping (request_of 0 order.host.0 order.force order.flag) outcome result old new
+      → news ≡ map (λ (kept : StoredMap D). kept.disk) new.maps
+      → InstallsOutcome keeping (request_of 0 job.host.0 job.force job.flag) outcome result old new
       → Installs outcome result (shown 0 old.board.known) disks news
   by_maps [] befores news old new outcome result one begins olds opened disks did = absurd (omega (arith, one))
   by_maps (disk ∷ another ∷ more) befores news old new outcome result one begins olds opened disks did =
@@ -405,25 +407,25 @@ module _ {D : Type 0} (history : D → Option History) (faults : D → ℕ) (ord
       absurd opened.1
   by_maps (disk ∷ []) (before ∷ []) news old new outcome result one begins olds opened disks did =
       installed_one disk before new.maps news old new outcome result begins olds opened.0 refl
-      (count_kept old new outcome result did ∙ ap (λ (l : List (Kept D)). length l) olds) disks did
+      (count_kept old new outcome result did ∙ ap (λ (l : List (StoredMap D)). length l) olds) disks did
 
-  pub installed_only : (disks news : List D) (old new : Published D Seen) (outcome : Outcome)
+  pub installed_only : (disks news : List D) (old new : Published D Seen) (outcome : FetchOutcome)
       (result : Result Installed XfrFault) → length disks ≡ 1
-      → BeginsLevel history faults (catalogue_of order) disks old
-      → news ≡ map (λ (kept : Kept D). kept.disk) new.maps
-      → InstallsOutcome keeping (request_of 0 order.host.0 order.force order.flag) outcome result old new
+      → BeginsLevel history faults (catalogue_of job) disks old
+      → news ≡ map (λ (kept : StoredMap D). kept.disk) new.maps
+      → InstallsOutcome keeping (request_of 0 job.host.0 job.force job.flag) outcome result old new
       → Installs outcome result (shown 0 old.board.known) disks news
   installed_only disks news old new outcome result one begins given did =
       by_maps disks old.maps news old new outcome result one begins refl begins.opened given did
 
   -- the same where nothing was fetched
   pub kept_only : (disks news : List D) (old : Published D Seen) → length disks ≡ 1
-      → BeginsLevel history faults (catalogue_of order) disks old
-      → news ≡ map (λ (kept : Kept D). kept.disk) old.maps
+      → BeginsLevel history faults (catalogue_of job) disks old
+      → news ≡ map (λ (kept : StoredMap D). kept.disk) old.maps
       → KeepsLoaded (shown 0 old.board.known) (only_history history disks) (only_history history news)
       (total_faults faults disks) (total_faults faults news) × (length news ≡ 1)
   kept_only disks news old one begins given =
-      let nothing : Outcome = Err fault.NoMemory in
+      let nothing : FetchOutcome = Err fault.NoMemory in
       let installs = installed_only disks news old old nothing (Err fault.NoMemory) one begins given (refl, refl) in (
         record {
           held = installs.stores.held;
@@ -437,26 +439,26 @@ module _ {D : Type 0} (history : D → Option History) (faults : D → ℕ) (ord
 
   -- what was done to it
   pub record Did (result : Result Installed XfrFault) (from to : Dialing) (disks news : List D) : Type 0 where
-    pub moves : TransfersOn order result from to (only_history history disks) (only_history history news)
+    pub moves : TransfersOn job result from to (only_history history disks) (only_history history news)
         (total_faults faults disks) (total_faults faults news)
     pub few : LeavesFew (only_history history disks) (only_history history news)
     pub count : length news ≡ 1
 
   did_only : (disks news : List D) (old new : Published D Seen)
       (result : Result Installed XfrFault) (from to : Dialing) → length disks ≡ 1
-      → BeginsLevel history faults (catalogue_of order) disks old
-      → news ≡ map (λ (kept : Kept D). kept.disk) new.maps
-      → transfers.Transfers keeping (order.host ∷ []) (request_of 0 order.host.0 order.force order.flag) result from to
+      → BeginsLevel history faults (catalogue_of job) disks old
+      → news ≡ map (λ (kept : StoredMap D). kept.disk) new.maps
+      → transfers.Transfers keeping (job.host ∷ []) (request_of 0 job.host.0 job.force job.flag) result from to
       old new → Did result from to disks news
   did_only disks news old new result from to one begins given did =
       let installs = installed_only disks news old new did.outcome result one begins given did.installs in
       let maps = ap (λ (c : Catalogue). c.maps) begins.catalogue in
       let named = subst (λ (names : List Name). IfSome (slice_get names 0) (λ name.
-      FetchesFrom (order.host ∷ []) order.host.0
-      (wanted_at keeping (request_of 0 order.host.0 order.force order.flag) name old) did.outcome from to)) maps
+      FetchesFrom (job.host ∷ []) job.host.0
+      (wanted_at keeping (request_of 0 job.host.0 job.force job.flag) name old) did.outcome from to)) maps
       did.fetches in
-      let fetches = subst (λ (v : Option MapVersion). FetchesFrom (order.host ∷ []) order.host.0
-      (wanted_of order.store.0 order.store.1 (option_map (λ version. version.order) v) order.force) did.outcome from to)
+      let fetches = subst (λ (v : Option MapVersion). FetchesFrom (job.host ∷ []) job.host.0
+      (wanted_of job.store.0 job.store.1 (option_map (λ version. version.order) v) job.force) did.outcome from to)
       (sym installs.stores.shown) named in
       record {
         moves = record {
@@ -472,16 +474,16 @@ module _ {D : Type 0} (history : D → Option History) (faults : D → ℕ) (ord
   -- the same of equal hosts and sources
   pub did_named : (disks news : List D) (old new : Published D Seen) (served : Catalogue)
       (result : Result Installed XfrFault) (from to : Dialing) (hosts : HostList) (source : List ℕ) → length disks ≡ 1
-      → served ≡ catalogue_of order → BeginsLevel history faults served disks old
-      → news ≡ map (λ (kept : Kept D). kept.disk) new.maps → hosts ≡ order.host ∷ [] → source ≡ order.host.0
-      → transfers.Transfers keeping hosts (request_of 0 source order.force order.flag) result from to old new
+      → served ≡ catalogue_of job → BeginsLevel history faults served disks old
+      → news ≡ map (λ (kept : StoredMap D). kept.disk) new.maps → hosts ≡ job.host ∷ [] → source ≡ job.host.0
+      → transfers.Transfers keeping hosts (request_of 0 source job.force job.flag) result from to old new
       → Did result from to disks news
   did_named disks news old new served result from to hosts source one named begins given table name did =
       did_only disks news old new result from to one
       (subst (λ (c : Catalogue). BeginsLevel history faults c disks old) named begins) given
-      (subst (λ (h : HostList). transfers.Transfers keeping h (request_of 0 order.host.0 order.force order.flag) result from
+      (subst (λ (h : HostList). transfers.Transfers keeping h (request_of 0 job.host.0 job.force job.flag) result from
       to old new) table
-      (subst (λ (s : List ℕ). transfers.Transfers keeping hosts (request_of 0 s order.force order.flag) result from to old
+      (subst (λ (s : List ℕ). transfers.Transfers keeping hosts (request_of 0 s job.force job.flag) result from to old
       new) name did))
 
   -- ---- where no publisher was opened
@@ -513,7 +515,7 @@ module _ {D : Type 0} (history : D → Option History) (faults : D → ℕ) (ord
   left_one (opening.Refused number why) before after kept is =
       let stopped = is.1 in
       let refused = by_front history faults stopped.front stopped.opened stopped.before stopped.after stopped.rest before
-      after (λ b a. IsRefused history faults b a why) stopped.old_is stopped.new_is stopped.each stopped.refused in
+      after (λ b a. DiskIsRefused history faults b a why) stopped.old_is stopped.new_is stopped.each stopped.refused in
       left_by why before after kept refused.cause refused.disk_fault
   left_one opening.NoMemory before after kept is =
       left_by slot.NoMemory before after kept (all_told (history before) _ (λ h. tt)) (λ e. absurd cc)
@@ -529,7 +531,7 @@ module _ {D : Type 0} (history : D → Option History) (faults : D → ℕ) (ord
 
   -- where memory ran out before
   pub forgone_moves : (from : Dialing) (old : Option History) (count : ℕ)
-      → Moves order (Err (stop.Unloaded slot.NoMemory)) from from old old count count
+      → XfrMoves job (Err (stop.Unloaded slot.NoMemory)) from from old old count count
   forgone_moves from old count = record {
     cause = all_told old _ (λ h. tt);
     disk_fault = λ e. absurd cc;

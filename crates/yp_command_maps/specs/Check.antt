@@ -4,17 +4,17 @@ use Rattle.std.specs.Prelude.{codes, decimal, IfSome}
 use Rattle.std.specs.Io.KnownBytes.{Appends}
 use Rattle.yp_io.specs.Streams.{AppendsFront}
 use Rattle.yp_version.specs.Versions.{MapVersion}
-use Rattle.yp_slot.specs.Commits.{generation_of, winning}
-use Rattle.yp_slot.specs.Stands.{Stands, stands}
-use Rattle.yp_slot.specs.Stands as stood
+use Rattle.yp_map_file.specs.Commits.{generation_of, winning}
+use Rattle.yp_map_file.specs.Stands.{Stands, stands}
+use Rattle.yp_map_file.specs.Stands as stood
 use Rattle.yp_board.specs.Catalogues.{Name, name_view}
-use Rattle.yp_office.specs.Lines.{map_text}
-use Rattle.yp_office.specs.declared.status.Status.{Status}
-use Rattle.yp_office.specs.declared.status.Status.TheVariants.{Done, WriteFault, NoMemory, Damaged, NoVersion}
-use Rattle.yp_office.specs.declared.status.Status.TheVariants.{DiskFault}
-use Rattle.yp_office.specs.declared.office.Office.{Office}
-use Rattle.yp_office.specs.Disks.{names_of, IsOnlyRead}
-use Rattle.yp_office.specs.Seeing.{Seeing, history, output, DiskFails, WriteFails, HasCauses}
+use Rattle.yp_command.specs.office.Lines.{map_text}
+use Rattle.yp_command.specs.declared.office.status.Status.{Status}
+use Rattle.yp_command.specs.declared.office.status.Status.TheVariants.{Done, WriteFault, NoMemory, Damaged, NoVersion}
+use Rattle.yp_command.specs.declared.office.status.Status.TheVariants.{DiskFault}
+use Rattle.yp_command.specs.declared.office.office.Office.{Office}
+use Rattle.yp_command.specs.office.Disks.{names_of, IsOnlyRead}
+use Rattle.yp_command.specs.office.Seeing.{Seeing, history, output, DiskFails, WriteFails, HasCauses}
 
 -- what stands behind the generation of a secure version
 abbrev pub mark_text : Bool → List ℕ

@@ -6,35 +6,44 @@ ghost use Rattle.yp_io.specs.Counts.{HasRisen};
 ghost use Rattle.yp_io.specs.Disk.{LeavesOnly, MayLeave};
 ghost use Rattle.yp_io.specs.Texts.{text_max};
 ghost use Rattle.yp_version.specs.Limits.{master_max};
-ghost use Rattle.yp_slot.specs.Stands.{stands, Stored};
-ghost use Rattle.yp_board.specs.Catalogues.{name_max, catalog_fault, name_view};
-ghost use Rattle.yp_publish.specs.Standing.{Level, OfMap, At};
-ghost use Rattle.yp_publish.specs.Installs.{no_further, IsInstalled};
-ghost use Rattle.yp_words.specs.Words.{IsNamed, kind_of};
-ghost use Rattle.yp_office.specs.Disks.{names_of, history_of, faults_of, only_history, total_faults};
-ghost use Rattle.yp_office.specs.Seeing.{seeing, IsPassedOn};
-ghost use Rattle.yp_office.specs.Status.{IsTellable};
-ghost use Rattle.yp_storing.specs.Build.{job_view, last_view, build_line, plan_of, is_early, StopsInstall, IsAccepted};
-ghost use Rattle.yp_storing.specs.Build.{Stops, IsBuilt, IsPlanned, IsShownOrPlanned, LeavesFew, with_generation};
-ghost use Rattle.yp_storing.specs.Build.{BuildsOn};
-ghost use Rattle.yp_storing.specs.Build.{unread_status, fault_status, stop_of_open, stop_of_build, stop_of_after};
-ghost use Rattle.yp_storing.specs.Build.{IsStatusOfStop, TellsLine, IsEnd, IsShortStop, BuildDoes, build_may_end};
+ghost use Rattle.yp_map_file.specs.Stands.{stands, Stored};
+ghost use Rattle.yp_board.specs.Catalogues.{name_max, name_view};
+ghost use Rattle.yp_board.specs.inside.Catalogues.{catalog_fault};
+ghost use Rattle.yp_publisher.specs.Standing.{Level, OfMap, At};
+ghost use Rattle.yp_publisher.specs.Installs.{no_further, IsInstalled};
+ghost use Rattle.yp_command.specs.Words.{kind_of};
+ghost use Rattle.yp_command.specs.inside.Words.{IsNamed};
+ghost use Rattle.yp_command.specs.office.Disks.{names_of, history_of, faults_of, only_history, total_faults};
+ghost use Rattle.yp_command.specs.office.Seeing.{seeing, IsPassedOn};
+ghost use Rattle.yp_command.specs.inside.office.Status.{IsTellable};
+ghost use Rattle.yp_command_maps.specs.Build.{build_line};
+ghost use Rattle.yp_command_maps.specs.inside.Build.{job_view, last_view, plan_of, is_early, StopsInstall};
+ghost use Rattle.yp_command_maps.specs.Build.{StandsForPlan};
+ghost use Rattle.yp_command_maps.specs.inside.Build.{IsAccepted, StopsBuild, IsBuiltAsPlanned};
+ghost use Rattle.yp_command_maps.specs.Build.{LeavesFew};
+ghost use Rattle.yp_command_maps.specs.inside.Build.{IsShownOrPlanned};
+ghost use Rattle.yp_command_maps.specs.Build.{with_generation, fault_status};
+ghost use Rattle.yp_command_maps.specs.inside.Build.{BuildsOn, unread_status, stop_of_open};
+ghost use Rattle.yp_command_maps.specs.Build.{TellsLine};
+ghost use Rattle.yp_command_maps.specs.inside.Build.{stop_of_build, stop_of_after, IsStatusOfStop, IsBuildEnd};
+ghost use Rattle.yp_command_maps.specs.Build.{BuildDoes, build_may_end};
+ghost use Rattle.yp_command_maps.specs.inside.Build.{IsShortStop};
 
 use crate::catalog::catalog_of;
 use std::alloc::Global;
 use std::random::RandomSource;
 use yp_board::{Catalog, MapName, PlainBoard};
-use yp_build::{AfterFault, BuildFault, Kind, build_after};
+use yp_command::office::{
+    Apart, BYTES_RULE, KEY_RULE, Line, NamedDisk, Office, ROWS_RULE, Status, VALUE_RULE, add,
+    add_map, add_number, put_together, take_apart,
+};
 use yp_io::{
     Clock, Dial, Disk, Failed, Inbox, NoMemory, Sink, Source, TEXT_MAX, Texts, Unread, read_all,
     write_through,
 };
-use yp_office::{
-    Apart, BYTES_RULE, KEY_RULE, Line, NamedDisk, Office, ROWS_RULE, Status, VALUE_RULE, add,
-    add_map, add_number, put_together, take_apart,
-};
-use yp_publish::{InstallFault, Installed, OpenFault, Origin, Publisher, open_publisher};
-use yp_slot::SlotFault;
+use yp_map_file::SlotFault;
+use yp_publisher::{InstallFault, Installed, OpenFault, Origin, Publisher, open_publisher};
+use yp_texts::{AfterFault, BuildFault, Kind, build_after};
 use yp_version::Version;
 
 /// What is to be built.
@@ -60,7 +69,7 @@ pub(crate) struct Built {
 
 /// What stopped a build, once the text was read.
 #[derive(Debug, Drop)]
-pub(crate) enum Stop {
+pub(crate) enum BuildStop {
     /// The stored file breaks this rule, first at this place.
     Damaged { at: u64, rule: u8 },
     /// This other host is the master of the version that stands.
@@ -92,46 +101,46 @@ fn line(store: &MapName, built: &Built) -> Line
     line
 }
 
-impl From<NoMemory> for Stop {
+impl From<NoMemory> for BuildStop {
     ghost use Rattle.std.specs.Prelude.{◌≡◌};
-    ghost use Rattle.yp_storing.specs.declared.build.Stop.TheVariants.{NoMemory as WithoutMemory};
+    ghost use Rattle.yp_command_maps.specs.declared.build.BuildStop.TheVariants.{NoMemory as WithoutMemory};
 
     ghost from_gives = { λ fault stop. stop ≡ WithoutMemory };
 
     fn from(_fault: NoMemory) -> Self {
-        Stop::NoMemory
+        BuildStop::NoMemory
     }
 }
 
-impl From<OpenFault> for Stop {
+impl From<OpenFault> for BuildStop {
     ghost use Rattle.std.specs.Prelude.{◌≡◌};
-    ghost use Rattle.yp_storing.specs.Build.{stop_of_open};
+    ghost use Rattle.yp_command_maps.specs.inside.Build.{stop_of_open};
 
     ghost from_gives = { λ fault stop. stop ≡ stop_of_open fault };
 
     fn from(fault: OpenFault) -> Self {
         match fault {
             OpenFault::Refused { fault, .. } => match fault {
-                SlotFault::Damaged { at, rule } => Stop::Damaged { at, rule },
-                SlotFault::DiskFault => Stop::Disk,
-                SlotFault::NoMemory => Stop::NoMemory,
+                SlotFault::Damaged { at, rule } => BuildStop::Damaged { at, rule },
+                SlotFault::DiskFault => BuildStop::Disk,
+                SlotFault::NoMemory => BuildStop::NoMemory,
             },
-            OpenFault::NoMemory => Stop::NoMemory,
+            OpenFault::NoMemory => BuildStop::NoMemory,
         }
     }
 }
 
-impl From<AfterFault> for Stop {
+impl From<AfterFault> for BuildStop {
     ghost use Rattle.std.specs.Prelude.{◌≡◌};
-    ghost use Rattle.yp_storing.specs.Build.{stop_of_after};
+    ghost use Rattle.yp_command_maps.specs.inside.Build.{stop_of_after};
 
     ghost from_gives = { λ fault stop. stop ≡ stop_of_after fault };
 
     fn from(fault: AfterFault) -> Self {
         match fault {
-            AfterFault::Foreign { master } => Stop::Master { master },
-            AfterFault::Build(BuildFault::NoMemory) => Stop::NoMemory,
-            AfterFault::Build(fault) => Stop::Fault(fault),
+            AfterFault::Foreign { master } => BuildStop::Master { master },
+            AfterFault::Build(BuildFault::NoMemory) => BuildStop::NoMemory,
+            AfterFault::Build(fault) => BuildStop::Fault(fault),
         }
     }
 }
@@ -152,7 +161,7 @@ fn store_version<D: Disk>(
     alloc: Global,
     publisher: &mut Publisher<D, PlainBoard>,
     version: Version,
-) -> Result<Installed, Stop>
+) -> Result<Installed, BuildStop>
     requires only { length publisher.old.maps ≡ 1 }
     requires accepted { OfMap 0 publisher.old.maps (IsAccepted publisher.old.catalogue.own version) }
     ensures generation { IfOk result (λ installed. OfMap 0 publisher.old.maps
@@ -172,15 +181,15 @@ fn store_version<D: Disk>(
     ensures count { length publisher.new.maps ≡ 1 }
     ensures never_falls { At 0 publisher.old.maps publisher.new.maps
         (λ before after. D.faults before.disk ≤ D.faults after.disk) }
-    ensures cause { IfErr result (λ stop. stop ≡ Stop.Disk
+    ensures cause { IfErr result (λ stop. stop ≡ BuildStop.Disk
         → At 0 publisher.old.maps publisher.new.maps
         (λ before after. HasRisen (D.faults before.disk) (D.faults after.disk))) }
 {
     match publisher.install(alloc, 0, version, Origin::Built, false) {
         Ok(installed) => Ok(installed),
-        Err(InstallFault::GenerationsSpent) => Err(Stop::Spent),
-        Err(InstallFault::DiskFault) => Err(Stop::Disk),
-        Err(InstallFault::NoMemory) => Err(Stop::NoMemory),
+        Err(InstallFault::GenerationsSpent) => Err(BuildStop::Spent),
+        Err(InstallFault::DiskFault) => Err(BuildStop::Disk),
+        Err(InstallFault::NoMemory) => Err(BuildStop::NoMemory),
         Err(_) => unreachable!(),
     }
 }
@@ -193,18 +202,19 @@ fn renew<D: Disk>(
     text: Vec<u8>,
     now: u32,
     publisher: &mut Publisher<D, PlainBoard>,
-) -> Result<Built, Stop>
+) -> Result<Built, BuildStop>
     requires text { length text.items ≤ text_max }
     requires name { length job.now.name.items ≤ master_max }
     requires own { publisher.old.catalogue.own ≡ job.now.name.items }
     requires only { length publisher.old.maps ≡ 1 }
     requires level { OfMap 0 publisher.old.maps (λ kept. kept.standing ≡ Level) }
     ensures built { IfOk result (λ made. OfMap 0 publisher.old.maps
-        (λ kept. IsBuilt (plan_of (job_view job.now) text.items now kept) kept.generation made)) }
+        (λ kept. IsBuiltAsPlanned (plan_of (job_view job.now) text.items now kept) kept.generation made)) }
     ensures stop { IfErr result (λ stop. OfMap 0 publisher.old.maps
-        (λ kept. Stops (plan_of (job_view job.now) text.items now kept) stop)) }
+        (λ kept. StopsBuild (plan_of (job_view job.now) text.items now kept) stop)) }
     ensures stored { OnOk result (At 0 publisher.old.maps publisher.new.maps (λ before after. (image : List ℕ)
-        → MayLeave (D.history after.disk) image → IsPlanned (plan_of (job_view job.now) text.items now before) image)) }
+        → MayLeave (D.history after.disk) image → StandsForPlan
+        (plan_of (job_view job.now) text.items now before) image)) }
     ensures any_moment { At 0 publisher.old.maps publisher.new.maps (λ before after. LeavesOnly (D.history before.disk)
         (D.history after.disk) (IsShownOrPlanned (plan_of (job_view job.now) text.items now before) before)) }
     ensures few { At 0 publisher.old.maps publisher.new.maps
@@ -214,7 +224,7 @@ fn renew<D: Disk>(
     ensures count { length publisher.new.maps ≡ 1 }
     ensures never_falls { At 0 publisher.old.maps publisher.new.maps
         (λ before after. D.faults before.disk ≤ D.faults after.disk) }
-    ensures cause { IfErr result (λ stop. stop ≡ Stop.Disk → At 0 publisher.old.maps publisher.new.maps
+    ensures cause { IfErr result (λ stop. stop ≡ BuildStop.Disk → At 0 publisher.old.maps publisher.new.maps
         (λ before after. HasRisen (D.faults before.disk) (D.faults after.disk))) }
 {
     let _standing = publisher.standing(0);
@@ -238,7 +248,7 @@ fn build_over<D: Disk>(
     now: u32,
     catalog: Catalog,
     disks: Vec<D>,
-) -> (Result<Built, Stop>, Vec<D>)
+) -> (Result<Built, BuildStop>, Vec<D>)
     requires text { length text.items ≤ text_max }
     requires name { length job.now.name.items ≤ master_max }
     requires own { catalog.own ≡ job.now.name.items }
@@ -260,7 +270,7 @@ fn build_over<D: Disk>(
     }
 }
 
-/// The same under the name of its map.
+/// Builds a map over its disk, which keeps the name of the map.
 fn build_on<D: Disk>(
     alloc: Global,
     rt: &impl RandomSource,
@@ -268,7 +278,7 @@ fn build_on<D: Disk>(
     text: Vec<u8>,
     now: u32,
     disks: &mut Vec<NamedDisk<D>>,
-) -> Result<Built, Stop>
+) -> Result<Built, BuildStop>
     requires text { length text.items ≤ text_max }
     requires name { length job.now.name.items ≤ master_max }
     requires catalogue { catalog_fault job.now.name.items (name_view job.now.store ∷ []) ≡ None }
@@ -323,20 +333,20 @@ fn status_of_fault(fault: BuildFault) -> Status
 }
 
 /// The status of a build that was stopped.
-fn status_stopped(store: MapName, stop: Stop) -> Status
+fn status_stopped(store: MapName, stop: BuildStop) -> Status
     ensures { IsStatusOfStop store stop result }
 {
     match stop {
-        Stop::Damaged { at, rule } => Status::Damaged {
+        BuildStop::Damaged { at, rule } => Status::Damaged {
             map: store,
             at,
             rule,
         },
-        Stop::Master { master } => Status::Refused { master },
-        Stop::Fault(fault) => status_of_fault(fault),
-        Stop::Spent => Status::GenerationsSpent { map: store },
-        Stop::Disk => Status::DiskFault { map: store },
-        Stop::NoMemory => Status::NoMemory,
+        BuildStop::Master { master } => Status::Refused { master },
+        BuildStop::Fault(fault) => status_of_fault(fault),
+        BuildStop::Spent => Status::GenerationsSpent { map: store },
+        BuildStop::Disk => Status::DiskFault { map: store },
+        BuildStop::NoMemory => Status::NoMemory,
     }
 }
 
@@ -355,10 +365,10 @@ pub(crate) fn tell_built<K: Sink>(sink: &mut K, store: &MapName, built: &Built) 
 }
 
 /// Tells what was stored, or what stopped the build.
-fn tell_end<K: Sink>(sink: &mut K, store: MapName, built: Result<Built, Stop>) -> Status
+fn tell_end<K: Sink>(sink: &mut K, store: MapName, built: Result<Built, BuildStop>) -> Status
     requires named { IsNamed (name_view store) }
     requires short { IfErr built IsShortStop }
-    ensures ends { IsEnd store built result (K.output sink.old) (K.output sink.new) }
+    ensures ends { IsBuildEnd store built result (K.output sink.old) (K.output sink.new) }
     ensures may_end { IsTrue (build_may_end result) }
     ensures tellable { IsTellable result }
     ensures flushed { result ≢ Status.WriteFault → IsTrue (K.flushed sink.old) → IsTrue (K.flushed sink.new) }

@@ -1,7 +1,8 @@
 //! The catalogue of the one map of a command.
 
 ghost use Rattle.std.specs.Prelude.{◌≡◌, [], ◌∷◌, None, IfOk};
-ghost use Rattle.yp_board.specs.Catalogues.{catalog_fault, name_view};
+ghost use Rattle.yp_board.specs.Catalogues.{name_view};
+ghost use Rattle.yp_board.specs.inside.Catalogues.{catalog_fault};
 
 use std::alloc::Global;
 use yp_board::{Catalog, CatalogFault, MapName};

@@ -3,18 +3,20 @@
 ghost use Rattle.std.specs.Prelude.{◌≡◌, ◌≢◌, [], ◌∷◌, IsTrue, IfSome};
 ghost use Rattle.yp_io.specs.Counts.{HasRisen};
 ghost use Rattle.yp_board.specs.Catalogues.{name_view};
-ghost use Rattle.yp_storing.specs.Check.{check_line, Checks, CheckDoes, check_may_end};
-ghost use Rattle.yp_office.specs.Disks.{names_of, IsOnlyRead};
-ghost use Rattle.yp_office.specs.Seeing.{seeing, IsPassedOn};
-ghost use Rattle.yp_office.specs.Status.{IsTellable};
-ghost use Rattle.yp_words.specs.Words.{IsNamed};
+ghost use Rattle.yp_command_maps.specs.Check.{check_line, Checks, CheckDoes, check_may_end};
+ghost use Rattle.yp_command.specs.office.Disks.{names_of, IsOnlyRead};
+ghost use Rattle.yp_command.specs.office.Seeing.{seeing, IsPassedOn};
+ghost use Rattle.yp_command.specs.inside.office.Status.{IsTellable};
+ghost use Rattle.yp_command.specs.inside.Words.{IsNamed};
 
 use std::alloc::Global;
 use std::random::RandomSource;
 use yp_board::MapName;
+use yp_command::office::{
+    Line, NamedDisk, Office, Status, add, add_map, add_number, status_of_file,
+};
 use yp_io::{Clock, Dial, Disk, Failed, Inbox, Sink, Source, Texts, write_through};
-use yp_office::{Line, NamedDisk, Office, Status, add, add_map, add_number, status_of_file};
-use yp_slot::Slot;
+use yp_map_file::Slot;
 use yp_version::Version;
 
 /// The line of a version that stands.

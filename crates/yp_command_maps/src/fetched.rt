@@ -1,25 +1,28 @@
 //! The only map of a command: its file is opened, and what came of a fetch is stored over what it had.
 
 ghost use Rattle.std.specs.Prelude.{◌≡◌, List, length, option_map, None, IfOk, IfErr};
-ghost use Rattle.yp_board.specs.Catalogues.{catalog_fault, name_view};
+ghost use Rattle.yp_board.specs.Catalogues.{name_view};
+ghost use Rattle.yp_board.specs.inside.Catalogues.{catalog_fault};
 ghost use Rattle.yp_board.specs.Logs.{shown};
-ghost use Rattle.yp_office.specs.Disks.{only_history, total_faults};
-ghost use Rattle.yp_publish.specs.Begins.{BeginsLevel, plain_log};
-ghost use Rattle.yp_publish.specs.Keeping.{keeping_of};
-ghost use Rattle.yp_storing.specs.Xfr.{Order, order_view, catalogue_of, why_of_open, LeavesUnloaded, StoresFetched};
-ghost use Rattle.yp_storing.specs.Xfr.{KeepsLoaded};
-ghost use Rattle.yp_words.specs.Words.{host_view};
-ghost use Rattle.yp_xfr.specs.Transfers.{request_of, InstallsOutcome};
+ghost use Rattle.yp_command.specs.office.Disks.{only_history, total_faults};
+ghost use Rattle.yp_publisher.specs.Begins.{plain_log};
+ghost use Rattle.yp_publisher.specs.inside.Begins.{BeginsLevel};
+ghost use Rattle.yp_publisher.specs.Keeping.{keeping_of};
+ghost use Rattle.yp_command_maps.specs.Xfr.{Job};
+ghost use Rattle.yp_command_maps.specs.inside.Xfr.{xfr_job_view, catalogue_of, why_of_open, LeavesUnloaded};
+ghost use Rattle.yp_command_maps.specs.inside.Xfr.{StoresFetched, KeepsLoaded};
+ghost use Rattle.yp_command.specs.Words.{host_view};
+ghost use Rattle.yp_transfer.specs.Transfers.{request_of, InstallsOutcome};
 
 use std::alloc::Global;
 use std::random::RandomSource;
 use yp_board::{Catalog, PlainBoard};
+use yp_command::XfrJob;
 use yp_io::Disk;
-use yp_publish::{Installed, OpenFault, Publisher, open_publisher};
-use yp_slot::SlotFault;
+use yp_map_file::SlotFault;
+use yp_publisher::{Installed, OpenFault, Publisher, open_publisher};
+use yp_transfer::{XfrFault, install_fetched};
 use yp_version::Version;
-use yp_words::XfrJob;
-use yp_xfr::{XfrFault, install_fetched};
 
 /// The file of the only map wasn't loaded. Its disk is handed back, and nothing was written.
 #[derive(Debug, Drop)]
@@ -100,8 +103,8 @@ pub fn store_fetched<D: Disk>(
 ) -> (Result<Installed, XfrFault>, Vec<D>)
     requires { length publisher.maps ≡ 1 }
     ensures { (disks : List D) → length disks ≡ 1
-        → BeginsLevel D.history D.faults (catalogue_of (order_view job.now)) disks publisher
-        → StoresFetched (order_view job.now) (shown 0 publisher.board.known) outcome result.0
+        → BeginsLevel D.history D.faults (catalogue_of (xfr_job_view job.now)) disks publisher
+        → StoresFetched (xfr_job_view job.now) (shown 0 publisher.board.known) outcome result.0
         (only_history D.history disks) (only_history D.history result.1.items)
         (total_faults D.faults disks) (total_faults D.faults result.1.items)
         × (length result.1.items ≡ 1) }
@@ -114,8 +117,8 @@ pub fn store_fetched<D: Disk>(
 
 /// Hands back the disk of the only map of a publisher, of which nothing was fetched.
 pub fn hand_back<D: Disk>(publisher: Publisher<D, PlainBoard>) -> Vec<D>
-    ensures { (order : Order) (disks : List D) → length disks ≡ 1
-        → BeginsLevel D.history D.faults (catalogue_of order) disks publisher
+    ensures { (job : Job) (disks : List D) → length disks ≡ 1
+        → BeginsLevel D.history D.faults (catalogue_of job) disks publisher
         → KeepsLoaded (shown 0 publisher.board.known) (only_history D.history disks)
         (only_history D.history result.items) (total_faults D.faults disks) (total_faults D.faults result.items)
         × (length result.items ≡ 1) }

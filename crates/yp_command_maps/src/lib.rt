@@ -3,7 +3,10 @@
 //! for.
 //!
 //! Each takes the office of the outside, and ensures the one relation that says what it does to it: [`build_map`],
-//! [`transfer_map`], [`reverse_map`] and [`check_map`].
+//! [`transfer_map`], [`reverse_map`] and [`check_map`]. What a publisher of one map does to its disk stands on
+//! [`open_only`], [`store_fetched`] and [`hand_back`], which `walk` calls, too.
+//!
+//! The command `walk` stands in [`walk`](crate::walk).
 #![tactic(auto)]
 
 mod build;
@@ -11,6 +14,7 @@ mod catalog;
 mod check;
 mod fetched;
 mod revnet;
+pub mod walk;
 mod xfr;
 
 pub use build::build_map;

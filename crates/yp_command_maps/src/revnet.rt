@@ -7,30 +7,34 @@ ghost use Rattle.yp_io.specs.Counts.{HasRisen};
 ghost use Rattle.yp_io.specs.Disk.{LeavesOnly, MayLeave};
 ghost use Rattle.yp_version.specs.Limits.{master_max};
 ghost use Rattle.yp_version.specs.Rows.{Row};
-ghost use Rattle.yp_revnet.specs.declared.field.Field.{Field};
-ghost use Rattle.yp_slot.specs.Slots.{is_ready};
+ghost use Rattle.yp_netgroup.specs.declared.reverse.field.Field.{Field};
+ghost use Rattle.yp_map_file.specs.inside.Slots.{is_ready};
 ghost use Rattle.yp_board.specs.Catalogues.{name_view};
-ghost use Rattle.yp_build.specs.After.{was_secure};
-ghost use Rattle.yp_words.specs.Words.{IsNamed, netgroup_of};
-ghost use Rattle.yp_office.specs.Disks.{names_of, faults_of, faults_at, told_at};
-ghost use Rattle.yp_office.specs.Seeing.{seeing, IsPassedOn};
-ghost use Rattle.yp_office.specs.Status.{IsTellable};
-ghost use Rattle.yp_storing.specs.Build.{last_view, may_have_written, LeavesFew};
-ghost use Rattle.yp_storing.specs.Revnet.{job_of, field_of, HasOrder, IsMade, IsUnmade, is_stop};
-ghost use Rattle.yp_storing.specs.Revnet.{StopsCommit, IsOf, IsBeforeOrMade, OwnDiskFails, Renews};
-ghost use Rattle.yp_storing.specs.Revnet.{IsToldEnd, RevnetDoes, revnet_may_end};
+ghost use Rattle.yp_texts.specs.After.{was_secure};
+ghost use Rattle.yp_command.specs.Words.{netgroup_of};
+ghost use Rattle.yp_command.specs.inside.Words.{IsNamed};
+ghost use Rattle.yp_command.specs.office.Disks.{names_of, faults_of, faults_at, told_at};
+ghost use Rattle.yp_command.specs.office.Seeing.{seeing, IsPassedOn};
+ghost use Rattle.yp_command.specs.inside.office.Status.{IsTellable};
+ghost use Rattle.yp_command_maps.specs.Build.{may_have_written, LeavesFew};
+ghost use Rattle.yp_command_maps.specs.inside.Build.{last_view};
+ghost use Rattle.yp_command_maps.specs.Revnet.{job_of, field_of, HasNextOrder, IsReverseVersion, IsUnmade, is_stop};
+ghost use Rattle.yp_command_maps.specs.Revnet.{StandsForVersion, IsBeforeOrMade, OwnDiskFails};
+ghost use Rattle.yp_command_maps.specs.inside.Revnet.{StopsCommit, Renews};
+ghost use Rattle.yp_command_maps.specs.Revnet.{RevnetDoes, revnet_may_end};
+ghost use Rattle.yp_command_maps.specs.inside.Revnet.{IsToldEnd};
 
 use crate::build::{Built, tell_built};
 use std::alloc::Global;
 use std::random::RandomSource;
 use yp_board::MapName;
-use yp_build::{next_order, other_master};
+use yp_command::office::{NamedDisk, Office, Status, status_of_file};
+use yp_command::{BY_USER, netgroup_of};
 use yp_io::{Clock, Dial, Disk, Failed, Inbox, Sink, Source, Texts};
-use yp_office::{NamedDisk, Office, Status, status_of_file};
-use yp_revnet::{Field, RevFault, reverse};
-use yp_slot::Slot;
+use yp_map_file::Slot;
+use yp_netgroup::reverse::{Field, RevFault, reverse};
+use yp_texts::{next_order, other_master};
 use yp_version::Version;
-use yp_words::{BY_USER, netgroup_of};
 
 /// The part of a triple by which a map has netgroups.
 fn field_of(map: &[u8]) -> Field
@@ -45,7 +49,7 @@ fn field_of(map: &[u8]) -> Field
 
 /// The order of a version behind the last one, whose master has to be the own name.
 fn order_behind(alloc: Global, name: &[u8], last: Option<&Version>, now: u32) -> Result<u32, Status>
-    ensures order { IfOk result (HasOrder name.now now (last_view last.entry)) }
+    ensures order { IfOk result (HasNextOrder name.now now (last_view last.entry)) }
     ensures unmade { IfErr result (λ status. (field : Field) (rows : List Row)
         → IsUnmade name.now field now (last_view last.entry) rows status) }
     ensures stop { IfErr result (λ status. is_stop status ≡ true) }
@@ -84,7 +88,7 @@ fn make(
     netgroup: &Version,
 ) -> Result<Version, Status>
     requires { length name.now ≤ master_max }
-    ensures made { IfOk result (IsMade name.now field now (last_view last.entry) netgroup.now.rows) }
+    ensures made { IfOk result (IsReverseVersion name.now field now (last_view last.entry) netgroup.now.rows) }
     ensures unmade { IfErr result (IsUnmade name.now field now (last_view last.entry) netgroup.now.rows) }
     ensures stop { IfErr result (λ status. is_stop status ≡ true) }
     ensures tellable { IfErr result IsTellable }
@@ -104,7 +108,7 @@ fn commit<D: Disk>(store: MapName, slot: &mut Slot<D>, version: &Version) -> Res
     ensures generation { IfOk result (λ generation. generation ≡ slot.old.generation + 1) }
     ensures stops { IfErr result (StopsCommit (name_view store) slot.old.generation) }
     ensures stored { OnOk result ((image : List ℕ) → MayLeave (D.history slot.new.disk) image
-        → IsOf (Some version.now) image) }
+        → StandsForVersion (Some version.now) image) }
     ensures any_moment { LeavesOnly (D.history slot.old.disk) (D.history slot.new.disk)
         (IsBeforeOrMade (D.history slot.old.disk) (Some version.now)) }
     ensures few { LeavesFew (D.history slot.old.disk) (D.history slot.new.disk) }
@@ -125,7 +129,7 @@ fn commit<D: Disk>(store: MapName, slot: &mut Slot<D>, version: &Version) -> Res
 
 /// The names of the two maps.
 #[derive(Drop)]
-struct Names {
+struct MapNames {
     store: MapName,
     netgroup: MapName,
 }
@@ -136,7 +140,7 @@ fn renew<D: Disk>(
     rt: &impl RandomSource,
     name: &[u8],
     now: u32,
-    names: Names,
+    names: MapNames,
     slot: &mut Slot<D>,
     netgroup: &mut Slot<D>,
 ) -> Result<Built, Status>
@@ -173,13 +177,13 @@ fn renew<D: Disk>(
     })
 }
 
-/// The same under the names of the maps.
+/// Makes the reverse map over the two disks, which keep the names of their maps.
 fn renew_named<D: Disk>(
     alloc: Global,
     rt: &impl RandomSource,
     name: &[u8],
     now: u32,
-    names: Names,
+    names: MapNames,
     disks: &mut Vec<NamedDisk<D>>,
 ) -> Result<Built, Status>
     requires name { length name.now ≤ master_max }
@@ -257,7 +261,7 @@ pub fn reverse_map<S: Source, K: Sink, D: Disk, C: Clock, A: Dial, I: Inbox, T: 
     let (Ok(told), Ok(netgroup)) = (store.copy(alloc), netgroup_of(alloc, &store)) else {
         return Status::NoMemory;
     };
-    let names = Names {
+    let names = MapNames {
         store: told,
         netgroup,
     };

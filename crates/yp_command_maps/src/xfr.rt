@@ -2,30 +2,34 @@
 
 ghost use Rattle.std.specs.Prelude.{◌≡◌, ◌≢◌, ℕ, true, List, [], ◌∷◌, Option, None, Err, length, IsTrue, IfOk, OnErr};
 ghost use Rattle.yp_io.specs.Counts.{HasRisen};
-ghost use Rattle.yp_board.specs.Catalogues.{catalog_fault, name_view};
-ghost use Rattle.yp_words.specs.Words.{IsNamed, host_view};
+ghost use Rattle.yp_board.specs.Catalogues.{name_view};
+ghost use Rattle.yp_board.specs.inside.Catalogues.{catalog_fault};
+ghost use Rattle.yp_command.specs.Words.{host_view};
+ghost use Rattle.yp_command.specs.inside.Words.{IsNamed};
 ghost use Rattle.yp_io.specs.Dials.{dialing_of};
-ghost use Rattle.yp_office.specs.Disks.{names_of, history_of, faults_of, only_history, total_faults};
-ghost use Rattle.yp_office.specs.Seeing.{seeing, IsPassedOn};
-ghost use Rattle.yp_office.specs.Status.{IsTellable};
-ghost use Rattle.yp_storing.specs.Build.{LeavesFew, TellsLine};
-ghost use Rattle.yp_storing.specs.Xfr.{order_view, catalogue_of, IsReady, xfr_line, Moves, is_undialed, IsEnd};
-ghost use Rattle.yp_storing.specs.Xfr.{XfrDoes, xfr_may_end};
+ghost use Rattle.yp_command.specs.office.Disks.{names_of, history_of, faults_of, only_history, total_faults};
+ghost use Rattle.yp_command.specs.office.Seeing.{seeing, IsPassedOn};
+ghost use Rattle.yp_command.specs.inside.office.Status.{IsTellable};
+ghost use Rattle.yp_command_maps.specs.Build.{LeavesFew, TellsLine};
+ghost use Rattle.yp_command_maps.specs.Xfr.{xfr_line};
+ghost use Rattle.yp_command_maps.specs.inside.Xfr.{xfr_job_view, catalogue_of, IsReady, XfrMoves, is_undialed};
+ghost use Rattle.yp_command_maps.specs.inside.Xfr.{IsXfrEnd};
+ghost use Rattle.yp_command_maps.specs.Xfr.{XfrDoes, xfr_may_end};
 
 use crate::catalog::catalog_of;
 use crate::fetched::open_only;
 use std::alloc::Global;
 use std::random::RandomSource;
 use yp_board::{Catalog, MapName};
-use yp_io::{Clock, Dial, Disk, Failed, Inbox, NoMemory, Sink, Source, Texts, write_through};
-use yp_office::{
+use yp_command::office::{
     Apart, Line, NamedDisk, Office, Status, add, add_map, add_number, put_together, status_of_file,
     take_apart,
 };
-use yp_publish::Installed;
-use yp_slot::SlotFault;
-use yp_words::{HostWord, XfrJob};
-use yp_xfr::{Hosts, XfrFault, transfer};
+use yp_command::{HostWord, XfrJob};
+use yp_io::{Clock, Dial, Disk, Failed, Inbox, NoMemory, Sink, Source, Texts, write_through};
+use yp_map_file::SlotFault;
+use yp_publisher::Installed;
+use yp_transfer::{Hosts, XfrFault, transfer};
 
 /// Why a map isn't transferred.
 #[derive(Clone, Copy, Debug)]
@@ -38,8 +42,8 @@ pub enum XfrStop {
 
 impl From<NoMemory> for XfrStop {
     ghost use Rattle.std.specs.Prelude.{◌≡◌};
-    ghost use Rattle.yp_slot.specs.declared.fault.SlotFault.TheVariants.{NoMemory as WithoutMemory};
-    ghost use Rattle.yp_storing.specs.declared.xfr.XfrStop.TheVariants.{Unloaded};
+    ghost use Rattle.yp_map_file.specs.declared.fault.SlotFault.TheVariants.{NoMemory as WithoutMemory};
+    ghost use Rattle.yp_command_maps.specs.declared.xfr.XfrStop.TheVariants.{Unloaded};
 
     ghost from_gives = { λ fault stop. stop ≡ Unloaded WithoutMemory };
 
@@ -85,10 +89,10 @@ fn transfer_over<D: Disk, A: Dial>(
     disks: Vec<D>,
     dial: &mut A,
 ) -> (Result<Installed, XfrStop>, Vec<D>)
-    requires catalogue { catalog ≡ catalogue_of (order_view job.now) }
+    requires catalogue { catalog ≡ catalogue_of (xfr_job_view job.now) }
     requires hosts { hosts.now ≡ host_view job.now.host ∷ [] }
     requires only { length disks.items ≡ 1 }
-    ensures moves { Moves (order_view job.now) result.0
+    ensures moves { XfrMoves (xfr_job_view job.now) result.0
         (dialing_of A.past A.faults dial.old) (dialing_of A.past A.faults dial.new)
         (only_history D.history disks.items) (only_history D.history result.1.items)
         (total_faults D.faults disks.items) (total_faults D.faults result.1.items) }
@@ -120,7 +124,7 @@ fn transfer_over<D: Disk, A: Dial>(
     }
 }
 
-/// The same under the name of its map.
+/// Transfers a map over its disk, which keeps the name of the map.
 fn transfer_on<D: Disk, A: Dial>(
     alloc: Global,
     rt: &impl RandomSource,
@@ -130,7 +134,7 @@ fn transfer_on<D: Disk, A: Dial>(
 ) -> Result<Installed, XfrStop>
     requires catalogue { catalog_fault job.now.name.items (name_view job.now.store ∷ []) ≡ None }
     requires only { length disks.old.items ≡ 1 }
-    ensures moves { Moves (order_view job.now) result
+    ensures moves { XfrMoves (xfr_job_view job.now) result
         (dialing_of A.past A.faults dial.old) (dialing_of A.past A.faults dial.new)
         (history_of D.history disks.old.items) (history_of D.history disks.new.items)
         (faults_of D.faults disks.old.items) (faults_of D.faults disks.new.items) }
@@ -157,7 +161,7 @@ fn transfer_on<D: Disk, A: Dial>(
 /// The status of a map that wasn't transferred.
 fn status_stopped(store: MapName, stop: XfrStop) -> Status
     requires { IsNamed (name_view store) }
-    ensures ends { (output : Option (List ℕ)) → IsEnd (name_view store) (Err stop) result output output }
+    ensures ends { (output : Option (List ℕ)) → IsXfrEnd (name_view store) (Err stop) result output output }
     ensures may_end { IsTrue (xfr_may_end result) }
     ensures tellable { IsTellable result }
 {
@@ -191,7 +195,7 @@ pub fn tell_transfer<K: Sink>(
     done: Result<Installed, XfrStop>,
 ) -> Status
     requires { IsNamed (name_view store) }
-    ensures ends { IsEnd (name_view store) done result (K.output sink.old) (K.output sink.new) }
+    ensures ends { IsXfrEnd (name_view store) done result (K.output sink.old) (K.output sink.new) }
     ensures may_end { IsTrue (xfr_may_end result) }
     ensures tellable { IsTellable result }
     ensures flushed { result ≢ Status.WriteFault → IsTrue (K.flushed sink.old) → IsTrue (K.flushed sink.new) }
@@ -214,9 +218,9 @@ pub fn transfer_map<S: Source, K: Sink, D: Disk, C: Clock, A: Dial, I: Inbox, T:
     job: XfrJob,
     office: &mut Office<S, K, D, C, A, I, T>,
 ) -> Status
-    requires { IsReady (order_view job) (names_of office.old.disks.items) }
+    requires { IsReady (xfr_job_view job) (names_of office.old.disks.items) }
     ensures does { XfrDoes (seeing S.Source K.Sink D.Disk C.Clock A.Dial I.Inbox T.Texts)
-        (order_view job) result office.old office.new }
+        (xfr_job_view job) result office.old office.new }
     ensures may_end { IsTrue (xfr_may_end result) }
     ensures passed_on { IsPassedOn (seeing S.Source K.Sink D.Disk C.Clock A.Dial I.Inbox T.Texts)
         result office.old office.new }

@@ -2,8 +2,8 @@
 use Rattle.std.proofs.Common.{◌≡◌, ℕ, ◌+◌, ◌<◌, List, [], ◌∷◌, ◌++◌, length, take, drop, refl, ap, ◌∙◌, arith}
 use Rattle.std.proofs.lemmas.List.{length-append, length-replicate, length-take, take_at}
 use Rattle.yp_xdr.specs.Spelling.{word, padding_len, padding, opaque, fixed}
-use Rattle.yp_xdr.specs.Writing.{written}
-use Rattle.yp_xdr.specs.Laws.{WrittenIsJoined}
+use Rattle.yp_xdr.specs.inside.Writing.{written}
+use Rattle.yp_xdr.specs.inside.Laws.{WrittenIsJoined}
 
 -- bytes with their length and padding
 pub opaque_short : (content : List ℕ) → length (opaque content) < length content + 8

@@ -6,8 +6,8 @@ use Rattle.std.proofs.lemmas.List.Sums.{count_by_more_yes, count_by_more_no}
 use Rattle.yp_version.specs.Rows.{Row}
 use Rattle.yp_version.specs.Versions.{MapVersion, body_len}
 use Rattle.yp_answer.specs.Maps.{Maps}
-use Rattle.yp_serving.specs.Callers.{reply_to}
-use Rattle.yp_serving.specs.Sample.{sample_maps, sample_match, sample_all, value_reply, is_reply, is_matched, reply_len, tally_of}
+use Rattle.yp_command_serve.specs.Callers.{reply_to}
+use Rattle.yp_command_serve.specs.Sample.{sample_maps, sample_match, sample_all, value_reply, is_reply, is_matched, reply_len, tally_of}
 
 module _ (maps : Maps) (call : List ℕ) (key value bytes : List ℕ) where
   -- no reply

@@ -3,14 +3,14 @@ use Rattle.std.proofs.Common.{◌≡◌, ℕ, ◌<◌, ◌≤◌, List, [], ◌�
 use Rattle.yp_io.specs.declared.stream.Peer.{Peer}
 use Rattle.yp_rpc.specs.Records.{Fragments, Cut, IsRest, IsTorn, IsLong}
 use Rattle.yp_answer.specs.Numbers.{record_max}
-use Rattle.yp_session.specs.declared.session.End.{End}
-use Rattle.yp_session.specs.declared.session.End.TheVariants as ends
-use Rattle.yp_session.specs.declared.session.TheConstants.{CALLS_MAX}
-use Rattle.yp_session.specs.Hosts.{Conduct}
-use Rattle.yp_session.specs.Wires.{Wire}
-use Rattle.yp_session.specs.Runs.{Dialogue, Runs}
-use Rattle.yp_serving.specs.Served.{Begins, IsStatusOf, status_of, rest_place}
-use Rattle.yp_serving.proofs.Told.{Reaches, read_by, reached}
+use Rattle.yp_answer.specs.declared.session.session.End.{End}
+use Rattle.yp_answer.specs.declared.session.session.End.TheVariants as ends
+use Rattle.yp_answer.specs.declared.session.session.TheConstants.{CALLS_MAX}
+use Rattle.yp_answer.specs.session.Hosts.{Conduct}
+use Rattle.yp_answer.specs.session.Wires.{Wire}
+use Rattle.yp_answer.specs.session.Runs.{Dialogue, Runs}
+use Rattle.yp_command_serve.specs.Served.{BeginsWithRecords, IsStatusOf, status_of, rest_place}
+use Rattle.yp_command_serve.proofs.Told.{Reaches, read_by, reached}
 
 -- What the laws of records say, for the limit of a call.
 pub record CutLaws : Type 0 where
@@ -21,7 +21,7 @@ pub record CutLaws : Type 0 where
   pub rest : (limit : ℕ) (message bytes more : List ℕ) → Fragments limit message bytes → IsRest limit (bytes ++ more) → ⊥
 
 -- no more records were read than the stream has
-begins_few : CutLaws → (messages others : List (List ℕ)) (stream rest behind : List ℕ) → Begins stream others behind → Cut record_max stream messages rest → length others ≤ length messages
+begins_few : CutLaws → (messages others : List (List ℕ)) (stream rest behind : List ℕ) → BeginsWithRecords stream others behind → Cut record_max stream messages rest → length others ≤ length messages
 begins_few laws messages [] stream rest behind h cut = omega arith
 begins_few laws [] (other ∷ others) stream rest behind h cut =
     let same : h.0 ++ h.1 ≡ rest = sym h.3 ∙ cut.0 in

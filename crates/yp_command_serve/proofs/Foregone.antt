@@ -5,13 +5,14 @@ use Rattle.std.specs.Io.KnownBytes.{Keeps}
 use Rattle.std.proofs.lemmas.List.{append-nil}
 use Rattle.yp_version.specs.Rows.{Row}
 use Rattle.yp_board.specs.Catalogues.{Name}
-use Rattle.yp_session.specs.Wires.{Wire, SeesMore}
-use Rattle.yp_office.specs.declared.office.Office.{Office}
-use Rattle.yp_office.specs.declared.status.Status.{Status}
-use Rattle.yp_office.specs.declared.status.Status.TheVariants.{ReadFault, WriteFault, DiskFault, NoMemory, Rows}
-use Rattle.yp_office.specs.Seeing.{Seeing, input, HasCauses}
-use Rattle.yp_serving.specs.Served.{ServesInput, IsWatched, traffic_of, wire}
-use Rattle.yp_serving.specs.Once.{once_maps, once_board, rows_fault, IsRows, OnceDoes}
+use Rattle.yp_answer.specs.session.Wires.{Wire, SeesMore}
+use Rattle.yp_command.specs.declared.office.office.Office.{Office}
+use Rattle.yp_command.specs.declared.office.status.Status.{Status}
+use Rattle.yp_command.specs.declared.office.status.Status.TheVariants.{ReadFault, WriteFault, DiskFault, NoMemory, Rows}
+use Rattle.yp_command.specs.office.Seeing.{Seeing, input, HasCauses}
+use Rattle.yp_command_serve.specs.Served.{ServesInput, IsWatched, traffic_of, wire}
+use Rattle.yp_command_serve.specs.Once.{once_maps, once_board, rows_fault, OnceDoes}
+use Rattle.yp_command_serve.specs.inside.Once.{IsRows}
 
 -- all that is told stays told
 pub keeps : (told : Option (List ℕ)) → Keeps told told

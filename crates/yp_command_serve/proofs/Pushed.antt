@@ -4,7 +4,7 @@ use Rattle.std.specs.Prelude.{is_some}
 use Rattle.yp_version.specs.Rows.{Row, value_of, listed}
 use Rattle.yp_version.specs.Versions.{MapVersion}
 use Rattle.yp_version.specs.Drafts.{Draft, with_row, with_rows}
-use Rattle.yp_serving.specs.Once.{once_draft, once_version}
+use Rattle.yp_command_serve.specs.Once.{once_draft, once_version}
 
 -- a row leaves the order and the master
 row_keeps : (draft : Draft) (row : Row) → ((with_row draft row).order ≡ draft.order) × ((with_row draft row).master ≡ draft.master)

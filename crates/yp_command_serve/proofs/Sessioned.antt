@@ -5,36 +5,37 @@ use Rattle.std.specs.List.{AllZip}
 use Rattle.std.proofs.lemmas.List.{append-nil, length-append, length-map}
 use Rattle.yp_io.specs.Counts.{HasRisen}
 use Rattle.yp_io.specs.Disk.{History}
-use Rattle.yp_io.specs.DiskLaws.{stays, only_now}
-use Rattle.yp_slot.specs.declared.fault.SlotFault.{SlotFault}
-use Rattle.yp_slot.specs.declared.fault.SlotFault.TheVariants as fault
+use Rattle.yp_io.specs.inside.DiskLaws.{stays, only_now}
+use Rattle.yp_map_file.specs.declared.fault.SlotFault.{SlotFault}
+use Rattle.yp_map_file.specs.declared.fault.SlotFault.TheVariants as fault
 use Rattle.yp_io.specs.declared.stream.Peer.{Peer}
 use Rattle.yp_board.specs.Catalogues.{Name, Catalogue, name_view}
 use Rattle.yp_board.specs.declared.catalog.MapName.{MapName}
-use Rattle.yp_publish.specs.Standing.{Kept}
-use Rattle.yp_publish.specs.Opens.{IsOpened, IsStopped}
-use Rattle.yp_session.specs.Wires.{Wire, SeesMore}
-use Rattle.yp_session.specs.declared.session.End.{End}
-use Rattle.yp_session.specs.declared.session.End.TheVariants as ends
-use Rattle.yp_publish.specs.declared.open.OpenFault.{OpenFault}
-use Rattle.yp_publish.specs.declared.open.OpenFault.TheVariants as opening
-use Rattle.yp_publish.specs.Begins.{IsUnopened, IsUnwritten}
-use Rattle.yp_publish.specs.Keeping.{Keeping}
-use Rattle.yp_server.specs.Locals.{Telling}
-use Rattle.yp_publish.specs.Grown.{AtDisk, LeavesOr}
-use Rattle.yp_server.specs.Connections.{Service, service_of, Connection, Serves}
-use Rattle.yp_office.specs.declared.disks.NamedDisk.{NamedDisk}
-use Rattle.yp_office.specs.declared.status.Status.{Status}
-use Rattle.yp_office.specs.declared.status.Status.TheVariants.{Done, ReadFault, WriteFault, Torn, TooLong, NoMemory, Damaged, DiskFault, Enough}
-use Rattle.yp_office.specs.Files.{Fails}
-use Rattle.yp_serving.specs.Served.{status_of}
-use Rattle.yp_office.specs.Disks.{names_of, disks_of, total_faults, faults_of}
-use Rattle.yp_serving.specs.Session.{Declines, Sessions, TellsEnd, HasMapNumber}
+use Rattle.yp_publisher.specs.Standing.{StoredMap}
+use Rattle.yp_publisher.specs.Opens.{IsOpened, OpeningStopped}
+use Rattle.yp_answer.specs.session.Wires.{Wire, SeesMore}
+use Rattle.yp_answer.specs.declared.session.session.End.{End}
+use Rattle.yp_answer.specs.declared.session.session.End.TheVariants as ends
+use Rattle.yp_publisher.specs.declared.open.OpenFault.{OpenFault}
+use Rattle.yp_publisher.specs.declared.open.OpenFault.TheVariants as opening
+use Rattle.yp_publisher.specs.Begins.{IsUnopened, IsUnwritten}
+use Rattle.yp_publisher.specs.Keeping.{Keeping}
+use Rattle.yp_host.specs.Locals.{Telling}
+use Rattle.yp_publisher.specs.Grown.{AtDisk, LeavesOr}
+use Rattle.yp_host.specs.Connections.{Service, service_of, Connection, ServesConnection}
+use Rattle.yp_command.specs.declared.office.disks.NamedDisk.{NamedDisk}
+use Rattle.yp_command.specs.declared.office.status.Status.{Status}
+use Rattle.yp_command.specs.declared.office.status.Status.TheVariants.{Done, ReadFault, WriteFault, Torn, TooLong, NoMemory, Damaged, DiskFault, Enough}
+use Rattle.yp_command.specs.office.Files.{Fails}
+use Rattle.yp_command_serve.specs.Served.{status_of}
+use Rattle.yp_command.specs.office.Disks.{names_of, disks_of, total_faults, faults_of}
+use Rattle.yp_command_serve.specs.Session.{SessionDeclines, Sessions}
+use Rattle.yp_command_serve.specs.inside.Session.{TellsSessionEnd, HasMapNumber}
 
 -- ---- its status
 
 -- the end of a session has its status
-end_told : {D B E : Type 0} (service : Service D B E) (end : End) (status : Status) (old new : Connection D E) (wires : List Wire) → Serves service end old new wires → TellsEnd (Ok end) [] status
+end_told : {D B E : Type 0} (service : Service D B E) (end : End) (status : Status) (old new : Connection D E) (wires : List Wire) → ServesConnection service end old new wires → TellsSessionEnd (Ok end) [] status
     → Sessions service status old new wires
 end_told service ends.Clean status old new wires serves is = subst (λ s. Sessions service s old new wires) (sym is) serves
 end_told service (ends.Torn at) status old new wires serves is = subst (λ s. Sessions service s old new wires) (sym is) serves
@@ -44,13 +45,13 @@ end_told service ends.WriteFault status old new wires serves is = subst (λ s. S
 end_told service ends.Enough status old new wires serves is = subst (λ s. Sessions service s old new wires) (sym is) serves
 
 -- want of memory is told of anything that wasn't served
-memory_told : {D B E : Type 0} (service : Service D B E) (why : OpenFault) (status : Status) (old new : Connection D E) → Declines service why old new [] → status ≡ NoMemory
+memory_told : {D B E : Type 0} (service : Service D B E) (why : OpenFault) (status : Status) (old new : Connection D E) → SessionDeclines service why old new [] → status ≡ NoMemory
     → Sessions service status old new []
 memory_told service why status old new declines is =
     subst (λ s. Sessions service s old new []) (sym is) (record { unseen = refl; wire = declines.wire; desk = declines.desk; cause = declines.unwritten; unwritten = declines.unwritten })
 
 -- a fault of a file is told with its map
-fault_told : {D B E : Type 0} (service : Service D B E) (number : ℕ) (why : SlotFault) (store : Name) (status : Status) (old new : Connection D E) → Declines service (opening.Refused number why) old new []
+fault_told : {D B E : Type 0} (service : Service D B E) (number : ℕ) (why : SlotFault) (store : Name) (status : Status) (old new : Connection D E) → SessionDeclines service (opening.Refused number why) old new []
     → slice_get service.catalogue.maps number ≡ Some store → Fails store why status → Sessions service status old new []
 fault_told service number (fault.Damaged at rule) store (Damaged map at' rule') old new declines found fails = record {
   number = number;
@@ -67,7 +68,7 @@ fault_told service number why store status old new declines found fails = absurd
 
 -- what wasn't served is told
 unserved_told : {D B E : Type 0} (service : Service D B E) (why : OpenFault) (names : List Name) (status : Status) (old new : Connection D E) → service.catalogue.maps ≡ names
-    → Declines service why old new [] → TellsEnd (Err why) names status → Sessions service status old new []
+    → SessionDeclines service why old new [] → TellsSessionEnd (Err why) names status → Sessions service status old new []
 unserved_told service opening.NoMemory names status old new same declines is = memory_told service opening.NoMemory status old new declines is
 unserved_told service (opening.Refused number why) names status old new same declines (inl is) = memory_told service (opening.Refused number why) status old new declines is
 unserved_told service (opening.Refused number why) names status old new same declines (inr (store, found, fails)) =
@@ -75,7 +76,7 @@ unserved_told service (opening.Refused number why) names status old new same dec
 
 -- what was served or not is told, with what a witness saw
 session_told : {D B E : Type 0} (service : Service D B E) (served : Result End OpenFault) (names : List Name) (status : Status) (old new : Connection D E) (before after : List Wire) → service.catalogue.maps ≡ names
-    → IfOk served (λ end. SeesMore before after (Serves service end old new)) → IfErr served (λ why. Declines service why old new []) → OnErr served (after ≡ before) → TellsEnd served names status
+    → IfOk served (λ end. SeesMore before after (ServesConnection service end old new)) → IfErr served (λ why. SessionDeclines service why old new []) → OnErr served (after ≡ before) → TellsSessionEnd served names status
     → SeesMore before after (Sessions service status old new)
 session_told service (Ok end) names status old new before after same serves declines unseen is =
     record { more = serves.more; behind = serves.behind; done = end_told service end status old new serves.more serves.done is }
@@ -112,8 +113,8 @@ nothing_served service connection wires = record {
 -- ---- faults of disks
 
 -- those of disks that were opened haven't fallen, and one behind them rose
-total_rose : {D : Type 0} (history : D → Option History) (faults : D → ℕ) (front : List D) (opened : List (Kept D)) (before after : D) (rest : List D) → AllZip (IsOpened history faults) front opened
-    → HasRisen (faults before) (faults after) → HasRisen (total_faults faults (front ++ before ∷ rest)) (total_faults faults (map (λ (k : Kept D). k.disk) opened ++ after ∷ rest))
+total_rose : {D : Type 0} (history : D → Option History) (faults : D → ℕ) (front : List D) (opened : List (StoredMap D)) (before after : D) (rest : List D) → AllZip (IsOpened history faults) front opened
+    → HasRisen (faults before) (faults after) → HasRisen (total_faults faults (front ++ before ∷ rest)) (total_faults faults (map (λ (k : StoredMap D). k.disk) opened ++ after ∷ rest))
 total_rose history faults [] [] before after rest each risen = omega (arith, risen)
 total_rose history faults [] (kept ∷ opened) before after rest each risen = absurd each
 total_rose history faults (disk ∷ front) [] before after rest each risen = absurd each
@@ -122,12 +123,12 @@ total_rose history faults (disk ∷ front) (kept ∷ opened) before after rest e
     let more = total_rose history faults front opened before after rest each.1 risen in
     omega (arith, here, more)
 
-pub stopped_risen : {D : Type 0} (history : D → Option History) (faults : D → ℕ) (old new : List (NamedDisk D)) (number : ℕ) → IsStopped history faults (disks_of old) (disks_of new) number fault.DiskFault
+pub stopped_risen : {D : Type 0} (history : D → Option History) (faults : D → ℕ) (old new : List (NamedDisk D)) (number : ℕ) → OpeningStopped history faults (disks_of old) (disks_of new) number fault.DiskFault
     → HasRisen (faults_of faults old) (faults_of faults new)
 stopped_risen {D} history faults old new number stopped =
     let risen = total_rose history faults stopped.front stopped.opened stopped.before stopped.after stopped.rest stopped.each (stopped.refused.disk_fault refl) in
     let was : faults_of faults old ≡ total_faults faults (stopped.front ++ stopped.before ∷ stopped.rest) = ap (total_faults faults) stopped.old_is in
-    let is : faults_of faults new ≡ total_faults faults (map (λ (k : Kept D). k.disk) stopped.opened ++ stopped.after ∷ stopped.rest) = ap (total_faults faults) stopped.new_is in
+    let is : faults_of faults new ≡ total_faults faults (map (λ (k : StoredMap D). k.disk) stopped.opened ++ stopped.after ∷ stopped.rest) = ap (total_faults faults) stopped.new_is in
     omega (arith, risen, was, is)
 
 -- no other status than that of a disk's fault comes of one
@@ -140,7 +141,7 @@ end_no_fault ends.WriteFault map e = cc
 end_no_fault ends.Enough map e = cc
 
 pub fault_risen : {D : Type 0} (history : D → Option History) (faults : D → ℕ) (served : Result End OpenFault) (names : List Name) (status : Status) (map : MapName) (old new : List (NamedDisk D))
-    → TellsEnd served names status → status ≡ DiskFault map → IfErr served (λ why. IsUnopened history faults why (disks_of old) (disks_of new)) → HasRisen (faults_of faults old) (faults_of faults new)
+    → TellsSessionEnd served names status → status ≡ DiskFault map → IfErr served (λ why. IsUnopened history faults why (disks_of old) (disks_of new)) → HasRisen (faults_of faults old) (faults_of faults new)
 fault_risen history faults (Ok end) names status map old new tells e cause = absurd (end_no_fault end map (sym tells ∙ e))
 fault_risen history faults (Err opening.NoMemory) names status map old new tells e cause = absurd (let none : NoMemory ≡ DiskFault map = sym tells ∙ e in cc)
 fault_risen history faults (Err (opening.Refused number why)) names status map old new (inl tells) e cause = absurd (let none : NoMemory ≡ DiskFault map = sym tells ∙ e in cc)
@@ -151,10 +152,10 @@ fault_risen history faults (Err (opening.Refused number fault.NoMemory)) names s
     absurd (subst (λ s. Fails store fault.NoMemory s) e fails)
 
 -- a write fault is told as one
-pub write_told : (served : Result End OpenFault) (names : List Name) (status : Status) → served ≡ Ok ends.WriteFault → TellsEnd served names status → status ≡ WriteFault
-write_told served names status e tells = subst (λ (s : Result End OpenFault). TellsEnd s names status) e tells
+pub write_told : (served : Result End OpenFault) (names : List Name) (status : Status) → served ≡ Ok ends.WriteFault → TellsSessionEnd served names status → status ≡ WriteFault
+write_told served names status e tells = subst (λ (s : Result End OpenFault). TellsSessionEnd s names status) e tells
 
-pub read_told : (served : Result End OpenFault) (names : List Name) (status : Status) → TellsEnd served names status → status ≡ ReadFault → served ≡ Ok ends.ReadFault
+pub read_told : (served : Result End OpenFault) (names : List Name) (status : Status) → TellsSessionEnd served names status → status ≡ ReadFault → served ≡ Ok ends.ReadFault
 read_told (Ok ends.Clean) names status tells e = absurd (let none : Done ≡ ReadFault = sym tells ∙ e in cc)
 read_told (Ok (ends.Torn at)) names status tells e = absurd (let none : Torn at ≡ ReadFault = sym tells ∙ e in cc)
 read_told (Ok (ends.TooLong at)) names status tells e = absurd (let none : TooLong at ≡ ReadFault = sym tells ∙ e in cc)
@@ -172,7 +173,7 @@ read_told (Err (opening.Refused number fault.NoMemory)) names status (inr (store
 -- why a connection wasn't served, with what it left
 err_declines : {D B E : Type 0} (service : Service D B E) (served : Result End OpenFault) (old new : Connection D E)
     → IfErr served (λ why. IsUnopened service.keeping.history service.keeping.faults why old.disks new.disks) → OnErr served (new.wire ≡ old.wire) → OnErr served (new.desk ≡ old.desk)
-    → OnErr served (AllZip (IsUnwritten service.keeping.history service.keeping.faults) old.disks new.disks) → IfErr served (λ why. Declines service why old new [])
+    → OnErr served (AllZip (IsUnwritten service.keeping.history service.keeping.faults) old.disks new.disks) → IfErr served (λ why. SessionDeclines service why old new [])
 err_declines service (Ok end) old new cause wire desk unwritten = tt
 err_declines service (Err why) old new cause wire desk unwritten = record { unseen = refl; wire = wire; desk = desk; cause = cause; unwritten = unwritten }
 
@@ -185,9 +186,9 @@ pub record IsNamedSo {D : Type 0} (catalogue given : Catalogue) (names : List Na
 
 pub session_served : {D B E : Type 0} (keeping : Keeping D B) (telling : Telling E) (catalogue given : Catalogue) (peer : Peer) (served : Result End OpenFault) (names : List Name) (status : Status)
     (old new : Connection D E) (first last : List Wire) (before after : List (NamedDisk D)) → IsNamedSo catalogue given names old.disks new.disks before after
-    → IfOk served (λ end. SeesMore first last (Serves (service_of keeping telling catalogue peer) end old new))
+    → IfOk served (λ end. SeesMore first last (ServesConnection (service_of keeping telling catalogue peer) end old new))
     → IfErr served (λ why. IsUnopened keeping.history keeping.faults why old.disks new.disks) → OnErr served (new.wire ≡ old.wire) → OnErr served (new.desk ≡ old.desk)
-    → OnErr served (last ≡ first) → OnErr served (AllZip (IsUnwritten keeping.history keeping.faults) old.disks new.disks) → TellsEnd served names status
+    → OnErr served (last ≡ first) → OnErr served (AllZip (IsUnwritten keeping.history keeping.faults) old.disks new.disks) → TellsSessionEnd served names status
     → SeesMore first last (Sessions (service_of keeping telling given peer) status (record old { disks = disks_of before }) (record new { disks = disks_of after }))
 session_served {D} {B} {E} keeping telling catalogue given peer served names status old new first last before after is serves cause wire desk unseen unwritten tells =
     let service = service_of keeping telling catalogue peer in

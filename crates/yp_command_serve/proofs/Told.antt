@@ -6,25 +6,25 @@ use Rattle.std.proofs.KnownBytes.{Appends-nil, Appends-trans}
 use Rattle.std.proofs.lemmas.List.{append-nil, length-append, length-map}
 use Rattle.yp_io.specs.Counts.{last_count}
 use Rattle.yp_io.specs.declared.stream.Peer.{Peer}
-use Rattle.yp_rpc.specs.Records.{Fragments, Cut, IsRest, IsTorn, IsTooLong, IsBegun}
-use Rattle.yp_answer.specs.declared.make.Job.{Job}
+use Rattle.yp_rpc.specs.Records.{Fragments, Cut, IsRest, IsTorn, IsTooLong, IsUnfinished}
+use Rattle.yp_answer.specs.declared.make.MakeJob.{MakeJob}
 use Rattle.yp_answer.specs.declared.procedure.Path.TheVariants.{Stream}
 use Rattle.yp_answer.specs.Maps.{Maps, maps_of}
 use Rattle.yp_io.specs.Peers.{own_host}
 use Rattle.yp_answer.specs.Numbers.{record_max}
 use Rattle.yp_answer.specs.Transfer.{Taken}
 use Rattle.yp_answer.specs.Reply.{Response, Silence, Bytes, Takes, Open, reply, reply_at_once, asks}
-use Rattle.yp_answer.specs.Laws.{OpenIsFromOwnHost}
+use Rattle.yp_answer.specs.inside.Laws.{OpenIsFromOwnHost}
 use Rattle.yp_answer.specs.Answers.{StepsWhere}
-use Rattle.yp_session.specs.declared.session.End.{End}
-use Rattle.yp_session.specs.declared.session.End.TheVariants as ends
-use Rattle.yp_session.specs.declared.session.TheConstants.{CALLS_MAX}
-use Rattle.yp_session.specs.Hosts.{Conduct, Turn, CarriesWhere, Carries, Link}
-use Rattle.yp_session.specs.Wires.{Wire}
-use Rattle.yp_session.specs.Runs.{Dialogue, Chain, Runs, sent_reply}
-use Rattle.yp_words.specs.Words.{nobody}
-use Rattle.yp_serving.specs.Callers.{reply_to}
-use Rattle.yp_serving.specs.Served.{Traffic, Begins, AnswersInPart, ServesInput, status_of, rest_place, answer_to, answers}
+use Rattle.yp_answer.specs.declared.session.session.End.{End}
+use Rattle.yp_answer.specs.declared.session.session.End.TheVariants as ends
+use Rattle.yp_answer.specs.declared.session.session.TheConstants.{CALLS_MAX}
+use Rattle.yp_answer.specs.session.Hosts.{Conduct, Turn, CarriesWhere, Carries, Link}
+use Rattle.yp_answer.specs.session.Wires.{Wire}
+use Rattle.yp_answer.specs.session.Runs.{Dialogue, Chain, Runs, sent_reply}
+use Rattle.yp_command.specs.Words.{nobody}
+use Rattle.yp_command_serve.specs.Callers.{reply_to}
+use Rattle.yp_command_serve.specs.Served.{Traffic, BeginsWithRecords, AnswersInPart, ServesInput, status_of, rest_place, answer_to, answers}
 
 -- ---- told bytes
 
@@ -45,7 +45,7 @@ ended (Some xs) rest e h = let same : xs ≡ rest = cc in sym same ∙ h
 record ToldReads (messages : List (List ℕ)) (stream : List ℕ) (start : ℕ) (input : Option (List ℕ)) (place : ℕ) : Type 0 where
   rest : List ℕ
   left : input ≡ Some rest
-  begins : Begins stream messages rest
+  begins : BeginsWithRecords stream messages rest
   few : length rest ≤ length stream
   counted : place ≡ min (start + (length stream - length rest)) last_count
 
@@ -72,13 +72,13 @@ chain_told conduct peer (one ∷ answered) old new stream e within chain =
     }
 
 -- one record more
-begins_more : (messages : List (List ℕ)) (message bytes stream more rest : List ℕ) → Begins stream messages more → Fragments record_max message bytes → more ≡ bytes ++ rest
-    → Begins stream (messages ++ message ∷ []) rest
+begins_more : (messages : List (List ℕ)) (message bytes stream more rest : List ℕ) → BeginsWithRecords stream messages more → Fragments record_max message bytes → more ≡ bytes ++ rest
+    → BeginsWithRecords stream (messages ++ message ∷ []) rest
 begins_more [] message bytes stream more rest h fragments e = (bytes, rest, fragments, h ∙ e, refl)
 begins_more (first ∷ messages) message bytes stream more rest h fragments e = (h.0, h.1, h.2, h.3, begins_more messages message bytes h.1 more rest h.4 fragments e)
 
 -- records and a rest are a cut
-cut_from : (messages : List (List ℕ)) (stream rest : List ℕ) → Begins stream messages rest → IsRest record_max rest → Cut record_max stream messages rest
+cut_from : (messages : List (List ℕ)) (stream rest : List ℕ) → BeginsWithRecords stream messages rest → IsRest record_max rest → Cut record_max stream messages rest
 cut_from [] stream rest h end = (h, end)
 cut_from (message ∷ messages) stream rest h end = (h.0, h.1, h.2, h.3, cut_from messages h.1 rest h.4 end)
 
@@ -90,7 +90,7 @@ place_is stream rest place h = omega (arith, h)
 
 -- these records begin the stream, and less than a record more was read
 abbrev ReadsPast : List ℕ → List (List ℕ) → Option (List ℕ) → Type 0
-ReadsPast stream messages left = (part rest : List ℕ) × Begins stream messages (part ++ rest) × IsBegun record_max part × (left ≡ Some rest)
+ReadsPast stream messages left = (part rest : List ℕ) × BeginsWithRecords stream messages (part ++ rest) × IsUnfinished record_max part × (left ≡ Some rest)
 
 -- what was read of a stream, for each end
 abbrev pub Reaches : End → List ℕ → List (List ℕ) → Option (List ℕ) → Type 0
@@ -180,7 +180,7 @@ pub record KeepsMaps {H : Type 0} (conduct : Conduct H) : Type 0 where
 
 -- nobody leaves a MAKE open
 abbrev pub NoneIsOpen : Type 0
-NoneIsOpen = (maps : Maps) (message : List ℕ) (xid : ℕ) (job : Job) → reply Stream maps nobody message ≡ Open xid job → ⊥
+NoneIsOpen = (maps : Maps) (message : List ℕ) (xid : ℕ) (job : MakeJob) → reply Stream maps nobody message ≡ Open xid job → ⊥
 
 -- since it is open to the server's own host alone
 pub none_is_open : OpenIsFromOwnHost → NoneIsOpen
@@ -201,7 +201,7 @@ where_keeps true conduct taken peer old new keeps h = keeps.carried taken peer o
 where_keeps false conduct taken peer old new keeps h = ap (λ host. maps_of (conduct.seen host)) h
 
 -- a reply that isn't left open goes out at once, and the maps stay
-carried_is : {H : Type 0} (conduct : Conduct H) (peer : Peer) (response : Response) (turn : Turn) (old new : H) → KeepsMaps conduct → ((xid : ℕ) (job : Job) → response ≡ Open xid job → ⊥)
+carried_is : {H : Type 0} (conduct : Conduct H) (peer : Peer) (response : Response) (turn : Turn) (old new : H) → KeepsMaps conduct → ((xid : ℕ) (job : MakeJob) → response ≡ Open xid job → ⊥)
     → Carries conduct peer response turn old new → (turn.answer ≡ reply_at_once response) × (maps_of (conduct.seen new) ≡ maps_of (conduct.seen old))
 carried_is conduct peer Silence turn old new keeps never h = (h.0, ap (λ host. maps_of (conduct.seen host)) h.3)
 carried_is conduct peer (Bytes bytes) turn old new keeps never h = (h.0, ap (λ host. maps_of (conduct.seen host)) h.3)

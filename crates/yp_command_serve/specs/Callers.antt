@@ -3,7 +3,7 @@ use Rattle.std.specs.Prelude.{ℕ, List, Option}
 use Rattle.yp_answer.specs.declared.procedure.Path.TheVariants.{Stream}
 use Rattle.yp_answer.specs.Maps.{Maps}
 use Rattle.yp_answer.specs.Reply.{reply, reply_at_once}
-use Rattle.yp_words.specs.Words.{nobody}
+use Rattle.yp_command.specs.Words.{nobody}
 
 -- the reply to a record from nobody, or silence
 abbrev pub reply_to : Maps → List ℕ → Option (List ℕ)

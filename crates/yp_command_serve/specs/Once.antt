@@ -8,13 +8,13 @@ use Rattle.yp_version.specs.Drafts.{Draft, with_rows, first_refused, empty_draft
 use Rattle.yp_board.specs.Catalogues.{Name}
 use Rattle.yp_board.specs.Views.{Seen}
 use Rattle.yp_answer.specs.Maps.{Maps}
-use Rattle.yp_session.specs.Wires.{Wire, SeesMore}
-use Rattle.yp_office.specs.declared.status.Status.{Status}
-use Rattle.yp_office.specs.declared.status.Status.TheVariants.{NoMemory, Rows}
-use Rattle.yp_office.specs.Rows.{rule_of}
-use Rattle.yp_office.specs.declared.office.Office.{Office}
-use Rattle.yp_office.specs.Seeing.{Seeing, input, HasCauses}
-use Rattle.yp_serving.specs.Served.{ServesInput, IsWatched, serve_may_end, traffic_of, wire, Completes}
+use Rattle.yp_answer.specs.session.Wires.{Wire, SeesMore}
+use Rattle.yp_command.specs.declared.office.status.Status.{Status}
+use Rattle.yp_command.specs.declared.office.status.Status.TheVariants.{NoMemory, Rows}
+use Rattle.yp_command.specs.office.Rows.{rule_of}
+use Rattle.yp_command.specs.declared.office.office.Office.{Office}
+use Rattle.yp_command.specs.office.Seeing.{Seeing, input, HasCauses}
+use Rattle.yp_command_serve.specs.Served.{ServesInput, IsWatched, serve_may_end, traffic_of, wire, Completes}
 
 -- its own name
 abbrev pub once_name : List ℕ
@@ -48,11 +48,6 @@ word_of row = min (row + 2) 4294967295
 -- the first row past a limit, by the number of its word and the rule
 abbrev pub rows_fault : List Row → Option (ℕ × ℕ)
 rows_fault rows = option_map (λ refused. (word_of refused.0, rule_of refused.1)) (first_refused once_draft rows)
-
--- the status tells the first row past a limit
-abbrev pub IsRows : Option (ℕ × ℕ) → Status → Type 0
-IsRows None status = ⊥
-IsRows (Some fault) status = status ≡ Rows fault.0 fault.1
 
 -- the statuses with which `once` may end
 abbrev pub once_may_end : Status → Bool

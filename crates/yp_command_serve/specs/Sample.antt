@@ -3,22 +3,22 @@ use Rattle.std.specs.Prelude.{◌≡◌, ℕ, ◌<◌, ◌≤◌, Bool, true, fa
 use Rattle.std.specs.Prelude.{Option, Some, None, codes, decimal, bytes_eq}
 use Rattle.std.specs.Io.KnownBytes.{Appends}
 use Rattle.yp_io.specs.Streams.{AppendsFront}
-use Rattle.yp_msgs.specs.Messages.{resp_val}
+use Rattle.yp_messages.specs.Messages.{resp_val}
 use Rattle.yp_version.specs.Limits.{rows_max}
 use Rattle.yp_version.specs.Rows.{Row}
 use Rattle.yp_version.specs.Versions.{MapVersion, body_len}
-use Rattle.yp_build.specs.Samples.{sampled}
+use Rattle.yp_texts.specs.Samples.{sampled}
 use Rattle.yp_client.specs.Asked.{match_call, all_call}
 use Rattle.yp_answer.specs.Maps.{Maps}
 use Rattle.yp_answer.specs.Results.{value_found}
 use Rattle.yp_answer.specs.Reply.{success}
-use Rattle.yp_serving.specs.Callers.{reply_to}
-use Rattle.yp_serving.specs.declared.tally.Tally.{Tally}
-use Rattle.yp_office.specs.declared.status.Status.{Status}
-use Rattle.yp_office.specs.declared.status.Status.TheVariants.{Done, WriteFault, NoMemory, Rows}
-use Rattle.yp_office.specs.Rows.{rows_rule}
-use Rattle.yp_office.specs.declared.office.Office.{Office}
-use Rattle.yp_office.specs.Seeing.{Seeing, output, HasCauses}
+use Rattle.yp_command_serve.specs.Callers.{reply_to}
+use Rattle.yp_command_serve.specs.declared.tally.SampleTally.{SampleTally}
+use Rattle.yp_command.specs.declared.office.status.Status.{Status}
+use Rattle.yp_command.specs.declared.office.status.Status.TheVariants.{Done, WriteFault, NoMemory, Rows}
+use Rattle.yp_command.specs.office.Rows.{rows_rule}
+use Rattle.yp_command.specs.declared.office.office.Office.{Office}
+use Rattle.yp_command.specs.office.Seeing.{Seeing, output, HasCauses}
 
 -- its own name, and the domain and the name of its one map
 abbrev pub sample_name : List ℕ
@@ -58,7 +58,7 @@ reply_len None = 0
 reply_len (Some bytes) = length bytes
 
 -- the rows of a version, the bytes of its stored body, those of the reply to ALL, and the rows that MATCH has
-abbrev pub tally_of : MapVersion → Tally
+abbrev pub tally_of : MapVersion → SampleTally
 tally_of version = record {
   rows = length version.rows;
   body = body_len version;
@@ -67,7 +67,7 @@ tally_of version = record {
 }
 
 -- the line that tells them
-abbrev pub tally_line : Tally → List ℕ
+abbrev pub tally_line : SampleTally → List ℕ
 tally_line tally =
     codes "rows " ++ decimal tally.rows ++ codes " body " ++ decimal tally.body ++ codes " all " ++ decimal tally.all
     ++ codes " matched " ++ decimal tally.matched ++ codes "\n"

@@ -3,27 +3,27 @@ use Rattle.std.specs.Prelude.{◌≡◌, ◌⊎◌, ℕ, ◌-◌, ◌<◌, ◌�
 use Rattle.std.specs.Prelude.{flat_map, Option, Some, None}
 use Rattle.std.specs.Io.KnownBytes.{Keeps, Appends}
 use Rattle.yp_io.specs.Counts.{last_count, next_count}
-use Rattle.yp_rpc.specs.Records.{Fragments, Cut, IsTorn, IsBegun, IsTooLong, IsLong}
-use Rattle.yp_msgs.specs.declared.transfer.XfrStat.TheVariants.{Rsrc}
+use Rattle.yp_rpc.specs.Records.{Fragments, Cut, IsTorn, IsUnfinished, IsTooLong, IsLong}
+use Rattle.yp_messages.specs.declared.transfer.XfrStat.TheVariants.{Rsrc}
 use Rattle.yp_board.specs.Views.{Seen}
 use Rattle.yp_answer.specs.Maps.{Maps}
 use Rattle.yp_answer.specs.Served.{AreServed, maps_on}
 use Rattle.yp_answer.specs.Numbers.{record_max}
-use Rattle.yp_session.specs.declared.session.End.{End}
-use Rattle.yp_session.specs.declared.session.End.TheVariants as ends
-use Rattle.yp_session.specs.declared.session.TheConstants.{CALLS_MAX}
-use Rattle.yp_session.specs.Progress.{Progress, begun}
-use Rattle.yp_session.specs.Wires.{Wire, wire_of}
-use Rattle.yp_session.specs.Hosts.{Conduct, conduct_of}
-use Rattle.yp_session.specs.Runs.{Runs, sent_reply}
-use Rattle.yp_session.specs.Runs.{dialogue_at}
-use Rattle.yp_words.specs.Words.{nobody}
-use Rattle.yp_serving.specs.Callers.{reply_to}
-use Rattle.yp_office.specs.declared.status.Status.{Status}
-use Rattle.yp_office.specs.declared.status.Status.TheVariants.{Done, ReadFault, WriteFault, Torn, TooLong}
-use Rattle.yp_office.specs.declared.status.Status.TheVariants.{NoMemory, Enough, Rows}
-use Rattle.yp_office.specs.declared.office.Office.{Office}
-use Rattle.yp_office.specs.Seeing.{Seeing, input, output, ReadFails, WriteFails}
+use Rattle.yp_answer.specs.declared.session.session.End.{End}
+use Rattle.yp_answer.specs.declared.session.session.End.TheVariants as ends
+use Rattle.yp_answer.specs.declared.session.session.TheConstants.{CALLS_MAX}
+use Rattle.yp_answer.specs.session.Progress.{Progress, begun}
+use Rattle.yp_answer.specs.session.Wires.{Wire, wire_of}
+use Rattle.yp_answer.specs.session.Hosts.{Conduct, conduct_of}
+use Rattle.yp_answer.specs.session.Runs.{Runs, sent_reply}
+use Rattle.yp_answer.specs.session.Runs.{dialogue_at}
+use Rattle.yp_command.specs.Words.{nobody}
+use Rattle.yp_command_serve.specs.Callers.{reply_to}
+use Rattle.yp_command.specs.declared.office.status.Status.{Status}
+use Rattle.yp_command.specs.declared.office.status.Status.TheVariants.{Done, ReadFault, WriteFault, Torn, TooLong}
+use Rattle.yp_command.specs.declared.office.status.Status.TheVariants.{NoMemory, Enough, Rows}
+use Rattle.yp_command.specs.declared.office.office.Office.{Office}
+use Rattle.yp_command.specs.office.Seeing.{Seeing, input, output, ReadFails, WriteFails}
 
 -- the status of a session that ended so
 abbrev pub status_of : End → Status
@@ -54,10 +54,11 @@ abbrev pub answers : Maps → List (List ℕ) → List ℕ
 answers maps messages = flat_map (answer_to maps) messages
 
 -- the stream begins with one spelling of each of these records, and the rest is behind them
-abbrev pub Begins : List ℕ → List (List ℕ) → List ℕ → Type 0
-Begins stream [] rest = stream ≡ rest
-Begins stream (message ∷ messages) rest =
-    (bytes more : List ℕ) × Fragments record_max message bytes × (stream ≡ bytes ++ more) × Begins more messages rest
+abbrev pub BeginsWithRecords : List ℕ → List (List ℕ) → List ℕ → Type 0
+BeginsWithRecords stream [] rest = stream ≡ rest
+BeginsWithRecords stream (message ∷ messages) rest =
+    (bytes more : List ℕ) × Fragments record_max message bytes × (stream ≡ bytes ++ more)
+    × BeginsWithRecords more messages rest
 
 -- the place of the rest in the stream
 abbrev pub rest_place : List ℕ → List ℕ → ℕ
@@ -70,15 +71,15 @@ pub record Traffic : Type 0 where
   pub after : Option (List ℕ)
 
 -- the output took these bytes
-abbrev pub Takes : Traffic → List ℕ → Type 0
-Takes traffic bytes = Appends traffic.before traffic.after bytes
+abbrev pub OutputTakes : Traffic → List ℕ → Type 0
+OutputTakes traffic bytes = Appends traffic.before traffic.after bytes
 
 -- the records of a stream were answered up to its rest; the stream fixes both
 pub record AnswersUpTo (maps : Maps) (stream rest : List ℕ) (traffic : Traffic) : Type 0 where
   pub messages : List (List ℕ)
   pub cut : Cut record_max stream messages rest
   pub few : length messages < CALLS_MAX
-  pub answered : Takes traffic (answers maps messages)
+  pub answered : OutputTakes traffic (answers maps messages)
 
 -- Records at the front of a stream were read whole, and less than a record more; the rest is left. The stream and what
 -- is left of it fix the records.
@@ -86,8 +87,8 @@ pub record AnswersSome (stream : List ℕ) (traffic : Traffic) (P : List (List �
   pub messages : List (List ℕ)
   pub part : List ℕ
   pub rest : List ℕ
-  pub begins : Begins stream messages (part ++ rest)
-  pub begun : IsBegun record_max part
+  pub begins : BeginsWithRecords stream messages (part ++ rest)
+  pub begun : IsUnfinished record_max part
   pub left_is : traffic.left ≡ Some rest
   pub done : P messages
 
@@ -97,7 +98,7 @@ pub record AnswersInPart (maps : Maps) (messages : List (List ℕ)) (traffic : T
   pub last : List ℕ
   pub count : ℕ
   pub all : messages ≡ before ++ last ∷ []
-  pub answered : Takes traffic (answers maps before ++ take count (answer_to maps last))
+  pub answered : OutputTakes traffic (answers maps before ++ take count (answer_to maps last))
 
 -- What is done with an input, for each status, and what is left of it. All records before the rest are answered.
 abbrev pub ServesInput : Maps → Status → List ℕ → Traffic → Type 0
@@ -109,11 +110,11 @@ ServesInput maps (TooLong at) stream traffic =
     (front more : List ℕ) × AnswersUpTo maps stream (front ++ more) traffic × IsTooLong record_max front
     × (at ≡ rest_place stream (front ++ more)) × (traffic.left ≡ Some more)
 ServesInput maps ReadFault stream traffic =
-    AnswersSome stream traffic (λ messages. Takes traffic (answers maps messages))
+    AnswersSome stream traffic (λ messages. OutputTakes traffic (answers maps messages))
 ServesInput maps WriteFault stream traffic =
     AnswersSome stream traffic (λ messages. AnswersInPart maps messages traffic)
 ServesInput maps Enough stream traffic =
-    AnswersSome stream traffic (λ messages. (length messages ≡ CALLS_MAX) × Takes traffic (answers maps messages))
+    AnswersSome stream traffic (λ messages. (length messages ≡ CALLS_MAX) × OutputTakes traffic (answers maps messages))
 ServesInput maps NoMemory stream traffic = (traffic.left ≡ Some stream) × Keeps traffic.before traffic.after
 ServesInput maps _ stream traffic = ⊥
 
@@ -149,7 +150,7 @@ fixed_conduct =
 -- The records of a wire were answered in turn on this board, by one session to this status, and behind each that was
 -- answered, its reply flushed, the wire was one of these. The catalogue and all versions are within their limits. At
 -- the end the board is the same, but for how often it was asked.
-pub record IsAnswered (board : Seen) (status : Status) (old new : Wire) (wires : List Wire) : Type 0 where
+pub record RecordsAreAnswered (board : Seen) (status : Status) (old new : Wire) (wires : List Wire) : Type 0 where
   pub end : End
   pub told : status ≡ status_of end
   pub finish : Fixed
@@ -163,7 +164,7 @@ pub record IsAnswered (board : Seen) (status : Status) (old new : Wire) (wires :
 abbrev pub IsWatched : Seen → Status → Wire → Wire → List Wire → Type 0
 IsWatched board NoMemory old new wires = (new ≡ old) × (wires ≡ [])
 IsWatched board (Rows row rule) old new wires = (new ≡ old) × (wires ≡ [])
-IsWatched board status old new wires = IsAnswered board status old new wires
+IsWatched board status old new wires = RecordsAreAnswered board status old new wires
 
 -- ---- in an office
 
@@ -175,8 +176,8 @@ wire seen office = wire_of seen.source seen.sink office.wire
 abbrev pub traffic_of : {S K D C A I T : Type 0} → Seeing S K D C A I T → (old new : Office S K D C A I T) → Traffic
 traffic_of seen old new = record { left = input seen new; before = output seen old; after = output seen new }
 
--- Where the input is told and neither it nor the output fails, the status is that of the one cut of the input, but for
--- want of memory.
+-- Where the input is told, and neither the input nor the output fails, the status follows from the one way to cut the
+-- input into records, unless memory runs out.
 abbrev pub Completes : {S K D C A I T : Type 0} → Seeing S K D C A I T → Status → (old new : Office S K D C A I T)
     → Type 0
 Completes seen status old new =

@@ -1,37 +1,35 @@
 -- What `session` does: it serves its input as one connection over stored maps.
-use Rattle.std.specs.Prelude.{◌≡◌, ◌≢◌, ◌<◌, ◌≤◌, ℕ, Bool, true, List, [], All, length, slice_get}
-use Rattle.std.specs.Prelude.{Option, Some, Result, Ok, Err, ⊤}
+use Rattle.std.specs.Prelude.{◌≡◌, ◌≢◌, ◌≤◌, ℕ, Bool, true, List, [], All, length, slice_get}
+use Rattle.std.specs.Prelude.{Option, Some}
 use Rattle.std.specs.List.{AllZip}
 use Rattle.yp_io.specs.Disk.{History}
-use Rattle.yp_slot.specs.declared.fault.SlotFault.{SlotFault}
-use Rattle.yp_slot.specs.declared.fault.SlotFault.TheVariants as fault
-use Rattle.yp_slot.specs.Stands.{stands, file_max}
-use Rattle.yp_slot.specs.Stands as stood
+use Rattle.yp_map_file.specs.declared.fault.SlotFault.{SlotFault}
+use Rattle.yp_map_file.specs.declared.fault.SlotFault.TheVariants as fault
+use Rattle.yp_map_file.specs.Stands.{stands, file_max}
+use Rattle.yp_map_file.specs.Stands as stood
 use Rattle.yp_io.specs.declared.stream.Peer.{Peer}
 use Rattle.yp_board.specs.Catalogues.{Name, name_view}
 use Rattle.yp_board.specs.Views.{Seen}
 use Rattle.yp_board.specs.declared.catalog.MapName.{MapName}
-use Rattle.yp_publish.specs.Begins.{plain_log, IsUnopened, IsUnwritten}
-use Rattle.yp_publish.specs.declared.open.OpenFault.{OpenFault}
-use Rattle.yp_publish.specs.declared.open.OpenFault.TheVariants as opening
-use Rattle.yp_session.specs.declared.session.End.{End}
-use Rattle.yp_session.specs.declared.session.End.TheVariants as ends
-use Rattle.yp_session.specs.Wires.{Wire, SeesMore}
-use Rattle.yp_xfr.specs.HostTable.{HostList}
-use Rattle.yp_server.specs.declared.desk.Desk.{Desk}
-use Rattle.yp_publish.specs.Keeping.{keeping_of}
-use Rattle.yp_server.specs.Locals.{telling_of}
-use Rattle.yp_publish.specs.Grown.{AtDisk, LeavesOr}
-use Rattle.yp_server.specs.Connections.{Service, Connection, Serves, service_of}
-use Rattle.yp_office.specs.Files.{TellsOf}
-use Rattle.yp_office.specs.declared.office.Office.{Office}
-use Rattle.yp_office.specs.Seeing.{Seeing, moment, HasCauses, DiskFails}
-use Rattle.yp_office.specs.declared.disks.NamedDisk.{NamedDisk}
-use Rattle.yp_office.specs.Disks.{names_of, disks_of}
-use Rattle.yp_serving.specs.Served.{status_of, serve_may_end, wire, Completes}
-use Rattle.yp_office.specs.declared.status.Status.{Status}
-use Rattle.yp_office.specs.declared.status.Status.TheVariants.{Done, ReadFault, WriteFault, Torn, TooLong, NoMemory}
-use Rattle.yp_office.specs.declared.status.Status.TheVariants.{Damaged, DiskFault, Enough}
+use Rattle.yp_publisher.specs.Begins.{plain_log, IsUnopened, IsUnwritten}
+use Rattle.yp_publisher.specs.declared.open.OpenFault.{OpenFault}
+use Rattle.yp_publisher.specs.declared.open.OpenFault.TheVariants as opening
+use Rattle.yp_answer.specs.declared.session.session.End.TheVariants as ends
+use Rattle.yp_answer.specs.session.Wires.{Wire, SeesMore}
+use Rattle.yp_transfer.specs.HostTable.{HostList}
+use Rattle.yp_host.specs.declared.desk.Desk.{Desk}
+use Rattle.yp_publisher.specs.Keeping.{keeping_of}
+use Rattle.yp_host.specs.Locals.{telling_of}
+use Rattle.yp_publisher.specs.Grown.{AtDisk, LeavesOr}
+use Rattle.yp_host.specs.Connections.{Service, Connection, ServesConnection, service_of}
+use Rattle.yp_command.specs.declared.office.office.Office.{Office}
+use Rattle.yp_command.specs.office.Seeing.{Seeing, moment, HasCauses, DiskFails}
+use Rattle.yp_command.specs.declared.office.disks.NamedDisk.{NamedDisk}
+use Rattle.yp_command.specs.office.Disks.{names_of, disks_of}
+use Rattle.yp_command_serve.specs.Served.{serve_may_end, wire, Completes}
+use Rattle.yp_command.specs.declared.office.status.Status.{Status}
+use Rattle.yp_command.specs.declared.office.status.Status.TheVariants.{Done, ReadFault, WriteFault, Torn, TooLong, NoMemory}
+use Rattle.yp_command.specs.declared.office.status.Status.TheVariants.{Damaged, DiskFault, Enough}
 
 -- the connection of a wire, named disks and a desk
 abbrev pub connection_at : {D E : Type 0} → Wire → List (NamedDisk D) → E → Connection D E
@@ -39,7 +37,7 @@ connection_at wire disks desk = record { wire = wire; disks = disks_of disks; de
 
 -- A connection wasn't served, for this reason: nothing was read of its wire or written to it, and nothing to its disks,
 -- and none of these wires is behind a record.
-pub record Declines {D B E : Type 0} (service : Service D B E) (why : OpenFault) (old new : Connection D E)
+pub record SessionDeclines {D B E : Type 0} (service : Service D B E) (why : OpenFault) (old new : Connection D E)
     (wires : List Wire) : Type 0 where
   pub unseen : wires ≡ []
   pub wire : new.wire ≡ old.wire
@@ -47,29 +45,29 @@ pub record Declines {D B E : Type 0} (service : Service D B E) (why : OpenFault)
   pub cause : IsUnopened service.keeping.history service.keeping.faults why old.disks new.disks
   pub unwritten : AllZip (IsUnwritten service.keeping.history service.keeping.faults) old.disks new.disks
 
--- The same for a map of this name, whose file wasn't loaded, the first one.
+-- A connection wasn't served, since the file of the map of this name wasn't loaded, the first such map.
 pub record DeclinesFor {D B E : Type 0} (service : Service D B E) (map : MapName) (why : SlotFault)
     (old new : Connection D E) (wires : List Wire) : Type 0 where
   pub number : ℕ
   pub named : slice_get service.catalogue.maps number ≡ Some (name_view map)
-  pub declines : Declines service (opening.Refused number why) old new wires
+  pub declines : SessionDeclines service (opening.Refused number why) old new wires
 
 -- What a session does, for each status: it serves its connection to that end, with these wires behind the records that
 -- it answered, or tells the map whose file it couldn't load.
 abbrev pub Sessions : {D B E : Type 0} → Service D B E → Status → (old new : Connection D E) → List Wire → Type 0
-Sessions service Done old new wires = Serves service ends.Clean old new wires
-Sessions service (Torn at) old new wires = Serves service (ends.Torn at) old new wires
-Sessions service (TooLong at) old new wires = Serves service (ends.TooLong at) old new wires
-Sessions service ReadFault old new wires = Serves service ends.ReadFault old new wires
-Sessions service WriteFault old new wires = Serves service ends.WriteFault old new wires
-Sessions service Enough old new wires = Serves service ends.Enough old new wires
+Sessions service Done old new wires = ServesConnection service ends.Clean old new wires
+Sessions service (Torn at) old new wires = ServesConnection service (ends.Torn at) old new wires
+Sessions service (TooLong at) old new wires = ServesConnection service (ends.TooLong at) old new wires
+Sessions service ReadFault old new wires = ServesConnection service ends.ReadFault old new wires
+Sessions service WriteFault old new wires = ServesConnection service ends.WriteFault old new wires
+Sessions service Enough old new wires = ServesConnection service ends.Enough old new wires
 Sessions service (Damaged map at rule) old new wires = DeclinesFor service map (fault.Damaged at rule) old new wires
 Sessions service (DiskFault map) old new wires = DeclinesFor service map fault.DiskFault old new wires
-Sessions service NoMemory old new wires = Declines service opening.NoMemory old new wires
+Sessions service NoMemory old new wires = SessionDeclines service opening.NoMemory old new wires
 Sessions service _ old new wires = ⊥
 
 -- the file of a map is told, and isn't damaged
-pub record IsSound {D : Type 0} (history : D → Option History) (disk : NamedDisk D) : Type 0 where
+pub record DiskIsSound {D : Type 0} (history : D → Option History) (disk : NamedDisk D) : Type 0 where
   pub told : History
   pub tells : history disk.disk ≡ Some told
   pub sound : (at rule : ℕ) → stands told.state.reads ≢ stood.Damaged at rule
@@ -110,22 +108,9 @@ pub record SessionDoes {S K D C A I T : Type 0} (seen : Seeing S K D C A I T) (o
       (Sessions (service seen own peer stores) status (connection seen hosts old) (connection seen hosts new))
   pub bound : (number : ℕ) → AtDisk number (disks_of old.disks.items) (disks_of new.disks.items)
       (LeavesOr seen.disk.history (λ image. length image ≤ file_max))
-  pub complete : All (IsSound seen.disk.history) old.disks.items → ¬ DiskFails seen old new
+  pub complete : All (DiskIsSound seen.disk.history) old.disks.items → ¬ DiskFails seen old new
       → Completes seen status old new
   pub causes : HasCauses seen status old new
   pub names : names_of new.disks.items ≡ names_of old.disks.items
   pub told : moment seen new ≡ moment seen old
   pub inbox : new.inbox ≡ old.inbox
-
--- ---- statuses
-
--- How a connection ended, or why it wasn't served, is told by this status, where maps have these names.
-abbrev pub TellsEnd : Result End OpenFault → List Name → Status → Type 0
-TellsEnd (Ok end) names status = status ≡ status_of end
-TellsEnd (Err opening.NoMemory) names status = status ≡ NoMemory
-TellsEnd (Err (opening.Refused number why)) names status = TellsOf names number why status
-
--- the number of a map whose file wasn't loaded is that of one of so many
-abbrev pub HasMapNumber : Result End OpenFault → ℕ → Type 0
-HasMapNumber (Err (opening.Refused number why)) count = number < count
-HasMapNumber served count = ⊤

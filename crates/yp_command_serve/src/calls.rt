@@ -4,22 +4,22 @@ ghost use Rattle.std.specs.Prelude.{◌≡◌, ◌+◌, ◌≤◌, ◌++◌, [],
 ghost use Rattle.std.specs.Prelude.{OnOk};
 ghost use Rattle.yp_xdr.specs.Spelling.{spelling};
 ghost use Rattle.yp_rpc.specs.Called.{call_of};
-ghost use Rattle.yp_msgs.specs.Numbers.{program, version};
+ghost use Rattle.yp_messages.specs.Numbers.{program, version};
 ghost use Rattle.yp_version.specs.Limits.{key_max, value_max};
 ghost use Rattle.yp_answer.specs.Numbers.{record_max};
 ghost use Rattle.yp_answer.specs.Maps.{maps_of};
 ghost use Rattle.yp_rpc.specs.Records.{joined};
-ghost use Rattle.yp_answer.specs.Streams.{parts_left};
-ghost use Rattle.yp_answer.specs.Answers.{IsInside};
-ghost use Rattle.yp_serving.specs.Callers.{reply_to};
-ghost use Rattle.yp_serving.specs.Sample.{sample_match, sample_all, value_reply};
+ghost use Rattle.yp_answer.specs.inside.Streams.{parts_left};
+ghost use Rattle.yp_answer.specs.inside.Answers.{StreamIsInside};
+ghost use Rattle.yp_command_serve.specs.Callers.{reply_to};
+ghost use Rattle.yp_command_serve.specs.Sample.{sample_match, sample_all, value_reply};
 
 use crate::once::NOBODY;
 use yp_answer::{AllStream, Answered, answer};
 use yp_board::PlainBoard;
 use yp_io::NoMemory;
-use yp_msgs::protocol::{ALL, MATCH, YPPROG, YPVERS};
-use yp_msgs::{Message, ReqKey, ReqNokey, RespVal, YpStat};
+use yp_messages::protocol::{ALL, MATCH, YPPROG, YPVERS};
+use yp_messages::{Message, ReqKey, ReqNokey, RespVal, YpStat};
 use yp_rpc::{ReplyHead, write_call, write_reply};
 use yp_xdr::{NoRoom, laws};
 
@@ -98,7 +98,7 @@ fn collect(
     reply: &mut Vec<u8>,
 ) -> Result<(), NoMemory>
     requires room { record_max ≤ length buf.old }
-    requires inside { IsInside (maps_of board.now) stream.source }
+    requires inside { StreamIsInside (maps_of board.now) stream.source }
     ensures { OnOk result (reply.new.items ≡ reply.old.items ++ joined (parts_left board.now.known stream)) }
 {
     let mut stream = stream;

@@ -1,11 +1,11 @@
 //! The status of a session that ended.
 
 ghost use Rattle.std.specs.Prelude.{◌≡◌, IsTrue};
-ghost use Rattle.yp_serving.specs.Served.{status_of, serve_may_end};
-ghost use Rattle.yp_office.specs.Status.{IsTellable};
+ghost use Rattle.yp_command_serve.specs.Served.{status_of, serve_may_end};
+ghost use Rattle.yp_command.specs.inside.office.Status.{IsTellable};
 
-use yp_office::Status;
-use yp_session::End;
+use yp_answer::session::End;
+use yp_command::office::Status;
 
 /// The status of a session that ended so.
 pub fn status_of_end(end: End) -> Status

@@ -3,17 +3,17 @@
 ghost use Rattle.std.specs.Prelude.{◌≡◌, None, All};
 ghost use Rattle.std.proofs.Common.{ap};
 ghost use Rattle.yp_io.specs.Counts.{next_count};
-ghost use Rattle.yp_msgs.specs.declared.transfer.XfrStat.TheVariants.{Rsrc};
+ghost use Rattle.yp_messages.specs.declared.transfer.XfrStat.TheVariants.{Rsrc};
 ghost use Rattle.yp_version.specs.Versions.{IsVersion};
 ghost use Rattle.yp_board.specs.Catalogues.{IsCatalogue};
-ghost use Rattle.yp_serving.specs.Served.{fixed};
+ghost use Rattle.yp_command_serve.specs.Served.{fixed};
 
 use std::marker::Model;
-use yp_answer::{Errand, Job};
+use yp_answer::session::Host;
+use yp_answer::{MakeJob, TransferJob};
 use yp_board::{Catalog, PlainBoard, View};
 use yp_io::Peer;
-use yp_msgs::XfrStat;
-use yp_session::Host;
+use yp_messages::XfrStat;
 use yp_version::Version;
 
 /// A board for callers who are let to no MAKE, of maps that its own host is the master of. So no map is made or
@@ -25,7 +25,7 @@ pub struct FixedHost {
 }
 
 impl Model for FixedHost {
-    ghost use Rattle.yp_serving.specs.Served.{Fixed};
+    ghost use Rattle.yp_command_serve.specs.Served.{Fixed};
 
     ghost Value = { Fixed };
 
@@ -78,13 +78,13 @@ impl Host for FixedHost {
 
     ghost made = { λ job stat old new. (stat ≡ Rsrc) × (new ≡ old) };
 
-    fn make(&mut self, _job: Job) -> XfrStat {
+    fn make(&mut self, _job: MakeJob) -> XfrStat {
         XfrStat::Rsrc
     }
 
     ghost carried = { λ taken peer old new. new ≡ record old { transfers = next_count old.transfers } };
 
-    fn transfer(&mut self, _errand: &Errand<'_>, _peer: Peer) {
+    fn transfer(&mut self, _job: &TransferJob<'_>, _peer: Peer) {
         self.transfers = self.transfers.saturating_add(1);
     }
 

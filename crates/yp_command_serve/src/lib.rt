@@ -3,6 +3,8 @@
 //!
 //! Each takes the office of the outside, and ensures the one relation that says what it does to it: [`serve_once`],
 //! [`serve_session`] and [`tell_sample`]. The first two show a witness the wire behind each record that they answer.
+//!
+//! The command `serve`, for many callers at once, stands in [`serve`].
 #![tactic(auto)]
 
 mod calls;
@@ -10,6 +12,7 @@ mod end;
 mod host;
 mod once;
 mod sample;
+pub mod serve;
 mod session;
 mod tally;
 

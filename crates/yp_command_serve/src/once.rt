@@ -9,27 +9,28 @@ ghost use Rattle.yp_board.specs.Catalogues.{name_view};
 ghost use Rattle.yp_rpc.specs.Records.{Cut};
 ghost use Rattle.yp_answer.specs.Numbers.{record_max};
 ghost use Rattle.yp_answer.specs.Maps.{maps_of};
-ghost use Rattle.yp_session.specs.Wires.{wire_of, SeesMore};
-ghost use Rattle.yp_words.specs.Words.{row_view};
-ghost use Rattle.yp_office.specs.Rows.{row_status};
-ghost use Rattle.yp_office.specs.Seeing.{seeing, IsPassedOn};
-ghost use Rattle.yp_office.specs.Status.{IsTellable};
-ghost use Rattle.yp_serving.specs.Served.{ServesInput, IsWatched, IsStatusOf, serve_may_end};
-ghost use Rattle.yp_serving.specs.Once.{once_draft, once_name, once_version, rows_fault, word_of, IsRows};
-ghost use Rattle.yp_serving.specs.Once.{OnceDoes, once_may_end};
+ghost use Rattle.yp_answer.specs.session.Wires.{wire_of, SeesMore};
+ghost use Rattle.yp_command.specs.Words.{row_view};
+ghost use Rattle.yp_command.specs.office.Rows.{row_status};
+ghost use Rattle.yp_command.specs.office.Seeing.{seeing, IsPassedOn};
+ghost use Rattle.yp_command.specs.inside.office.Status.{IsTellable};
+ghost use Rattle.yp_command_serve.specs.Served.{ServesInput, IsWatched, IsStatusOf, serve_may_end};
+ghost use Rattle.yp_command_serve.specs.Once.{once_draft, once_name, once_version, rows_fault, word_of};
+ghost use Rattle.yp_command_serve.specs.inside.Once.{IsRows};
+ghost use Rattle.yp_command_serve.specs.Once.{OnceDoes, once_may_end};
 
 use crate::end::status_of_end;
 use crate::host::FixedHost;
 use std::alloc::Global;
 use std::random::RandomSource;
 use std::sync::Arc;
+use yp_answer::session::{CALLS_MAX, Session, Witness};
 use yp_board::{Catalog, MapName, PlainBoard};
+use yp_command::KeyValue;
+use yp_command::office::{Office, Status, status_of_row};
 use yp_io::{Clock, Dial, Disk, Inbox, NoMemory, Pair, Peer, Sink, Source, Texts};
-use yp_office::{Office, Status, status_of_row};
 use yp_rpc::laws;
-use yp_session::{CALLS_MAX, Session, Witness};
 use yp_version::{Version, VersionBuilder, VersionFault};
-use yp_words::KeyValue;
 
 /// The caller that is answered: nobody's address, and port 0.
 pub const NOBODY: Peer = Peer {

@@ -3,29 +3,29 @@
 ghost use Rattle.std.specs.Prelude.{◌≡◌, ◌<◌, ◌≤◌, ◌⊎◌, IsTrue, length, take, count_by, IfOk, IfErr, OnOk};
 ghost use Rattle.std.specs.Arc.{arc_value};
 ghost use Rattle.yp_version.specs.Limits.{key_max, value_max, rows_max};
-ghost use Rattle.yp_build.specs.Samples.{sampled};
+ghost use Rattle.yp_texts.specs.Samples.{sampled};
 ghost use Rattle.yp_answer.specs.Numbers.{record_max};
 ghost use Rattle.yp_answer.specs.Maps.{maps_of};
-ghost use Rattle.yp_office.specs.Seeing.{seeing, IsPassedOn};
-ghost use Rattle.yp_office.specs.Rows.{rows_rule};
-ghost use Rattle.yp_office.specs.Status.{IsTellable};
-ghost use Rattle.yp_serving.specs.Callers.{reply_to};
-ghost use Rattle.yp_serving.specs.Sample.{sample_maps, is_matched, reply_len, sample_all, tally_of, first_over};
-ghost use Rattle.yp_serving.specs.Sample.{SampleDoes, sample_may_end};
+ghost use Rattle.yp_command.specs.office.Seeing.{seeing, IsPassedOn};
+ghost use Rattle.yp_command.specs.office.Rows.{rows_rule};
+ghost use Rattle.yp_command.specs.inside.office.Status.{IsTellable};
+ghost use Rattle.yp_command_serve.specs.Callers.{reply_to};
+ghost use Rattle.yp_command_serve.specs.Sample.{sample_maps, is_matched, reply_len, sample_all, tally_of, first_over};
+ghost use Rattle.yp_command_serve.specs.Sample.{SampleDoes, sample_may_end};
 
 use crate::calls::{SAMPLE, ask, set_all, set_match, set_value};
 use crate::once::shown_on;
-use crate::tally::Tally;
+use crate::tally::SampleTally;
 use std::alloc::Global;
 use std::random::RandomSource;
 use std::sync::Arc;
 use yp_answer::RECORD_MAX;
 use yp_board::{MapName, PlainBoard};
-use yp_build::BuildFault;
+use yp_command::office::{Office, ROWS_RULE, Status};
 use yp_io::{
     Clock, Dial, Disk, Failed, Inbox, NoMemory, Sink, Source, Texts, write_through, zeros,
 };
-use yp_office::{Office, ROWS_RULE, Status};
+use yp_texts::BuildFault;
 use yp_version::Version;
 
 /// Whether MATCH has this value for this key.
@@ -102,7 +102,7 @@ fn all_len(
 }
 
 /// The numbers of a version that the board shows.
-fn tally(alloc: Global, board: PlainBoard, version: &Version) -> Result<Tally, NoMemory>
+fn tally(alloc: Global, board: PlainBoard, version: &Version) -> Result<SampleTally, NoMemory>
     requires { maps_of board ≡ sample_maps version.now }
     ensures { IfOk result (λ tally. tally ≡ tally_of version.now) }
 {
@@ -112,7 +112,7 @@ fn tally(alloc: Global, board: PlainBoard, version: &Version) -> Result<Tally, N
     let mut reply = Vec::new(alloc);
     let matched = count_matched(&mut board, version, &mut message, &mut piece, &mut reply)?;
     let all = all_len(&mut board, &mut message, &mut piece, &mut reply)?;
-    Ok(Tally {
+    Ok(SampleTally {
         rows: version.len(),
         body: version.body_len(),
         all,
@@ -132,7 +132,7 @@ fn board_of(alloc: Global, version: Arc<Version>) -> Result<PlainBoard, NoMemory
 }
 
 /// The numbers of a version.
-fn tally_of(alloc: Global, version: Version) -> Result<Tally, NoMemory>
+fn tally_of(alloc: Global, version: Version) -> Result<SampleTally, NoMemory>
     ensures { IfOk result (λ tally. tally ≡ tally_of version) }
 {
     let Ok(version) = Arc::new(alloc, version) else {
@@ -146,13 +146,18 @@ fn tally_of(alloc: Global, version: Version) -> Result<Tally, NoMemory>
 }
 
 /// The numbers of so many sample rows, or the status that tells why there are none.
-fn sampled(alloc: Global, rt: &impl RandomSource, start: u32, count: u32) -> Result<Tally, Status>
+fn sampled(
+    alloc: Global,
+    rt: &impl RandomSource,
+    start: u32,
+    count: u32,
+) -> Result<SampleTally, Status>
     ensures tally { IfOk result (λ tally. tally ≡ tally_of (sampled start count)) }
     ensures few { OnOk result (count ≤ rows_max) }
     ensures cause { IfErr result (λ status. ((rows_max < count) × (status ≡ Status.Rows first_over rows_rule))
         ⊎ ((count ≤ rows_max) × (status ≡ Status.NoMemory))) }
 {
-    let version = match yp_build::sample(alloc, rt, start, count) {
+    let version = match yp_texts::sample(alloc, rt, start, count) {
         Ok(version) => version,
         Err(BuildFault::TooManyRows { line }) => {
             return Err(Status::Rows {

@@ -3,11 +3,10 @@
 //! [`serve_maps`] takes the office of the outside and a listener, and ensures the one relation that says what it does
 //! to them: each connection that came was served, each datagram had its turn, and each map's file then stands for what
 //! was shown of it.
-#![tactic(auto)]
 
 mod clock;
+mod resources;
 mod serve;
-mod stock;
 mod tally;
 
 pub use serve::serve_maps;

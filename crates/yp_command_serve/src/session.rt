@@ -2,41 +2,44 @@
 
 ghost use Rattle.std.specs.Prelude.{◌≡◌, ◌≢◌, ℕ, ◌≤◌, None, IsTrue, All, map, length};
 ghost use Rattle.yp_io.specs.Counts.{HasRisen};
-ghost use Rattle.yp_slot.specs.Stands.{file_max};
-ghost use Rattle.yp_board.specs.Catalogues.{name_view, maps_max, catalog_fault};
-ghost use Rattle.yp_publish.specs.Keeping.{keeping_of};
-ghost use Rattle.yp_session.specs.Wires.{wire_of, SeesMore};
-ghost use Rattle.yp_server.specs.Locals.{telling_of};
-ghost use Rattle.yp_publish.specs.Begins.{plain_log};
-ghost use Rattle.yp_publish.specs.Grown.{AtDisk, LeavesOr};
-ghost use Rattle.yp_server.specs.Connections.{service_of};
-ghost use Rattle.yp_words.specs.Words.{IsNamed, host_view};
-ghost use Rattle.yp_office.specs.Disks.{names_of, disks_of, faults_of};
-ghost use Rattle.yp_serving.specs.Session.{Sessions, TellsEnd, HasMapNumber, connection_at};
-ghost use Rattle.yp_serving.specs.Session.{SessionDoes, session_may_end};
-ghost use Rattle.yp_office.specs.Seeing.{seeing, IsPassedOn};
-ghost use Rattle.yp_office.specs.Status.{IsTellable};
+ghost use Rattle.yp_map_file.specs.Stands.{file_max};
+ghost use Rattle.yp_board.specs.Catalogues.{name_view, maps_max};
+ghost use Rattle.yp_board.specs.inside.Catalogues.{catalog_fault};
+ghost use Rattle.yp_publisher.specs.Keeping.{keeping_of};
+ghost use Rattle.yp_answer.specs.session.Wires.{wire_of, SeesMore};
+ghost use Rattle.yp_host.specs.inside.Locals.{telling_by};
+ghost use Rattle.yp_publisher.specs.Begins.{plain_log};
+ghost use Rattle.yp_publisher.specs.Grown.{AtDisk, LeavesOr};
+ghost use Rattle.yp_host.specs.Connections.{service_of};
+ghost use Rattle.yp_command.specs.Words.{host_view};
+ghost use Rattle.yp_command.specs.inside.Words.{IsNamed};
+ghost use Rattle.yp_command.specs.office.Disks.{names_of, disks_of, faults_of};
+ghost use Rattle.yp_command_serve.specs.Session.{Sessions, connection_at};
+ghost use Rattle.yp_command_serve.specs.inside.Session.{TellsSessionEnd, HasMapNumber};
+ghost use Rattle.yp_command_serve.specs.Session.{SessionDoes, session_may_end};
+ghost use Rattle.yp_command.specs.office.Seeing.{seeing, IsPassedOn};
+ghost use Rattle.yp_command.specs.inside.office.Status.{IsTellable};
 
 use crate::end::status_of_end;
 use std::alloc::Global;
 use std::random::RandomSource;
+use yp_answer::session::{End, Witness};
 use yp_board::{Catalog, CatalogFault, MapName};
-use yp_io::{Clock, Dial, Disk, Inbox, NoMemory, Pair, Peer, Sink, Source, Texts};
-use yp_office::{
+use yp_command::HostWord;
+use yp_command::office::{
     Apart, NamedDisk, Office, Status, put_together, status_of_map, table_of, take_apart,
 };
-use yp_publish::OpenFault;
+use yp_host::{ConnectionResources, Desk, serve_wire};
+use yp_io::{Clock, Dial, Disk, Inbox, NoMemory, Pair, Peer, Sink, Source, Texts};
+use yp_publisher::OpenFault;
 use yp_rpc::laws;
-use yp_server::{Desk, Stock, serve_wire};
-use yp_session::{End, Witness};
-use yp_words::HostWord;
-use yp_xfr::Hosts;
+use yp_transfer::Hosts;
 
 /// The status of a connection that ended, or of one that wasn't served.
 fn status_of(alloc: Global, served: Result<End, OpenFault>, names: &[MapName]) -> Status
     requires number { HasMapNumber served (length names.now) }
     requires named { All IsNamed (map name_view names.now) }
-    ensures tells { TellsEnd served (map name_view names.now) result }
+    ensures tells { TellsSessionEnd served (map name_view names.now) result }
     ensures may_end { IsTrue (session_may_end result) }
     ensures tellable { IsTellable result }
 {
@@ -66,8 +69,7 @@ fn session_on<S: Source, K: Sink, D: Disk, A: Dial, T: Texts, C: Clock, W: Witne
     requires count { length (map name_view stores.items) ≤ maps_max }
     requires disks { names_of disks.old.items ≡ map name_view stores.items }
     ensures sessions { SeesMore (W.wires witness.old) (W.wires witness.new) (Sessions
-        (service_of (keeping_of D.history D.faults plain_log)
-        (telling_of T.Texts C.Clock A.past A.letters A.faults)
+        (service_of (keeping_of D.history D.faults plain_log) (telling_by T.Texts C.Clock A.Dial)
         (record { own = own.items; maps = map name_view stores.items }) peer) result.0
         (connection_at (wire_of S.Source K.Sink wire.old) disks.old.items desk)
         (connection_at (wire_of S.Source K.Sink wire.new) disks.new.items result.1)) }
@@ -97,9 +99,9 @@ fn session_on<S: Source, K: Sink, D: Disk, A: Dial, T: Texts, C: Clock, W: Witne
         Ok(apart) => apart,
         Err(NoMemory) => return (Status::NoMemory, desk),
     };
-    let stock = Stock { disks: apart, desk };
-    let (served, stock) = serve_wire(alloc, rt, catalog, peer, wire, stock, witness);
-    let Stock { disks: apart, desk } = stock;
+    let resources = ConnectionResources { disks: apart, desk };
+    let (served, resources) = serve_wire(alloc, rt, catalog, peer, wire, resources, witness);
+    let ConnectionResources { disks: apart, desk } = resources;
     let status = status_of(alloc, served, &names);
     let apart = Apart {
         names,
@@ -179,7 +181,7 @@ fn session_over<
     (status, office)
 }
 
-/// The same with the hosts that words name, from which maps are fetched.
+/// Serves a session, with the hosts that the command line names, from which maps are fetched.
 pub fn serve_session<
     S: Source,
     K: Sink,

@@ -1,13 +1,13 @@
 //! The numbers that `sample` tells, and their line.
 
 ghost use Rattle.std.specs.Prelude.{◌≡◌};
-ghost use Rattle.yp_serving.specs.Sample.{tally_line};
+ghost use Rattle.yp_command_serve.specs.Sample.{tally_line};
 
 use arrayvec::ArrayString;
 
 /// What is told of a map and of what is answered on it.
 #[derive(Clone, Copy, Debug, PartialEq, Eq)]
-pub struct Tally {
+pub struct SampleTally {
     /// The rows.
     pub rows: usize,
     /// The bytes of the stored body.
@@ -21,7 +21,7 @@ pub struct Tally {
 /// The most bytes of a line.
 const LINE_MAX: usize = 128;
 
-impl Tally {
+impl SampleTally {
     /// The line that tells them.
     pub fn line(&self) -> ArrayString<LINE_MAX>
         ensures { result.bytes ≡ tally_line self.now }

@@ -1,4 +1,4 @@
-//! Tests of the words of commands, and of commands as `yp_tools` runs them over memory: what memory alone can show of
+//! Tests of the words of commands, and of commands as `yp_program` runs them over memory: what memory alone can show of
 //! `once`, `session`, `sample`, the clients, `build`, `check`, `xfr` and `revnet`, as calls that fail and crashes; and
 //! the codes and notes of statuses. The rest is in examples/.
 #![tactic(auto)]

@@ -3,6 +3,9 @@
 use crate::given::{assert_same, bytes, try_rows};
 use std::alloc::Global;
 use std::process::Abort;
+use std::random::RandomSource;
+use std::sync::Wait;
+use std::thread::Threads;
 use yp_stage::{FAIR, Row, Words, strings_of, try_made};
 
 /// MATCH of `alpha` in the map `hosts.byname` of the domain `lab`, xid 1, in a record of 80 bytes.
@@ -51,55 +54,76 @@ fn first_match(rt: HostRuntime) {
 }
 
 /// The call of MATCH, each of its bytes in a fragment of its own, and an empty fragment after the tenth.
-fn in_many_fragments<R: Abort>(rt: &R, alloc: Global) -> Vec<u8> {
-    let call = bytes(rt, alloc, MATCH);
-    let mut all = Vec::new(alloc);
-    for (i, byte) in call.iter().enumerate() {
-        if i >= 4 {
-            let head: u32 = if i == 79 { 0x8000_0001 } else { 1 };
-            all.extend_from_slice(&head.to_be_bytes())
-                .expect(rt, "memory");
-            all.push(*byte).expect(rt, "memory");
-        }
-        if i == 13 {
-            all.extend_from_slice(&[0; 4]).expect(rt, "memory");
-        }
-    }
-    all
-}
+const FRAGMENTS: Words = &[
+    "0000000100 0000000100 0000000100 0000000101 0000000100 0000000100 0000000100 0000000100",
+    "0000000100 0000000100 00000000 0000000100 0000000102 0000000100 0000000101 0000000186",
+    "00000001a4 0000000100 0000000100 0000000100 0000000102 0000000100 0000000100 0000000100",
+    "0000000103 0000000100 0000000100 0000000100 0000000100 0000000100 0000000100 0000000100",
+    "0000000100 0000000100 0000000100 0000000100 0000000100 0000000100 0000000100 0000000100",
+    "0000000100 0000000100 0000000100 0000000100 0000000103 000000016c 0000000161 0000000162",
+    "0000000100 0000000100 0000000100 0000000100 000000010c 0000000168 000000016f 0000000173",
+    "0000000174 0000000173 000000012e 0000000162 0000000179 000000016e 0000000161 000000016d",
+    "0000000165 0000000100 0000000100 0000000100 0000000105 0000000161 000000016c 0000000170",
+    "0000000168 0000000161 0000000100 0000000100 8000000100",
+];
+
+const IN_FRAGMENTS: Row = Row {
+    input: FRAGMENTS,
+    ..ANSWERED
+};
+
+static FRAGMENT_PIECES: [Row; 3] = [
+    Row {
+        name: "fragments, in reads of one byte",
+        read: 1,
+        ..IN_FRAGMENTS
+    },
+    Row {
+        name: "fragments, in reads of three bytes",
+        read: 3,
+        ..IN_FRAGMENTS
+    },
+    IN_FRAGMENTS,
+];
 
 #[test]
 fn many_fragments(rt: HostRuntime) {
-    let alloc = rt.alloc();
-    let call = in_many_fragments(&rt, alloc);
+    let call = bytes(&rt, rt.alloc(), FRAGMENTS);
     assert_same(&rt, &call.len(), &384, "the length of the call");
-    let reply = bytes(&rt, alloc, &[REPLY]);
-    let words = strings_of(alloc, ANSWERED.words).expect(&rt, "memory");
-    for row in &PIECES {
-        try_made(alloc, &rt, row, &words, &call, &reply).expect(&rt, row.name);
-    }
+    try_rows(&rt, rt.alloc(), &FRAGMENT_PIECES);
 }
 
 /// The most bytes of a value.
 const VALUE_MAX: usize = 65_536;
 
-/// A row whose value is so many bytes `x`.
-fn long_row<R: Abort>(rt: &R, alloc: Global, key: &[u8], len: usize) -> String {
-    let mut row = String::new(alloc);
-    for byte in key {
-        row.push(char::from(*byte)).expect(rt, "memory");
-    }
-    row.push('=').expect(rt, "memory");
-    for _ in 0..len {
-        row.push('x').expect(rt, "memory");
-    }
-    row
+/// The longest value, all of whose bytes are `x`.
+fn longest_value<R: Abort>(rt: &R, alloc: Global) -> String {
+    "x".repeat(alloc, VALUE_MAX).expect(rt, "memory")
 }
 
-/// The heads of a fragment of 8,192 bytes, and of a last one of 32.
-const FULL: u32 = 0x0000_2000;
+/// The words of `once` without a row.
+fn once_words<R: Abort>(rt: &R, alloc: Global) -> Vec<String> {
+    strings_of(alloc, &["once", "lab/hosts.byname"]).expect(rt, "memory")
+}
 
-const LAST: u32 = 0x8000_0020;
+/// Runs these words over MATCH, and compares what comes with a row whose output is these bytes.
+fn try_words<R: Threads + Wait + RandomSource + Abort + Sync>(
+    rt: &R,
+    alloc: Global,
+    row: &Row,
+    words: &[String],
+    output: &[u8],
+) {
+    let call = bytes(rt, alloc, MATCH);
+    try_made(alloc, rt, row, words, &call, output).expect(rt, row.name);
+}
+
+/// What a fragment of 8,192 bytes has.
+static FULL: [u8; 8_192] = [b'x'; 8_192];
+
+fn add<R: Abort>(rt: &R, reply: &mut Vec<u8>, bytes: &[u8]) {
+    reply.extend_from_slice(bytes).expect(rt, "memory");
+}
 
 /// The reply to MATCH with the longest value: eight fragments of 8,192 bytes, the first of which begins with 32 bytes
 /// before the value, and one of 32.
@@ -109,60 +133,79 @@ fn reply_of_nine_fragments<R: Abort>(rt: &R, alloc: Global) -> Vec<u8> {
         alloc,
         &["00002000 00000001 00000001 00000000 00000000 00000000 00000000 00000001 00010000"],
     );
-    for i in 32..65_568 {
-        if i % 8192 == 0 {
-            let head = if i == 65_536 { LAST } else { FULL };
-            reply
-                .extend_from_slice(&head.to_be_bytes())
-                .expect(rt, "memory");
-        }
-        reply.push(b'x').expect(rt, "memory");
+    add(rt, &mut reply, &FULL[32..]);
+    for _ in 0..7 {
+        add(rt, &mut reply, &[0, 0, 0x20, 0]);
+        add(rt, &mut reply, &FULL);
     }
+    add(rt, &mut reply, &[0x80, 0, 0, 32]);
+    add(rt, &mut reply, &FULL[..32]);
     reply
 }
+
+/// A write takes 4,096 bytes at most.
+static LONGEST: Row = Row {
+    name: "the longest value",
+    ..ANSWERED
+};
 
 #[test]
 fn value_in_nine_fragments(rt: HostRuntime) {
     let alloc = rt.alloc();
-    let mut words = strings_of(alloc, &["once", "lab/hosts.byname"]).expect(&rt, "memory");
-    let row = long_row(&rt, alloc, b"alpha", VALUE_MAX);
-    words.push(row).expect(&rt, "memory");
-    let call = bytes(&rt, alloc, MATCH);
     let reply = reply_of_nine_fragments(&rt, alloc);
     assert_same(&rt, &reply.len(), &65_604, "the length of the reply");
-    // A write takes 4,096 bytes at most.
-    try_made(alloc, &rt, &ANSWERED, &words, &call, &reply).expect(&rt, "the longest value");
+    let value = longest_value(&rt, alloc);
+    let row = format!(in alloc; "alpha={value}").expect(&rt, "memory");
+    let mut words = once_words(&rt, alloc);
+    words.push(row).expect(&rt, "memory");
+    try_words(&rt, alloc, &LONGEST, &words, &reply);
+}
+
+/// Sixteen letters.
+static LETTERS: [char; 16] = [
+    'A', 'B', 'C', 'D', 'E', 'F', 'G', 'H', 'I', 'J', 'K', 'L', 'M', 'N', 'O', 'P',
+];
+
+/// Adds a row for each key of this letter and another one.
+fn add_rows<R: Abort>(rt: &R, alloc: Global, words: &mut Vec<String>, first: char, value: &str) {
+    for second in &LETTERS {
+        let row = format!(in alloc; "{first}{second}={value}").expect(rt, "memory");
+        words.push(row).expect(rt, "memory");
+    }
 }
 
 /// Words that serve 256 rows with keys of two letters and the longest values.
 fn longest_rows<R: Abort>(rt: &R, alloc: Global) -> Vec<String> {
-    let mut words = strings_of(alloc, &["once", "lab/hosts.byname"]).expect(rt, "memory");
-    for first in b'A'..=b'P' {
-        for second in b'A'..=b'P' {
-            let row = long_row(rt, alloc, &[first, second], VALUE_MAX);
-            words.push(row).expect(rt, "memory");
-        }
+    let value = longest_value(rt, alloc);
+    let mut words = once_words(rt, alloc);
+    for first in &LETTERS {
+        add_rows(rt, alloc, &mut words, *first, &value);
     }
     words
 }
 
 static REFUSED: Row = Row {
+    name: "258 words",
     code: 17,
     note: "yp: row 257 rule 4\n",
     ..FAIR
+};
+
+static TAKEN: Row = Row {
+    name: "257 words",
+    ..ANSWERED
 };
 
 #[test]
 fn rows_past_a_limit(rt: HostRuntime) {
     let alloc = rt.alloc();
     // The body of a version is at most 16,777,216 bytes: 20 at its front, and 65,548 of each row.
+    let reply = bytes(&rt, alloc, &[NO_KEY_REPLY]);
     let mut words = longest_rows(&rt, alloc);
     assert_same(&rt, &words.len(), &258, "the number of the words");
-    let call = bytes(&rt, alloc, MATCH);
-    let reply = bytes(&rt, alloc, &[NO_KEY_REPLY]);
-    try_made(alloc, &rt, &REFUSED, &words, &call, &[]).expect(&rt, "258 words");
+    try_words(&rt, alloc, &REFUSED, &words, &[]);
     let _ = words.pop();
-    try_made(alloc, &rt, &ANSWERED, &words, &call, &reply).expect(&rt, "257 words");
+    try_words(&rt, alloc, &TAKEN, &words, &reply);
 }
 
 /// The call twice: each record takes a read for its head and one for its body, and the end of the input one; each reply

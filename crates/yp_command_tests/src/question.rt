@@ -8,8 +8,8 @@ use std::random::RandomSource;
 use std::sync::Wait;
 use std::thread::Threads;
 use yp_io::{MemDial, MemDisk, MemInbox, MemSink, MemSource, MemTexts, SetClock};
+use yp_program::laws;
 use yp_stage::{FAIR, Row, try_reads, try_row, try_writes};
-use yp_tools::laws;
 
 /// ALL of a map, xid 1, up to the map, and a MATCH of hosts.byname, up to its key.
 const ALL: &str = "00000001 00000000 00000002 000186a4 00000002 00000008
@@ -195,13 +195,10 @@ fn try_output<R: Threads + Wait + RandomSource + Abort + Sync>(
 
 #[test]
 fn each_call_fails(rt: HostRuntime) {
-    let alloc = rt.alloc();
     for client in &CLIENTS {
-        try_wire(&rt, alloc, client, 2);
-        try_output(&rt, alloc, client);
+        try_wire(&rt, rt.alloc(), client, 2);
+        try_output(&rt, rt.alloc(), client);
     }
-    for client in &POLLS {
-        try_wire(&rt, alloc, client, 4);
-        try_output(&rt, alloc, client);
-    }
+    try_wire(&rt, rt.alloc(), &POLLS[0], 4);
+    try_output(&rt, rt.alloc(), &POLLS[0]);
 }

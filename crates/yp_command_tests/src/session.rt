@@ -1,10 +1,10 @@
 //! Sessions over memory: their calls, replies and files written out by hand, from RFC 5531, yp.x and docs/FORMATS.md.
 
-use crate::given::try_rows;
+use crate::given::{try_disks, try_rows};
 use yp_io::Peer;
 use yp_stage::{
-    After, Datagram, DiskCalls, FAIR, NEVER, Row, Stands, Words, try_alone, try_disk, try_reads,
-    try_stops, try_writes,
+    After, Datagram, DiskCalls, FAIR, NEVER, Row, Stands, Words, try_alone, try_reads, try_stops,
+    try_writes,
 };
 
 /// The file of the map with one row, at order 100, made by m1.
@@ -369,10 +369,7 @@ static STOPS: [DiskCalls; 2] = [
 
 #[test]
 fn disk_that_is_not_loaded(rt: HostRuntime) {
-    let alloc = rt.alloc();
-    for calls in &LOADS {
-        try_disk(alloc, &rt, calls).expect(&rt, calls.row.name);
-    }
+    try_disks(&rt, rt.alloc(), &LOADS);
 }
 
 #[test]
@@ -543,8 +540,5 @@ fn each_wire_call_of_a_transfer_fails(rt: HostRuntime) {
 
 #[test]
 fn each_disk_call_of_a_transfer_fails(rt: HostRuntime) {
-    let alloc = rt.alloc();
-    for calls in &TRANSFER_INSTALLS {
-        try_disk(alloc, &rt, calls).expect(&rt, calls.row.name);
-    }
+    try_disks(&rt, rt.alloc(), &TRANSFER_INSTALLS);
 }

@@ -1,24 +1,24 @@
 //! The codes of statuses, and the notes that tell them.
 
 ghost use Rattle.yp_board.specs.Catalogues.{name_view};
-ghost use Rattle.yp_words.specs.Words.{IsNamed};
-ghost use Rattle.yp_office.specs.Status.{IsTellable};
+ghost use Rattle.yp_command.specs.inside.Words.{IsNamed};
+ghost use Rattle.yp_command.specs.inside.office.Status.{IsTellable};
 
 use crate::given::assert_same;
 use std::alloc::Global;
 use std::process::Abort;
 use yp_board::MapName;
 use yp_io::MemSink;
-use yp_msgs::YpStat;
-use yp_tools::{Status, tell};
-use yp_xfr::XfrFault;
+use yp_messages::YpStat;
+use yp_program::{Status, tell};
+use yp_transfer::XfrFault;
 
 /// Compares the code of a status, and the note that tells it.
-fn try_note<R: Abort>(rt: &R, alloc: Global, status: &Status, code: u8, note: &[u8])
-    requires { IsTellable status.now }
+fn try_note<R: Abort>(rt: &R, alloc: Global, status: Status, code: u8, note: &[u8])
+    requires { IsTellable status }
 {
     let mut notes = MemSink::new(alloc, 4096, Vec::new(alloc));
-    tell(&mut notes, status);
+    tell(&mut notes, &status);
     assert_same(
         rt,
         &(status.code(), notes.taken()),
@@ -27,55 +27,69 @@ fn try_note<R: Abort>(rt: &R, alloc: Global, status: &Status, code: u8, note: &[
     );
 }
 
-#[test]
-fn codes_and_notes(rt: HostRuntime) {
-    let alloc = rt.alloc();
-    try_note(&rt, alloc, &Status::Done, 0, b"");
+fn try_plain_notes<R: Abort>(rt: &R, alloc: Global) {
+    try_note(rt, alloc, Status::Done, 0, b"");
+    try_note(rt, alloc, Status::ReadFault, 3, b"yp: read fault\n");
+    try_note(rt, alloc, Status::WriteFault, 4, b"yp: write fault\n");
+    try_note(rt, alloc, Status::NoMemory, 7, b"yp: no memory\n");
+}
+
+fn try_later_notes<R: Abort>(rt: &R, alloc: Global) {
+    try_note(rt, alloc, Status::OrderSpent, 18, b"yp: order spent\n");
+    try_note(rt, alloc, Status::ListenFault, 21, b"yp: listen fault\n");
+    try_note(rt, alloc, Status::InboxFault, 22, b"yp: inbox fault\n");
+    try_note(rt, alloc, Status::Enough, 23, b"yp: enough calls\n");
+}
+
+fn try_numbers<R: Abort>(rt: &R, alloc: Global) {
     let status = Status::Usage { word: 12 };
-    try_note(&rt, alloc, &status, 2, b"yp: usage at word 12\n");
-    try_note(&rt, alloc, &Status::ReadFault, 3, b"yp: read fault\n");
-    try_note(&rt, alloc, &Status::WriteFault, 4, b"yp: write fault\n");
-    let status = Status::Torn { at: u64::MAX };
+    try_note(rt, alloc, status, 2, b"yp: usage at word 12\n");
     let note = b"yp: torn record at 18446744073709551615\n";
-    try_note(&rt, alloc, &status, 5, note);
+    try_note(rt, alloc, Status::Torn { at: u64::MAX }, 5, note);
     let status = Status::TooLong { at: 80 };
-    try_note(&rt, alloc, &status, 6, b"yp: too long at 80\n");
-    try_note(&rt, alloc, &Status::NoMemory, 7, b"yp: no memory\n");
+    try_note(rt, alloc, status, 6, b"yp: too long at 80\n");
     let status = Status::Rows {
         row: u32::MAX,
         rule: 3,
     };
-    try_note(&rt, alloc, &status, 17, b"yp: row 4294967295 rule 3\n");
-    try_note(&rt, alloc, &Status::OrderSpent, 18, b"yp: order spent\n");
-    try_note(&rt, alloc, &Status::ListenFault, 21, b"yp: listen fault\n");
-    try_note(&rt, alloc, &Status::InboxFault, 22, b"yp: inbox fault\n");
-    try_note(&rt, alloc, &Status::Enough, 23, b"yp: enough calls\n");
+    try_note(rt, alloc, status, 17, b"yp: row 4294967295 rule 3\n");
+}
+
+#[test]
+fn codes_and_notes(rt: HostRuntime) {
+    try_plain_notes(&rt, rt.alloc());
+    try_later_notes(&rt, rt.alloc());
+    try_numbers(&rt, rt.alloc());
+}
+
+fn try_plain_answers<R: Abort>(rt: &R, alloc: Global) {
+    try_note(rt, alloc, Status::No, 1, b"");
+    try_note(rt, alloc, Status::Denied, 12, b"yp: refused by rpc\n");
+    try_note(rt, alloc, Status::DialFault, 15, b"yp: cannot dial\n");
 }
 
 #[test]
 fn answers_in_notes(rt: HostRuntime) {
     let alloc = rt.alloc();
-    try_note(&rt, alloc, &Status::No, 1, b"");
+    try_plain_answers(&rt, alloc);
     let status = Status::Yp { stat: YpStat::Vers };
-    try_note(&rt, alloc, &status, 11, b"yp: server says -8\n");
+    try_note(&rt, alloc, status, 11, b"yp: server says -8\n");
     let status = Status::Yp {
         stat: YpStat::Nomore,
     };
-    try_note(&rt, alloc, &status, 11, b"yp: server says 2\n");
-    try_note(&rt, alloc, &Status::Denied, 12, b"yp: refused by rpc\n");
+    try_note(&rt, alloc, status, 11, b"yp: server says 2\n");
     let status = Status::BadReply { at: 47 };
-    try_note(&rt, alloc, &status, 13, b"yp: bad reply at 47\n");
+    try_note(&rt, alloc, status, 13, b"yp: bad reply at 47\n");
     let status = Status::BadXid {
         want: u32::MAX,
         got: 0,
     };
     let note = b"yp: wrong xid 0 wanted 4294967295\n";
-    try_note(&rt, alloc, &status, 14, note);
-    try_note(&rt, alloc, &Status::DialFault, 15, b"yp: cannot dial\n");
+    try_note(&rt, alloc, status, 14, note);
 }
 
 /// Each fault of a transfer but want of memory, with the numbers of the push response program of yp.x.
-const FAULTS: [(XfrFault, &[u8]); 13] = [
+static FAULTS: [(XfrFault, &[u8]); 13] = [
     (XfrFault::Maddr, b"yp: transfer -5\n"),
     (XfrFault::Rpc, b"yp: transfer -4\n"),
     (XfrFault::Nodom, b"yp: transfer -2\n"),
@@ -111,8 +125,7 @@ const FAULTS: [(XfrFault, &[u8]); 13] = [
 #[test]
 fn transfers_in_notes(rt: HostRuntime) {
     for (fault, note) in &FAULTS {
-        let status = Status::Xfr { fault: *fault };
-        try_note(&rt, rt.alloc(), &status, 16, *note);
+        try_note(&rt, rt.alloc(), Status::Xfr { fault: *fault }, 16, *note);
     }
 }
 
@@ -134,17 +147,17 @@ fn names_in_notes(rt: HostRuntime) {
         rule: 9,
     };
     let note = b"yp: damaged lab/hosts.byname at 18446744073709551615 rule 9\n";
-    try_note(&rt, alloc, &status, 8, note);
+    try_note(&rt, alloc, status, 8, note);
     let map = hosts(&rt, alloc);
     let note = b"yp: no version of lab/hosts.byname\n";
-    try_note(&rt, alloc, &Status::NoVersion { map }, 9, note);
+    try_note(&rt, alloc, Status::NoVersion { map }, 9, note);
     let map = hosts(&rt, alloc);
     let note = b"yp: disk fault in lab/hosts.byname\n";
-    try_note(&rt, alloc, &Status::DiskFault { map }, 10, note);
+    try_note(&rt, alloc, Status::DiskFault { map }, 10, note);
     let master = Vec::from_slice(alloc, b"m\xff").expect(&rt, "memory");
     let note = b"yp: mastered by m\xff\n";
-    try_note(&rt, alloc, &Status::Refused { master }, 19, note);
+    try_note(&rt, alloc, Status::Refused { master }, 19, note);
     let map = hosts(&rt, alloc);
     let note = b"yp: generations spent in lab/hosts.byname\n";
-    try_note(&rt, alloc, &Status::GenerationsSpent { map }, 20, note);
+    try_note(&rt, alloc, Status::GenerationsSpent { map }, 20, note);
 }

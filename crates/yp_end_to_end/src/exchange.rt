@@ -5,6 +5,5 @@
 //! or the order of one version, on [`laws::query_prints_told`] and [`laws::run_is_printed`]. A run of a server on
 //! logs, as a session gives it, is such a server by [`laws::run_is_in_turn`], and what is printed then by
 //! [`laws::log_run_is_printed`].
-#![tactic(auto)]
 
 pub mod laws;

@@ -1,21 +1,22 @@
 -- A version that is built follows the one that is shown, and why one isn't built.
 use Rattle.std.proofs.Common.{◌≡◌, ◌⊎◌, inl, inr, ℕ, false, List, Option, Some, None, Result, Ok, Err, IfSome, OnOk, IfOk, IfErr, slice_get, refl, sym, subst}
 use Rattle.yp_version.specs.Versions.{MapVersion}
-use Rattle.yp_build.specs.declared.fault.BuildFault.{BuildFault}
-use Rattle.yp_build.specs.declared.fault.BuildFault.TheVariants as fault
-use Rattle.yp_build.specs.Builds.{order_max}
-use Rattle.yp_build.specs.After.{Basis, Material, HasFault, last_order, built_after}
-use Rattle.yp_publish.specs.declared.install.Origin.TheVariants.{Built}
-use Rattle.yp_publish.specs.Installs.{offer, not_following}
-use Rattle.yp_publish.specs.Standing.{Kept, OfMap}
-use Rattle.yp_answer.specs.Causes.{IsTold, is_of_another, HasBadRowAt, build_stat}
-use Rattle.yp_server.specs.Locals.{Telling}
-use Rattle.yp_server.specs.Anew.{IsUnbuilt}
+use Rattle.yp_texts.specs.declared.fault.BuildFault.{BuildFault}
+use Rattle.yp_texts.specs.declared.fault.BuildFault.TheVariants as fault
+use Rattle.yp_texts.specs.Builds.{order_max}
+use Rattle.yp_texts.specs.After.{Basis, Material, HasFault, last_order, built_after}
+use Rattle.yp_publisher.specs.declared.install.Origin.TheVariants.{Built}
+use Rattle.yp_publisher.specs.Installs.{offer, not_following}
+use Rattle.yp_publisher.specs.Standing.{StoredMap, OfMap}
+use Rattle.yp_answer.specs.Causes.{BasisIsTold, is_of_another, HasBadRowAt}
+use Rattle.yp_answer.specs.inside.Causes.{build_stat}
+use Rattle.yp_host.specs.Locals.{Telling}
+use Rattle.yp_host.specs.Anew.{IsUnbuilt}
 
 -- ---- why a version isn't built
 
 pub unbuilt : {E : Type 0} (telling : Telling E) (site : Basis) (material : Material) (why : BuildFault) (old new : E)
-    → is_of_another site ≡ false → IsTold (telling.told old) site material → (why ≡ fault.NoMemory) ⊎ (built_after site material ≡ Err (HasFault why))
+    → is_of_another site ≡ false → BasisIsTold (telling.told old) site material → (why ≡ fault.NoMemory) ⊎ (built_after site material ≡ Err (HasFault why))
     → (why ≡ fault.OrderSpent → last_order site.last ≡ Some order_max) → IsUnbuilt telling site (build_stat why) old new
 unbuilt telling site material why old new own told cause spent = by_fault why cause spent where
   row : (f : BuildFault) → (f ≡ fault.NoMemory → ⊥) → (f ≡ fault.OrderSpent → ⊥) → (f ≡ fault.NoMemory) ⊎ (built_after site material ≡ Err (HasFault f)) → HasBadRowAt (telling.told old) site
@@ -54,7 +55,7 @@ if_some (Some x) f h = f x h
 -- ---- at a map
 
 -- what follows the version that is shown of a map follows the one that is kept of it
-pub follows_at : {D : Type 0} (version : MapVersion) (own name : List ℕ) (now : Option MapVersion) (number : ℕ) (maps : List (Kept D))
+pub follows_at : {D : Type 0} (version : MapVersion) (own name : List ℕ) (now : Option MapVersion) (number : ℕ) (maps : List (StoredMap D))
     → not_following name (offer version Built false) now ≡ None → name ≡ own → OfMap number maps (λ kept. kept.version ≡ now)
     → OfMap number maps (λ kept. not_following own (offer version Built false) kept.version ≡ None)
 follows_at version own name now number maps follows same kept =

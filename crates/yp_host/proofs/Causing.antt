@@ -1,33 +1,33 @@
 -- Why a map that was made has its status.
 use Rattle.std.proofs.Common.{◌≡◌, inl, inr, ℕ, ◌<◌, true, List, [], ◌∷◌, ◌++◌, length, Option, Some, None, Err, IfSome, refl, sym, ◌∙◌, ap, subst, arith, is_some}
 use Rattle.std.proofs.lemmas.List.{append-nil, length-append}
-use Rattle.yp_msgs.specs.declared.transfer.XfrStat.{XfrStat}
-use Rattle.yp_msgs.specs.declared.transfer.XfrStat.TheVariants.{Succ, Age, Nomap, Nodom, Rsrc, Rpc, Maddr, Yperr, Badargs, Dbm, File, Skew, Clear, Force, Xfrerr, Refused}
+use Rattle.yp_messages.specs.declared.transfer.XfrStat.{XfrStat}
+use Rattle.yp_messages.specs.declared.transfer.XfrStat.TheVariants.{Succ, Age, Nomap, Nodom, Rsrc, Rpc, Maddr, Yperr, Badargs, Dbm, File, Skew, Clear, Force, Xfrerr, Refused}
 use Rattle.yp_version.specs.Versions.{MapVersion}
-use Rattle.yp_slot.specs.declared.fault.SlotFault.{SlotFault}
-use Rattle.yp_slot.specs.declared.fault.SlotFault.TheVariants as slot
+use Rattle.yp_map_file.specs.declared.fault.SlotFault.{SlotFault}
+use Rattle.yp_map_file.specs.declared.fault.SlotFault.TheVariants as slot
 use Rattle.yp_board.specs.Catalogues.{Catalogue}
 use Rattle.yp_board.specs.Logs.{Log, shown}
 use Rattle.yp_board.specs.Views.{IsFront}
-use Rattle.yp_build.specs.Kinds.{file_of}
-use Rattle.yp_build.specs.After.{HasFault, other_master, built_after, IsOver}
-use Rattle.yp_answer.specs.declared.make.Job.{Job}
-use Rattle.yp_publish.specs.declared.install.InstallFault.{InstallFault}
-use Rattle.yp_publish.specs.declared.install.InstallFault.TheVariants as install
-use Rattle.yp_publish.specs.Standing.{Published}
-use Rattle.yp_publish.specs.Rising.{Moment, with_shown}
-use Rattle.yp_publish.specs.Keeping.{Keeping}
-use Rattle.yp_publish.specs.Installs.{Installs}
-use Rattle.yp_publish.specs.Opens.{Opens}
+use Rattle.yp_texts.specs.Kinds.{file_of}
+use Rattle.yp_texts.specs.After.{HasFault, other_master, built_after, HasLaterOrder}
+use Rattle.yp_answer.specs.declared.make.MakeJob.{MakeJob}
+use Rattle.yp_publisher.specs.declared.install.InstallFault.{InstallFault}
+use Rattle.yp_publisher.specs.declared.install.InstallFault.TheVariants as install
+use Rattle.yp_publisher.specs.Standing.{Published}
+use Rattle.yp_publisher.specs.Rising.{PublisherState, with_shown}
+use Rattle.yp_publisher.specs.Keeping.{Keeping}
+use Rattle.yp_publisher.specs.Installs.{Installs}
+use Rattle.yp_publisher.specs.Opens.{Opens}
 use Rattle.yp_answer.specs.Causes.{IsAnew, IsCaused, basis_at, HasBadRowAt}
 use Rattle.yp_answer.specs.Causes as causes
-use Rattle.yp_session.specs.Hosts.{Fulfils, counts_after}
-use Rattle.yp_server.specs.Locals.{Local, Telling}
-use Rattle.yp_server.specs.Anew.{IsUnbuilt}
-use Rattle.yp_server.specs.Made.{open_stat, IsInstallStat, built_offer}
-use Rattle.yp_server.specs.Made.{site_at, Makes, OpensAndTries}
-use Rattle.yp_server.specs.Connections.{local_conduct}
-use Rattle.yp_server.proofs.Growing.{opened_front}
+use Rattle.yp_answer.specs.session.Hosts.{Fulfils, counts_after}
+use Rattle.yp_host.specs.Locals.{Local, Telling}
+use Rattle.yp_host.specs.Anew.{IsUnbuilt}
+use Rattle.yp_host.specs.Making.{open_stat, IsInstallStat, built_offer}
+use Rattle.yp_host.specs.Making.{site_at, Makes, OpensAndTries}
+use Rattle.yp_host.specs.Connections.{local_conduct}
+use Rattle.yp_host.proofs.Growing.{opened_front}
 
 -- a master is another's
 another : (master : Option (List ℕ)) → is_some master ≡ true → (name : List ℕ) × (master ≡ Some name)
@@ -40,7 +40,7 @@ longer log number version e =
     let same : length (log ++ (number, version) ∷ []) ≡ length log = ap length e in
     absurd (omega (arith, same, length-append log ((number, version) ∷ [])))
 
-module _ {D B E : Type 0} (keeping : Keeping D B) (telling : Telling E) (job : Job) (old new : Local D B E) where
+module _ {D B E : Type 0} (keeping : Keeping D B) (telling : Telling E) (job : MakeJob) (old new : Local D B E) where
   -- why it has a status
   abbrev Caused : XfrStat → Type 0
   Caused stat =
@@ -55,9 +55,9 @@ module _ {D B E : Type 0} (keeping : Keeping D B) (telling : Telling E) (job : J
 
   -- an order over the last one
   over : (version : MapVersion) (middle : Published D B) → Installs keeping job.map (built_offer version) middle new.published
-      → IsOver (shown job.map (keeping.log middle.board)) version
+      → HasLaterOrder (shown job.map (keeping.log middle.board)) version
   over version middle installs = elim (installs.rising refl) [
-    | inl e ↦ absurd (longer (keeping.log middle.board) job.map version (sym installs.log ∙ ap (λ (m : Moment). m.log) e))
+    | inl e ↦ absurd (longer (keeping.log middle.board) job.map version (sym installs.log ∙ ap (λ (m : PublisherState). m.log) e))
     | inr stores ↦ stores.0
   ]
 

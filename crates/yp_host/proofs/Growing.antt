@@ -5,9 +5,9 @@ use Rattle.std.proofs.lemmas.Option.{slice_get_cases}
 use Rattle.yp_version.specs.Versions.{MapVersion}
 use Rattle.yp_board.specs.Logs.{Log}
 use Rattle.yp_board.specs.Views.{IsFront}
-use Rattle.yp_publish.specs.Standing.{Kept, Published, At, IsSameElsewhere}
-use Rattle.yp_publish.specs.Opens.{IsAnother}
-use Rattle.yp_publish.specs.Rising.{with_shown}
+use Rattle.yp_publisher.specs.Standing.{StoredMap, Published, At, IsSameElsewhere}
+use Rattle.yp_publisher.specs.Opens.{IsAnother}
+use Rattle.yp_publisher.specs.Rising.{with_shown}
 
 -- a board that stays as it is
 pub front_same : {B : Type 0} (log : B → Log) (old new : B) → new ≡ old → IsFront (log old) (log new)
@@ -18,14 +18,14 @@ pub front_more : (number : ℕ) (version : MapVersion) (old new : Log) → new �
 front_more number version old new e = ((number, version) ∷ [], e)
 
 -- what holds of a map before and after a call, where there is that map
-pub at_one : {D Q : Type 0} (P : Kept D → Kept D → Type 0) (number : ℕ) (old new : List (Kept D))
-    → number < length old → length new ≡ length old → ((before after : Kept D) → P before after → Q) → At number old new P → Q
+pub at_one : {D Q : Type 0} (P : StoredMap D → StoredMap D → Type 0) (number : ℕ) (old new : List (StoredMap D))
+    → number < length old → length new ≡ length old → ((before after : StoredMap D) → P before after → Q) → At number old new P → Q
 at_one {D} P number old new lt count f h =
     elim (slice_get_cases old number).1 [
       | inl here ↦ elim (slice_get_cases new number).1 [
         | inl there ↦
-            let first : IfSome (slice_get new number) (P here.0) = subst (λ (o : Option (Kept D)). IfSome o (λ before. IfSome (slice_get new number) (P before))) here.2 h in
-            f here.0 there.0 (subst (λ (o : Option (Kept D)). IfSome o (P here.0)) there.2 first)
+            let first : IfSome (slice_get new number) (P here.0) = subst (λ (o : Option (StoredMap D)). IfSome o (λ before. IfSome (slice_get new number) (P before))) here.2 h in
+            f here.0 there.0 (subst (λ (o : Option (StoredMap D)). IfSome o (P here.0)) there.2 first)
         | inr past ↦ let le : length new ≤ number = past.0 in absurd (omega arith)
       ]
       | inr past ↦ let le : length old ≤ number = past.0 in absurd (omega arith)

@@ -3,38 +3,38 @@ use Rattle.std.proofs.Common.{◌≡◌, inl, inr, Ok, Err, None, Some, Result, 
 use Rattle.std.specs.List.{Contains, AllByRecursion}
 use Rattle.std.proofs.lemmas.List.Elements.{recursion_from_All, All-contains_itself}
 use Rattle.yp_io.specs.Counts.{next_count}
-use Rattle.yp_msgs.specs.declared.transfer.XfrStat.{XfrStat}
+use Rattle.yp_messages.specs.declared.transfer.XfrStat.{XfrStat}
 use Rattle.yp_version.specs.Versions.{MapVersion}
 use Rattle.yp_board.specs.Catalogues.{Catalogue}
 use Rattle.yp_board.specs.Logs.{shown}
-use Rattle.yp_build.specs.Kinds.{file_of}
-use Rattle.yp_publish.specs.Standing.{Published}
+use Rattle.yp_texts.specs.Kinds.{file_of}
+use Rattle.yp_publisher.specs.Standing.{Published}
 use Rattle.yp_answer.specs.declared.procedure.Path.TheVariants.{Stream}
 use Rattle.yp_answer.specs.Answers.{StepsWhere}
-use Rattle.yp_answer.specs.declared.make.Job.{Job}
+use Rattle.yp_answer.specs.declared.make.MakeJob.{MakeJob}
 use Rattle.yp_answer.specs.Maps.{maps_of}
 use Rattle.yp_answer.specs.Transfer.{Taken}
 use Rattle.yp_answer.specs.Reply.{Response, Silence, Bytes, Takes, Open, reply, asks}
-use Rattle.yp_session.specs.declared.session.End.{End}
-use Rattle.yp_session.specs.declared.session.End.TheVariants.{Clean, Torn, TooLong, ReadFault, WriteFault, Enough}
-use Rattle.yp_session.specs.Wires.{Wire}
-use Rattle.yp_session.specs.Hosts.{Turn, CarriesWhere, Carries, Link}
-use Rattle.yp_session.specs.Runs.{Dialogue, Chain, Ends, unsent, Runs}
-use Rattle.yp_server.specs.Locals.{Local, Telling, IsUsed, seen_of}
-use Rattle.yp_build.specs.After.{Basis}
+use Rattle.yp_answer.specs.declared.session.session.End.{End}
+use Rattle.yp_answer.specs.declared.session.session.End.TheVariants.{Clean, Torn, TooLong, ReadFault, WriteFault, Enough}
+use Rattle.yp_answer.specs.session.Wires.{Wire}
+use Rattle.yp_answer.specs.session.Hosts.{Turn, CarriesWhere, Carries, Link}
+use Rattle.yp_answer.specs.session.Runs.{Dialogue, Chain, Ends, unsent, Runs}
+use Rattle.yp_host.specs.Locals.{Local, Telling, IsUsed, seen_of}
+use Rattle.yp_texts.specs.After.{Basis}
 use Rattle.std.specs.Prelude.{IsTrue}
-use Rattle.yp_publish.specs.declared.install.Installed.{Installed}
-use Rattle.yp_xfr.specs.declared.fault.XfrFault.{XfrFault}
-use Rattle.yp_xfr.specs.HostTable.{HostList}
-use Rattle.yp_xfr.specs.Fetching.{Outcome}
-use Rattle.yp_xfr.specs.Installing.{OpensAndOffers, marking, fetched_offer}
-use Rattle.yp_xfr.specs.Transfers.{InstallsOutcome}
-use Rattle.yp_server.specs.Carried.{Carried, request_for}
+use Rattle.yp_publisher.specs.declared.install.Installed.{Installed}
+use Rattle.yp_transfer.specs.declared.fault.XfrFault.{XfrFault}
+use Rattle.yp_transfer.specs.HostTable.{HostList}
+use Rattle.yp_transfer.specs.Fetching.{FetchOutcome}
+use Rattle.yp_transfer.specs.Installing.{OpensAndOffers, marking, fetched_offer}
+use Rattle.yp_transfer.specs.Transfers.{InstallsOutcome}
+use Rattle.yp_host.specs.Transferring.{MapIsTransferred, request_for}
 use Rattle.yp_answer.specs.Causes.{Told, IsAnew, TellsSame}
-use Rattle.yp_build.specs.After.{basis_of}
-use Rattle.yp_server.specs.Made.{Made, OpensAndTries}
-use Rattle.yp_server.specs.Connections.{Service, IsCalledFor, Passage, passage_of, passages_of, GaveVersion, IsGiven, local_conduct}
-use Rattle.yp_server.proofs.Passing.{Respects, Sound, Passes, passes_none, passes_then, stays_on, opens_on, offered_on, fetched_on}
+use Rattle.yp_texts.specs.After.{basis_of}
+use Rattle.yp_host.specs.Making.{MapIsMade, OpensAndTries}
+use Rattle.yp_host.specs.Connections.{Service, IsCalledFor, Transition, transition_of, transitions_of, GaveVersion, IsGiven, local_conduct}
+use Rattle.yp_host.proofs.Passing.{Respects, Sound, Passes, passes_none, passes_then, stays_on, opens_on, offered_on, fetched_on}
 
 -- ---- desks
 
@@ -63,8 +63,8 @@ anew_before first now site version same anew = record {
   built = anew.built;
 }
 
-module _ {D B E : Type 0} (service : Service D B E) (turns : List Turn) (passages : List (Passage (Local D B E))) (first : Told) (table : HostList) where
-  pub respects : Respects (IsGiven service turns passages first table)
+module _ {D B E : Type 0} (service : Service D B E) (turns : List Turn) (transitions : List (Transition (Local D B E))) (first : Told) (table : HostList) where
+  pub respects : Respects (IsGiven service turns transitions first table)
   respects number log other version e given = elim given [
     | inl made ↦ inl (record {
       job = made.job;
@@ -75,7 +75,7 @@ module _ {D B E : Type 0} (service : Service D B E) (turns : List Turn) (passage
     | inr fetched ↦ inr (record {
       taken = fetched.taken;
       of_map = fetched.of_map;
-      passage = fetched.passage;
+      transition = fetched.transition;
       among = fetched.among;
       fetched = fetched.fetched;
       gave = fetched.gave;
@@ -85,14 +85,14 @@ module _ {D B E : Type 0} (service : Service D B E) (turns : List Turn) (passage
 
   -- what holds of the host at each moment
   pub record SoundHost (host : Local D B E) : Type 0 where
-    pub maps : Sound service.keeping (IsGiven service turns passages first table) respects host.published
+    pub maps : Sound service.keeping (IsGiven service turns transitions first table) respects host.published
     pub catalogue : host.published.catalogue ≡ service.catalogue
     pub told : TellsSame first (service.telling.told host.desk)
     pub hosts : service.telling.hosts host.desk ≡ table
 
   -- what holds of it at two moments
   pub record PassesHost (old new : Local D B E) : Type 0 where
-    pub maps : Passes service.keeping (IsGiven service turns passages first table) respects old.published new.published
+    pub maps : Passes service.keeping (IsGiven service turns transitions first table) respects old.published new.published
     pub desk : IsUsed service.telling old.desk new.desk
 
   -- it was so before, and passed so
@@ -102,20 +102,20 @@ module _ {D B E : Type 0} (service : Service D B E) (turns : List Turn) (passage
   goes_nowhere : (old new : Local D B E) → new ≡ old → SoundHost old → GoesOnTo old new
   goes_nowhere old new e sound =
       subst (λ (h : Local D B E). GoesOnTo old h) (sym e)
-      (sound, record { maps = passes_none service.keeping (IsGiven service turns passages first table) respects old.published; desk = used_never service.telling old.desk })
+      (sound, record { maps = passes_none service.keeping (IsGiven service turns transitions first table) respects old.published; desk = used_never service.telling old.desk })
 
   goes_twice : (old middle new : Local D B E) → GoesOnTo old middle → GoesOnTo middle new → GoesOnTo old new
   goes_twice old middle new f s = (
     s.0,
     record {
-      maps = passes_then service.keeping (IsGiven service turns passages first table) respects old.published middle.published new.published f.1.maps s.1.maps;
+      maps = passes_then service.keeping (IsGiven service turns transitions first table) respects old.published middle.published new.published f.1.maps s.1.maps;
       desk = used_then service.telling old.desk middle.desk new.desk f.1.desk s.1.desk;
     },
   )
 
   -- a host whose maps went on, over a desk that tells the same
   with_maps : (old new : Local D B E) → SoundHost old → IsUsed service.telling old.desk new.desk
-      → Sound service.keeping (IsGiven service turns passages first table) respects new.published × Passes service.keeping (IsGiven service turns passages first table) respects old.published new.published
+      → Sound service.keeping (IsGiven service turns transitions first table) respects new.published × Passes service.keeping (IsGiven service turns transitions first table) respects old.published new.published
       → GoesOnTo old new
   with_maps old new sound same went = (
     record { maps = went.0; catalogue = went.1.catalogue ∙ sound.catalogue; told = told_then sound.told same.tells; hosts = same.hosts ∙ sound.hosts },
@@ -124,10 +124,10 @@ module _ {D B E : Type 0} (service : Service D B E) (turns : List Turn) (passage
 
   -- ---- a map that is made
 
-  is_made : (job : Job) (old : Local D B E) (middle : Published D B) (version : MapVersion)
+  is_made : (job : MakeJob) (old : Local D B E) (middle : Published D B) (version : MapVersion)
       → IsCalledFor service turns job → SoundHost old → middle.catalogue ≡ old.published.catalogue
       → IsAnew (service.telling.told old.desk) (basis_of job.kind middle.catalogue.own None (shown job.map (service.keeping.log middle.board))) version
-      → IsGiven service turns passages first table job.map (service.keeping.log middle.board) version
+      → IsGiven service turns transitions first table job.map (service.keeping.log middle.board) version
   is_made job old middle version called sound same anew = inl (record {
     job = job;
     of_map = refl;
@@ -137,11 +137,11 @@ module _ {D B E : Type 0} (service : Service D B E) (turns : List Turn) (passage
         (subst (λ (k : Catalogue). IsAnew (service.telling.told old.desk) (basis_of job.kind k.own None (shown job.map (service.keeping.log middle.board))) version) (same ∙ sound.catalogue) anew);
   })
 
-  opened_on : (stat : XfrStat) (job : Job) (old new : Local D B E) → IsCalledFor service turns job → SoundHost old
+  opened_on : (stat : XfrStat) (job : MakeJob) (old new : Local D B E) → IsCalledFor service turns job → SoundHost old
       → job.map < length old.published.maps → OpensAndTries service.keeping service.telling job stat old new
-      → Sound service.keeping (IsGiven service turns passages first table) respects new.published × Passes service.keeping (IsGiven service turns passages first table) respects old.published new.published
+      → Sound service.keeping (IsGiven service turns transitions first table) respects new.published × Passes service.keeping (IsGiven service turns transitions first table) respects old.published new.published
   opened_on stat job old new called sound kept step =
-      let Is = IsGiven service turns passages first table in
+      let Is = IsGiven service turns transitions first table in
       let opened = opens_on service.keeping Is respects job.map old.published step.middle kept sound.maps step.opens in
       elim step.tries [
         | inl none ↦ subst (λ (p : Published D B). Sound service.keeping Is respects p × Passes service.keeping Is respects old.published p) (sym none.1) opened
@@ -152,11 +152,11 @@ module _ {D B E : Type 0} (service : Service D B E) (turns : List Turn) (passage
             (installed.0, passes_then service.keeping Is respects old.published step.middle new.published opened.1 installed.1)
       ]
 
-  made_on : (stat : XfrStat) (job : Job) (old new : Local D B E) → IsCalledFor service turns job → SoundHost old
-      → Made service.keeping service.telling job stat old new → GoesOnTo old new
+  made_on : (stat : XfrStat) (job : MakeJob) (old new : Local D B E) → IsCalledFor service turns job → SoundHost old
+      → MapIsMade service.keeping service.telling job stat old new → GoesOnTo old new
   made_on stat job old new called sound made =
       with_maps old new sound made.1.desk (elim made.1.ends [
-        | inl stays ↦ stays_on service.keeping (IsGiven service turns passages first table) respects job.map stays.fault old.published new.published sound.maps stays.stays
+        | inl stays ↦ stays_on service.keeping (IsGiven service turns transitions first table) respects job.map stays.fault old.published new.published sound.maps stays.stays
         | inr tries ↦ opened_on stat job old new called sound made.0 tries
       ])
 
@@ -164,21 +164,21 @@ module _ {D B E : Type 0} (service : Service D B E) (turns : List Turn) (passage
 
   -- a record whose transfer gave this version
   record Fetched (taken : Taken) (version : MapVersion) : Type 0 where
-    passage : Passage (Local D B E)
-    among : Contains passages passage
-    gave : GaveVersion service table taken version passage
+    transition : Transition (Local D B E)
+    among : Contains transitions transition
+    gave : GaveVersion service table taken version transition
 
   is_fetched : (taken : Taken) (middle : Published D B) (version : MapVersion) → Fetched taken version
-      → IsGiven service turns passages first table taken.map (service.keeping.log middle.board) (fetched_offer service.keeping taken.map version false None middle).version
+      → IsGiven service turns transitions first table taken.map (service.keeping.log middle.board) (fetched_offer service.keeping taken.map version false None middle).version
   is_fetched taken middle version fetched =
-      inr (record { taken = taken; of_map = refl; passage = fetched.passage; among = fetched.among; fetched = version; gave = fetched.gave; marked = refl })
+      inr (record { taken = taken; of_map = refl; transition = fetched.transition; among = fetched.among; fetched = version; gave = fetched.gave; marked = refl })
 
   offers_fetched : (taken : Taken) (result : Result Installed XfrFault) (old new : Local D B E) (version : MapVersion)
       → Fetched taken version → SoundHost old → taken.map < length old.published.maps
       → OpensAndOffers service.keeping taken.map version false None result old.published new.published
-      → Sound service.keeping (IsGiven service turns passages first table) respects new.published × Passes service.keeping (IsGiven service turns passages first table) respects old.published new.published
+      → Sound service.keeping (IsGiven service turns transitions first table) respects new.published × Passes service.keeping (IsGiven service turns transitions first table) respects old.published new.published
   offers_fetched taken result old new version fetched sound kept step =
-      let Is = IsGiven service turns passages first table in
+      let Is = IsGiven service turns transitions first table in
       let opened = opens_on service.keeping Is respects taken.map old.published step.middle kept sound.maps step.opens in
       let within : taken.map < length step.middle.maps = subst (λ (n : ℕ). taken.map < n) (sym step.opens.upheld.elsewhere.count) kept in
       let given = is_fetched taken step.middle version fetched in
@@ -186,26 +186,26 @@ module _ {D B E : Type 0} (service : Service D B E) (turns : List Turn) (passage
       within opened.0 step.opens.level refl given step.offers in
       (installed.0, passes_then service.keeping Is respects old.published step.middle new.published opened.1 installed.1)
 
-  installs_fetched : (taken : Taken) (outcome : Outcome) (result : Result Installed XfrFault) (old new : Local D B E)
+  installs_fetched : (taken : Taken) (outcome : FetchOutcome) (result : Result Installed XfrFault) (old new : Local D B E)
       → ((version : MapVersion) → outcome ≡ Ok version → Fetched taken version) → SoundHost old → taken.map < length old.published.maps
       → InstallsOutcome service.keeping (request_for taken) outcome result old.published new.published
-      → Sound service.keeping (IsGiven service turns passages first table) respects new.published × Passes service.keeping (IsGiven service turns passages first table) respects old.published new.published
+      → Sound service.keeping (IsGiven service turns transitions first table) respects new.published × Passes service.keeping (IsGiven service turns transitions first table) respects old.published new.published
   installs_fetched taken (Err fault) result old new fetched sound kept installs =
-      let Is = IsGiven service turns passages first table in
+      let Is = IsGiven service turns transitions first table in
       subst (λ (p : Published D B). Sound service.keeping Is respects p × Passes service.keeping Is respects old.published p) (sym installs.1)
       (sound.maps, passes_none service.keeping Is respects old.published)
   installs_fetched taken (Ok version) result old new fetched sound kept installs = elim installs [
-    | inl stays ↦ stays_on service.keeping (IsGiven service turns passages first table) respects taken.map stays.why old.published new.published sound.maps stays.stays
+    | inl stays ↦ stays_on service.keeping (IsGiven service turns transitions first table) respects taken.map stays.why old.published new.published sound.maps stays.stays
     | inr step ↦ offers_fetched taken result old new version (fetched version refl) sound kept step
   ]
 
   carried_out : (taken : Taken) (turn : Turn) (before old new : Local D B E) → turn.taken ≡ Some taken → IsTrue turn.flushed
-      → Contains passages (passage_of before turn new) → old ≡ record before { asked = old.asked } → SoundHost old
-      → Carried service.keeping service.telling taken service.peer old new → GoesOnTo old new
+      → Contains transitions (transition_of before turn new) → old ≡ record before { asked = old.asked } → SoundHost old
+      → MapIsTransferred service.keeping service.telling taken service.peer old new → GoesOnTo old new
   carried_out taken turn before old new took flushed among middle_is sound step =
       let done = step.transfers in
       let fetched : (version : MapVersion) → done.transfers.outcome ≡ Ok version → Fetched taken version = λ version gave. record {
-        passage = passage_of before turn new;
+        transition = transition_of before turn new;
         among = among;
         gave = record { took = took; flushed = flushed; middle = old; middle_is = middle_is; hosts_are = sound.hosts; carried = step; gave = gave };
       } in
@@ -213,7 +213,7 @@ module _ {D B E : Type 0} (service : Service D B E) (turns : List Turn) (passage
 
   -- it is carried out where its reply was flushed
   carried_where : (flushed : Bool) (taken : Taken) (turn : Turn) (before old new : Local D B E) → turn.flushed ≡ flushed → turn.taken ≡ Some taken
-      → (IsTrue flushed → Contains passages (passage_of before turn new)) → old ≡ record before { asked = old.asked } → SoundHost old
+      → (IsTrue flushed → Contains transitions (transition_of before turn new)) → old ≡ record before { asked = old.asked } → SoundHost old
       → CarriesWhere flushed (local_conduct service.keeping service.telling) taken service.peer old new → GoesOnTo old new
   carried_where true taken turn before old new flushed took among middle_is sound step =
       carried_out taken turn before old new took flushed (among refl) middle_is sound step.carried
@@ -225,7 +225,7 @@ module _ {D B E : Type 0} (service : Service D B E) (turns : List Turn) (passage
   counted old new e sound =
       subst (λ (h : Local D B E). GoesOnTo old h) (sym e)
       (with_maps old (record old { asked = next_count old.asked }) sound (used_never service.telling old.desk)
-      (sound.maps, passes_none service.keeping (IsGiven service turns passages first table) respects old.published))
+      (sound.maps, passes_none service.keeping (IsGiven service turns transitions first table) respects old.published))
 
   stepped_on : (asked : Bool) (old new : Local D B E) → SoundHost old
       → StepsWhere asked (λ old new. new ≡ record old { asked = next_count old.asked }) (seen_of service.keeping.log) old new → GoesOnTo old new
@@ -239,7 +239,7 @@ module _ {D B E : Type 0} (service : Service D B E) (turns : List Turn) (passage
   asked_alone false old new step = subst (λ (h : Local D B E). h ≡ record old { asked = h.asked }) (sym step) refl
 
   carried_on : (response : Response) (turn : Turn) (before old new : Local D B E) → Contains turns turn
-      → (IsTrue turn.flushed → Contains passages (passage_of before turn new)) → old ≡ record before { asked = old.asked } → SoundHost old
+      → (IsTrue turn.flushed → Contains transitions (transition_of before turn new)) → old ≡ record before { asked = old.asked } → SoundHost old
       → reply Stream (maps_of (seen_of service.keeping.log old)) service.peer turn.message ≡ response
       → Carries (local_conduct service.keeping service.telling) service.peer response turn old new → GoesOnTo old new
   carried_on Silence turn before old new among passed middle_is sound is carried = goes_nowhere old new carried.3 sound
@@ -251,7 +251,7 @@ module _ {D B E : Type 0} (service : Service D B E) (turns : List Turn) (passage
       (turn, xid, record { among = among; maps = maps_of (seen_of service.keeping.log old); of_catalogue = sound.catalogue; gets = is }) in
       made_on carried.0 job old new called sound carried.4.made
 
-  linked_on : (turn : Turn) (old new : Local D B E) → Contains turns turn → (IsTrue turn.flushed → Contains passages (passage_of old turn new)) → SoundHost old
+  linked_on : (turn : Turn) (old new : Local D B E) → Contains turns turn → (IsTrue turn.flushed → Contains transitions (transition_of old turn new)) → SoundHost old
       → Link (local_conduct service.keeping service.telling) Stream service.peer turn old new → GoesOnTo old new
   linked_on turn old new among passed sound link =
       let stepped = stepped_on (asks Stream turn.message) old link.mid sound link.step in
@@ -260,7 +260,7 @@ module _ {D B E : Type 0} (service : Service D B E) (turns : List Turn) (passage
       goes_twice old link.mid new stepped carried
 
   chain_on : (answered : List (Turn × Dialogue (Local D B E))) (rest : List Turn) (old new : Dialogue (Local D B E))
-      → AllByRecursion (Contains turns) (map (λ one. one.0) answered ++ rest) → AllByRecursion (Contains passages) (passages_of old answered) → SoundHost old.host
+      → AllByRecursion (Contains turns) (map (λ one. one.0) answered ++ rest) → AllByRecursion (Contains transitions) (transitions_of old answered) → SoundHost old.host
       → Chain (local_conduct service.keeping service.telling) service.peer answered old new → GoesOnTo old.host new.host × AllByRecursion (Contains turns) rest
   chain_on [] rest old new among passed sound chain = (goes_nowhere old.host new.host (ap (λ (d : Dialogue (Local D B E)). d.host) chain) sound, among)
   chain_on (one ∷ answered) rest old new among passed sound chain =
@@ -269,7 +269,7 @@ module _ {D B E : Type 0} (service : Service D B E) (turns : List Turn) (passage
       (goes_twice old.host one.1.host new.host first later.0, later.1)
 
   -- a reply that isn't flushed has no transfer carried out behind it
-  unflushed : (turn : Turn) (old new : Local D B E) → turn.flushed ≡ false → IsTrue turn.flushed → Contains passages (passage_of old turn new)
+  unflushed : (turn : Turn) (old new : Local D B E) → turn.flushed ≡ false → IsTrue turn.flushed → Contains transitions (transition_of old turn new)
   unflushed turn old new e flushed = absurd (cc (e, flushed))
 
   ends_on : (most count : ℕ) (end : End) (last new : Dialogue (Local D B E)) (ends : Ends (local_conduct service.keeping service.telling) service.peer most count end last new)
@@ -285,14 +285,14 @@ module _ {D B E : Type 0} (service : Service D B E) (turns : List Turn) (passage
 -- the whole run of a session
 pub session_on : {D B E : Type 0} (service : Service D B E) (first : Told) (table : HostList) (most : ℕ) (end : End) (old new : Dialogue (Local D B E)) (wires : List Wire)
     (runs : Runs (local_conduct service.keeping service.telling) service.peer most end old new wires)
-    → SoundHost service runs.turns (passages_of old runs.answered) first table old.host → GoesOnTo service runs.turns (passages_of old runs.answered) first table old.host new.host
+    → SoundHost service runs.turns (transitions_of old runs.answered) first table old.host → GoesOnTo service runs.turns (transitions_of old runs.answered) first table old.host new.host
 session_on service first table most end old new wires runs sound =
-    let passages = passages_of old runs.answered in
+    let transitions = transitions_of old runs.answered in
     let all = recursion_from_All (Contains runs.turns) runs.turns (All-contains_itself runs.turns) in
-    let passed = recursion_from_All (Contains passages) passages (All-contains_itself passages) in
+    let passed = recursion_from_All (Contains transitions) transitions (All-contains_itself transitions) in
     let rest = unsent (local_conduct service.keeping service.telling) service.peer most (length runs.answered) end runs.last new runs.ends in
     let among : AllByRecursion (Contains runs.turns) (map (λ one. one.0) runs.answered ++ rest) =
     subst (λ (turns : List Turn). AllByRecursion (Contains runs.turns) turns) runs.all all in
-    let chain = chain_on service runs.turns passages first table runs.answered rest old runs.last among passed sound runs.chain in
-    goes_twice service runs.turns passages first table old.host runs.last.host new.host chain.0
-    (ends_on service runs.turns passages first table most (length runs.answered) end runs.last new runs.ends chain.1 chain.0.0)
+    let chain = chain_on service runs.turns transitions first table runs.answered rest old runs.last among passed sound runs.chain in
+    goes_twice service runs.turns transitions first table old.host runs.last.host new.host chain.0
+    (ends_on service runs.turns transitions first table most (length runs.answered) end runs.last new runs.ends chain.1 chain.0.0)

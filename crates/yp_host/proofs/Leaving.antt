@@ -2,8 +2,8 @@
 use Rattle.std.proofs.Common.{◌≡◌, ◌⊎◌, inl, inr, ⊎_elim, ℕ, zero, suc, List, [], ◌∷◌, length, slice_get, All, Option, Some, None, IfSome, IsSome, option_map, refl, sym, subst}
 use Rattle.std.specs.List.{AllZip}
 use Rattle.std.proofs.lemmas.Option.{slice_get_cases}
-use Rattle.yp_io.specs.Disk.{History, GoesOn, LeavesOnly, MayLeave}
-use Rattle.yp_io.specs.DiskLaws.{stays, only_now, counts_now, goes_on, splits}
+use Rattle.yp_io.specs.Disk.{History, HistoryGoesOn, LeavesOnly, MayLeave}
+use Rattle.yp_io.specs.inside.DiskLaws.{stays, only_now, counts_now, goes_on, splits}
 
 -- ---- disks
 
@@ -33,12 +33,12 @@ both_leave_or {P} old middle new first second =
     }
 
 -- a disk that goes on tells its history exactly where it did
-pub told_on : (old new : Option History) → GoesOn old new → IsSome old → IsSome new
+pub told_on : (old new : Option History) → HistoryGoesOn old new → IsSome old → IsSome new
 told_on None new went told = absurd (cc)
 told_on (Some h) None went told = absurd went
 told_on (Some h) (Some k) went told = refl
 
-pub told_before : (old new : Option History) → GoesOn old new → IsSome new → IsSome old
+pub told_before : (old new : Option History) → HistoryGoesOn old new → IsSome new → IsSome old
 told_before None None went told = told
 told_before None (Some k) went told = absurd went
 told_before (Some h) new went told = refl

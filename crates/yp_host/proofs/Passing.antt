@@ -4,26 +4,27 @@ use Rattle.std.proofs.lemmas.List.{append-nil, length-set, length-map, get_or-se
 use Rattle.std.proofs.lemmas.Option.{slice_get_cases, slice_get_read, slice_get-map, get_or_from_slice_get, same_Some}
 use Rattle.std.proofs.lemmas.Bool.{cases_eq}
 use Rattle.yp_io.specs.Disk.{LeavesOnly}
-use Rattle.yp_msgs.specs.declared.transfer.XfrStat.{XfrStat}
-use Rattle.yp_slot.specs.declared.fault.SlotFault.{SlotFault}
+use Rattle.yp_messages.specs.declared.transfer.XfrStat.{XfrStat}
+use Rattle.yp_map_file.specs.declared.fault.SlotFault.{SlotFault}
 use Rattle.yp_version.specs.Versions.{MapVersion}
-use Rattle.yp_slot.specs.Stands.{file_max}
+use Rattle.yp_map_file.specs.Stands.{file_max}
 use Rattle.yp_board.specs.Logs.{Log, shown}
 use Rattle.yp_board.specs.Views.{IsFront}
-use Rattle.yp_publish.specs.Standing.{MapStanding, Level, Behind, Kept, Published, StandsAs, IsStanding, OfMap, At, IsSameElsewhere, Shows, stands_for, versions}
-use Rattle.yp_publish.specs.Opens.{IsAnother, StandsMeanwhile, Opens, IsStillBehind, StaysBehind}
-use Rattle.yp_publish.specs.Rising as rising
-use Rattle.yp_publish.specs.Rising.{with_shown, Reopens, InstallsNewer}
-use Rattle.yp_publish.specs.Keeping.{Keeping, Upholds}
-use Rattle.yp_publish.specs.Installs.{Offer, LeavesEither}
-use Rattle.yp_publish.specs.declared.install.Installed.{Installed}
-use Rattle.yp_xfr.specs.declared.fault.XfrFault.{XfrFault}
-use Rattle.yp_xfr.specs.Installing as fetching
-use Rattle.yp_server.specs.Made.{OffersBuilt}
-use Rattle.yp_publish.specs.Grown.{Making, AreMade, GrowsBy, IsOfBetween, IsBehindMade, LeavesOr}
-use Rattle.yp_server.proofs.Leading.{Leads, leads_one, leads_none, leads_then, stand_same}
-use Rattle.yp_server.proofs.Growing.{front_same, front_more, at_one}
-use Rattle.yp_server.proofs.Leaving.{weaker, left_alone, both_leave_or, told_on, told_before, opt_one, opt_both, opt_same, opt_then, opt_second, opt_at, opt_at_both, same_places}
+use Rattle.yp_publisher.specs.Standing.{MapStanding, Level, Behind, StoredMap, Published, StandsAs, IsStanding, OfMap, At, IsSameElsewhere, Shows, stands_for, versions}
+use Rattle.yp_publisher.specs.Opens.{IsAnother, StandsMeanwhile, Opens, IsStillBehind, StaysBehind}
+use Rattle.yp_publisher.specs.Rising as rising
+use Rattle.yp_publisher.specs.inside.Rising.{Steps}
+use Rattle.yp_publisher.specs.Rising.{with_shown, Reopens, InstallsNewer}
+use Rattle.yp_publisher.specs.Keeping.{Keeping, Upholds}
+use Rattle.yp_publisher.specs.Installs.{OfferedVersion, LeavesEither}
+use Rattle.yp_publisher.specs.declared.install.Installed.{Installed}
+use Rattle.yp_transfer.specs.declared.fault.XfrFault.{XfrFault}
+use Rattle.yp_transfer.specs.Installing as fetching
+use Rattle.yp_host.specs.Making.{OffersBuilt}
+use Rattle.yp_publisher.specs.Grown.{Making, AreMade, GrowsBy, IsOfBetween, IsBehindMade, LeavesOr}
+use Rattle.yp_host.proofs.Leading.{Leads, leads_one, leads_none, leads_then, stand_same}
+use Rattle.yp_host.proofs.Growing.{front_same, front_more, at_one}
+use Rattle.yp_host.proofs.Leaving.{weaker, left_alone, both_leave_or, told_on, told_before, opt_one, opt_both, opt_same, opt_then, opt_second, opt_at, opt_at_both, same_places}
 
 -- ---- logs
 
@@ -90,25 +91,25 @@ wider Is number a b c d before after image is = record {
 
 module _ {D : Type 0} where
   -- the version that is kept of a map is the one that is shown
-  shown_is : (log : Log) (maps : List (Kept D)) (number : ℕ) (kept : Kept D) → Shows log (versions maps) → slice_get maps number ≡ Some kept → shown number log ≡ kept.version
+  shown_is : (log : Log) (maps : List (StoredMap D)) (number : ℕ) (kept : StoredMap D) → Shows log (versions maps) → slice_get maps number ≡ Some kept → shown number log ≡ kept.version
   shown_is log maps number kept shows there =
       let here : slice_get (versions maps) number ≡ Some kept.version =
-      slice_get-map (λ (k : Kept D). k.version) maps number ∙ ap (option_map (λ (k : Kept D). k.version)) there in
+      slice_get-map (λ (k : StoredMap D). k.version) maps number ∙ ap (option_map (λ (k : StoredMap D). k.version)) there in
       shows number ∙ get_or_from_slice_get (versions maps) number kept.version None here
 
-  standing_there : (maps : List (Kept D)) (number : ℕ) (kept : Kept D) → slice_get maps number ≡ Some kept → slice_get (map (λ (k : Kept D). k.standing) maps) number ≡ Some kept.standing
+  standing_there : (maps : List (StoredMap D)) (number : ℕ) (kept : StoredMap D) → slice_get maps number ≡ Some kept → slice_get (map (λ (k : StoredMap D). k.standing) maps) number ≡ Some kept.standing
   standing_there maps number kept there =
-      slice_get-map (λ (k : Kept D). k.standing) maps number ∙ ap (option_map (λ (k : Kept D). k.standing)) there
+      slice_get-map (λ (k : StoredMap D). k.standing) maps number ∙ ap (option_map (λ (k : StoredMap D). k.standing)) there
 
   -- a fact of a map that was changed, and of all others, which are the same
-  everywhere : (R : ℕ → Kept D → Kept D → Type 0) (number : ℕ) (old new : List (Kept D)) → IsSameElsewhere number old new
-      → ((other : ℕ) (kept : Kept D) → R other kept kept) → At number old new (R number) → (other : ℕ) → At other old new (R other)
+  everywhere : (R : ℕ → StoredMap D → StoredMap D → Type 0) (number : ℕ) (old new : List (StoredMap D)) → IsSameElsewhere number old new
+      → ((other : ℕ) (kept : StoredMap D) → R other kept kept) → At number old new (R number) → (other : ℕ) → At other old new (R other)
   everywhere R number old new elsewhere same at other = elim (cases_eq other number) [
     | inl e ↦ subst (λ (n : ℕ). At n old new (R n)) (sym e) at
     | inr ne ↦ opt_same (R other) (slice_get old other) (slice_get new other) (elsewhere.others other ne) (λ kept there. same other kept)
   ]
 
-  the_map : (maps : List (Kept D)) (number : ℕ) → number < length maps → (kept : Kept D) × (slice_get maps number ≡ Some kept)
+  the_map : (maps : List (StoredMap D)) (number : ℕ) → number < length maps → (kept : StoredMap D) × (slice_get maps number ≡ Some kept)
   the_map maps number within = elim (slice_get_cases maps number).1 [
     | inl here ↦ (here.0, here.2)
     | inr past ↦ let le : length maps ≤ number = past.0 in absurd (omega arith)
@@ -122,7 +123,7 @@ put_there l number standing within =
 -- ---- from one moment to another
 
 module _ {D B : Type 0} (keeping : Keeping D B) (Is : Making) (same : Respects Is) where
-  abbrev Told : Kept D → Type 0
+  abbrev Told : StoredMap D → Type 0
   Told kept = IsSome (keeping.history kept.disk)
 
   -- what holds at each moment: what is kept of each map is shown, and a map that is behind is behind a version that was made
@@ -139,9 +140,9 @@ module _ {D B : Type 0} (keeping : Keeping D B) (Is : Making) (same : Respects I
     pub bound : (number : ℕ) → At number old.maps new.maps (λ before after. LeavesOr keeping.history (λ image. length image ≤ file_max) before.disk after.disk)
     pub never_falls : (number : ℕ) → At number old.maps new.maps (λ before after. keeping.faults before.disk ≤ keeping.faults after.disk)
     pub entries : ((number : ℕ) → OfMap number old.maps (λ kept. IsSome (keeping.history kept.disk))) → GrowsBy Is (keeping.log old.board) (keeping.log new.board)
-    pub leads : ((number : ℕ) → OfMap number old.maps (λ kept. IsSome (keeping.history kept.disk))) → Leads (rising.moment_of keeping.log old) (rising.moment_of keeping.log new)
+    pub leads : ((number : ℕ) → OfMap number old.maps (λ kept. IsSome (keeping.history kept.disk))) → Leads (rising.publisher_state keeping.log old) (rising.publisher_state keeping.log new)
 
-  still : {P : List ℕ → Type 0} (kept : Kept D) → LeavesOr keeping.history P kept.disk kept.disk
+  still : {P : List ℕ → Type 0} (kept : StoredMap D) → LeavesOr keeping.history P kept.disk kept.disk
   still kept = left_alone (keeping.history kept.disk) (λ image left. inl left)
 
   pub passes_none : (now : Published D B) → Passes now now
@@ -153,7 +154,7 @@ module _ {D B : Type 0} (keeping : Keeping D B) (Is : Making) (same : Respects I
     bound = λ number. opt_same (λ before after. LeavesOr keeping.history (λ image. length image ≤ file_max) before.disk after.disk) (slice_get now.maps number) (slice_get now.maps number) refl (λ kept there. still kept);
     never_falls = λ number. opt_same (λ before after. keeping.faults before.disk ≤ keeping.faults after.disk) (slice_get now.maps number) (slice_get now.maps number) refl (λ kept there. omega arith);
     entries = λ told. grows_none Is (keeping.log now.board) (keeping.log now.board) refl;
-    leads = λ told. leads_none (rising.moment_of keeping.log now) (rising.moment_of keeping.log now) refl;
+    leads = λ told. leads_none (rising.publisher_state keeping.log now) (rising.publisher_state keeping.log now) refl;
   }
 
   told_then : (old new : Published D B) → Passes old new → ((number : ℕ) → OfMap number old.maps (λ kept. IsSome (keeping.history kept.disk)))
@@ -178,15 +179,15 @@ module _ {D B : Type 0} (keeping : Keeping D B) (Is : Making) (same : Respects I
         (λ before between after f s. omega arith)
         (first.never_falls number) (second.never_falls number);
     entries = λ told. grows_then Is (keeping.log old.board) (keeping.log middle.board) (keeping.log new.board) (first.entries told) (second.entries (told_then old middle first told));
-    leads = λ told. leads_then (rising.moment_of keeping.log old) (rising.moment_of keeping.log middle) (rising.moment_of keeping.log new) (first.leads told) (second.leads (told_then old middle first told));
+    leads = λ told. leads_then (rising.publisher_state keeping.log old) (rising.publisher_state keeping.log middle) (rising.publisher_state keeping.log new) (first.leads told) (second.leads (told_then old middle first told));
   } where
-    sooner : (number : ℕ) (before after : Kept D) → LeavesOr keeping.history (IsOfBetween Is number (keeping.log old.board) (keeping.log middle.board)) before.disk after.disk
+    sooner : (number : ℕ) (before after : StoredMap D) → LeavesOr keeping.history (IsOfBetween Is number (keeping.log old.board) (keeping.log middle.board)) before.disk after.disk
         → LeavesOr keeping.history (IsOfBetween Is number (keeping.log old.board) (keeping.log new.board)) before.disk after.disk
     sooner number before after l =
         weaker (keeping.history before.disk) (keeping.history after.disk)
         (λ told image is. elim is [ inl left ↦ inl left | inr of ↦ inr (wider Is number (keeping.log old.board) (keeping.log old.board) (keeping.log middle.board) (keeping.log new.board) (front_none (keeping.log old.board) (keeping.log old.board) refl) second.grown image of) ]) l
 
-    later : (number : ℕ) (before after : Kept D) → LeavesOr keeping.history (IsOfBetween Is number (keeping.log middle.board) (keeping.log new.board)) before.disk after.disk
+    later : (number : ℕ) (before after : StoredMap D) → LeavesOr keeping.history (IsOfBetween Is number (keeping.log middle.board) (keeping.log new.board)) before.disk after.disk
         → LeavesOr keeping.history (IsOfBetween Is number (keeping.log old.board) (keeping.log new.board)) before.disk after.disk
     later number before after l =
         weaker (keeping.history before.disk) (keeping.history after.disk)
@@ -205,7 +206,7 @@ module _ {D B : Type 0} (keeping : Keeping D B) (Is : Making) (same : Respects I
       (λ told image stood. elim stood [
         | inl same ↦ inr (stands_so Is before.standing number (keeping.log old.board) (keeping.log new.board) before.version
             (shown_is (keeping.log old.board) old.maps number before sound.shows there)
-            (opt_at (λ (kept : Kept D). IsSome (keeping.history kept.disk) → IsBehindMade Is number (keeping.log old.board) kept.standing) (slice_get old.maps number) before there (sound.behind number) told)
+            (opt_at (λ (kept : StoredMap D). IsSome (keeping.history kept.disk) → IsBehindMade Is number (keeping.log old.board) kept.standing) (slice_get old.maps number) before there (sound.behind number) told)
             front image same)
         | inr so ↦ inr (other image so)
       ]) l)
@@ -223,7 +224,7 @@ module _ {D B : Type 0} (keeping : Keeping D B) (Is : Making) (same : Respects I
   step_passes : (number : ℕ) (old new : Published D B) → Upholds keeping number old new → IsFront (keeping.log old.board) (keeping.log new.board)
       → At number old.maps new.maps (λ before after. LeavesOr keeping.history (IsOfBetween Is number (keeping.log old.board) (keeping.log new.board)) before.disk after.disk)
       → (OfMap number old.maps (λ kept. IsSome (keeping.history kept.disk)) → GrowsBy Is (keeping.log old.board) (keeping.log new.board))
-      → (OfMap number old.maps (λ kept. IsSome (keeping.history kept.disk)) → rising.Steps (rising.moment_of keeping.log old) (rising.moment_of keeping.log new)) → Passes old new
+      → (OfMap number old.maps (λ kept. IsSome (keeping.history kept.disk)) → Steps (rising.publisher_state keeping.log old) (rising.publisher_state keeping.log new)) → Passes old new
   step_passes number old new keeps front moments entries steps = record {
     catalogue = keeps.catalogue;
     count = keeps.elsewhere.count;
@@ -237,7 +238,7 @@ module _ {D B : Type 0} (keeping : Keeping D B) (Is : Making) (same : Respects I
     never_falls = everywhere (λ other before after. keeping.faults before.disk ≤ keeping.faults after.disk)
         number old.maps new.maps keeps.elsewhere (λ other kept. omega arith) keeps.never_falls;
     entries = λ told. entries (told number);
-    leads = λ told. leads_one (rising.moment_of keeping.log old) (rising.moment_of keeping.log new) (steps (told number));
+    leads = λ told. leads_one (rising.publisher_state keeping.log old) (rising.publisher_state keeping.log new) (steps (told number));
   }
 
   step_sound : (number : ℕ) (old new : Published D B) → Sound old → Upholds keeping number old new
@@ -252,7 +253,7 @@ module _ {D B : Type 0} (keeping : Keeping D B) (Is : Making) (same : Respects I
     kept_elsewhere : (other : ℕ) → slice_get new.maps other ≡ slice_get old.maps other
         → OfMap other new.maps (λ kept. IsSome (keeping.history kept.disk) → IsBehindMade Is other (keeping.log new.board) kept.standing)
     kept_elsewhere other e =
-        subst (λ (o : Option (Kept D)). IfSome o (λ kept. IsSome (keeping.history kept.disk) → IsBehindMade Is other (keeping.log new.board) kept.standing)) (sym e)
+        subst (λ (o : Option (StoredMap D)). IfSome o (λ kept. IsSome (keeping.history kept.disk) → IsBehindMade Is other (keeping.log new.board) kept.standing)) (sym e)
         (opt_one (slice_get old.maps other)
         (λ kept there made told. behind_again Is same kept.standing other (keeping.log old.board) (keeping.log new.board)
         (shown_is (keeping.log old.board) old.maps other kept sound.shows there ∙ sym (shown_is (keeping.log new.board) new.maps other kept keeps.shows (e ∙ there)))
@@ -274,12 +275,12 @@ module _ {D B : Type 0} (keeping : Keeping D B) (Is : Making) (same : Respects I
       ) where
         stands : (other : ℕ) → At other old.maps new.maps (λ before after. after.standing ≡ before.standing)
         stands = everywhere (λ other before after. after.standing ≡ before.standing) number old.maps new.maps step.upheld.elsewhere (λ other kept. refl)
-            (opt_both {P = IsStillBehind keeping.history fault} (slice_get old.maps number) (slice_get new.maps number) (λ before after there here is. ap (λ (k : Kept D). k.standing) is.same) step.still)
+            (opt_both {P = IsStillBehind keeping.history fault} (slice_get old.maps number) (slice_get new.maps number) (λ before after there here is. ap (λ (k : StoredMap D). k.standing) is.same) step.still)
 
-        same_moment : rising.moment_of keeping.log new ≡ rising.moment_of keeping.log old
+        same_moment : rising.publisher_state keeping.log new ≡ rising.publisher_state keeping.log old
         same_moment = rw (step.not_shown, stand_same old.maps new.maps step.upheld.elsewhere.count stands) refl
 
-        still_behind : (before after : Kept D) → slice_get old.maps number ≡ Some before → slice_get new.maps number ≡ Some after
+        still_behind : (before after : StoredMap D) → slice_get old.maps number ≡ Some before → slice_get new.maps number ≡ Some after
             → IsStillBehind keeping.history fault before after → IsSome (keeping.history after.disk)
             → IsBehindMade Is number (keeping.log new.board) after.standing
         still_behind before after there here is told =
@@ -287,8 +288,8 @@ module _ {D B : Type 0} (keeping : Keeping D B) (Is : Making) (same : Respects I
             (slice_get old.maps number) (slice_get new.maps number) before after there here step.meanwhile in
             let told_then : IsSome (keeping.history before.disk) = told_before (keeping.history before.disk) (keeping.history after.disk) went.stands.goes_on told in
             let made : IsBehindMade Is number (keeping.log old.board) before.standing =
-            opt_at (λ (kept : Kept D). IsSome (keeping.history kept.disk) → IsBehindMade Is number (keeping.log old.board) kept.standing) (slice_get old.maps number) before there (sound.behind number) told_then in
-            let standing : after.standing ≡ before.standing = ap (λ (k : Kept D). k.standing) is.same in
+            opt_at (λ (kept : StoredMap D). IsSome (keeping.history kept.disk) → IsBehindMade Is number (keeping.log old.board) kept.standing) (slice_get old.maps number) before there (sound.behind number) told_then in
+            let standing : after.standing ≡ before.standing = ap (λ (k : StoredMap D). k.standing) is.same in
             subst (λ (l : Log). IsBehindMade Is number l after.standing) (sym (ap keeping.log step.not_shown))
             (subst (λ (s : MapStanding). IsBehindMade Is number (keeping.log old.board) s) (sym standing) made)
 
@@ -308,26 +309,26 @@ module _ {D B : Type 0} (keeping : Keeping D B) (Is : Making) (same : Respects I
             (λ told. reopened (the_map old.maps number within) told)
             (λ told. inr (number, rises (the_map old.maps number within) told)),
       ) where
-        rises : (kept : Kept D) × (slice_get old.maps number ≡ Some kept) → OfMap number old.maps (λ kept. IsSome (keeping.history kept.disk))
-            → Reopens number (rising.moment_of keeping.log old) (rising.moment_of keeping.log new)
+        rises : (kept : StoredMap D) × (slice_get old.maps number ≡ Some kept) → OfMap number old.maps (λ kept. IsSome (keeping.history kept.disk))
+            → Reopens number (rising.publisher_state keeping.log old) (rising.publisher_state keeping.log new)
         rises map told =
-            opt_at (λ (kept : Kept D). IsSome (keeping.history kept.disk) → Reopens number (rising.moment_of keeping.log old) (rising.moment_of keeping.log new)) (slice_get old.maps number) map.0 map.1 step.rising
+            opt_at (λ (kept : StoredMap D). IsSome (keeping.history kept.disk) → Reopens number (rising.publisher_state keeping.log old) (rising.publisher_state keeping.log new)) (slice_get old.maps number) map.0 map.1 step.rising
             (opt_at Told (slice_get old.maps number) map.0 map.1 told)
 
-        reopened : (kept : Kept D) × (slice_get old.maps number ≡ Some kept) → OfMap number old.maps (λ kept. IsSome (keeping.history kept.disk))
+        reopened : (kept : StoredMap D) × (slice_get old.maps number ≡ Some kept) → OfMap number old.maps (λ kept. IsSome (keeping.history kept.disk))
             → GrowsBy Is (keeping.log old.board) (keeping.log new.board)
         reopened map told =
             let told_here : IsSome (keeping.history map.0.disk) = opt_at Told (slice_get old.maps number) map.0 map.1 told in
             let made : IsBehindMade Is number (keeping.log old.board) map.0.standing =
-            opt_at (λ (kept : Kept D). IsSome (keeping.history kept.disk) → IsBehindMade Is number (keeping.log old.board) kept.standing) (slice_get old.maps number) map.0 map.1 (sound.behind number) told_here in
+            opt_at (λ (kept : StoredMap D). IsSome (keeping.history kept.disk) → IsBehindMade Is number (keeping.log old.board) kept.standing) (slice_get old.maps number) map.0 map.1 (sound.behind number) told_here in
             elim (rises map told) [
-              | inl e ↦ grows_none Is (keeping.log old.board) (keeping.log new.board) (ap (λ (m : rising.Moment). m.log) e)
+              | inl e ↦ grows_none Is (keeping.log old.board) (keeping.log new.board) (ap (λ (m : rising.PublisherState). m.log) e)
               | inr was ↦ elim was.2 [
-                | inl e ↦ grows_none Is (keeping.log old.board) (keeping.log new.board) (ap (λ (m : rising.Moment). m.log) e)
+                | inl e ↦ grows_none Is (keeping.log old.board) (keeping.log new.board) (ap (λ (m : rising.PublisherState). m.log) e)
                 | inr e ↦
                     let behind : map.0.standing ≡ Behind was.0 = same_Some map.0.standing (Behind was.0) (sym (standing_there old.maps number map.0 map.1) ∙ was.1) in
                     grows_one Is number was.0 (keeping.log old.board) (keeping.log new.board)
-                    (subst (λ (s : MapStanding). IsBehindMade Is number (keeping.log old.board) s) behind made) (ap (λ (m : rising.Moment). m.log) e)
+                    (subst (λ (s : MapStanding). IsBehindMade Is number (keeping.log old.board) s) behind made) (ap (λ (m : rising.PublisherState). m.log) e)
               ]
             ]
 
@@ -335,20 +336,20 @@ module _ {D B : Type 0} (keeping : Keeping D B) (Is : Making) (same : Respects I
   offers_on : (number : ℕ) (version : MapVersion) (old new : Published D B) → number < length old.maps → Sound old
       → OfMap number old.maps (λ kept. kept.standing ≡ Level) → Is number (keeping.log old.board) version
       → Upholds keeping number old new → At number old.maps new.maps (LeavesEither keeping.history version)
-      → InstallsNewer number version (rising.moment_of keeping.log old) (rising.moment_of keeping.log new) → Sound new × Passes old new
+      → InstallsNewer number version (rising.publisher_state keeping.log old) (rising.publisher_state keeping.log new) → Sound new × Passes old new
   offers_on number version old new within sound level made upheld leaves rises =
       let front : IsFront (keeping.log old.board) (keeping.log new.board) = elim rises [
-        | inl e ↦ front_none (keeping.log old.board) (keeping.log new.board) (ap (λ (m : rising.Moment). m.log) e)
+        | inl e ↦ front_none (keeping.log old.board) (keeping.log new.board) (ap (λ (m : rising.PublisherState). m.log) e)
         | inr stores ↦ elim stores.1.1 [
-          | inl e ↦ front_more number version (keeping.log old.board) (keeping.log new.board) (ap (λ (m : rising.Moment). m.log) e)
-          | inr e ↦ front_none (keeping.log old.board) (keeping.log new.board) (ap (λ (m : rising.Moment). m.log) e)
+          | inl e ↦ front_more number version (keeping.log old.board) (keeping.log new.board) (ap (λ (m : rising.PublisherState). m.log) e)
+          | inr e ↦ front_none (keeping.log old.board) (keeping.log new.board) (ap (λ (m : rising.PublisherState). m.log) e)
         ]
       ] in
       let grows : GrowsBy Is (keeping.log old.board) (keeping.log new.board) = elim rises [
-        | inl e ↦ grows_none Is (keeping.log old.board) (keeping.log new.board) (ap (λ (m : rising.Moment). m.log) e)
+        | inl e ↦ grows_none Is (keeping.log old.board) (keeping.log new.board) (ap (λ (m : rising.PublisherState). m.log) e)
         | inr stores ↦ elim stores.1.1 [
-          | inl e ↦ grows_one Is number version (keeping.log old.board) (keeping.log new.board) made (ap (λ (m : rising.Moment). m.log) e)
-          | inr e ↦ grows_none Is (keeping.log old.board) (keeping.log new.board) (ap (λ (m : rising.Moment). m.log) e)
+          | inl e ↦ grows_one Is number version (keeping.log old.board) (keeping.log new.board) made (ap (λ (m : rising.PublisherState). m.log) e)
+          | inr e ↦ grows_none Is (keeping.log old.board) (keeping.log new.board) (ap (λ (m : rising.PublisherState). m.log) e)
         ]
       ] in (
         step_sound number old new sound upheld
@@ -364,25 +365,25 @@ module _ {D B : Type 0} (keeping : Keeping D B) (Is : Making) (same : Respects I
             (λ told. grows) (λ told. inl (number, version, rises)),
       ) where
         -- a map that stands as before is level
-        level_so : (was : (kept : Kept D) × (slice_get old.maps number ≡ Some kept)) (kept : Kept D) → slice_get new.maps number ≡ Some kept
-            → map (λ (k : Kept D). k.standing) new.maps ≡ map (λ (k : Kept D). k.standing) old.maps → IsBehindMade Is number (keeping.log new.board) kept.standing
+        level_so : (was : (kept : StoredMap D) × (slice_get old.maps number ≡ Some kept)) (kept : StoredMap D) → slice_get new.maps number ≡ Some kept
+            → map (λ (k : StoredMap D). k.standing) new.maps ≡ map (λ (k : StoredMap D). k.standing) old.maps → IsBehindMade Is number (keeping.log new.board) kept.standing
         level_so was kept there e =
-            let before : was.0.standing ≡ Level = opt_at (λ (k : Kept D). k.standing ≡ Level) (slice_get old.maps number) was.0 was.1 level in
+            let before : was.0.standing ≡ Level = opt_at (λ (k : StoredMap D). k.standing ≡ Level) (slice_get old.maps number) was.0 was.1 level in
             let now : kept.standing ≡ was.0.standing =
             same_Some kept.standing was.0.standing (sym (standing_there new.maps number kept there) ∙ ap (λ (l : List MapStanding). slice_get l number) e ∙ standing_there old.maps number was.0 was.1) in
             subst (λ (s : MapStanding). IsBehindMade Is number (keeping.log new.board) s) (sym (now ∙ before)) tt
 
-        standing_so : (kept : Kept D) × (slice_get old.maps number ≡ Some kept) → (kept : Kept D) → slice_get new.maps number ≡ Some kept → IsBehindMade Is number (keeping.log new.board) kept.standing
+        standing_so : (kept : StoredMap D) × (slice_get old.maps number ≡ Some kept) → (kept : StoredMap D) → slice_get new.maps number ≡ Some kept → IsBehindMade Is number (keeping.log new.board) kept.standing
         standing_so was kept there = elim rises [
-          | inl e ↦ level_so was kept there (ap (λ (m : rising.Moment). m.standings) e)
+          | inl e ↦ level_so was kept there (ap (λ (m : rising.PublisherState). m.standings) e)
           | inr stores ↦ elim stores.1.1 [
-            | inl e ↦ level_so was kept there (ap (λ (m : rising.Moment). m.standings) e)
+            | inl e ↦ level_so was kept there (ap (λ (m : rising.PublisherState). m.standings) e)
             | inr e ↦
-                let long : number < length (map (λ (k : Kept D). k.standing) old.maps) = subst (λ (n : ℕ). number < n) (sym (length-map old.maps (λ (k : Kept D). k.standing))) within in
+                let long : number < length (map (λ (k : StoredMap D). k.standing) old.maps) = subst (λ (n : ℕ). number < n) (sym (length-map old.maps (λ (k : StoredMap D). k.standing))) within in
                 let now : kept.standing ≡ Behind version =
-                same_Some kept.standing (Behind version) (sym (standing_there new.maps number kept there) ∙ ap (λ (m : rising.Moment). slice_get m.standings number) e ∙ put_there (map (λ (k : Kept D). k.standing) old.maps) number (Behind version) long) in
+                same_Some kept.standing (Behind version) (sym (standing_there new.maps number kept there) ∙ ap (λ (m : rising.PublisherState). slice_get m.standings number) e ∙ put_there (map (λ (k : StoredMap D). k.standing) old.maps) number (Behind version) long) in
                 subst (λ (s : MapStanding). IsBehindMade Is number (keeping.log new.board) s) (sym now)
-                (subst (λ (l : Log). Is number l version) (sym (ap (λ (m : rising.Moment). m.log) e)) made)
+                (subst (λ (l : Log). Is number l version) (sym (ap (λ (m : rising.PublisherState). m.log) e)) made)
           ]
         ]
 
@@ -395,7 +396,7 @@ module _ {D B : Type 0} (keeping : Keeping D B) (Is : Making) (same : Respects I
   ]
 
   -- a version that was fetched and is offered, not forced
-  pub fetched_on : (number : ℕ) (offered : Offer) (result : Result Installed XfrFault) (old new : Published D B) → number < length old.maps → Sound old
+  pub fetched_on : (number : ℕ) (offered : OfferedVersion) (result : Result Installed XfrFault) (old new : Published D B) → number < length old.maps → Sound old
       → OfMap number old.maps (λ kept. kept.standing ≡ Level) → offered.force ≡ false → Is number (keeping.log old.board) offered.version
       → fetching.Offers keeping number offered result old new → Sound new × Passes old new
   fetched_on number offered (Ok installed) old new within sound level unforced given step =

@@ -5,27 +5,27 @@ use Rattle.std.proofs.lemmas.List.{length-map}
 use Rattle.std.proofs.lemmas.Option.{slice_get-map}
 use Rattle.std.proofs.lemmas.Slice.Zip.{AllZip-long}
 use Rattle.yp_io.specs.Disk.{History}
-use Rattle.yp_slot.specs.Stands.{file_max}
+use Rattle.yp_map_file.specs.Stands.{file_max}
 use Rattle.yp_version.specs.Versions.{IsVersion}
 use Rattle.yp_board.specs.Catalogues.{IsCatalogue}
 use Rattle.yp_board.specs.Logs.{Log, starts}
-use Rattle.yp_publish.specs.Laws.{StartsAreShown, LogRises, BeginningIsStart}
-use Rattle.yp_publish.specs.Standing.{MapStanding, Kept, Published, At, Shows, versions}
-use Rattle.yp_publish.specs.Opens.{IsOpened}
-use Rattle.yp_publish.specs.Begins.{IsUnwritten}
-use Rattle.yp_session.specs.Wires.{Wire}
-use Rattle.yp_session.specs.Progress.{Progress, begun}
-use Rattle.yp_session.specs.Hosts.{Turn}
-use Rattle.yp_session.specs.Runs.{dialogue_at, Runs}
-use Rattle.yp_session.specs.declared.session.End.{End}
-use Rattle.yp_session.specs.declared.session.TheConstants.{CALLS_MAX}
+use Rattle.yp_publisher.specs.inside.Laws.{StartsAreShown, LogRises, BeginningIsStart}
+use Rattle.yp_publisher.specs.Standing.{MapStanding, StoredMap, Published, At, Shows, versions}
+use Rattle.yp_publisher.specs.Opens.{IsOpened}
+use Rattle.yp_publisher.specs.Begins.{IsUnwritten}
+use Rattle.yp_answer.specs.session.Wires.{Wire}
+use Rattle.yp_answer.specs.session.Progress.{Progress, begun}
+use Rattle.yp_answer.specs.session.Hosts.{Turn}
+use Rattle.yp_answer.specs.session.Runs.{dialogue_at, Runs}
+use Rattle.yp_answer.specs.declared.session.session.End.{End}
+use Rattle.yp_answer.specs.declared.session.session.TheConstants.{CALLS_MAX}
 use Rattle.yp_answer.specs.Causes.{TellsSame}
-use Rattle.yp_server.specs.Locals.{Local, IsUsed}
-use Rattle.yp_publish.specs.Grown.{IsOfBetween, IsBehindMade, AtDisk, LeavesOr, AreTold}
-use Rattle.yp_server.specs.Connections.{Service, Connection, local_conduct, IsFirstHost, IsLastHost, Passage, passages_of, IsGiven, log_of, Serves}
-use Rattle.yp_server.proofs.Leaving.{weaker, left_alone, both_leave_or, told_on, opt_both, opt_then, opt_second, opt_at, opt_put_map, same_places, zip_at, all_at}
-use Rattle.yp_server.proofs.Leading.{rises_from}
-use Rattle.yp_server.proofs.Hosting.{SoundHost, GoesOnTo, session_on}
+use Rattle.yp_host.specs.Locals.{Local, IsUsed}
+use Rattle.yp_publisher.specs.Grown.{IsOfBetween, IsBehindMade, AtDisk, LeavesOr, AreTold}
+use Rattle.yp_host.specs.Connections.{Service, Connection, local_conduct, IsFirstHost, IsLastHost, Transition, transitions_of, IsGiven, log_of, ServesConnection}
+use Rattle.yp_host.proofs.Leaving.{weaker, left_alone, both_leave_or, told_on, opt_both, opt_then, opt_second, opt_at, opt_put_map, same_places, zip_at, all_at}
+use Rattle.yp_host.proofs.Leading.{rises_from}
+use Rattle.yp_host.proofs.Hosting.{SoundHost, GoesOnTo, session_on}
 
 -- ---- disks that were only opened
 
@@ -56,14 +56,14 @@ module _ {D B E : Type 0} (service : Service D B E) (old new : Connection D E) (
       subst (λ (host : Local D B E). IsFirstHost service old host) (sym is)
       record { catalogue = served; opened = opened; log = log; begun = refl }
 
-  first_sound : (turns : List Turn) (passages : List (Passage (Local D B E))) → StartsAreShown → IsFirstHost service old start → SoundHost service turns passages (service.telling.told old.desk) (service.telling.hosts old.desk) start
-  first_sound turns passages law first = record {
+  first_sound : (turns : List Turn) (transitions : List (Transition (Local D B E))) → StartsAreShown → IsFirstHost service old start → SoundHost service turns transitions (service.telling.told old.desk) (service.telling.hosts old.desk) start
+  first_sound turns transitions law first = record {
     maps = record {
       shows = subst (λ (l : Log). Shows l (versions start.published.maps)) (sym first.log) (law (versions start.published.maps));
       behind = λ number.
           opt_second {P = IsOpened service.keeping.history service.keeping.faults} (slice_get old.disks number) (slice_get start.published.maps number)
           (same_places start.published.maps old.disks number (AllZip-long (IsOpened service.keeping.history service.keeping.faults) old.disks start.published.maps first.opened))
-          (λ disk kept there here opened told. subst (λ (s : MapStanding). IsBehindMade (IsGiven service turns passages (service.telling.told old.desk) (service.telling.hosts old.desk)) number (service.keeping.log start.published.board) s) (sym opened.level) tt)
+          (λ disk kept there here opened told. subst (λ (s : MapStanding). IsBehindMade (IsGiven service turns transitions (service.telling.told old.desk) (service.telling.hosts old.desk)) number (service.keeping.log start.published.board) s) (sym opened.level) tt)
           (zip_at (IsOpened service.keeping.history service.keeping.faults) old.disks start.published.maps number first.opened);
     };
     catalogue = first.catalogue;
@@ -73,23 +73,23 @@ module _ {D B E : Type 0} (service : Service D B E) (old new : Connection D E) (
 
   pub went_on : StartsAreShown → (end : End) (progress : Progress) (wires : List Wire) → IsFirstHost service old start
       → (runs : Runs (local_conduct service.keeping service.telling) service.peer CALLS_MAX end (dialogue_at start old.wire begun) (dialogue_at finish new.wire progress) wires)
-      → GoesOnTo service runs.turns (passages_of (dialogue_at start old.wire begun) runs.answered) (service.telling.told old.desk) (service.telling.hosts old.desk) start finish
+      → GoesOnTo service runs.turns (transitions_of (dialogue_at start old.wire begun) runs.answered) (service.telling.told old.desk) (service.telling.hosts old.desk) start finish
   went_on shown end progress wires first runs =
-      session_on service (service.telling.told old.desk) (service.telling.hosts old.desk) CALLS_MAX end (dialogue_at start old.wire begun) (dialogue_at finish new.wire progress) wires runs (first_sound runs.turns (passages_of (dialogue_at start old.wire begun) runs.answered) shown first)
+      session_on service (service.telling.told old.desk) (service.telling.hosts old.desk) CALLS_MAX end (dialogue_at start old.wire begun) (dialogue_at finish new.wire progress) wires runs (first_sound runs.turns (transitions_of (dialogue_at start old.wire begun) runs.answered) shown first)
 
   -- what holds of a disk from its opening to its handing back
-  through : (P : D → D → Type 0) (Q : Kept D → Kept D → Type 0) (number : ℕ)
-      → ((disk : D) (before after : Kept D) → IsOpened service.keeping.history service.keeping.faults disk before → Q before after → P disk after.disk)
+  through : (P : D → D → Type 0) (Q : StoredMap D → StoredMap D → Type 0) (number : ℕ)
+      → ((disk : D) (before after : StoredMap D) → IsOpened service.keeping.history service.keeping.faults disk before → Q before after → P disk after.disk)
       → IsFirstHost service old start → At number start.published.maps finish.published.maps Q → IsLastHost service finish new → AtDisk number old.disks new.disks P
   through P Q number f first at last =
-      opt_put_map P (λ (kept : Kept D). kept.disk) (slice_get old.disks number) (slice_get finish.published.maps number) (slice_get new.disks number)
-      (ap (λ (l : List D). slice_get l number) last.disks ∙ slice_get-map (λ (kept : Kept D). kept.disk) finish.published.maps number)
+      opt_put_map P (λ (kept : StoredMap D). kept.disk) (slice_get old.disks number) (slice_get finish.published.maps number) (slice_get new.disks number)
+      (ap (λ (l : List D). slice_get l number) last.disks ∙ slice_get-map (λ (kept : StoredMap D). kept.disk) finish.published.maps number)
       (opt_then (slice_get old.disks number) (slice_get start.published.maps number) (slice_get finish.published.maps number)
       (same_places old.disks start.published.maps number (sym (AllZip-long (IsOpened service.keeping.history service.keeping.faults) old.disks start.published.maps first.opened)))
       f (zip_at (IsOpened service.keeping.history service.keeping.faults) old.disks start.published.maps number first.opened) at)
 
   -- the moments of the opening, and those behind it
-  with_opening : {P : List ℕ → Type 0} (disk : D) (before after : Kept D) → IsOpened service.keeping.history service.keeping.faults disk before
+  with_opening : {P : List ℕ → Type 0} (disk : D) (before after : StoredMap D) → IsOpened service.keeping.history service.keeping.faults disk before
       → LeavesOr service.keeping.history P before.disk after.disk → LeavesOr service.keeping.history P disk after.disk
   with_opening disk before after opened leaves =
       both_leave_or (service.keeping.history disk) (service.keeping.history before.disk) (service.keeping.history after.disk)
@@ -106,8 +106,8 @@ module _ {D B E : Type 0} (service : Service D B E) (old new : Connection D E) (
 
   pub served : LogRises → BeginningIsStart → (end : End) (progress : Progress) (wires : List Wire) → IsFirstHost service old start
       → (runs : Runs (local_conduct service.keeping service.telling) service.peer CALLS_MAX end (dialogue_at start old.wire begun) (dialogue_at finish new.wire progress) wires)
-      → GoesOnTo service runs.turns (passages_of (dialogue_at start old.wire begun) runs.answered) (service.telling.told old.desk) (service.telling.hosts old.desk) start finish → IsLastHost service finish new
-      → IsCatalogue service.catalogue → All (λ entry. IsVersion entry.1) (log_of service finish) → Serves service end old new wires
+      → GoesOnTo service runs.turns (transitions_of (dialogue_at start old.wire begun) runs.answered) (service.telling.told old.desk) (service.telling.hosts old.desk) start finish → IsLastHost service finish new
+      → IsCatalogue service.catalogue → All (λ entry. IsVersion entry.1) (log_of service finish) → ServesConnection service end old new wires
   served rises begins end progress wires first runs went last catalogue versions = record {
     start = start;
     finish = finish;
@@ -116,8 +116,8 @@ module _ {D B E : Type 0} (service : Service D B E) (old new : Connection D E) (
     runs = runs;
     last = last;
     any_moment = λ number.
-        through (LeavesOr service.keeping.history (IsOfBetween (IsGiven service runs.turns (passages_of (dialogue_at start old.wire begun) runs.answered) (service.telling.told old.desk) (service.telling.hosts old.desk)) number (service.keeping.log start.published.board) (service.keeping.log finish.published.board)))
-        (λ before after. LeavesOr service.keeping.history (IsOfBetween (IsGiven service runs.turns (passages_of (dialogue_at start old.wire begun) runs.answered) (service.telling.told old.desk) (service.telling.hosts old.desk)) number (service.keeping.log start.published.board) (service.keeping.log finish.published.board)) before.disk after.disk)
+        through (LeavesOr service.keeping.history (IsOfBetween (IsGiven service runs.turns (transitions_of (dialogue_at start old.wire begun) runs.answered) (service.telling.told old.desk) (service.telling.hosts old.desk)) number (service.keeping.log start.published.board) (service.keeping.log finish.published.board)))
+        (λ before after. LeavesOr service.keeping.history (IsOfBetween (IsGiven service runs.turns (transitions_of (dialogue_at start old.wire begun) runs.answered) (service.telling.told old.desk) (service.telling.hosts old.desk)) number (service.keeping.log start.published.board) (service.keeping.log finish.published.board)) before.disk after.disk)
         number with_opening first (went.1.maps.moments number) last;
     behind = went.0.maps.behind;
     grown = λ told. went.1.maps.entries (told_maps first told);
@@ -126,24 +126,24 @@ module _ {D B E : Type 0} (service : Service D B E) (old new : Connection D E) (
     served = record { catalogue = catalogue; versions = versions };
   }
 
-  pub served_bound : {turns : List Turn} {passages : List (Passage (Local D B E))} → IsFirstHost service old start → GoesOnTo service turns passages (service.telling.told old.desk) (service.telling.hosts old.desk) start finish → IsLastHost service finish new
+  pub served_bound : {turns : List Turn} {transitions : List (Transition (Local D B E))} → IsFirstHost service old start → GoesOnTo service turns transitions (service.telling.told old.desk) (service.telling.hosts old.desk) start finish → IsLastHost service finish new
       → (number : ℕ) → AtDisk number old.disks new.disks (LeavesOr service.keeping.history (λ image. length image ≤ file_max))
   served_bound first went last number =
       through (LeavesOr service.keeping.history (λ image. length image ≤ file_max)) (λ before after. LeavesOr service.keeping.history (λ image. length image ≤ file_max) before.disk after.disk)
       number with_opening first (went.1.maps.bound number) last
 
-  pub served_falls : {turns : List Turn} {passages : List (Passage (Local D B E))} → IsFirstHost service old start → GoesOnTo service turns passages (service.telling.told old.desk) (service.telling.hosts old.desk) start finish → IsLastHost service finish new
+  pub served_falls : {turns : List Turn} {transitions : List (Transition (Local D B E))} → IsFirstHost service old start → GoesOnTo service turns transitions (service.telling.told old.desk) (service.telling.hosts old.desk) start finish → IsLastHost service finish new
       → (number : ℕ) → AtDisk number old.disks new.disks (λ before after. service.keeping.faults before ≤ service.keeping.faults after)
   served_falls first went last number =
       through (λ before after. service.keeping.faults before ≤ service.keeping.faults after) (λ before after. service.keeping.faults before.disk ≤ service.keeping.faults after.disk)
       number (λ disk before after opened le. omega (arith, opened.never_falls)) first (went.1.maps.never_falls number) last
 
-  pub served_count : {turns : List Turn} {passages : List (Passage (Local D B E))} → IsFirstHost service old start → GoesOnTo service turns passages (service.telling.told old.desk) (service.telling.hosts old.desk) start finish → IsLastHost service finish new → length new.disks ≡ length old.disks
+  pub served_count : {turns : List Turn} {transitions : List (Transition (Local D B E))} → IsFirstHost service old start → GoesOnTo service turns transitions (service.telling.told old.desk) (service.telling.hosts old.desk) start finish → IsLastHost service finish new → length new.disks ≡ length old.disks
   served_count first went last =
-      ap length last.disks ∙ length-map finish.published.maps (λ (kept : Kept D). kept.disk) ∙ went.1.maps.count
+      ap length last.disks ∙ length-map finish.published.maps (λ (kept : StoredMap D). kept.disk) ∙ went.1.maps.count
       ∙ AllZip-long (IsOpened service.keeping.history service.keeping.faults) old.disks start.published.maps first.opened
 
-  pub served_desk : {turns : List Turn} {passages : List (Passage (Local D B E))} → IsFirstHost service old start → GoesOnTo service turns passages (service.telling.told old.desk) (service.telling.hosts old.desk) start finish → IsLastHost service finish new → IsUsed service.telling old.desk new.desk
+  pub served_desk : {turns : List Turn} {transitions : List (Transition (Local D B E))} → IsFirstHost service old start → GoesOnTo service turns transitions (service.telling.told old.desk) (service.telling.hosts old.desk) start finish → IsLastHost service finish new → IsUsed service.telling old.desk new.desk
   served_desk first went last =
       subst (λ (d : E). IsUsed service.telling d new.desk) (ap (λ (h : Local D B E). h.desk) first.begun)
       (subst (λ (d : E). IsUsed service.telling start.desk d) (sym last.desk) went.1.desk)

@@ -3,7 +3,7 @@ use Rattle.std.proofs.Common.{◌≡◌, ℕ, Option, subst, All}
 use Rattle.yp_io.specs.Disk.{History}
 use Rattle.yp_version.specs.Versions.{IsVersion}
 use Rattle.yp_board.specs.Views.{Seen}
-use Rattle.yp_publish.specs.Standing.{Published, OfMap, IsStanding, Shows, versions}
+use Rattle.yp_publisher.specs.Standing.{Published, OfMap, IsStanding, Shows, versions}
 
 pub shows_of : {D : Type 0} (board : Seen) (part whole : Published D Seen) → part ≡ whole → board ≡ part.board
     → Shows board.known (versions part.maps) → Shows whole.board.known (versions whole.maps)

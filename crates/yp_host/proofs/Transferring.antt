@@ -3,19 +3,19 @@ use Rattle.std.proofs.Common.{◌≡◌, inl, inr, ℕ, ◌<◌, false, None, Re
 use Rattle.yp_version.specs.Versions.{MapVersion}
 use Rattle.yp_board.specs.Logs.{Log}
 use Rattle.yp_board.specs.Views.{IsFront}
-use Rattle.yp_publish.specs.declared.install.Installed.{Installed}
-use Rattle.yp_publish.specs.Standing.{Published}
-use Rattle.yp_publish.specs.Keeping.{Keeping}
-use Rattle.yp_publish.specs.Installs.{Offer}
-use Rattle.yp_publish.specs.Rising as rising
-use Rattle.yp_publish.specs.Rising.{InstallsNewer}
+use Rattle.yp_publisher.specs.declared.install.Installed.{Installed}
+use Rattle.yp_publisher.specs.Standing.{Published}
+use Rattle.yp_publisher.specs.Keeping.{Keeping}
+use Rattle.yp_publisher.specs.Installs.{OfferedVersion}
+use Rattle.yp_publisher.specs.Rising as rising
+use Rattle.yp_publisher.specs.Rising.{InstallsNewer}
 use Rattle.yp_answer.specs.Transfer.{Taken}
-use Rattle.yp_xfr.specs.declared.fault.XfrFault.{XfrFault}
-use Rattle.yp_xfr.specs.Fetching.{Outcome}
-use Rattle.yp_xfr.specs.Installing.{Offers, fetched_offer}
-use Rattle.yp_xfr.specs.Transfers.{InstallsOutcome}
-use Rattle.yp_server.specs.Carried.{request_for}
-use Rattle.yp_server.proofs.Growing.{front_same, front_more, opened_front}
+use Rattle.yp_transfer.specs.declared.fault.XfrFault.{XfrFault}
+use Rattle.yp_transfer.specs.Fetching.{FetchOutcome}
+use Rattle.yp_transfer.specs.Installing.{Offers, fetched_offer}
+use Rattle.yp_transfer.specs.Transfers.{InstallsOutcome}
+use Rattle.yp_host.specs.Transferring.{request_for}
+use Rattle.yp_host.proofs.Growing.{front_same, front_more, opened_front}
 
 -- the catalogue stays, and the log grows
 pub record KeepsAndGrows {D B : Type 0} (keeping : Keeping D B) (old new : Published D B) : Type 0 where
@@ -39,19 +39,19 @@ module _ {D B : Type 0} (keeping : Keeping D B) where
   }
 
   -- an install that isn't forced shows the version, or nothing
-  newer_front : (number : ℕ) (version : MapVersion) (old new : Published D B) → InstallsNewer number version (rising.moment_of keeping.log old) (rising.moment_of keeping.log new)
+  newer_front : (number : ℕ) (version : MapVersion) (old new : Published D B) → InstallsNewer number version (rising.publisher_state keeping.log old) (rising.publisher_state keeping.log new)
       → IsFront (keeping.log old.board) (keeping.log new.board)
   newer_front number version old new rises = elim rises [
-    | inl e ↦ front_log (keeping.log old.board) (keeping.log new.board) (ap (λ (m : rising.Moment). m.log) e)
+    | inl e ↦ front_log (keeping.log old.board) (keeping.log new.board) (ap (λ (m : rising.PublisherState). m.log) e)
     | inr stores ↦ elim stores.1.1 [
-      | inl e ↦ front_more number version (keeping.log old.board) (keeping.log new.board) (ap (λ (m : rising.Moment). m.log) e)
-      | inr e ↦ front_log (keeping.log old.board) (keeping.log new.board) (ap (λ (m : rising.Moment). m.log) e)
+      | inl e ↦ front_more number version (keeping.log old.board) (keeping.log new.board) (ap (λ (m : rising.PublisherState). m.log) e)
+      | inr e ↦ front_log (keeping.log old.board) (keeping.log new.board) (ap (λ (m : rising.PublisherState). m.log) e)
     ]
   ] where
     front_log : (log other : Log) → other ≡ log → IsFront log other
     front_log log other e = front_same (λ (l : Log). l) log other e
 
-  offers_grow : (number : ℕ) (offered : Offer) (result : Result Installed XfrFault) (old new : Published D B) → offered.force ≡ false → Offers keeping number offered result old new
+  offers_grow : (number : ℕ) (offered : OfferedVersion) (result : Result Installed XfrFault) (old new : Published D B) → offered.force ≡ false → Offers keeping number offered result old new
       → KeepsAndGrows keeping old new
   offers_grow number offered (Ok installed) old new unforced step =
       record { catalogue = step.installs.upheld.catalogue; grown = newer_front number offered.version old new (step.installs.rising unforced) }
@@ -59,7 +59,7 @@ module _ {D B : Type 0} (keeping : Keeping D B) where
       record { catalogue = step.refuses.upheld.catalogue; grown = newer_front number offered.version old new (step.refuses.rising unforced) }
 
   -- what was fetched is installed, or isn't
-  pub transfer_grows : (taken : Taken) (outcome : Outcome) (result : Result Installed XfrFault) (old new : Published D B) → taken.map < length old.maps
+  pub transfer_grows : (taken : Taken) (outcome : FetchOutcome) (result : Result Installed XfrFault) (old new : Published D B) → taken.map < length old.maps
       → InstallsOutcome keeping (request_for taken) outcome result old new → KeepsAndGrows keeping old new
   transfer_grows taken (Err fault) result old new within installs = grows_nowhere old new installs.1
   transfer_grows taken (Ok version) result old new within installs = elim installs [

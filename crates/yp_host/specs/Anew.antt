@@ -1,12 +1,12 @@
 -- Why no version is built anew for a map.
 use Rattle.std.specs.Prelude.{◌≡◌, true, false, Some}
 use Rattle.yp_io.specs.Counts.{HasRisen}
-use Rattle.yp_msgs.specs.declared.transfer.XfrStat.{XfrStat}
-use Rattle.yp_msgs.specs.declared.transfer.XfrStat.TheVariants.{Age, Rsrc, Dbm, File, Refused}
-use Rattle.yp_build.specs.Builds.{order_max}
-use Rattle.yp_build.specs.After.{Basis, last_order}
+use Rattle.yp_messages.specs.declared.transfer.XfrStat.{XfrStat}
+use Rattle.yp_messages.specs.declared.transfer.XfrStat.TheVariants.{Age, Rsrc, Dbm, File, Refused}
+use Rattle.yp_texts.specs.Builds.{order_max}
+use Rattle.yp_texts.specs.After.{Basis, last_order}
 use Rattle.yp_answer.specs.Causes.{is_of_another, HasBadRowAt}
-use Rattle.yp_server.specs.Locals.{Telling}
+use Rattle.yp_host.specs.Locals.{Telling}
 
 -- Why no version is built, by its status, the first reason that applies: the map has another master; the text wasn't
 -- read; the last order is spent; a row passes a limit. Memory may run out meanwhile.

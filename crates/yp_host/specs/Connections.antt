@@ -12,27 +12,25 @@ use Rattle.yp_answer.specs.Maps.{Maps}
 use Rattle.yp_answer.specs.Served.{AreServed, maps_on}
 use Rattle.yp_answer.specs.Transfer.{Taken}
 use Rattle.yp_answer.specs.Reply.{Response, Open, reply}
-use Rattle.yp_answer.specs.declared.make.Job.{Job}
-use Rattle.yp_publish.specs.Standing.{IsStanding, OfMap, Shows, versions}
-use Rattle.yp_publish.specs.Opens.{IsOpened}
-use Rattle.yp_publish.specs.Rising.{IsRisingLog}
-use Rattle.yp_publish.specs.Grown.{Making, GrowsBy, IsOfBetween, IsBehindMade, AtDisk, LeavesOr, AreTold}
-use Rattle.yp_xfr.specs.HostTable.{HostList}
-use Rattle.yp_xfr.specs.Installing.{marking}
-use Rattle.yp_session.specs.Progress.{Progress, begun}
-use Rattle.yp_session.specs.Hosts.{Conduct, Turn, conduct_of}
-use Rattle.yp_session.specs.Runs.{Dialogue, dialogue_at, Runs}
-use Rattle.yp_session.specs.Wires.{Wire}
-use Rattle.yp_session.specs.declared.session.End.{End}
-use Rattle.yp_session.specs.declared.session.TheConstants.{CALLS_MAX}
-use Rattle.yp_server.specs.declared.connection.Stock.{Stock}
-use Rattle.yp_publish.specs.Keeping.{Keeping}
-use Rattle.yp_server.specs.declared.desk.Desk.{Desk}
-use Rattle.yp_server.specs.Locals.{Local, Telling, seen_of}
+use Rattle.yp_answer.specs.declared.make.MakeJob.{MakeJob}
+use Rattle.yp_publisher.specs.Standing.{IsStanding, OfMap, Shows, versions}
+use Rattle.yp_publisher.specs.Opens.{IsOpened}
+use Rattle.yp_publisher.specs.Rising.{IsRisingLog}
+use Rattle.yp_publisher.specs.Grown.{Making, GrowsBy, IsOfBetween, IsBehindMade, AtDisk, LeavesOr, AreTold}
+use Rattle.yp_transfer.specs.HostTable.{HostList}
+use Rattle.yp_transfer.specs.Installing.{marking}
+use Rattle.yp_answer.specs.session.Progress.{Progress, begun}
+use Rattle.yp_answer.specs.session.Hosts.{Conduct, Turn, conduct_of}
+use Rattle.yp_answer.specs.session.Runs.{Dialogue, dialogue_at, Runs}
+use Rattle.yp_answer.specs.session.Wires.{Wire}
+use Rattle.yp_answer.specs.declared.session.session.End.{End}
+use Rattle.yp_answer.specs.declared.session.session.TheConstants.{CALLS_MAX}
+use Rattle.yp_publisher.specs.Keeping.{Keeping}
+use Rattle.yp_host.specs.Locals.{Local, Telling, seen_of}
 use Rattle.yp_answer.specs.Causes.{Told, IsAnew}
-use Rattle.yp_build.specs.After.{basis_of}
-use Rattle.yp_server.specs.Made.{Made}
-use Rattle.yp_server.specs.Carried.{Carried}
+use Rattle.yp_texts.specs.After.{basis_of}
+use Rattle.yp_host.specs.Making.{MapIsMade}
+use Rattle.yp_host.specs.Transferring.{MapIsTransferred}
 
 -- what a connection is served by, and to whom: what its disks and its board tell, what its texts and its clock tell,
 -- the maps, and the caller
@@ -52,16 +50,14 @@ pub record Connection (D E : Type 0) : Type 0 where
   pub disks : List D
   pub desk : E
 
-abbrev pub connection_of : {D A T C : Type 0} → Wire → Stock D A T C → Connection D (Desk A T C)
-connection_of wire stock = record { wire = wire; disks = stock.disks.items; desk = stock.desk }
-
--- what a host over stored maps tells and does: a read step counts, the making of a map is `Made`, and the
--- carrying out of a transfer is `Carried`
+-- what a host over stored maps tells and does: a read step counts, the making of a map is `MapIsMade`, and the
+-- carrying out of a transfer is `MapIsTransferred`
 abbrev pub local_conduct : {D B E : Type 0} → Keeping D B → Telling E → Conduct (Local D B E)
 local_conduct keeping telling =
     conduct_of (seen_of keeping.log) (λ host. telling.told host.desk)
     (λ host. record { files = host.files; transfers = host.transfers })
-    (λ old new. new ≡ record old { asked = next_count old.asked }) (Made keeping telling) (Carried keeping telling)
+    (λ old new. new ≡ record old { asked = next_count old.asked }) (MapIsMade keeping telling)
+    (MapIsTransferred keeping telling)
 
 -- what was shown on the board of a host
 abbrev pub log_of : {D B E : Type 0} → Service D B E → Local D B E → Log
@@ -98,31 +94,31 @@ pub record GotResponse {D B E : Type 0} (service : Service D B E) (turns : List 
   pub gets : reply Stream maps service.peer turn.message ≡ response
 
 -- One of these records was a call that may have this map made, and its reply was left open.
-abbrev pub IsCalledFor : {D B E : Type 0} → Service D B E → List Turn → Job → Type 0
+abbrev pub IsCalledFor : {D B E : Type 0} → Service D B E → List Turn → MakeJob → Type 0
 IsCalledFor service turns job = (turn : Turn) × (xid : ℕ) × GotResponse service turns turn (Open xid job)
 
 -- A version was made of a map behind a log: one of these records called for this map, and the version was built, of
 -- what the desk tells, for what the log shows of the map.
-pub record IsMade {D B E : Type 0} (service : Service D B E) (turns : List Turn) (told : Told)
+pub record WasMade {D B E : Type 0} (service : Service D B E) (turns : List Turn) (told : Told)
     (number : ℕ) (log : Log) (version : MapVersion) : Type 0 where
-  pub job : Job
+  pub job : MakeJob
   pub of_map : job.map ≡ number
   pub called : IsCalledFor service turns job
   pub anew : IsAnew told (basis_of job.kind service.catalogue.own None (shown number log)) version
 
 -- a record of a run: the host before it and the one behind it, and what came of it
-pub record Passage (H : Type 0) : Type 0 where
+pub record Transition (H : Type 0) : Type 0 where
   pub before : H
   pub turn : Turn
   pub after : H
 
-abbrev pub passage_of : {H : Type 0} → H → Turn → H → Passage H
-passage_of before turn after = record { before = before; turn = turn; after = after }
+abbrev pub transition_of : {H : Type 0} → H → Turn → H → Transition H
+transition_of before turn after = record { before = before; turn = turn; after = after }
 
 -- the records that were answered, one after the other, from this dialogue on
-abbrev pub passages_of : {H : Type 0} → Dialogue H → List (Turn × Dialogue H) → List (Passage H)
-passages_of old [] = []
-passages_of old (one ∷ later) = passage_of old.host one.0 one.1.host ∷ passages_of one.1 later
+abbrev pub transitions_of : {H : Type 0} → Dialogue H → List (Turn × Dialogue H) → List (Transition H)
+transitions_of old [] = []
+transitions_of old (one ∷ later) = transition_of old.host one.0 one.1.host ∷ transitions_of one.1 later
 
 -- A record took this transfer, its reply was flushed, and behind it the transfer was carried out: the wire of the dial
 -- that came for it then, to its source, which has one of these addresses, gave this version.
@@ -130,38 +126,38 @@ passages_of old (one ∷ later) = passage_of old.host one.0 one.1.host ∷ passa
 -- The host between is the one before the record, but for how often it was asked; what was carried out is fixed by what
 -- its dial tells before and behind.
 pub record GaveVersion {D B E : Type 0} (service : Service D B E) (hosts : HostList) (taken : Taken)
-    (version : MapVersion) (passage : Passage (Local D B E)) : Type 0 where
-  pub took : passage.turn.taken ≡ Some taken
-  pub flushed : IsTrue passage.turn.flushed
+    (version : MapVersion) (transition : Transition (Local D B E)) : Type 0 where
+  pub took : transition.turn.taken ≡ Some taken
+  pub flushed : IsTrue transition.turn.flushed
   pub middle : Local D B E
-  pub middle_is : middle ≡ record passage.before { asked = middle.asked }
+  pub middle_is : middle ≡ record transition.before { asked = middle.asked }
   pub hosts_are : service.telling.hosts middle.desk ≡ hosts
-  pub carried : Carried service.keeping service.telling taken service.peer middle passage.after
+  pub carried : MapIsTransferred service.keeping service.telling taken service.peer middle transition.after
   pub gave : carried.transfers.transfers.outcome ≡ Ok version
 
 -- A version was fetched of a map behind a log: by the transfer of this map that one of these records took. It is marked
 -- as what the log shows.
-pub record WasFetched {D B E : Type 0} (service : Service D B E) (passages : List (Passage (Local D B E)))
+pub record WasFetched {D B E : Type 0} (service : Service D B E) (transitions : List (Transition (Local D B E)))
     (hosts : HostList) (number : ℕ) (log : Log) (version : MapVersion) : Type 0 where
   pub taken : Taken
   pub of_map : taken.map ≡ number
-  pub passage : Passage (Local D B E)
-  pub among : Contains passages passage
+  pub transition : Transition (Local D B E)
+  pub among : Contains transitions transition
   pub fetched : MapVersion
-  pub gave : GaveVersion service hosts taken fetched passage
+  pub gave : GaveVersion service hosts taken fetched transition
   pub marked : version ≡ record fetched { secure = marking None (shown number log) }
 
-abbrev pub IsGiven : {D B E : Type 0} → Service D B E → List Turn → List (Passage (Local D B E)) → Told → HostList
+abbrev pub IsGiven : {D B E : Type 0} → Service D B E → List Turn → List (Transition (Local D B E)) → Told → HostList
     → Making
-IsGiven service turns passages told hosts number log version =
-    IsMade service turns told number log version ⊎ WasFetched service passages hosts number log version
+IsGiven service turns transitions told hosts number log version =
+    WasMade service turns told number log version ⊎ WasFetched service transitions hosts number log version
 
 -- what was made in a connection for one of the records that came to this, or fetched behind one of those that were
 -- answered, where it began with this host
 abbrev pub given_in : {D B E : Type 0} → Service D B E → Connection D E → Local D B E → List Turn
     → List (Turn × Dialogue (Local D B E)) → Making
 given_in service old start turns answered =
-    IsGiven service turns (passages_of (dialogue_at start old.wire begun) answered)
+    IsGiven service turns (transitions_of (dialogue_at start old.wire begun) answered)
     (service.telling.told old.desk) (service.telling.hosts old.desk)
 
 -- ---- the whole
@@ -171,7 +167,7 @@ given_in service old start turns answered =
 -- being installed. Only versions that were made or fetched were shown, and the orders of each map rise. The catalogue
 -- and all versions are within their limits. What the first host shows is fixed by the disks before, and the last host
 -- is the one that the run leads to.
-pub record Serves {D B E : Type 0} (service : Service D B E) (end : End) (old new : Connection D E)
+pub record ServesConnection {D B E : Type 0} (service : Service D B E) (end : End) (old new : Connection D E)
     (wires : List Wire) : Type 0 where
   pub start : Local D B E
   pub finish : Local D B E

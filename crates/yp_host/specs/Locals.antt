@@ -7,10 +7,10 @@ use Rattle.yp_io.specs.declared.texts.Texts as texts
 use Rattle.yp_io.specs.declared.clock.Clock as clock
 use Rattle.yp_board.specs.Logs.{Log}
 use Rattle.yp_board.specs.Views.{Seen}
-use Rattle.yp_publish.specs.Standing.{Published}
+use Rattle.yp_publisher.specs.Standing.{Published}
 use Rattle.yp_answer.specs.Causes.{Told, TellsSame}
-use Rattle.yp_xfr.specs.HostTable.{HostList}
-use Rattle.yp_server.specs.declared.desk.Desk.{Desk}
+use Rattle.yp_transfer.specs.HostTable.{HostList}
+use Rattle.yp_host.specs.declared.desk.Desk.{Desk}
 
 -- a host: its maps and the board, its desk, how often it was asked, how often it answered FILE, and how many transfers
 -- it carried out

@@ -1,23 +1,23 @@
 -- The making of a map by a host of one thread: a map that is behind is opened again, a version is built, and what was
 -- built is offered.
 use Rattle.std.specs.Prelude.{◌≡◌, ◌⊎◌, ◌<◌, ℕ, false, length}
-use Rattle.yp_msgs.specs.declared.transfer.XfrStat.{XfrStat}
-use Rattle.yp_msgs.specs.declared.transfer.XfrStat.TheVariants.{Succ, Rsrc, File}
+use Rattle.yp_messages.specs.declared.transfer.XfrStat.{XfrStat}
+use Rattle.yp_messages.specs.declared.transfer.XfrStat.TheVariants.{Succ, Rsrc, File}
 use Rattle.yp_version.specs.Versions.{MapVersion}
-use Rattle.yp_slot.specs.declared.fault.SlotFault.{SlotFault}
-use Rattle.yp_slot.specs.declared.fault.SlotFault.TheVariants as slot
-use Rattle.yp_build.specs.After.{Basis}
-use Rattle.yp_answer.specs.declared.make.Job.{Job}
-use Rattle.yp_publish.specs.declared.install.InstallFault.{InstallFault}
-use Rattle.yp_publish.specs.declared.install.InstallFault.TheVariants as install
-use Rattle.yp_publish.specs.declared.install.Origin.TheVariants.{Built}
-use Rattle.yp_publish.specs.Standing.{Published}
-use Rattle.yp_publish.specs.Keeping.{Keeping}
-use Rattle.yp_publish.specs.Installs.{Offer, offer, Installs, Refuses}
-use Rattle.yp_publish.specs.Opens.{Opens, StaysBehind}
+use Rattle.yp_map_file.specs.declared.fault.SlotFault.{SlotFault}
+use Rattle.yp_map_file.specs.declared.fault.SlotFault.TheVariants as slot
+use Rattle.yp_texts.specs.After.{Basis}
+use Rattle.yp_answer.specs.declared.make.MakeJob.{MakeJob}
+use Rattle.yp_publisher.specs.declared.install.InstallFault.{InstallFault}
+use Rattle.yp_publisher.specs.declared.install.InstallFault.TheVariants as install
+use Rattle.yp_publisher.specs.declared.install.Origin.TheVariants.{Built}
+use Rattle.yp_publisher.specs.Standing.{Published}
+use Rattle.yp_publisher.specs.Keeping.{Keeping}
+use Rattle.yp_publisher.specs.Installs.{OfferedVersion, offer, Installs, Refuses}
+use Rattle.yp_publisher.specs.Opens.{Opens, StaysBehind}
 use Rattle.yp_answer.specs.Causes.{IsAnew, basis_at}
-use Rattle.yp_server.specs.Locals.{Local, Telling, IsUsed, LeavesDial}
-use Rattle.yp_server.specs.Anew.{IsUnbuilt}
+use Rattle.yp_host.specs.Locals.{Local, Telling, IsUsed, LeavesDial}
+use Rattle.yp_host.specs.Anew.{IsUnbuilt}
 
 -- the status of a file that isn't opened: FILE, or RSRC for want of memory
 abbrev pub open_stat : SlotFault → XfrStat
@@ -33,7 +33,7 @@ pub record StaysShut {D B : Type 0} (keeping : Keeping D B) (number : ℕ) (stat
   pub stays : StaysBehind keeping number fault old new
 
 -- a version that was built here, as it is offered
-abbrev pub built_offer : MapVersion → Offer
+abbrev pub built_offer : MapVersion → OfferedVersion
 built_offer version = offer version Built false
 
 -- the status of a fault: FILE, or RSRC for want of memory; a version that was built for a level map has no other
@@ -59,11 +59,11 @@ OffersBuilt keeping number version stat old new =
     ⊎ IsUninstalled keeping number version stat old new
 
 -- what a version of the map is built for
-abbrev pub site_at : {D B : Type 0} → Keeping D B → Job → Published D B → Basis
+abbrev pub site_at : {D B : Type 0} → Keeping D B → MakeJob → Published D B → Basis
 site_at keeping job published = basis_at published.catalogue.own job (keeping.log published.board)
 
 -- No version was built, and the maps stay; or one was built, and came to this.
-abbrev pub Tries : {D B E : Type 0} → Keeping D B → Telling E → Job → XfrStat → Local D B E → Local D B E
+abbrev pub Tries : {D B E : Type 0} → Keeping D B → Telling E → MakeJob → XfrStat → Local D B E → Local D B E
     → Type 0
 Tries keeping telling job stat old new =
     (IsUnbuilt telling (site_at keeping job old.published) stat old.desk new.desk × (new.published ≡ old.published))
@@ -72,14 +72,14 @@ Tries keeping telling job stat old new =
 
 -- The map is level, where it was behind by opening its file again, and then it is tried to make it. The maps between
 -- are the old ones, and where the map was behind it has what its file stood for.
-pub record OpensAndTries {D B E : Type 0} (keeping : Keeping D B) (telling : Telling E) (job : Job) (stat : XfrStat)
+pub record OpensAndTries {D B E : Type 0} (keeping : Keeping D B) (telling : Telling E) (job : MakeJob) (stat : XfrStat)
     (old new : Local D B E) : Type 0 where
   pub middle : Published D B
   pub opens : Opens keeping job.map old.published middle
   pub tries : Tries keeping telling job stat (record old { published = middle }) new
 
 -- What the making of a map does: its file can't be opened, or its map is level and it is tried to make it.
-pub record Makes {D B E : Type 0} (keeping : Keeping D B) (telling : Telling E) (job : Job) (stat : XfrStat)
+pub record Makes {D B E : Type 0} (keeping : Keeping D B) (telling : Telling E) (job : MakeJob) (stat : XfrStat)
     (old new : Local D B E) : Type 0 where
   pub desk : IsUsed telling old.desk new.desk
   pub dial : LeavesDial telling old.desk new.desk
@@ -88,7 +88,8 @@ pub record Makes {D B E : Type 0} (keeping : Keeping D B) (telling : Telling E) 
   pub ends : StaysShut keeping job.map stat old.published new.published
       ⊎ OpensAndTries keeping telling job stat old new
 
--- One of the maps was made, with this status.
-abbrev pub Made : {D B E : Type 0} → Keeping D B → Telling E → Job → XfrStat → Local D B E → Local D B E → Type 0
-Made keeping telling job stat old new =
+-- A call of the host made one of its maps, with this status.
+abbrev pub MapIsMade : {D B E : Type 0} → Keeping D B → Telling E → MakeJob → XfrStat → Local D B E → Local D B E
+    → Type 0
+MapIsMade keeping telling job stat old new =
     (job.map < length old.published.maps) × Makes keeping telling job stat old new

@@ -3,13 +3,13 @@ use Rattle.std.specs.Prelude.{◌≡◌, ◌<◌, false, length, None}
 use Rattle.yp_io.specs.Counts.{next_count}
 use Rattle.yp_io.specs.declared.stream.Peer.{Peer}
 use Rattle.yp_answer.specs.Transfer.{Taken}
-use Rattle.yp_publish.specs.Keeping.{Keeping}
-use Rattle.yp_xfr.specs.declared.calling_back.Asker.{Asker}
-use Rattle.yp_xfr.specs.Transfers.{Request, request_of, TransfersFor}
-use Rattle.yp_server.specs.Locals.{Local, Telling, IsUsed}
+use Rattle.yp_publisher.specs.Keeping.{Keeping}
+use Rattle.yp_transfer.specs.declared.calling_back.Asker.{Asker}
+use Rattle.yp_transfer.specs.Transfers.{TransferRequest, request_of, TransfersFor}
+use Rattle.yp_host.specs.Locals.{Local, Telling, IsUsed}
 
 -- what a taken transfer asks for: it isn't forced, and has no mark of its own
-abbrev pub request_for : Taken → Request
+abbrev pub request_for : Taken → TransferRequest
 request_for taken = request_of taken.map taken.source false None
 
 -- the caller whose transfer it is
@@ -18,7 +18,7 @@ asker_of taken peer =
     record { addr = peer.addr; prog = taken.prog; port = taken.port; transid = taken.transid }
 
 -- The transfer of one of the maps was carried out, and counted.
-pub record Carried {D B E : Type 0} (keeping : Keeping D B) (telling : Telling E) (taken : Taken) (peer : Peer)
+pub record MapIsTransferred {D B E : Type 0} (keeping : Keeping D B) (telling : Telling E) (taken : Taken) (peer : Peer)
     (old new : Local D B E) : Type 0 where
   pub inside : taken.map < length old.published.maps
   pub transfers : TransfersFor keeping (telling.hosts old.desk) (request_for taken) (asker_of taken peer)

@@ -5,20 +5,22 @@ ghost use Rattle.yp_io.specs.Counts.{HasRisen};
 ghost use Rattle.yp_io.specs.Texts.{text_max};
 ghost use Rattle.yp_io.specs.declared.texts.TextFile.{TextFile};
 ghost use Rattle.yp_version.specs.Limits.{master_max};
-ghost use Rattle.yp_build.specs.Kinds.{file_of};
-ghost use Rattle.yp_publish.specs.declared.install.Origin.TheVariants.{Built};
-ghost use Rattle.yp_publish.specs.Installs.{offer, not_following};
-ghost use Rattle.yp_server.specs.Locals.{told_by, telling_of, IsUsed, LeavesDial};
-ghost use Rattle.yp_answer.specs.Causes.{IsAnew, build_stat};
-ghost use Rattle.yp_build.specs.After.{basis_of};
-ghost use Rattle.yp_server.specs.Anew.{IsUnbuilt};
+ghost use Rattle.yp_texts.specs.Kinds.{file_of};
+ghost use Rattle.yp_publisher.specs.declared.install.Origin.TheVariants.{Built};
+ghost use Rattle.yp_publisher.specs.Installs.{offer, not_following};
+ghost use Rattle.yp_host.specs.Locals.{told_by, IsUsed, LeavesDial};
+ghost use Rattle.yp_host.specs.inside.Locals.{telling_by};
+ghost use Rattle.yp_answer.specs.Causes.{IsAnew};
+ghost use Rattle.yp_answer.specs.inside.Causes.{build_stat};
+ghost use Rattle.yp_texts.specs.After.{basis_of};
+ghost use Rattle.yp_host.specs.Anew.{IsUnbuilt};
 
 use crate::desk::Desk;
 use std::alloc::Global;
 use std::random::RandomSource;
-use yp_build::{AfterFault, BuildFault, Kind, build_after, other_master};
 use yp_io::{Clock, Dial, TextFault, Texts};
-use yp_msgs::XfrStat;
+use yp_messages::XfrStat;
+use yp_texts::{AfterFault, BuildFault, Kind, build_after, other_master};
 use yp_version::Version;
 
 /// Builds a version of a map, where `own` is the host's own name and `shown` the version that is shown of the map. It
@@ -39,10 +41,10 @@ pub fn build_anew<A: Dial, T: Texts, C: Clock>(
         (basis_of kind own.now None (option_map (λ version. version.now) shown.entry))) }
     ensures follows { IfOk result (λ version.
         not_following own.now (offer version Built false) (option_map (λ version. version.now) shown.entry) ≡ None) }
-    ensures unbuilt { IfErr result (λ stat. IsUnbuilt (telling_of T.Texts C.Clock A.past A.letters A.faults)
+    ensures unbuilt { IfErr result (λ stat. IsUnbuilt (telling_by T.Texts C.Clock A.Dial)
         (basis_of kind own.now None (option_map (λ version. version.now) shown.entry)) stat desk.old desk.new) }
-    ensures desk { IsUsed (telling_of T.Texts C.Clock A.past A.letters A.faults) desk.old desk.new }
-    ensures dial { LeavesDial (telling_of T.Texts C.Clock A.past A.letters A.faults) desk.old desk.new }
+    ensures desk { IsUsed (telling_by T.Texts C.Clock A.Dial) desk.old desk.new }
+    ensures dial { LeavesDial (telling_by T.Texts C.Clock A.Dial) desk.old desk.new }
 {
     if other_master(own, shown).is_some() {
         return Err(XfrStat::Refused);

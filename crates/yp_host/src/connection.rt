@@ -3,29 +3,31 @@
 ghost use Rattle.std.specs.Prelude.{◌≡◌, ◌≢◌, ◌≤◌, ℕ, IsTrue, Ok, map, length, All, IfOk, OnOk, IfErr, OnErr};
 ghost use Rattle.std.specs.List.{AllZip};
 ghost use Rattle.yp_io.specs.Counts.{HasRisen};
-ghost use Rattle.yp_slot.specs.Stands.{file_max};
+ghost use Rattle.yp_map_file.specs.Stands.{file_max};
 ghost use Rattle.yp_version.specs.Versions.{IsVersion};
-ghost use Rattle.yp_publish.specs.Standing.{OfMap, IsStanding, Shows, versions};
-ghost use Rattle.yp_publish.specs.Begins.{plain_log, IsUnwritten, IsUnopened};
-ghost use Rattle.yp_session.specs.Wires.{wire_of, NeverFalls, SeesMore};
-ghost use Rattle.yp_publish.specs.Keeping.{keeping_of};
-ghost use Rattle.yp_server.specs.Locals.{telling_of, IsUsed};
-ghost use Rattle.yp_publish.specs.Grown.{AtDisk, LeavesOr};
-ghost use Rattle.yp_server.specs.Connections.{service_of, connection_of, Serves};
+ghost use Rattle.yp_publisher.specs.Standing.{OfMap, IsStanding, Shows, versions};
+ghost use Rattle.yp_publisher.specs.Begins.{plain_log, IsUnwritten, IsUnopened};
+ghost use Rattle.yp_answer.specs.session.Wires.{wire_of, NeverFalls, SeesMore};
+ghost use Rattle.yp_publisher.specs.Keeping.{keeping_of};
+ghost use Rattle.yp_host.specs.Locals.{IsUsed};
+ghost use Rattle.yp_host.specs.inside.Locals.{telling_by};
+ghost use Rattle.yp_publisher.specs.Grown.{AtDisk, LeavesOr};
+ghost use Rattle.yp_host.specs.Connections.{service_of, ServesConnection};
+ghost use Rattle.yp_host.specs.inside.Connections.{connection_of};
 
 use crate::desk::Desk;
 use crate::local::LocalHost;
 use std::alloc::Global;
 use std::random::RandomSource;
+use yp_answer::session::{CALLS_MAX, End, Session, Witness};
 use yp_board::{Catalog, PlainBoard};
 use yp_io::{Clock, Dial, Disk, Pair, Peer, Sink, Source, Texts};
-use yp_publish::laws::{beginning_is_start, log_rises, starts_are_shown};
-use yp_publish::{OpenFault, OpenRefused, open_publisher};
-use yp_session::{CALLS_MAX, End, Session, Witness};
+use yp_publisher::laws::{beginning_is_start, log_rises, starts_are_shown};
+use yp_publisher::{OpenFault, OpenRefused, open_publisher};
 
 /// What a connection is served from.
 #[derive(Drop)]
-pub struct Stock<D, A, T, C> {
+pub struct ConnectionResources<D, A, T, C> {
     /// The disks of the maps, in the order of the catalogue.
     pub disks: Vec<D>,
     pub desk: Desk<A, T, C>,
@@ -41,32 +43,31 @@ pub fn serve_wire<S: Source, K: Sink, D: Disk, A: Dial, T: Texts, C: Clock, W: W
     catalog: Catalog,
     peer: Peer,
     wire: &mut Pair<S, K>,
-    stock: Stock<D, A, T, C>,
+    resources: ConnectionResources<D, A, T, C>,
     witness: &mut W,
-) -> (Result<End, OpenFault>, Stock<D, A, T, C>)
-    requires { length stock.disks.items ≡ length catalog.maps }
-    ensures served { IfOk result.0 (λ end. SeesMore (W.wires witness.old) (W.wires witness.new) (Serves
-        (service_of (keeping_of D.history D.faults plain_log)
-        (telling_of T.Texts C.Clock A.past A.letters A.faults) catalog peer) end
-        (connection_of (wire_of S.Source K.Sink wire.old) stock)
+) -> (Result<End, OpenFault>, ConnectionResources<D, A, T, C>)
+    requires { length resources.disks.items ≡ length catalog.maps }
+    ensures served { IfOk result.0 (λ end. SeesMore (W.wires witness.old) (W.wires witness.new) (ServesConnection
+        (service_of (keeping_of D.history D.faults plain_log) (telling_by T.Texts C.Clock A.Dial) catalog peer) end
+        (connection_of (wire_of S.Source K.Sink wire.old) resources)
         (connection_of (wire_of S.Source K.Sink wire.new) result.1))) }
 
     // What a refusal leaves: the wire and the desk as they were, and nothing was written.
     ensures unserved { IfErr result.0 (λ why.
-        IsUnopened D.history D.faults why stock.disks.items result.1.disks.items) }
+        IsUnopened D.history D.faults why resources.disks.items result.1.disks.items) }
     ensures untouched { OnErr result.0 (wire.new ≡ wire.old) }
-    ensures unasked { OnErr result.0 (result.1.desk ≡ stock.desk) }
+    ensures unasked { OnErr result.0 (result.1.desk ≡ resources.desk) }
     ensures unseen { OnErr result.0 (witness.new ≡ witness.old) }
     ensures unwritten { OnErr result.0
-        (AllZip (IsUnwritten D.history D.faults) stock.disks.items result.1.disks.items) }
+        (AllZip (IsUnwritten D.history D.faults) resources.disks.items result.1.disks.items) }
 
     // With every outcome: no disk is ever over the most bytes of a file, unless it was so before; none is lost.
-    ensures bound { (number : ℕ) → AtDisk number stock.disks.items result.1.disks.items
+    ensures bound { (number : ℕ) → AtDisk number resources.disks.items result.1.disks.items
         (LeavesOr D.history (λ image. length image ≤ file_max)) }
-    ensures never_falls { (number : ℕ) → AtDisk number stock.disks.items result.1.disks.items
+    ensures never_falls { (number : ℕ) → AtDisk number resources.disks.items result.1.disks.items
         (λ before after. D.faults before ≤ D.faults after) }
-    ensures count { length result.1.disks.items ≡ length stock.disks.items }
-    ensures desk { IsUsed (telling_of T.Texts C.Clock A.past A.letters A.faults) stock.desk result.1.desk }
+    ensures count { length result.1.disks.items ≡ length resources.disks.items }
+    ensures desk { IsUsed (telling_by T.Texts C.Clock A.Dial) resources.desk result.1.desk }
 
     // The counts of the wire, a fault of it, and its output.
     ensures counts { NeverFalls (wire_of S.Source K.Sink wire.old) (wire_of S.Source K.Sink wire.new) }
@@ -77,11 +78,14 @@ pub fn serve_wire<S: Source, K: Sink, D: Disk, A: Dial, T: Texts, C: Clock, W: W
     ensures flushed { result.0 ≢ Ok End.WriteFault
         → IsTrue (K.flushed wire.old.sink) → IsTrue (K.flushed wire.new.sink) }
 {
-    let Stock { disks, desk } = stock;
+    let ConnectionResources { disks, desk } = resources;
     // The names of a catalogue are within their limits.
     let _count = catalog.len();
     let Ok(mut session) = Session::new(alloc) else {
-        return (Err(OpenFault::NoMemory), Stock { disks, desk });
+        return (
+            Err(OpenFault::NoMemory),
+            ConnectionResources { disks, desk },
+        );
     };
     match open_publisher(alloc, rt, catalog, disks) {
         Ok(publisher) => {
@@ -92,14 +96,14 @@ pub fn serve_wire<S: Source, K: Sink, D: Disk, A: Dial, T: Texts, C: Clock, W: W
             let end = session.run(wire, &mut host, peer, CALLS_MAX, witness);
             (Ok(end), stock_of(host))
         }
-        Err(OpenRefused { disks, fault }) => (Err(fault), Stock { disks, desk }),
+        Err(OpenRefused { disks, fault }) => (Err(fault), ConnectionResources { disks, desk }),
     }
 }
 
 /// The disks and the desk of a host.
 fn stock_of<D: Disk, A: Dial, T: Texts, C: Clock, R: RandomSource + Drop>(
     host: LocalHost<D, PlainBoard, A, T, C, R>,
-) -> Stock<D, A, T, C>
+) -> ConnectionResources<D, A, T, C>
     ensures disks { result.disks.items ≡ map (λ kept. kept.disk) host.published.maps }
     ensures desk { result.desk ≡ host.desk }
     ensures shows { Shows (plain_log host.published.board) (versions host.published.maps) }
@@ -109,5 +113,5 @@ fn stock_of<D: Disk, A: Dial, T: Texts, C: Clock, R: RandomSource + Drop>(
     let (publisher, desk) = host.into_parts();
     let (disks, board) = publisher.into_parts();
     board.rest();
-    Stock { disks, desk }
+    ConnectionResources { disks, desk }
 }

@@ -1,6 +1,6 @@
 //! What a host needs from outside to make maps and to fetch them.
 
-use yp_xfr::Hosts;
+use yp_transfer::Hosts;
 
 /// The texts that maps are made of, the clock that their orders follow, and what opens connections to the hosts that
 /// maps are fetched from, with their addresses.

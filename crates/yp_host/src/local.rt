@@ -5,16 +5,17 @@ ghost use Rattle.std.proofs.Common.{ap};
 ghost use Rattle.yp_io.specs.Counts.{next_count};
 ghost use Rattle.yp_board.specs.Logs.{shown};
 ghost use Rattle.yp_board.specs.Views.{IsFront};
-ghost use Rattle.yp_publish.specs.Installs.{offer, not_following};
-ghost use Rattle.yp_publish.specs.declared.install.Origin.TheVariants.{Built};
-ghost use Rattle.yp_publish.specs.Standing.{Level, OfMap};
+ghost use Rattle.yp_publisher.specs.Installs.{offer, not_following};
+ghost use Rattle.yp_publisher.specs.declared.install.Origin.TheVariants.{Built};
+ghost use Rattle.yp_publisher.specs.Standing.{Level, OfMap};
 ghost use Rattle.yp_answer.specs.Make.{job_of};
-ghost use Rattle.yp_publish.specs.Keeping.{keeping_of};
-ghost use Rattle.yp_server.specs.Locals.{seen_of, told_by, telling_of, IsUsed, LeavesDial};
+ghost use Rattle.yp_publisher.specs.Keeping.{keeping_of};
+ghost use Rattle.yp_host.specs.Locals.{seen_of, told_by, IsUsed, LeavesDial};
+ghost use Rattle.yp_host.specs.inside.Locals.{telling_by};
 ghost use Rattle.yp_answer.specs.Causes.{IsAnew};
-ghost use Rattle.yp_server.specs.Anew.{IsUnbuilt};
-ghost use Rattle.yp_server.specs.Made.{site_at, Tries, Makes, Made};
-ghost use Rattle.yp_server.specs.Carried.{Carried};
+ghost use Rattle.yp_host.specs.Anew.{IsUnbuilt};
+ghost use Rattle.yp_host.specs.Making.{site_at, Tries, Makes, MapIsMade};
+ghost use Rattle.yp_host.specs.Transferring.{MapIsTransferred};
 
 use crate::anew::build_anew;
 use crate::carrying::carry_out;
@@ -23,13 +24,13 @@ use crate::steps::{install, reopen};
 use std::alloc::Global;
 use std::marker::Model;
 use std::random::RandomSource;
-use yp_answer::{Errand, Job};
+use yp_answer::session::Host;
+use yp_answer::{MakeJob, TransferJob};
 use yp_board::{Catalog, Show, View};
-use yp_build::Kind;
 use yp_io::{Clock, Dial, Disk, Peer, Texts};
-use yp_msgs::XfrStat;
-use yp_publish::Publisher;
-use yp_session::Host;
+use yp_messages::XfrStat;
+use yp_publisher::Publisher;
+use yp_texts::Kind;
 use yp_version::Version;
 
 /// A host over stored maps, for one thread. What it knows is all that was shown.
@@ -50,8 +51,8 @@ pub struct LocalHost<D: Disk, B: Show, A: Dial, T: Texts, C: Clock, R: RandomSou
 impl<D: Disk, B: Show, A: Dial, T: Texts, C: Clock, R: RandomSource + Drop> Model
     for LocalHost<D, B, A, T, C, R> {
     ghost use Rattle.std.specs.Prelude.{◌≡◌, length};
-    ghost use Rattle.yp_server.specs.Locals.{Local};
-    ghost use Rattle.yp_server.specs.declared.desk.Desk.{Desk};
+    ghost use Rattle.yp_host.specs.Locals.{Local};
+    ghost use Rattle.yp_host.specs.declared.desk.Desk.{Desk};
 
     ghost Value = { Local D B (Desk A T C) };
 
@@ -117,9 +118,9 @@ impl<D: Disk, B: Show, A: Dial, T: Texts, C: Clock, R: RandomSource + Drop> Loca
     fn make_anew(&mut self, map: u32, kind: Kind) -> Result<(), XfrStat>
         requires { map < length self.old.published.catalogue.maps }
         ensures made { OnOk result (Makes (keeping_of D.history D.faults B.log)
-            (telling_of T.Texts C.Clock A.past A.letters A.faults) (job_of map kind) XfrStat.Succ self.old self.new) }
+            (telling_by T.Texts C.Clock A.Dial) (job_of map kind) XfrStat.Succ self.old self.new) }
         ensures unmade { IfErr result (λ stat. Makes (keeping_of D.history D.faults B.log)
-            (telling_of T.Texts C.Clock A.past A.letters A.faults) (job_of map kind) stat self.old self.new) }
+            (telling_by T.Texts C.Clock A.Dial) (job_of map kind) stat self.old self.new) }
         ensures grown { IsFront (B.log self.old.published.board) (B.log self.new.published.board) }
         ensures catalogue { self.new.published.catalogue ≡ self.old.published.catalogue }
         ensures files { self.new.files ≡ self.old.files }
@@ -134,11 +135,11 @@ impl<D: Disk, B: Show, A: Dial, T: Texts, C: Clock, R: RandomSource + Drop> Loca
         requires map { map < length self.old.published.maps }
         requires level { OfMap map self.old.published.maps (λ kept. kept.standing ≡ Level) }
         ensures made { OnOk result (Tries (keeping_of D.history D.faults B.log)
-            (telling_of T.Texts C.Clock A.past A.letters A.faults) (job_of map kind) XfrStat.Succ self.old self.new) }
+            (telling_by T.Texts C.Clock A.Dial) (job_of map kind) XfrStat.Succ self.old self.new) }
         ensures unmade { IfErr result (λ stat. Tries (keeping_of D.history D.faults B.log)
-            (telling_of T.Texts C.Clock A.past A.letters A.faults) (job_of map kind) stat self.old self.new) }
-        ensures desk { IsUsed (telling_of T.Texts C.Clock A.past A.letters A.faults) self.old.desk self.new.desk }
-        ensures dial { LeavesDial (telling_of T.Texts C.Clock A.past A.letters A.faults) self.old.desk self.new.desk }
+            (telling_by T.Texts C.Clock A.Dial) (job_of map kind) stat self.old self.new) }
+        ensures desk { IsUsed (telling_by T.Texts C.Clock A.Dial) self.old.desk self.new.desk }
+        ensures dial { LeavesDial (telling_by T.Texts C.Clock A.Dial) self.old.desk self.new.desk }
         ensures grown { IsFront (B.log self.old.published.board) (B.log self.new.published.board) }
         ensures catalogue { self.new.published.catalogue ≡ self.old.published.catalogue }
         ensures asked { self.new.asked ≡ self.old.asked }
@@ -171,10 +172,10 @@ fn build_for<D: Disk, B: Show, A: Dial, T: Texts, C: Clock>(
         (site_at (keeping_of D.history D.faults B.log) (job_of map kind) publisher.now)) }
     ensures follows { IfOk result (λ version. OfMap map publisher.now.maps (λ kept.
         not_following publisher.now.catalogue.own (offer version Built false) kept.version ≡ None)) }
-    ensures unbuilt { IfErr result (λ stat. IsUnbuilt (telling_of T.Texts C.Clock A.past A.letters A.faults)
+    ensures unbuilt { IfErr result (λ stat. IsUnbuilt (telling_by T.Texts C.Clock A.Dial)
         (site_at (keeping_of D.history D.faults B.log) (job_of map kind) publisher.now) stat desk.old desk.new) }
-    ensures desk { IsUsed (telling_of T.Texts C.Clock A.past A.letters A.faults) desk.old desk.new }
-    ensures dial { LeavesDial (telling_of T.Texts C.Clock A.past A.letters A.faults) desk.old desk.new }
+    ensures desk { IsUsed (telling_by T.Texts C.Clock A.Dial) desk.old desk.new }
+    ensures dial { LeavesDial (telling_by T.Texts C.Clock A.Dial) desk.old desk.new }
 {
     let shown = held(publisher, map);
     let own = publisher.catalog().own();
@@ -218,10 +219,9 @@ impl<D: Disk, B: Show, A: Dial, T: Texts, C: Clock, R: RandomSource + Drop> Host
 
     ghost counts = { λ host. record { files = host.files; transfers = host.transfers } };
 
-    ghost made = { Made (keeping_of D.history D.faults B.log)
-        (telling_of T.Texts C.Clock A.past A.letters A.faults) };
+    ghost made = { MapIsMade (keeping_of D.history D.faults B.log) (telling_by T.Texts C.Clock A.Dial) };
 
-    fn make(&mut self, job: Job) -> XfrStat {
+    fn make(&mut self, job: MakeJob) -> XfrStat {
         match self.make_anew(job.map, job.kind) {
             Ok(()) => XfrStat::Succ,
             Err(XfrStat::File) => {
@@ -232,16 +232,15 @@ impl<D: Disk, B: Show, A: Dial, T: Texts, C: Clock, R: RandomSource + Drop> Host
         }
     }
 
-    ghost carried = { Carried (keeping_of D.history D.faults B.log)
-        (telling_of T.Texts C.Clock A.past A.letters A.faults) };
+    ghost carried = { MapIsTransferred (keeping_of D.history D.faults B.log) (telling_by T.Texts C.Clock A.Dial) };
 
-    fn transfer(&mut self, errand: &Errand<'_>, peer: Peer) {
+    fn transfer(&mut self, job: &TransferJob<'_>, peer: Peer) {
         carry_out(
             self.alloc,
             &self.rt,
             &mut self.publisher,
             &mut self.desk,
-            errand,
+            job,
             peer,
         );
         self.transfers = self.transfers.saturating_add(1);

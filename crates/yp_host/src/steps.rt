@@ -2,19 +2,19 @@
 
 ghost use Rattle.std.specs.Prelude.{◌≡◌, ◌<◌, false, None, length, OnOk, IfErr, IsTrue};
 ghost use Rattle.yp_board.specs.Views.{IsFront};
-ghost use Rattle.yp_publish.specs.Standing.{Level, OfMap};
-ghost use Rattle.yp_publish.specs.Installs.{offer, not_following};
-ghost use Rattle.yp_publish.specs.Keeping.{keeping_of};
-ghost use Rattle.yp_publish.specs.Opens.{Opens};
-ghost use Rattle.yp_server.specs.Made.{open_stat, IsInstallStat, StaysShut, built_offer, OffersBuilt};
+ghost use Rattle.yp_publisher.specs.Standing.{Level, OfMap};
+ghost use Rattle.yp_publisher.specs.Installs.{offer, not_following};
+ghost use Rattle.yp_publisher.specs.Keeping.{keeping_of};
+ghost use Rattle.yp_publisher.specs.Opens.{Opens};
+ghost use Rattle.yp_host.specs.Making.{open_stat, IsInstallStat, StaysShut, built_offer, OffersBuilt};
 
 use std::alloc::Global;
 use std::random::RandomSource;
 use yp_board::Show;
 use yp_io::Disk;
-use yp_msgs::XfrStat;
-use yp_publish::{InstallFault, Origin, Publisher};
-use yp_slot::SlotFault;
+use yp_map_file::SlotFault;
+use yp_messages::XfrStat;
+use yp_publisher::{InstallFault, Origin, Publisher};
 use yp_version::Version;
 
 /// Opens the file of a map that is behind again. Where that is refused, the status is FILE, or RSRC for want of memory.

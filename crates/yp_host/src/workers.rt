@@ -3,8 +3,8 @@
 //! What a worker knows is what its own reader knows. It makes and fetches maps under two locks: that of the desk, which
 //! is taken first, and that of the publisher. A fetch holds the desk's alone. That a map which was made is known, last
 //! of all, behind all that the worker knew, and each other status by its cause, stands on [`WorkerHost`] as a
-//! [`Host`](yp_session::Host): the relation `made` of its `make`. What a transfer came to stands on the relation
-//! `carried` of its `transfer`.
+//! [`Host`](yp_answer::session::Host): the relation `made` of its `make`. What a transfer came to stands on the
+//! relation `carried` of its `transfer`.
 //!
 //! What all workers answered is covered by what came about under the locks. How many makes and transfers ended in FILE
 //! is at most what the counts of the texts and of the disks rose by. How many transfers reached an order is at most how
@@ -12,8 +12,7 @@
 //! with the wires that give no version. How many versions were fetched is at most how many wires give one, and how many
 //! makes ended in SUCC is at most how many built versions were shown. Each is charged under the lock where it came
 //! about, and that stands on [`Account::into_parts`], on [`SharedDesk::close`] and on
-//! [`Locked::close`](yp_shared::Locked::close).
-#![tactic(auto)]
+//! [`Locked::close`](yp_publisher::sharing::Locked::close).
 
 mod carrying;
 mod charges;
@@ -23,6 +22,6 @@ mod making;
 mod outcome;
 
 pub use charges::{Account, Charges};
-pub use desk::{Orders, SharedDesk, Sources, Supplies, Unread};
+pub use desk::{FailedSources, ReachedOrders, SharedDesk, Supplies, UnreadTexts};
 pub use host::WorkerHost;
 pub use outcome::{Group, Outcomes, Totals};

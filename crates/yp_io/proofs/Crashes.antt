@@ -5,9 +5,9 @@ use Rattle.std.proofs.lemmas.Nat.{pow-add}
 use Rattle.std.proofs.Math.Nat.{div-div-eq-div-mul}
 use Rattle.std.specs.List.{fold}
 use Rattle.yp_io.specs.Disk.{History, written_at, after_sync, overwritten}
-use Rattle.yp_io.specs.MemDisk.{DiskStep, Wrote, Synced, after_step, fresh, unsynced_after, with_kept, crashed}
-use Rattle.yp_io.specs.MemDiskLaws.{with_kept_last}
-use Rattle.yp_io.specs.MemSteps.{Replayed, after_crash_step}
+use Rattle.yp_io.specs.inside.MemDisk.{DiskStep, Wrote, Synced, after_step, fresh, unsynced_after, with_kept, crashed}
+use Rattle.yp_io.specs.inside.MemDiskLaws.{with_kept_last}
+use Rattle.yp_io.specs.inside.MemSteps.{Replayed, after_crash_step}
 
 -- the bit of the write after these is the lowest of what is left
 next_bits : (kept : ℕ) (writes : List (ℕ × List ℕ)) (write : ℕ × List ℕ)

@@ -3,10 +3,10 @@ use Rattle.std.proofs.Common.{◌≡◌, ℕ, List, [], ◌∷◌, ◌++◌, len
 use Rattle.std.proofs.lemmas.List.{ext_get_or}
 use Rattle.yp_io.specs.Disk.{IsImage, History, LeavesOnly, MayLeave, MayLeaveTorn, IsReadAnImage, IsDurable}
 use Rattle.yp_io.specs.Disk.{written_at, after_sync}
-use Rattle.yp_io.specs.DiskLaws.{stays, only_now, continued_once, left_once}
+use Rattle.yp_io.specs.inside.DiskLaws.{stays, only_now, continued_once, left_once}
 use Rattle.std.proofs.lemmas.List.Sums.{fold-append}
-use Rattle.yp_io.specs.MemDisk.{DiskStep, Wrote, Synced, fresh, after_step, played}
-use Rattle.yp_io.specs.MemDiskLaws.{torn_same, torn_image, same_image, reads_image}
+use Rattle.yp_io.specs.inside.MemDisk.{DiskStep, Wrote, Synced, fresh, after_step, played}
+use Rattle.yp_io.specs.inside.MemDiskLaws.{torn_same, torn_image, same_image, reads_image}
 
 -- a disk all of whose bytes are synced leaves them
 pub synced_image : (bytes image : List ℕ) → IsImage (record { synced = bytes; written = []; reads = bytes }) image

@@ -6,7 +6,8 @@ use Rattle.std.proofs.lemmas.List.{append-nil, take_at}
 use Rattle.std.specs.Io.KnownBytes.{Keeps, Appends, Consumes}
 use Rattle.yp_io.specs.declared.whole.Unread.{Unread}
 use Rattle.yp_io.specs.declared.whole.Unread.TheVariants.{NoMemory}
-use Rattle.yp_io.specs.Streams.{AppendsFront, IsStopped}
+use Rattle.yp_io.specs.Streams.{AppendsFront}
+use Rattle.yp_io.specs.inside.Streams.{ReadingStopped}
 
 -- what holds, holds after an error
 pub on_err : {T E : Type 0} {P : Type 0} (r : Result T E) → P → OnErr r P
@@ -36,7 +37,7 @@ reads_both (Some xs) (Some ys) (Some zs) x y h k = h ∙ ap (λ (l : List ℕ). 
 
 -- what stopped a reading stopped it from its beginning on
 pub stopped_behind : (most : ℕ) (a b c : Option (List ℕ)) (text : List ℕ) (why : Unread) → Consumes a b text
-    → IsStopped most b c (length text) why → IsStopped most a c 0 why
+    → ReadingStopped most b c (length text) why → ReadingStopped most a c 0 why
 stopped_behind most a b c text why read stopped = record {
   piece = text ++ stopped.piece;
   taken = reads_both a b c text stopped.piece read stopped.taken;
@@ -44,5 +45,5 @@ stopped_behind most a b c text why read stopped = record {
 }
 
 -- where nothing was read
-pub unread_stopped : (most : ℕ) (a : Option (List ℕ)) (why : Unread) → why ≡ NoMemory → IsStopped most a a 0 why
+pub unread_stopped : (most : ℕ) (a : Option (List ℕ)) (why : Unread) → why ≡ NoMemory → ReadingStopped most a a 0 why
 unread_stopped most a why is = record { piece = []; taken = reads_nothing a; over = λ long. absurd cc }

@@ -2,7 +2,7 @@
 use Rattle.std.proofs.Common.{◌≡◌, ◌∙◌, ◌+◌, ℕ, List, [], ◌∷◌, Option, drop, length, map, min, ap, sym, refl, zero-le, zero, suc, arith}
 use Rattle.std.proofs.Math.ListN.{drop_of_length-le}
 use Rattle.yp_io.specs.declared.dial.Letter.{Letter}
-use Rattle.yp_io.specs.MemInbox.{turn_of, turns_behind}
+use Rattle.yp_io.specs.inside.MemInbox.{turn_of, turns_behind}
 
 none_left : (n : ℕ) → drop {A = Option Letter} n [] ≡ []
 none_left n = drop_of_length-le [] {i = n} zero-le

@@ -2,6 +2,6 @@
 use Rattle.yp_io.specs.declared.stream.Peer.{Peer}
 use Rattle.yp_io.specs.declared.stream.Pair.{Pair}
 
-pub record Caller (S K : Type 0) : Type 0 where
+pub record CallerWire (S K : Type 0) : Type 0 where
   pub peer : Peer
   pub wire : Pair S K

@@ -1,5 +1,5 @@
 -- Counts of faults, as each object of the outside has one.
-use Rattle.std.specs.Prelude.{ℕ, ◌+◌, ◌≤◌, min, if◌then◌else◌, is_ok, Result, OnErr}
+use Rattle.std.specs.Prelude.{ℕ, ◌+◌, ◌≤◌, min, Result, OnErr}
 
 -- the last value of a count, at which it stays
 abbrev pub last_count : ℕ
@@ -12,10 +12,6 @@ next_count before = min (before + 1) last_count
 -- a count and so much more, up to the last count
 abbrev pub capped : ℕ → ℕ → ℕ
 capped count more = min (count + more) last_count
-
--- the count of faults after a call: one more where the call failed
-abbrev pub faults_after : {T E : Type 0} → ℕ → Result T E → ℕ
-faults_after before result = if is_ok result then before else next_count before
 
 -- A count rose, or stands at its last value.
 abbrev pub HasRisen : ℕ → ℕ → Type 0

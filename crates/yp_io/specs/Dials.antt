@@ -34,7 +34,7 @@ pub record Dialing : Type 0 where
 abbrev pub dialing_of : {A : Type 0} → (A → Option Wires) → (A → ℕ) → A → Dialing
 dialing_of past faults dial = record { past = past dial; faults = faults dial }
 
--- the same, and the datagrams that were sent
+-- what a dial tells: the wires that came and went back, the datagrams that it sent, and how often it has failed
 pub record DialTells : Type 0 where
   pub past : Option Wires
   pub letters : Option (List (Peer × List ℕ))
@@ -49,10 +49,10 @@ abbrev pub wires_told : DialTells → Dialing
 wires_told tells = record { past = tells.past; faults = tells.faults }
 
 -- This wire came.
-abbrev pub Comes : Connected → Option Wires → Option Wires → Type 0
-Comes wire None new = ⊤
-Comes wire (Some wires) None = ⊥
-Comes wire (Some wires) (Some others) = others ≡ record { came = wires.came ++ wire ∷ []; back = wires.back }
+abbrev pub WireComes : Connected → Option Wires → Option Wires → Type 0
+WireComes wire None new = ⊤
+WireComes wire (Some wires) None = ⊥
+WireComes wire (Some wires) (Some others) = others ≡ record { came = wires.came ++ wire ∷ []; back = wires.back }
 
 -- A wire was given back that told this. Where more are given back than came, they aren't told from then on.
 abbrev pub GoesBack : WireState → Option Wires → Option Wires → Type 0
@@ -61,10 +61,10 @@ GoesBack last (Some wires) None = length wires.came ≤ length wires.back
 GoesBack last (Some wires) (Some others) = others ≡ record { came = wires.came; back = wires.back ++ last ∷ [] }
 
 -- What is told grew by one item.
-abbrev pub Gains : {A : Type 0} → A → Option (List A) → Option (List A) → Type 0
-Gains item None new = ⊤
-Gains item (Some items) None = ⊥
-Gains item (Some items) (Some others) = others ≡ items ++ item ∷ []
+abbrev pub GainsItem : {A : Type 0} → A → Option (List A) → Option (List A) → Type 0
+GainsItem item None new = ⊤
+GainsItem item (Some items) None = ⊥
+GainsItem item (Some items) (Some others) = others ≡ items ++ item ∷ []
 
 -- A wire has met no fault and taken nothing.
 pub record IsFresh (reads writes : ℕ) (output : Option (List ℕ)) : Type 0 where

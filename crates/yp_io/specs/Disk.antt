@@ -90,11 +90,11 @@ pub record Continues (old new : History) : Type 0 where
   pub follow : states new ≡ steps ++ states old
 
 -- A disk that tells its history went on, and tells it still; one that doesn't doesn't begin to.
-abbrev pub GoesOn : Option History → Option History → Type 0
-GoesOn None None = ⊤
-GoesOn None (Some new) = ⊥
-GoesOn (Some old) None = ⊥
-GoesOn (Some old) (Some new) = Continues old new
+abbrev pub HistoryGoesOn : Option History → Option History → Type 0
+HistoryGoesOn None None = ⊤
+HistoryGoesOn None (Some new) = ⊥
+HistoryGoesOn (Some old) None = ⊥
+HistoryGoesOn (Some old) (Some new) = Continues old new
 
 -- It is told that a crash at some moment from the old history to the new one might have left these bytes.
 abbrev pub LeftBetween : Option History → Option History → List ℕ → Type 0
@@ -104,7 +104,7 @@ LeftBetween (Some old) (Some new) image = LeftSince new (moment old) image
 
 -- At each moment from the old history to the new one a crash leaves bytes with P, and no others.
 pub record LeavesOnly (old new : Option History) (P : List ℕ → Type 0) : Type 0 where
-  pub goes_on : GoesOn old new
+  pub goes_on : HistoryGoesOn old new
   pub each : (image : List ℕ) → LeftBetween old new image → P image
 
 -- it is told that a crash may leave these bytes now

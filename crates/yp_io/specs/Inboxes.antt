@@ -7,31 +7,24 @@ use Rattle.yp_io.specs.declared.inbox.Mail.{Mail}
 use Rattle.yp_io.specs.declared.inbox.Mail.TheVariants as mail
 
 -- what happens at an inbox: a datagram arrives from a peer, a turn goes by without one, or a datagram is sent to a peer
-pub data Post : Type 0 where
-  Arrived : Peer → List ℕ → Post
-  Silent : Post
-  Sent : Peer → List ℕ → Post
+pub data InboxEvent : Type 0 where
+  Arrived : Peer → List ℕ → InboxEvent
+  Silent : InboxEvent
+  Sent : Peer → List ℕ → InboxEvent
 
 -- its turns alone: datagrams that arrived, and quiet turns
-abbrev pub turns_of : List Post → List Post
+abbrev pub turns_of : List InboxEvent → List InboxEvent
 turns_of [] = []
-turns_of (Arrived peer bytes ∷ posts) = Arrived peer bytes ∷ turns_of posts
-turns_of (Silent ∷ posts) = Silent ∷ turns_of posts
-turns_of (Sent peer bytes ∷ posts) = turns_of posts
-
--- the letters that were sent
-abbrev pub letters_of : List Post → List (Peer × List ℕ)
-letters_of [] = []
-letters_of (Arrived peer bytes ∷ posts) = letters_of posts
-letters_of (Silent ∷ posts) = letters_of posts
-letters_of (Sent peer bytes ∷ posts) = (peer, bytes) ∷ letters_of posts
+turns_of (Arrived peer bytes ∷ events) = Arrived peer bytes ∷ turns_of events
+turns_of (Silent ∷ events) = Silent ∷ turns_of events
+turns_of (Sent peer bytes ∷ events) = turns_of events
 
 -- how many quiet turns there were
-abbrev pub quiets_of : List Post → ℕ
+abbrev pub quiets_of : List InboxEvent → ℕ
 quiets_of [] = 0
-quiets_of (Arrived peer bytes ∷ posts) = quiets_of posts
-quiets_of (Silent ∷ posts) = 1 + quiets_of posts
-quiets_of (Sent peer bytes ∷ posts) = quiets_of posts
+quiets_of (Arrived peer bytes ∷ events) = quiets_of events
+quiets_of (Silent ∷ events) = 1 + quiets_of events
+quiets_of (Sent peer bytes ∷ events) = quiets_of events
 
 -- A buffer holds what fits of a datagram, at its front.
 pub record HoldsFront (bytes : List ℕ) (len : ℕ) (buf : List ℕ) : Type 0 where
@@ -39,10 +32,10 @@ pub record HoldsFront (bytes : List ℕ) (len : ℕ) (buf : List ℕ) : Type 0 w
   pub front : take len buf ≡ take len bytes
 
 -- A turn is what it answers, with the datagram in a buffer.
-abbrev pub IsTurn : Mail → List ℕ → Post → Type 0
+abbrev pub IsTurn : Mail → List ℕ → InboxEvent → Type 0
 IsTurn (mail.Came len from) buf (Arrived peer bytes) = (peer ≡ from) × HoldsFront bytes len buf
 IsTurn mail.Quiet buf Silent = ⊤
-IsTurn _ buf post = ⊥
+IsTurn _ buf event = ⊥
 
 -- A buffer has room for what is said to be in it.
 abbrev pub MailIsWithin : Mail → List ℕ → Type 0
@@ -50,10 +43,11 @@ MailIsWithin (mail.Came len from) buf = len ≤ length buf
 MailIsWithin mail.Quiet buf = ⊤
 
 -- What is told grew by the turn that was answered.
-abbrev pub GainsTurn : Mail → List ℕ → Option (List Post) → Option (List Post) → Type 0
+abbrev pub GainsTurn : Mail → List ℕ → Option (List InboxEvent) → Option (List InboxEvent) → Type 0
 GainsTurn answer buf None new = ⊤
-GainsTurn answer buf (Some posts) None = ⊥
-GainsTurn answer buf (Some posts) (Some others) = (post : Post) × IsTurn answer buf post × (others ≡ posts ++ post ∷ [])
+GainsTurn answer buf (Some events) None = ⊥
+GainsTurn answer buf (Some events) (Some others) =
+    (event : InboxEvent) × IsTurn answer buf event × (others ≡ events ++ event ∷ [])
 
 -- the count of turns after a call for one: one more where it was answered
 abbrev pub turns_after : {T E : Type 0} → ℕ → Result T E → ℕ

@@ -2,7 +2,7 @@
 
 ghost use Rattle.std.specs.Prelude.{◌≡◌, ℕ, ◌+◌, ◌≤◌, List, Option, min, IfOk, OnOk, OnErr};
 ghost use Rattle.yp_io.specs.Counts.{CountsFaults, last_count};
-ghost use Rattle.yp_io.specs.Dials.{Wires, connected, wire_state, Comes, GoesBack, Gains, IsFresh};
+ghost use Rattle.yp_io.specs.Dials.{Wires, connected, wire_state, WireComes, GoesBack, GainsItem, IsFresh};
 
 use crate::stream::{Failed, Pair, Peer, Sink, Source};
 
@@ -36,14 +36,15 @@ pub trait Dial {
         ensures fresh { IfOk result (λ wire.
             IsFresh (Self.In.faults wire.source) (Self.Out.faults wire.sink) (Self.Out.output wire.sink)) }
         ensures came { IfOk result (λ wire.
-            Comes (connected to (Self.In.input wire.source) (Self.Out.output wire.sink)) (past self.old) (past self.new)) }
+            WireComes (connected to (Self.In.input wire.source) (Self.Out.output wire.sink))
+            (past self.old) (past self.new)) }
         ensures none { OnErr result (past self.new ≡ past self.old) }
         ensures letters { letters self.new ≡ letters self.old }
         ensures cause { CountsFaults (faults self.old) (faults self.new) result };
 
     /// Sends one datagram. After `Failed` none was sent.
     fn post(&mut self, to: Peer, piece: &[u8]) -> Result<(), Failed>
-        ensures sent { OnOk result (Gains (to, piece.now) (letters self.old) (letters self.new)) }
+        ensures sent { OnOk result (GainsItem (to, piece.now) (letters self.old) (letters self.new)) }
         ensures none { OnErr result (letters self.new ≡ letters self.old) }
         ensures past { past self.new ≡ past self.old }
         ensures cause { CountsFaults (faults self.old) (faults self.new) result };

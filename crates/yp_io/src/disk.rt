@@ -3,7 +3,7 @@
 ghost use Rattle.std.specs.Prelude.{◌≡◌, ℕ, ◌+◌, ◌≤◌, ◌^◌, ◌⊎◌, length, List, Option, IfOk, OnOk, OnErr};
 ghost use Rattle.std.specs.Option.{option_map};
 ghost use Rattle.yp_io.specs.Counts.{CountsFaults};
-ghost use Rattle.yp_io.specs.Disk.{History, GoesOn, LeftBetween, LeavesOnly, MayLeave, MayLeaveTorn, MayTear};
+ghost use Rattle.yp_io.specs.Disk.{History, HistoryGoesOn, LeftBetween, LeavesOnly, MayLeave, MayLeaveTorn, MayTear};
 ghost use Rattle.yp_io.specs.Disk.{IsReadAnImage, IsDurable, IsWithin, HasLength, ReadsAt, written_at, after_sync};
 
 use crate::stream::Failed;
@@ -61,22 +61,22 @@ pub trait Disk {
     ghost reads_image: { (disk : Self) → IsReadAnImage (history disk) };
 
     /// A disk that is left alone goes on as it is.
-    ghost stays: { (disk : Self) → GoesOn (history disk) (history disk) };
+    ghost stays: { (disk : Self) → HistoryGoesOn (history disk) (history disk) };
 
     /// Between a moment and itself there is no other.
     ghost only_now: { (disk : Self) (image : List ℕ) → LeftBetween (history disk) (history disk) image
         → MayLeave (history disk) image };
 
     /// The later moment is one of those between two.
-    ghost counts_now: { (old new : Self) (image : List ℕ) → GoesOn (history old) (history new)
+    ghost counts_now: { (old new : Self) (image : List ℕ) → HistoryGoesOn (history old) (history new)
         → MayLeave (history new) image → LeftBetween (history old) (history new) image };
 
     /// A disk that goes on twice goes on.
-    ghost goes_on: { (old middle new : Self) → GoesOn (history old) (history middle)
-        → GoesOn (history middle) (history new) → GoesOn (history old) (history new) };
+    ghost goes_on: { (old middle new : Self) → HistoryGoesOn (history old) (history middle)
+        → HistoryGoesOn (history middle) (history new) → HistoryGoesOn (history old) (history new) };
 
     /// Each moment of two times, one after the other, is one of the first or of the second.
-    ghost splits: { (old middle new : Self) (image : List ℕ) → GoesOn (history old) (history middle)
-        → GoesOn (history middle) (history new) → LeftBetween (history old) (history new) image
+    ghost splits: { (old middle new : Self) (image : List ℕ) → HistoryGoesOn (history old) (history middle)
+        → HistoryGoesOn (history middle) (history new) → LeftBetween (history old) (history new) image
         → LeftBetween (history old) (history middle) image ⊎ LeftBetween (history middle) (history new) image };
 }

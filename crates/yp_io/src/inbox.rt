@@ -2,8 +2,8 @@
 
 ghost use Rattle.std.specs.Prelude.{◌≡◌, ℕ, ◌≤◌, List, Option, length, IfOk, OnOk, OnErr};
 ghost use Rattle.yp_io.specs.Counts.{CountsFaults};
-ghost use Rattle.yp_io.specs.Dials.{Gains};
-ghost use Rattle.yp_io.specs.Inboxes.{Post, Sent, GainsTurn, MailIsWithin, turns_after, quiets_after};
+ghost use Rattle.yp_io.specs.Dials.{GainsItem};
+ghost use Rattle.yp_io.specs.Inboxes.{InboxEvent, Sent, GainsTurn, MailIsWithin, turns_after, quiets_after};
 
 use crate::stream::{Failed, Peer};
 
@@ -19,7 +19,7 @@ pub enum Mail {
 /// What receives datagrams at a port, a turn at a time, and sends datagrams from there.
 pub trait Inbox {
     /// What arrived and what was sent, in their order, where it is told.
-    ghost past: { Self → Option (List Post) };
+    ghost past: { Self → Option (List InboxEvent) };
 
     /// How many turns there were, up to 2^64 - 1.
     ghost turns: { Self → ℕ };
@@ -42,7 +42,7 @@ pub trait Inbox {
 
     /// Sends one datagram. After `Failed` none was sent.
     fn send(&mut self, to: Peer, piece: &[u8]) -> Result<(), Failed>
-        ensures sent { OnOk result (Gains (Sent to piece.now) (past self.old) (past self.new)) }
+        ensures sent { OnOk result (GainsItem (Sent to piece.now) (past self.old) (past self.new)) }
         ensures none { OnErr result (past self.new ≡ past self.old) }
         ensures turns { turns self.new ≡ turns self.old }
         ensures quiets { quiets self.new ≡ quiets self.old }

@@ -3,9 +3,11 @@
 //! A source gives bytes and a sink takes them; a disk keeps bytes through a crash; texts and a clock are read; a dial
 //! opens wires and sends datagrams; an inbox receives datagrams at a port, and sends them from there; a listener hands
 //! out the connections that come, each with its caller, up to a number that is stated, and closers, by which they are
-//! closed. Each says what it holds, has taken or shows where that can be known, and all but the clock count their
-//! faults, so that a failure always has a cause. These promises stand on the clauses of [`Source`], [`Sink`], [`Disk`],
-//! [`Texts`], [`Clock`], [`Dial`], [`Inbox`] and [`Listen`], and on [`write_all`] and [`read_all`].
+//! closed. Each says what it holds, has taken or shows where that can be known: a disk what a crash may leave of it at
+//! each moment, a dial which wires came, an inbox what arrived and was sent in one order, and a listener which
+//! connections came, of which callers, and which its closers have closed, with what each told then. All but the clock
+//! count their faults, so that a failure always has a cause. These promises stand on the clauses of [`Source`],
+//! [`Sink`], [`Disk`], [`Texts`], [`Clock`], [`Dial`], [`Inbox`] and [`Listen`], and on [`write_all`] and [`read_all`].
 #![tactic(auto)]
 
 mod called;
@@ -27,7 +29,7 @@ mod texts;
 mod trail;
 mod whole;
 
-pub use called::{Called, Origin};
+pub use called::{CallOrigin, Called};
 pub use clock::{Clock, SetClock};
 pub use dial::{Dial, Letter};
 pub use disk::Disk;
@@ -45,4 +47,5 @@ pub use stream::{
     Failed, NoMemory, OWN_HOST, Pair, Peer, Sink, Source, count_fault, write_all, write_through,
 };
 pub use texts::{TEXT_MAX, TextFault, TextFile, Texts};
+pub use trail::Trail;
 pub use whole::{Unread, read_all, zeros};

@@ -2,7 +2,8 @@
 
 ghost use Rattle.std.specs.Prelude.{◌≡◌, ℕ, ◌<◌, ◌^◌, List, [], ◌∷◌, Option, IfOk, OnErr};
 ghost use Rattle.yp_io.specs.Counts.{CountsFaults, capped, next_count};
-ghost use Rattle.yp_io.specs.Calls.{Calls, Ended, Accepting, Comes, IsClosed, ended_by, came_by};
+ghost use Rattle.yp_io.specs.Calls.{ListenerHistory, ClosedConnection, Accepting, ConnectionComes, IsClosed, ended_by};
+ghost use Rattle.yp_io.specs.Calls.{came_by};
 ghost use Rattle.yp_io.specs.Calls.{none_closed, closed_then, taken_in};
 ghost use Rattle.yp_io.specs.Calls.{IfCame, OnClosed, accepting_of, halves_of, IsFreshCall};
 
@@ -29,7 +30,7 @@ pub trait Listen {
     type Closer: Drop;
 
     /// Its connections, where they are told.
-    ghost past: { Self → Option Calls };
+    ghost past: { Self → Option ListenerHistory };
 
     /// How many connections it is to accept.
     ghost most: { Self → ℕ };
@@ -44,7 +45,7 @@ pub trait Listen {
     ghost faults: { Self → ℕ };
 
     /// The connections that a closer has closed, in their order, where they are told.
-    ghost closed: { Self.Closer → Option (List Ended) };
+    ghost closed: { Self.Closer → Option (List ClosedConnection) };
 
     /// How many a closer has closed, up to 2^64 - 1.
     ghost closed_count: { Self.Closer → ℕ };
@@ -52,7 +53,8 @@ pub trait Listen {
     /// Accepts the next connection. It answers `Closed` exactly where as many were accepted as are to be. After
     /// `Failed` none was accepted.
     fn accept(&mut self) -> Result<Arrival<Self::In, Self::Out>, Failed>
-        ensures came { IfOk result (IfCame (λ call. Comes (came_by (halves_of Self.In.Source Self.Out.Sink) call)
+        ensures came { IfOk result (IfCame (λ call. ConnectionComes
+            (came_by (halves_of Self.In.Source Self.Out.Sink) call)
             (accepting_of past most accepted self.old) (accepting_of past most accepted self.new))) }
         ensures fresh { IfOk result (IfCame (IsFreshCall (halves_of Self.In.Source Self.Out.Sink))) }
         ensures closed { IfOk result (OnClosed (IsClosed

@@ -1,7 +1,8 @@
 ghost use Rattle.std.specs.Prelude.{◌≡◌, ◌<◌, ◌≤◌, ◌↔◌, true, false, not, ◌&&◌, ◌||◌, is_ok, IsTrue, [], min, length};
 ghost use Rattle.std.specs.Prelude.{drop, Some, Contains, IsErr, IfOk, OnOk, MatchResult};
 ghost use Rattle.std.specs.Io.KnownBytes.{Keeps, ReadConsumes, WriteAppends};
-ghost use Rattle.yp_io.specs.Counts.{CountsFaults, next_count, faults_after};
+ghost use Rattle.yp_io.specs.Counts.{CountsFaults, next_count};
+ghost use Rattle.yp_io.specs.inside.Counts.{faults_after};
 
 use crate::plan::Plan;
 use crate::stream::{Failed, Pair, Sink, Source, count_fault};
@@ -19,7 +20,7 @@ pub struct MemSource {
 
 impl Model for MemSource {
     ghost use Rattle.std.specs.Prelude.{◌<◌, ◌≤◌, length, drop};
-    ghost use Rattle.yp_io.specs.Mem.{Feed};
+    ghost use Rattle.yp_io.specs.inside.Mem.{Feed};
 
     ghost Value = { Feed };
 
@@ -106,7 +107,7 @@ pub struct MemSink {
 
 impl Model for MemSink {
     ghost use Rattle.std.specs.Prelude.{◌<◌};
-    ghost use Rattle.yp_io.specs.Mem.{Drain};
+    ghost use Rattle.yp_io.specs.inside.Mem.{Drain};
 
     ghost Value = { Drain };
 

@@ -19,7 +19,7 @@ pub struct MemCloser {
 
 impl Model for MemCloser {
     ghost use Rattle.std.specs.Prelude.{◌≡◌, false};
-    ghost use Rattle.yp_io.specs.MemListen.{Closing};
+    ghost use Rattle.yp_io.specs.inside.MemListen.{Closing};
 
     ghost Value = { Closing };
 

@@ -2,9 +2,10 @@
 
 ghost use Rattle.std.specs.Prelude.{◌≡◌, ◌≢◌, ℕ, ◌+◌, ◌≤◌, ◌<◌, true, false, [], ◌∷◌, ◌++◌, length, map, min};
 ghost use Rattle.std.specs.Prelude.{Some, All, Contains, IsErr, IfOk, IfSome, IfNone, OnOk, OnErr};
-ghost use Rattle.yp_io.specs.Counts.{CountsFaults, next_count, faults_after, last_count};
-ghost use Rattle.yp_io.specs.Dials.{connected, Comes, GoesBack, Gains, IsFresh};
-ghost use Rattle.yp_io.specs.MemDial.{IsNew, came_of, ended_of, wires_of, letter_of};
+ghost use Rattle.yp_io.specs.Counts.{CountsFaults, next_count, last_count};
+ghost use Rattle.yp_io.specs.inside.Counts.{faults_after};
+ghost use Rattle.yp_io.specs.Dials.{connected, WireComes, GoesBack, GainsItem, IsFresh};
+ghost use Rattle.yp_io.specs.inside.MemDial.{WireIsNew, came_of, ended_of, wires_of, letter_of};
 
 use crate::dial::{Dial, Letter};
 use crate::mem::{MemSink, MemSource, MemWire};
@@ -36,12 +37,12 @@ pub struct MemDial {
 }
 
 impl Model for MemDial {
-    ghost use Rattle.yp_io.specs.MemDial.{Exchange};
+    ghost use Rattle.yp_io.specs.inside.MemDial.{Exchange};
 
     ghost Value = { Exchange };
 
     ghost use Rattle.std.specs.Prelude.{◌≤◌, length, map, All, vec_capacity};
-    ghost use Rattle.yp_io.specs.MemDial.{IsNew, came_of, letter_of};
+    ghost use Rattle.yp_io.specs.inside.MemDial.{WireIsNew, came_of, letter_of};
 
     ghost view = { λ d. record {
       waiting = d.waiting.items;
@@ -54,14 +55,14 @@ impl Model for MemDial {
       faults = d.plan.faults;
     } };
 
-    ghost invariant = { λ d. (All IsNew d.waiting.items) × (length d.came.items ≤ vec_capacity d.back) };
+    ghost invariant = { λ d. (All WireIsNew d.waiting.items) × (length d.came.items ≤ vec_capacity d.back) };
 }
 
 impl MemDial {
     /// Gives these wires in turn; a dial with no wire left is a fault. A call whose number, from 0, stands in `failing`
     /// fails. The wires have met no fault and taken nothing.
     pub fn new(alloc: Global, wires: Vec<MemWire>, failing: Vec<u64>) -> MemDial
-        requires { All IsNew wires.items }
+        requires { All WireIsNew wires.items }
         ensures { result ≡ record {
           waiting = wires.items;
           came = [];
@@ -86,7 +87,7 @@ impl MemDial {
 
     // The next wire, of whose input a copy is kept, unless none is left or memory has run out.
     fn next_wire(&mut self, peer: Peer) -> Option<MemWire>
-        ensures fresh { IfSome result IsNew }
+        ensures fresh { IfSome result WireIsNew }
         ensures first { IfSome result (λ wire. self.old.waiting ≡ wire ∷ self.new.waiting) }
         ensures came { IfSome result (λ wire. self.new ≡ record self.old {
           waiting = self.new.waiting;
@@ -136,9 +137,9 @@ impl Dial for MemDial {
 
     /// It also fails where memory has run out.
     fn dial(&mut self, to: Peer) -> Result<MemWire, Failed>
-        ensures fresh { IfOk result IsNew }
+        ensures fresh { IfOk result WireIsNew }
         ensures came { IfOk result
-            (λ wire. Comes (connected to (Some wire.source.input) (Some wire.sink.output))
+            (λ wire. WireComes (connected to (Some wire.source.input) (Some wire.sink.output))
             (wires_of self.old) (wires_of self.new)) }
         ensures none { OnErr result (wires_of self.new ≡ wires_of self.old) }
         ensures letters { Some self.new.letters ≡ Some self.old.letters }
@@ -161,7 +162,7 @@ impl Dial for MemDial {
 
     /// It also fails where memory has run out.
     fn post(&mut self, to: Peer, piece: &[u8]) -> Result<(), Failed>
-        ensures sent { OnOk result (Gains (to, piece.now) (Some self.old.letters) (Some self.new.letters)) }
+        ensures sent { OnOk result (GainsItem (to, piece.now) (Some self.old.letters) (Some self.new.letters)) }
         ensures none { OnErr result (Some self.new.letters ≡ Some self.old.letters) }
         ensures past { wires_of self.new ≡ wires_of self.old }
         ensures cause { CountsFaults self.old.faults self.new.faults result }

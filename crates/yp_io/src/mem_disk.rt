@@ -3,11 +3,12 @@
 ghost use Rattle.std.specs.Prelude.{◌≡◌, ◌<◌, ◌≤◌, ◌+◌, ◌^◌, ◌⊎◌, ◌↔◌, ℕ, [], ◌∷◌, ◌++◌, length, List, Option, Some};
 ghost use Rattle.std.specs.Prelude.{IsErr, IfOk, OnOk, OnErr, slice_range, is_ok, if◌then◌else◌};
 ghost use Rattle.std.specs.List.{fold};
-ghost use Rattle.yp_io.specs.Counts.{CountsFaults, next_count, faults_after};
+ghost use Rattle.yp_io.specs.Counts.{CountsFaults, next_count};
+ghost use Rattle.yp_io.specs.inside.Counts.{faults_after};
 ghost use Rattle.yp_io.specs.Disk.{IsImage, LeavesOnly, MayLeave, MayLeaveTorn, MayTear, IsDurable, written_at};
 ghost use Rattle.yp_io.specs.Disk.{after_sync, overwritten};
-ghost use Rattle.yp_io.specs.MemDisk.{Wrote, Synced, FailsNow, FailsBy, history_of, placed, crashed};
-ghost use Rattle.yp_io.specs.MemSteps.{crash_of, after_crash_step, step_of, steps_of, current};
+ghost use Rattle.yp_io.specs.inside.MemDisk.{Wrote, Synced, FailsNow, FailsBy, history_of, placed, crashed};
+ghost use Rattle.yp_io.specs.inside.MemSteps.{crash_of, after_crash_step, step_of, steps_of, current};
 
 use crate::disk::Disk;
 use crate::plan::Plan;
@@ -17,7 +18,7 @@ use std::marker::Model;
 
 // A call that was done.
 #[derive(Debug, Drop)]
-enum Step {
+enum DiskCall {
     Wrote { at: u64, piece: Vec<u8> },
     Synced,
 }
@@ -29,18 +30,18 @@ pub struct MemDisk {
     first: Vec<u8>,
     // What a read gives, from the first write on.
     written: Option<Vec<u8>>,
-    steps: Vec<Step>,
+    steps: Vec<DiskCall>,
     stop: Option<u64>,
     plan: Plan,
 }
 
 impl Model for MemDisk {
     ghost use Rattle.std.specs.Prelude.{◌≡◌};
-    ghost use Rattle.yp_io.specs.MemDisk.{Platter, played};
+    ghost use Rattle.yp_io.specs.inside.MemDisk.{Platter, played};
 
     ghost Value = { Platter };
 
-    ghost use Rattle.yp_io.specs.MemSteps.{steps_of, current};
+    ghost use Rattle.yp_io.specs.inside.MemSteps.{steps_of, current};
 
     ghost view = { λ d. record {
       first = d.first.items;
@@ -158,18 +159,23 @@ struct Crash {
     bits: u64,
 }
 
-fn crash_step(alloc: Global, kept: u64, crash: &mut Crash, step: &Step) -> Result<(), AllocError>
+fn crash_step(
+    alloc: Global,
+    kept: u64,
+    crash: &mut Crash,
+    step: &DiskCall,
+) -> Result<(), AllocError>
     ensures { OnOk result (crash_of crash.new ≡ after_crash_step kept (crash_of crash.old) (step_of step.now)) }
 {
     match step {
-        Step::Wrote { at, piece } => {
+        DiskCall::Wrote { at, piece } => {
             if crash.bits % 2 == 1 {
                 crash.image = place(alloc, &crash.image, *at, piece)?;
             }
             crash.bits /= 2;
             crash.reads = overwrite(alloc, &crash.reads, *at, piece)?;
         }
-        Step::Synced => {
+        DiskCall::Synced => {
             crash.image = crash.reads.to_vec(alloc)?;
             crash.bits = kept;
         }
@@ -178,7 +184,7 @@ fn crash_step(alloc: Global, kept: u64, crash: &mut Crash, step: &Step) -> Resul
 }
 
 // What a crash leaves after these steps that keeps the writes whose bit is set.
-fn replay(alloc: Global, kept: u64, first: &[u8], steps: &[Step]) -> Result<Vec<u8>, AllocError>
+fn replay(alloc: Global, kept: u64, first: &[u8], steps: &[DiskCall]) -> Result<Vec<u8>, AllocError>
     ensures { IfOk result (λ image. image.items ≡ crashed kept first.now (steps_of steps.now)) }
 {
     let mut crash = Crash {
@@ -197,7 +203,7 @@ fn write_step(
     alloc: Global,
     first: &[u8],
     written: &mut Option<Vec<u8>>,
-    steps: &mut Vec<Step>,
+    steps: &mut Vec<DiskCall>,
     at: u64,
     piece: &[u8],
 ) -> Result<(), AllocError>
@@ -209,23 +215,23 @@ fn write_step(
 {
     let new = overwrite(alloc, readable(first, written), at, piece)?;
     let piece = piece.to_vec(alloc)?;
-    steps.push(Step::Wrote { at, piece })?;
+    steps.push(DiskCall::Wrote { at, piece })?;
     *written = Some(new);
     Ok(())
 }
 
 // Keeps the step of a sync.
-fn sync_step(steps: &mut Vec<Step>) -> Result<(), AllocError>
+fn sync_step(steps: &mut Vec<DiskCall>) -> Result<(), AllocError>
     ensures steps { OnOk result (steps_of steps.new.items ≡ steps_of steps.old.items ++ Synced ∷ []) }
     ensures err { OnErr result (steps.new.items ≡ steps.old.items) }
 {
-    steps.push(Step::Synced)?;
+    steps.push(DiskCall::Synced)?;
     Ok(())
 }
 
 impl Disk for MemDisk {
-    ghost use Rattle.yp_io.specs.DiskLaws as laws;
-    ghost use Rattle.yp_io.specs.MemDiskLaws as mem;
+    ghost use Rattle.yp_io.specs.inside.DiskLaws as laws;
+    ghost use Rattle.yp_io.specs.inside.MemDiskLaws as mem;
 
     ghost history = { λ d. Some (history_of d) };
 

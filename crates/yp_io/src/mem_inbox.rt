@@ -2,32 +2,24 @@
 
 ghost use Rattle.std.specs.Prelude.{◌≡◌, ◌↔◌, [], ◌∷◌, ◌++◌, map, drop, Some, Contains, IsErr, IfSome, IfNone, IfOk};
 ghost use Rattle.std.specs.Prelude.{OnOk, OnErr};
-ghost use Rattle.yp_io.specs.Counts.{CountsFaults, next_count, faults_after};
-ghost use Rattle.yp_io.specs.Dials.{Gains};
+ghost use Rattle.yp_io.specs.Counts.{CountsFaults, next_count};
+ghost use Rattle.yp_io.specs.inside.Counts.{faults_after};
+ghost use Rattle.yp_io.specs.Dials.{GainsItem};
 ghost use Rattle.yp_io.specs.Inboxes.{Arrived, Silent, Sent, GainsTurn, IsTurn, HoldsFront, MailIsWithin};
 ghost use Rattle.yp_io.specs.Inboxes.{turns_after, quiets_after};
-ghost use Rattle.yp_io.specs.MemInbox.{first_turn, turns_behind, letter_of, turn_of};
+ghost use Rattle.yp_io.specs.inside.MemInbox.{first_turn, turns_behind, letter_of, turn_of};
 
-use crate::{Failed, Inbox, Letter, Mail, Peer, Plan, count_fault};
+use crate::{Failed, Inbox, Letter, Mail, Peer, Plan, Trail, count_fault};
 use std::alloc::Global;
 use std::marker::Model;
 use std::snapshot::Snapshot;
 
-/// What arrived and was sent, the last first.
+/// What happened in a turn, or was sent, for contracts alone.
 #[derive(Drop)]
-enum Past {
-    Empty,
-    Brought {
-        before: Snapshot<Past>,
-        letter: Snapshot<Letter>,
-    },
-    Passed {
-        before: Snapshot<Past>,
-    },
-    Answered {
-        before: Snapshot<Past>,
-        letter: Snapshot<Letter>,
-    },
+enum Step {
+    Brought { letter: Snapshot<Letter> },
+    Passed,
+    Answered { letter: Snapshot<Letter> },
 }
 
 /// An inbox in memory, which tells what arrived and what was sent.
@@ -38,7 +30,7 @@ pub struct MemInbox {
     // how many of these came
     at: usize,
     letters: Vec<Letter>,
-    past: Past,
+    past: Trail<Step>,
     turns: u64,
     quiets: u64,
     plan: Plan,
@@ -46,13 +38,13 @@ pub struct MemInbox {
 
 impl Model for MemInbox {
     ghost use Rattle.std.specs.Prelude.{◌≤◌, length, drop, map};
-    ghost use Rattle.yp_io.specs.MemInbox.{Box, posts_of, letter_of, turn_of};
+    ghost use Rattle.yp_io.specs.inside.MemInbox.{MemInboxModel, post_of, letter_of, turn_of};
 
-    ghost Value = { Box };
+    ghost Value = { MemInboxModel };
 
     ghost view = { λ b. record {
       waiting = map turn_of (drop b.at b.mail.items);
-      past = posts_of b.past;
+      past = map post_of b.past;
       letters = map letter_of b.letters.items;
       failing = b.plan.failing.items;
       calls = b.plan.calls;
@@ -84,7 +76,7 @@ impl MemInbox {
             mail,
             at: 0,
             letters: Vec::new(alloc),
-            past: Past::Empty,
+            past: Trail::new(),
             turns: 0,
             quiets: 0,
             plan: Plan::new(failing),
@@ -156,17 +148,14 @@ impl Inbox for MemInbox {
         } }
     {
         self.plan.start_call()?;
-        let before = Snapshot::of(&self.past);
         let at = self.at;
         self.at = self.mail.len().min(at + 1);
         self.turns = self.turns.saturating_add(1);
         match brought(&self.mail, at) {
             Some(letter) => {
-                let arrived = Snapshot::of(letter);
-                self.past = Past::Brought {
-                    before,
-                    letter: arrived,
-                };
+                self.past.push(&Step::Brought {
+                    letter: Snapshot::of(letter),
+                });
                 let len = fill(buf, &letter.bytes);
                 Ok(Mail::Came {
                     len,
@@ -174,7 +163,7 @@ impl Inbox for MemInbox {
                 })
             }
             None => {
-                self.past = Past::Passed { before };
+                self.past.push(&Step::Passed);
                 self.quiets = self.quiets.saturating_add(1);
                 Ok(Mail::Quiet)
             }
@@ -183,7 +172,7 @@ impl Inbox for MemInbox {
 
     /// It also fails where memory has run out.
     fn send(&mut self, to: Peer, piece: &[u8]) -> Result<(), Failed>
-        ensures sent { OnOk result (Gains (Sent to piece.now) (Some self.old.past) (Some self.new.past)) }
+        ensures sent { OnOk result (GainsItem (Sent to piece.now) (Some self.old.past) (Some self.new.past)) }
         ensures none { OnErr result (Some self.new.past ≡ Some self.old.past) }
         ensures turns { self.new.turns ≡ self.old.turns }
         ensures quiets { self.new.quiets ≡ self.old.quiets }
@@ -207,11 +196,7 @@ impl Inbox for MemInbox {
         if self.letters.push(letter).is_err() {
             return Err(count_fault(&mut self.plan.faults));
         }
-        let before = Snapshot::of(&self.past);
-        self.past = Past::Answered {
-            before,
-            letter: sent,
-        };
+        self.past.push(&Step::Answered { letter: sent });
         Ok(())
     }
 }

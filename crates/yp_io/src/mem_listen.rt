@@ -2,10 +2,13 @@
 
 ghost use Rattle.std.specs.Prelude.{◌≡◌, ℕ, ◌+◌, ◌^◌, ◌<◌, false, [], ◌∷◌, ◌++◌, length, Some, All, Contains, IsErr};
 ghost use Rattle.std.specs.Prelude.{IfSome, IfNone, IfOk, OnErr};
-ghost use Rattle.yp_io.specs.Counts.{CountsFaults, capped, next_count, faults_after};
-ghost use Rattle.yp_io.specs.Calls.{Comes, IsClosed, IfCame, OnClosed, accepting_of};
+ghost use Rattle.yp_io.specs.Counts.{CountsFaults, capped, next_count};
+ghost use Rattle.yp_io.specs.inside.Counts.{faults_after};
+ghost use Rattle.yp_io.specs.Calls.{ConnectionComes, IsClosed, IfCame, OnClosed, accepting_of};
 ghost use Rattle.yp_io.specs.Calls.{none_closed, closed_then, taken_in};
-ghost use Rattle.yp_io.specs.MemListen.{Closing, Door, IsNew, connected_of, ended_of, closed_of, calls_of};
+ghost use Rattle.yp_io.specs.inside.MemListen.{Closing, MemListenModel, ConnectionIsNew, connected_of, ended_of};
+ghost use Rattle.yp_io.specs.inside.MemListen.{closed_of};
+ghost use Rattle.yp_io.specs.inside.MemListen.{calls_of};
 
 use crate::called::Called;
 use crate::listen::{Arrival, Listen};
@@ -35,9 +38,9 @@ pub struct MemListen {
 
 impl Model for MemListen {
     ghost use Rattle.std.specs.Prelude.{◌≡◌, ◌≤◌, false, length, All};
-    ghost use Rattle.yp_io.specs.MemListen.{Door, IsNew};
+    ghost use Rattle.yp_io.specs.inside.MemListen.{MemListenModel, ConnectionIsNew};
 
-    ghost Value = { Door };
+    ghost Value = { MemListenModel };
 
     ghost view = { λ l. record {
       waiting = l.waiting.items;
@@ -52,7 +55,8 @@ impl Model for MemListen {
       faults = l.plan.faults;
     } };
 
-    ghost invariant = { λ l. (All IsNew l.waiting.items) × (l.accepted ≤ l.most) × (length l.came ≡ l.accepted)
+    ghost invariant = { λ l. (All ConnectionIsNew l.waiting.items) × (l.accepted ≤ l.most)
+        × (length l.came ≡ l.accepted)
         × (l.lost ≡ false → l.kept.items ≡ l.closers) };
 }
 
@@ -60,7 +64,7 @@ impl MemListen {
     /// Gives these connections in turn, `most` of them; an accept under that number with none left is a fault. A call
     /// whose number, from 0, stands in `failing` fails. The wires have met no fault and taken nothing.
     pub fn new(alloc: Global, arrivals: Vec<MemCall>, most: u32, failing: Vec<u64>) -> MemListen
-        requires { All IsNew arrivals.items }
+        requires { All ConnectionIsNew arrivals.items }
         ensures { result ≡ record {
           waiting = arrivals.items;
           came = [];
@@ -105,7 +109,7 @@ impl MemListen {
     // The next connection, unless none is left.
     fn next_call(&mut self) -> Option<MemCall>
         requires { self.old.accepted < self.old.most }
-        ensures fresh { IfSome result IsNew }
+        ensures fresh { IfSome result ConnectionIsNew }
         ensures first { IfSome result (λ call. self.old.waiting ≡ call ∷ self.new.waiting) }
         ensures came { IfSome result (λ call. self.new ≡ record self.old {
           waiting = self.new.waiting;
@@ -146,16 +150,16 @@ impl Listen for MemListen {
     ghost closed_count = { λ (c : Closing). c.count };
 
     fn accept(&mut self) -> Result<Arrival<MemSource, MemSink>, Failed>
-        ensures came { IfOk result (IfCame (λ call. Comes (connected_of call)
-            (accepting_of calls_of (λ (l : Door). l.most) (λ (l : Door). l.accepted) self.old)
-            (accepting_of calls_of (λ (l : Door). l.most) (λ (l : Door). l.accepted) self.new))) }
-        ensures fresh { IfOk result (IfCame IsNew) }
+        ensures came { IfOk result (IfCame (λ call. ConnectionComes (connected_of call)
+            (accepting_of calls_of (λ (l : MemListenModel). l.most) (λ (l : MemListenModel). l.accepted) self.old)
+            (accepting_of calls_of (λ (l : MemListenModel). l.most) (λ (l : MemListenModel). l.accepted) self.new))) }
+        ensures fresh { IfOk result (IfCame ConnectionIsNew) }
         ensures closed { IfOk result (OnClosed (IsClosed
-            (accepting_of calls_of (λ (l : Door). l.most) (λ (l : Door). l.accepted) self.old)
-            (accepting_of calls_of (λ (l : Door). l.most) (λ (l : Door). l.accepted) self.new))) }
+            (accepting_of calls_of (λ (l : MemListenModel). l.most) (λ (l : MemListenModel). l.accepted) self.old)
+            (accepting_of calls_of (λ (l : MemListenModel). l.most) (λ (l : MemListenModel). l.accepted) self.new))) }
         ensures none { OnErr result
-            (accepting_of calls_of (λ (l : Door). l.most) (λ (l : Door). l.accepted) self.new
-            ≡ accepting_of calls_of (λ (l : Door). l.most) (λ (l : Door). l.accepted) self.old) }
+            (accepting_of calls_of (λ (l : MemListenModel). l.most) (λ (l : MemListenModel). l.accepted) self.new
+            ≡ accepting_of calls_of (λ (l : MemListenModel). l.most) (λ (l : MemListenModel). l.accepted) self.old) }
         ensures returned { self.new.returned ≡ self.old.returned }
         ensures number { self.new.accepted < 2 ^ 64 }
         ensures cause { CountsFaults self.old.faults self.new.faults result }

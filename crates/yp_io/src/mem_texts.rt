@@ -5,8 +5,9 @@ ghost use Rattle.std.specs.Prelude.{IfSome, IfOk, OnOk, OnErr, IsErrOf, MatchRes
 ghost use Rattle.std.specs.Option.{option_map};
 ghost use Rattle.yp_io.specs.Counts.{HasRisen, next_count};
 ghost use Rattle.yp_io.specs.declared.texts.TextFile.{TextFile};
-ghost use Rattle.yp_io.specs.Texts.{text_max, text_of};
-ghost use Rattle.yp_io.specs.Mem.{LacksText, text_faults_after};
+ghost use Rattle.yp_io.specs.Texts.{text_max};
+ghost use Rattle.yp_io.specs.inside.Texts.{text_of};
+ghost use Rattle.yp_io.specs.inside.Mem.{LacksText, text_faults_after};
 
 use crate::plan::Plan;
 use crate::stream::{Failed, count_fault};
@@ -22,7 +23,7 @@ pub struct MemTexts {
 
 impl Model for MemTexts {
     ghost use Rattle.std.specs.Prelude.{map};
-    ghost use Rattle.yp_io.specs.Mem.{Shelf};
+    ghost use Rattle.yp_io.specs.inside.Mem.{Shelf};
 
     ghost Value = { Shelf };
 

@@ -17,13 +17,13 @@ enum Past<T> {
 
 /// Values in the order in which they came, each as it was then. It takes no memory: it is there for contracts alone.
 #[derive(Drop)]
-pub(crate) struct Trail<T> {
+pub struct Trail<T> {
     past: Past<T>,
 }
 
 impl<T> Model for Trail<T> {
     ghost use Rattle.std.specs.Prelude.{List};
-    ghost use Rattle.yp_io.specs.Trails.{items_of};
+    ghost use Rattle.yp_io.specs.inside.Trails.{items_of};
 
     ghost Value = { List T };
 
@@ -32,14 +32,14 @@ impl<T> Model for Trail<T> {
 
 impl<T> Trail<T> {
     /// None came yet.
-    pub(crate) fn new() -> Trail<T>
+    pub fn new() -> Trail<T>
         ensures { result ≡ [] }
     {
         Trail { past: Past::Empty }
     }
 
     /// One more came.
-    pub(crate) fn push(&mut self, item: &T)
+    pub fn push(&mut self, item: &T)
         ensures { self.new ≡ self.old ++ item.now ∷ [] }
     {
         let before = Snapshot::of(&self.past);

@@ -3,7 +3,7 @@
 ghost use Rattle.std.specs.Prelude.{◌≡◌, ◌<◌, ◌≤◌, length, replicate, IfOk, IfErr, OnOk};
 ghost use Rattle.std.specs.Io.KnownBytes.{Consumes, IsAtEnd};
 ghost use Rattle.yp_io.specs.Counts.{HasRisen};
-ghost use Rattle.yp_io.specs.Streams.{ReadsMore, IsStopped};
+ghost use Rattle.yp_io.specs.inside.Streams.{ReadsMore, ReadingStopped};
 
 use crate::stream::{NoMemory, Source};
 use std::alloc::Global;
@@ -57,7 +57,7 @@ fn read_more<S: Source>(
         (ReadsMore (S.input source.old) (S.input source.new) text.old.items text.new.items) }
     ensures limit { OnOk result (length text.new.items ≤ most) }
     ensures stopped { IfErr result
-        (IsStopped most (S.input source.old) (S.input source.new) (length text.old.items)) }
+        (ReadingStopped most (S.input source.old) (S.input source.new) (length text.old.items)) }
     ensures cause { IfErr result (λ unread.
         unread ≡ Unread.Failed → HasRisen (S.faults source.old) (S.faults source.new)) }
     ensures never_falls { S.faults source.old ≤ S.faults source.new }
@@ -81,7 +81,7 @@ pub fn read_all<S: Source>(alloc: Global, source: &mut S, most: usize) -> Result
     ensures limit { IfOk result (λ text. length text.items ≤ most) }
 
     // What was read before a refusal is over the limit where that is the refusal.
-    ensures stopped { IfErr result (IsStopped most (S.input source.old) (S.input source.new) 0) }
+    ensures stopped { IfErr result (ReadingStopped most (S.input source.old) (S.input source.new) 0) }
     ensures cause { IfErr result (λ unread.
         unread ≡ Unread.Failed → HasRisen (S.faults source.old) (S.faults source.new)) }
     ensures never_falls { S.faults source.old ≤ S.faults source.new }

@@ -2,10 +2,10 @@
 
 ghost use Rattle.std.specs.Prelude.{◌≡◌, ◌<◌, ◌≤◌, length};
 
-use crate::given::{assert_same, bytes};
+use crate::given::{SELF, STRANGER, assert_same, named, parts};
 use std::alloc::Global;
 use std::process::Abort;
-use yp_bind::*;
+use yp_binding::*;
 use yp_io::Peer;
 
 const SERVER: Peer = Peer {
@@ -18,20 +18,10 @@ const OTHER: Peer = Peer {
     port: 835,
 };
 
-const STRANGER: Peer = Peer {
-    addr: [10, 0, 0, 9],
-    port: 1_021,
-};
-
 // The seventh of many servers.
 const SEVENTH: Peer = Peer {
     addr: [10, 0, 0, 2],
     port: 7,
-};
-
-const SELF: Peer = Peer {
-    addr: [127, 0, 0, 1],
-    port: 1_021,
 };
 
 // A binder of one domain, lab, with ample memory.
@@ -54,81 +44,55 @@ fn replies(binder: &mut Binder, datagram: &[u8], from: Peer, wanted: &[u8]) -> b
     buf.get(..len) == Some(wanted)
 }
 
-// A call's front, up to its procedure, and what stands behind that.
-const BIND: &str = "00000005 00000000 00000002 000186a7 00000002";
+// Names of words of calls and replies. A procedure stands for a call up to its arguments, and BIND for one up to its
+// procedure.
+static NAMES: &str = "\
+BIND = 00000005 00000000 00000002 000186a7 00000002
+NULL = 00000005 00000000 00000002 000186a7 00000002 00000000 00000000 00000000 00000000 00000000
+DOMAIN = 00000005 00000000 00000002 000186a7 00000002 00000001 00000000 00000000 00000000 00000000
+SETDOM = 00000005 00000000 00000002 000186a7 00000002 00000002 00000000 00000000 00000000 00000000
+NONE = 00000000 00000000 00000000 00000000
+DONE = 00000005 00000001 00000000 00000000 00000000 00000000
+REFUSED = 00000005 00000001 00000000 00000000 00000000
+LAB = 00000003 6c616200
+OTHER = 0a000007 03430000
+ZZZ = 00000003 7a7a7a00
+";
 
-const NONE: &str = "00000000 00000000 00000000 00000000";
-
-const DONE: &str = "00000005 00000001 00000000 00000000 00000000 00000000";
-
-const LAB: &str = "00000003 6c616200";
-
-const ZZZ: &str = "00000003 7a7a7a00";
-
-// Datagrams to a binder of lab that is unbound: their words, and those of the replies.
-const CALLS: [([&str; 4], [&str; 2]); 12] = [
-    ([BIND, "00000000", NONE, ""], [DONE, ""]),
-    ([BIND, "00000001", NONE, LAB], [DONE, "00000002 00000002"]),
-    ([BIND, "00000001", NONE, ZZZ], [DONE, "00000002 00000001"]),
-    (["00000005 00000000", "", "", ""], ["", ""]),
-    (["00000005 00000001 00000002", "", "", ""], ["", ""]),
-    (
-        ["00000005 00000000 00000003", "", "", ""],
-        ["00000005 00000001 00000001 00000000", "00000002 00000002"],
-    ),
-    (
-        [BIND, "00000000", "00000006 00000000 00000000 00000000", ""],
-        ["00000005 00000001 00000001 00000001", "00000002"],
-    ),
-    (
-        [
-            "00000005 00000000 00000002 000186a4 00000002",
-            "00000001",
-            NONE,
-            LAB,
-        ],
-        ["00000005 00000001 00000000 00000000 00000000", "00000001"],
-    ),
-    (
-        [
-            "00000005 00000000 00000002 000186a7 00000001",
-            "00000001",
-            NONE,
-            LAB,
-        ],
-        [
-            "00000005 00000001 00000000 00000000 00000000",
-            "00000002 00000002 00000002",
-        ],
-    ),
-    (
-        [BIND, "00000003", NONE, LAB],
-        ["00000005 00000001 00000000 00000000 00000000", "00000003"],
-    ),
-    (
-        [BIND, "00000001", NONE, "00000041"],
-        ["00000005 00000001 00000000 00000000 00000000", "00000004"],
-    ),
-    (
-        [
-            BIND,
-            "00000002",
-            NONE,
-            "00000003 6c616200 0a000007 03430000",
-        ],
-        ["00000005 00000001 00000000 00000000 00000000", "00000004"],
-    ),
+// Datagrams to a binder of lab that is unbound, and the replies.
+static CALLS: [&str; 12] = [
+    "NULL: NULL -> DONE",
+    "DOMAIN of lab: DOMAIN LAB -> DONE 00000002 00000002",
+    "DOMAIN of zzz: DOMAIN ZZZ -> DONE 00000002 00000001",
+    "a short call: 00000005 00000000 ->",
+    "a reply: 00000005 00000001 00000002 ->",
+    "the third version of RPC: 00000005 00000000 00000003 \
+        -> 00000005 00000001 00000001 00000000 00000002 00000002",
+    "the flavor 6: BIND 00000000 00000006 00000000 00000000 00000000 \
+        -> 00000005 00000001 00000001 00000001 00000002",
+    "another program: 00000005 00000000 00000002 000186a4 00000002 00000001 NONE LAB \
+        -> REFUSED 00000001",
+    "the first version: 00000005 00000000 00000002 000186a7 00000001 00000001 NONE LAB \
+        -> REFUSED 00000002 00000002 00000002",
+    "the procedure 3: BIND 00000003 NONE LAB -> REFUSED 00000003",
+    "a name of 65 bytes: DOMAIN 00000041 -> REFUSED 00000004",
+    "SETDOM without a version: SETDOM LAB OTHER -> REFUSED 00000004",
 ];
+
+fn try_call(rt: &impl Abort, alloc: Global, binder: &mut Binder, row: &str) {
+    let (name, call, reply) = parts(rt, row);
+    let datagram = named(rt, alloc, NAMES, call);
+    let wanted = named(rt, alloc, NAMES, reply);
+    let is = replies(binder, &datagram, STRANGER, &wanted);
+    assert_same(rt, &is, &true, name);
+}
 
 #[test]
 fn datagrams_answered(rt: HostRuntime) {
     let alloc = rt.alloc();
     let mut binder = lab_binder(&rt, alloc, &[SERVER], Policy::Fixed);
-    for (call, reply) in &CALLS {
-        let datagram = bytes(&rt, alloc, call);
-        let wanted = bytes(&rt, alloc, reply);
-        let is = replies(&mut binder, &datagram, STRANGER, &wanted);
-        assert_same(&rt, &is, &true, call[1]);
+    for row in &CALLS {
+        try_call(&rt, alloc, &mut binder, *row);
     }
 }
 
@@ -151,104 +115,151 @@ fn bound(binder: &Binder) -> Option<Peer>
     binder.binding(0)
 }
 
-#[test]
-fn binder_turns(rt: HostRuntime) {
-    let mut binder = lab_binder(&rt, rt.alloc(), &[SERVER, OTHER], Policy::Fixed);
-    let first = [ping(&mut binder), ping(&mut binder), ping(&mut binder)];
+// The pings of three turns, the offers between them, and what lab is bound to behind each.
+type Turns = (
+    [Pinged; 3],
+    [bool; 4],
+    Option<Peer>,
+    [bool; 3],
+    Option<Peer>,
+);
+
+// An unbound domain pings all servers, and takes the first yes.
+fn unbound_turn(binder: &mut Binder) -> Turns
+    requires { length binder.old.domains ≡ 1 }
+    ensures { binder.new.domains ≡ binder.old.domains }
+{
+    let pings = [ping(binder), ping(binder), ping(binder)];
     let refused = [
         binder.on_offer(1, OTHER, true),
         binder.on_offer(1, SERVER, false),
         binder.on_offer(3, SERVER, true),
         binder.on_offer(0, SERVER, true),
     ];
-    let none = bound(&binder);
+    let none = bound(binder);
     let taken = [
         binder.on_offer(1, SERVER, true),
         binder.on_offer(2, OTHER, true),
         binder.on_offer(1, SERVER, true),
     ];
-    let one = bound(&binder);
-    binder.on_quiet();
-    let next = [ping(&mut binder), ping(&mut binder)];
-    let old = binder.on_offer(1, SERVER, true);
-    binder.on_quiet();
-    let two = bound(&binder);
-    let again = [ping(&mut binder), ping(&mut binder)];
-    binder.on_quiet();
-    let three = bound(&binder);
-    let last = [ping(&mut binder), ping(&mut binder), ping(&mut binder)];
-
-    let wanted = [Some((1, SERVER, 0)), Some((2, OTHER, 0)), None];
-    assert_same(&rt, &first, &wanted, "an unbound domain pings all");
-    assert_same(&rt, &refused, &[false; 4], "offers that aren't taken");
-    assert_same(&rt, &none, &None, "no offer was taken");
-    assert_same(&rt, &taken, &[true, false, true], "the first yes");
-    assert_same(&rt, &one, &Some(SERVER), "bound");
-    assert_same(
-        &rt,
-        &next,
-        &[Some((3, SERVER, 0)), None],
-        "its server alone",
-    );
-    assert_same(&rt, &old, &false, "an offer of an old round");
-    assert_same(&rt, &two, &Some(SERVER), "two quiet turns");
-    assert_same(
-        &rt,
-        &again,
-        &[Some((4, SERVER, 0)), None],
-        "its server again",
-    );
-    assert_same(&rt, &three, &None, "three quiet turns");
-    let wanted = [Some((5, SERVER, 0)), Some((6, OTHER, 0)), None];
-    assert_same(&rt, &last, &wanted, "an unbound domain pings all again");
+    (pings, refused, none, taken, bound(binder))
 }
 
-// SETDOM of lab to a server, by policy, caller and version: what lab is bound to then.
-const SETDOMS: [(Policy, Peer, &str, Option<Peer>); 6] = [
-    (Policy::Fixed, SELF, "00000002", None),
-    (Policy::Ypsetme, SELF, "00000002", Some(OTHER)),
-    (Policy::Ypsetme, STRANGER, "00000002", None),
-    (Policy::Ypset, STRANGER, "00000002", Some(OTHER)),
-    (Policy::Ypset, STRANGER, "00000001", None),
-    (Policy::Ypsetme, SELF, "00000003", None),
+// Its pings behind a quiet turn, whether it takes an offer of the turn before, and what it is bound to a quiet turn
+// later.
+fn quiet_turn(binder: &mut Binder) -> ([Pinged; 2], bool, Option<Peer>)
+    requires { length binder.old.domains ≡ 1 }
+    ensures { binder.new.domains ≡ binder.old.domains }
+{
+    binder.on_quiet();
+    let pings = [ping(binder), ping(binder)];
+    let old = binder.on_offer(1, SERVER, true);
+    binder.on_quiet();
+    (pings, old, bound(binder))
+}
+
+// The same at the third turn, and the pings behind that.
+fn third_turn(binder: &mut Binder) -> ([Pinged; 2], Option<Peer>, [Pinged; 3])
+    requires { length binder.old.domains ≡ 1 }
+{
+    let pings = [ping(binder), ping(binder)];
+    binder.on_quiet();
+    let none = bound(binder);
+    (pings, none, [ping(binder), ping(binder), ping(binder)])
+}
+
+#[test]
+fn binder_turns(rt: HostRuntime) {
+    let mut binder = lab_binder(&rt, rt.alloc(), &[SERVER, OTHER], Policy::Fixed);
+    let first = unbound_turn(&mut binder);
+    let second = quiet_turn(&mut binder);
+    let third = third_turn(&mut binder);
+
+    let all = [Some((1, SERVER, 0)), Some((2, OTHER, 0)), None];
+    let wanted = (all, [false; 4], None, [true, false, true], Some(SERVER));
+    assert_same(&rt, &first, &wanted, "an unbound domain pings all");
+    let wanted = ([Some((3, SERVER, 0)), None], false, Some(SERVER));
+    assert_same(&rt, &second, &wanted, "its server alone");
+    let all = [Some((5, SERVER, 0)), Some((6, OTHER, 0)), None];
+    let wanted = ([Some((4, SERVER, 0)), None], None, all);
+    assert_same(&rt, &third, &wanted, "three quiet turns");
+}
+
+// SETDOM of lab to a server, by policy, caller and call, which ends with a version: what lab is bound to then.
+type Setdom = (Policy, Peer, &'static str, Option<Peer>);
+
+static SETDOMS: [Setdom; 6] = [
+    (Policy::Fixed, SELF, "SETDOM LAB OTHER 00000002", None),
+    (
+        Policy::Ypsetme,
+        SELF,
+        "SETDOM LAB OTHER 00000002",
+        Some(OTHER),
+    ),
+    (Policy::Ypsetme, STRANGER, "SETDOM LAB OTHER 00000002", None),
+    (
+        Policy::Ypset,
+        STRANGER,
+        "SETDOM LAB OTHER 00000002",
+        Some(OTHER),
+    ),
+    (Policy::Ypset, STRANGER, "SETDOM LAB OTHER 00000001", None),
+    (Policy::Ypsetme, SELF, "SETDOM LAB OTHER 00000003", None),
 ];
+
+// Whether a call has this reply, and what lab is bound to then.
+type Bound = (bool, Option<Peer>);
+
+fn setdom(rt: &impl Abort, alloc: Global, row: &Setdom, call: &[u8], reply: &[u8]) -> Bound {
+    let (policy, from, _, _) = row;
+    let mut binder = lab_binder(rt, alloc, &[SERVER], *policy);
+    let is = replies(&mut binder, call, *from, reply);
+    (is, bound(&binder))
+}
+
+fn try_setdom(rt: &impl Abort, alloc: Global, row: &Setdom) {
+    let call = named(rt, alloc, NAMES, row.2);
+    let reply = named(rt, alloc, NAMES, "DONE");
+    let came = setdom(rt, alloc, row, &call, &reply);
+    assert_same(rt, &came, &(true, row.3), row.2);
+}
 
 #[test]
 fn setdom_by_policy(rt: HostRuntime) {
-    let alloc = rt.alloc();
-    let wanted = bytes(&rt, alloc, &[DONE]);
-    for (policy, from, version, server) in &SETDOMS {
-        let words = [BIND, "00000002", NONE, LAB, "0a000007 03430000", *version];
-        let datagram = bytes(&rt, alloc, &words);
-        let mut binder = lab_binder(&rt, alloc, &[SERVER], *policy);
-        let is = replies(&mut binder, &datagram, *from, &wanted);
-        let came = (is, bound(&binder));
-        assert_same(&rt, &came, &(true, *server), version);
+    for row in &SETDOMS {
+        try_setdom(&rt, rt.alloc(), row);
     }
 }
 
-fn named(rt: &impl Abort, alloc: Global, name: &[u8]) -> Vec<u8> {
-    name.to_vec(alloc).expect(rt, "memory for a name")
+static EIGHT: [&[u8]; 8] = [b"a", b"b", b"c", b"d", b"e", b"f", b"g", b"h"];
+
+// As many domains as there may be.
+fn eight_names(rt: &impl Abort, alloc: Global) -> Vec<Vec<u8>>
+    ensures { length result.items ≤ 8 }
+{
+    let mut names = Vec::new(alloc);
+    for name in &EIGHT {
+        let name = name.to_vec(alloc).expect(rt, "memory for a name");
+        names.push(name).expect(rt, "memory for names");
+    }
+    assert!(rt; names.len() <= 8);
+    names
 }
 
-// A binder of as many domains and servers as there may be.
-fn wide_binder(rt: &impl Abort, alloc: Global) -> Binder {
-    let names = [
-        named(rt, alloc, b"a"),
-        named(rt, alloc, b"b"),
-        named(rt, alloc, b"c"),
-        named(rt, alloc, b"d"),
-        named(rt, alloc, b"e"),
-        named(rt, alloc, b"f"),
-        named(rt, alloc, b"g"),
-        named(rt, alloc, b"h"),
-    ];
-    let names = Vec::from_array(alloc, names).expect(rt, "memory for names");
+// As many servers as there may be.
+fn many_servers(rt: &impl Abort, alloc: Global) -> Vec<Peer>
+    ensures { length result.items ≤ 64 }
+{
     let mut servers = [SERVER; 64];
     for place in 0..64u16 {
         servers[place as usize].port = place + 1;
     }
-    let servers = Vec::from_slice(alloc, &servers).expect(rt, "memory for servers");
+    Vec::from_slice(alloc, &servers).expect(rt, "memory for servers")
+}
+
+fn wide_binder(rt: &impl Abort, alloc: Global) -> Binder {
+    let names = eight_names(rt, alloc);
+    let servers = many_servers(rt, alloc);
     Binder::new(alloc, names, servers, Policy::Fixed).expect(rt, "memory for a binder")
 }
 

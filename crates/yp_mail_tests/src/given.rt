@@ -3,10 +3,33 @@
 use std::alloc::Global;
 use std::fmt::Debug;
 use std::process::Abort;
+pub use yp_for_tests::NEVER;
+use yp_io::Peer;
+
+/// A peer of this host, and one of another.
+pub const SELF: Peer = Peer {
+    addr: [127, 0, 0, 1],
+    port: 1_021,
+};
+
+pub const STRANGER: Peer = Peer {
+    addr: [10, 0, 0, 9],
+    port: 1_021,
+};
 
 /// The bytes of texts of hexadecimal words, as `8000004c 00000001`.
 pub fn bytes<R: Abort>(rt: &R, alloc: Global, texts: &[&str]) -> Vec<u8> {
     yp_for_tests::bytes(alloc, texts).expect(rt, "hexadecimal words")
+}
+
+/// The bytes of a text of hexadecimal words and of names, each told by a line.
+pub fn named<R: Abort>(rt: &R, alloc: Global, names: &str, text: &str) -> Vec<u8> {
+    yp_for_tests::named(alloc, names, text).expect(rt, "hexadecimal words and names")
+}
+
+/// The parts of a row `NAME: CALL -> REPLY`.
+pub fn parts<'r, R: Abort>(rt: &R, row: &'r str) -> (&'r str, &'r str, &'r str) {
+    yp_for_tests::parts(row).expect(rt, "a row")
 }
 
 /// Ends the test where what came isn't what is wanted, and tells of which row.
@@ -14,7 +37,7 @@ pub fn assert_same<R: Abort, T: PartialEq + Debug>(rt: &R, came: &T, wanted: &T,
     assert!(rt; came == wanted, "{row}: {came:?} came, not {wanted:?}");
 }
 
-/// The numbers of calls that fail.
-pub fn listed<R: Abort>(rt: &R, alloc: Global, calls: &[u64]) -> Vec<u64> {
-    calls.to_vec(alloc).expect(rt, "memory for numbers")
+/// The number of the call that fails.
+pub fn failing<R: Abort>(rt: &R, alloc: Global, call: u64) -> Vec<u64> {
+    vec![in alloc; call].expect(rt, "memory for a number")
 }

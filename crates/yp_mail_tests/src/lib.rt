@@ -1,4 +1,5 @@
-//! Tests of `yp_push`, `yp_bind`, `yp_pushing` and `yp_portmap`: what is asked and answered in datagrams.
+//! Tests of `yp_push`, `yp_binding`, `yp_push::turns` and `yp_binding::portmap`: what is asked and answered in
+//! datagrams.
 #![tactic(auto)]
 
 #[cfg(test)]

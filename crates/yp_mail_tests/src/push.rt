@@ -5,7 +5,7 @@ ghost use Rattle.std.specs.Prelude.{◌≡◌, ◌<◌, ◌≤◌};
 use crate::given::assert_same;
 use std::alloc::Global;
 use std::process::Abort;
-use yp_msgs::PushStat;
+use yp_messages::PushStat;
 use yp_push::*;
 
 // A push with ample memory.

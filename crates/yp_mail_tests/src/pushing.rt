@@ -2,5 +2,5 @@
 
 mod callbacks;
 mod pushes;
+mod sample;
 mod slaves;
-mod stage;

@@ -9,19 +9,21 @@ use Rattle.std.proofs.lemmas.List.{append-nil, length-append, length-replicate}
 use Rattle.std.proofs.lemmas.List.Elements.{recursion_from_All}
 use Rattle.std.proofs.lemmas.List.Sums.{sum_by-cons}
 use Rattle.yp_xdr.specs.Kind.{Kind, U32, Opaque, Value}
-use Rattle.yp_xdr.specs.Spelling.{word, padding, padding_len, opaque, fixed, spelling, Fits}
-use Rattle.yp_xdr.specs.Reading.{Unread}
-use Rattle.yp_xdr.specs.Laws.{WrittenIsReadAgain}
+use Rattle.yp_xdr.specs.Spelling.{word, padding, padding_len, opaque, fixed, spelling}
+use Rattle.yp_xdr.specs.inside.Spelling.{Fits}
+use Rattle.yp_xdr.specs.Reading.{Remaining}
+use Rattle.yp_xdr.specs.inside.Laws.{WrittenIsReadAgain}
 use Rattle.yp_version.specs.Limits.{key_max, value_max, master_max, rows_max, body_max}
 use Rattle.yp_version.specs.Rows.{Row, IsRising, padded, row_len, rows_len}
 use Rattle.yp_version.specs.Versions.{MapVersion, IsVersion, body_len}
-use Rattle.yp_slot.specs.declared.wrong.Wrong.{Wrong}
-use Rattle.yp_version.specs.Bodies.{format, row_bytes, front_bytes, head_bytes, body, IsBody}
-use Rattle.yp_slot.specs.Bodies.{by_xdr, item, guard, secure_of, head_at}
-use Rattle.yp_slot.specs.Bodies.{is_over, row_at, rows_at, body_at}
+use Rattle.yp_map_file.specs.declared.wrong.Wrong.{Wrong}
+use Rattle.yp_version.specs.Bodies.{format, front_bytes, head_bytes}
+use Rattle.yp_version.specs.inside.Bodies.{row_bytes, body, IsBody}
+use Rattle.yp_map_file.specs.Bodies.{by_xdr, item, guard, secure_of, head_at}
+use Rattle.yp_map_file.specs.Bodies.{is_over, row_at, rows_at, body_at}
 
 -- what has been read, wherever the reader then is
-pub record Read {A : Type 0} (result : Result (A × Unread) Wrong) (value : A) (rest : List ℕ) : Type 0 where
+pub record Read {A : Type 0} (result : Result (A × Remaining) Wrong) (value : A) (rest : List ℕ) : Type 0 where
   pub at : ℕ
   pub is : result ≡ Ok (value, record { at = at; bytes = rest })
 

@@ -2,13 +2,14 @@
 use Rattle.std.proofs.Common.{◌≡◌, ◌≤◌, ◌⊎◌, ⊎_elim, inl, inr, sym, subst, length, ◌∙◌, ap, List, ℕ, Option, Some, None}
 use Rattle.std.proofs.Common.{Result, Ok, Err}
 use Rattle.std.specs.Prelude.{OnErr, IfSome}
-use Rattle.yp_io.specs.Disk.{History, GoesOn, LeftBetween, LeavesOnly, MayLeave, IsReadAnImage}
+use Rattle.yp_io.specs.Disk.{History, HistoryGoesOn, LeftBetween, LeavesOnly, MayLeave, IsReadAnImage}
 use Rattle.yp_version.specs.Versions.{MapVersion}
-use Rattle.yp_slot.specs.Stands.{file_max, stands}
-use Rattle.yp_slot.specs.Commits.{laid, closed, filled, opened, committed}
-use Rattle.yp_slot.specs.Slots.{IsSound, IsTold, IsAsBefore, IsAsBeforeOr, IsAsBeforeOrOpened, WouldStand, ReadsChanged}
-use Rattle.yp_slot.proofs.Moments.{weaker, then}
-use Rattle.yp_slot.proofs.Sits.{sound_small}
+use Rattle.yp_map_file.specs.Stands.{file_max, stands}
+use Rattle.yp_map_file.specs.inside.Commits.{laid, closed, filled, opened, committed}
+use Rattle.yp_map_file.specs.Slots.{IsSound, IsAsBefore}
+use Rattle.yp_map_file.specs.inside.Slots.{ReadIsTold, IsAsBeforeOr, IsAsBeforeOrOpened, WouldStand, ReadsChanged}
+use Rattle.yp_map_file.proofs.Moments.{weaker, then}
+use Rattle.yp_map_file.proofs.Sits.{sound_small}
 
 -- what holds at all holds at a refusal
 pub on_err : {T E P : Type 0} (result : Result T E) → P → OnErr result P
@@ -34,7 +35,7 @@ opened_through version (Some h) None alike would image left = absurd alike
 opened_through version (Some h) (Some k) alike would image left = ⊎_elim (λ before. inl (before
     ∙ alike)) (λ as_opened. inr (as_opened ∙ would)) left
 
-alike_told : (old new : Option History) → GoesOn old new → IsReadAnImage new
+alike_told : (old new : Option History) → HistoryGoesOn old new → IsReadAnImage new
     → ((image : List ℕ) → MayLeave new image → IsAsBefore old image) → StandsAlike old new
 alike_told None new went is_image here = tt
 alike_told (Some h) None went is_image here = absurd went
@@ -52,12 +53,12 @@ makes_all body (Some a) (Some b) (Some c) (Some d) (Some e) one two three four =
     four ∙ ap opened (three ∙ ap (filled body) (two ∙ ap closed one))
 
 module _ {Self : Type 0} (history : Self → Option History)
-    (goes_on : (old middle new : Self) → GoesOn (history old) (history middle) → GoesOn (history middle) (history new)
-    → GoesOn (history old) (history new))
-    (splits : (old middle new : Self) (image : List ℕ) → GoesOn (history old) (history middle)
-    → GoesOn (history middle) (history new) → LeftBetween (history old) (history new) image
+    (goes_on : (old middle new : Self) → HistoryGoesOn (history old) (history middle) → HistoryGoesOn (history middle) (history new)
+    → HistoryGoesOn (history old) (history new))
+    (splits : (old middle new : Self) (image : List ℕ) → HistoryGoesOn (history old) (history middle)
+    → HistoryGoesOn (history middle) (history new) → LeftBetween (history old) (history new) image
     → LeftBetween (history old) (history middle) image ⊎ LeftBetween (history middle) (history new) image)
-    (counts_now : (old new : Self) (image : List ℕ) → GoesOn (history old) (history new) → MayLeave (history new) image
+    (counts_now : (old new : Self) (image : List ℕ) → HistoryGoesOn (history old) (history new) → MayLeave (history new) image
     → LeftBetween (history old) (history new) image)
     (reads_image : (disk : Self) → IsReadAnImage (history disk)) where
   -- what a crash leaves at the end is what one leaves at some moment
@@ -101,13 +102,13 @@ module _ {Self : Type 0} (history : Self → Option History)
 -- ---- the bound of the file
 
 image_small : (version : MapVersion) (history : Option History) (image : List ℕ)
-    → IfSome history (λ h. IsSound (stands h.state.reads)) → IsTold (λ file. Unit {0}) history
+    → IfSome history (λ h. IsSound (stands h.state.reads)) → ReadIsTold (λ file. Unit {0}) history
     → IsAsBeforeOr version history image → length image ≤ file_max
 image_small version None image sound told left = absurd told
 image_small version (Some h) image sound told (inl before) = sound_small image (subst IsSound (sym before) sound)
 image_small version (Some h) image sound told (inr stored) = sound_small image (subst IsSound (sym stored) tt)
 
-between_told : (old new : Option History) (image : List ℕ) → LeftBetween old new image → IsTold (λ file. Unit {0}) old
+between_told : (old new : Option History) (image : List ℕ) → LeftBetween old new image → ReadIsTold (λ file. Unit {0}) old
 between_told None new image left = absurd left
 between_told (Some h) new image left = tt
 

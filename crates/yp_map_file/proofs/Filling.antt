@@ -8,25 +8,29 @@ use Rattle.yp_io.specs.Disk.{History, IsImage, overwritten, touched, written_at,
 use Rattle.yp_xdr.specs.Reading.{first_nonzero}
 use Rattle.yp_version.specs.Limits.{body_max}
 use Rattle.yp_version.specs.Versions.{MapVersion}
-use Rattle.yp_slot.specs.declared.cells.Cell.{Cell}
-use Rattle.yp_slot.specs.declared.cells.Entry.{Entry}
-use Rattle.yp_slot.specs.declared.known.Known.{Known}
-use Rattle.yp_slot.specs.Cells.{bytes_at, cell_place, other, is_open, entry, filler, entry_bytes}
-use Rattle.yp_version.specs.Bodies.{body}
-use Rattle.yp_slot.specs.Bodies.{body_at}
-use Rattle.yp_slot.specs.Stands.{file_max, has_room, by_body, Stored, stands, standing}
-use Rattle.yp_slot.specs.Commits.{generation_max, winning, target, generation_of, place_for, next_entry, filled, opened}
-use Rattle.yp_slot.specs.Slots.{IsSound, IsKnown, IsQuiet, Settles, IsFilled, Fills, LiesWithin, IsAsBefore}
-use Rattle.yp_slot.specs.Slots.{IsAsBeforeOrOpened, with_winner, WouldStand, ReadsChanged}
-use Rattle.yp_slot.proofs.Sits.{Sits, sits_winning, sits_target, sits_stands}
-use Rattle.yp_slot.proofs.Images.{has_room_from}
-use Rattle.yp_slot.proofs.Stays.{cell_below, Stays, gate_range}
-use Rattle.yp_slot.proofs.Writes.{gate_written, gate_image, open_shut, open_open, Goes, goes, fill_ranges}
-use Rattle.yp_slot.proofs.Writes.{body_stays_closed, fill_stays_closed, Numbers, entry_written, filler_written}
-use Rattle.yp_slot.proofs.Writes.{with_body, fill_image, body_there, length_with_body}
-use Rattle.yp_slot.proofs.Writes as writes
-use Rattle.yp_slot.proofs.Steps.{known_sits, known_gate, known_from, stays_same, stays_sound, writing, quiet_torn}
-use Rattle.yp_slot.proofs.Steps.{quiet_after, after}
+use Rattle.yp_map_file.specs.declared.cells.Cell.{Cell}
+use Rattle.yp_map_file.specs.declared.cells.Entry.{Entry}
+use Rattle.yp_map_file.specs.declared.known.Known.{Known}
+use Rattle.yp_map_file.specs.Cells.{bytes_at, cell_place, is_open, entry, filler}
+use Rattle.yp_map_file.specs.inside.Cells.{other, entry_bytes}
+use Rattle.yp_version.specs.inside.Bodies.{body}
+use Rattle.yp_map_file.specs.Bodies.{body_at}
+use Rattle.yp_map_file.specs.Stands.{file_max, has_room, by_body, Stored, stands}
+use Rattle.yp_map_file.specs.inside.Stands.{standing}
+use Rattle.yp_map_file.specs.Commits.{generation_max, winning, generation_of}
+use Rattle.yp_map_file.specs.inside.Commits.{target, place_for, next_entry, filled, opened}
+use Rattle.yp_map_file.specs.Slots.{IsSound, IsAsBefore}
+use Rattle.yp_map_file.specs.inside.Slots.{IsKnown, IsQuiet, Settles, IsFilled, Fills, LiesWithin}
+use Rattle.yp_map_file.specs.inside.Slots.{IsAsBeforeOrOpened, with_winner, WouldStand, ReadsChanged}
+use Rattle.yp_map_file.proofs.Sits.{Sits, sits_winning, sits_target, sits_stands}
+use Rattle.yp_map_file.proofs.Images.{has_room_from}
+use Rattle.yp_map_file.proofs.Stays.{cell_below, Stays, gate_range}
+use Rattle.yp_map_file.proofs.Writes.{gate_written, gate_image, open_shut, open_open, Goes, goes, fill_ranges}
+use Rattle.yp_map_file.proofs.Writes.{body_stays_closed, fill_stays_closed, Numbers, entry_written, filler_written}
+use Rattle.yp_map_file.proofs.Writes.{with_body, fill_image, body_there, length_with_body}
+use Rattle.yp_map_file.proofs.Writes as writes
+use Rattle.yp_map_file.proofs.Steps.{known_sits, known_gate, known_from, stays_same, stays_sound, writing, quiet_torn}
+use Rattle.yp_map_file.proofs.Steps.{quiet_after, after}
 
 known_shut : (known : Known) (f : List ℕ) → IsKnown known f → known.long ≡ true → known.gate_open ≡ false
     → is_open known.target f ≡ false

@@ -5,11 +5,11 @@ use Rattle.std.proofs.lemmas.Bool.{cases_lt, le-ltb}
 use Rattle.std.proofs.lemmas.Bool.Decides.{nat_tests}
 use Rattle.yp_io.specs.Disk.{DiskState, is_written, IsImage}
 use Rattle.yp_version.specs.Limits.{body_max}
-use Rattle.yp_slot.specs.declared.cells.Cell.{Cell}
-use Rattle.yp_slot.specs.declared.cells.Entry.{Entry}
-use Rattle.yp_slot.specs.Cells.{open_gate, bytes_at, number_at, cell_place, is_open, filler, entry}
-use Rattle.yp_slot.specs.Stands.{has_room}
-use Rattle.yp_slot.proofs.Slices.{same_bytes}
+use Rattle.yp_map_file.specs.declared.cells.Cell.{Cell}
+use Rattle.yp_map_file.specs.declared.cells.Entry.{Entry}
+use Rattle.yp_map_file.specs.Cells.{open_gate, bytes_at, number_at, cell_place, is_open, filler, entry}
+use Rattle.yp_map_file.specs.Stands.{has_room}
+use Rattle.yp_map_file.proofs.Slices.{same_bytes}
 
 -- ---- room for a body
 

@@ -5,21 +5,25 @@ use Rattle.std.proofs.lemmas.Bool.{le-ltb}
 use Rattle.std.proofs.lemmas.Bool.Decides.{nat_tests}
 use Rattle.std.proofs.lemmas.List.{get_or-take}
 use Rattle.yp_xdr.specs.Reading.{first_nonzero}
-use Rattle.yp_slot.specs.declared.cells.Cell.{Cell}
-use Rattle.yp_slot.specs.declared.cells.Cell.TheVariants.{First, Second}
-use Rattle.yp_slot.specs.declared.cells.Entry.{Entry}
-use Rattle.yp_slot.specs.declared.cells.Winner.{Winner}
-use Rattle.yp_slot.specs.declared.cells.Winner.TheVariants.{Nobody, Both, Only}
-use Rattle.yp_slot.specs.declared.fault.SlotFault.{SlotFault}
-use Rattle.yp_slot.specs.declared.fault.SlotFault.TheVariants as fault
-use Rattle.yp_slot.specs.Cells.{bytes_at, cell_place, other, is_open, filler, entry, winner}
-use Rattle.yp_slot.specs.Stands.{file_max, has_room, by_entry, by_winner, Damaged, stands, standing}
-use Rattle.yp_slot.specs.Commits.{winner_entry, winning, loser, target}
-use Rattle.yp_slot.specs.Slots.{IsSound, IsKnown}
-use Rattle.yp_slot.specs.Loads.{Judges, JudgesWinner}
-use Rattle.yp_slot.proofs.Slices.{same_bytes}
-use Rattle.yp_slot.proofs.Stays.{cell_below}
-use Rattle.yp_slot.proofs.Steps.{laid_long}
+use Rattle.yp_map_file.specs.declared.cells.Cell.{Cell}
+use Rattle.yp_map_file.specs.declared.cells.Cell.TheVariants.{First, Second}
+use Rattle.yp_map_file.specs.declared.cells.Entry.{Entry}
+use Rattle.yp_map_file.specs.declared.cells.Winner.{Winner}
+use Rattle.yp_map_file.specs.declared.cells.Winner.TheVariants.{Nobody, Both, Only}
+use Rattle.yp_map_file.specs.declared.fault.SlotFault.{SlotFault}
+use Rattle.yp_map_file.specs.declared.fault.SlotFault.TheVariants as fault
+use Rattle.yp_map_file.specs.Cells.{bytes_at, cell_place, is_open, filler, entry, winner}
+use Rattle.yp_map_file.specs.inside.Cells.{other}
+use Rattle.yp_map_file.specs.Stands.{file_max, has_room, by_entry, by_winner, Damaged, stands}
+use Rattle.yp_map_file.specs.inside.Stands.{standing}
+use Rattle.yp_map_file.specs.Commits.{winner_entry, winning}
+use Rattle.yp_map_file.specs.inside.Commits.{loser, target}
+use Rattle.yp_map_file.specs.Slots.{IsSound}
+use Rattle.yp_map_file.specs.inside.Slots.{IsKnown}
+use Rattle.yp_map_file.specs.inside.Loads.{Judges, JudgesWinner}
+use Rattle.yp_map_file.proofs.Slices.{same_bytes}
+use Rattle.yp_map_file.proofs.Stays.{cell_below}
+use Rattle.yp_map_file.proofs.Steps.{laid_long}
 
 module _ (file cells : List ℕ) (front : take 64 file ≡ cells) (long : 64 ≤ length file) where
   byte_same : (x : ℕ) → x < 64 → get_or cells x 0 ≡ get_or file x 0

@@ -5,23 +5,26 @@ use Rattle.std.specs.Prelude.{IfSome, IfOk, slice_range, IsTrue}
 use Rattle.std.proofs.lemmas.Bool.Decides.{nat_tests}
 use Rattle.yp_io.specs.Disk.{History, HasLength, ReadsAt}
 use Rattle.yp_version.specs.Versions.{MapVersion}
-use Rattle.yp_slot.specs.declared.cells.Cell.TheVariants.{First}
-use Rattle.yp_slot.specs.declared.cells.Entry.{Entry}
-use Rattle.yp_slot.specs.declared.fault.SlotFault.{SlotFault}
-use Rattle.yp_slot.specs.declared.fault.SlotFault.TheVariants as fault
-use Rattle.yp_slot.specs.declared.known.Known.{Known}
-use Rattle.yp_slot.specs.declared.wrong.BodyFault.{BodyFault}
-use Rattle.yp_slot.specs.declared.wrong.BodyFault.TheVariants.{Wrong, NoMemory}
-use Rattle.yp_slot.specs.Cells.{bytes_at, is_open}
-use Rattle.yp_slot.specs.Bodies.{body_at}
-use Rattle.yp_slot.specs.Stands.{file_max, has_room, by_body, Damaged, stands, standing}
-use Rattle.yp_slot.specs.Commits.{winning, target, laid}
-use Rattle.yp_slot.specs.Slots.{IsSound, IsKnown}
-use Rattle.yp_slot.specs.Heads.{ReadsBody}
-use Rattle.yp_slot.specs.Loads.{fault_in, FitsIn, Judges, JudgesFile, LoadsBody, HasBody}
-use Rattle.yp_slot.proofs.Sits.{short_stands}
-use Rattle.yp_slot.proofs.Images.{room_facts}
-use Rattle.yp_slot.proofs.Places.{wrong_within}
+use Rattle.yp_map_file.specs.declared.cells.Cell.TheVariants.{First}
+use Rattle.yp_map_file.specs.declared.cells.Entry.{Entry}
+use Rattle.yp_map_file.specs.declared.fault.SlotFault.{SlotFault}
+use Rattle.yp_map_file.specs.declared.fault.SlotFault.TheVariants as fault
+use Rattle.yp_map_file.specs.declared.known.Known.{Known}
+use Rattle.yp_map_file.specs.declared.wrong.BodyFault.{BodyFault}
+use Rattle.yp_map_file.specs.declared.wrong.BodyFault.TheVariants.{Wrong, NoMemory}
+use Rattle.yp_map_file.specs.Cells.{bytes_at, is_open}
+use Rattle.yp_map_file.specs.Bodies.{body_at}
+use Rattle.yp_map_file.specs.Stands.{file_max, has_room, by_body, Damaged, stands}
+use Rattle.yp_map_file.specs.inside.Stands.{standing}
+use Rattle.yp_map_file.specs.Commits.{winning}
+use Rattle.yp_map_file.specs.inside.Commits.{target, laid}
+use Rattle.yp_map_file.specs.Slots.{IsSound}
+use Rattle.yp_map_file.specs.inside.Slots.{IsKnown}
+use Rattle.yp_map_file.specs.inside.Heads.{ReadsBody}
+use Rattle.yp_map_file.specs.inside.Loads.{fault_in, FitsIn, Judges, JudgesFile, LoadsBody, HasBody}
+use Rattle.yp_map_file.proofs.Sits.{short_stands}
+use Rattle.yp_map_file.proofs.Images.{room_facts}
+use Rattle.yp_map_file.proofs.Places.{wrong_within}
 
 big_stands : (f : List ℕ) → file_max < length f → stands f ≡ Damaged file_max 1
 unfolding stands

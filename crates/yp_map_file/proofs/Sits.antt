@@ -4,16 +4,18 @@ use Rattle.std.proofs.Common.{None, refl, sym, ap, subst, ◌∙◌, inl, inr, �
 use Rattle.std.proofs.lemmas.Bool.{ltb-false, le-ltb, ne_eqb}
 use Rattle.std.proofs.lemmas.Bool.Decides.{nat_tests}
 use Rattle.yp_xdr.specs.Reading.{first_nonzero}
-use Rattle.yp_slot.specs.declared.cells.Cell.{Cell}
-use Rattle.yp_slot.specs.declared.cells.Cell.TheVariants.{First, Second}
-use Rattle.yp_slot.specs.declared.cells.Entry.{Entry}
-use Rattle.yp_slot.specs.Cells.{cell_place, other, is_open, filler, entry, greater, winner}
-use Rattle.yp_slot.specs.declared.cells.Winner.{Winner}
-use Rattle.yp_slot.specs.declared.cells.Winner.TheVariants.{Nobody, Both, Only}
-use Rattle.yp_slot.specs.Stands.{file_max, has_room, by_entry, by_filler, by_winner, Stands, Nothing, Damaged, stands}
-use Rattle.yp_slot.specs.Stands.{standing}
-use Rattle.yp_slot.specs.Commits.{winner_entry, winning, loser, target}
-use Rattle.yp_slot.specs.Slots.{IsSound}
+use Rattle.yp_map_file.specs.declared.cells.Cell.{Cell}
+use Rattle.yp_map_file.specs.declared.cells.Cell.TheVariants.{First, Second}
+use Rattle.yp_map_file.specs.declared.cells.Entry.{Entry}
+use Rattle.yp_map_file.specs.Cells.{cell_place, is_open, filler, entry, greater, winner}
+use Rattle.yp_map_file.specs.inside.Cells.{other}
+use Rattle.yp_map_file.specs.declared.cells.Winner.{Winner}
+use Rattle.yp_map_file.specs.declared.cells.Winner.TheVariants.{Nobody, Both, Only}
+use Rattle.yp_map_file.specs.Stands.{file_max, has_room, by_entry, by_filler, by_winner, Stands, Nothing, Damaged, stands}
+use Rattle.yp_map_file.specs.inside.Stands.{standing}
+use Rattle.yp_map_file.specs.Commits.{winner_entry, winning}
+use Rattle.yp_map_file.specs.inside.Commits.{loser, target}
+use Rattle.yp_map_file.specs.Slots.{IsSound}
 
 -- the cell t loses to the other one, which has this entry and a body within the file
 pub record Beats (f : List ℕ) (t : Cell) (e : Entry) : Type 0 where

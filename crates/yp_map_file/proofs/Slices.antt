@@ -4,7 +4,7 @@ use Rattle.std.proofs.Common.{arith, length-append, length-take, length-drop}
 use Rattle.std.proofs.lemmas.List.{get_or-take, get_or-drop, get_or-append_right, get_or_append_left, take_all}
 use Rattle.std.proofs.lemmas.Grind.{same_number_lists}
 use Rattle.yp_io.specs.Disk.{overwritten}
-use Rattle.yp_slot.specs.Cells.{bytes_at}
+use Rattle.yp_map_file.specs.Cells.{bytes_at}
 
 pub length_bytes_at : (s k : ℕ) (f : List ℕ) → s + k ≤ length f → length (bytes_at s k f) ≡ k
 unfolding bytes_at

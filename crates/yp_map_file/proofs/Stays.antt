@@ -3,15 +3,17 @@ use Rattle.std.proofs.Common.{◌≡◌, ℕ, ◌+◌, ◌<◌, ◌≤◌, true,
 use Rattle.std.proofs.Common.{ap, subst, ◌∙◌, inl, inr, ⊎_elim, ◌⊎◌, arith}
 use Rattle.yp_io.specs.Disk.{DiskState, longest, IsImage}
 use Rattle.yp_xdr.specs.Reading.{first_nonzero}
-use Rattle.yp_slot.specs.declared.cells.Cell.{Cell}
-use Rattle.yp_slot.specs.declared.cells.Cell.TheVariants.{First, Second}
-use Rattle.yp_slot.specs.declared.cells.Entry.{Entry}
-use Rattle.yp_slot.specs.Cells.{cell_place, other, is_open, entry}
-use Rattle.yp_slot.specs.Bodies.{body_at}
-use Rattle.yp_slot.specs.Stands.{file_max, has_room, by_body, standing}
-use Rattle.yp_slot.proofs.Sits.{Beats, SitsIn, Sits}
-use Rattle.yp_slot.proofs.Images.{room_facts, has_room_from, Outside, outside_none, outside_more, outside_part}
-use Rattle.yp_slot.proofs.Images.{bytes_kept, gate_kept, entry_kept, filler_kept}
+use Rattle.yp_map_file.specs.declared.cells.Cell.{Cell}
+use Rattle.yp_map_file.specs.declared.cells.Cell.TheVariants.{First, Second}
+use Rattle.yp_map_file.specs.declared.cells.Entry.{Entry}
+use Rattle.yp_map_file.specs.Cells.{cell_place, is_open, entry}
+use Rattle.yp_map_file.specs.inside.Cells.{other}
+use Rattle.yp_map_file.specs.Bodies.{body_at}
+use Rattle.yp_map_file.specs.Stands.{file_max, has_room, by_body}
+use Rattle.yp_map_file.specs.inside.Stands.{standing}
+use Rattle.yp_map_file.proofs.Sits.{Beats, SitsIn, Sits}
+use Rattle.yp_map_file.proofs.Images.{room_facts, has_room_from, Outside, outside_none, outside_more, outside_part}
+use Rattle.yp_map_file.proofs.Images.{bytes_kept, gate_kept, entry_kept, filler_kept}
 
 -- ---- the two cells
 

@@ -8,17 +8,20 @@ use Rattle.std.proofs.lemmas.Grind.{same_number_lists}
 use Rattle.std.proofs.lemmas.List.{drop_all, append-nil}
 use Rattle.yp_io.specs.Disk.{DiskState, History, is_written, longest, IsImage, overwritten, touched, written_at}
 use Rattle.yp_io.specs.Disk.{after_sync, MayLeave, MayLeaveTorn}
-use Rattle.yp_slot.specs.declared.cells.Cell.{Cell}
-use Rattle.yp_slot.specs.declared.cells.Cell.TheVariants.{First}
-use Rattle.yp_slot.specs.declared.cells.Entry.{Entry}
-use Rattle.yp_slot.specs.declared.known.Known.{Known}
-use Rattle.yp_slot.specs.Cells.{cell_place, is_open}
-use Rattle.yp_slot.specs.Stands.{file_max, Nothing, stands, standing}
-use Rattle.yp_slot.specs.Commits.{winning, target, laid, closed}
-use Rattle.yp_slot.specs.Slots.{IsSound, IsTold, IsKnown, IsQuiet, Settles, IsAsBefore, ReadsChanged}
-use Rattle.yp_slot.proofs.Sits.{Sits, sits_winning, sits_target, sits_stands, sits_from, short_stands}
-use Rattle.yp_slot.proofs.Stays.{cell_below, Stays, gate_range, gate_spares, gate_spares_numbers, stays_older}
-use Rattle.yp_slot.proofs.Writes.{gate_written, gate_image}
+use Rattle.yp_map_file.specs.declared.cells.Cell.{Cell}
+use Rattle.yp_map_file.specs.declared.cells.Cell.TheVariants.{First}
+use Rattle.yp_map_file.specs.declared.cells.Entry.{Entry}
+use Rattle.yp_map_file.specs.declared.known.Known.{Known}
+use Rattle.yp_map_file.specs.Cells.{cell_place, is_open}
+use Rattle.yp_map_file.specs.Stands.{file_max, Nothing, stands}
+use Rattle.yp_map_file.specs.inside.Stands.{standing}
+use Rattle.yp_map_file.specs.Commits.{winning}
+use Rattle.yp_map_file.specs.inside.Commits.{target, laid, closed}
+use Rattle.yp_map_file.specs.Slots.{IsSound, IsAsBefore}
+use Rattle.yp_map_file.specs.inside.Slots.{ReadIsTold, IsKnown, IsQuiet, Settles, ReadsChanged}
+use Rattle.yp_map_file.proofs.Sits.{Sits, sits_winning, sits_target, sits_stands, sits_from, short_stands}
+use Rattle.yp_map_file.proofs.Stays.{cell_below, Stays, gate_range, gate_spares, gate_spares_numbers, stays_older}
+use Rattle.yp_map_file.proofs.Writes.{gate_written, gate_image}
 
 -- ---- what is known
 
@@ -282,7 +285,7 @@ laid_laid known (Some h) long s = sym (laid_long h.state.reads (known_long known
 
 -- a cell that is told to be closed is known to be
 pub told_shut : (known : Known) (history : Option History) → known.long ≡ true → Settles known history
-    → IsTold (λ file. is_open (target file) file ≡ false) history → known.gate_open ≡ false
+    → ReadIsTold (λ file. is_open (target file) file ≡ false) history → known.gate_open ≡ false
 told_shut known None long s told = absurd told
 told_shut known (Some h) long s told =
     let f = h.state.reads in

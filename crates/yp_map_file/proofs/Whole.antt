@@ -12,17 +12,20 @@ use Rattle.std.proofs.lemmas.List.{append-nil, get_or-append-add, nil_from_lengt
 use Rattle.std.proofs.lemmas.List.Elements.{All-from_recursion}
 use Rattle.yp_xdr.specs.declared.fault.XdrFault.{XdrFault}
 use Rattle.yp_xdr.specs.Kind.{Kind, U32, Opaque, Value}
-use Rattle.yp_xdr.specs.Spelling.{spelling, Fits}
-use Rattle.yp_xdr.specs.Reading.{Unread, reading, IsBytes}
-use Rattle.yp_xdr.specs.Laws.{ReadIsSpelled}
+use Rattle.yp_xdr.specs.Spelling.{spelling}
+use Rattle.yp_xdr.specs.inside.Spelling.{Fits}
+use Rattle.yp_xdr.specs.Reading.{Remaining, reading}
+use Rattle.yp_xdr.specs.inside.Reading.{IsBytes}
+use Rattle.yp_xdr.specs.inside.Laws.{ReadIsSpelled}
 use Rattle.yp_version.specs.Limits.{key_max, value_max, master_max, rows_max, body_max}
 use Rattle.yp_version.specs.Rows.{Row, key_cmp, IsRising}
 use Rattle.yp_version.specs.Versions.{MapVersion, body_len}
-use Rattle.yp_slot.specs.declared.wrong.Wrong.{Wrong}
-use Rattle.yp_version.specs.Bodies.{format, row_bytes, front_bytes, body, IsBody}
-use Rattle.yp_slot.specs.Bodies.{◌>>=◌, by_xdr, item, guard, Head, head_at}
-use Rattle.yp_slot.specs.Bodies.{is_over, row_at, rows_at, body_at}
-use Rattle.yp_slot.proofs.Again.{length-body}
+use Rattle.yp_map_file.specs.declared.wrong.Wrong.{Wrong}
+use Rattle.yp_version.specs.Bodies.{format, front_bytes}
+use Rattle.yp_version.specs.inside.Bodies.{row_bytes, body, IsBody}
+use Rattle.yp_map_file.specs.Bodies.{◌>>=◌, by_xdr, item, guard, BodyHead, head_at}
+use Rattle.yp_map_file.specs.Bodies.{is_over, row_at, rows_at, body_at}
+use Rattle.yp_map_file.proofs.Again.{length-body}
 
 lt_is : (o : Ordering) → is_lt o ≡ true → o ≡ Less
 lt_is Less e = refl
@@ -52,7 +55,7 @@ secure_ok n at false true is_one is_two next P f = f true (let e = sym is_two in
 secure_ok n at false false is_one is_two next P f = tt
 
 -- the next bytes spell this value of the kind
-record Took (kind : Kind) (value : Value kind) (old new : Unread) : Type 0 where
+record Took (kind : Kind) (value : Value kind) (old new : Remaining) : Type 0 where
   pub bytes : old.bytes ≡ spelling kind value ++ new.bytes
   pub fits : Fits kind value
   pub rest : IsBytes new.bytes
@@ -64,7 +67,7 @@ behind bytes front rest parts h i =
     ∙ get_or-append-add front rest i 0) (h (length front + i))
 
 module _ (spelled : ReadIsSpelled) where
-  item_took : (kind : Kind) (left : Unread) → IsBytes left.bytes → (r : Result (Value kind × Unread) XdrFault)
+  item_took : (kind : Kind) (left : Remaining) → IsBytes left.bytes → (r : Result (Value kind × Remaining) XdrFault)
       → reading kind left ≡ r → OkThat (by_xdr r) (λ x. Took kind x.0 left x.1)
   item_took kind left are_bytes (Err fault) is = tt
   item_took kind left are_bytes (Ok x) is =
@@ -77,10 +80,10 @@ module _ (spelled : ReadIsSpelled) where
         rest = behind left.bytes (spelling kind x.0) x.1.bytes parts are_bytes;
       }
 
-  item_ok : (kind : Kind) (left : Unread) → IsBytes left.bytes → OkThat (item kind left) (λ x. Took kind x.0 left x.1)
+  item_ok : (kind : Kind) (left : Remaining) → IsBytes left.bytes → OkThat (item kind left) (λ x. Took kind x.0 left x.1)
   item_ok kind left are_bytes = item_took kind left are_bytes (reading kind left) refl
 
-  record HeadTook (head : Head) (old new : Unread) : Type 0 where
+  record HeadTook (head : BodyHead) (old new : Remaining) : Type 0 where
     pub bytes : old.bytes ≡ spelling U32 (format head.secure) ++ spelling U32 head.order ++ spelling (Opaque master_max)
         head.master ++ spelling U32 head.count ++ new.bytes
     pub order : head.order < 2 ^ 32
@@ -94,7 +97,7 @@ module _ (spelled : ReadIsSpelled) where
       ∙ rw (two, three, four) (let s : b ++ (d ++ (f ++ (h ++ i))) ≡ b ++ d ++ f ++ h ++ i = sym (simp append_assoc) in
       s)
 
-  head_ok : (left : Unread) → IsBytes left.bytes → OkThat (head_at left) (λ x. HeadTook x.0 left x.1)
+  head_ok : (left : Remaining) → IsBytes left.bytes → OkThat (head_at left) (λ x. HeadTook x.0 left x.1)
   unfolding head_at
   head_ok left are_bytes =
       then_ok (item U32 left) _ _ (λ x. HeadTook x.0 left x.1) (item_ok U32 left are_bytes) (λ number n.
@@ -115,14 +118,14 @@ module _ (spelled : ReadIsSpelled) where
         rest = c.rest;
       }))))))
 
-  record RowTook (row : Row) (last : Option (List ℕ)) (old new : Unread) : Type 0 where
+  record RowTook (row : Row) (last : Option (List ℕ)) (old new : Remaining) : Type 0 where
     pub bytes : old.bytes ≡ row_bytes row ++ new.bytes
     pub key : length row.0 ≤ key_max
     pub value : length row.1 ≤ value_max
     pub over : is_over last row.0 ≡ true
     pub rest : IsBytes new.bytes
 
-  row_ok : (last : Option (List ℕ)) (left : Unread) → IsBytes left.bytes
+  row_ok : (last : Option (List ℕ)) (left : Remaining) → IsBytes left.bytes
       → OkThat (row_at last left) (λ x. RowTook x.0 last left x.1)
   unfolding row_at row_bytes
   row_ok last left are_bytes =
@@ -166,7 +169,7 @@ module _ (spelled : ReadIsSpelled) where
   unfolding IsStrictlySortedBy
   rising_nil = tt
 
-  record RowsTook (n : ℕ) (rows : List Row) (last : Option (List ℕ)) (old new : Unread) : Type 0 where
+  record RowsTook (n : ℕ) (rows : List Row) (last : Option (List ℕ)) (old new : Remaining) : Type 0 where
     pub bytes : old.bytes ≡ flat_map row_bytes rows ++ new.bytes
     pub len : length rows ≡ n
     pub keys : AllByRecursion (λ row. length row.0 ≤ key_max) rows
@@ -179,7 +182,7 @@ module _ (spelled : ReadIsSpelled) where
   over_nil None = tt
   over_nil (Some last) = tt
 
-  rows_ok : (n : ℕ) (last : Option (List ℕ)) (left : Unread) → IsBytes left.bytes
+  rows_ok : (n : ℕ) (last : Option (List ℕ)) (left : Remaining) → IsBytes left.bytes
       → OkThat (rows_at n last left) (λ x. RowsTook n x.0 last left x.1)
   rows_ok zero last left are_bytes = record {
     bytes = refl;
@@ -209,7 +212,7 @@ module _ (spelled : ReadIsSpelled) where
       → OkThat (body_at bytes) (λ version. IsBody bytes version)
   unfolding body_at front_bytes
   body_ok bytes are_bytes few =
-      let start : Unread = record { at = 0; bytes = bytes } in
+      let start : Remaining = record { at = 0; bytes = bytes } in
       then_ok (head_at start) _ _ (λ version. IsBody bytes version) (head_ok start are_bytes) (λ head h.
       then_ok (rows_at head.0.count None head.1) _ _ (λ version. IsBody bytes version)
       (rows_ok head.0.count None head.1 h.rest) (λ rows r.

@@ -9,19 +9,21 @@ use Rattle.std.proofs.lemmas.Bool.Decides.{nat_tests}
 use Rattle.yp_io.specs.Disk.{DiskState, is_written, longest, IsImage, overwritten}
 use Rattle.yp_xdr.specs.Reading.{first_nonzero}
 use Rattle.yp_version.specs.Limits.{body_max}
-use Rattle.yp_slot.specs.declared.cells.Cell.{Cell}
-use Rattle.yp_slot.specs.declared.cells.Cell.TheVariants.{First, Second}
-use Rattle.yp_slot.specs.declared.cells.Entry.{Entry}
-use Rattle.yp_slot.specs.Cells.{open_gate, bytes_at, number_at, cell_place, other, is_open, filler, entry, entry_bytes}
-use Rattle.yp_slot.specs.Stands.{file_max, has_room}
-use Rattle.yp_slot.specs.Commits.{generation_of, place_for}
-use Rattle.yp_slot.proofs.Slices.{length-overwritten, overwritten_before, overwritten_behind, overwritten_there}
-use Rattle.yp_slot.proofs.Slices.{part_there, whole_there}
-use Rattle.yp_slot.proofs.Sits.{bool_cases, SitsIn, Sits}
-use Rattle.yp_slot.proofs.Images.{Room, room_facts, Outside, outside_none, outside_more, outside_part, bytes_kept}
-use Rattle.yp_slot.proofs.Images.{gate_kept, entry_kept, filler_kept}
-use Rattle.yp_slot.proofs.Stays.{cell_below, cells_apart, other-other, SparesIn, Spares, Stays, gate_range, gate_spares}
-use Rattle.yp_slot.proofs.Stays.{stays_closed, body_stays}
+use Rattle.yp_map_file.specs.declared.cells.Cell.{Cell}
+use Rattle.yp_map_file.specs.declared.cells.Cell.TheVariants.{First, Second}
+use Rattle.yp_map_file.specs.declared.cells.Entry.{Entry}
+use Rattle.yp_map_file.specs.Cells.{open_gate, bytes_at, number_at, cell_place, is_open, filler, entry}
+use Rattle.yp_map_file.specs.inside.Cells.{other, entry_bytes}
+use Rattle.yp_map_file.specs.Stands.{file_max, has_room}
+use Rattle.yp_map_file.specs.Commits.{generation_of}
+use Rattle.yp_map_file.specs.inside.Commits.{place_for}
+use Rattle.yp_map_file.proofs.Slices.{length-overwritten, overwritten_before, overwritten_behind, overwritten_there}
+use Rattle.yp_map_file.proofs.Slices.{part_there, whole_there}
+use Rattle.yp_map_file.proofs.Sits.{bool_cases, SitsIn, Sits}
+use Rattle.yp_map_file.proofs.Images.{Room, room_facts, Outside, outside_none, outside_more, outside_part, bytes_kept}
+use Rattle.yp_map_file.proofs.Images.{gate_kept, entry_kept, filler_kept}
+use Rattle.yp_map_file.proofs.Stays.{cell_below, cells_apart, other-other, SparesIn, Spares, Stays, gate_range, gate_spares}
+use Rattle.yp_map_file.proofs.Stays.{stays_closed, body_stays}
 
 -- ---- what was written is one of the images
 

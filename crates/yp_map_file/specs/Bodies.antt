@@ -1,15 +1,15 @@
 -- The version that a body spells, or the first thing that is wrong in it.
-use Rattle.std.specs.Prelude.{◌≡◌, ℕ, ◌+◌, Bool, true, false, zero, suc, List, [], ◌∷◌, length, Option, Some}
+use Rattle.std.specs.Prelude.{ℕ, Bool, true, false, zero, suc, List, [], ◌∷◌, length, Option, Some}
 use Rattle.std.specs.Prelude.{None, Result, Ok, Err, if◌then◌else◌, ◌==◌, nat_lt}
 use Rattle.std.specs.Ordering.{is_lt}
 use Rattle.yp_xdr.specs.declared.fault.XdrFault.{XdrFault}
 use Rattle.yp_xdr.specs.Faults.{fault_place}
 use Rattle.yp_xdr.specs.Kind.{Kind, U32, Opaque, Value}
-use Rattle.yp_xdr.specs.Reading.{Unread, reading}
+use Rattle.yp_xdr.specs.Reading.{Remaining, reading}
 use Rattle.yp_version.specs.Limits.{key_max, value_max, master_max, rows_max}
 use Rattle.yp_version.specs.Rows.{Row, key_cmp}
 use Rattle.yp_version.specs.Versions.{MapVersion}
-use Rattle.yp_slot.specs.declared.wrong.Wrong.{Wrong}
+use Rattle.yp_map_file.specs.declared.wrong.Wrong.{Wrong}
 
 -- the value of a step, or where the body is wrong and by which rule
 infixl 10 ◌>>=◌
@@ -23,7 +23,7 @@ by_xdr (Ok x) = Ok x
 by_xdr (Err fault) = Err (record { at = fault_place fault; rule = 5 })
 
 -- the next item
-abbrev pub item : (kind : Kind) → Unread → Result (Value kind × Unread) Wrong
+abbrev pub item : (kind : Kind) → Remaining → Result (Value kind × Remaining) Wrong
 item kind left = by_xdr (reading kind left)
 
 -- a rule that refuses what stands at a place
@@ -36,14 +36,14 @@ secure_of at number =
     if number == 1 then Ok false else if number == 2 then Ok true else Err (record { at = at; rule = 6 })
 
 -- what stands before the rows
-pub record Head : Type 0 where
+pub record BodyHead : Type 0 where
   pub secure : Bool
   pub order : ℕ
   pub master : List ℕ
   pub count : ℕ
 
 -- format, order, master and count, of which rule 7 allows no more than the most rows
-unfoldable pub head_at : Unread → Result (Head × Unread) Wrong
+unfoldable pub head_at : Remaining → Result (BodyHead × Remaining) Wrong
 head_at left = do
   number ← item U32 left
   secure ← secure_of left.at number.0
@@ -59,7 +59,7 @@ is_over None key = true
 is_over (Some last) key = is_lt (key_cmp last key)
 
 -- a row; rule 8: its key isn't over the one before it
-unfoldable pub row_at : Option (List ℕ) → Unread → Result (Row × Unread) Wrong
+unfoldable pub row_at : Option (List ℕ) → Remaining → Result (Row × Remaining) Wrong
 row_at last left = do
   key ← item (Opaque key_max) left
   over ← guard (is_over last key.0) left.at 8
@@ -67,7 +67,7 @@ row_at last left = do
   Ok ((key.0, value.0), value.1)
 
 -- this many rows
-abbrev pub rows_at : ℕ → Option (List ℕ) → Unread → Result (List Row × Unread) Wrong
+abbrev pub rows_at : ℕ → Option (List ℕ) → Remaining → Result (List Row × Remaining) Wrong
 rows_at zero last left = Ok ([], left)
 rows_at (suc n) last left = do
   row ← row_at last left
@@ -81,12 +81,3 @@ body_at bytes = do
   rows ← rows_at head.0.count None head.1
   ended ← guard (length rows.1.bytes == 0) rows.1.at 9
   Ok (record { order = head.0.order; master = head.0.master; secure = head.0.secure; rows = rows.0 })
-
--- a reader of the code answers what is expected, and has then moved to what is left
-abbrev pub Finds : {X V : Type 0} → Result (V × Unread) Wrong → (X → V) → Result X Wrong → Unread → Type 0
-Finds expected view (Ok x) new = expected ≡ Ok (view x, new)
-Finds expected view (Err wrong) new = expected ≡ Err wrong
-
--- a reader passed some of the bytes that it had left
-abbrev pub Passes : Unread → Unread → Type 0
-Passes old new = new.at + length new.bytes ≡ old.at + length old.bytes

@@ -1,11 +1,11 @@
 -- The two cells at the head of a store file, and which of them wins. The layout is this project's own.
-use Rattle.std.specs.Prelude.{ℕ, ◌+◌, Bool, List, ◌++◌, take, drop, replicate, slice_index, if◌then◌else◌, ◌==◌, nat_lt}
-use Rattle.std.specs.Int.{w64, from_be_bytes, to_be_bytes}
-use Rattle.yp_slot.specs.declared.cells.Cell.{Cell}
-use Rattle.yp_slot.specs.declared.cells.Cell.TheVariants.{First, Second}
-use Rattle.yp_slot.specs.declared.cells.Entry.{Entry}
-use Rattle.yp_slot.specs.declared.cells.Winner.{Winner}
-use Rattle.yp_slot.specs.declared.cells.Winner.TheVariants.{Nobody, Both, Only}
+use Rattle.std.specs.Prelude.{ℕ, ◌+◌, Bool, List, take, drop, slice_index, if◌then◌else◌, ◌==◌, nat_lt}
+use Rattle.std.specs.Int.{w64, from_be_bytes}
+use Rattle.yp_map_file.specs.declared.cells.Cell.{Cell}
+use Rattle.yp_map_file.specs.declared.cells.Cell.TheVariants.{First, Second}
+use Rattle.yp_map_file.specs.declared.cells.Entry.{Entry}
+use Rattle.yp_map_file.specs.declared.cells.Winner.{Winner}
+use Rattle.yp_map_file.specs.declared.cells.Winner.TheVariants.{Nobody, Both, Only}
 
 -- the bytes of both cells
 abbrev pub cells_len : ℕ
@@ -28,10 +28,6 @@ abbrev pub cell_place : Cell → ℕ
 cell_place First = 0
 cell_place Second = 32
 
-abbrev pub other : Cell → Cell
-other First = Second
-other Second = First
-
 -- whether a cell's first byte is 1
 unfoldable pub is_open : Cell → List ℕ → Bool
 is_open cell file = slice_index file (cell_place cell) == open_gate
@@ -47,11 +43,6 @@ entry cell file = record {
   place = number_at (cell_place cell + 16) file;
   len = number_at (cell_place cell + 24) file;
 }
-
--- a cell's bytes behind the first, for these numbers
-abbrev pub entry_bytes : Entry → List ℕ
-entry_bytes numbers =
-    replicate 7 0 ++ to_be_bytes w64 numbers.generation ++ to_be_bytes w64 numbers.place ++ to_be_bytes w64 numbers.len
 
 -- of two open cells that one wins which has the greater generation
 abbrev pub greater : ℕ → ℕ → Winner

@@ -4,17 +4,18 @@ use Rattle.std.specs.Prelude.{nat_lt, nat_le}
 use Rattle.yp_xdr.specs.Reading.{first_nonzero}
 use Rattle.yp_version.specs.Limits.{body_max}
 use Rattle.yp_version.specs.Versions.{MapVersion}
-use Rattle.yp_slot.specs.declared.cells.Entry.{Entry}
-use Rattle.yp_slot.specs.Cells.{cells_len, bytes_at, cell_place, filler, entry, winner}
-use Rattle.yp_slot.specs.declared.cells.Winner.{Winner}
-use Rattle.yp_slot.specs.declared.cells.Winner.TheVariants.{Nobody, Both, Only}
-use Rattle.yp_slot.specs.declared.wrong.Wrong.{Wrong}
-use Rattle.yp_slot.specs.Bodies.{body_at}
+use Rattle.yp_map_file.specs.declared.cells.Entry.{Entry}
+use Rattle.yp_map_file.specs.Cells.{cells_len, bytes_at, cell_place, filler, entry, winner}
+use Rattle.yp_map_file.specs.declared.cells.Winner.{Winner}
+use Rattle.yp_map_file.specs.declared.cells.Winner.TheVariants.{Nobody, Both, Only}
+use Rattle.yp_map_file.specs.declared.wrong.Wrong.{Wrong}
+use Rattle.yp_map_file.specs.Bodies.{body_at}
 
 -- the most bytes of a file: both cells, and three of the largest bodies
 abbrev pub file_max : ℕ
 file_max = 50331712
 
+-- what the bytes of a file stand for: nothing, a version, or damaged at a place by a rule
 pub data Stands : Type 0 where
   Nothing : Stands
   Stored : MapVersion → Stands
@@ -57,8 +58,3 @@ stands file =
     if nat_lt file_max (length file) then Damaged file_max 1
     else if nat_lt (length file) cells_len then Nothing
     else by_winner (winner file) file
-
--- what a file stands for that isn't damaged but for the body of the cell that wins, if one does
-abbrev pub standing : Option Entry → List ℕ → Stands
-standing None file = Nothing
-standing (Some numbers) file = by_body numbers.place (body_at (bytes_at numbers.place numbers.len file))

@@ -2,7 +2,7 @@
 
 ghost use Rattle.std.specs.Prelude.{◌≡◌, ◌+◌, ◌<◌, ◌≤◌, length, IfSome};
 ghost use Rattle.yp_xdr.specs.Reading.{first_nonzero};
-ghost use Rattle.yp_slot.specs.Cells.{number_at};
+ghost use Rattle.yp_map_file.specs.Cells.{number_at};
 
 use yp_version::BODY_MAX;
 
@@ -23,7 +23,8 @@ pub enum Cell {
 }
 
 impl Cell {
-    ghost use Rattle.yp_slot.specs.Cells.{cell_place, other, is_open, filler, entry};
+    ghost use Rattle.yp_map_file.specs.Cells.{cell_place, is_open, filler, entry};
+    ghost use Rattle.yp_map_file.specs.inside.Cells.{other};
 
     /// The place of its first byte.
     pub(crate) fn place(self) -> u64
@@ -106,7 +107,7 @@ pub(crate) enum Winner {
 }
 
 impl Winner {
-    ghost use Rattle.yp_slot.specs.Cells.{winner};
+    ghost use Rattle.yp_map_file.specs.Cells.{winner};
 
     /// Which of the two cells wins.
     #[tactic(auto, unfolding(crate::specs::Cells::winner))]
@@ -145,8 +146,8 @@ pub struct Entry {
 }
 
 impl Entry {
-    ghost use Rattle.yp_slot.specs.Cells.{entry_bytes};
-    ghost use Rattle.yp_slot.specs.Stands.{has_room};
+    ghost use Rattle.yp_map_file.specs.inside.Cells.{entry_bytes};
+    ghost use Rattle.yp_map_file.specs.Stands.{has_room};
 
     /// Whether its body lies behind the cells, within a file of this length.
     pub(crate) fn has_room(&self, len: u64) -> bool

@@ -23,7 +23,7 @@ pub enum SlotFault {
 
 impl From<Failed> for SlotFault {
     ghost use Rattle.std.specs.Prelude.{◌≡◌};
-    ghost use Rattle.yp_slot.specs.declared.fault.SlotFault.TheVariants.{DiskFault};
+    ghost use Rattle.yp_map_file.specs.declared.fault.SlotFault.TheVariants.{DiskFault};
 
     ghost from_gives = { λ _ fault. fault ≡ DiskFault };
 
@@ -34,7 +34,7 @@ impl From<Failed> for SlotFault {
 
 impl From<AllocError> for SlotFault {
     ghost use Rattle.std.specs.Prelude.{◌≡◌};
-    ghost use Rattle.yp_slot.specs.declared.fault.SlotFault.TheVariants.{NoMemory};
+    ghost use Rattle.yp_map_file.specs.declared.fault.SlotFault.TheVariants.{NoMemory};
 
     ghost from_gives = { λ _ fault. fault ≡ NoMemory };
 
@@ -45,7 +45,7 @@ impl From<AllocError> for SlotFault {
 
 impl SlotFault {
     ghost use Rattle.std.specs.Prelude.{◌≡◌, ◌+◌, ◌^◌, ◌<◌};
-    ghost use Rattle.yp_slot.specs.Loads.{fault_in, FitsIn};
+    ghost use Rattle.yp_map_file.specs.inside.Loads.{fault_in, FitsIn};
 
     /// The fault of a file whose body, at this place, can't be read.
     pub(crate) fn in_body(place: u64, fault: BodyFault) -> SlotFault

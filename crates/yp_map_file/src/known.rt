@@ -2,7 +2,8 @@
 
 ghost use Rattle.std.specs.Prelude.{◌≡◌, ◌<◌, ◌≤◌, IfSome, length};
 ghost use Rattle.yp_version.specs.Limits.{body_max};
-ghost use Rattle.yp_slot.specs.Commits.{generation_max, generation_of, next_entry};
+ghost use Rattle.yp_map_file.specs.Commits.{generation_max, generation_of};
+ghost use Rattle.yp_map_file.specs.inside.Commits.{next_entry};
 
 use crate::cells::{CELLS_LEN, Cell, Entry};
 
@@ -35,7 +36,7 @@ pub struct Known {
 }
 
 impl Known {
-    ghost use Rattle.yp_slot.specs.Slots.{LiesWithin, with_winner};
+    ghost use Rattle.yp_map_file.specs.inside.Slots.{LiesWithin, with_winner};
 
     /// The generation of the cell that wins, and 0 where none does.
     pub(crate) fn generation(&self) -> u64

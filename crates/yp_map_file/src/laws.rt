@@ -1,6 +1,6 @@
 //! What joins bodies, cells and files. Each law is the contract of a function that does nothing.
 
-ghost use Rattle.yp_slot.specs.Laws.{BodyIsReadAgain, ReadIsBody, FileIsBounded};
+ghost use Rattle.yp_map_file.specs.inside.Laws.{BodyIsReadAgain, ReadIsBody, FileIsBounded};
 
 /// The body of a version is read again as that version.
 pub fn body_is_read_again()

@@ -6,11 +6,12 @@ ghost use Rattle.std.specs.Option.{option_map};
 ghost use Rattle.yp_io.specs.Counts.{CountsFaults, HasRisen};
 ghost use Rattle.yp_io.specs.Disk.{LeavesOnly, MayLeave, IsWithin, after_sync};
 ghost use Rattle.yp_version.specs.Limits.{body_max};
-ghost use Rattle.yp_slot.specs.Cells.{bytes_at, entry};
-ghost use Rattle.yp_slot.specs.Bodies.{body_at};
-ghost use Rattle.yp_slot.specs.Stands.{file_max, standing, has_room};
-ghost use Rattle.yp_slot.specs.Slots.{Settles, LiesWithin};
-ghost use Rattle.yp_slot.specs.Loads.{LoadsBody, LoadsFile, Judges, JudgesFile, JudgesWinner, HasBody};
+ghost use Rattle.yp_map_file.specs.Cells.{bytes_at, entry};
+ghost use Rattle.yp_map_file.specs.Bodies.{body_at};
+ghost use Rattle.yp_map_file.specs.Stands.{file_max, has_room};
+ghost use Rattle.yp_map_file.specs.inside.Stands.{standing};
+ghost use Rattle.yp_map_file.specs.inside.Slots.{Settles, LiesWithin};
+ghost use Rattle.yp_map_file.specs.inside.Loads.{LoadsBody, LoadsFile, Judges, JudgesFile, JudgesWinner, HasBody};
 
 use crate::cells::{CELLS_LEN, Cell, Entry, Winner};
 use crate::fault::SlotFault;

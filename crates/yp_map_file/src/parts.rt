@@ -5,10 +5,12 @@ ghost use Rattle.std.specs.Option.{option_map};
 ghost use Rattle.yp_io.specs.Counts.{CountsFaults};
 ghost use Rattle.yp_io.specs.Disk.{LeavesOnly, MayLeaveTorn, IsWithin, written_at, after_sync};
 ghost use Rattle.yp_version.specs.Versions.{MapVersion};
-ghost use Rattle.yp_version.specs.Bodies.{IsBody};
-ghost use Rattle.yp_slot.specs.Commits.{generation_max, generation_of, next_entry, laid, closed, filled, opened};
-ghost use Rattle.yp_slot.specs.Slots.{Settles, Fills, LiesWithin, IsAsBefore, IsAsBeforeOrOpened, with_winner};
-ghost use Rattle.yp_slot.specs.Slots.{WouldStand, ReadsChanged};
+ghost use Rattle.yp_version.specs.inside.Bodies.{IsBody};
+ghost use Rattle.yp_map_file.specs.Commits.{generation_max, generation_of};
+ghost use Rattle.yp_map_file.specs.inside.Commits.{next_entry, laid, closed, filled, opened};
+ghost use Rattle.yp_map_file.specs.Slots.{IsAsBefore};
+ghost use Rattle.yp_map_file.specs.inside.Slots.{Settles, Fills, LiesWithin, IsAsBeforeOrOpened, with_winner};
+ghost use Rattle.yp_map_file.specs.inside.Slots.{WouldStand, ReadsChanged};
 
 use crate::cells::{CELLS_LEN, CLOSED, Entry, OPEN};
 use crate::known::Known;

@@ -1,12 +1,13 @@
 //! Bodies, read.
 
 ghost use Rattle.std.specs.Prelude.{◌≡◌, ◌+◌, ◌≤◌, None, true, length, option_map, IfOk, OnOk};
-ghost use Rattle.yp_xdr.specs.Cursor.{unread};
-ghost use Rattle.yp_xdr.specs.Reading.{IsBytes};
+ghost use Rattle.yp_xdr.specs.inside.Cursor.{unread};
+ghost use Rattle.yp_xdr.specs.inside.Reading.{IsBytes};
 ghost use Rattle.yp_version.specs.Limits.{key_max, value_max, master_max, rows_max, body_max};
 ghost use Rattle.yp_version.specs.Rows.{padded, row_len};
-ghost use Rattle.yp_slot.specs.Bodies.{Finds, Passes, head_at, row_at, rows_at, body_at, is_over};
-ghost use Rattle.yp_slot.specs.Heads.{head_view, ReadsRows, FindsBody, ReadsBody};
+ghost use Rattle.yp_map_file.specs.Bodies.{head_at, row_at, rows_at, body_at, is_over};
+ghost use Rattle.yp_map_file.specs.inside.Bodies.{Finds, Passes};
+ghost use Rattle.yp_map_file.specs.inside.Heads.{head_view, ReadsRows, FindsBody, ReadsBody};
 
 use crate::wrong::{BodyFault, Wrong};
 use std::alloc::Global;
@@ -23,7 +24,7 @@ pub(crate) const SECURE: u32 = 2;
 
 /// What stands before the rows.
 #[derive(Clone, Copy, Debug)]
-pub(crate) struct Front<'a> {
+pub(crate) struct FileFront<'a> {
     pub secure: bool,
     pub order: u32,
     pub master: &'a [u8],
@@ -32,7 +33,7 @@ pub(crate) struct Front<'a> {
 
 /// Reads what stands before the rows.
 #[tactic(auto, using(crate::proofs::Past::word, crate::proofs::Past::opaque), unfolding(crate::specs::Bodies::head_at))]
-fn read_front<'a>(cursor: &mut Cursor<'a>) -> Result<Front<'a>, Wrong>
+fn read_front<'a>(cursor: &mut Cursor<'a>) -> Result<FileFront<'a>, Wrong>
     ensures read { Finds (head_at (unread cursor.old)) head_view result (unread cursor.new) }
     ensures passed { OnOk result (Passes (unread cursor.old) (unread cursor.new)) }
     ensures place { IfOk result (λ front. (unread cursor.new).at
@@ -53,7 +54,7 @@ fn read_front<'a>(cursor: &mut Cursor<'a>) -> Result<Front<'a>, Wrong>
     if count > ROWS_MAX as u32 {
         return Err(Wrong { at: place, rule: 7 });
     }
-    Ok(Front {
+    Ok(FileFront {
         secure,
         order,
         master,
@@ -113,7 +114,7 @@ fn read_rows(alloc: Global, cursor: &mut Cursor<'_>, count: u32) -> Result<Vec<u
 
 /// What a body holds: all but its rows, and the place of each of these.
 #[derive(Debug, Drop)]
-pub(crate) struct Found {
+pub(crate) struct BodyParts {
     pub secure: bool,
     pub order: u32,
     pub master: Vec<u8>,
@@ -122,7 +123,7 @@ pub(crate) struct Found {
 
 /// Reads a body, or finds the first thing that is wrong in it.
 #[tactic(auto, unfolding(crate::specs::Bodies::body_at))]
-fn find(alloc: Global, body: &[u8]) -> Result<Found, BodyFault>
+fn find(alloc: Global, body: &[u8]) -> Result<BodyParts, BodyFault>
     requires { length body.now ≤ body_max }
     ensures finds { FindsBody (body_at body.now) result }
     ensures are_bytes { IsBytes body.now }
@@ -137,7 +138,7 @@ fn find(alloc: Global, body: &[u8]) -> Result<Found, BodyFault>
         }));
     }
     let master = Vec::from_slice(alloc, front.master).map_err(|_| NoMemory)?;
-    Ok(Found {
+    Ok(BodyParts {
         secure: front.secure,
         order: front.order,
         master,
@@ -155,7 +156,7 @@ pub(crate) fn read_version(
     ensures { ReadsBody (body_at body.items) result }
 {
     crate::laws::read_is_body();
-    let Found {
+    let BodyParts {
         secure,
         order,
         master,

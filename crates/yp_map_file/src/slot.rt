@@ -31,10 +31,10 @@ pub struct Slot<D: Disk> {
 }
 
 impl<D: Disk> Model for Slot<D> {
-    ghost use Rattle.yp_slot.specs.Commits.{generation_of};
-    ghost use Rattle.yp_slot.specs.Slots.{Held, KeepsFile};
+    ghost use Rattle.yp_map_file.specs.Commits.{generation_of};
+    ghost use Rattle.yp_map_file.specs.inside.Slots.{SlotModel, KeepsFile};
 
-    ghost Value = { Held D };
+    ghost Value = { SlotModel D };
 
     ghost view = { λ s. record { disk = s.disk; stage = s.stage; generation = generation_of s.known.winner } };
 
@@ -42,14 +42,16 @@ impl<D: Disk> Model for Slot<D> {
 }
 
 impl<D: Disk> Slot<D> {
-    ghost use Rattle.yp_slot.specs.declared.known.Stage.TheVariants.{Unready, Loaded, Laid, Closed, Filled};
-    ghost use Rattle.yp_version.specs.Bodies.{IsBody};
-    ghost use Rattle.yp_slot.specs.Cells.{cells_len, is_open};
-    ghost use Rattle.yp_slot.specs.Commits.{generation_max, target, laid, closed, filled, opened, committed};
-    ghost use Rattle.yp_slot.specs.Loads.{Loads};
-    ghost use Rattle.yp_slot.specs.Slots.{is_ready, HasGeneration, IsSound, IsTold, IsAsBefore, IsAsBeforeOr};
-    ghost use Rattle.yp_slot.specs.Slots.{IsAsBeforeOrOpened, WouldStand, ReadsChanged};
-    ghost use Rattle.yp_slot.specs.Stands.{Stored, file_max, stands};
+    ghost use Rattle.yp_map_file.specs.declared.known.Stage.TheVariants.{Unready, Loaded, Laid, Closed, Filled};
+    ghost use Rattle.yp_version.specs.inside.Bodies.{IsBody};
+    ghost use Rattle.yp_map_file.specs.Cells.{cells_len, is_open};
+    ghost use Rattle.yp_map_file.specs.Commits.{generation_max};
+    ghost use Rattle.yp_map_file.specs.inside.Commits.{target, laid, closed, filled, opened, committed};
+    ghost use Rattle.yp_map_file.specs.Loads.{Loads};
+    ghost use Rattle.yp_map_file.specs.Slots.{HasGeneration, IsSound, IsAsBefore};
+    ghost use Rattle.yp_map_file.specs.inside.Slots.{is_ready, ReadIsTold, IsAsBeforeOr};
+    ghost use Rattle.yp_map_file.specs.inside.Slots.{IsAsBeforeOrOpened, WouldStand, ReadsChanged};
+    ghost use Rattle.yp_map_file.specs.Stands.{Stored, file_max, stands};
 
     /// A slot over a disk. It isn't ready.
     pub fn new(disk: D) -> Slot<D>
@@ -138,7 +140,7 @@ impl<D: Disk> Slot<D> {
         ensures generation { self.new.generation ≡ self.old.generation }
         ensures laid { OnOk result (ReadsChanged laid (D.history self.old.disk) (D.history self.new.disk)) }
         ensures sound { IfSome (D.history self.old.disk) (λ h. IsSound (stands h.state.reads)) }
-        ensures no_call { IsTold (λ file. cells_len ≤ length file) (D.history self.old.disk)
+        ensures no_call { ReadIsTold (λ file. cells_len ≤ length file) (D.history self.old.disk)
             → self.new.disk ≡ self.old.disk }
         ensures any_moment { LeavesOnly (D.history self.old.disk) (D.history self.new.disk)
             (IsAsBefore (D.history self.old.disk)) }
@@ -159,7 +161,7 @@ impl<D: Disk> Slot<D> {
         ensures stage { self.new.stage ≡ (if is_ok result then Closed else Unready) }
         ensures generation { self.new.generation ≡ self.old.generation }
         ensures closed { OnOk result (ReadsChanged closed (D.history self.old.disk) (D.history self.new.disk)) }
-        ensures no_call { IsTold (λ file. is_open (target file) file ≡ false) (D.history self.old.disk)
+        ensures no_call { ReadIsTold (λ file. is_open (target file) file ≡ false) (D.history self.old.disk)
             → self.new.disk ≡ self.old.disk }
         ensures any_moment { LeavesOnly (D.history self.old.disk) (D.history self.new.disk)
             (IsAsBefore (D.history self.old.disk)) }

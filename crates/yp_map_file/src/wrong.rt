@@ -37,7 +37,7 @@ pub(crate) enum BodyFault {
 
 impl From<Wrong> for BodyFault {
     ghost use Rattle.std.specs.Prelude.{◌≡◌};
-    ghost use Rattle.yp_slot.specs.declared.wrong.BodyFault.TheVariants.{Wrong};
+    ghost use Rattle.yp_map_file.specs.declared.wrong.BodyFault.TheVariants.{Wrong};
 
     ghost from_gives = { λ wrong fault. fault ≡ Wrong wrong };
 
@@ -48,7 +48,7 @@ impl From<Wrong> for BodyFault {
 
 impl From<NoMemory> for BodyFault {
     ghost use Rattle.std.specs.Prelude.{◌≡◌};
-    ghost use Rattle.yp_slot.specs.declared.wrong.BodyFault.TheVariants.{NoMemory};
+    ghost use Rattle.yp_map_file.specs.declared.wrong.BodyFault.TheVariants.{NoMemory};
 
     ghost from_gives = { λ _ fault. fault ≡ NoMemory };
 

@@ -1,5 +1,5 @@
-//! Tests of `yp_version`, `yp_slot`, `yp_board`, `yp_build`, `yp_netgroup` and `yp_revnet`: maps, and what they are
-//! made of.
+//! Tests of `yp_version`, `yp_map_file`, `yp_board`, `yp_texts`, `yp_netgroup` and `yp_netgroup::reverse`: maps, and
+//! what they are made of.
 #![tactic(auto)]
 
 #[cfg(test)]

@@ -5,7 +5,7 @@ use std::alloc::Global;
 use std::process::Abort;
 use std::random::RandomSource;
 use yp_io::MemDisk;
-use yp_slot::*;
+use yp_map_file::*;
 use yp_version::{Version, VersionBuilder};
 
 // A file of 116 bytes: order 100, master `m1`, and the row `alpha`, `10.0.0.1 alpha`, at generation 1.

@@ -1,7 +1,7 @@
 -- Two writes in turn are one write.
 use Rattle.std.proofs.Common.{ℕ, List, ◌++◌, append_assoc, ap, ◌∙◌, sym, arith}
 use Rattle.std.proofs.lemmas.List.{length-append}
-use Rattle.yp_xdr.specs.Writing.{written, Sets}
+use Rattle.yp_xdr.specs.inside.Writing.{written, Sets}
 
 pub joined : {one other : List ℕ} {at mid end : ℕ} {old half new : List ℕ} → Sets one at mid old half
     → Sets other mid end half new → Sets (one ++ other) at end old new

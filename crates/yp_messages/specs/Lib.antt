@@ -5,3 +5,4 @@ pub mod MapLists
 pub mod Transfers
 pub mod Pushes
 pub mod Bindings
+pub mod inside

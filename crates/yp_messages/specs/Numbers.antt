@@ -87,7 +87,7 @@ bind_domain_procedure = 1
 abbrev pub setdom_procedure : ℕ
 setdom_procedure = 2
 
--- the bytes of an address and of a port
+-- the bytes of an address and of a port (ypbind_binding of yp.x)
 abbrev pub addr_len : ℕ
 addr_len = 4
 

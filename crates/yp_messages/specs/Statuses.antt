@@ -1,9 +1,9 @@
 -- The numbers of the statuses, as the protocol file yp.x has them.
 use Rattle.std.specs.Prelude.{ℤ, pos, negsuc, List, [], ◌∷◌}
 use Rattle.yp_xdr.specs.Kind.{Kind, Enum}
-use Rattle.yp_msgs.specs.declared.stat.YpStat.{YpStat}
-use Rattle.yp_msgs.specs.declared.stat.YpStat.TheVariants.{True, Nomore, False, Nomap, Nodom, Nokey, Badop, Baddb}
-use Rattle.yp_msgs.specs.declared.stat.YpStat.TheVariants.{Yperr, Badargs, Vers}
+use Rattle.yp_messages.specs.declared.stat.YpStat.{YpStat}
+use Rattle.yp_messages.specs.declared.stat.YpStat.TheVariants.{True, Nomore, False, Nomap, Nodom, Nokey, Badop, Baddb}
+use Rattle.yp_messages.specs.declared.stat.YpStat.TheVariants.{Yperr, Badargs, Vers}
 
 -- the number of a status of type ypstat
 abbrev pub stat_number : YpStat → ℤ

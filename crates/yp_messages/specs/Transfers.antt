@@ -1,17 +1,12 @@
 -- The messages that have a map fetched or made anew. XFR and its answers are those of the protocol file yp.x, with this
 -- project's numbers for the status. The messages of the make program are this project's own.
-use Rattle.std.specs.Prelude.{ℤ, pos, negsuc, ◌≤◌, List, [], ◌∷◌, length}
-use Rattle.yp_xdr.specs.Kind.{Kind, U32, Enum, Sequence, Value}
-use Rattle.yp_msgs.specs.declared.transfer.XfrStat.{XfrStat}
-use Rattle.yp_msgs.specs.declared.transfer.XfrStat.TheVariants.{Succ, Age, Nomap, Nodom, Rsrc, Rpc, Maddr, Yperr}
-use Rattle.yp_msgs.specs.declared.transfer.XfrStat.TheVariants.{Badargs, Dbm, File, Skew, Clear, Force, Xfrerr}
-use Rattle.yp_msgs.specs.declared.transfer.XfrStat.TheVariants.{Refused}
-use Rattle.yp_msgs.specs.declared.transfer.ReqXfr.{ReqXfr}
-use Rattle.yp_msgs.specs.declared.transfer.RespXfr.{RespXfr}
-use Rattle.yp_msgs.specs.declared.transfer.ReqMake.{ReqMake}
-use Rattle.yp_msgs.specs.declared.transfer.RespMake.{RespMake}
-use Rattle.yp_msgs.specs.Numbers.{name_max}
-use Rattle.yp_msgs.specs.Messages.{name}
+use Rattle.std.specs.Prelude.{ℤ, pos, negsuc, List, [], ◌∷◌}
+use Rattle.yp_xdr.specs.Kind.{Kind, U32, Enum, Sequence}
+use Rattle.yp_messages.specs.declared.transfer.XfrStat.{XfrStat}
+use Rattle.yp_messages.specs.declared.transfer.XfrStat.TheVariants.{Succ, Age, Nomap, Nodom, Rsrc, Rpc, Maddr, Yperr}
+use Rattle.yp_messages.specs.declared.transfer.XfrStat.TheVariants.{Badargs, Dbm, File, Skew, Clear, Force, Xfrerr}
+use Rattle.yp_messages.specs.declared.transfer.XfrStat.TheVariants.{Refused}
+use Rattle.yp_messages.specs.Messages.{name}
 
 -- the number of a status of type ypxfrstat
 abbrev pub xfr_number : XfrStat → ℤ
@@ -45,37 +40,14 @@ xfr_stat = Enum xfr_numbers
 abbrev pub req_xfr : Kind
 req_xfr = Sequence name (Sequence name (Sequence U32 (Sequence name (Sequence U32 (Sequence U32 U32)))))
 
-abbrev pub req_xfr_view : ReqXfr → Value req_xfr
-req_xfr_view asked = (
-  asked.domain.now,
-  (asked.map.now, (asked.ordernum, (asked.peer.now, (asked.transid, (asked.prog, asked.port))))),
-)
-
-pub record ReqXfrIsWithin (asked : ReqXfr) : Type 0 where
-  pub domain : length asked.domain.now ≤ name_max
-  pub map : length asked.map.now ≤ name_max
-  pub peer : length asked.peer.now ≤ name_max
-
 -- a transaction and its status
 abbrev pub resp_xfr : Kind
 resp_xfr = Sequence U32 xfr_stat
-
-abbrev pub resp_xfr_view : RespXfr → Value resp_xfr
-resp_xfr_view answer = (answer.transid, xfr_number answer.xfrstat)
 
 -- a domain and the number of a kind of map
 abbrev pub req_make : Kind
 req_make = Sequence name U32
 
-abbrev pub req_make_view : ReqMake → Value req_make
-req_make_view asked = (asked.domain.now, asked.kind)
-
-abbrev pub ReqMakeIsWithin : ReqMake → Type 0
-ReqMakeIsWithin asked = length asked.domain.now ≤ name_max
-
 -- a status
 abbrev pub resp_make : Kind
 resp_make = xfr_stat
-
-abbrev pub resp_make_view : RespMake → Value resp_make
-resp_make_view answer = xfr_number answer.stat

@@ -1,9 +1,11 @@
 //! The messages of the binder.
 
 ghost use Rattle.std.specs.Prelude.{◌≡◌};
-ghost use Rattle.yp_msgs.specs.Bindings.{bind_err_number};
-ghost use Rattle.yp_msgs.specs.Bindings.{bind_resp, bind_resp_view, BindRespIsWithin};
-ghost use Rattle.yp_msgs.specs.Bindings.{set_dom, set_dom_view, SetDomIsWithin};
+ghost use Rattle.yp_messages.specs.Bindings.{bind_err_number};
+ghost use Rattle.yp_messages.specs.Bindings.{bind_resp};
+ghost use Rattle.yp_messages.specs.inside.Bindings.{bind_resp_view, BindRespIsWithin};
+ghost use Rattle.yp_messages.specs.Bindings.{set_dom};
+ghost use Rattle.yp_messages.specs.inside.Bindings.{set_dom_view, SetDomIsWithin};
 
 use crate::message::{Fields, Message};
 use crate::protocol::{ADDR_LEN, NAME_MAX, PORT_LEN};

@@ -1,5 +1,9 @@
 //! The arguments and results of YP version 2, of the push response program, of the binder (yp.x) and of the make
 //! program: each message is read and written by its kind.
+//!
+//! The promise stands on [`Message::write`] and [`ReadMessage::read`], and on [`MapList`], which takes memory as it is
+//! read. The numbers of the programs and the limits stand on the functions of [`protocol`], and the numbers of statuses
+//! on `number` of [`YpStat`], [`XfrStat`], which is also [`PushStat`], and [`BindErr`].
 #![tactic(auto)]
 
 mod binding;

@@ -3,11 +3,12 @@
 ghost use Rattle.std.specs.Prelude.{◌≡◌, ◌++◌, [], ◌∷◌, length, option_map, OnOk, OnErr, IfOk};
 ghost use Rattle.std.specs.List.{slice_get};
 ghost use Rattle.yp_xdr.specs.Kind.{ListOf};
-ghost use Rattle.yp_xdr.specs.Reading.{BeginsWith};
-ghost use Rattle.yp_xdr.specs.Cursor.{unread};
-ghost use Rattle.yp_msgs.specs.MapLists.{map_item, map_item_view, MapItemIsWithin};
-ghost use Rattle.yp_msgs.specs.MapLists.{map_list, map_list_view, ReadsInMemory, RefusesInMemory};
-ghost use Rattle.yp_msgs.specs.Messages.{name};
+ghost use Rattle.yp_xdr.specs.inside.Reading.{BeginsWith};
+ghost use Rattle.yp_xdr.specs.inside.Cursor.{unread};
+ghost use Rattle.yp_messages.specs.inside.MapLists.{map_item, map_item_view, MapItemIsWithin};
+ghost use Rattle.yp_messages.specs.MapLists.{map_list};
+ghost use Rattle.yp_messages.specs.inside.MapLists.{map_list_view, ReadsInMemory, RefusesInMemory};
+ghost use Rattle.yp_messages.specs.Messages.{name};
 
 use crate::message::{Fields, Message, ReadMessage};
 use crate::protocol::NAME_MAX;

@@ -3,9 +3,9 @@
 ghost use Rattle.std.specs.Prelude.{◌≡◌, ◌+◌, ◌<◌, ◌^◌, ◌≤◌, length, IfOk, OnErr};
 ghost use Rattle.yp_xdr.specs.Kind.{Kind, Value};
 ghost use Rattle.yp_xdr.specs.Spelling.{spelling};
-ghost use Rattle.yp_xdr.specs.Reading.{Reads, BeginsWith, BeginsWithNone};
-ghost use Rattle.yp_xdr.specs.Writing.{Writes, Sets};
-ghost use Rattle.yp_xdr.specs.Cursor.{unread};
+ghost use Rattle.yp_xdr.specs.inside.Reading.{Reads, BeginsWith, BeginsWithNone};
+ghost use Rattle.yp_xdr.specs.inside.Writing.{Writes, Sets};
+ghost use Rattle.yp_xdr.specs.inside.Cursor.{unread};
 
 use yp_xdr::{Cursor, NoRoom, XdrFault, laws};
 

@@ -2,14 +2,14 @@
 //! limits of what their messages hold.
 
 ghost use Rattle.std.specs.Prelude.{◌≡◌};
-ghost use Rattle.yp_msgs.specs.Numbers.{program, version, name_max, key_max, value_max};
-ghost use Rattle.yp_msgs.specs.Numbers.{null_procedure, domain_procedure, domain_nonack_procedure, match_procedure};
-ghost use Rattle.yp_msgs.specs.Numbers.{first_procedure, next_procedure, xfr_procedure, clear_procedure};
-ghost use Rattle.yp_msgs.specs.Numbers.{all_procedure, master_procedure, order_procedure, maplist_procedure};
-ghost use Rattle.yp_msgs.specs.Numbers.{make_program, make_version, make_null_procedure, make_procedure};
-ghost use Rattle.yp_msgs.specs.Numbers.{push_version, push_null_procedure, xfrresp_procedure};
-ghost use Rattle.yp_msgs.specs.Numbers.{bind_program, bind_version, bind_null_procedure, bind_domain_procedure};
-ghost use Rattle.yp_msgs.specs.Numbers.{setdom_procedure, addr_len, port_len};
+ghost use Rattle.yp_messages.specs.Numbers.{program, version, name_max, key_max, value_max};
+ghost use Rattle.yp_messages.specs.Numbers.{null_procedure, domain_procedure, domain_nonack_procedure, match_procedure};
+ghost use Rattle.yp_messages.specs.Numbers.{first_procedure, next_procedure, xfr_procedure, clear_procedure};
+ghost use Rattle.yp_messages.specs.Numbers.{all_procedure, master_procedure, order_procedure, maplist_procedure};
+ghost use Rattle.yp_messages.specs.Numbers.{make_program, make_version, make_null_procedure, make_procedure};
+ghost use Rattle.yp_messages.specs.Numbers.{push_version, push_null_procedure, xfrresp_procedure};
+ghost use Rattle.yp_messages.specs.Numbers.{bind_program, bind_version, bind_null_procedure, bind_domain_procedure};
+ghost use Rattle.yp_messages.specs.Numbers.{setdom_procedure, addr_len, port_len};
 
 /// The program number of YP.
 pub const YPPROG: u32 = 100_004;

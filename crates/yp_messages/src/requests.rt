@@ -1,8 +1,11 @@
 //! The arguments of the procedures.
 
-ghost use Rattle.yp_msgs.specs.Messages.{req_domain, req_domain_view, ReqDomainIsWithin};
-ghost use Rattle.yp_msgs.specs.Messages.{req_key, req_key_view, ReqKeyIsWithin};
-ghost use Rattle.yp_msgs.specs.Messages.{req_nokey, req_nokey_view, ReqNokeyIsWithin};
+ghost use Rattle.yp_messages.specs.Messages.{req_domain};
+ghost use Rattle.yp_messages.specs.inside.Messages.{req_domain_view, ReqDomainIsWithin};
+ghost use Rattle.yp_messages.specs.Messages.{req_key};
+ghost use Rattle.yp_messages.specs.inside.Messages.{req_key_view, ReqKeyIsWithin};
+ghost use Rattle.yp_messages.specs.Messages.{req_nokey};
+ghost use Rattle.yp_messages.specs.inside.Messages.{req_nokey_view, ReqNokeyIsWithin};
 
 use crate::message::{Fields, Message};
 use crate::protocol::{KEY_MAX, NAME_MAX};

@@ -1,10 +1,14 @@
 //! The results of the procedures.
 
-ghost use Rattle.yp_msgs.specs.Messages.{resp_val, resp_val_view, RespValIsWithin};
-ghost use Rattle.yp_msgs.specs.Messages.{key_val, key_val_view, KeyValIsWithin};
-ghost use Rattle.yp_msgs.specs.Messages.{all_item, all_item_view, AllItemIsWithin};
-ghost use Rattle.yp_msgs.specs.Messages.{resp_master, resp_master_view, RespMasterIsWithin};
-ghost use Rattle.yp_msgs.specs.Messages.{resp_order, resp_order_view};
+ghost use Rattle.yp_messages.specs.Messages.{resp_val};
+ghost use Rattle.yp_messages.specs.inside.Messages.{resp_val_view, RespValIsWithin};
+ghost use Rattle.yp_messages.specs.Messages.{key_val};
+ghost use Rattle.yp_messages.specs.inside.Messages.{key_val_view, KeyValIsWithin};
+ghost use Rattle.yp_messages.specs.inside.Messages.{all_item, all_item_view, AllItemIsWithin};
+ghost use Rattle.yp_messages.specs.Messages.{resp_master};
+ghost use Rattle.yp_messages.specs.inside.Messages.{resp_master_view, RespMasterIsWithin};
+ghost use Rattle.yp_messages.specs.Messages.{resp_order};
+ghost use Rattle.yp_messages.specs.inside.Messages.{resp_order_view};
 
 use crate::message::{Fields, Message};
 use crate::protocol::{KEY_MAX, NAME_MAX, VALUE_MAX};

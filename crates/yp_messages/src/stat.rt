@@ -2,7 +2,7 @@
 
 ghost use Rattle.std.specs.Prelude.{◌≡◌, IsTrue};
 ghost use Rattle.yp_xdr.specs.Spelling.{is_one_of};
-ghost use Rattle.yp_msgs.specs.Statuses.{stat, stat_number, stat_numbers};
+ghost use Rattle.yp_messages.specs.Statuses.{stat, stat_number, stat_numbers};
 
 use crate::message::{Fields, Message};
 use yp_xdr::{Cursor, XdrFault, set_i32};

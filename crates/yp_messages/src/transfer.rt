@@ -2,11 +2,15 @@
 
 ghost use Rattle.std.specs.Prelude.{◌≡◌, IsTrue};
 ghost use Rattle.yp_xdr.specs.Spelling.{is_one_of};
-ghost use Rattle.yp_msgs.specs.Transfers.{xfr_stat, xfr_number, xfr_numbers};
-ghost use Rattle.yp_msgs.specs.Transfers.{req_xfr, req_xfr_view, ReqXfrIsWithin};
-ghost use Rattle.yp_msgs.specs.Transfers.{resp_xfr, resp_xfr_view};
-ghost use Rattle.yp_msgs.specs.Transfers.{req_make, req_make_view, ReqMakeIsWithin};
-ghost use Rattle.yp_msgs.specs.Transfers.{resp_make, resp_make_view};
+ghost use Rattle.yp_messages.specs.Transfers.{xfr_stat, xfr_number, xfr_numbers};
+ghost use Rattle.yp_messages.specs.Transfers.{req_xfr};
+ghost use Rattle.yp_messages.specs.inside.Transfers.{req_xfr_view, ReqXfrIsWithin};
+ghost use Rattle.yp_messages.specs.Transfers.{resp_xfr};
+ghost use Rattle.yp_messages.specs.inside.Transfers.{resp_xfr_view};
+ghost use Rattle.yp_messages.specs.Transfers.{req_make};
+ghost use Rattle.yp_messages.specs.inside.Transfers.{req_make_view, ReqMakeIsWithin};
+ghost use Rattle.yp_messages.specs.Transfers.{resp_make};
+ghost use Rattle.yp_messages.specs.inside.Transfers.{resp_make_view};
 
 use crate::message::{Fields, Message};
 use crate::protocol::NAME_MAX;

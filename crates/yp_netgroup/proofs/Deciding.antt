@@ -9,8 +9,10 @@ use Rattle.std.proofs.lemmas.List.Folds.{Any-from_list_any, list_any-from_Any}
 use Rattle.std.proofs.lemmas.Map.Made.{is_some-lookup}
 use Rattle.yp_version.specs.Rows.{Row, value_of}
 use Rattle.yp_netgroup.specs.Parts.{Part, parts, names}
-use Rattle.yp_netgroup.specs.Reach.{Asked, Names, Reaches, Itself, Onward, members_of, has_fitting, IsMember}
-use Rattle.yp_netgroup.specs.Decided.{reaches_by, reaches, is_member, MembershipIsDecided}
+use Rattle.yp_netgroup.specs.Reach.{SoughtMember, NamesGroup, Reaches, Itself, Onward, members_of, has_fitting}
+use Rattle.yp_netgroup.specs.inside.Reach.{IsMember}
+use Rattle.yp_netgroup.specs.Decided.{reaches_by, reaches, is_member}
+use Rattle.yp_netgroup.specs.inside.Decided.{MembershipIsDecided}
 
 abbrev Name : Type 0
 Name = List ℕ
@@ -80,14 +82,14 @@ module _ (rows : List Row) where
   more_by (via ∷ more) a b h =
       or_left (reaches_by rows more a b) (reaches_by rows more a via && reaches_by rows more via b) (more_by more a b h)
 
-  named_step : (a b : Name) → Names rows a b → reaches_by rows [] a b ≡ true
+  named_step : (a b : Name) → NamesGroup rows a b → reaches_by rows [] a b ≡ true
   named_step a b h =
       or_right (bytes_eq a b) (list_any (bytes_eq b) (names (members_of rows a)))
       (there (bytes_eq b) (names (members_of rows a)) b h (equal b))
 
   -- a step from a group that the way may go by
   goes_on : (vias : List Name) (a b c : Name) → list_any (bytes_eq b) vias ≡ true → reaches_by rows vias a b ≡ true
-      → Names rows b c → reaches_by rows vias a c ≡ true
+      → NamesGroup rows b c → reaches_by rows vias a c ≡ true
   goes_on [] a b c may way named = absurd (true≢false (sym may))
   goes_on (via ∷ more) a b c may way named =
       let by = reaches_by rows more in
@@ -133,7 +135,7 @@ module _ (rows : List Row) where
   none : (x : Name) → Contains [] x → ⊥
   none x h = absurd (omega (arith, h.1))
 
-  has_row : (group name : Name) → Names rows group name → list_any (bytes_eq group) (keys_of rows) ≡ true
+  has_row : (group name : Name) → NamesGroup rows group name → list_any (bytes_eq group) (keys_of rows) ≡ true
   has_row group name named =
       elim (row_case group (is_some (value_of group rows)) refl) [
         | inl has ↦ has
@@ -146,7 +148,7 @@ module _ (rows : List Row) where
 
   -- ---- members
 
-  fitting_row : (asked : Asked) (via : Name) → has_fitting asked (members_of rows via) ≡ true
+  fitting_row : (asked : SoughtMember) (via : Name) → has_fitting asked (members_of rows via) ≡ true
       → list_any (bytes_eq via) (keys_of rows) ≡ true
   fitting_row asked via fits =
       elim (row_case via (is_some (value_of via rows)) refl) [
@@ -154,7 +156,7 @@ module _ (rows : List Row) where
         | inr empty ↦ absurd (true≢false (sym (sym (ap (has_fitting asked) empty) ∙ fits)))
       ]
 
-  decided : (group : Name) (asked : Asked) → IsTrue (is_member rows group asked) ↔ IsMember rows group asked
+  decided : (group : Name) (asked : SoughtMember) → IsTrue (is_member rows group asked) ↔ IsMember rows group asked
   unfolding is_member
   decided group asked =
       let test : Name → Bool = λ via. reaches rows group via && has_fitting asked (members_of rows via) in (

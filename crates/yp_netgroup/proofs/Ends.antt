@@ -11,20 +11,21 @@ use Rattle.std.proofs.Math.Seq.{take-suc}
 use Rattle.indexmap.specs.IndexSet.{IndexSet}
 use Rattle.yp_io.specs.declared.stream.NoMemory.{NoMemory}
 use Rattle.yp_version.specs.Rows.{Row}
-use Rattle.yp_netgroup.specs.Reach.{Asked, IsSpread, IsMember, members_of, has_fitting}
-use Rattle.yp_netgroup.specs.Seen.{names_of, IsMet, IsFound}
+use Rattle.yp_netgroup.specs.Reach.{SoughtMember, members_of, has_fitting}
+use Rattle.yp_netgroup.specs.inside.Reach.{IsSpread, IsMember}
+use Rattle.yp_netgroup.specs.inside.Seen.{names_of, IsMet, MemberIsFound}
 use Rattle.yp_netgroup.proofs.NamesMet.{met-whole}
 
 module _ (rows : List Row) (group : List ℕ) where
   -- ---- who is a member
 
-  abbrev Searched : Asked → Option (IndexSet (Bor (List ℕ)) RandomState) → Type 0
+  abbrev Searched : SoughtMember → Option (IndexSet (Bor (List ℕ)) RandomState) → Type 0
   Searched asked made =
-      MatchOption made (IsFound rows group (Some asked))
+      MatchOption made (MemberIsFound rows group (Some asked))
       (λ seen. IsMet rows group (Some asked) (names_of seen) (length (names_of seen)))
 
   -- where all that is reached has missed, none is a member
-  no_member : (asked : Asked) (met : List (List ℕ)) → IsMet rows group (Some asked) met (length met)
+  no_member : (asked : SoughtMember) (met : List (List ℕ)) → IsMet rows group (Some asked) met (length met)
       → IsMember rows group asked → ⊥
   no_member asked met is member =
       let found = met-whole rows group (Some asked) met is member.via member.reached in
@@ -33,7 +34,7 @@ module _ (rows : List Row) (group : List ℕ) where
       ap (λ via. has_fitting asked (members_of rows via)) (sym there) ∙ is.missed found.0 found.1 in
       true≢false (sym member.listed ∙ missed)
 
-  pub member-exact : (asked : Asked) (made : Option (IndexSet (Bor (List ℕ)) RandomState)) (none : Bool)
+  pub member-exact : (asked : SoughtMember) (made : Option (IndexSet (Bor (List ℕ)) RandomState)) (none : Bool)
       → Searched asked made → is_some made ≡ not none → IsTrue none ↔ IsMember rows group asked
   member-exact asked None true found e =
       (λ _. record { via = found.via; reached = found.reached; listed = found.listed }, λ _. refl)
@@ -54,11 +55,11 @@ module _ (rows : List Row) (group : List ℕ) where
 
   pub found-spread : (made : Option (IndexSet (Bor (List ℕ)) RandomState)) (seen : IndexSet (Bor (List ℕ)) RandomState)
       → made ≡ Some seen
-      → MatchOption made (IsFound rows group None) (λ seen. IsMet rows group None (names_of seen) (length (names_of seen)))
+      → MatchOption made (MemberIsFound rows group None) (λ seen. IsMet rows group None (names_of seen) (length (names_of seen)))
       → IfSome made (λ seen. IsDistinct bytes_eq (names_of seen)) → IsSpread rows group (names_of seen)
   found-spread made seen e is once =
       spread-exact (names_of seen)
-      (subst (λ made. MatchOption made (IsFound rows group None) (λ seen. IsMet rows group None (names_of seen) (length (names_of seen)))) e is)
+      (subst (λ made. MatchOption made (MemberIsFound rows group None) (λ seen. IsMet rows group None (names_of seen) (length (names_of seen)))) e is)
       (subst (λ made. IfSome made (λ seen. IsDistinct bytes_eq (names_of seen))) e once)
 
   -- copies of them

@@ -10,8 +10,8 @@ use Rattle.indexmap.specs.IndexSet.{insert_key, insert_all}
 use Rattle.indexmap.proofs.CallerLemmas.{Contains-insert_key}
 use Rattle.yp_version.specs.Rows.{Row}
 use Rattle.yp_netgroup.specs.Parts.{Part, Includes, Lists, names}
-use Rattle.yp_netgroup.specs.Reach.{Asked, Names, Reaches, Itself, Onward, members_of, fits, has_fitting}
-use Rattle.yp_netgroup.specs.Seen.{has_sought, IsMet}
+use Rattle.yp_netgroup.specs.Reach.{SoughtMember, NamesGroup, Reaches, Itself, Onward, members_of, fits, has_fitting}
+use Rattle.yp_netgroup.specs.inside.Seen.{has_sought, IsMet}
 
 abbrev Name : Type 0
 Name = List ℕ
@@ -22,7 +22,7 @@ or_case : (a b : Bool) → (a || b) ≡ ((a || false) || b)
 or_case true b = refl
 or_case false b = refl
 
-pub sought-cons : (sought : Option Asked) (part : Part) (members : List Part)
+pub sought-cons : (sought : Option SoughtMember) (part : Part) (members : List Part)
     → has_sought sought (part ∷ members) ≡ (has_sought sought (part ∷ []) || has_sought sought members)
 sought-cons None part members = refl
 sought-cons (Some asked) (Includes name) members = refl
@@ -107,7 +107,7 @@ all-from met (name ∷ more) x h =
 
 -- ---- the names that are met
 
-module _ (rows : List Row) (group : Name) (sought : Option Asked) where
+module _ (rows : List Row) (group : Name) (sought : Option SoughtMember) where
   -- the group itself is met first
   pub met-first : IsMet rows group sought (group ∷ []) 0
   met-first = record {
@@ -133,10 +133,10 @@ module _ (rows : List Row) (group : Name) (sought : Option Asked) where
           | inl old ↦ is.reached other old
           | inr named ↦ Onward (is.reached name (subst (Contains met) (sym at) (Contains-get_or met read [] within))) named
         ];
-        closed = λ k other h named. below_more (λ k. (other : Name) → Names rows (get_or new k []) other → Contains new other) read
+        closed = λ k other h named. below_more (λ k. (other : Name) → NamesGroup rows (get_or new k []) other → Contains new other) read
             (λ k below other named. all-old met added other (is.closed k other below
-            (subst (λ via. Names rows via other) (all-stays met added k (omega arith)) named)))
-            (λ other named. all-new met added other (subst (λ via. Names rows via other) here named)) k h other named;
+            (subst (λ via. NamesGroup rows via other) (all-stays met added k (omega arith)) named)))
+            (λ other named. all-new met added other (subst (λ via. NamesGroup rows via other) here named)) k h other named;
         missed = below_more (λ k. has_sought sought (members_of rows (get_or new k [])) ≡ false) read
             (λ k below. ap (λ via. has_sought sought (members_of rows via)) (all-stays met added k (omega arith)) ∙ is.missed k below)
             (ap (λ via. has_sought sought (members_of rows via)) here ∙ missed);
@@ -149,4 +149,4 @@ module _ (rows : List Row) (group : Name) (sought : Option Asked) where
   met-whole met is name (Onward {via} reached named) =
       let found = met-whole met is via reached in
       let there : get_or met found.0 [] ≡ via = get_or_default met found.0 [] via found.1 ∙ found.2 in
-      is.closed found.0 name found.1 (subst (λ other. Names rows other name) (sym there) named)
+      is.closed found.0 name found.1 (subst (λ other. NamesGroup rows other name) (sym there) named)

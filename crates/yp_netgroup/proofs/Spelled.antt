@@ -7,27 +7,27 @@ use Rattle.std.specs.Option.{option_map_or}
 use Rattle.std.specs.List.{list_any, prefix_len, position_or_len, before_first, after_first}
 use Rattle.std.proofs.lemmas.List.Sums.{prefix_len-le-length}
 use Rattle.yp_version.specs.Blanks.{is_blank, without_front_blanks}
-use Rattle.yp_netgroup.specs.Parts.{Part, Triple, Lists, Cut, is_open, is_close, is_name_byte}
+use Rattle.yp_netgroup.specs.Parts.{Part, Triple, Lists, CutMember, is_open, is_close, is_name_byte}
 use Rattle.yp_netgroup.specs.Parts.{triple_in, cut_triple, cut_name, cut_bare, cut_member}
 use Rattle.yp_netgroup.specs.Parts.{parts_within, parts}
-use Rattle.yp_netgroup.specs.Member.{part_of, cut_of}
+use Rattle.yp_netgroup.specs.inside.Member.{part_of, cut_of}
 use Rattle.yp_netgroup.specs.declared.text.Member.{Member}
 
 -- ---- what follows a member is shorter
 
-triple_case : (there : Bool) (made : Option Triple) (after : List ℕ) (cut : Cut)
+triple_case : (there : Bool) (made : Option Triple) (after : List ℕ) (cut : CutMember)
     → (if there then option_map (λ triple. (Lists triple, after)) made else None) ≡ Some cut → length cut.1 ≡ length after
 triple_case true (Some triple) after cut e = sym (ap (λ made. option_map_or (λ cut. length cut.1) made 0) e)
 triple_case true None after cut e = cc
 triple_case false made after cut e = cc
 
-triple_shorter : (text : List ℕ) (cut : Cut) → cut_triple text ≡ Some cut → length cut.1 ≤ length text
+triple_shorter : (text : List ℕ) (cut : CutMember) → cut_triple text ≡ Some cut → length cut.1 ≤ length text
 unfolding cut_triple
 triple_shorter text cut e =
     let same = triple_case (list_any is_close text) (triple_in (before_first is_close text)) (after_first is_close text) cut e in
     omega (arith, same, length-drop (position_or_len is_close text + 1) text)
 
-name_case : (none : Bool) (name : Part) (n : ℕ) (text : List ℕ) (cut : Cut) → (n == 0) ≡ none → n ≤ length text
+name_case : (none : Bool) (name : Part) (n : ℕ) (text : List ℕ) (cut : CutMember) → (n == 0) ≡ none → n ≤ length text
     → (if none then None else Some (name, drop n text)) ≡ Some cut → length cut.1 < length text
 name_case true name n text cut is within e = cc
 name_case false name zero text cut is within e = absurd (true≢false is)
@@ -35,24 +35,24 @@ name_case false name (suc n) text cut is within e =
     let same : length (drop (suc n) text) ≡ length cut.1 = ap (λ made. option_map_or (λ cut. length cut.1) made 0) e in
     omega (arith, same, length-drop (suc n) text)
 
-name_shorter : (text : List ℕ) (cut : Cut) → cut_name text ≡ Some cut → length cut.1 < length text
+name_shorter : (text : List ℕ) (cut : CutMember) → cut_name text ≡ Some cut → length cut.1 < length text
 unfolding cut_name
 name_shorter text cut e =
     name_case (prefix_len is_name_byte text == 0) _ (prefix_len is_name_byte text) text cut refl
     (prefix_len-le-length is_name_byte text) e
 
-bare_case : (opened : Bool) (b : ℕ) (text : List ℕ) (cut : Cut)
+bare_case : (opened : Bool) (b : ℕ) (text : List ℕ) (cut : CutMember)
     → (if opened then cut_triple (drop 1 (b ∷ text)) else cut_name (b ∷ text)) ≡ Some cut
     → length cut.1 < length (b ∷ text)
 bare_case true b text cut e =
     omega (arith, triple_shorter (drop 1 (b ∷ text)) cut e, length-drop 1 (b ∷ text))
 bare_case false b text cut e = name_shorter (b ∷ text) cut e
 
-bare_shorter : (text : List ℕ) (cut : Cut) → cut_bare text ≡ Some cut → length cut.1 < length text
+bare_shorter : (text : List ℕ) (cut : CutMember) → cut_bare text ≡ Some cut → length cut.1 < length text
 bare_shorter [] cut e = name_shorter [] cut e
 bare_shorter (b ∷ text) cut e = bare_case (is_open b) b text cut e
 
-pub member_shorter : (text : List ℕ) (cut : Cut) → cut_member text ≡ Some cut → length cut.1 < length text
+pub member_shorter : (text : List ℕ) (cut : CutMember) → cut_member text ≡ Some cut → length cut.1 < length text
 unfolding cut_member
 member_shorter text cut e =
     omega (arith, bare_shorter (without_front_blanks text) cut e, length-drop (prefix_len is_blank text) text)
@@ -67,17 +67,17 @@ pub parts-none : (text : List ℕ) → cut_member text ≡ None → parts text �
 unfolding parts
 parts-none text e = within-none (length text) text e
 
-within-some : (n : ℕ) (text : List ℕ) (cut : Cut) → cut_member text ≡ Some cut
+within-some : (n : ℕ) (text : List ℕ) (cut : CutMember) → cut_member text ≡ Some cut
     → parts_within (suc n) text ≡ cut.0 ∷ parts_within n cut.1
 within-some n text cut e = rw e refl
 
-nothing_case : (n : ℕ) (text : List ℕ) (made : Option Cut) → cut_member text ≡ made → length text ≤ 0
+nothing_case : (n : ℕ) (text : List ℕ) (made : Option CutMember) → cut_member text ≡ made → length text ≤ 0
     → parts_within n text ≡ []
 nothing_case n text None e h = within-none n text e
 nothing_case n text (Some cut) e h = absurd (omega (arith, member_shorter text cut e))
 
-same_case : (n m : ℕ) (text : List ℕ) (made : Option Cut) → cut_member text ≡ made
-    → ((cut : Cut) → length cut.1 < length text → parts_within n cut.1 ≡ parts_within m cut.1)
+same_case : (n m : ℕ) (text : List ℕ) (made : Option CutMember) → cut_member text ≡ made
+    → ((cut : CutMember) → length cut.1 < length text → parts_within n cut.1 ≡ parts_within m cut.1)
     → parts_within (suc n) text ≡ parts_within (suc m) text
 same_case n m text None e more = within-none (suc n) text e ∙ sym (within-none (suc m) text e)
 same_case n m text (Some cut) e more =
@@ -90,7 +90,7 @@ within_same (suc n) zero text a b = nothing_case (suc n) text (cut_member text) 
 within_same (suc n) (suc m) text a b =
     same_case n m text (cut_member text) refl (λ cut shorter. within_same n m cut.1 (omega arith) (omega arith))
 
-pub parts-some : (text : List ℕ) (cut : Cut) → cut_member text ≡ Some cut → parts text ≡ cut.0 ∷ parts cut.1
+pub parts-some : (text : List ℕ) (cut : CutMember) → cut_member text ≡ Some cut → parts text ≡ cut.0 ∷ parts cut.1
 unfolding parts
 parts-some text cut e =
     within_same (length text) (suc (length text)) text (omega arith) (omega arith) ∙ within-some (length text) text cut e
@@ -115,7 +115,7 @@ shorter-cut text None e = tt
 shorter-cut text (Some cut) e = member_shorter text (cut_of cut) (sym e)
 
 -- where a triple is opened behind the blanks
-pub opened-cut : (text bare : List ℕ) (made : Option Cut) → bare ≡ without_front_blanks text
+pub opened-cut : (text bare : List ℕ) (made : Option CutMember) → bare ≡ without_front_blanks text
     → is_open (slice_index bare 0) ≡ true → made ≡ cut_triple (drop 1 bare) → made ≡ cut_member text
 unfolding cut_member
 opened-cut text bare made e opened m =
@@ -123,7 +123,7 @@ opened-cut text bare made e opened m =
     m ∙ sym chosen ∙ ap cut_bare e
 
 -- and where none is
-pub named-cut : (text bare : List ℕ) (made : Option Cut) → bare ≡ without_front_blanks text
+pub named-cut : (text bare : List ℕ) (made : Option CutMember) → bare ≡ without_front_blanks text
     → is_open (slice_index bare 0) ≡ false → made ≡ cut_name bare → made ≡ cut_member text
 unfolding cut_member
 named-cut text bare made e closed m =

@@ -1,10 +1,10 @@
 -- Who is a member, as a value, for what is printed of it.
-use Rattle.std.specs.Prelude.{ℕ, Bool, ◌||◌, ◌&&◌, List, [], ◌∷◌, bytes_eq, IsTrue, ◌↔◌}
+use Rattle.std.specs.Prelude.{ℕ, Bool, ◌||◌, ◌&&◌, List, [], ◌∷◌, bytes_eq}
 use Rattle.std.specs.List.{list_any}
 use Rattle.std.specs.Map.{keys_of}
 use Rattle.yp_version.specs.Rows.{Row}
 use Rattle.yp_netgroup.specs.Parts.{names}
-use Rattle.yp_netgroup.specs.Reach.{Asked, has_fitting, members_of, IsMember}
+use Rattle.yp_netgroup.specs.Reach.{SoughtMember, has_fitting, members_of}
 
 -- A name is reached from a group in at most one step, or in more by way of these groups (Warshall 1962).
 abbrev pub reaches_by : List Row → List (List ℕ) → List ℕ → List ℕ → Bool
@@ -17,11 +17,6 @@ abbrev pub reaches : List Row → List ℕ → List ℕ → Bool
 reaches rows group name = reaches_by rows (keys_of rows) group name
 
 -- a group that is reached, and has a row, lists a triple that fits
-unfoldable pub is_member : List Row → List ℕ → Asked → Bool
+unfoldable pub is_member : List Row → List ℕ → SoughtMember → Bool
 is_member rows group asked =
     list_any (λ via. reaches rows group via && has_fitting asked (members_of rows via)) (keys_of rows)
-
--- it is true exactly of members
-abbrev pub MembershipIsDecided : Type 0
-MembershipIsDecided = (rows : List Row) (group : List ℕ) (asked : Asked)
-    → IsTrue (is_member rows group asked) ↔ IsMember rows group asked

@@ -1,6 +1,5 @@
 pub mod Parts
 pub mod Reach
 pub mod Decided
-pub mod Member
-pub mod Who
-pub mod Seen
+pub mod reverse
+pub mod inside

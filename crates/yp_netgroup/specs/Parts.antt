@@ -23,6 +23,7 @@ is_name_byte b = not (is_blank b || is_open b || is_close b || is_comma b)
 
 -- ---- members
 
+-- a host, a user and a domain
 pub record Triple : Type 0 where
   pub host : List ℕ
   pub user : List ℕ
@@ -34,8 +35,8 @@ pub data Part : Type 0 where
   Lists : Triple → Part
 
 -- a member at the front of a text, and what follows it
-abbrev pub Cut : Type 0
-Cut = Part × List ℕ
+abbrev pub CutMember : Type 0
+CutMember = Part × List ℕ
 
 -- exactly three fields
 abbrev pub triple_of : List (List ℕ) → Option Triple
@@ -51,24 +52,24 @@ abbrev pub triple_in : List ℕ → Option Triple
 triple_in inside = if list_any is_open inside then None else triple_of (slice_split is_comma inside)
 
 -- behind an opening parenthesis: the triple up to the first closing one
-unfoldable pub cut_triple : List ℕ → Option Cut
+unfoldable pub cut_triple : List ℕ → Option CutMember
 cut_triple text =
     if list_any is_close text
     then option_map (λ triple. (Lists triple, after_first is_close text)) (triple_in (before_first is_close text))
     else None
 
 -- the longest run of bytes of a name, which isn't empty
-unfoldable pub cut_name : List ℕ → Option Cut
+unfoldable pub cut_name : List ℕ → Option CutMember
 cut_name text =
     if prefix_len is_name_byte text == 0 then None
     else Some (Includes (take (prefix_len is_name_byte text) text), drop (prefix_len is_name_byte text) text)
 
 -- a triple where one is opened, else a name
-abbrev pub cut_bare : List ℕ → Option Cut
+abbrev pub cut_bare : List ℕ → Option CutMember
 cut_bare text = if is_open (slice_index text 0) then cut_triple (drop 1 text) else cut_name text
 
 -- the member at the front of a text, behind blanks; none where neither a triple nor a name can be read
-unfoldable pub cut_member : List ℕ → Option Cut
+unfoldable pub cut_member : List ℕ → Option CutMember
 cut_member text = cut_bare (without_front_blanks text)
 
 -- at most so many members

@@ -1,8 +1,8 @@
 //! Reverse netgroups: for each user, or each host, of a domain the groups that reach it.
 //!
-//! That a look-up in a reverse map is membership stands on [`laws::listed_is_membership`], and what is looked up on
-//! [`listed_in`].
-#![tactic(auto)]
+//! What each key has, or which row is the first that a version refuses, stands on [`reverse`], and what is looked up on
+//! [`listed_in`]. That a look-up in a reverse map is membership, where [`split`] answers yes, stands on
+//! [`laws::listed_is_membership`].
 
 mod back;
 mod fault;

@@ -6,10 +6,11 @@ ghost use Rattle.std.specs.Prelude.{IfOk, IfSome, MatchOption, ◌∷◌};
 ghost use Rattle.std.specs.List.{IsDistinct};
 ghost use Rattle.indexmap.specs.IndexSet.{insert_all};
 ghost use Rattle.yp_netgroup.specs.Parts.{names, parts};
-ghost use Rattle.yp_netgroup.specs.Reach.{members_of, group_text, IsSpread, IsMember};
-ghost use Rattle.yp_netgroup.specs.Member.{part_of};
-ghost use Rattle.yp_netgroup.specs.Who.{asked_of, sought_of};
-ghost use Rattle.yp_netgroup.specs.Seen.{names_of, has_sought, IsMet, IsFound};
+ghost use Rattle.yp_netgroup.specs.Reach.{members_of, group_text};
+ghost use Rattle.yp_netgroup.specs.inside.Reach.{IsSpread, IsMember};
+ghost use Rattle.yp_netgroup.specs.inside.Member.{part_of};
+ghost use Rattle.yp_netgroup.specs.inside.Who.{asked_of, sought_of};
+ghost use Rattle.yp_netgroup.specs.inside.Seen.{names_of, has_sought, IsMet, MemberIsFound};
 
 use crate::text::{Member, cut_member};
 use crate::who::Who;
@@ -21,7 +22,7 @@ use yp_io::NoMemory;
 use yp_version::Version;
 
 // The names that were met so far, in the order of meeting. They come from others, so they are hashed with random keys.
-type Seen<'a> = IndexSet<&'a [u8], RandomState>;
+type NameSet<'a> = IndexSet<&'a [u8], RandomState>;
 
 // The text of a group; one without a row has none.
 fn group_text<'a>(version: &'a Version, group: &[u8]) -> &'a [u8]
@@ -34,7 +35,7 @@ fn group_text<'a>(version: &'a Version, group: &[u8]) -> &'a [u8]
 fn meet<'a>(
     member: Member<'a>,
     sought: Option<&Who<'_>>,
-    seen: &mut Seen<'a>,
+    seen: &mut NameSet<'a>,
 ) -> Result<bool, NoMemory>
     ensures found { IfOk result (λ found. found ≡ has_sought (sought_of sought.entry) (part_of member.entry ∷ [])) }
     ensures met { IfOk result (λ found.
@@ -53,7 +54,11 @@ fn meet<'a>(
 }
 
 // Reads a text, up to a triple that is sought. Where there is none, all its names are met.
-fn read<'a>(text: &'a [u8], sought: Option<&Who<'_>>, seen: &mut Seen<'a>) -> Result<bool, NoMemory>
+fn read<'a>(
+    text: &'a [u8],
+    sought: Option<&Who<'_>>,
+    seen: &mut NameSet<'a>,
+) -> Result<bool, NoMemory>
     ensures found { IfOk result (λ found. found ≡ has_sought (sought_of sought.entry) (parts text.now)) }
     ensures met { IfOk result (λ found. found ≡ false →
         names_of seen.new ≡ insert_all bytes_eq (names_of seen.old) (names (parts text.now))) }
@@ -76,8 +81,9 @@ fn reach<'a>(
     version: &'a Version,
     group: &'a [u8],
     sought: Option<&Who<'_>>,
-) -> Result<Option<Seen<'a>>, NoMemory>
-    ensures met { IfOk result (λ seen. MatchOption seen (IsFound version.now.rows group.now (sought_of sought.entry))
+) -> Result<Option<NameSet<'a>>, NoMemory>
+    ensures met { IfOk result (λ seen. MatchOption seen
+        (MemberIsFound version.now.rows group.now (sought_of sought.entry))
         (λ seen. IsMet version.now.rows group.now (sought_of sought.entry) (names_of seen) (length (names_of seen)))) }
     ensures once { IfOk result (λ seen. IfSome seen (λ seen. IsDistinct bytes_eq (names_of seen))) }
 {
@@ -115,7 +121,7 @@ pub fn spread(
 }
 
 // The names, each as its own.
-fn copied(alloc: Global, seen: &Seen<'_>) -> Result<Vec<Vec<u8>>, NoMemory>
+fn copied(alloc: Global, seen: &NameSet<'_>) -> Result<Vec<Vec<u8>>, NoMemory>
     ensures { IfOk result (λ copies. map (λ name. name.items) copies.items ≡ names_of seen.now) }
 {
     let mut copies = Vec::new(alloc);

@@ -4,7 +4,7 @@ ghost use Rattle.std.specs.Prelude.{◌≡◌, ◌==◌, ◌<◌, ◌≤◌, len
 ghost use Rattle.std.specs.Prelude.{[], ◌∷◌, IsTrue, IfOk, IfSome, IfNone};
 ghost use Rattle.std.specs.List.{list_any, prefix_len, before_first, after_first};
 ghost use Rattle.yp_netgroup.specs.Parts.{Lists, is_open, is_name_byte, triple_in, cut_triple, cut_name, parts};
-ghost use Rattle.yp_netgroup.specs.Member.{part_of, cut_of};
+ghost use Rattle.yp_netgroup.specs.inside.Member.{part_of, cut_of};
 
 use std::alloc::Global;
 use yp_io::NoMemory;

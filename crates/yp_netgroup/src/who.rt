@@ -3,7 +3,7 @@
 ghost use Rattle.std.specs.Prelude.{◌≡◌, bytes_eq};
 ghost use Rattle.std.specs.Str.{str_eq_ignore_ascii_case};
 ghost use Rattle.yp_netgroup.specs.Reach.{field_fits, fits};
-ghost use Rattle.yp_netgroup.specs.Who.{lent, asked_of};
+ghost use Rattle.yp_netgroup.specs.inside.Who.{lent, asked_of};
 
 /// Who is asked for: a host, a user and a domain. What isn't given may be any.
 #[derive(Clone, Copy, Debug)]

@@ -1,12 +1,12 @@
 -- What holds of equal commands, statuses, offices and wires.
 use Rattle.std.proofs.Common.{◌≡◌, List}
 use Rattle.std.specs.Prelude.{IsTrue}
-use Rattle.yp_session.specs.Wires.{Wire}
-use Rattle.yp_words.specs.Words.{Meaning}
-use Rattle.yp_office.specs.declared.office.Office.{Office}
-use Rattle.yp_office.specs.declared.status.Status.{Status}
-use Rattle.yp_office.specs.Seeing.{Seeing, IsPassedOn}
-use Rattle.yp_tools.specs.Commands.{AloneDoes, may_end}
+use Rattle.yp_answer.specs.session.Wires.{Wire}
+use Rattle.yp_command.specs.Words.{Meaning}
+use Rattle.yp_command.specs.declared.office.office.Office.{Office}
+use Rattle.yp_command.specs.declared.office.status.Status.{Status}
+use Rattle.yp_command.specs.office.Seeing.{Seeing, IsPassedOn}
+use Rattle.yp_program.specs.Commands.{AloneDoes, may_end}
 
 module _ {S K D C A I T : Type 0} (seen : Seeing S K D C A I T) (old : Office S K D C A I T) where
   pub same_does : (before : List Wire) (meaning meant : Meaning) (status told : Status) (new now : Office S K D C A I T) (after wires : List Wire) → meaning ≡ meant → status ≡ told → new ≡ now → after ≡ wires

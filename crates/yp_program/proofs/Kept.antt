@@ -1,12 +1,12 @@
 -- What every command keeps: the names of the disks, and the moment that the clock tells.
 use Rattle.std.proofs.Common.{◌≡◌, List, refl, ap, ◌∙◌}
-use Rattle.yp_session.specs.Wires.{Wire}
-use Rattle.yp_words.specs.Words.{Meaning, Once, Session, Serve, Check, Build, Xfr, Walk, Sample, Push, Bind, Portmap, Getport, Ask, Revnet}
-use Rattle.yp_office.specs.declared.office.Office.{Office}
-use Rattle.yp_office.specs.declared.status.Status.{Status}
-use Rattle.yp_office.specs.Disks.{names_of}
-use Rattle.yp_office.specs.Seeing.{Seeing, moment}
-use Rattle.yp_tools.specs.Commands.{AloneDoes}
+use Rattle.yp_answer.specs.session.Wires.{Wire}
+use Rattle.yp_command.specs.Words.{Meaning, Once, Session, Serve, Check, Build, Xfr, Walk, Sample, Push, Bind, Portmap, Getport, Ask, Revnet}
+use Rattle.yp_command.specs.declared.office.office.Office.{Office}
+use Rattle.yp_command.specs.declared.office.status.Status.{Status}
+use Rattle.yp_command.specs.office.Disks.{names_of}
+use Rattle.yp_command.specs.office.Seeing.{Seeing, moment}
+use Rattle.yp_program.specs.Commands.{AloneDoes}
 
 -- both
 pub record KeepsOffice {S K D C A I T : Type 0} (seen : Seeing S K D C A I T) (old new : Office S K D C A I T) : Type 0 where

@@ -7,20 +7,20 @@ use Rattle.yp_io.specs.declared.stream.Peer.{Peer}
 use Rattle.yp_board.specs.Catalogues.{Catalogue}
 use Rattle.yp_board.specs.Views.{Seen}
 use Rattle.yp_answer.specs.declared.procedure.Path.TheVariants.{Stream}
-use Rattle.yp_session.specs.declared.session.End.{End}
-use Rattle.yp_session.specs.declared.session.End.TheVariants.{Clean, Torn, TooLong, ReadFault, WriteFault, Enough}
-use Rattle.yp_session.specs.Wires.{SinkTells, Wire}
-use Rattle.yp_session.specs.Hosts.{Conduct, Turn}
-use Rattle.yp_session.specs.LogRuns.{LogRun}
-use Rattle.yp_session.specs.Runs.{Dialogue, Chain, Ends, Runs, sent_reply, unsent}
-use Rattle.yp_server.specs.Connections.{Service, Connection, Serves, log_of}
+use Rattle.yp_answer.specs.declared.session.session.End.{End}
+use Rattle.yp_answer.specs.declared.session.session.End.TheVariants.{Clean, Torn, TooLong, ReadFault, WriteFault, Enough}
+use Rattle.yp_answer.specs.session.Wires.{SinkTells, Wire}
+use Rattle.yp_answer.specs.session.Hosts.{Conduct, Turn}
+use Rattle.yp_answer.specs.session.LogRuns.{LogRun}
+use Rattle.yp_answer.specs.session.Runs.{Dialogue, Chain, Ends, Runs, sent_reply, unsent}
+use Rattle.yp_host.specs.Connections.{Service, Connection, ServesConnection, log_of}
 use Rattle.yp_client.specs.Questions.{ByteQuestion}
-use Rattle.yp_exchange.specs.Runs.{calls_made, sent_all}
-use Rattle.yp_exchange.specs.LogRuns.{records_of, replies_of, AnswersCalls}
-use Rattle.yp_office.specs.Seeing.{Seeing}
-use Rattle.yp_serving.specs.Served.{fixed_conduct}
-use Rattle.yp_words.specs.Words.{nobody}
-use Rattle.yp_tools.specs.Joined.{SessionIsPrinted, OnceIsPrinted}
+use Rattle.yp_end_to_end.specs.exchange.Runs.{calls_made, sent_all}
+use Rattle.yp_end_to_end.specs.exchange.LogRuns.{records_of, replies_of, AnswersCalls}
+use Rattle.yp_command.specs.office.Seeing.{Seeing}
+use Rattle.yp_command_serve.specs.Served.{fixed_conduct}
+use Rattle.yp_command.specs.Words.{nobody}
+use Rattle.yp_program.specs.inside.Joined.{SessionIsPrinted, OnceIsPrinted}
 
 -- bytes that are told grow
 grown : (old new : Option (List ℕ)) (front bytes : List ℕ) → old ≡ Some front → Appends old new bytes → new ≡ Some (front ++ bytes)
@@ -64,7 +64,7 @@ module _ {H : Type 0} (conduct : Conduct H) (peer : Peer) where
       done.0 ∙ chain_sent runs.answered old runs.last front runs.chain was ∙ ap (λ (l : List Turn). Some (front ++ sent_all (replies_of l))) (sym all)
 
 -- the run of a connection over the calls of a question is one that answers them
-answers_calls : {D B E : Type 0} (service : Service D B E) (end : End) (old new : Connection D E) (wires : List Wire) (serves : Serves service end old new wires) (question : ByteQuestion)
+answers_calls : {D B E : Type 0} (service : Service D B E) (end : End) (old new : Connection D E) (wires : List Wire) (serves : ServesConnection service end old new wires) (question : ByteQuestion)
     → records_of serves.runs.turns ≡ calls_made question (replies_of serves.runs.turns)
     → AnswersCalls service.catalogue service.peer question serves.runs.turns (log_of service serves.start) (log_of service serves.finish)
 answers_calls service end old new wires serves question calls = record {

@@ -1,15 +1,17 @@
 -- What is done for words that weren't parsed.
 use Rattle.std.proofs.Common.{◌≡◌, ℕ, List, Result, Ok, Err, refl, inr, true}
-use Rattle.yp_session.specs.Wires.{Wire}
-use Rattle.yp_words.specs.Words.{Meaning, Once, Session, Serve, Check, Build, Xfr, Walk, Sample, Push}
-use Rattle.yp_words.specs.Words.{Bind, Portmap, Getport, Ask, IsSentenceOfWords, IsUsage, Revnet}
-use Rattle.yp_words.specs.declared.words.ParseFault.{ParseFault}
-use Rattle.yp_words.specs.declared.words.ParseFault.TheVariants as fault
-use Rattle.yp_worker.specs.Receptions.{Opening}
-use Rattle.yp_office.specs.declared.office.Office.{Office}
-use Rattle.yp_office.specs.declared.status.Status.TheVariants.{Usage, NoMemory}
-use Rattle.yp_office.specs.Seeing.{Seeing}
-use Rattle.yp_tools.specs.Commands.{Does, MayEnd, may_end, parse_status}
+use Rattle.yp_answer.specs.session.Wires.{Wire}
+use Rattle.yp_command.specs.Words.{Meaning, Once, Session, Serve, Check, Build, Xfr, Walk, Sample, Push}
+use Rattle.yp_command.specs.Words.{Bind, Portmap, Getport, Ask, Revnet}
+use Rattle.yp_command.specs.inside.Words.{IsSentenceOfWords, IsUsage}
+use Rattle.yp_command.specs.declared.words.ParseFault.{ParseFault}
+use Rattle.yp_command.specs.declared.words.ParseFault.TheVariants as fault
+use Rattle.yp_worker.specs.Receptions.{ListenTells}
+use Rattle.yp_command.specs.declared.office.office.Office.{Office}
+use Rattle.yp_command.specs.declared.office.status.Status.TheVariants.{Usage, NoMemory}
+use Rattle.yp_command.specs.office.Seeing.{Seeing}
+use Rattle.yp_program.specs.Commands.{Does, MayEnd, may_end}
+use Rattle.yp_program.specs.inside.Commands.{parse_status}
 
 usage_may : (command : Result Meaning ℕ) (word : ℕ) → command ≡ Err word → MayEnd command (Usage word)
 usage_may (Ok meaning) word e = absurd cc
@@ -40,7 +42,7 @@ pub unparsed_may : (command : Result Meaning ℕ) (why : ParseFault) → IsUsage
 unparsed_may command (fault.Usage word) h = usage_may command word h
 unparsed_may command fault.NoMemory h = memory_may command h
 
-module _ {S K D C A I T : Type 0} (seen : Seeing S K D C A I T) (office : Office S K D C A I T) (door : Opening) (wires : List Wire) where
+module _ {S K D C A I T : Type 0} (seen : Seeing S K D C A I T) (office : Office S K D C A I T) (door : ListenTells) (wires : List Wire) where
   usage_does : (command : Result Meaning ℕ) (word : ℕ) → command ≡ Err word → Does seen command (Usage word) office office door door wires wires
   usage_does (Ok meaning) word e = absurd cc
   usage_does (Err other) word e = let same : other ≡ word = cc in rw same (refl, refl, refl, refl)

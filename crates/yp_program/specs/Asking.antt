@@ -3,21 +3,21 @@ use Rattle.std.specs.Prelude.{◌≡◌, ◌⊎◌, ℕ, Bool, true, false, List
 use Rattle.yp_io.specs.declared.stream.Peer.{Peer}
 use Rattle.yp_board.specs.Catalogues.{Catalogue}
 use Rattle.yp_board.specs.Logs.{Log}
-use Rattle.yp_session.specs.Hosts.{Turn}
+use Rattle.yp_answer.specs.session.Hosts.{Turn}
 use Rattle.yp_client.specs.declared.fault.ClientFault.TheVariants as client
-use Rattle.yp_query.specs.declared.fault.QueryFault.{QueryFault}
-use Rattle.yp_query.specs.declared.fault.QueryFault.TheVariants as fault
+use Rattle.yp_client.specs.declared.query.fault.QueryFault.{QueryFault}
+use Rattle.yp_client.specs.declared.query.fault.QueryFault.TheVariants as fault
 use Rattle.yp_client.specs.Questions.{ByteQuestion}
-use Rattle.yp_query.specs.Scenes.{Scene, Asks, scene_of}
-use Rattle.yp_query.specs.Complete.{HasAnswer, HasCome}
-use Rattle.yp_exchange.specs.Runs.{sent_all, PrintsOnLogs}
-use Rattle.yp_exchange.specs.LogRuns.{replies_of, AnswersCalls}
-use Rattle.yp_office.specs.Rows.{row_status}
-use Rattle.yp_office.specs.declared.status.Status.{Status}
-use Rattle.yp_office.specs.declared.status.Status.TheVariants.{Done, No, ReadFault, WriteFault, Torn, TooLong, NoMemory}
-use Rattle.yp_office.specs.declared.status.Status.TheVariants.{Yp, Denied, BadReply, BadXid, DialFault, Rows}
-use Rattle.yp_office.specs.declared.office.Office.{Office}
-use Rattle.yp_office.specs.Seeing.{Seeing, output, WriteFails, DialFails}
+use Rattle.yp_client.specs.query.Scenes.{QueryTells, Asks, query_tells}
+use Rattle.yp_client.specs.query.Complete.{HasAnswer, HasCome}
+use Rattle.yp_end_to_end.specs.exchange.Runs.{sent_all, PrintsOnLogs}
+use Rattle.yp_end_to_end.specs.exchange.LogRuns.{replies_of, AnswersCalls}
+use Rattle.yp_command.specs.office.Rows.{row_status}
+use Rattle.yp_command.specs.declared.office.status.Status.{Status}
+use Rattle.yp_command.specs.declared.office.status.Status.TheVariants.{Done, No, ReadFault, WriteFault, Torn, TooLong, NoMemory}
+use Rattle.yp_command.specs.declared.office.status.Status.TheVariants.{Yp, Denied, BadReply, BadXid, DialFault, Rows}
+use Rattle.yp_command.specs.declared.office.office.Office.{Office}
+use Rattle.yp_command.specs.office.Seeing.{Seeing, output, WriteFails, DialFails}
 
 -- the status of a question: done, or why it has no answer
 abbrev pub status_of : Result (Unit {0}) QueryFault → Status
@@ -40,20 +40,20 @@ status_of (Err (fault.Client (client.Rows row why))) = row_status row why
 status_of (Err (fault.Client client.NoMemory)) = NoMemory
 
 -- what the dial and the output of an office tell
-abbrev pub scene : {S K D C A I T : Type 0} → Seeing S K D C A I T → Office S K D C A I T → Scene
+abbrev pub scene : {S K D C A I T : Type 0} → Seeing S K D C A I T → Office S K D C A I T → QueryTells
 scene seen office =
-    scene_of seen.dial.past seen.dial.faults seen.sink.output seen.sink.faults office.dial office.wire.sink
+    query_tells seen.dial.past seen.dial.faults seen.sink.output seen.sink.faults office.dial office.wire.sink
 
 -- A question was asked, and its answer or fault is told by this status. The status and the wire that came fix the
 -- result, unless memory ran out.
-pub record AsksAs (peer : Peer) (question : ByteQuestion) (status : Status) (old new : Scene) : Type 0 where
+pub record AsksAs (peer : Peer) (question : ByteQuestion) (status : Status) (old new : QueryTells) : Type 0 where
   pub result : Result (Unit {0}) QueryFault
   pub asks : Asks peer question result old new
   pub told : status ≡ status_of result
 
 -- an answer, that there is no such key or no such member, or want of memory
-abbrev pub IsAnswer : Status → Type 0
-IsAnswer status = (status ≡ Done) ⊎ (status ≡ No) ⊎ (status ≡ NoMemory)
+abbrev pub IsClientAnswer : Status → Type 0
+IsClientAnswer status = (status ≡ Done) ⊎ (status ≡ No) ⊎ (status ≡ NoMemory)
 
 -- the statuses with which a client command may end
 abbrev pub ask_may_end : Status → Bool
@@ -87,7 +87,7 @@ pub record AskDoes {S K D C A I T : Type 0} (seen : Seeing S K D C A I T) (peer 
       → PrintsOnLogs catalogue caller question before after asks.result (output seen old) (output seen new)
   pub complete : (stream : List ℕ) → HasAnswer question stream
       → HasCome peer stream (seen.dial.past old.dial) (seen.dial.past new.dial)
-      → ¬ DialFails seen old new → ¬ WriteFails seen old new → IsAnswer status
+      → ¬ DialFails seen old new → ¬ WriteFails seen old new → IsClientAnswer status
   pub read_fault : status ≡ ReadFault → DialFails seen old new
   pub write_fault : status ≡ WriteFault → WriteFails seen old new ⊎ DialFails seen old new
   pub dial_fault : status ≡ DialFault → DialFails seen old new

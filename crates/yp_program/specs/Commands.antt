@@ -1,37 +1,30 @@
 -- What the program does, by its command: one line each.
-use Rattle.std.specs.Prelude.{◌≡◌, ◌⊎◌, ℕ, Bool, IsTrue, List, Result, Ok, Err, ⊤}
-use Rattle.yp_session.specs.Wires.{Wire}
-use Rattle.yp_words.specs.Words.{Meaning, Once, Session, Serve, Check, Build, Xfr, Walk}
-use Rattle.yp_words.specs.Words.{Sample, Push, Bind, Portmap, Getport, Ask, TakesMemory, Revnet}
-use Rattle.yp_words.specs.declared.words.ParseFault.{ParseFault}
-use Rattle.yp_words.specs.declared.words.ParseFault.TheVariants as fault
-use Rattle.yp_office.specs.declared.office.Office.{Office}
-use Rattle.yp_office.specs.declared.status.Status.{Status}
-use Rattle.yp_office.specs.declared.status.Status.TheVariants.{Usage, NoMemory}
-use Rattle.yp_office.specs.Seeing.{Seeing}
-use Rattle.yp_serving.specs.Once.{OnceDoes, once_may_end}
-use Rattle.yp_serving.specs.Sample.{SampleDoes, sample_may_end}
-use Rattle.yp_serving.specs.Session.{SessionDoes, session_may_end}
-use Rattle.yp_worker.specs.Receptions.{Opening}
-use Rattle.yp_hosting.specs.Serve.{ServeDoes, serve_order, serve_may_end}
-use Rattle.yp_storing.specs.Build.{BuildDoes, build_may_end}
-use Rattle.yp_storing.specs.Check.{CheckDoes, check_may_end}
-use Rattle.yp_storing.specs.Revnet.{RevnetDoes, revnet_may_end}
-use Rattle.yp_storing.specs.Xfr.{order_of, xfr_may_end}
-use Rattle.yp_mailing.specs.Bind.{BindDoes, bind_may_end, servers_of}
-use Rattle.yp_mailing.specs.Getport.{GetportDoes, getport_may_end, begun}
-use Rattle.yp_mailing.specs.Portmap.{PortmapDoes, portmap_may_end}
-use Rattle.yp_walking.specs.Walk.{walk_may_end}
-use Rattle.yp_mailing.specs.Push.{PushDoes, job_of, push_may_end}
-use Rattle.yp_tools.specs.Asking.{AskDoes, ask_may_end}
-use Rattle.yp_tools.specs.Transferring.{TransferDoes}
-use Rattle.yp_tools.specs.Walking.{WalkingDoes}
-use Rattle.yp_tools.specs.declared.program.Outside.{Outside}
-
--- the command serves no listener
-abbrev pub IsAlone : Meaning → Type 0
-IsAlone (Serve own port workers connections turns stores hosts) = ⊥
-IsAlone meaning = ⊤
+use Rattle.std.specs.Prelude.{◌≡◌, ◌⊎◌, ℕ, Bool, IsTrue, List, Result, Ok, Err}
+use Rattle.yp_answer.specs.session.Wires.{Wire}
+use Rattle.yp_command.specs.Words.{Meaning, Once, Session, Serve, Check, Build, Xfr, Walk}
+use Rattle.yp_command.specs.Words.{Sample, Push, Bind, Portmap, Getport, Ask, TakesMemory, Revnet}
+use Rattle.yp_command.specs.declared.office.office.Office.{Office}
+use Rattle.yp_command.specs.declared.office.status.Status.{Status}
+use Rattle.yp_command.specs.declared.office.status.Status.TheVariants.{Usage, NoMemory}
+use Rattle.yp_command.specs.office.Seeing.{Seeing}
+use Rattle.yp_command_serve.specs.Once.{OnceDoes, once_may_end}
+use Rattle.yp_command_serve.specs.Sample.{SampleDoes, sample_may_end}
+use Rattle.yp_command_serve.specs.Session.{SessionDoes, session_may_end}
+use Rattle.yp_worker.specs.Receptions.{ListenTells}
+use Rattle.yp_command_serve.specs.serve.Serve.{ServeDoes, serve_job_of, serve_may_end}
+use Rattle.yp_command_maps.specs.Build.{BuildDoes, build_may_end}
+use Rattle.yp_command_maps.specs.Check.{CheckDoes, check_may_end}
+use Rattle.yp_command_maps.specs.Revnet.{RevnetDoes, revnet_may_end}
+use Rattle.yp_command_maps.specs.Xfr.{xfr_job_of, xfr_may_end}
+use Rattle.yp_command_mail.specs.Bind.{BindDoes, bind_may_end, servers_of}
+use Rattle.yp_command_mail.specs.Getport.{GetportDoes, getport_may_end, begun}
+use Rattle.yp_command_mail.specs.Portmap.{PortmapDoes, portmap_may_end}
+use Rattle.yp_command_maps.specs.walk.Walk.{walk_may_end}
+use Rattle.yp_command_mail.specs.Push.{PushDoes, job_of, push_may_end}
+use Rattle.yp_program.specs.Asking.{AskDoes, ask_may_end}
+use Rattle.yp_program.specs.Transferring.{TransferDoes}
+use Rattle.yp_program.specs.Walking.{WalkingDoes}
+use Rattle.yp_program.specs.declared.program.Outside.{Outside}
 
 -- what a command that serves no listener does to the office and to a witness's wires, with this status
 unfoldable pub AloneDoes : {S K D C A I T : Type 0} → Seeing S K D C A I T → Meaning → Status
@@ -44,9 +37,9 @@ AloneDoes seen (Check store) status old new before after = CheckDoes seen store 
 AloneDoes seen (Build name store flag) status old new before after =
     BuildDoes seen name store flag status old new × (after ≡ before)
 AloneDoes seen (Xfr name force store host flag) status old new before after =
-    TransferDoes seen (order_of name force store host flag) status old new × (after ≡ before)
+    TransferDoes seen (xfr_job_of name force store host flag) status old new × (after ≡ before)
 AloneDoes seen (Walk name force store host port turns flag) status old new before after =
-    WalkingDoes seen (order_of name force store host flag) turns status old new × (after ≡ before)
+    WalkingDoes seen (xfr_job_of name force store host flag) turns status old new × (after ≡ before)
 AloneDoes seen (Revnet name store) status old new before after =
     RevnetDoes seen name store status old new × (after ≡ before)
 AloneDoes seen (Sample start count) status old new before after =
@@ -64,15 +57,15 @@ AloneDoes seen (Ask peer question) status old new before after =
 
 -- what a command does, to what a listener tells, too: any but `serve` leaves it as it is
 abbrev pub CommandDoes : {S K D C A I T : Type 0} → Seeing S K D C A I T → Meaning → Status
-    → (old new : Office S K D C A I T) → (door door' : Opening) → (before after : List Wire) → Type 0
+    → (old new : Office S K D C A I T) → (door door' : ListenTells) → (before after : List Wire) → Type 0
 CommandDoes seen (Serve own port workers connections turns stores hosts) status old new door door' before after =
-    ServeDoes seen (serve_order own connections turns stores hosts) status old new door door' × (after ≡ before)
+    ServeDoes seen (serve_job_of own connections turns stores hosts) status old new door door' × (after ≡ before)
 CommandDoes seen meaning status old new door door' before after =
     AloneDoes seen meaning status old new before after × (door' ≡ door)
 
 -- memory ran out for what is copied of the words, and nothing has changed
 pub record IsForgone {S K D C A I T : Type 0} (meaning : Meaning) (status : Status) (old new : Office S K D C A I T)
-    (door door' : Opening) (before after : List Wire) : Type 0 where
+    (door door' : ListenTells) (before after : List Wire) : Type 0 where
   pub takes_memory : TakesMemory meaning
   pub told : status ≡ NoMemory
   pub stays : new ≡ old
@@ -81,7 +74,7 @@ pub record IsForgone {S K D C A I T : Type 0} (meaning : Meaning) (status : Stat
 
 -- what is done for the command that the words are; words that are none are told, and nothing is done
 abbrev pub Does : {S K D C A I T : Type 0} → Seeing S K D C A I T → Result Meaning ℕ → Status
-    → (old new : Office S K D C A I T) → (door door' : Opening) → (before after : List Wire) → Type 0
+    → (old new : Office S K D C A I T) → (door door' : ListenTells) → (before after : List Wire) → Type 0
 Does seen (Ok meaning) status old new door door' before after =
     CommandDoes seen meaning status old new door door' before after
     ⊎ IsForgone meaning status old new door door' before after
@@ -108,11 +101,6 @@ may_end (Ask peer question) status = ask_may_end status
 abbrev pub MayEnd : Result Meaning ℕ → Status → Type 0
 MayEnd (Ok meaning) status = IsTrue (may_end meaning status)
 MayEnd (Err word) status = status ≡ Usage word
-
--- the status of words that weren't parsed
-abbrev pub parse_status : ParseFault → Status
-parse_status (fault.Usage word) = Usage word
-parse_status fault.NoMemory = NoMemory
 
 -- what a command reaches of the outside
 abbrev pub office_of : {S K D C L A I T : Type 0} → Outside S K D C L A I T → Office S K D C A I T

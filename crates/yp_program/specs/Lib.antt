@@ -1,5 +1,5 @@
 pub mod Asking
 pub mod Transferring
 pub mod Walking
-pub mod Joined
 pub mod Commands
+pub mod inside

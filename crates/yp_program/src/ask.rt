@@ -1,19 +1,20 @@
 //! The client commands: a server is asked, and its answer printed.
 
 ghost use Rattle.std.specs.Prelude.{◌≡◌, IsTrue, Err};
-ghost use Rattle.yp_client.specs.Questions.{bytes_of, QuestionIsWithin};
-ghost use Rattle.yp_query.specs.Faults.{IsTellable as MayBeTold};
-ghost use Rattle.yp_office.specs.Seeing.{seeing, IsPassedOn};
-ghost use Rattle.yp_office.specs.Status.{IsTellable};
-ghost use Rattle.yp_tools.specs.Asking.{AskDoes, ask_may_end, status_of};
+ghost use Rattle.yp_client.specs.Questions.{bytes_of};
+ghost use Rattle.yp_client.specs.inside.Questions.{QuestionIsWithin};
+ghost use Rattle.yp_client.specs.inside.query.Faults.{FaultIsTellable as MayBeTold};
+ghost use Rattle.yp_command.specs.office.Seeing.{seeing, IsPassedOn};
+ghost use Rattle.yp_command.specs.inside.office.Status.{IsTellable};
+ghost use Rattle.yp_program.specs.Asking.{AskDoes, ask_may_end, status_of};
 
 use std::alloc::Global;
 use std::random::RandomSource;
+use yp_client::query::{QueryFault, query};
 use yp_client::{ClientFault, Question};
-use yp_exchange::laws;
+use yp_command::office::{Office, Status, status_of_row};
+use yp_end_to_end::exchange::laws;
 use yp_io::{Clock, Dial, Disk, Inbox, Peer, Sink, Source, Texts};
-use yp_office::{Office, Status, status_of_row};
-use yp_query::{QueryFault, query};
 
 /// The status of a call that was refused.
 fn status_of_call(fault: ClientFault) -> Status

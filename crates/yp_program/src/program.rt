@@ -3,15 +3,19 @@
 ghost use Rattle.std.specs.Prelude.{◌≡◌, List, [], IsTrue};
 ghost use Rattle.std.specs.Io.KnownBytes.{Appends};
 ghost use Rattle.yp_io.specs.Counts.{HasRisen};
-ghost use Rattle.yp_words.specs.Words.{command_of, disk_names, texts, meaning, stores_of, HasNames};
-ghost use Rattle.yp_session.specs.Wires.{Wire};
-ghost use Rattle.yp_office.specs.Disks.{names_of};
-ghost use Rattle.yp_office.specs.Seeing.{seeing, IsPassedOn};
-ghost use Rattle.yp_office.specs.Status.{note, IsTellable};
-ghost use Rattle.yp_worker.specs.Receptions.{opening_of};
-ghost use Rattle.yp_hosting.specs.Serve.{ServeDoes, order_view, serve_may_end};
-ghost use Rattle.yp_tools.specs.Commands.{IsAlone, AloneDoes, CommandDoes, Does, MayEnd, may_end, office_of};
-ghost use Rattle.yp_tools.specs.Commands.{parse_status};
+ghost use Rattle.yp_command.specs.Words.{command_of, disk_names, texts, meaning, stores_of};
+ghost use Rattle.yp_command.specs.inside.Words.{HasNames};
+ghost use Rattle.yp_answer.specs.session.Wires.{Wire};
+ghost use Rattle.yp_command.specs.office.Disks.{names_of};
+ghost use Rattle.yp_command.specs.office.Seeing.{seeing, IsPassedOn};
+ghost use Rattle.yp_command.specs.office.Status.{note};
+ghost use Rattle.yp_command.specs.inside.office.Status.{IsTellable};
+ghost use Rattle.yp_worker.specs.Receptions.{opening_by};
+ghost use Rattle.yp_command_serve.specs.serve.Serve.{ServeDoes, serve_may_end};
+ghost use Rattle.yp_command_serve.specs.inside.serve.Serve.{serve_job_view};
+ghost use Rattle.yp_program.specs.Commands.{AloneDoes, CommandDoes, Does, MayEnd, may_end, office_of};
+ghost use Rattle.yp_program.specs.inside.Commands.{IsAlone};
+ghost use Rattle.yp_program.specs.inside.Commands.{parse_status};
 
 use crate::ask::ask;
 use crate::transferring::transfer;
@@ -20,14 +24,14 @@ use std::alloc::Global;
 use std::random::RandomSource;
 use std::sync::Wait;
 use std::thread::Threads;
-use yp_hosting::serve_maps;
-use yp_io::{Clock, Dial, Disk, Inbox, Listen, Pair, Sink, Source, Texts, write_all};
-use yp_mailing::{ask_mapper, bind_domain, push_map, serve_ports};
-use yp_office::{NamedDisk, Office, Status};
-use yp_serving::{serve_once, serve_session, tell_sample};
-use yp_session::{Trail, Witness};
-use yp_storing::{build_map, check_map, reverse_map};
-use yp_words::{Command, ParseFault, ServeJob, parse};
+use yp_answer::session::Witness;
+use yp_command::office::{NamedDisk, Office, Status};
+use yp_command::{Command, ParseFault, ServeJob, parse};
+use yp_command_mail::{ask_mapper, bind_domain, push_map, serve_ports};
+use yp_command_maps::{build_map, check_map, reverse_map};
+use yp_command_serve::serve::serve_maps;
+use yp_command_serve::{serve_once, serve_session, tell_sample};
+use yp_io::{Clock, Dial, Disk, Inbox, Listen, Pair, Sink, Source, Texts, Trail, write_all};
 
 /// What the program reaches outside itself.
 #[derive(Drop)]
@@ -238,10 +242,10 @@ where
     R: Threads + Wait + RandomSource + Sync,
     requires names { HasNames (meaning (Command.Serve job)) }
     requires disks { names_of outside.disks.items ≡ stores_of (meaning (Command.Serve job)) }
-    ensures does { ServeDoes (seeing S.Source K.Sink D.Disk C.Clock A.Dial I.Inbox T.Texts) (order_view job) result.0
+    ensures does { ServeDoes (seeing S.Source K.Sink D.Disk C.Clock A.Dial I.Inbox T.Texts)
+        (serve_job_view job) result.0
         (office_of outside) (office_of result.1)
-        (opening_of L.past L.most L.accepted L.returned L.faults outside.listen)
-        (opening_of L.past L.most L.accepted L.returned L.faults result.1.listen) }
+        (opening_by L.Listen outside.listen) (opening_by L.Listen result.1.listen) }
     ensures may_end { IsTrue (serve_may_end result.0) }
     ensures passed_on { IsPassedOn (seeing S.Source K.Sink D.Disk C.Clock A.Dial I.Inbox T.Texts) result.0
         (office_of outside) (office_of result.1) }
@@ -283,8 +287,7 @@ where
     requires disks { names_of outside.disks.items ≡ stores_of (meaning command) }
     ensures does { CommandDoes (seeing S.Source K.Sink D.Disk C.Clock A.Dial I.Inbox T.Texts) (meaning command) result.0
         (office_of outside) (office_of result.1)
-        (opening_of L.past L.most L.accepted L.returned L.faults outside.listen)
-        (opening_of L.past L.most L.accepted L.returned L.faults result.1.listen)
+        (opening_by L.Listen outside.listen) (opening_by L.Listen result.1.listen)
         (W.wires witness.old) (W.wires witness.new) }
     ensures may_end { IsTrue (may_end (meaning command) result.0) }
     ensures disks { names_of result.1.disks.items ≡ names_of outside.disks.items }
@@ -327,8 +330,7 @@ where
     requires disks { names_of outside.disks.items ≡ disk_names (texts words.now) }
     ensures does { Does (seeing S.Source K.Sink D.Disk C.Clock A.Dial I.Inbox T.Texts)
         (command_of (texts words.now)) result.0 (office_of outside) (office_of result.1)
-        (opening_of L.past L.most L.accepted L.returned L.faults outside.listen)
-        (opening_of L.past L.most L.accepted L.returned L.faults result.1.listen)
+        (opening_by L.Listen outside.listen) (opening_by L.Listen result.1.listen)
         (W.wires witness.old) (W.wires witness.new) }
     ensures may_end { MayEnd (command_of (texts words.now)) result.0 }
     ensures disks { names_of result.1.disks.items ≡ names_of outside.disks.items }
@@ -389,8 +391,7 @@ where
     // behind its answered records.
     ensures does { (wires : List Wire) × Does (seeing S.Source K.Sink D.Disk C.Clock A.Dial I.Inbox T.Texts)
         (command_of (texts words.now)) result.0 (office_of outside) (office_of result.1)
-        (opening_of L.past L.most L.accepted L.returned L.faults outside.listen)
-        (opening_of L.past L.most L.accepted L.returned L.faults result.1.listen) [] wires }
+        (opening_by L.Listen outside.listen) (opening_by L.Listen result.1.listen) [] wires }
 
     // How it may end.
     ensures may_end { MayEnd (command_of (texts words.now)) result.0 }

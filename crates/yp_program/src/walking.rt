@@ -1,20 +1,20 @@
 //! The command `walk`, and what its source showed.
 
 ghost use Rattle.std.specs.Prelude.{IsTrue};
-ghost use Rattle.yp_office.specs.Disks.{names_of};
-ghost use Rattle.yp_office.specs.Seeing.{seeing, IsPassedOn};
-ghost use Rattle.yp_office.specs.Status.{IsTellable};
-ghost use Rattle.yp_storing.specs.Xfr.{order_view, IsReady};
-ghost use Rattle.yp_walking.specs.Walk.{walk_may_end};
-ghost use Rattle.yp_tools.specs.Walking.{WalkingDoes};
+ghost use Rattle.yp_command.specs.office.Disks.{names_of};
+ghost use Rattle.yp_command.specs.office.Seeing.{seeing, IsPassedOn};
+ghost use Rattle.yp_command.specs.inside.office.Status.{IsTellable};
+ghost use Rattle.yp_command_maps.specs.inside.Xfr.{xfr_job_view, IsReady};
+ghost use Rattle.yp_command_maps.specs.walk.Walk.{walk_may_end};
+ghost use Rattle.yp_program.specs.Walking.{WalkingDoes};
 
 use std::alloc::Global;
 use std::random::RandomSource;
+use yp_command::WalkJob;
+use yp_command::office::{Office, Status};
+use yp_command_maps::walk::walk_map;
+use yp_end_to_end::walk::laws::{delivered_is_of_source, delivered_is_whole, delivered_skews};
 use yp_io::{Clock, Dial, Disk, Inbox, Sink, Source, Texts};
-use yp_office::{Office, Status};
-use yp_walked::laws::{delivered_is_of_source, delivered_is_whole, delivered_skews};
-use yp_walking::walk_map;
-use yp_words::WalkJob;
 
 /// Fetches the only map from a host row by row in datagrams, stores it on the only disk, and tells what was stored.
 pub fn walk<S: Source, K: Sink, D: Disk, C: Clock, A: Dial, I: Inbox, T: Texts, R: RandomSource>(
@@ -23,9 +23,9 @@ pub fn walk<S: Source, K: Sink, D: Disk, C: Clock, A: Dial, I: Inbox, T: Texts, 
     job: WalkJob,
     office: &mut Office<S, K, D, C, A, I, T>,
 ) -> Status
-    requires { IsReady (order_view job.xfr) (names_of office.old.disks.items) }
+    requires { IsReady (xfr_job_view job.xfr) (names_of office.old.disks.items) }
     ensures does { WalkingDoes (seeing S.Source K.Sink D.Disk C.Clock A.Dial I.Inbox T.Texts)
-        (order_view job.xfr) job.turns result office.old office.new }
+        (xfr_job_view job.xfr) job.turns result office.old office.new }
     ensures may_end { IsTrue (walk_may_end result) }
     ensures passed_on { IsPassedOn (seeing S.Source K.Sink D.Disk C.Clock A.Dial I.Inbox T.Texts)
         result office.old office.new }

@@ -6,8 +6,9 @@ use Rattle.std.proofs.lemmas.Bool.{ne_eqb, cases_eq}
 use Rattle.std.specs.List.{All}
 use Rattle.yp_version.specs.Versions.{MapVersion}
 use Rattle.yp_board.specs.Logs.{Log, starts}
-use Rattle.yp_publish.specs.Standing.{MapStanding, Level}
-use Rattle.yp_publish.specs.Rising.{orders, IsStart}
+use Rattle.yp_publisher.specs.Standing.{MapStanding, Level}
+use Rattle.yp_publisher.specs.Rising.{orders}
+use Rattle.yp_publisher.specs.inside.Rising.{IsStart}
 
 -- what is shown of a map once a log was added
 abbrev after : ℕ → Option MapVersion → Log → Option MapVersion

@@ -6,20 +6,20 @@ use Rattle.std.proofs.lemmas.Option.{slice_get_within}
 use Rattle.yp_io.specs.Counts.{HasRisen}
 use Rattle.yp_io.specs.Disk.{History, IsReadAnImage}
 use Rattle.yp_version.specs.Versions.{MapVersion}
-use Rattle.yp_slot.specs.Laws.{FileIsBounded}
-use Rattle.yp_slot.specs.declared.fault.SlotFault.{SlotFault}
+use Rattle.yp_map_file.specs.inside.Laws.{FileIsBounded}
+use Rattle.yp_map_file.specs.declared.fault.SlotFault.{SlotFault}
 use Rattle.yp_board.specs.Catalogues.{Catalogue}
 use Rattle.yp_board.specs.Logs.{Log}
-use Rattle.yp_publish.specs.declared.install.InstallFault.{InstallFault}
-use Rattle.yp_publish.specs.declared.install.InstallFault.TheVariants as fault
-use Rattle.yp_publish.specs.Standing.{Level, Kept, Published, IsStanding, IsNumbered, OfMap, At, Shows, versions}
-use Rattle.yp_publish.specs.Keeping.{Keeping, LeavesFew, Upholds, IsNotShown}
-use Rattle.yp_publish.specs.Opens.{LeavesNoMore, IsAnother, IsWhatStood, StandsMeanwhile, Opens, IsOpenCause}
-use Rattle.yp_publish.specs.Opens.{IsStillBehind, StaysBehind}
-use Rattle.yp_publish.specs.Installs.{Offer, IsCause, IsUnopposed, IsUnsure, IsUnshown, Leaves, install_refusal}
-use Rattle.yp_publish.specs.Rising.{with_shown, moment_of, Reopens}
-use Rattle.yp_publish.proofs.Moments.{weaker, few}
-use Rattle.yp_publish.proofs.Maps.{of_read, of_set, at_set, at_same, elsewhere_set, put_back, Reshown, reopens_done}
+use Rattle.yp_publisher.specs.declared.install.InstallFault.{InstallFault}
+use Rattle.yp_publisher.specs.declared.install.InstallFault.TheVariants as fault
+use Rattle.yp_publisher.specs.Standing.{Level, StoredMap, Published, IsStanding, IsNumbered, OfMap, At, Shows, versions}
+use Rattle.yp_publisher.specs.Keeping.{Keeping, LeavesFew, Upholds, IsNotShown}
+use Rattle.yp_publisher.specs.Opens.{LeavesNoMore, IsAnother, IsWhatStood, StandsMeanwhile, Opens, IsOpenCause}
+use Rattle.yp_publisher.specs.Opens.{IsStillBehind, StaysBehind}
+use Rattle.yp_publisher.specs.Installs.{OfferedVersion, IsInstallCause, IsUnopposed, IsUnsure, IsUnshown, FaultLeaves, install_refusal}
+use Rattle.yp_publisher.specs.Rising.{with_shown, publisher_state, Reopens}
+use Rattle.yp_publisher.proofs.Moments.{weaker, few}
+use Rattle.yp_publisher.proofs.Maps.{of_read, of_set, at_set, at_same, elsewhere_set, put_back, Reshown, reopens_done}
 
 -- ---- results
 
@@ -39,44 +39,44 @@ if_some (Some x) f h = f x h
 -- ---- what a map's own reopening says
 
 -- nothing was shown, or a version other than the one that was shown
-abbrev pub Told : {D B : Type 0} → (D → Option History) → (B → Log) → (ℕ → MapVersion → B → B → Type 0) → ℕ → Kept D
-    → Kept D → B → B → Type 0
+abbrev pub Told : {D B : Type 0} → (D → Option History) → (B → Log) → (ℕ → MapVersion → B → B → Type 0) → ℕ → StoredMap D
+    → StoredMap D → B → B → Type 0
 Told history log showed n x y board after =
     ((after ≡ board) × (y.version ≡ x.version))
     ⊎ ((version : MapVersion) × IsAnother version x y × (log after ≡ with_shown n version (log board))
     × showed n version board after)
 
 pub reshown : {D B : Type 0} (history : D → Option History) (log : B → Log) (showed : ℕ → MapVersion → B → B
-    → Type 0) (n : ℕ) (x y : Kept D) (board after : B)
+    → Type 0) (n : ℕ) (x y : StoredMap D) (board after : B)
     → Told history log showed n x y board after → Reshown n (log board) (log after) x y
 reshown history log showed n x y board after h =
     elim h [ inl kept ↦ inl (ap log kept.0, kept.1) | inr more ↦ inr (more.0, more.1, more.2) ]
 
 -- the same without what it does to the whole board
-abbrev pub Shown : {D B : Type 0} → (B → Log) → ℕ → Kept D → Kept D → B → B → Type 0
+abbrev pub Shown : {D B : Type 0} → (B → Log) → ℕ → StoredMap D → StoredMap D → B → B → Type 0
 Shown log n x y board after =
     ((after ≡ board) × (y.version ≡ x.version))
     ⊎ ((version : MapVersion) × IsAnother version x y × (log after ≡ with_shown n version (log board)))
 
 pub shown_of : {D B : Type 0} (history : D → Option History) (log : B → Log) (showed : ℕ → MapVersion → B → B
-    → Type 0) (n : ℕ) (x y : Kept D) (board after : B)
+    → Type 0) (n : ℕ) (x y : StoredMap D) (board after : B)
     → Told history log showed n x y board after → Shown log n x y board after
 shown_of history log showed n x y board after h =
     elim h [ inl kept ↦ inl kept | inr more ↦ inr (more.0, more.1, more.2) ]
 
-pub still_version : {D T : Type 0} (history : D → Option History) (r : Result T SlotFault) (x y : Kept D)
+pub still_version : {D T : Type 0} (history : D → Option History) (r : Result T SlotFault) (x y : StoredMap D)
     → IfErr r (λ why. IsStillBehind history why x y) → OnErr r (y.version ≡ x.version)
 still_version history (Ok t) x y h = tt
-still_version {D} history (Err why) x y h = ap (λ (k : Kept D). k.version) h.same
+still_version {D} history (Err why) x y h = ap (λ (k : StoredMap D). k.version) h.same
 
-pub not_level : {D T : Type 0} (r : Result T SlotFault) (x : Kept D) → (x.standing ≡ Level → IsOk r)
+pub not_level : {D T : Type 0} (r : Result T SlotFault) (x : StoredMap D) → (x.standing ≡ Level → IsOk r)
     → IfErr r (λ why. x.standing ≢ Level)
 not_level (Ok t) x h = tt
 not_level (Err why) x h = λ e. (let no = h e in cc)
 
 -- ---- a map that is as it was
 
-pub upheld_same : {D B : Type 0} (keeping : Keeping D B) (published : Published D B) (n : ℕ) (x : Kept D)
+pub upheld_same : {D B : Type 0} (keeping : Keeping D B) (published : Published D B) (n : ℕ) (x : StoredMap D)
     → slice_get published.maps n ≡ Some x
     → IsStanding keeping.history x → IsNumbered keeping.history x → LeavesFew keeping.history x x
     → Shows (keeping.log published.board) (versions published.maps)
@@ -94,7 +94,7 @@ upheld_same keeping published n x there standing numbered bound shows = record {
 
 -- ---- a map that was changed
 
-module _ {D B : Type 0} (keeping : Keeping D B) (catalogue : Catalogue) (maps : List (Kept D)) (n : ℕ) (x y : Kept D)
+module _ {D B : Type 0} (keeping : Keeping D B) (catalogue : Catalogue) (maps : List (StoredMap D)) (n : ℕ) (x y : StoredMap D)
     (board after : B) (there : slice_get maps n ≡ Some x) where
   abbrev pub old : Published D B
   old = record { catalogue = catalogue; maps = maps; board = board }
@@ -102,7 +102,7 @@ module _ {D B : Type 0} (keeping : Keeping D B) (catalogue : Catalogue) (maps : 
   abbrev pub new : Published D B
   new = record { catalogue = catalogue; maps = slice_set maps n y; board = after }
 
-  pub at : (P : Kept D → Kept D → Type 0) → P x y → At n maps (slice_set maps n y) P
+  pub at : (P : StoredMap D → StoredMap D → Type 0) → P x y → At n maps (slice_set maps n y) P
   at P p = at_set P maps maps n x y refl there p
 
   pub upheld : IsStanding keeping.history y → IsNumbered keeping.history y
@@ -144,18 +144,18 @@ module _ {D B : Type 0} (keeping : Keeping D B) (catalogue : Catalogue) (maps : 
         × (keeping.log after ≡ with_shown n version (keeping.log board)))) shown;
     meanwhile = meanwhile before more;
     rising = of_read (λ kept. IsSome (keeping.history kept.disk)
-        → Reopens n (moment_of keeping.log old) (moment_of keeping.log new)) maps n x there (λ told. rises told);
+        → Reopens n (publisher_state keeping.log old) (publisher_state keeping.log new)) maps n x there (λ told. rises told);
   } where
     unchanged : (y ≡ x) × (after ≡ board) → new ≡ old
     unchanged e =
-        ap (λ (l : List (Kept D)). record { catalogue = catalogue; maps = l; board = after })
+        ap (λ (l : List (StoredMap D)). record { catalogue = catalogue; maps = l; board = after })
         (put_back maps n x y there e.0)
         ∙ ap (λ (b : B). record { catalogue = catalogue; maps = maps; board = b }) e.1
 
-    rises : IsSome (keeping.history x.disk) → Reopens n (moment_of keeping.log old) (moment_of keeping.log new)
+    rises : IsSome (keeping.history x.disk) → Reopens n (publisher_state keeping.log old) (publisher_state keeping.log new)
     rises told =
         reopens_done keeping.history (keeping.log board) (keeping.log after) maps n x y x.standing refl there
-        (λ e. (let s = same e in (ap (λ (k : Kept D). k.standing) s.0, ap keeping.log s.1))) level
+        (λ e. (let s = same e in (ap (λ (k : StoredMap D). k.standing) s.0, ap keeping.log s.1))) level
         (elim shown [ inl kept ↦ inl (ap keeping.log kept.0, kept.1) | inr more ↦ inr more ]) stood before reads told
 
   pub stayed : (why : SlotFault) → Upholds keeping n old new → x.standing ≢ Level
@@ -172,9 +172,9 @@ module _ {D B : Type 0} (keeping : Keeping D B) (catalogue : Catalogue) (maps : 
 
 -- ---- what a fault leaves
 
-pub leaves_all : {D B : Type 0} (keeping : Keeping D B) (number : ℕ) (offered : Offer) (why : InstallFault)
+pub leaves_all : {D B : Type 0} (keeping : Keeping D B) (number : ℕ) (offered : OfferedVersion) (why : InstallFault)
     (published : Published D B) → (why ≡ fault.DiskFault → ⊥)
-    → Leaves keeping number offered why published published
+    → FaultLeaves keeping number offered why published published
 leaves_all keeping number offered fault.Behind published early = refl
 leaves_all keeping number offered (fault.Refused master) published early = refl
 leaves_all keeping number offered (fault.Age shown order) published early = refl
@@ -183,33 +183,33 @@ leaves_all keeping number offered fault.DiskFault published early = absurd (earl
 leaves_all keeping number offered fault.NoMemory published early = inl refl
 
 -- where nothing stood against it
-pub leaves_late : {D B : Type 0} (keeping : Keeping D B) (number : ℕ) (offered : Offer) (why : InstallFault)
+pub leaves_late : {D B : Type 0} (keeping : Keeping D B) (number : ℕ) (offered : OfferedVersion) (why : InstallFault)
     (old new : Published D B) → (why ≡ fault.DiskFault) ⊎ (why ≡ fault.NoMemory)
     → IsUnopposed number offered old
     → (why ≡ fault.DiskFault → At number old.maps new.maps
     (λ before after. HasRisen (keeping.faults before.disk) (keeping.faults after.disk)))
     → (why ≡ fault.DiskFault → At number old.maps new.maps (IsUnsure offered.version))
     → (why ≡ fault.NoMemory → At number old.maps new.maps (IsUnshown offered.version)) → IsNotShown old new
-    → Leaves keeping number offered why old new
+    → FaultLeaves keeping number offered why old new
 leaves_late keeping number offered why old new late unopposed risen unsure unshown not_shown = elim late [
-  | inl e ↦ subst (λ (f : InstallFault). Leaves keeping number offered f old new) (sym e) (record {
+  | inl e ↦ subst (λ (f : InstallFault). FaultLeaves keeping number offered f old new) (sym e) (record {
     cause = risen e;
     behind = unsure e;
     not_shown = not_shown;
   })
-  | inr e ↦ subst (λ (f : InstallFault). Leaves keeping number offered f old new) (sym e)
+  | inr e ↦ subst (λ (f : InstallFault). FaultLeaves keeping number offered f old new) (sym e)
       (inr (record { unopposed = unopposed; behind = unshown e; not_shown = not_shown }))
 ]
 
 -- its cause is that nothing stood against it
-pub no_cause_late : {D B : Type 0} (number : ℕ) (offered : Offer) (why : InstallFault) (old : Published D B)
+pub no_cause_late : {D B : Type 0} (number : ℕ) (offered : OfferedVersion) (why : InstallFault) (old : Published D B)
     → (why ≡ fault.DiskFault) ⊎ (why ≡ fault.NoMemory)
     → IsUnopposed number offered old
-    → OfMap number old.maps (λ kept. IsCause why (install_refusal old.catalogue.own offered kept))
+    → OfMap number old.maps (λ kept. IsInstallCause why (install_refusal old.catalogue.own offered kept))
 no_cause_late number offered why old late unopposed = elim late [
   | inl e ↦ subst (λ (f : InstallFault). OfMap number old.maps
-      (λ kept. IsCause f (install_refusal old.catalogue.own offered kept))) (sym e) unopposed
+      (λ kept. IsInstallCause f (install_refusal old.catalogue.own offered kept))) (sym e) unopposed
   | inr e ↦ subst (λ (f : InstallFault). OfMap number old.maps
-      (λ kept. IsCause f (install_refusal old.catalogue.own offered kept))) (sym e)
+      (λ kept. IsInstallCause f (install_refusal old.catalogue.own offered kept))) (sym e)
       (if_some (slice_get old.maps number) (λ kept none. inl none) unopposed)
 ]

@@ -10,15 +10,15 @@ use Rattle.std.proofs.lemmas.Bool.{ne_eqb, cases_eq}
 use Rattle.std.proofs.Math.Seq.{map-set_same}
 use Rattle.yp_io.specs.Disk.{History, MayLeave, IsReadAnImage}
 use Rattle.yp_version.specs.Versions.{MapVersion}
-use Rattle.yp_slot.specs.Stands.{Stored, stands}
+use Rattle.yp_map_file.specs.Stands.{Stored, stands}
 use Rattle.yp_board.specs.Logs.{Log, shown}
-use Rattle.yp_publish.specs.Standing.{MapStanding, Level, Behind, Kept, StandsAs, IsStanding, stands_for, OfMap, At}
-use Rattle.yp_publish.specs.Standing.{IsSameElsewhere, versions, Shows}
-use Rattle.yp_publish.specs.Starts.{IsPublisher}
-use Rattle.yp_publish.specs.Opens.{IsAnother, IsWhatStood}
-use Rattle.yp_publish.specs.Rising.{Stores, Reopens, with_shown}
-use Rattle.yp_publish.proofs.Moments.{was_failed}
-use Rattle.yp_publish.proofs.Lists.{get_set, get_set_other}
+use Rattle.yp_publisher.specs.Standing.{MapStanding, Level, Behind, StoredMap, StandsAs, IsStanding, stands_for, OfMap, At}
+use Rattle.yp_publisher.specs.Standing.{IsSameElsewhere, versions, Shows}
+use Rattle.yp_publisher.specs.inside.Starts.{IsPublisher}
+use Rattle.yp_publisher.specs.Opens.{IsAnother, IsWhatStood}
+use Rattle.yp_publisher.specs.Rising.{Stores, Reopens, with_shown}
+use Rattle.yp_publisher.proofs.Moments.{was_failed}
+use Rattle.yp_publisher.proofs.Lists.{get_set, get_set_other}
 
 -- ---- results
 
@@ -41,39 +41,39 @@ if_err (Err e) f h = f e h
 -- ---- one map
 
 -- the map that the code looks at
-pub read_map : {D : Type 0} (now maps : List (Kept D)) (n : ℕ) (x : Kept D) → maps ≡ now → n < length now
+pub read_map : {D : Type 0} (now maps : List (StoredMap D)) (n : ℕ) (x : StoredMap D) → maps ≡ now → n < length now
     → x ≡ get_or maps n x → slice_get now n ≡ Some x
 read_map now maps n x same lt is = slice_get_read now (length now) n x refl lt (is
-    ∙ ap (λ (l : List (Kept _)). get_or l n x) same)
+    ∙ ap (λ (l : List (StoredMap _)). get_or l n x) same)
 
-pub of_read : {D : Type 0} (Q : Kept D → Type 0) (now : List (Kept D)) (n : ℕ) (x : Kept D) → slice_get now n ≡ Some x
+pub of_read : {D : Type 0} (Q : StoredMap D → Type 0) (now : List (StoredMap D)) (n : ℕ) (x : StoredMap D) → slice_get now n ≡ Some x
     → Q x → OfMap n now Q
-of_read {D} Q now n x there q = subst (λ (o : Option (Kept D)). IfSome o Q) (sym there) q
+of_read {D} Q now n x there q = subst (λ (o : Option (StoredMap D)). IfSome o Q) (sym there) q
 
-pub of_at : {D : Type 0} (Q : Kept D → Type 0) (now : List (Kept D)) (n : ℕ) (x : Kept D) → slice_get now n ≡ Some x
+pub of_at : {D : Type 0} (Q : StoredMap D → Type 0) (now : List (StoredMap D)) (n : ℕ) (x : StoredMap D) → slice_get now n ≡ Some x
     → OfMap n now Q → Q x
-of_at {D} Q now n x there q = subst (λ (o : Option (Kept D)). IfSome o Q) there q
+of_at {D} Q now n x there q = subst (λ (o : Option (StoredMap D)). IfSome o Q) there q
 
-pub of_set : {D : Type 0} (Q : Kept D → Type 0) (maps : List (Kept D)) (n : ℕ) (y : Kept D) → n < length maps → Q y
+pub of_set : {D : Type 0} (Q : StoredMap D → Type 0) (maps : List (StoredMap D)) (n : ℕ) (y : StoredMap D) → n < length maps → Q y
     → OfMap n (slice_set maps n y) Q
 of_set Q maps n y lt q = of_read Q (slice_set maps n y) n y (get_set maps n y lt) q
 
-pub at_set : {D : Type 0} (P : Kept D → Kept D → Type 0) (now maps : List (Kept D)) (n : ℕ) (x y : Kept D) → maps ≡ now
+pub at_set : {D : Type 0} (P : StoredMap D → StoredMap D → Type 0) (now maps : List (StoredMap D)) (n : ℕ) (x y : StoredMap D) → maps ≡ now
     → slice_get now n ≡ Some x → P x y → At n now (slice_set maps n y) P
 at_set {D} P now maps n x y same there p =
-    let lt : n < length maps = subst (λ (l : List (Kept D)). n < length l) (sym same) (slice_get_within now n x there)
+    let lt : n < length maps = subst (λ (l : List (StoredMap D)). n < length l) (sym same) (slice_get_within now n x there)
     in
     of_read (λ before. OfMap n (slice_set maps n y) (P before)) now n x there (of_set (P x) maps n y lt p)
 
-pub at_same : {D : Type 0} (P : Kept D → Kept D → Type 0) (now : List (Kept D)) (n : ℕ) (x : Kept D)
+pub at_same : {D : Type 0} (P : StoredMap D → StoredMap D → Type 0) (now : List (StoredMap D)) (n : ℕ) (x : StoredMap D)
     → slice_get now n ≡ Some x → P x x → At n now now P
 at_same P now n x there p = of_read (λ before. OfMap n now (P before)) now n x there (of_read (P x) now n x there p)
 
-pub elsewhere_set : {D : Type 0} (now maps : List (Kept D)) (n : ℕ) (y : Kept D) → maps ≡ now
+pub elsewhere_set : {D : Type 0} (now maps : List (StoredMap D)) (n : ℕ) (y : StoredMap D) → maps ≡ now
     → IsSameElsewhere n now (slice_set maps n y)
 elsewhere_set {D} now maps n y same = record {
   count = length-set maps n y ∙ ap length same;
-  others = λ other ne. get_set_other maps n other y ne ∙ ap (λ (l : List (Kept D)). slice_get l other) same;
+  others = λ other ne. get_set_other maps n other y ne ∙ ap (λ (l : List (StoredMap D)). slice_get l other) same;
 }
 
 -- ---- what is shown
@@ -93,12 +93,12 @@ shown_other n other version log ne =
     else so_far) None log ((n, version) ∷ []) ∙ rw e refl
 
 -- the version that is kept of a map, after one was changed
-version_at : {D : Type 0} (maps : List (Kept D)) (n : ℕ) (y : Kept D) (number : ℕ) → n < length maps
+version_at : {D : Type 0} (maps : List (StoredMap D)) (n : ℕ) (y : StoredMap D) (number : ℕ) → n < length maps
     → ((number ≡ n) × (slice_index_or (versions (slice_set maps n y)) number None ≡ y.version))
     ⊎ ((number ≢ n) × (slice_index_or (versions (slice_set maps n y)) number None ≡
     slice_index_or (versions maps) number None))
 version_at {D} maps n y number lt =
-    let f : Kept D → Option MapVersion = λ kept. kept.version in
+    let f : StoredMap D → Option MapVersion = λ kept. kept.version in
     let e : versions (slice_set maps n y) ≡ set (versions maps) n y.version = map-set f maps n y in
     let within : n < length (versions maps) = subst (λ (k : ℕ). n < k) (sym (length-map maps f)) lt in
     elim (cases_eq number n) [
@@ -115,7 +115,7 @@ version_at {D} maps n y number lt =
       )
     ]
 
-pub shows_more : {D : Type 0} (log : Log) (maps : List (Kept D)) (n : ℕ) (y : Kept D) (version : MapVersion)
+pub shows_more : {D : Type 0} (log : Log) (maps : List (StoredMap D)) (n : ℕ) (y : StoredMap D) (version : MapVersion)
     → n < length maps → y.version ≡ Some version
     → Shows log (versions maps) → Shows (with_shown n version log) (versions (slice_set maps n y))
 shows_more log maps n y version lt is shows = λ number. elim (version_at maps n y number lt) [
@@ -124,13 +124,13 @@ shows_more log maps n y version lt is shows = λ number. elim (version_at maps n
   | inr other ↦ shown_other n number version log other.0 ∙ shows number ∙ sym other.1
 ]
 
-pub shows_same : {D : Type 0} (log : Log) (maps : List (Kept D)) (n : ℕ) (x y : Kept D) → slice_get maps n ≡ Some x
+pub shows_same : {D : Type 0} (log : Log) (maps : List (StoredMap D)) (n : ℕ) (x y : StoredMap D) → slice_get maps n ≡ Some x
     → y.version ≡ x.version
     → Shows log (versions maps) → Shows log (versions (slice_set maps n y))
 shows_same {D} log maps n x y there is shows =
     λ number. elim (version_at maps n y number (slice_get_within maps n x there)) [
       | inl same ↦
-          let f : Kept D → Option MapVersion = λ kept. kept.version in
+          let f : StoredMap D → Option MapVersion = λ kept. kept.version in
           let here : slice_get (versions maps) n ≡ Some x.version = slice_get-map f maps n ∙ ap (option_map f) there in
           let old : get_or (versions maps) n None ≡ x.version =
           get_or_from_slice_get (versions maps) n x.version None here in
@@ -139,7 +139,7 @@ shows_same {D} log maps n x y there is shows =
     ]
 
 -- the same after a call that shows a version where it is Ok
-pub shows_after : {D E T : Type 0} (r : Result T E) (log after : Log) (maps : List (Kept D)) (n : ℕ) (x y : Kept D)
+pub shows_after : {D E T : Type 0} (r : Result T E) (log after : Log) (maps : List (StoredMap D)) (n : ℕ) (x y : StoredMap D)
     (version : MapVersion) → slice_get maps n ≡ Some x
     → OnOk r (after ≡ with_shown n version log) → OnErr r (after ≡ log) → OnOk r (y.version ≡ Some version)
     → OnErr r (y.version ≡ x.version)
@@ -151,12 +151,12 @@ shows_after {D} (Err e) log after maps n x y version there more same new kept sh
     subst (λ (l : Log). Shows l (versions (slice_set maps n y))) (sym same) (shows_same log maps n x y there kept shows)
 
 -- what a reopen shows: nothing, or a version other than the one that was shown
-abbrev pub Reshown : {D : Type 0} → ℕ → (log after : Log) → Kept D → Kept D → Type 0
+abbrev pub Reshown : {D : Type 0} → ℕ → (log after : Log) → StoredMap D → StoredMap D → Type 0
 Reshown n log after x y =
     ((after ≡ log) × (y.version ≡ x.version))
     ⊎ ((version : MapVersion) × IsAnother version x y × (after ≡ with_shown n version log))
 
-pub shows_reopened : {D T E : Type 0} (r : Result T E) (log after : Log) (maps : List (Kept D)) (n : ℕ) (x y : Kept D)
+pub shows_reopened : {D T E : Type 0} (r : Result T E) (log after : Log) (maps : List (StoredMap D)) (n : ℕ) (x y : StoredMap D)
     → slice_get maps n ≡ Some x
     → OnOk r (Reshown n log after x y) → OnErr r (after ≡ log) → OnErr r (y.version ≡ x.version)
     → Shows log (versions maps) → Shows after (versions (slice_set maps n y))
@@ -173,51 +173,51 @@ shows_reopened {D} (Err e) log after maps n x y there ok unshown kept shows =
 
 -- ---- what steps a log makes
 
-standings_set : {D : Type 0} (maps : List (Kept D)) (n : ℕ) (y : Kept D) (standing : MapStanding)
+standings_set : {D : Type 0} (maps : List (StoredMap D)) (n : ℕ) (y : StoredMap D) (standing : MapStanding)
     → y.standing ≡ standing
-    → map (λ (kept : Kept D). kept.standing) (slice_set maps n y) ≡
-    slice_set (map (λ (kept : Kept D). kept.standing) maps) n standing
+    → map (λ (kept : StoredMap D). kept.standing) (slice_set maps n y) ≡
+    slice_set (map (λ (kept : StoredMap D). kept.standing) maps) n standing
 standings_set {D} maps n y standing is =
-    map-set (λ (kept : Kept D). kept.standing) maps n y
-    ∙ ap (λ (s : MapStanding). set (map (λ (kept : Kept D). kept.standing) maps) n s) is
+    map-set (λ (kept : StoredMap D). kept.standing) maps n y
+    ∙ ap (λ (s : MapStanding). set (map (λ (kept : StoredMap D). kept.standing) maps) n s) is
 
-pub standing_there : {D : Type 0} (maps : List (Kept D)) (n : ℕ) (x : Kept D) → slice_get maps n ≡ Some x
-    → slice_get (map (λ (kept : Kept D). kept.standing) maps) n ≡ Some x.standing
-standing_there {D} maps n x there = slice_get-map (λ (kept : Kept D). kept.standing) maps n
-    ∙ ap (option_map (λ (kept : Kept D). kept.standing)) there
+pub standing_there : {D : Type 0} (maps : List (StoredMap D)) (n : ℕ) (x : StoredMap D) → slice_get maps n ≡ Some x
+    → slice_get (map (λ (kept : StoredMap D). kept.standing) maps) n ≡ Some x.standing
+standing_there {D} maps n x there = slice_get-map (λ (kept : StoredMap D). kept.standing) maps n
+    ∙ ap (option_map (λ (kept : StoredMap D). kept.standing)) there
 
 -- a level map that stays level
-standings_same : {D : Type 0} (maps : List (Kept D)) (n : ℕ) (x y : Kept D) → slice_get maps n ≡ Some x
+standings_same : {D : Type 0} (maps : List (StoredMap D)) (n : ℕ) (x y : StoredMap D) → slice_get maps n ≡ Some x
     → y.standing ≡ x.standing
-    → map (λ (kept : Kept D). kept.standing) (slice_set maps n y) ≡ map (λ (kept : Kept D). kept.standing) maps
+    → map (λ (kept : StoredMap D). kept.standing) (slice_set maps n y) ≡ map (λ (kept : StoredMap D). kept.standing) maps
 standings_same {D} maps n x y there is =
-    map-set_same (λ (kept : Kept D). kept.standing) maps n y x (is
-    ∙ ap (λ (kept : Kept D). kept.standing) (sym (get_or_from_slice_get maps n x x there)))
+    map-set_same (λ (kept : StoredMap D). kept.standing) maps n y x (is
+    ∙ ap (λ (kept : StoredMap D). kept.standing) (sym (get_or_from_slice_get maps n x x there)))
 
 -- the step that an install makes
-pub stores_after : {D E T : Type 0} (r : Result T E) (log after : Log) (maps : List (Kept D)) (n : ℕ) (x y : Kept D)
+pub stores_after : {D E T : Type 0} (r : Result T E) (log after : Log) (maps : List (StoredMap D)) (n : ℕ) (x y : StoredMap D)
     (version : MapVersion) → slice_get maps n ≡ Some x → x.standing ≡ Level
     → OnOk r (after ≡ with_shown n version log) → OnErr r (after ≡ log) → OnOk r (y.standing ≡ Level)
     → OnErr r (y.standing ≡ Behind version)
-    → Stores n version (record { log = log; standings = map (λ (kept : Kept D). kept.standing) maps })
-    (record { log = after; standings = map (λ (kept : Kept D). kept.standing) (slice_set maps n y) })
+    → Stores n version (record { log = log; standings = map (λ (kept : StoredMap D). kept.standing) maps })
+    (record { log = after; standings = map (λ (kept : StoredMap D). kept.standing) (slice_set maps n y) })
 stores_after {D} (Ok t) log after maps n x y version there level more same new kept = (
   standing_there maps n x there ∙ ap (λ (s : MapStanding). Some s) level,
-  inl (ap (λ (l : Log). record { log = l; standings = map (λ (kept : Kept D). kept.standing) (slice_set maps n y) })
+  inl (ap (λ (l : Log). record { log = l; standings = map (λ (kept : StoredMap D). kept.standing) (slice_set maps n y) })
       more
       ∙ ap (λ (l : List MapStanding). record { log = with_shown n version log; standings = l })
       (standings_same maps n x y there (new ∙ sym level))),
 )
 stores_after {D} (Err e) log after maps n x y version there level more same new kept = (
   standing_there maps n x there ∙ ap (λ (s : MapStanding). Some s) level,
-  inr (ap (λ (l : Log). record { log = l; standings = map (λ (kept : Kept D). kept.standing) (slice_set maps n y) })
+  inr (ap (λ (l : Log). record { log = l; standings = map (λ (kept : StoredMap D). kept.standing) (slice_set maps n y) })
       same
       ∙ ap (λ (l : List MapStanding). record { log = log; standings = l })
       (standings_set maps n y (Behind version) kept)),
 )
 
 -- what holds of a publisher holds after a map was changed, where the board shows that
-pub publisher_set : {D : Type 0} (maps : List (Kept D)) (n : ℕ) (y : Kept D) (names : ℕ) (log after : Log)
+pub publisher_set : {D : Type 0} (maps : List (StoredMap D)) (n : ℕ) (y : StoredMap D) (names : ℕ) (log after : Log)
     (board_maps board_maps_after capacity : ℕ) → IsPublisher maps names log board_maps capacity
     → board_maps_after ≡ board_maps → Shows after (versions (slice_set maps n y))
     → IsPublisher (slice_set maps n y) names after board_maps_after capacity
@@ -229,17 +229,17 @@ publisher_set maps n y names log after board_maps board_maps_after capacity is s
 }
 
 -- what is put back where it stood
-pub put_back : {D : Type 0} (maps : List (Kept D)) (n : ℕ) (x y : Kept D) → slice_get maps n ≡ Some x → y ≡ x
+pub put_back : {D : Type 0} (maps : List (StoredMap D)) (n : ℕ) (x y : StoredMap D) → slice_get maps n ≡ Some x → y ≡ x
     → slice_set maps n y ≡ maps
 put_back {D} maps n x y there same =
-    ap (λ (k : Kept D). slice_set maps n k) (same ∙ sym (get_or_from_slice_get maps n x x there)) ∙ set-get_or maps n x
+    ap (λ (k : StoredMap D). slice_set maps n k) (same ∙ sym (get_or_from_slice_get maps n x x there)) ∙ set-get_or maps n x
 
-abbrev pub standings : {D : Type 0} → List (Kept D) → List MapStanding
-standings {D} maps = map (λ (kept : Kept D). kept.standing) maps
+abbrev pub standings : {D : Type 0} → List (StoredMap D) → List MapStanding
+standings {D} maps = map (λ (kept : StoredMap D). kept.standing) maps
 
 -- the step that a reopen makes
 pub reopens_done : {D : Type 0} (H : D
-    → Option History) (log after : Log) (maps : List (Kept D)) (n : ℕ) (x y : Kept D) (standing : MapStanding)
+    → Option History) (log after : Log) (maps : List (StoredMap D)) (n : ℕ) (x y : StoredMap D) (standing : MapStanding)
     → x.standing ≡ standing → slice_get maps n ≡ Some x
     → (x.standing ≡ Level → (y.standing ≡ x.standing) × (after ≡ log)) → y.standing ≡ Level → Reshown n log after x y
     → (x.standing ≢ Level → IsWhatStood H x.disk y)
@@ -277,7 +277,7 @@ reopens_done {D} H log after maps n x y (Behind failed) is there level now shown
     )
 
 pub reopens_after : {D T E : Type 0} (H : D
-    → Option History) (r : Result T E) (log after : Log) (maps : List (Kept D)) (n : ℕ) (x y : Kept D)
+    → Option History) (r : Result T E) (log after : Log) (maps : List (StoredMap D)) (n : ℕ) (x y : StoredMap D)
     → slice_get maps n ≡ Some x
     → (x.standing ≡ Level → (y.standing ≡ x.standing) × (after ≡ log)) → OnOk r (y.standing ≡ Level)
     → OnOk r (Reshown n log after x y) → OnOk r (x.standing ≢ Level → IsWhatStood H x.disk y)

@@ -2,17 +2,18 @@
 use Rattle.std.proofs.Common.{◌≡◌, ◌≢◌, ◌⊎◌, inl, inr, ℕ, List, Option, Some, None, IfSome, IsSome, IsNone, Err, []}
 use Rattle.std.proofs.Common.{length, ◌≤◌, option_map, subst, ap, ◌∙◌, sym, refl}
 use Rattle.yp_io.specs.Counts.{HasRisen}
-use Rattle.yp_io.specs.Disk.{History, GoesOn, LeftBetween, LeavesOnly, MayLeave, IsReadAnImage, IsDurable, after_sync}
+use Rattle.yp_io.specs.Disk.{History, HistoryGoesOn, LeftBetween, LeavesOnly, MayLeave, IsReadAnImage, IsDurable, after_sync}
 use Rattle.yp_version.specs.Versions.{MapVersion}
-use Rattle.yp_slot.specs.Laws.{FileIsBounded}
-use Rattle.yp_slot.specs.Slots.{IsAsBeforeOr, IsSound}
-use Rattle.yp_slot.specs.declared.fault.SlotFault.{SlotFault}
-use Rattle.yp_slot.specs.declared.fault.SlotFault.TheVariants as fault
-use Rattle.yp_slot.specs.Loads.{Loads}
-use Rattle.yp_slot.specs.Stands.{Nothing, Stored, Damaged, stands, file_max}
-use Rattle.yp_publish.specs.Keeping.{Keeping}
-use Rattle.yp_publish.specs.Opens.{IsOpenCause}
-use Rattle.yp_publish.specs.Standing.{MapStanding, Level, Behind, Kept, StandsAs, stands_for}
+use Rattle.yp_map_file.specs.inside.Laws.{FileIsBounded}
+use Rattle.yp_map_file.specs.Slots.{IsSound}
+use Rattle.yp_map_file.specs.inside.Slots.{IsAsBeforeOr}
+use Rattle.yp_map_file.specs.declared.fault.SlotFault.{SlotFault}
+use Rattle.yp_map_file.specs.declared.fault.SlotFault.TheVariants as fault
+use Rattle.yp_map_file.specs.Loads.{Loads}
+use Rattle.yp_map_file.specs.Stands.{Nothing, Stored, Damaged, stands, file_max}
+use Rattle.yp_publisher.specs.Keeping.{Keeping}
+use Rattle.yp_publisher.specs.Opens.{IsOpenCause}
+use Rattle.yp_publisher.specs.Standing.{MapStanding, Level, Behind, StoredMap, StandsAs, stands_for}
 
 -- what holds of all that is left at some moment holds of all that is left of it in other words
 pub weaker : {P Q : List ℕ → Type 0} (old new : Option History) → ((image : List ℕ) → P image → Q image)
@@ -20,7 +21,7 @@ pub weaker : {P Q : List ℕ → Type 0} (old new : Option History) → ((image 
 weaker old new f l = record { goes_on = l.goes_on; each = λ image left. f image (l.each image left) }
 
 -- a disk that is left alone leaves what it might leave
-pub left_alone : {P : List ℕ → Type 0} (history : Option History) → GoesOn history history
+pub left_alone : {P : List ℕ → Type 0} (history : Option History) → HistoryGoesOn history history
     → ((image : List ℕ) → LeftBetween history history image → MayLeave history image)
     → ((image : List ℕ) → MayLeave history image → P image) → LeavesOnly history history P
 left_alone history stays only each = record { goes_on = stays; each = λ image left. each image (only image left) }
@@ -46,7 +47,7 @@ either (Some h) new shown version reads stood l = record {
 
 -- the same of a map that is level by what is kept of it
 pub level_either : {D : Type 0} (H : D
-    → Option History) (kept : Kept D) (disk new : D) (generation : ℕ) (shown : Option MapVersion)
+    → Option History) (kept : StoredMap D) (disk new : D) (generation : ℕ) (shown : Option MapVersion)
     (standing : MapStanding) (version : MapVersion)
     → record { disk = disk; generation = generation; version = shown; standing = standing } ≡ kept
     → kept.standing ≡ Level
@@ -54,12 +55,12 @@ pub level_either : {D : Type 0} (H : D
     → LeavesOnly (H disk) (H new) (IsAsBeforeOr version (H disk))
     → LeavesOnly (H disk) (H new) (StandsAs (Behind version) shown)
 level_either {D} H kept disk new generation shown standing version is level images reads l =
-    let now : standing ≡ Level = ap (λ (k : Kept D). k.standing) is ∙ level in
+    let now : standing ≡ Level = ap (λ (k : StoredMap D). k.standing) is ∙ level in
     either (H disk) (H new) shown version reads (λ image left. level_image standing shown image now (images image left))
     l
 
 pub install_moments : {D : Type 0} (H : D
-    → Option History) (kept : Kept D) (disk new : D) (generation : ℕ) (shown : Option MapVersion)
+    → Option History) (kept : StoredMap D) (disk new : D) (generation : ℕ) (shown : Option MapVersion)
     (standing : MapStanding) (version : MapVersion)
     → record { disk = disk; generation = generation; version = shown; standing = standing } ≡ kept
     → kept.standing ≡ Level
@@ -67,7 +68,7 @@ pub install_moments : {D : Type 0} (H : D
     → LeavesOnly (H kept.disk) (H new) (λ image. StandsAs kept.standing kept.version image
     ⊎ (stands image ≡ Stored version))
 install_moments {D} H kept disk new generation shown standing version is level all =
-    let P : Kept D → Type 0 = λ k. LeavesOnly (H k.disk) (H new) (StandsAs (Behind version) k.version) in
+    let P : StoredMap D → Type 0 = λ k. LeavesOnly (H k.disk) (H new) (StandsAs (Behind version) k.version) in
     weaker (H kept.disk) (H new)
     (λ image stood. elim stood [
       | inl same ↦ inl
@@ -78,7 +79,7 @@ install_moments {D} H kept disk new generation shown standing version is level a
 
 -- what holds of each moment of a call holds of what a crash leaves after it
 pub at_end : {P : List ℕ → Type 0} (old new : Option History)
-    → ((image : List ℕ) → GoesOn old new → MayLeave new image → LeftBetween old new image)
+    → ((image : List ℕ) → HistoryGoesOn old new → MayLeave new image → LeftBetween old new image)
     → LeavesOnly old new P → (image : List ℕ) → MayLeave new image → P image
 at_end old new counts all image left = all.each image (counts image all.goes_on left)
 
@@ -149,7 +150,7 @@ never (Behind w) (Some v) image at rule stood damaged = elim stood [
 ]
 
 -- why a file of a map that is behind isn't loaded
-pub open_cause : {D B : Type 0} (keeping : Keeping D B) (before after : Kept D) (why : SlotFault)
+pub open_cause : {D B : Type 0} (keeping : Keeping D B) (before after : StoredMap D) (why : SlotFault)
     → IsReadAnImage (keeping.history before.disk)
     → ((image : List ℕ) → MayLeave (keeping.history before.disk) image → StandsAs before.standing before.version image)
     → IfSome (keeping.history before.disk) (λ h. Loads (stands h.state.reads) (Err why))

@@ -3,13 +3,14 @@ use Rattle.std.proofs.Common.{◌≡◌, ◌++◌, ℕ, List, [], ◌∷◌, map
 use Rattle.std.specs.List.{All, AllByRecursion, AllZip}
 use Rattle.std.proofs.lemmas.List.Elements.{All-from_recursion}
 use Rattle.yp_io.specs.Disk.{History}
-use Rattle.yp_io.specs.DiskLaws.{stays, only_now}
-use Rattle.yp_slot.specs.declared.fault.SlotFault.{SlotFault}
-use Rattle.yp_slot.specs.declared.fault.SlotFault.TheVariants as slot
-use Rattle.yp_publish.specs.Standing.{MapStanding, Level, Kept}
-use Rattle.yp_publish.specs.Opens.{IsOpened, IsStopped}
-use Rattle.yp_publish.specs.Begins.{IsUnwritten, IsUnopened, open_fault}
-use Rattle.yp_publish.proofs.Moments.{left_alone}
+use Rattle.yp_io.specs.inside.DiskLaws.{stays, only_now}
+use Rattle.yp_map_file.specs.declared.fault.SlotFault.{SlotFault}
+use Rattle.yp_map_file.specs.declared.fault.SlotFault.TheVariants as slot
+use Rattle.yp_publisher.specs.Standing.{MapStanding, Level, StoredMap}
+use Rattle.yp_publisher.specs.Opens.{IsOpened, OpeningStopped}
+use Rattle.yp_publisher.specs.Begins.{IsUnwritten, IsUnopened}
+use Rattle.yp_publisher.specs.inside.Begins.{open_fault}
+use Rattle.yp_publisher.proofs.Moments.{left_alone}
 
 module _ {D : Type 0} (history : D → Option History) (faults : D → ℕ) where
   uncalled : (disk : D) → IsUnwritten history faults disk disk
@@ -19,7 +20,7 @@ module _ {D : Type 0} (history : D → Option History) (faults : D → ℕ) wher
     never_falls = omega arith;
   }
 
-  pub opened_zip : (disks : List D) (opened : List (Kept D)) → AllZip (IsOpened history faults) disks opened
+  pub opened_zip : (disks : List D) (opened : List (StoredMap D)) → AllZip (IsOpened history faults) disks opened
       → AllZip (IsUnwritten history faults) disks (map (λ kept. kept.disk) opened)
   opened_zip [] [] all = tt
   opened_zip [] (kept ∷ opened) all = absurd all
@@ -38,7 +39,7 @@ module _ {D : Type 0} (history : D → Option History) (faults : D → ℕ) wher
   zip_then (x ∷ a) [] c d first second = absurd first
   zip_then (x ∷ a) (y ∷ b) c d first second = (first.0, zip_then a b c d first.1 second)
 
-  pub stopped_zip : (old new : List D) (number : ℕ) (fault : SlotFault) → IsStopped history faults old new number fault
+  pub stopped_zip : (old new : List D) (number : ℕ) (fault : SlotFault) → OpeningStopped history faults old new number fault
       → AllZip (IsUnwritten history faults) old new
   stopped_zip old new number fault stopped =
       let refused : IsUnwritten history faults stopped.before stopped.after =
@@ -51,22 +52,22 @@ module _ {D : Type 0} (history : D → Option History) (faults : D → ℕ) wher
       (sym stopped.new_is) all)
 
   -- why none is opened
-  pub unopened : (old new : List D) (number : ℕ) (fault : SlotFault) → IsStopped history faults old new number fault
+  pub unopened : (old new : List D) (number : ℕ) (fault : SlotFault) → OpeningStopped history faults old new number fault
       → IsUnopened history faults (open_fault number fault) old new
   unopened old new number slot.NoMemory stopped = stopped_zip old new number slot.NoMemory stopped
   unopened old new number slot.DiskFault stopped = (λ (e : slot.DiskFault ≡ slot.NoMemory). cc, stopped)
   unopened old new number (slot.Damaged at rule) stopped = (λ (e : slot.Damaged at rule ≡ slot.NoMemory). cc, stopped)
 
   -- all are level then
-  all_level : (disks : List D) (maps : List (Kept D)) → AllZip (IsOpened history faults) disks maps
-      → AllByRecursion (λ (standing : MapStanding). standing ≡ Level) (map (λ (kept : Kept D). kept.standing) maps)
+  all_level : (disks : List D) (maps : List (StoredMap D)) → AllZip (IsOpened history faults) disks maps
+      → AllByRecursion (λ (standing : MapStanding). standing ≡ Level) (map (λ (kept : StoredMap D). kept.standing) maps)
   all_level [] [] all = tt
   all_level [] (kept ∷ maps) all = absurd all
   all_level (disk ∷ disks) [] all = absurd all
   all_level (disk ∷ disks) (kept ∷ maps) all = (all.0.level, all_level disks maps all.1)
 
-  pub level : (disks : List D) (maps : List (Kept D)) → AllZip (IsOpened history faults) disks maps
-      → All (λ (standing : MapStanding). standing ≡ Level) (map (λ (kept : Kept D). kept.standing) maps)
+  pub level : (disks : List D) (maps : List (StoredMap D)) → AllZip (IsOpened history faults) disks maps
+      → All (λ (standing : MapStanding). standing ≡ Level) (map (λ (kept : StoredMap D). kept.standing) maps)
   level disks maps all =
-      All-from_recursion (λ (standing : MapStanding). standing ≡ Level) (map (λ (kept : Kept D). kept.standing) maps)
+      All-from_recursion (λ (standing : MapStanding). standing ≡ Level) (map (λ (kept : StoredMap D). kept.standing) maps)
       (all_level disks maps all)

@@ -7,12 +7,12 @@ use Rattle.std.specs.Option.{unwrap_or, option_or}
 use Rattle.std.specs.declared.alloc.Global.{Global}
 use Rattle.std.specs.declared.sync.Arc.{Arc}
 use Rattle.yp_version.specs.Versions.{MapVersion}
-use Rattle.yp_publish.specs.Shared.{standing_of}
+use Rattle.yp_publisher.specs.inside.Shared.{standing_of}
 use Rattle.yp_board.specs.Logs.{Log, shown}
-use Rattle.yp_publish.specs.Rising.{IsNewer}
-use Rattle.yp_publish.specs.Standing.{Level, Kept, OfMap, Shows, versions}
-use Rattle.yp_publish.specs.Installs.{Offer, Refusal, IsBehind, HasMaster, IsNotNewer, is_behind, is_foreign}
-use Rattle.yp_publish.specs.Installs.{is_no_newer, not_following, no_further, install_refusal}
+use Rattle.yp_publisher.specs.Rising.{IsNewer}
+use Rattle.yp_publisher.specs.Standing.{Level, StoredMap, OfMap, Shows, versions}
+use Rattle.yp_publisher.specs.Installs.{OfferedVersion, Refusal, IsBehind, HasMaster, IsNotNewer, is_behind, is_foreign}
+use Rattle.yp_publisher.specs.Installs.{is_no_newer, not_following, no_further, install_refusal}
 
 first_some : (a b : Option Refusal) → IsSome a → option_or a b ≡ a
 first_some None b some = cc
@@ -24,7 +24,7 @@ none_level None is_none = refl
 none_level (Some v) is_none = cc
 
 -- what doesn't follow the version that is shown of a level map is refused for that
-pub refusal_from : {D : Type 0} (own : List ℕ) (offered : Offer) (kept : Kept D) (shown : MapVersion)
+pub refusal_from : {D : Type 0} (own : List ℕ) (offered : OfferedVersion) (kept : StoredMap D) (shown : MapVersion)
     → kept.standing ≡ Level → kept.version ≡ Some shown
     → IsSome (not_following own offered (Some shown))
     → install_refusal own offered kept ≡ not_following own offered (Some shown)
@@ -44,7 +44,7 @@ later true old a b none = cc
 later false true a b none = cc
 later false false a b none = refl
 
-newer_than : (own : List ℕ) (offered : Offer) (shown : Option MapVersion) → not_following own offered shown ≡ None
+newer_than : (own : List ℕ) (offered : OfferedVersion) (shown : Option MapVersion) → not_following own offered shown ≡ None
     → offered.force ≡ false → IfSome shown (λ last. last.order < offered.version.order)
 newer_than own offered None none free = tt
 newer_than own offered (Some shown) none free =
@@ -55,25 +55,25 @@ newer_than own offered (Some shown) none free =
     grind (arith, nat_tests)
 
 -- a version that isn't refused and isn't forced is newer than the one that is shown
-pub newer : {D : Type 0} (own : List ℕ) (offered : Offer) (kept : Kept D) → install_refusal own offered kept ≡ None
+pub newer : {D : Type 0} (own : List ℕ) (offered : OfferedVersion) (kept : StoredMap D) → install_refusal own offered kept ≡ None
     → offered.force ≡ false → IfSome kept.version (λ last. last.order < offered.version.order)
 newer own offered kept none free =
     newer_than own offered kept.version
     (front (is_behind kept.standing) (not_following own offered kept.version) (no_further kept.generation) none)
     free
 
-newer_than_kept : {D : Type 0} (own : List ℕ) (offered : Offer) (kept : Option (Kept D))
+newer_than_kept : {D : Type 0} (own : List ℕ) (offered : OfferedVersion) (kept : Option (StoredMap D))
     → IfSome kept (λ k. install_refusal own offered k ≡ None) → offered.force ≡ false
-    → IfSome (unwrap_or (option_map (λ (k : Kept D). k.version) kept) None) (λ last. last.order < offered.version.order)
+    → IfSome (unwrap_or (option_map (λ (k : StoredMap D). k.version) kept) None) (λ last. last.order < offered.version.order)
 newer_than_kept own offered None none free = tt
 newer_than_kept own offered (Some kept) none free = newer own offered kept none free
 
 -- the same of what the board shows
-pub newer_shown : {D : Type 0} (own : List ℕ) (offered : Offer) (maps : List (Kept D)) (n : ℕ) (log : Log)
+pub newer_shown : {D : Type 0} (own : List ℕ) (offered : OfferedVersion) (maps : List (StoredMap D)) (n : ℕ) (log : Log)
     → OfMap n maps (λ kept. install_refusal own offered kept ≡ None) → Shows log (versions maps) → offered.force ≡ false
     → IsNewer n offered.version log
 newer_shown {D} own offered maps n log none shows free =
-    let f : Kept D → Option MapVersion = λ kept. kept.version in
+    let f : StoredMap D → Option MapVersion = λ kept. kept.version in
     let is : shown n log ≡ unwrap_or (option_map f (slice_get maps n)) None =
     shows n ∙ sym (unwrap_or-slice_get (versions maps) n None)
     ∙ ap (λ (o : Option (Option MapVersion)). unwrap_or o None) (slice_get-map f maps n) in

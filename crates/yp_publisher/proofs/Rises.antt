@@ -11,11 +11,12 @@ use Rattle.std.specs.List.{AllByRecursion}
 use Rattle.std.specs.List.Sorted.{IsStrictlyIncreasing}
 use Rattle.yp_version.specs.Versions.{MapVersion}
 use Rattle.yp_board.specs.Logs.{Log, shown}
-use Rattle.yp_publish.specs.Standing.{MapStanding, Level, Behind}
-use Rattle.yp_publish.specs.Rising.{Moment, orders, IsRisingLog, IsNewer, with_shown, Stores, Reopens, Steps, Follow}
-use Rattle.yp_publish.specs.Rising.{IsStart}
-use Rattle.yp_publish.proofs.Lists.{get_set, get_set_other}
-use Rattle.yp_publish.proofs.Maps.{shown_other}
+use Rattle.yp_publisher.specs.Standing.{MapStanding, Level, Behind}
+use Rattle.yp_publisher.specs.Rising.{PublisherState, orders, IsRisingLog, IsNewer, with_shown, Stores, Reopens}
+use Rattle.yp_publisher.specs.inside.Rising.{Steps, Follow}
+use Rattle.yp_publisher.specs.inside.Rising.{IsStart}
+use Rattle.yp_publisher.proofs.Lists.{get_set, get_set_other}
+use Rattle.yp_publisher.proofs.Maps.{shown_other}
 
 -- ---- numbers that rise
 
@@ -118,12 +119,12 @@ newer_other n other version failed log ne newer =
 -- ---- steps
 
 -- the log rises, and each version that a map is behind is newer than what is shown
-record Rises (moment : Moment) : Type 0 where
+record Rises (moment : PublisherState) : Type 0 where
   pub rising : IsRisingLog moment.log
   pub behind : (n : ℕ) (failed : MapVersion) → slice_get moment.standings n ≡ Some (Behind failed)
       → IsNewer n failed moment.log
 
-rises_stored : (n : ℕ) (version : MapVersion) (old new : Moment) → IsNewer n version old.log → Stores n version old new
+rises_stored : (n : ℕ) (version : MapVersion) (old new : PublisherState) → IsNewer n version old.log → Stores n version old new
     → Rises old → Rises new
 rises_stored n version old new newer stores rises = elim stores.1 [
   | inl shows ↦ subst Rises (sym shows) (record {
@@ -158,7 +159,7 @@ level_not_behind standings n m was failed there same is =
     let e : Some Level ≡ Some (Behind failed) = sym level ∙ ap (slice_get (set standings n Level)) (sym same) ∙ is in
     cc
 
-rises_reopened : (n : ℕ) (old new : Moment) → Reopens n old new → Rises old → Rises new
+rises_reopened : (n : ℕ) (old new : PublisherState) → Reopens n old new → Rises old → Rises new
 rises_reopened n old new reopens rises = elim reopens [
   | inl same ↦ subst Rises (sym same) rises
   | inr opened ↦
@@ -182,7 +183,7 @@ rises_reopened n old new reopens rises = elim reopens [
       ]
 ]
 
-rises_step : (old new : Moment) → Steps old new → Rises old → Rises new
+rises_step : (old new : PublisherState) → Steps old new → Rises old → Rises new
 rises_step old new step rises = elim step [
   | inl installs ↦ elim installs.2 [
     | inl same ↦ subst Rises (sym same) rises
@@ -191,7 +192,7 @@ rises_step old new step rises = elim step [
   | inr reopens ↦ rises_reopened reopens.0 old new reopens.1 rises
 ]
 
-rises_start : (moment : Moment) → IsStart moment → Rises moment
+rises_start : (moment : PublisherState) → IsStart moment → Rises moment
 rises_start moment start = record {
   rising = λ n k lt. let one = start.one n in absurd (omega arith);
   behind = λ n failed is. absurd (
@@ -201,12 +202,12 @@ rises_start moment start = record {
       cc);
 }
 
-rises_all : (first : Moment) (moments : List Moment) → Rises first → Follow first moments
+rises_all : (first : PublisherState) (moments : List PublisherState) → Rises first → Follow first moments
     → AllByRecursion (λ moment. IsRisingLog moment.log) (first ∷ moments)
 rises_all first [] rises follow = (rises.rising, tt)
 rises_all first (next ∷ moments) rises follow =
     (rises.rising, rises_all next moments (rises_step first next follow.0 rises) follow.1)
 
-pub log_rises : (first : Moment) (moments : List Moment) → IsStart first → Follow first moments
+pub log_rises : (first : PublisherState) (moments : List PublisherState) → IsStart first → Follow first moments
     → AllByRecursion (λ moment. IsRisingLog moment.log) (first ∷ moments)
 log_rises first moments start follow = rises_all first moments (rises_start first start) follow

@@ -2,10 +2,10 @@
 use Rattle.std.specs.Prelude.{◌≡◌, ◌⊎◌, ℕ, List, [], ◌∷◌, ◌++◌, slice_get, All, Option, IfSome, IsSome, ⊤}
 use Rattle.yp_io.specs.Disk.{History, LeavesOnly, MayLeave}
 use Rattle.yp_version.specs.Versions.{MapVersion}
-use Rattle.yp_slot.specs.Stands.{Stored, stands}
+use Rattle.yp_map_file.specs.Stands.{Stored, stands}
 use Rattle.yp_board.specs.Logs.{Log, shown}
 use Rattle.yp_board.specs.Between.{Between}
-use Rattle.yp_publish.specs.Standing.{MapStanding, Level, Behind, stands_for}
+use Rattle.yp_publisher.specs.Standing.{MapStanding, Level, Behind, stands_for}
 
 -- what it is that a version was made or fetched of a map behind a log
 abbrev pub Making : Type 1

@@ -1,10 +1,11 @@
 -- What the disks and the board of a publisher tell, and what each call that changes a map upholds.
 use Rattle.std.specs.Prelude.{◌≡◌, ◌≤◌, ℕ, Option, length}
 use Rattle.yp_io.specs.Disk.{History, LeavesOnly}
-use Rattle.yp_slot.specs.Stands.{file_max}
+use Rattle.yp_map_file.specs.Stands.{file_max}
 use Rattle.yp_board.specs.Logs.{Log}
-use Rattle.yp_publish.specs.Standing.{Published, Kept, IsStanding, IsNumbered, OfMap, At, IsSameElsewhere, versions}
-use Rattle.yp_publish.specs.Standing.{Shows}
+use Rattle.yp_publisher.specs.Standing.{Published, StoredMap, IsStanding, IsNumbered, OfMap, At, IsSameElsewhere}
+use Rattle.yp_publisher.specs.Standing.{versions}
+use Rattle.yp_publisher.specs.Standing.{Shows}
 
 -- what a disk tells of its bytes, how often it has failed, and what was shown on a board
 pub record Keeping (D B : Type 0) : Type 0 where
@@ -16,7 +17,7 @@ abbrev pub keeping_of : {D B : Type 0} → (D → Option History) → (D → ℕ
 keeping_of history faults log = record { history = history; faults = faults; log = log }
 
 -- At each moment a crash leaves no more than the most bytes of a file.
-abbrev pub LeavesFew : {D : Type 0} → (D → Option History) → Kept D → Kept D → Type 0
+abbrev pub LeavesFew : {D : Type 0} → (D → Option History) → StoredMap D → StoredMap D → Type 0
 LeavesFew history before after =
     LeavesOnly (history before.disk) (history after.disk) (λ image. length image ≤ file_max)
 

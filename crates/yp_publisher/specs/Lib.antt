@@ -1,10 +1,9 @@
 pub mod Standing
-pub mod Shared
 pub mod Keeping
 pub mod Installs
 pub mod Opens
-pub mod Starts
 pub mod Rising
 pub mod Grown
 pub mod Begins
-pub mod Laws
+pub mod sharing
+pub mod inside

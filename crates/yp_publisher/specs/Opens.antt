@@ -5,27 +5,27 @@ use Rattle.std.specs.List.{AllZip}
 use Rattle.yp_io.specs.Counts.{HasRisen}
 use Rattle.yp_io.specs.Disk.{History, LeavesOnly, MayLeave}
 use Rattle.yp_version.specs.Versions.{MapVersion}
-use Rattle.yp_slot.specs.declared.fault.SlotFault.{SlotFault}
-use Rattle.yp_slot.specs.declared.fault.SlotFault.TheVariants.{DiskFault, NoMemory, Damaged}
-use Rattle.yp_slot.specs.Loads.{Loads}
-use Rattle.yp_slot.specs.Slots.{HasGeneration}
-use Rattle.yp_slot.specs.Stands.{stands}
-use Rattle.yp_publish.specs.Standing.{Level, Kept, Published, StandsAs, IsStanding, OfMap, At, stands_for}
-use Rattle.yp_publish.specs.Keeping.{Keeping, Upholds, IsNotShown}
-use Rattle.yp_publish.specs.Rising.{with_shown, moment_of, Reopens}
+use Rattle.yp_map_file.specs.declared.fault.SlotFault.{SlotFault}
+use Rattle.yp_map_file.specs.declared.fault.SlotFault.TheVariants.{DiskFault, NoMemory, Damaged}
+use Rattle.yp_map_file.specs.Loads.{Loads}
+use Rattle.yp_map_file.specs.Slots.{HasGeneration}
+use Rattle.yp_map_file.specs.Stands.{stands}
+use Rattle.yp_publisher.specs.Standing.{Level, StoredMap, Published, StandsAs, IsStanding, OfMap, At, stands_for}
+use Rattle.yp_publisher.specs.Keeping.{Keeping, Upholds, IsNotShown}
+use Rattle.yp_publisher.specs.Rising.{with_shown, publisher_state, Reopens}
 
 -- what the opening of a file does to its disk: no crash leaves what none might have left before
 abbrev pub LeavesNoMore : {D : Type 0} → (D → Option History) → D → D → Type 0
 LeavesNoMore history before after = LeavesOnly (history before) (history after) (MayLeave (history before))
 
 -- the version, or none, and the generation are what the file stood for
-pub record IsWhatStood {D : Type 0} (history : D → Option History) (before : D) (kept : Kept D) : Type 0 where
+pub record IsWhatStood {D : Type 0} (history : D → Option History) (before : D) (kept : StoredMap D) : Type 0 where
   pub version : IfSome (history before) (λ h. stands h.state.reads ≡ stands_for kept.version)
   pub generation : HasGeneration (history before) kept.generation
 
 -- a disk was opened at the start
 pub record IsOpened {D : Type 0} (history : D → Option History) (faults : D → ℕ) (before : D)
-    (kept : Kept D) : Type 0 where
+    (kept : StoredMap D) : Type 0 where
   pub stood : IsWhatStood history before kept
   pub level : kept.standing ≡ Level
   pub standing : IsStanding history kept
@@ -33,7 +33,7 @@ pub record IsOpened {D : Type 0} (history : D → Option History) (faults : D �
   pub never_falls : faults before ≤ faults kept.disk
 
 -- a disk wasn't opened, for this cause
-pub record IsRefused {D : Type 0} (history : D → Option History) (faults : D → ℕ) (before after : D)
+pub record DiskIsRefused {D : Type 0} (history : D → Option History) (faults : D → ℕ) (before after : D)
     (fault : SlotFault) : Type 0 where
   pub cause : IfSome (history before) (λ h. Loads (stands h.state.reads) (Err fault))
   pub disk_fault : fault ≡ DiskFault → HasRisen (faults before) (faults after)
@@ -42,10 +42,10 @@ pub record IsRefused {D : Type 0} (history : D → Option History) (faults : D �
 
 -- The disks in front of a map's were opened, its own was refused, and those behind it weren't called. The two lists and
 -- its number fix the disks, and what their files stood for fixes what was opened.
-pub record IsStopped {D : Type 0} (history : D → Option History) (faults : D → ℕ) (old new : List D) (number : ℕ)
+pub record OpeningStopped {D : Type 0} (history : D → Option History) (faults : D → ℕ) (old new : List D) (number : ℕ)
     (fault : SlotFault) : Type 0 where
   pub front : List D
-  pub opened : List (Kept D)
+  pub opened : List (StoredMap D)
   pub before : D
   pub after : D
   pub rest : List D
@@ -53,17 +53,17 @@ pub record IsStopped {D : Type 0} (history : D → Option History) (faults : D �
   pub new_is : new ≡ map (λ kept. kept.disk) opened ++ after ∷ rest
   pub number_is : number ≡ length front
   pub each : AllZip (IsOpened history faults) front opened
-  pub refused : IsRefused history faults before after fault
+  pub refused : DiskIsRefused history faults before after fault
 
 -- ---- again, after an install that failed
 
 -- a version other than the one that is shown
-pub record IsAnother {D : Type 0} (version : MapVersion) (before after : Kept D) : Type 0 where
+pub record IsAnother {D : Type 0} (version : MapVersion) (before after : StoredMap D) : Type 0 where
   pub shown : after.version ≡ Some version
   pub another : before.version ≢ Some version
 
 -- At each moment a crash leaves a file that stands as the map stood before, and none that it might not have left then.
-pub record StandsMeanwhile {D : Type 0} (history : D → Option History) (before after : Kept D) : Type 0 where
+pub record StandsMeanwhile {D : Type 0} (history : D → Option History) (before after : StoredMap D) : Type 0 where
   pub stands : LeavesOnly (history before.disk) (history after.disk) (StandsAs before.standing before.version)
   pub no_more : LeavesNoMore history before.disk after.disk
 
@@ -85,10 +85,10 @@ pub record Opens {D B : Type 0} (keeping : Keeping D B) (number : ℕ) (old new 
   pub shown : ShowsWhatStood keeping number old new
   pub meanwhile : At number old.maps new.maps (StandsMeanwhile keeping.history)
   pub rising : OfMap number old.maps (λ map. IsSome (keeping.history map.disk)
-      → Reopens number (moment_of keeping.log old) (moment_of keeping.log new))
+      → Reopens number (publisher_state keeping.log old) (publisher_state keeping.log new))
 
 -- Why a file wasn't opened again: its disk failed, or memory ran out. It is damaged only where its disk tells nothing.
-abbrev pub IsOpenCause : {D B : Type 0} → Keeping D B → SlotFault → Kept D → Kept D → Type 0
+abbrev pub IsOpenCause : {D B : Type 0} → Keeping D B → SlotFault → StoredMap D → StoredMap D → Type 0
 IsOpenCause keeping DiskFault before after = HasRisen (keeping.faults before.disk) (keeping.faults after.disk)
 IsOpenCause keeping NoMemory before after = ⊤
 IsOpenCause keeping (Damaged at rule) before after = IsNone (keeping.history before.disk)
@@ -99,7 +99,7 @@ IsGenerationLeft history fault before after = (after ≡ before) ⊎ ((fault ≡
 
 -- But for its disk and its generation the map is as before.
 pub record IsStillBehind {D : Type 0} (history : D → Option History) (fault : SlotFault)
-    (before after : Kept D) : Type 0 where
+    (before after : StoredMap D) : Type 0 where
   pub same : after ≡ record before { disk = after.disk; generation = after.generation }
   pub generation : IsGenerationLeft (history before.disk) fault before.generation after.generation
 

@@ -1,11 +1,10 @@
 -- Logs in which the orders of each map rise, and what installs and reopens add to a log.
-use Rattle.std.specs.Prelude.{◌≡◌, ◌⊎◌, ◌≤◌, ◌<◌, ℕ, ◌==◌, List, [], ◌∷◌, ◌++◌, map, filter, length, slice_set}
-use Rattle.std.specs.Prelude.{slice_get, Some, IfSome, ⊤}
-use Rattle.std.specs.List.{All}
+use Rattle.std.specs.Prelude.{◌≡◌, ◌⊎◌, ◌<◌, ℕ, ◌==◌, List, [], ◌∷◌, ◌++◌, map, filter, slice_set}
+use Rattle.std.specs.Prelude.{slice_get, Some, IfSome}
 use Rattle.std.specs.List.Sorted.{IsStrictlyIncreasing}
 use Rattle.yp_version.specs.Versions.{MapVersion}
 use Rattle.yp_board.specs.Logs.{Log, shown}
-use Rattle.yp_publish.specs.Standing.{MapStanding, Level, Behind, Published}
+use Rattle.yp_publisher.specs.Standing.{MapStanding, Level, Behind, Published}
 
 -- the orders of a map's versions in a log, in turn
 abbrev pub orders : ℕ → Log → List ℕ
@@ -16,12 +15,16 @@ abbrev pub IsRisingLog : Log → Type 0
 IsRisingLog log = (number : ℕ) → IsStrictlyIncreasing (orders number log)
 
 -- what is shown, and how each map stands
-pub record Moment : Type 0 where
+pub record PublisherState : Type 0 where
   pub log : Log
   pub standings : List MapStanding
 
-abbrev pub moment_of : {D B : Type 0} → (B → Log) → Published D B → Moment
-moment_of log published = record { log = log published.board; standings = map (λ kept. kept.standing) published.maps }
+abbrev pub publisher_state : {D B : Type 0} → (B → Log) → Published D B → PublisherState
+publisher_state log published = record {
+  log = log published.board;
+  standings =
+      map (λ kept. kept.standing) published.maps;
+}
 
 -- the order of a version is over that of the one that is shown of its map, if one is
 abbrev pub IsNewer : ℕ → MapVersion → Log → Type 0
@@ -32,42 +35,26 @@ abbrev pub with_shown : ℕ → MapVersion → Log → Log
 with_shown number version log = log ++ (number, version) ∷ []
 
 -- a map stands so
-abbrev pub with_standing : ℕ → MapStanding → Moment → Moment
+abbrev pub with_standing : ℕ → MapStanding → PublisherState → PublisherState
 with_standing number standing moment = record moment { standings = slice_set moment.standings number standing }
 
 -- A version of a level map is shown, or the map is behind it.
-abbrev pub Stores : ℕ → MapVersion → Moment → Moment → Type 0
+abbrev pub Stores : ℕ → MapVersion → PublisherState → PublisherState → Type 0
 Stores number version old new =
     (slice_get old.standings number ≡ Some Level)
     × ((new ≡ record old { log = with_shown number version old.log })
     ⊎ (new ≡ with_standing number (Behind version) old))
 
 -- An install that isn't forced: nothing changed; or the version is newer, and is shown, or its map is behind it.
-abbrev pub InstallsNewer : ℕ → MapVersion → Moment → Moment → Type 0
+abbrev pub InstallsNewer : ℕ → MapVersion → PublisherState → PublisherState → Type 0
 InstallsNewer number version old new =
     (new ≡ old)
     ⊎ (IsNewer number version old.log × Stores number version old new)
 
 -- A reopen: nothing changed; or the map was behind a version and is level, and that version may be shown.
-abbrev pub Reopens : ℕ → Moment → Moment → Type 0
+abbrev pub Reopens : ℕ → PublisherState → PublisherState → Type 0
 Reopens number old new =
     (new ≡ old)
     ⊎ ((failed : MapVersion) × (slice_get old.standings number ≡ Some (Behind failed))
     × ((new ≡ with_standing number Level old)
     ⊎ (new ≡ with_standing number Level (record old { log = with_shown number failed old.log }))))
-
--- an install that isn't forced, or a reopen, of some map
-abbrev pub Steps : Moment → Moment → Type 0
-Steps old new =
-    ((number : ℕ) × (version : MapVersion) × InstallsNewer number version old new)
-    ⊎ ((number : ℕ) × Reopens number old new)
-
--- each moment follows from the one before it
-abbrev pub Follow : Moment → List Moment → Type 0
-Follow first [] = ⊤
-Follow first (next ∷ moments) = Steps first next × Follow next moments
-
--- all maps are level, and the log has at most one version of each
-pub record IsStart (moment : Moment) : Type 0 where
-  pub level : All (λ standing. standing ≡ Level) moment.standings
-  pub one : (number : ℕ) → length (orders number moment.log) ≤ 1

@@ -3,12 +3,10 @@ use Rattle.std.specs.Prelude.{◌≡◌, ◌≢◌, ◌⊎◌, ℕ, List, map, l
 use Rattle.std.specs.Prelude.{IfSome}
 use Rattle.yp_io.specs.Disk.{History, MayLeave}
 use Rattle.yp_version.specs.Versions.{MapVersion}
-use Rattle.yp_slot.specs.Slots.{HasGeneration}
-use Rattle.yp_slot.specs.Stands.{Stands, Nothing, Stored, stands}
+use Rattle.yp_map_file.specs.Slots.{HasGeneration}
+use Rattle.yp_map_file.specs.Stands.{Stands, Nothing, Stored, stands}
 use Rattle.yp_board.specs.Catalogues.{Catalogue}
 use Rattle.yp_board.specs.Logs.{Log, shown}
-use Rattle.yp_publish.specs.declared.publisher.Standing.{Standing}
-use Rattle.yp_publish.specs.declared.publisher.Standing.TheVariants as name
 
 -- level, or behind a version whose install failed and that wasn't opened again since
 pub data MapStanding : Type 0 where
@@ -17,7 +15,7 @@ pub data MapStanding : Type 0 where
 
 -- what is kept of a map: its disk, the generation that its file had when it was known last, the version that is shown
 -- of it, or none, and its standing
-pub record Kept (D : Type 0) : Type 0 where
+pub record StoredMap (D : Type 0) : Type 0 where
   pub disk : D
   pub generation : ℕ
   pub version : Option MapVersion
@@ -34,40 +32,36 @@ StandsAs Level version image = stands image ≡ stands_for version
 StandsAs (Behind failed) version image = (stands image ≡ stands_for version) ⊎ (stands image ≡ Stored failed)
 
 -- Whatever a crash may leave of a map's file now stands so.
-abbrev pub IsStanding : {D : Type 0} → (D → Option History) → Kept D → Type 0
+abbrev pub IsStanding : {D : Type 0} → (D → Option History) → StoredMap D → Type 0
 IsStanding history kept =
     (image : List ℕ) → MayLeave (history kept.disk) image → StandsAs kept.standing kept.version image
 
 -- The generation of a level map is that of its file.
-abbrev pub IsNumbered : {D : Type 0} → (D → Option History) → Kept D → Type 0
+abbrev pub IsNumbered : {D : Type 0} → (D → Option History) → StoredMap D → Type 0
 IsNumbered history kept = kept.standing ≡ Level → HasGeneration (history kept.disk) kept.generation
-
--- the name of a standing
-abbrev pub standing_name : MapStanding → Standing
-standing_name Level = name.Level
-standing_name (Behind failed) = name.Behind
 
 -- a publisher: its catalogue, what is kept of each map in their order, and the board
 pub record Published (D B : Type 0) : Type 0 where
   pub catalogue : Catalogue
-  pub maps : List (Kept D)
+  pub maps : List (StoredMap D)
   pub board : B
 
 -- P holds of a map, and nothing is said where there is no such map
-abbrev pub OfMap : {D : Type 0} → ℕ → List (Kept D) → (Kept D → Type 0) → Type 0
+abbrev pub OfMap : {D : Type 0} → ℕ → List (StoredMap D) → (StoredMap D → Type 0) → Type 0
 OfMap number maps P = IfSome (slice_get maps number) P
 
 -- P holds of what is kept of a map before and after a call
-abbrev pub At : {D : Type 0} → ℕ → List (Kept D) → List (Kept D) → (Kept D → Kept D → Type 0) → Type 0
+abbrev pub At : {D : Type 0} → ℕ → List (StoredMap D) → List (StoredMap D) → (StoredMap D → StoredMap D → Type 0)
+    → Type 0
 At number old new P = OfMap number old (λ before. OfMap number new (P before))
 
 -- what is kept of every other map is the same after a call
-pub record IsSameElsewhere {D : Type 0} (number : ℕ) (old new : List (Kept D)) : Type 0 where
+pub record IsSameElsewhere {D : Type 0} (number : ℕ) (old new : List (StoredMap D)) : Type 0 where
   pub count : length new ≡ length old
   pub others : (other : ℕ) → other ≢ number → slice_get new other ≡ slice_get old other
 
 -- the versions of maps, in their order
-abbrev pub versions : {D : Type 0} → List (Kept D) → List (Option MapVersion)
+abbrev pub versions : {D : Type 0} → List (StoredMap D) → List (Option MapVersion)
 versions maps = map (λ kept. kept.version) maps
 
 -- the log shows exactly these versions, in the order of their maps

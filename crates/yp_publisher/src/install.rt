@@ -1,7 +1,7 @@
 //! What is offered to a publisher, and why it isn't installed.
 
 ghost use Rattle.std.specs.Prelude.{◌≡◌, ◌⊎◌, ◌≤◌, ℕ, OnOk, IfErr, Some, None};
-ghost use Rattle.yp_version.specs.Bodies.{IsBody};
+ghost use Rattle.yp_version.specs.inside.Bodies.{IsBody};
 
 use std::alloc::AllocError;
 use yp_io::{Failed, NoMemory};
@@ -49,7 +49,7 @@ pub enum InstallFault {
 
 impl From<NoMemory> for InstallFault {
     ghost use Rattle.std.specs.Prelude.{◌≡◌};
-    ghost use Rattle.yp_publish.specs.declared.install.InstallFault.TheVariants.{NoMemory};
+    ghost use Rattle.yp_publisher.specs.declared.install.InstallFault.TheVariants.{NoMemory};
 
     ghost from_gives = { λ _ fault. fault ≡ NoMemory };
 

@@ -1,6 +1,6 @@
 //! What holds of logs and versions. Each law is the contract of a function that does nothing.
 
-ghost use Rattle.yp_publish.specs.Laws.{LogRises, BeginningIsStart, StartsAreShown};
+ghost use Rattle.yp_publisher.specs.inside.Laws.{LogRises, BeginningIsStart, StartsAreShown};
 
 /// From maps that are all level, and a log with at most one version of each, any list of installs that aren't forced
 /// and of reopens leaves a log in which the orders of each map rise.

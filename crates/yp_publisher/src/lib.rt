@@ -3,8 +3,10 @@
 //! How each map stands is a fact of the type [`Publisher`]: whatever a crash may leave of a level map's file stands for
 //! the version that is shown of it, and of a map that is behind for that version or for the one whose install failed.
 //! So no board is ever ahead of its files. [`Publisher::standing`] tells it, and [`Publisher::install`] and
-//! [`Publisher::reopen`] say it of each moment inside them; they rest on the calls of `yp_slot`. [`laws`] say that logs
-//! rise.
+//! [`Publisher::reopen`] say it of each moment inside them, and of each refusal its cause; they rest on the calls of
+//! `yp_map_file`. [`laws`] say that the orders of each map rise in the log.
+//!
+//! [`sharing`] has a publisher that threads share, under one lock.
 #![tactic(auto)]
 
 mod install;
@@ -13,6 +15,7 @@ mod loaded;
 mod open;
 mod publisher;
 mod same;
+pub mod sharing;
 mod spelled;
 mod stored;
 

@@ -4,8 +4,8 @@ ghost use Rattle.std.specs.Prelude.{◌≡◌, ◌≤◌, ◌+◌, ◌++◌, ℕ
 ghost use Rattle.std.specs.Prelude.{IfErr, option_map};
 ghost use Rattle.std.specs.List.{AllZip};
 ghost use Rattle.std.specs.Arc.{arc_value};
-ghost use Rattle.yp_publish.specs.Standing.{Level, OfMap, IsStanding, IsNumbered, versions};
-ghost use Rattle.yp_publish.specs.Opens.{IsOpened, IsStopped};
+ghost use Rattle.yp_publisher.specs.Standing.{Level, OfMap, IsStanding, IsNumbered, versions};
+ghost use Rattle.yp_publisher.specs.Opens.{IsOpened, OpeningStopped};
 
 use crate::stored::StoredMap;
 use std::alloc::{AllocError, Global};
@@ -13,7 +13,7 @@ use std::marker::Model;
 use std::random::RandomSource;
 use std::sync::Arc;
 use yp_io::{Disk, NoMemory};
-use yp_slot::SlotFault;
+use yp_map_file::SlotFault;
 use yp_version::Version;
 
 /// Disks that were loaded, each with the version that its file stands for. It is seen as the list of their maps.
@@ -26,9 +26,9 @@ pub struct Loaded<D: Disk> {
 
 impl<D: Disk> Model for Loaded<D> {
     ghost use Rattle.std.specs.Prelude.{◌≡◌, ◌≤◌, [], List, length, vec_capacity};
-    ghost use Rattle.yp_publish.specs.Standing.{Kept};
+    ghost use Rattle.yp_publisher.specs.Standing.{StoredMap};
 
-    ghost Value = { List (Kept D) };
+    ghost Value = { List (StoredMap D) };
 
     ghost view = { λ l. l.maps.items };
 
@@ -53,7 +53,7 @@ pub fn load_all<D: Disk>(
     requires { length disks.items ≤ 64 }
     ensures loaded { IfOk result (λ loaded. AllZip (IsOpened D.history D.faults) disks.items loaded) }
     ensures refused { IfErr result (λ refused.
-        IsStopped D.history D.faults disks.items refused.disks.items refused.map refused.fault) }
+        OpeningStopped D.history D.faults disks.items refused.disks.items refused.map refused.fault) }
 {
     let mut rest = disks;
     let Ok(mut maps) = Vec::with_capacity(alloc, rest.len()) else {

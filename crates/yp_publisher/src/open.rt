@@ -3,9 +3,11 @@
 ghost use Rattle.std.specs.Prelude.{◌≡◌, length, IfOk, IfErr};
 ghost use Rattle.std.specs.List.{AllZip};
 ghost use Rattle.yp_board.specs.Logs.{starts};
-ghost use Rattle.yp_publish.specs.Standing.{versions};
-ghost use Rattle.yp_publish.specs.Begins.{open_fault, plain_log, BeginsLevel, IsUnwritten, IsUnopened};
-ghost use Rattle.yp_publish.specs.Rising.{moment_of, IsStart};
+ghost use Rattle.yp_publisher.specs.Standing.{versions};
+ghost use Rattle.yp_publisher.specs.Begins.{plain_log, IsUnwritten, IsUnopened};
+ghost use Rattle.yp_publisher.specs.inside.Begins.{open_fault, BeginsLevel};
+ghost use Rattle.yp_publisher.specs.Rising.{publisher_state};
+ghost use Rattle.yp_publisher.specs.inside.Rising.{IsStart};
 
 use crate::laws::{beginning_is_start, starts_are_shown};
 use crate::loaded::{Loaded, StartRefused, load_all};
@@ -14,7 +16,7 @@ use std::alloc::Global;
 use std::random::RandomSource;
 use yp_board::{Catalog, PlainBoard};
 use yp_io::{Disk, NoMemory};
-use yp_slot::SlotFault;
+use yp_map_file::SlotFault;
 
 /// Why no publisher was opened.
 #[derive(Clone, Copy, Debug, PartialEq, Eq)]
@@ -45,7 +47,7 @@ pub fn open_publisher<D: Disk>(
     ensures begun { IfOk result (BeginsLevel D.history D.faults catalog disks.items) }
 
     // From here on the log rises.
-    ensures start { IfOk result (λ publisher. IsStart (moment_of plain_log publisher)) }
+    ensures start { IfOk result (λ publisher. IsStart (publisher_state plain_log publisher)) }
 
     // What a refusal leaves.
     ensures refused { IfErr result (λ refused.

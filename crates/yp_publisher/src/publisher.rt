@@ -5,16 +5,18 @@ ghost use Rattle.std.specs.Prelude.{option_map};
 ghost use Rattle.std.specs.Arc.{arc_value};
 ghost use Rattle.yp_io.specs.Counts.{HasRisen};
 ghost use Rattle.yp_version.specs.Versions.{MapVersion};
-ghost use Rattle.yp_slot.specs.Commits.{generation_max};
+ghost use Rattle.yp_map_file.specs.Commits.{generation_max};
 ghost use Rattle.yp_board.specs.Logs.{shown};
 ghost use Rattle.yp_board.specs.Views.{IsFront};
-ghost use Rattle.yp_publish.specs.Standing.{Level, IsStanding, IsNumbered, OfMap, At, versions, Shows, standing_name};
-ghost use Rattle.yp_publish.specs.Keeping.{keeping_of, Upholds};
-ghost use Rattle.yp_publish.specs.Installs.{offer, install_refusal, IsCause, IsUnopposed, IsInstalled, IsUnsure};
-ghost use Rattle.yp_publish.specs.Installs.{IsUnshown};
-ghost use Rattle.yp_publish.specs.Installs.{LeavesEither, Installs, Refuses};
-ghost use Rattle.yp_publish.specs.Opens.{IsAnother, Opens, StaysBehind};
-ghost use Rattle.yp_publish.specs.Rising.{moment_of, with_shown, Stores};
+ghost use Rattle.yp_publisher.specs.Standing.{Level, IsStanding, IsNumbered, OfMap, At, versions, Shows};
+ghost use Rattle.yp_publisher.specs.inside.Standing.{standing_name};
+ghost use Rattle.yp_publisher.specs.Keeping.{keeping_of, Upholds};
+ghost use Rattle.yp_publisher.specs.Installs.{offer, install_refusal, IsInstallCause, IsUnopposed, IsInstalled};
+ghost use Rattle.yp_publisher.specs.Installs.{IsUnsure};
+ghost use Rattle.yp_publisher.specs.Installs.{IsUnshown};
+ghost use Rattle.yp_publisher.specs.Installs.{LeavesEither, Installs, Refuses};
+ghost use Rattle.yp_publisher.specs.Opens.{IsAnother, Opens, StaysBehind};
+ghost use Rattle.yp_publisher.specs.Rising.{publisher_state, with_shown, Stores};
 
 use crate::install::{InstallFault, Installed, Origin};
 use crate::loaded::{Loaded, give_back};
@@ -26,7 +28,7 @@ use std::random::RandomSource;
 use std::sync::Arc;
 use yp_board::{Catalog, Show, Tell};
 use yp_io::{Disk, NoMemory};
-use yp_slot::SlotFault;
+use yp_map_file::SlotFault;
 use yp_version::Version;
 
 /// How a map stands.
@@ -50,8 +52,8 @@ pub struct Publisher<D: Disk, B: Show> {
 
 impl<D: Disk, B: Show> Model for Publisher<D, B> {
     ghost use Rattle.std.specs.Prelude.{◌≡◌, [], length, vec_capacity};
-    ghost use Rattle.yp_publish.specs.Standing.{Published};
-    ghost use Rattle.yp_publish.specs.Starts.{IsPublisher};
+    ghost use Rattle.yp_publisher.specs.Standing.{Published};
+    ghost use Rattle.yp_publisher.specs.inside.Starts.{IsPublisher};
 
     ghost Value = { Published D B };
 
@@ -180,7 +182,8 @@ impl<D: Disk, B: Show> Publisher<D, B> {
         requires { map < length self.now.maps }
         ensures unopposed { OnOk result (IsUnopposed map (offer version.now origin force) self.now) }
         ensures refused { IfErr result (λ fault. OfMap map self.now.maps
-            (λ kept. IsCause fault (install_refusal self.now.catalogue.own (offer version.now origin force) kept))) }
+            (λ kept. IsInstallCause fault (install_refusal self.now.catalogue.own
+            (offer version.now origin force) kept))) }
         ensures no_disk { IsErrOf result InstallFault.DiskFault → ⊥ }
         ensures generation { OnOk result (OfMap map self.now.maps (λ kept. kept.generation < generation_max)) }
 
@@ -218,7 +221,8 @@ impl<D: Disk, B: Show> Publisher<D, B> {
         ensures any_moment { At map self.old.maps self.new.maps
             (LeavesEither D.history (arc_value spelled.stored)) }
         ensures upheld { Upholds (keeping_of D.history D.faults B.log) map self.old self.new }
-        ensures stores { Stores map (arc_value spelled.stored) (moment_of B.log self.old) (moment_of B.log self.new) }
+        ensures stores { Stores map (arc_value spelled.stored) (publisher_state B.log self.old)
+            (publisher_state B.log self.new) }
     {
         let stored = &mut self.maps[map as usize];
         stored.install(&mut self.board, map, spelled)
@@ -240,7 +244,7 @@ impl<D: Disk, B: Show> Publisher<D, B> {
         ensures refused { IfErr result (λ fault.
             StaysBehind (keeping_of D.history D.faults B.log) map fault self.old self.new) }
     {
-        yp_slot::laws::file_is_bounded();
+        yp_map_file::laws::file_is_bounded();
         let stored = &mut self.maps[map as usize];
         stored.reopen(alloc, rt, &mut self.board, map)
     }

@@ -3,16 +3,16 @@
 //! Whenever the lock is got, every map stands as its publisher says, and what is shown of it is the state of the log:
 //! that is a fact of the type [`Locked`], which lies under the lock. What a caller learns of an install by its own
 //! reader, which the lock's writer tells of all that was shown, stands on [`install_shared`]; what a crash leaves of
-//! each map at any moment under the lock, on [`Locked::install`]. What is said of all installs stands on
-//! [`Locked::close`]: how many files failed is at most what the counts of the disks rose by; as many versions as were
-//! charged as built are shown, each built behind the last one of its map; and the others that are shown, with those
-//! that maps are behind, are no more than were fetched.
-#![tactic(auto)]
+//! each map at any moment under the lock, on [`Locked::install`]; that a reader knows all that was shown, on
+//! [`tell_shared`]. What is said of all installs stands on [`Locked::close`]: the orders of each map rise in the log;
+//! how many files failed is at most what the counts of the disks rose by; as many versions as were charged as built are
+//! shown, each built behind the last one of its map; and the others that are shown, with those that maps are behind,
+//! are no more than were fetched.
 
 mod debits;
 mod locked;
 mod share;
 
 pub use debits::Debits;
-pub use locked::{Accounts, Failures, Locked, Made, ShareFault, Site, Versions};
+pub use locked::{Accounts, BuiltVersions, FailedFiles, FetchedVersions, Locked, ShareFault, Site};
 pub use share::{install_shared, tell_shared};

@@ -7,17 +7,19 @@ ghost use Rattle.std.specs.Arc.{arc_value};
 ghost use Rattle.yp_io.specs.Counts.{CountsFaults, HasRisen};
 ghost use Rattle.yp_io.specs.Disk.{LeavesOnly, MayLeave, IsDurable, after_sync};
 ghost use Rattle.yp_version.specs.Versions.{MapVersion};
-ghost use Rattle.yp_slot.specs.Commits.{generation_max};
-ghost use Rattle.yp_slot.specs.Slots.{HasGeneration, IsAsBeforeOr, is_ready};
-ghost use Rattle.yp_slot.specs.Stands.{Stored, file_max, stands};
-ghost use Rattle.yp_slot.specs.declared.known.Stage.TheVariants.{Unready, Loaded};
-ghost use Rattle.yp_publish.specs.Standing.{Level, Behind, IsStanding, IsNumbered, standing_name};
-ghost use Rattle.yp_publish.specs.Keeping.{keeping_of, LeavesFew};
-ghost use Rattle.yp_publish.specs.Shared.{LoadsShared};
-ghost use Rattle.yp_publish.specs.Installs.{offer, install_refusal, not_following, IsCause};
-ghost use Rattle.yp_publish.specs.Installs.{IsInstalled, IsUnsure, IsUnshown, LeavesEither};
-ghost use Rattle.yp_publish.specs.Opens.{IsOpened, IsRefused, IsAnother, IsWhatStood, LeavesNoMore};
-ghost use Rattle.yp_publish.specs.Opens.{IsGenerationLeft, IsStillBehind, IsOpenCause};
+ghost use Rattle.yp_map_file.specs.Commits.{generation_max};
+ghost use Rattle.yp_map_file.specs.Slots.{HasGeneration};
+ghost use Rattle.yp_map_file.specs.inside.Slots.{IsAsBeforeOr, is_ready};
+ghost use Rattle.yp_map_file.specs.Stands.{Stored, file_max, stands};
+ghost use Rattle.yp_map_file.specs.declared.known.Stage.TheVariants.{Unready, Loaded};
+ghost use Rattle.yp_publisher.specs.Standing.{Level, Behind, IsStanding, IsNumbered};
+ghost use Rattle.yp_publisher.specs.inside.Standing.{standing_name};
+ghost use Rattle.yp_publisher.specs.Keeping.{keeping_of, LeavesFew};
+ghost use Rattle.yp_publisher.specs.inside.Shared.{LoadsShared};
+ghost use Rattle.yp_publisher.specs.Installs.{offer, install_refusal, not_following, IsInstallCause};
+ghost use Rattle.yp_publisher.specs.Installs.{IsInstalled, IsUnsure, IsUnshown, LeavesEither};
+ghost use Rattle.yp_publisher.specs.Opens.{IsOpened, DiskIsRefused, IsAnother, IsWhatStood, LeavesNoMore};
+ghost use Rattle.yp_publisher.specs.Opens.{IsGenerationLeft, IsStillBehind, IsOpenCause};
 
 use crate::install::{InstallFault, Origin};
 use crate::publisher::Standing;
@@ -29,7 +31,7 @@ use std::random::RandomSource;
 use std::sync::Arc;
 use yp_board::Show;
 use yp_io::{Disk, Failed};
-use yp_slot::{GENERATION_MAX, Slot, SlotFault};
+use yp_map_file::{GENERATION_MAX, Slot, SlotFault};
 use yp_version::Version;
 
 /// A map with its file, the version that is shown of it, and the one whose install failed, if one did and the file
@@ -44,10 +46,10 @@ pub(crate) struct StoredMap<D: Disk> {
 impl<D: Disk> Model for StoredMap<D> {
     ghost use Rattle.std.specs.Prelude.{option_map};
     ghost use Rattle.std.specs.Arc.{arc_value};
-    ghost use Rattle.yp_publish.specs.Standing.{Kept};
-    ghost use Rattle.yp_publish.specs.Shared.{standing_of, IsKept};
+    ghost use Rattle.yp_publisher.specs.Standing.{StoredMap};
+    ghost use Rattle.yp_publisher.specs.inside.Shared.{standing_of, IsKept};
 
-    ghost Value = { Kept D };
+    ghost Value = { StoredMap D };
 
     ghost view = { λ m. record {
       disk = m.slot.disk;
@@ -69,7 +71,7 @@ impl<D: Disk> StoredMap<D> {
         disk: D,
     ) -> Result<StoredMap<D>, (D, SlotFault)>
         ensures opened { IfOk result (IsOpened D.history D.faults disk) }
-        ensures refused { IfErr result (λ refused. IsRefused D.history D.faults disk refused.0 refused.1) }
+        ensures refused { IfErr result (λ refused. DiskIsRefused D.history D.faults disk refused.0 refused.1) }
     {
         let mut slot = Slot::new(disk);
         match load_shared(alloc, rt, &mut slot) {
@@ -103,7 +105,7 @@ impl<D: Disk> StoredMap<D> {
         self.version.as_ref()
     }
 
-    /// The same with one more owner.
+    /// The shown version, if there is one, with one more owner.
     pub(crate) fn share(&self) -> Result<Option<Arc<Version>>, AllocError>
         ensures { IfOk result (λ version. option_map arc_value version ≡ self.now.version) }
     {
@@ -139,7 +141,7 @@ impl<D: Disk> StoredMap<D> {
         ensures standing { IsStanding D.history self.now }
         ensures numbered { IsNumbered D.history self.now }
     {
-        yp_slot::laws::file_is_bounded();
+        yp_map_file::laws::file_is_bounded();
         let _slot = &self.slot;
     }
 
@@ -154,7 +156,7 @@ impl<D: Disk> StoredMap<D> {
     ) -> Result<(), InstallFault>
         ensures accepted { OnOk result (install_refusal own.now (offer version.now origin force) self.now ≡ None) }
         ensures refused { IfErr result (λ fault.
-            IsCause fault (install_refusal own.now (offer version.now origin force) self.now)) }
+            IsInstallCause fault (install_refusal own.now (offer version.now origin force) self.now)) }
         ensures generation { OnOk result (self.now.generation < generation_max) }
         ensures no_disk { IsErrOf result InstallFault.DiskFault → ⊥ }
     {
@@ -325,7 +327,7 @@ fn refuse_after(
     ensures accepted { OnOk result
         (not_following own.now (offer version.now origin force) (Some shown.now) ≡ None) }
     ensures refused { IfErr result (λ fault.
-        IsCause fault (not_following own.now (offer version.now origin force) (Some shown.now))) }
+        IsInstallCause fault (not_following own.now (offer version.now origin force) (Some shown.now))) }
     ensures cause { OnErr result (IsSome (not_following own.now (offer version.now origin force) (Some shown.now))) }
     ensures no_disk { IsErrOf result InstallFault.DiskFault → ⊥ }
 {

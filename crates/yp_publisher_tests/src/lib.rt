@@ -1,4 +1,5 @@
-//! Tests of `yp_readers`, `yp_publish` and `yp_shared`: maps that are shown to readers, and stored.
+//! Tests of `yp_board::readers`, `yp_publisher` and `yp_publisher::sharing`: maps that are shown to readers, and
+//! stored.
 #![tactic(auto)]
 
 #[cfg(test)]

@@ -9,8 +9,8 @@ use std::random::RandomSource;
 use std::sync::Arc;
 use yp_board::{Catalog, MapName, PlainBoard};
 use yp_io::MemDisk;
-use yp_publish::*;
-use yp_slot::SlotFault;
+use yp_map_file::SlotFault;
+use yp_publisher::*;
 use yp_version::{Version, VersionBuilder};
 
 // A file of 116 bytes: order 100, master `m1`, and the row `alpha`, `10.0.0.1 alpha`, at generation 1.

@@ -13,11 +13,12 @@ use Rattle.yp_push.specs.declared.event.Event.{Event}
 use Rattle.yp_push.specs.declared.event.Event.TheVariants.{Sent, Failed, Refused, Called, Quiet}
 use Rattle.yp_push.specs.declared.outcome.Outcome.{Outcome}
 use Rattle.yp_push.specs.declared.outcome.Outcome.TheVariants.{Unsent, Unanswered, Missed as WasMissed, Answered}
-use Rattle.yp_push.specs.Results.{is_sending, is_sent, result_of, is_unanswered, awaits_call}
+use Rattle.yp_push.specs.Results.{is_sending, is_sent, result_of, is_unanswered}
+use Rattle.yp_push.specs.inside.Results.{awaits_call}
 use Rattle.yp_push.specs.Ledgers.{slaves_max, asked_by, asked, is_passed_over}
 use Rattle.yp_push.specs.Ledgers.{is_outstanding, outstanding}
-use Rattle.yp_push.specs.Settling.{Tells, Settles, ChangesNone}
-use Rattle.yp_push.specs.Kept.{Keeps}
+use Rattle.yp_push.specs.inside.Settling.{IsReport, SettlesSlave, ChangesNone}
+use Rattle.yp_push.specs.inside.Kept.{Keeps}
 use Rattle.yp_push.proofs.Lists.{range-push}
 use Rattle.yp_push.proofs.Steps.{moved, step, step_by, unsent, sent_step, passed_before, passed_now, asked_step}
 use Rattle.yp_push.proofs.Counts.{one_if, count_same, count_none, one_less}
@@ -168,18 +169,18 @@ quiets outcomes first sent passed count es kept =
 
 -- ---- something is told
 
-tells_order : (n : ℕ) (es : List Event) (e : Event) → Tells e → asked es ≡ range_with_len 0 n
+tells_order : (n : ℕ) (es : List Event) (e : Event) → IsReport e → asked es ≡ range_with_len 0 n
     → asked (es ++ e ∷ []) ≡ range_with_len 0 n
 tells_order n es e tells order =
     asked_step es e ∙ ap (λ (o : Option ℕ). asked es ++ cons_option o []) tells.asks_none ∙ append-nil (asked es)
     ∙ order
 
-tells_sent : (slave : ℕ) (es : List Event) (e : Event) → Tells e → is_sent slave (es ++ e ∷ []) ≡ is_sent slave es
+tells_sent : (slave : ℕ) (es : List Event) (e : Event) → IsReport e → is_sent slave (es ++ e ∷ []) ≡ is_sent slave es
 tells_sent slave es e tells =
     sent_step slave es e
     ∙ ap (λ (b : Bool). is_sent slave es || b) (not_sending slave e tells.asks_none) ∙ or_false (is_sent slave es)
 
-tells_passed : (slave : ℕ) (es : List Event) (e : Event) → Tells e → is_sent slave es ≡ true
+tells_passed : (slave : ℕ) (es : List Event) (e : Event) → IsReport e → is_sent slave es ≡ true
     → is_passed_over slave (es ++ e ∷ []) ≡ is_passed_over slave es
 tells_passed slave es e tells sent =
     passed_before slave es e sent ∙ ap (λ (b : Bool). is_passed_over slave es || b) tells.is_heard
@@ -231,7 +232,7 @@ awaited_below outcomes first sent passed count slave es kept awaits =
 -- one less is outstanding, if the slave was
 pub lessens : (outcomes : List Outcome) (first window sent passed count slave : ℕ) (outcome : Outcome) (es : List Event)
     (e : Event) → Keeps outcomes first sent passed count es
-    → Settles (record { slaves = length outcomes; first = first; window = window; events = es }) slave outcome e
+    → SettlesSlave (record { slaves = length outcomes; first = first; window = window; events = es }) slave outcome e
     → outstanding first (es ++ e ∷ []) + one_if (is_outstanding first es slave) ≡ count
 lessens outcomes first window sent passed count slave outcome es e kept settles =
     let below = awaited_below outcomes first sent passed count slave es kept settles.awaited in
@@ -270,7 +271,7 @@ outstanding_by outcomes first sent passed count slave es kept within =
 
 pub settles_one : (outcomes : List Outcome) (first window sent passed count less slave : ℕ) (outcome : Outcome)
     (es : List Event) (e : Event) → Keeps outcomes first sent passed count es
-    → Settles (record { slaves = length outcomes; first = first; window = window; events = es }) slave outcome e
+    → SettlesSlave (record { slaves = length outcomes; first = first; window = window; events = es }) slave outcome e
     → less ≡ outstanding first (es ++ e ∷ [])
     → Keeps (set outcomes slave outcome) first sent passed less (es ++ e ∷ [])
 settles_one outcomes first window sent passed count less slave outcome es e kept settles counted =

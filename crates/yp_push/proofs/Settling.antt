@@ -4,24 +4,26 @@ use Rattle.std.proofs.Common.{List, length, Some, None, refl, sym, ap, subst, �
 use Rattle.std.proofs.lemmas.Bool.{cases_eq, ne_eqb, le-ltb, lt-ltb}
 use Rattle.std.proofs.lemmas.Bool.Decides.{Decides-eqb}
 use Rattle.std.proofs.lemmas.List.FromFn.{length-range_with_len}
-use Rattle.yp_msgs.specs.declared.push.PushStat.{PushStat}
+use Rattle.yp_messages.specs.declared.transfer.XfrStat.{XfrStat}
 use Rattle.yp_push.specs.declared.event.Event.{Event}
 use Rattle.yp_push.specs.declared.event.Event.TheVariants.{Failed, Refused, Called}
 use Rattle.yp_push.specs.declared.outcome.Missed.{Missed}
 use Rattle.yp_push.specs.declared.outcome.Outcome.{Outcome}
 use Rattle.yp_push.specs.declared.outcome.Outcome.TheVariants.{Unsent, Unanswered, Missed as WasMissed, Answered}
-use Rattle.yp_push.specs.Results.{transid_of, awaits_call}
+use Rattle.yp_push.specs.Results.{transid_of}
+use Rattle.yp_push.specs.inside.Results.{awaits_call}
 use Rattle.yp_push.specs.Ledgers.{slaves_max, Ledger, outcome_at, asked}
-use Rattle.yp_push.specs.Ledgers.{outstanding, next_sending, IsUnanswered, Awaits}
-use Rattle.yp_push.specs.Settling.{Settles, ChangesNone}
-use Rattle.yp_push.specs.Kept.{Keeps}
+use Rattle.yp_push.specs.Ledgers.{outstanding, next_sending}
+use Rattle.yp_push.specs.inside.Ledgers.{IsUnanswered, Awaits}
+use Rattle.yp_push.specs.inside.Settling.{SettlesSlave, ChangesNone}
+use Rattle.yp_push.specs.inside.Kept.{Keeps}
 use Rattle.yp_push.proofs.Steps.{moved, step}
 use Rattle.yp_push.proofs.Keeping.{unmoved, same_number}
 
 -- ---- at once
 
 pub fails : (ledger : Ledger) (slave : ℕ) (missed : Missed) → IsUnanswered ledger slave
-    → Settles ledger slave (WasMissed missed) (Failed slave missed)
+    → SettlesSlave ledger slave (WasMissed missed) (Failed slave missed)
 fails ledger slave missed was =
     let e : Event = Failed slave missed in
     record {
@@ -35,8 +37,8 @@ fails ledger slave missed was =
       tells = record { asks_none = refl; is_heard = refl };
     }
 
-pub refuses : (ledger : Ledger) (slave : ℕ) (stat : PushStat) → IsUnanswered ledger slave
-    → Settles ledger slave (Answered stat) (Refused slave stat)
+pub refuses : (ledger : Ledger) (slave : ℕ) (stat : XfrStat) → IsUnanswered ledger slave
+    → SettlesSlave ledger slave (Answered stat) (Refused slave stat)
 refuses ledger slave stat was =
     let e : Event = Refused slave stat in
     record {
@@ -65,22 +67,22 @@ pub slave-transid : (first slave : ℕ) → first < 2 ^ 32 → slave < 2 ^ 32
 slave-transid first slave low below = omega arith
 
 -- a slave that awaits a call has then answered
-answers : (o : Outcome) (stat : PushStat) → awaits_call o ≡ true → moved false (Some stat) None o ≡ Answered stat
+answers : (o : Outcome) (stat : XfrStat) → awaits_call o ≡ true → moved false (Some stat) None o ≡ Answered stat
 answers Unsent stat awaits = absurd cc
 answers Unanswered stat awaits = refl
 answers (WasMissed m) stat awaits = refl
 answers (Answered s) stat awaits = absurd cc
 
 -- nothing becomes of one that doesn't
-stays : (o : Outcome) (stat : PushStat) → awaits_call o ≡ false → moved false (Some stat) None o ≡ o
+stays : (o : Outcome) (stat : XfrStat) → awaits_call o ≡ false → moved false (Some stat) None o ≡ o
 stays Unsent stat awaits = refl
 stays Unanswered stat awaits = absurd cc
 stays (WasMissed m) stat awaits = absurd cc
 stays (Answered s) stat awaits = refl
 
-pub calls : (ledger : Ledger) (transid slave : ℕ) (stat : PushStat) → ledger.slaves ≤ slaves_max
+pub calls : (ledger : Ledger) (transid slave : ℕ) (stat : XfrStat) → ledger.slaves ≤ slaves_max
     → ledger.first < 2 ^ 32 → slave < ledger.slaves → transid_of ledger.first slave ≡ transid
-    → awaits_call (outcome_at ledger slave) ≡ true → Settles ledger slave (Answered stat) (Called transid stat)
+    → awaits_call (outcome_at ledger slave) ≡ true → SettlesSlave ledger slave (Answered stat) (Called transid stat)
 calls ledger transid slave stat few low within named awaits =
     let e : Event = Called transid stat in
     record {
@@ -103,7 +105,7 @@ calls ledger transid slave stat few low within named awaits =
     }
 
 -- a call with the transaction of no slave that awaits one
-pub calls_none : (ledger : Ledger) (transid : ℕ) (stat : PushStat)
+pub calls_none : (ledger : Ledger) (transid : ℕ) (stat : XfrStat)
     → ((i : ℕ) → i < ledger.slaves → transid_of ledger.first i ≡ transid
     → awaits_call (outcome_at ledger i) ≡ false)
     → ChangesNone ledger (Called transid stat)
@@ -174,7 +176,7 @@ is_slave_of : (ledger : Ledger) (transid i : ℕ) → ledger.slaves ≤ slaves_m
 is_slave_of ledger transid i few low lt named =
     slave-transid ledger.first i low (omega (arith, lt, few)) ∙ ap (λ (t : ℕ). slave_of ledger.first t) named
 
-pub unheard : (ledger : Ledger) (transid : ℕ) (stat : PushStat) → ledger.slaves ≤ slaves_max → ledger.first < 2 ^ 32
+pub unheard : (ledger : Ledger) (transid : ℕ) (stat : XfrStat) → ledger.slaves ≤ slaves_max → ledger.first < 2 ^ 32
     → (IsAwaitedOf ledger transid → false ≡ true) → ChangesNone ledger (Called transid stat)
 unheard ledger transid stat few low never =
     calls_none ledger transid stat
@@ -186,9 +188,9 @@ unheard ledger transid stat few low never =
     let wrong : false ≡ true = never (subst W is (lt, awaits)) in
     absurd cc))
 
-pub heard : (ledger : Ledger) (transid : ℕ) (stat : PushStat) → ledger.slaves ≤ slaves_max → ledger.first < 2 ^ 32
+pub heard : (ledger : Ledger) (transid : ℕ) (stat : XfrStat) → ledger.slaves ≤ slaves_max → ledger.first < 2 ^ 32
     → transid < 2 ^ 32 → IsAwaitedOf ledger transid
-    → Settles ledger (slave_of ledger.first transid) (Answered stat) (Called transid stat)
+    → SettlesSlave ledger (slave_of ledger.first transid) (Answered stat) (Called transid stat)
 heard ledger transid stat few low below awaits =
     calls ledger transid (slave_of ledger.first transid) stat few low awaits.0
     (transid-slave ledger.first transid low below) awaits.1

@@ -4,7 +4,7 @@ use Rattle.std.proofs.Common.{refl, sym, ap, ◌∙◌}
 use Rattle.std.specs.List.{list_any, filter_map, cons_option}
 use Rattle.std.proofs.lemmas.List.Folds.{list_any-append}
 use Rattle.std.proofs.lemmas.List.Elements.{filter_map-append}
-use Rattle.yp_msgs.specs.declared.push.PushStat.{PushStat}
+use Rattle.yp_messages.specs.declared.transfer.XfrStat.{XfrStat}
 use Rattle.yp_push.specs.declared.event.Event.{Event}
 use Rattle.yp_push.specs.declared.outcome.Missed.{Missed}
 use Rattle.yp_push.specs.declared.outcome.Outcome.{Outcome}
@@ -16,7 +16,7 @@ use Rattle.yp_push.specs.Ledgers.{asked_by, asked, is_passed_over}
 use Rattle.yp_push.proofs.Lists.{after_first-push, after_first-last, or_else, first_of-push}
 
 -- what becomes of a result by an event that may send to the slave, answer for it, or say why it was missed
-abbrev pub moved : Bool → Option PushStat → Option Missed → Outcome → Outcome
+abbrev pub moved : Bool → Option XfrStat → Option Missed → Outcome → Outcome
 moved sending answer miss Unsent = cond sending Unanswered Unsent
 moved sending answer miss Unanswered = outcome_of answer miss
 moved sending answer miss (WasMissed missed) = outcome_of answer (Some missed)
@@ -37,7 +37,7 @@ since_before : (slave : ℕ) (es : List Event) (e : Event) → is_sent slave es 
 unfolding since_sending
 since_before slave es e sent = after_first-push (is_sending slave) es e sent
 
-moved_before : (sending : Bool) (a oa : Option PushStat) (m om : Option Missed)
+moved_before : (sending : Bool) (a oa : Option XfrStat) (m om : Option Missed)
     → outcome_of (or_else a oa) (or_else m om) ≡ moved sending oa om (outcome_of a m)
 moved_before sending (Some stat) oa m om = refl
 moved_before sending None oa (Some missed) om = refl

@@ -1,14 +1,13 @@
 -- A push as a whole: its numbers, and what happened so far.
-use Rattle.std.specs.Prelude.{◌≡◌, ℕ, ◌<◌, Bool, List, [], ◌∷◌, ◌++◌, length, Option, Some, None, ◌&&◌, not, nat_lt}
+use Rattle.std.specs.Prelude.{ℕ, ◌<◌, Bool, List, [], ◌∷◌, ◌++◌, length, Option, Some, None, ◌&&◌, not, nat_lt}
 use Rattle.std.specs.Prelude.{nat_lt, if◌then◌else◌, count_by, IsTrue}
 use Rattle.std.specs.List.{list_any, filter_map}
 use Rattle.yp_push.specs.declared.event.Event.{Event}
 use Rattle.yp_push.specs.declared.event.Event.TheVariants.{Sent, Failed, Refused, Called, Quiet}
 use Rattle.yp_push.specs.declared.ledger.Sending.{Sending}
 use Rattle.yp_push.specs.declared.outcome.Outcome.{Outcome}
-use Rattle.yp_push.specs.declared.outcome.Outcome.TheVariants.{Unanswered}
 use Rattle.yp_push.specs.Results.{transid_of, is_quiet, since_sending}
-use Rattle.yp_push.specs.Results.{result_of, is_unanswered, awaits_call, is_settled}
+use Rattle.yp_push.specs.Results.{result_of, is_unanswered, is_settled}
 
 -- how many slaves there are at most
 abbrev pub slaves_max : ℕ
@@ -25,7 +24,7 @@ pub record Ledger : Type 0 where
 abbrev pub outcome_at : Ledger → ℕ → Outcome
 outcome_at ledger slave = result_of ledger.first slave ledger.events
 
--- one more thing happened
+-- the ledger after one more event
 abbrev pub with_event : Ledger → Event → Ledger
 with_event ledger event = record ledger { events = ledger.events ++ event ∷ [] }
 
@@ -66,22 +65,6 @@ next_sending ledger =
     then Some (sending_of ledger (length (asked ledger.events)))
     else None
 
--- the ledger behind such an answer
-abbrev pub after_sending : Ledger → Option Sending → Ledger
-after_sending ledger None = ledger
-after_sending ledger (Some sending) = with_event ledger (Sent sending.slave)
-
--- a slave was asked, and nothing came of it yet
-pub record IsUnanswered (ledger : Ledger) (slave : ℕ) : Type 0 where
-  pub within : slave < ledger.slaves
-  pub unanswered : outcome_at ledger slave ≡ Unanswered
-
--- a slave has this transaction, was asked, and has no answer
-pub record Awaits (ledger : Ledger) (transid slave : ℕ) : Type 0 where
-  pub within : slave < ledger.slaves
-  pub named : transid_of ledger.first slave ≡ transid
-  pub open_ : IsTrue (awaits_call (outcome_at ledger slave))
-
 -- nothing more is expected of any slave
-abbrev pub IsDone : Ledger → Type 0
-IsDone ledger = (slave : ℕ) → slave < ledger.slaves → IsTrue (is_settled (outcome_at ledger slave))
+abbrev pub PushIsDone : Ledger → Type 0
+PushIsDone ledger = (slave : ℕ) → slave < ledger.slaves → IsTrue (is_settled (outcome_at ledger slave))

@@ -1,5 +1,4 @@
-pub mod Histories
 pub mod Results
 pub mod Ledgers
-pub mod Settling
-pub mod Kept
+pub mod turns
+pub mod inside

@@ -2,7 +2,7 @@
 use Rattle.std.specs.Prelude.{ℕ, ◌+◌, ◌%◌, ◌^◌, Bool, true, false, List, [], ◌∷◌, Option, Some, None, ◌==◌}
 use Rattle.std.specs.Prelude.{if◌then◌else◌}
 use Rattle.std.specs.List.{list_any, filter_map, after_first}
-use Rattle.yp_msgs.specs.declared.push.PushStat.{PushStat}
+use Rattle.yp_messages.specs.declared.transfer.XfrStat.{XfrStat}
 use Rattle.yp_push.specs.declared.event.Event.{Event}
 use Rattle.yp_push.specs.declared.event.Event.TheVariants.{Sent, Failed, Refused, Called, Quiet}
 use Rattle.yp_push.specs.declared.outcome.Missed.{Missed}
@@ -31,7 +31,7 @@ is_quiet (Called _ _) = false
 is_quiet Quiet = true
 
 -- what a slave answered, at once or by a call with its transaction
-abbrev pub answer_of : (first slave : ℕ) → Event → Option PushStat
+abbrev pub answer_of : (first slave : ℕ) → Event → Option XfrStat
 answer_of first slave (Sent _) = None
 answer_of first slave (Failed _ _) = None
 answer_of first slave (Refused asked stat) = if asked == slave then Some stat else None
@@ -60,13 +60,13 @@ first_of [] = None
 first_of (x ∷ xs) = Some x
 
 -- the first answer counts, and without one the failure
-abbrev pub outcome_of : Option PushStat → Option Missed → Outcome
+abbrev pub outcome_of : Option XfrStat → Option Missed → Outcome
 outcome_of (Some stat) _ = Answered stat
 outcome_of None (Some missed) = WasMissed missed
 outcome_of None None = Unanswered
 
--- of a slave that was asked, by what it answered and why it couldn't be asked
-abbrev pub outcome_by : Bool → Option PushStat → Option Missed → Outcome
+-- the outcome of a slave, by whether it was asked, what it answered, and why it couldn't be asked
+abbrev pub outcome_by : Bool → Option XfrStat → Option Missed → Outcome
 outcome_by false answer miss = Unsent
 outcome_by true answer miss = outcome_of answer miss
 
@@ -77,19 +77,12 @@ result_of first slave events = outcome_by
     (first_of (filter_map (answer_of first slave) (since_sending slave events)))
     (first_of (filter_map (miss_of slave) (since_sending slave events)))
 
--- it was asked and hasn't answered
+-- A slave was asked, and hasn't answered yet.
 abbrev pub is_unanswered : Outcome → Bool
 is_unanswered Unsent = false
 is_unanswered Unanswered = true
 is_unanswered (WasMissed _) = false
 is_unanswered (Answered _) = false
-
--- it hasn't answered, so a call with its transaction counts
-abbrev pub awaits_call : Outcome → Bool
-awaits_call Unsent = false
-awaits_call Unanswered = true
-awaits_call (WasMissed _) = true
-awaits_call (Answered _) = false
 
 -- nothing more is expected of it
 abbrev pub is_settled : Outcome → Bool

@@ -1,6 +1,5 @@
 pub mod Callbacks
 pub mod Sendings
 pub mod Pushers
-pub mod Kept
 pub mod Printed
 pub mod Slaves

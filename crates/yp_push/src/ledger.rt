@@ -2,19 +2,21 @@
 
 ghost use Rattle.std.specs.Prelude.{◌≡◌, ◌<◌, ◌≤◌, ◌↔◌, ℕ, [], IsTrue, IfOk, IfSome};
 ghost use Rattle.yp_push.specs.Ledgers.{slaves_max};
-ghost use Rattle.yp_push.specs.Ledgers.{outcome_at, with_event, next_sending, after_sending};
-ghost use Rattle.yp_push.specs.Ledgers.{IsUnanswered, Awaits, IsDone};
-ghost use Rattle.yp_push.specs.Results.{awaits_call};
+ghost use Rattle.yp_push.specs.Ledgers.{outcome_at, with_event, next_sending};
+ghost use Rattle.yp_push.specs.inside.Ledgers.{after_sending};
+ghost use Rattle.yp_push.specs.Ledgers.{PushIsDone};
+ghost use Rattle.yp_push.specs.inside.Ledgers.{IsUnanswered, Awaits};
+ghost use Rattle.yp_push.specs.inside.Results.{awaits_call};
 ghost use Rattle.yp_push.specs.Ledgers.{is_outstanding};
-ghost use Rattle.yp_push.specs.Settling.{Settles, ChangesNone};
+ghost use Rattle.yp_push.specs.inside.Settling.{SettlesSlave, ChangesNone};
 ghost use Rattle.yp_push.specs.declared.event.Event.TheVariants.{Failed, Refused, Called, Quiet};
 
-use crate::event::{Event, History};
+use crate::event::Event;
 use crate::outcome::{Missed, Outcome};
 use std::alloc::Global;
 use std::marker::Model;
-use yp_io::NoMemory;
-use yp_msgs::PushStat;
+use yp_io::{NoMemory, Trail};
+use yp_messages::PushStat;
 
 /// The most slaves of a push.
 pub const SLAVES_MAX: u32 = 4_096;
@@ -41,7 +43,8 @@ pub struct Push {
     /// How many of them were asked before the last quiet turn.
     passed: u32,
     outstanding: u32,
-    history: History,
+    /// The events so far, for contracts alone.
+    history: Trail<Event>,
 }
 
 impl Model for Push {
@@ -49,7 +52,7 @@ impl Model for Push {
 
     ghost Value = { Ledger };
 
-    ghost use Rattle.yp_push.specs.Kept.{ledger_of, IsKept};
+    ghost use Rattle.yp_push.specs.inside.Kept.{ledger_of, IsKept};
 
     ghost view = { ledger_of };
 
@@ -76,7 +79,7 @@ impl Push {
             sent: 0,
             passed: 0,
             outstanding: 0,
-            history: History::new(),
+            history: Trail::new(),
         })
     }
 
@@ -94,7 +97,7 @@ impl Push {
         self.outcomes[slave as usize] = Outcome::Unanswered;
         self.sent += 1;
         self.outstanding += 1;
-        self.history.add(Event::Sent { slave });
+        self.history.push(&Event::Sent { slave });
         Some(Sending {
             slave,
             transid: self.first.wrapping_add(slave),
@@ -145,7 +148,7 @@ impl Push {
     {
         self.passed = self.sent;
         self.outstanding = 0;
-        self.history.add(Event::Quiet);
+        self.history.push(&Event::Quiet);
     }
 
     /// What came of a slave so far.
@@ -158,7 +161,7 @@ impl Push {
 
     /// Whether nothing more is expected of any slave: each has answered, or couldn't be asked.
     pub fn done(&self) -> bool
-        ensures { IsTrue result ↔ IsDone self.now }
+        ensures { IsTrue result ↔ PushIsDone self.now }
     {
         self.outcomes.iter().all(|outcome| outcome.is_settled())
     }
@@ -183,12 +186,12 @@ impl Push {
 
     /// An event gives one slave this outcome.
     fn settle(&mut self, slave: u32, outcome: Outcome, event: Event)
-        requires { Settles self.old slave outcome event }
+        requires { SettlesSlave self.old slave outcome event }
         ensures { self.new ≡ with_event self.old event }
     {
         self.outstanding -= u32::from(self.is_outstanding(slave));
         self.outcomes[slave as usize] = outcome;
-        self.history.add(event);
+        self.history.push(&event);
     }
 
     /// An event changes no result.
@@ -196,6 +199,6 @@ impl Push {
         requires { ChangesNone self.old event }
         ensures { self.new ≡ with_event self.old event }
     {
-        self.history.add(event);
+        self.history.push(&event);
     }
 }

@@ -1,9 +1,10 @@
 //! What came of a slave.
 
 ghost use Rattle.std.specs.Prelude.{◌≡◌};
-ghost use Rattle.yp_push.specs.Results.{is_unanswered, awaits_call, is_settled};
+ghost use Rattle.yp_push.specs.Results.{is_unanswered, is_settled};
+ghost use Rattle.yp_push.specs.inside.Results.{awaits_call};
 
-use yp_msgs::PushStat;
+use yp_messages::PushStat;
 
 /// Why a slave couldn't be asked.
 #[derive(Clone, Copy, Debug, PartialEq, Eq)]

@@ -1,14 +1,15 @@
 -- Heads that were written are read again.
 use Rattle.std.proofs.Common.{ℕ, pos, [], ◌++◌, length, refl, arith, rules}
 use Rattle.yp_xdr.specs.Kind.{U32, Value}
-use Rattle.yp_xdr.specs.Spelling.{spelling, opaque, fixed, Spells}
-use Rattle.yp_xdr.specs.Laws.{WrittenIsReadAgain}
+use Rattle.yp_xdr.specs.Spelling.{spelling, opaque, fixed}
+use Rattle.yp_xdr.specs.inside.Spelling.{Spells}
+use Rattle.yp_xdr.specs.inside.Laws.{WrittenIsReadAgain}
 use Rattle.yp_rpc.specs.declared.reply.ReplyHead.TheVariants.{Success, ProgUnavail, ProgMismatch, ProcUnavail}
 use Rattle.yp_rpc.specs.declared.reply.ReplyHead.TheVariants.{GarbageArgs, SystemErr, RpcMismatch, AuthError}
 use Rattle.yp_rpc.specs.Call.{front_kind, procedure_kind}
 use Rattle.yp_rpc.specs.Called.{front, heading}
 use Rattle.yp_rpc.specs.Read.{reply_kind, accepted_kind, denied_kind, versions_kind}
-use Rattle.yp_rpc.specs.Laws.{IsWord, ReplyIsReadAgain, CallIsHeardAgain}
+use Rattle.yp_rpc.specs.inside.Laws.{IsWord, ReplyIsReadAgain, CallIsHeardAgain}
 
 front_spelled : (xid : ℕ) → IsWord xid → Spells front_kind (front xid) (spelling front_kind (front xid))
 front_spelled xid h = record { fits = (h, (omega arith, omega arith)); spelled = refl }

@@ -4,7 +4,7 @@ use Rattle.std.proofs.Common.{length, refl, sym, ap, ◌∙◌, arith, append_as
 use Rattle.std.proofs.lemmas.Bool.{cases_lt}
 use Rattle.std.proofs.lemmas.List.{flat_map_more, length-append, nil_from_length}
 use Rattle.std.proofs.lemmas.List.Elements.{All-nil}
-use Rattle.yp_xdr.specs.Reading.{IsBytes}
+use Rattle.yp_xdr.specs.inside.Reading.{IsBytes}
 use Rattle.yp_rpc.specs.Records.{IsShort, head, fragment, begun, joined, AreWithin, Fragments, IsPart, IsTorn, IsLong}
 use Rattle.yp_rpc.specs.Records.{IsRest, Cut}
 use Rattle.yp_rpc.proofs.CutNext.{IsBytes-behind, head_of, Opens, IsNext, IsPast, next_of}

@@ -7,7 +7,7 @@ use Rattle.std.proofs.lemmas.Nat.{be_bytes_4}
 use Rattle.std.proofs.lemmas.List.{length-take-le, get_or-append-add, get_or_append_left, get_or_past, take-append-drop}
 use Rattle.std.proofs.lemmas.List.Elements.{All-push}
 use Rattle.yp_xdr.specs.Spelling.{word}
-use Rattle.yp_xdr.specs.Reading.{IsBytes}
+use Rattle.yp_xdr.specs.inside.Reading.{IsBytes}
 use Rattle.yp_rpc.specs.Records.{empty_max, IsShort, head, fragment, joined, empties, AreWithin, IsPart}
 use Rattle.yp_rpc.proofs.CutPieces.{blank, blank_is, empties-append, length-joined_push}
 

@@ -14,7 +14,8 @@ use Rattle.yp_rpc.specs.declared.record.RecordFault.TheVariants.{Torn, TooLong, 
 use Rattle.yp_rpc.proofs.Stream.{take-behind, ReadsBehind, read_behind, length-room, length-read_behind}
 use Rattle.yp_rpc.proofs.CutPieces.{blank, blank_is, empties-cons, empties-append, length-joined, length-joined_push}
 use Rattle.yp_rpc.specs.Records.{empty_max, IsShort, head, fragment, begun, joined, empties, AreWithin, IsPart}
-use Rattle.yp_rpc.specs.Records.{IsBegun, IsEmpty, TakesRecord, HasCause, HasNoFragment}
+use Rattle.yp_rpc.specs.Records.{IsUnfinished, IsEmpty, TakesRecord, HasCause}
+use Rattle.yp_rpc.specs.inside.Records.{HasNoFragment}
 
 -- input ended behind the head of a fragment
 pub torn_body : (last : Bool) (len n room empty place : ℕ) (body : List ℕ) (old mid new : Option (List ℕ))
@@ -180,7 +181,7 @@ nil_or_some (byte ∷ bytes) = inr (λ none. cc)
 
 -- whole fragments and part of one are less than a record
 pub IsBegun-part : (limit : ℕ) (pieces : List (List ℕ)) (tail : List ℕ) → AreWithin limit pieces
-    → IsPart limit pieces tail → IsBegun limit (begun pieces ++ tail)
+    → IsPart limit pieces tail → IsUnfinished limit (begun pieces ++ tail)
 IsBegun-part limit pieces tail within part =
     elim (nil_or_some (begun pieces ++ tail)) [
       | inl none ↦ inl none

@@ -10,8 +10,10 @@ use Rattle.yp_io.specs.Counts.{HasRisen, last_count}
 use Rattle.yp_rpc.specs.declared.record.RecordFault.{RecordFault}
 use Rattle.yp_rpc.specs.declared.record.RecordFault.TheVariants.{Torn, TooLong, ReadFault}
 use Rattle.yp_rpc.specs.Records.{empty_max, IsShort, head, fragment, begun, joined, AreWithin, IsPart, IsEmpty}
-use Rattle.yp_rpc.specs.Records.{TakesRecord, HasNoFragment}
-use Rattle.yp_rpc.specs.Pieces.{Part, IsInFragment, HasGiven, HasNoPiece}
+use Rattle.yp_rpc.specs.Records.{TakesRecord}
+use Rattle.yp_rpc.specs.inside.Records.{HasNoFragment}
+use Rattle.yp_rpc.specs.Pieces.{Part}
+use Rattle.yp_rpc.specs.inside.Pieces.{IsInFragment, HasGiven, HasNoPiece}
 use Rattle.yp_rpc.proofs.CutPieces.{blank, blank_is, empties-append, length-joined_push}
 use Rattle.yp_rpc.proofs.Fragments.{HasBegun, HasCause-behind, torn_between, IsBegun-part, AreWithin-push}
 use Rattle.yp_rpc.proofs.Fragments.{length-fragment, begun-push, joined-push, bool_byte-blank}

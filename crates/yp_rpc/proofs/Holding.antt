@@ -10,8 +10,9 @@ use Rattle.std.proofs.Math.Seq.{take-append-add}
 use Rattle.std.proofs.KnownBytes.{Appends-nil, Appends-trans, Appends-kept, Keeps-refl, Keeps-trans}
 use Rattle.std.specs.Io.KnownBytes.{Appends, Keeps}
 use Rattle.yp_rpc.specs.Records.{fragment_max, head, fragment, begun, joined, sent}
-use Rattle.yp_rpc.specs.Waiting.{held_max, held_bytes, full_len, held_room, Waiting, none, bodies, waiting, promised}
-use Rattle.yp_rpc.specs.Waiting.{IsFull, Holds, Rests}
+use Rattle.yp_rpc.specs.Waiting.{held_max, full_len, Waiting, bodies, waiting}
+use Rattle.yp_rpc.specs.inside.Waiting.{held_bytes, held_room, none, promised}
+use Rattle.yp_rpc.specs.Waiting.{IsFull, HoldsFragments, RestsBetweenCalls}
 use Rattle.yp_rpc.proofs.CutPieces.{length-joined}
 use Rattle.yp_rpc.proofs.Fragments.{length-fragment, joined-push, begun-push}
 use Rattle.yp_rpc.proofs.Sending.{sent-last, sent-full, sent-begun}
@@ -33,7 +34,7 @@ length-begun (piece ∷ pieces) full =
     )
 
 -- there is room for one fragment more
-pub room_for_one : (held : Waiting) → Holds held → length held.whole + full_len ≤ held_room
+pub room_for_one : (held : Waiting) → HoldsFragments held → length held.whole + full_len ≤ held_room
 room_for_one held h = omega (arith, ap length h.framed, length-begun h.pieces h.full, h.few)
 
 -- no fragments, no bytes
@@ -57,12 +58,12 @@ bodies-begun (suc turns) (piece ∷ pieces) full few =
     rw (first, behind, others) refl
 
 -- the bytes that wait are those of the pieces, and the next ones
-waiting_is : (held : Waiting) (h : Holds held) → waiting held ≡ joined h.pieces ++ held.piece
+waiting_is : (held : Waiting) (h : HoldsFragments held) → waiting held ≡ joined h.pieces ++ held.piece
 waiting_is held h = ap (λ bytes. bytes ++ held.piece)
     (ap (bodies held_max) h.framed ∙ bodies-begun held_max h.pieces h.full (omega (arith, h.few)))
 
 -- what is sent of the bytes that wait, and of the rest, is what was promised
-pub promise : (held : Waiting) (rest : List ℕ) → Holds held → 0 < length (held.piece ++ rest)
+pub promise : (held : Waiting) (rest : List ℕ) → HoldsFragments held → 0 < length (held.piece ++ rest)
     → sent (waiting held ++ rest) ≡ promised held rest
 promise held rest h some =
     ap (λ bytes. sent (bytes ++ rest)) (waiting_is held h)
@@ -84,7 +85,7 @@ length-joined_full (piece ∷ pieces) full =
     )
 
 -- some bytes wait, and so some that aren't whole yet
-pub some_piece : (held : Waiting) → Rests held → 0 < length (waiting held) → 0 < length held.piece
+pub some_piece : (held : Waiting) → RestsBetweenCalls held → 0 < length (waiting held) → 0 < length held.piece
 some_piece held r some =
     let h = r.holds in
     let all : length (waiting held) ≡ length (joined h.pieces) + length held.piece =
@@ -130,8 +131,8 @@ closed_stays before held new is full =
     ([], Appends-nil before, λ more some. promised_full held more full some ∙ ap (λ w. promised w more) (sym is))
 
 -- there is room for another behind it
-pub closed_holds : (held new : Waiting) → Holds held → new ≡ closed held → length held.piece ≡ fragment_max
-    → length new.whole + full_len ≤ held_room → Holds new
+pub closed_holds : (held new : Waiting) → HoldsFragments held → new ≡ closed held → length held.piece ≡ fragment_max
+    → length new.whole + full_len ≤ held_room → HoldsFragments new
 closed_holds held new h is full room =
     let pieces = h.pieces ++ held.piece ∷ [] in
     let all : All IsFull pieces = All-push IsFull h.pieces held.piece h.full full in
@@ -147,7 +148,7 @@ closed_holds held new h is full room =
     }
 
 -- the same bytes wait
-pub closed_waits : (held new : Waiting) → Holds held → new ≡ closed held → length held.piece ≡ fragment_max
+pub closed_waits : (held new : Waiting) → HoldsFragments held → new ≡ closed held → length held.piece ≡ fragment_max
     → waiting new ≡ waiting held
 closed_waits held new h is full =
     let pieces = h.pieces ++ held.piece ∷ [] in
@@ -161,7 +162,7 @@ closed_waits held new h is full =
     ∙ sym (waiting_is held h)
 
 -- where there is no room for another, as many bytes wait as can
-pub full_batch : (held new : Waiting) → Holds held → new ≡ closed held → length held.piece ≡ fragment_max
+pub full_batch : (held new : Waiting) → HoldsFragments held → new ≡ closed held → length held.piece ≡ fragment_max
     → (length new.whole + full_len ≤ held_room → ⊥) → length (waiting held) < held_bytes → ⊥
 full_batch held new h is full past fits =
     past (omega (
@@ -179,7 +180,7 @@ full_batch held new h is full past fits =
     ))
 
 -- nothing is held
-pub none_holds : Holds none
+pub none_holds : HoldsFragments none
 none_holds = record { pieces = []; framed = refl; full = All-nil IsFull; few = omega arith; short = omega arith }
 
 -- all that was held was sent, with a full fragment
@@ -210,7 +211,7 @@ closed_part (Err e) before now held mid is full part = λ more some.
 
 -- What a sink took so far of a piece of a record, of which others are still to be put.
 pub record HasPut (before now : Option (List ℕ)) (old new : Waiting) (piece rest : List ℕ) : Type 0 where
-  pub rests : Rests new
+  pub rests : RestsBetweenCalls new
   pub out : List ℕ
   pub taken : Appends before now out
   pub same : (more : List ℕ) → promised old (piece ++ more) ≡ out ++ promised new (rest ++ more)
@@ -221,7 +222,7 @@ pub record HasPut (before now : Option (List ℕ)) (old new : Waiting) (piece re
       → Keeps before now × (waiting new ++ rest ≡ waiting old ++ piece)
 
 -- nothing was put yet
-pub HasPut-none : (before : Option (List ℕ)) (old : Waiting) (piece : List ℕ) → Rests old
+pub HasPut-none : (before : Option (List ℕ)) (old : Waiting) (piece : List ℕ) → RestsBetweenCalls old
     → HasPut before before old old piece piece
 HasPut-none before old piece r =
     record {
@@ -252,7 +253,7 @@ kept held bytes = record held { piece = held.piece ++ bytes }
 -- some bytes were sent, and the next ones wait
 pub HasPut-more : {T E : Type 0} (result : Result T E) (before now after : Option (List ℕ))
     (old new mid last : Waiting) (piece rest out : List ℕ) (count : ℕ) → HasPut before now old new piece rest
-    → Holds mid → Appends now after out
+    → HoldsFragments mid → Appends now after out
     → ((more : List ℕ) → 0 < length more → promised new more ≡ out ++ promised mid more)
     → last ≡ kept mid (take count rest) → 0 < count → count ≤ length rest → length mid.piece + count ≤ fragment_max
     → (length (waiting new) < held_bytes → IsOk result × Keeps now after × (waiting mid ≡ waiting new))
@@ -327,7 +328,7 @@ idle_err (Ok x) held is = tt
 idle_err (Err e) held is = idle held is
 
 -- the bytes that wait are some where a fragment isn't whole yet, or where more come
-some_old : (held : Waiting) (more : List ℕ) → Rests held → 0 < length (waiting held ++ more)
+some_old : (held : Waiting) (more : List ℕ) → RestsBetweenCalls held → 0 < length (waiting held ++ more)
     → 0 < length (held.piece ++ more)
 some_old held more r some =
     elim (cases_lt 0 (length more)) [
@@ -342,7 +343,7 @@ some_old held more r some =
 
 -- a piece was put
 pub put_sent : {T E : Type 0} (result : Result T E) (before now : Option (List ℕ)) (old new : Waiting)
-    (view piece : List ℕ) → waiting old ≡ view → Rests old → OnOk result (Rests new)
+    (view piece : List ℕ) → waiting old ≡ view → RestsBetweenCalls old → OnOk result (RestsBetweenCalls new)
     → OnOk result ((out : List ℕ) × Appends before now out
     × ((more : List ℕ) → promised old (piece ++ more) ≡ out ++ promised new more))
     → OnOk result (0 < length (old.piece ++ piece) ↔ 0 < length new.piece)
@@ -376,7 +377,7 @@ put_sent (Ok x) before now old new view piece is r rests sends came = (
 
 -- a part of it was
 pub put_part : {T E : Type 0} (result : Result T E) (before now : Option (List ℕ)) (old : Waiting)
-    (view piece : List ℕ) → waiting old ≡ view → Rests old → OnErr result (0 < length piece)
+    (view piece : List ℕ) → waiting old ≡ view → RestsBetweenCalls old → OnErr result (0 < length piece)
     → OnErr result ((more : List ℕ) → (n : ℕ) × Appends before now (take n (promised old (piece ++ more))))
     → OnErr result ((more : List ℕ) → (n : ℕ) × Appends before now (take n (sent (view ++ piece ++ more))))
 put_part (Ok x) before now old view piece is r some part = tt
@@ -389,7 +390,7 @@ put_part (Err e) before now old view piece is r some part = λ more.
     let p = part more in (p.0, rw same p.1)
 
 -- what is sent at the end: the whole fragments, and the rest as the last one
-pub all_sent : (held : Waiting) (view : List ℕ) → waiting held ≡ view → Rests held → 0 < length view
+pub all_sent : (held : Waiting) (view : List ℕ) → waiting held ≡ view → RestsBetweenCalls held → 0 < length view
     → held.whole ++ fragment true held.piece ≡ sent view
 all_sent held view is r some =
     let piece : 0 < length held.piece = some_piece held r (omega (arith, some, ap length is)) in

@@ -4,7 +4,7 @@ use Rattle.std.proofs.Common.{ap, ◌∙◌, subst, arith, append_assoc}
 use Rattle.std.proofs.lemmas.List.{take_more, take_all, length-append}
 use Rattle.std.proofs.lemmas.Grind.{flat_map-append}
 use Rattle.yp_xdr.specs.Spelling.{word}
-use Rattle.yp_xdr.specs.Writing.{written, Writes, Sets}
+use Rattle.yp_xdr.specs.inside.Writing.{written, Writes, Sets}
 use Rattle.yp_rpc.specs.Reply.{words}
 
 -- each word takes four bytes

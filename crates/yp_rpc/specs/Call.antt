@@ -1,8 +1,8 @@
 -- What a record is heard as, by RFC 5531 section 9.
-use Rattle.std.specs.Prelude.{ℕ, ◌≤◌, List, length, Result, Ok, Err, ◌==◌, if◌then◌else◌}
+use Rattle.std.specs.Prelude.{ℕ, List, Result, Ok, Err, ◌==◌, if◌then◌else◌}
 use Rattle.yp_xdr.specs.declared.fault.XdrFault.{XdrFault}
 use Rattle.yp_xdr.specs.Kind.{Kind, U32, Opaque, Sequence, Value}
-use Rattle.yp_xdr.specs.Reading.{Unread, reading}
+use Rattle.yp_xdr.specs.Reading.{Remaining, reading}
 use Rattle.yp_rpc.specs.declared.call.CallHead.{CallHead}
 use Rattle.yp_rpc.specs.declared.call.Heard.{Heard}
 use Rattle.yp_rpc.specs.declared.call.Heard.TheVariants.{Call, WrongRpc, Noise}
@@ -11,7 +11,7 @@ use Rattle.yp_rpc.specs.declared.call.Heard.TheVariants.{Call, WrongRpc, Noise}
 abbrev pub front_kind : Kind
 front_kind = Sequence U32 (Sequence U32 U32)
 
--- a credential or a verifier: its flavor and its body of at most 400 bytes
+-- a credential or a verifier: its flavor and its body of at most 400 bytes (RFC 5531 section 8.2)
 abbrev pub auth_kind : Kind
 auth_kind = Sequence U32 (Opaque 400)
 
@@ -20,7 +20,7 @@ abbrev pub procedure_kind : Kind
 procedure_kind = Sequence U32 (Sequence U32 (Sequence U32 (Sequence auth_kind auth_kind)))
 
 -- the head of a call, whose arguments are what is left
-abbrev pub call_head : ℕ → Value procedure_kind → Unread → CallHead
+abbrev pub call_head : ℕ → Value procedure_kind → Remaining → CallHead
 call_head xid fields left =
     record {
       xid = xid;
@@ -33,12 +33,12 @@ call_head xid fields left =
     }
 
 -- with these words in front, and the version of RPC that is known
-abbrev pub heard_procedure : ℕ → Result (Value procedure_kind × Unread) XdrFault → Heard
+abbrev pub heard_procedure : ℕ → Result (Value procedure_kind × Remaining) XdrFault → Heard
 heard_procedure xid (Ok read) = Call (call_head xid read.0 read.1)
 heard_procedure xid (Err fault) = Noise
 
 -- a message whose type is 0, CALL, and whose version of RPC is 2
-abbrev pub heard_front : Result (Value front_kind × Unread) XdrFault → Heard
+abbrev pub heard_front : Result (Value front_kind × Remaining) XdrFault → Heard
 heard_front (Ok read) =
     if read.0.1.0 == 0
     then (if read.0.1.1 == 2 then heard_procedure read.0.0 (reading procedure_kind read.1) else WrongRpc read.0.0)
@@ -49,9 +49,3 @@ heard_front (Err fault) = Noise
 -- nothing more is read. A call whose head can't be read is noise too.
 abbrev pub heard : List ℕ → Heard
 heard message = heard_front (reading front_kind (record { at = 0; bytes = message }))
-
--- the arguments of a call begin inside the message, or at its end
-abbrev pub IsInside : List ℕ → Heard → Type 0
-IsInside message (Call call) = call.body ≤ length message
-IsInside message (WrongRpc xid) = Unit {0}
-IsInside message Noise = Unit {0}

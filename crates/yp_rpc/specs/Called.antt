@@ -12,10 +12,6 @@ front xid = (xid, (0, 2))
 abbrev pub heading : ℕ → ℕ → ℕ → Value procedure_kind
 heading prog vers procedure = (prog, (vers, (procedure, ((0, []), (0, [])))))
 
--- the bytes of a call's head
-abbrev pub called : ℕ → ℕ → ℕ → ℕ → List ℕ
-called xid prog vers procedure = spelling (Sequence front_kind procedure_kind) (front xid, heading prog vers procedure)
-
 -- a call with its arguments
 abbrev pub call_kind : Kind → Kind
 call_kind arguments = Sequence front_kind (Sequence procedure_kind arguments)

@@ -1,36 +1,54 @@
--- Whether a call is let to the procedures of a program that has one version, by the order of refusals of RFC 5531
--- section 9.
-use Rattle.std.specs.Prelude.{ℕ, ◌≤◌, List, length, not, ◌&&◌, ◌==◌, if◌then◌else◌}
+-- Whether a call is let to a procedure of the programs that are answered, by the order of refusals of RFC 5531 section
+-- 9.
+use Rattle.std.specs.Prelude.{ℕ, List, not, ◌&&◌, ◌==◌, if◌then◌else◌, Option, Some, None, Result, Ok, Err}
+use Rattle.std.specs.Option.{ok_or}
 use Rattle.yp_rpc.specs.declared.call.CallHead.{CallHead}
 use Rattle.yp_rpc.specs.declared.call.Heard.{Heard}
 use Rattle.yp_rpc.specs.declared.call.Heard.TheVariants.{Call, WrongRpc, Noise}
 use Rattle.yp_rpc.specs.declared.judging.Judged.{Judged}
 use Rattle.yp_rpc.specs.declared.judging.Judged.TheVariants.{Ignored, Refused, Admitted}
-use Rattle.yp_rpc.specs.declared.reply.ReplyHead.TheVariants.{ProgUnavail, ProgMismatch, RpcMismatch, AuthError}
+use Rattle.yp_rpc.specs.declared.reply.ReplyHead.{ReplyHead}
+use Rattle.yp_rpc.specs.declared.reply.ReplyHead.TheVariants.{ProgUnavail, ProgMismatch, ProcUnavail, RpcMismatch}
+use Rattle.yp_rpc.specs.declared.reply.ReplyHead.TheVariants.{AuthError}
 use Rattle.yp_rpc.specs.Numbers.{auth_none, auth_sys, auth_rejectedcred, rpc_version}
 use Rattle.yp_rpc.specs.Call.{heard}
 
--- The credential is none or that of Unix, the program is this one, and so is its version: the first that isn't so is
--- the reason of the refusal.
-abbrev pub judged_call : (prog vers : ℕ) → CallHead → Judged
-judged_call prog vers call =
-    if not (call.flavor == auth_none) && not (call.flavor == auth_sys)
-    then Refused call.xid (AuthError auth_rejectedcred)
-    else (if not (call.prog == prog) then Refused call.xid ProgUnavail
-    else (if not (call.vers == vers) then Refused call.xid (ProgMismatch vers vers)
-    else Admitted call))
+-- the programs that are answered: the version of each, and the procedure of each with a number
+pub record ProgramTable (Procedure : Type 0) : Type 0 where
+  pub version : ℕ → Option ℕ
+  pub procedure : ℕ → ℕ → Option Procedure
 
-abbrev pub judged_heard : (prog vers : ℕ) → Heard → Judged
-judged_heard prog vers Noise = Ignored
-judged_heard prog vers (WrongRpc xid) = Refused xid (RpcMismatch rpc_version rpc_version)
-judged_heard prog vers (Call call) = judged_call prog vers call
+-- one program alone, in this version
+abbrev pub one_program : {Procedure : Type 0} → (prog vers : ℕ) → (ℕ → Option Procedure) → ProgramTable Procedure
+one_program prog vers procedure_of = record {
+  version = λ asked. if asked == prog then Some vers else None;
+  procedure = λ asked number. procedure_of number;
+}
 
--- what a message is for this version of a program
-abbrev pub judged : (prog vers : ℕ) → List ℕ → Judged
-judged prog vers message = judged_heard prog vers (heard message)
+-- the procedure of a call of a program that is answered in this version, or isn't answered
+abbrev pub admitted_in : {Procedure : Type 0} → ProgramTable Procedure → CallHead → Option ℕ
+    → Result Procedure ReplyHead
+admitted_in table call None = Err ProgUnavail
+admitted_in table call (Some version) =
+    if not (call.vers == version) then Err (ProgMismatch version version)
+    else ok_or (table.procedure call.prog call.procedure) ProcUnavail
 
--- the arguments of a call that is let to a procedure begin inside the message, or at its end
-abbrev pub IsLetInside : List ℕ → Judged → Type 0
-IsLetInside message Ignored = Unit {0}
-IsLetInside message (Refused xid head) = Unit {0}
-IsLetInside message (Admitted call) = call.body ≤ length message
+-- The procedure that a call is let to: its credential is none or that of Unix, the program is answered, in this
+-- version, and has the procedure. The first that isn't so is the reason of the refusal.
+abbrev pub admitted : {Procedure : Type 0} → ProgramTable Procedure → CallHead → Result Procedure ReplyHead
+admitted table call =
+    if not (call.flavor == auth_none) && not (call.flavor == auth_sys) then Err (AuthError auth_rejectedcred)
+    else admitted_in table call (table.version call.prog)
+
+abbrev pub judged_call : {Procedure : Type 0} → CallHead → Result Procedure ReplyHead → Judged Procedure
+judged_call call (Ok procedure) = Admitted call procedure
+judged_call call (Err head) = Refused call.xid head
+
+abbrev pub judged_heard : {Procedure : Type 0} → ProgramTable Procedure → Heard → Judged Procedure
+judged_heard table Noise = Ignored
+judged_heard table (WrongRpc xid) = Refused xid (RpcMismatch rpc_version rpc_version)
+judged_heard table (Call call) = judged_call call (admitted table call)
+
+-- what a message is for these programs
+abbrev pub judged : {Procedure : Type 0} → ProgramTable Procedure → List ℕ → Judged Procedure
+judged table message = judged_heard table (heard message)

@@ -3,10 +3,10 @@ pub mod Records
 pub mod Pieces
 pub mod Parts
 pub mod Waiting
-pub mod Laws
 pub mod Call
 pub mod Called
 pub mod Reply
 pub mod Read
 pub mod Judging
 pub mod Turns
+pub mod inside

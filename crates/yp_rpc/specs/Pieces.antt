@@ -1,10 +1,5 @@
 -- A record that is given piece by piece.
-use Rattle.std.specs.Prelude.{◌≡◌, ℕ, ◌<◌, ◌⊎◌, Bool, false, List, [], ◌∷◌, ◌++◌, length, Option, min}
-use Rattle.std.specs.Io.KnownBytes.{Consumes}
-use Rattle.yp_io.specs.Counts.{last_count}
-use Rattle.yp_rpc.specs.declared.record.RecordFault.{RecordFault}
-use Rattle.yp_rpc.specs.declared.record.RecordFault.TheVariants.{Torn}
-use Rattle.yp_rpc.specs.Records.{head, begun, joined, empties, AreWithin, IsEmpty, TakesRecord, HasCause}
+use Rattle.std.specs.Prelude.{ℕ, Bool, false}
 
 -- What was read of a record: the bytes and the empty fragments that its heads name, how many bytes of the present
 -- fragment are still to come, whether it is the last, and the bytes of these fragments with their heads.
@@ -20,39 +15,6 @@ abbrev pub not_begun : Part
 not_begun = record { named = 0; empty = 0; left = 0; last = false; passed = 0 }
 
 -- a reader of records: the place at which the record begins, and what was read of it
-pub record Reader : Type 0 where
+pub record ReaderState : Type 0 where
   pub place : ℕ
   pub part : Part
-
--- a reader between two records
-abbrev pub between : ℕ → Reader
-between place = record { place = place; part = not_begun }
-
--- A record was read into a fragment: the pieces before it, its bytes that were given, and as many as are still to come.
-pub record IsInFragment (limit : ℕ) (front : List ℕ) (start now : Option (List ℕ)) (part : Part) : Type 0 where
-  pub pieces : List (List ℕ)
-  pub body : List ℕ
-  pub rest : List ℕ
-  pub taken : Consumes start now (begun pieces ++ (head part.last (length (body ++ rest)) ++ body))
-  pub given : front ≡ joined pieces ++ body
-  pub within : AreWithin limit (pieces ++ (body ++ rest) ∷ [])
-  pub left : part.left ≡ length rest
-  pub named : part.named ≡ length (joined (pieces ++ (body ++ rest) ∷ []))
-  pub empty : part.empty ≡ empties (pieces ++ (body ++ rest) ∷ [])
-  pub passed : part.passed ≡ min (length (begun (pieces ++ (body ++ rest) ∷ []))) last_count
-
--- These bytes were given of the record that begins where the source stood at the start.
-abbrev pub HasGiven : ℕ → List ℕ → Option (List ℕ) → Option (List ℕ) → Part → Type 0
-HasGiven limit front start now part =
-    ((part ≡ not_begun) × (front ≡ []) × Consumes start now []) ⊎ IsInFragment limit front start now part
-
--- A piece of the record was given behind them. An empty one is its end: then it is the record, and was taken from the
--- source.
-pub record Gives (limit : ℕ) (front piece : List ℕ) (start new : Option (List ℕ)) (old after : Reader) : Type 0 where
-  pub more : 0 < length piece → HasGiven limit (front ++ piece) start new after.part × (after.place ≡ old.place)
-  pub end : length piece ≡ 0 → TakesRecord limit front start new old.place after.place × (after.part ≡ not_begun)
-
--- Why there is no piece: why there is no record, or input ended before its first byte, which is torn here.
-abbrev pub HasNoPiece : ℕ → ℕ → Option (List ℕ) → Option (List ℕ) → ℕ → ℕ → RecordFault → Type 0
-HasNoPiece limit place start new before now fault =
-    HasCause limit place start new before now fault ⊎ ((fault ≡ Torn place) × IsEmpty start new)

@@ -71,8 +71,8 @@ pub record IsTorn (limit : ℕ) (rest : List ℕ) : Type 0 where
   pub part : IsPart limit pieces tail
 
 -- less than a record: nothing, or a rest that ends inside its first record
-abbrev pub IsBegun : ℕ → List ℕ → Type 0
-IsBegun limit part = (part ≡ []) ⊎ IsTorn limit part
+abbrev pub IsUnfinished : ℕ → List ℕ → Type 0
+IsUnfinished limit part = (part ≡ []) ⊎ IsTorn limit part
 
 -- bytes up to the first head that names too much; the heads in them fix the pieces
 pub record IsTooLong (limit : ℕ) (front : List ℕ) : Type 0 where
@@ -123,19 +123,8 @@ HasCause limit place old new before now (Torn at) =
 HasCause limit place old new before now (TooLong at) =
     (at ≡ place) × (front : List ℕ) × IsTooLong limit front × Consumes old new front
 HasCause limit place old new before now ReadFault =
-    HasRisen before now × (part : List ℕ) × Consumes old new part × IsBegun limit part
+    HasRisen before now × (part : List ℕ) × Consumes old new part × IsUnfinished limit part
 
 -- Nothing was left, and nothing was taken.
 abbrev pub IsEmpty : Option (List ℕ) → Option (List ℕ) → Type 0
 IsEmpty old new = Consumes old new [] × IsAtEnd new
-
--- Why there is no whole fragment, of a record that began at the place, has some room left and holds so many empty
--- fragments.
-abbrev pub HasNoFragment : ℕ → ℕ → ℕ → Option (List ℕ) → Option (List ℕ) → ℕ → ℕ → RecordFault → Type 0
-HasNoFragment room empty place old new before now (Torn at) =
-    (at ≡ place) × (tail : List ℕ) × (0 < length tail) × IsPart room [] tail × Consumes old new tail × IsAtEnd new
-HasNoFragment room empty place old new before now (TooLong at) =
-    (at ≡ place) × (last : Bool) × (len : ℕ) × (len < 2 ^ 31) × ((room < len) ⊎ ((len ≡ 0) × (empty_max ≤ empty)))
-    × Consumes old new (head last len)
-HasNoFragment room empty place old new before now ReadFault =
-    HasRisen before now × (part : List ℕ) × Consumes old new part × IsPart room [] part

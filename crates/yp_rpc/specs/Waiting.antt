@@ -1,6 +1,6 @@
 -- What a writer of records holds back, to write it at once: whole fragments, and the bytes of the next one.
-use Rattle.std.specs.Prelude.{◌≡◌, ℕ, zero, suc, ◌+◌, ◌*◌, ◌<◌, ◌≤◌, All, List, [], ◌++◌, length, take, drop}
-use Rattle.yp_rpc.specs.Records.{fragment_max, begun, sent}
+use Rattle.std.specs.Prelude.{◌≡◌, ℕ, zero, suc, ◌+◌, ◌<◌, ◌≤◌, All, List, [], ◌++◌, length, take, drop}
+use Rattle.yp_rpc.specs.Records.{fragment_max, begun}
 
 -- the most fragments that are held back
 abbrev pub held_max : ℕ
@@ -10,22 +10,10 @@ held_max = 8
 abbrev pub full_len : ℕ
 full_len = 4 + fragment_max
 
--- the room for as many
-abbrev pub held_room : ℕ
-held_room = held_max * full_len
-
--- the most bytes of a record that wait
-abbrev pub held_bytes : ℕ
-held_bytes = held_max * fragment_max
-
 -- whole fragments with their heads, and the bytes of one that isn't whole yet
 pub record Waiting : Type 0 where
   pub whole : List ℕ
   pub piece : List ℕ
-
--- nothing waits
-abbrev pub none : Waiting
-none = record { whole = []; piece = [] }
 
 -- full fragments, at most so many, without their heads
 unfoldable pub bodies : ℕ → List ℕ → List ℕ
@@ -36,16 +24,12 @@ bodies (suc turns) whole = take fragment_max (drop 4 whole) ++ bodies turns (dro
 abbrev pub waiting : Waiting → List ℕ
 waiting held = bodies held_max held.whole ++ held.piece
 
--- what is still to be sent of a record, of which this is the rest
-abbrev pub promised : Waiting → List ℕ → List ℕ
-promised held rest = held.whole ++ sent (held.piece ++ rest)
-
 -- a piece of a fragment that isn't the last
 abbrev pub IsFull : List ℕ → Type 0
 IsFull piece = length piece ≡ fragment_max
 
 -- The whole fragments are full, and there is room for another.
-pub record Holds (held : Waiting) : Type 0 where
+pub record HoldsFragments (held : Waiting) : Type 0 where
   pub pieces : List (List ℕ)
   pub framed : held.whole ≡ begun pieces
   pub full : All IsFull pieces
@@ -53,6 +37,6 @@ pub record Holds (held : Waiting) : Type 0 where
   pub short : length held.piece ≤ fragment_max
 
 -- Between the calls a fragment is whole only where a further byte waits.
-pub record Rests (held : Waiting) : Type 0 where
-  pub holds : Holds held
+pub record RestsBetweenCalls (held : Waiting) : Type 0 where
+  pub holds : HoldsFragments held
   pub some : 0 < length held.whole → 0 < length held.piece

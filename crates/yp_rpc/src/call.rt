@@ -1,11 +1,12 @@
 //! The head of a call (RFC 5531 section 9).
 
 ghost use Rattle.std.specs.Prelude.{◌≡◌, IfOk};
-ghost use Rattle.yp_xdr.specs.Reading.{Reads, end_of};
-ghost use Rattle.yp_xdr.specs.Writing.{Writes};
-ghost use Rattle.yp_xdr.specs.Cursor.{unread};
-ghost use Rattle.yp_rpc.specs.Call.{front_kind, auth_kind, procedure_kind, heard, IsInside};
-ghost use Rattle.yp_rpc.specs.Called.{called};
+ghost use Rattle.yp_xdr.specs.inside.Reading.{Reads, end_of};
+ghost use Rattle.yp_xdr.specs.inside.Writing.{Writes};
+ghost use Rattle.yp_xdr.specs.inside.Cursor.{unread};
+ghost use Rattle.yp_rpc.specs.Call.{front_kind, auth_kind, procedure_kind, heard};
+ghost use Rattle.yp_rpc.specs.inside.Call.{BodyIsInside};
+ghost use Rattle.yp_rpc.specs.inside.Called.{called};
 
 use crate::protocol::{AUTH_MAX, AUTH_NONE, CALL, RPC_VERSION};
 use crate::put::put_words;
@@ -125,7 +126,7 @@ fn read_procedure<'a>(cursor: &mut Cursor<'a>) -> Result<Procedure<'a>, XdrFault
 /// What a record is heard as. It takes the bytes of the record without the heads of its fragments.
 pub fn read_call(bytes: &[u8]) -> Heard
     ensures heard { result ≡ heard bytes.now }
-    ensures body { IsInside bytes.now result }
+    ensures body { BodyIsInside bytes.now result }
 {
     let mut cursor = Cursor::new(bytes);
     let Ok(front) = read_front(&mut cursor) else {

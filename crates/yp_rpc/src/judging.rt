@@ -1,51 +1,67 @@
-//! Whether a call is let to the procedures of a program.
+//! Whether a call is let to a procedure of the programs that are answered.
 
 ghost use Rattle.std.specs.Prelude.{◌≡◌};
-ghost use Rattle.yp_rpc.specs.Judging.{judged, judged_call, IsLetInside};
+ghost use Rattle.yp_rpc.specs.Judging.{ProgramTable, admitted, judged};
+ghost use Rattle.yp_rpc.specs.inside.Judging.{IsLetInside};
 
 use crate::protocol::{AUTH_NONE, AUTH_REJECTEDCRED, AUTH_SYS, RPC_VERSION};
 use crate::{CallHead, Heard, ReplyHead, read_call};
 
-/// What a message is for a version of a program.
+/// The programs that are answered, each in one version.
+pub trait Programs {
+    /// A procedure of one of them.
+    type Procedure: Copy;
+
+    /// The version of each program, and its procedures.
+    ghost table: { Self → ProgramTable Self.Procedure };
+
+    /// The version in which a program is answered, where it is.
+    fn version(&self, prog: u32) -> Option<u32>
+        ensures { result ≡ (table self.now).version prog };
+
+    /// The procedure of a program with this number, where it has one.
+    fn procedure(&self, prog: u32, number: u32) -> Option<Self::Procedure>
+        ensures { result ≡ (table self.now).procedure prog number };
+}
+
+/// What a message is for the programs that are answered.
 #[derive(Clone, Copy, Debug)]
-pub enum Judged {
+pub enum Judged<P> {
     /// Nothing that is answered.
     Ignored,
     /// A call that isn't let to a procedure. Its reply has this head alone.
     Refused { xid: u32, head: ReplyHead },
-    /// A call of one of its procedures, which may be one that it hasn't.
-    Admitted(CallHead),
+    /// A call that is let to a procedure.
+    Admitted { call: CallHead, procedure: P },
 }
 
-/// The first reason why a call isn't let to a procedure: its credential, the program, or its version.
-fn judge_call(call: CallHead, prog: u32, vers: u32) -> Judged
-    ensures { result ≡ judged_call prog vers call }
+/// The procedure that a call is let to, or the first reason why it isn't let to one: its credential, the program, its
+/// version, or the procedure.
+fn admit<S: Programs>(programs: &S, call: &CallHead) -> Result<S::Procedure, ReplyHead>
+    ensures { result ≡ admitted (S.table programs.now) call.now }
 {
-    let xid = call.xid;
     if call.flavor != AUTH_NONE && call.flavor != AUTH_SYS {
-        let head = ReplyHead::AuthError {
+        return Err(ReplyHead::AuthError {
             stat: AUTH_REJECTEDCRED,
-        };
-        return Judged::Refused { xid, head };
+        });
     }
-    if call.prog != prog {
-        let head = ReplyHead::ProgUnavail;
-        return Judged::Refused { xid, head };
+    let Some(version) = programs.version(call.prog) else {
+        return Err(ReplyHead::ProgUnavail);
+    };
+    if call.vers != version {
+        return Err(ReplyHead::ProgMismatch {
+            low: version,
+            high: version,
+        });
     }
-    if call.vers != vers {
-        let head = ReplyHead::ProgMismatch {
-            low: vers,
-            high: vers,
-        };
-        return Judged::Refused { xid, head };
-    }
-    Judged::Admitted(call)
+    let procedure = programs.procedure(call.prog, call.procedure);
+    procedure.ok_or(ReplyHead::ProcUnavail)
 }
 
-/// What a message is for a program that has one version, by the order of refusals of RFC 5531 section 9: the version of
-/// RPC, the flavor of the credential, the program, its version.
-pub fn judge(message: &[u8], prog: u32, vers: u32) -> Judged
-    ensures judged { result ≡ judged prog vers message.now }
+/// What a message is for the programs that are answered, by the order of refusals of RFC 5531 section 9: the version of
+/// RPC, the flavor of the credential, the program, its version, the procedure.
+pub fn judge<S: Programs>(programs: &S, message: &[u8]) -> Judged<S::Procedure>
+    ensures judged { result ≡ judged (S.table programs.now) message.now }
     ensures body { IsLetInside message.now result }
 {
     match read_call(message) {
@@ -57,6 +73,12 @@ pub fn judge(message: &[u8], prog: u32, vers: u32) -> Judged
                 high: RPC_VERSION,
             },
         },
-        Heard::Call(call) => judge_call(call, prog, vers),
+        Heard::Call(call) => match admit(programs, &call) {
+            Ok(procedure) => Judged::Admitted { call, procedure },
+            Err(head) => Judged::Refused {
+                xid: call.xid,
+                head,
+            },
+        },
     }
 }

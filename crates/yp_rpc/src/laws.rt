@@ -2,9 +2,9 @@
 //! again.
 //! Each is the contract of a function that does nothing.
 
-ghost use Rattle.yp_rpc.specs.Laws.{CutIsOne, CutExists, FirstIsOne, RestIsNotWhole, TornIsNotLong, TornIsSome};
-ghost use Rattle.yp_rpc.specs.Laws.{LongIsSome};
-ghost use Rattle.yp_rpc.specs.Laws.{ReplyIsReadAgain, CallIsHeardAgain};
+ghost use Rattle.yp_rpc.specs.inside.Laws.{CutIsOne, CutExists, FirstIsOne, RestIsNotWhole, TornIsNotLong, TornIsSome};
+ghost use Rattle.yp_rpc.specs.inside.Laws.{LongIsSome};
+ghost use Rattle.yp_rpc.specs.inside.Laws.{ReplyIsReadAgain, CallIsHeardAgain};
 
 /// The records of a stream and the rest behind them are determined by its bytes, whatever the limit is.
 pub fn cut_is_one()

@@ -1,7 +1,7 @@
 //! Words that are written one behind the other, as the heads of messages are.
 
 ghost use Rattle.std.specs.Prelude.{◌*◌, ◌<◌, ◌^◌, length};
-ghost use Rattle.yp_xdr.specs.Writing.{Writes};
+ghost use Rattle.yp_xdr.specs.inside.Writing.{Writes};
 ghost use Rattle.yp_rpc.specs.Reply.{words};
 
 use yp_xdr::{NoRoom, set_u32};

@@ -1,11 +1,12 @@
 //! The head of a reply (RFC 5531 section 9).
 
 ghost use Rattle.std.specs.Prelude.{◌≡◌, ◌≤◌, length, IfOk};
-ghost use Rattle.yp_xdr.specs.Reading.{ReadsAs, Reads, end_of};
-ghost use Rattle.yp_xdr.specs.Writing.{Writes};
-ghost use Rattle.yp_xdr.specs.Cursor.{unread};
+ghost use Rattle.yp_xdr.specs.inside.Reading.{ReadsAs, Reads, end_of};
+ghost use Rattle.yp_xdr.specs.inside.Writing.{Writes};
+ghost use Rattle.yp_xdr.specs.inside.Cursor.{unread};
 ghost use Rattle.yp_rpc.specs.Reply.{words, accepted, reply_head};
-ghost use Rattle.yp_rpc.specs.Read.{reply_kind, versions_kind, accepted_read, denied_read, reply_at, reply_read};
+ghost use Rattle.yp_rpc.specs.Read.{reply_kind, versions_kind, accepted_read, denied_read, reply_at};
+ghost use Rattle.yp_rpc.specs.inside.Read.{reply_read};
 
 use crate::call::read_auth;
 use crate::protocol::{

@@ -4,24 +4,25 @@ use Rattle.yp_io.specs.Counts.{HasRisen}
 use Rattle.yp_board.specs.Catalogues.{Catalogue}
 use Rattle.yp_board.specs.Logs.{Log}
 use Rattle.yp_board.specs.Views.{IsFront}
-use Rattle.yp_session.specs.Hosts.{Conduct}
-use Rattle.yp_rpc.specs.Turns.{Box}
-use Rattle.yp_mailserve.specs.Mailing.{Mailing, Awaited}
-use Rattle.yp_mailserve.specs.Serving.{ServesMail}
-use Rattle.yp_serve.specs.declared.mail.Mailman.{Mailman}
-use Rattle.yp_serve.specs.Posts.{Mails}
-use Rattle.yp_worker.specs.Receptions.{Terms, Opening}
+use Rattle.yp_answer.specs.session.Hosts.{Conduct}
+use Rattle.yp_rpc.specs.Turns.{InboxTells}
+use Rattle.yp_worker.specs.datagrams.Mailing.{Mailing, Awaited}
+use Rattle.yp_worker.specs.datagrams.Serving.{ServesMail}
+use Rattle.yp_server.specs.declared.datagrams.DatagramWorker.{DatagramWorker}
+use Rattle.yp_server.specs.inside.Workers.{AnswersDatagrams}
+use Rattle.yp_worker.specs.Receptions.{Terms, ListenTells}
 use Rattle.yp_worker.specs.Summing.{Counting}
-use Rattle.yp_serve.specs.Serving.{at_rest}
-use Rattle.yp_serve.specs.Counting.{BeginsMail, CountsDatagrams, CountsAll}
+use Rattle.yp_server.specs.Serving.{at_rest}
+use Rattle.yp_server.specs.Counting.{CountsDatagrams, CountsAll}
+use Rattle.yp_server.specs.inside.Counting.{BeginsMail}
 
 pub front_then : (a b c : Log) → IsFront a b → IsFront b c → IsFront a c
 front_then a b c first second =
     (first.0 ++ second.0, second.1 ∙ ap (λ (l : Log). l ++ second.0) first.1 ∙ append_assoc a first.0 second.0)
 
 -- the log of the writer begins with what was shown at the start
-module _ {H T : Type 0} (conduct : Conduct H) (counting : Counting H T) (terms : Terms) (door door' : Opening)
-    (calls : ℕ) (log : Log) (turns : ℕ) (fault : Bool) (before after : Box) (all : T)
+module _ {H T : Type 0} (conduct : Conduct H) (counting : Counting H T) (terms : Terms) (door door' : ListenTells)
+    (calls : ℕ) (log : Log) (turns : ℕ) (fault : Bool) (before after : InboxTells) (all : T)
     (counts : CountsAll conduct counting terms door door' calls log turns fault before after all) where
   pub starts_in : IsFront terms.starts log
   starts_in =
@@ -30,8 +31,8 @@ module _ {H T : Type 0} (conduct : Conduct H) (counting : Counting H T) (terms :
       front_then terms.starts (conduct.seen mail.new).known log begun mail.shown
 
 -- what a worker of datagrams made of its turns, from a host that knew the start
-module _ {I H T : Type 0} (conduct : Conduct H) (counting : Counting H T) (box : I → Box) (faults : I → ℕ)
-    (first last : Mailman I H T) (mails : Mails conduct counting.counted box faults first last) (fault : Bool) (fault_is : fault ≡ last.fault) (inbox : I)
+module _ {I H T : Type 0} (conduct : Conduct H) (counting : Counting H T) (box : I → InboxTells) (faults : I → ℕ)
+    (first last : DatagramWorker I H T) (mails : AnswersDatagrams conduct counting.counted box faults first last) (fault : Bool) (fault_is : fault ≡ last.fault) (inbox : I)
     (inbox_is : inbox ≡ last.inbox) where
   pub mailed : (catalogue : Catalogue) (starts log : Log)
       → BeginsMail conduct counting catalogue starts first → IsFront (conduct.seen last.server.host).known log

@@ -3,24 +3,24 @@ use Rattle.std.proofs.Common.{◌≡◌, ℕ, List, map, Option, sym, subst}
 use Rattle.yp_io.specs.Disk.{History}
 use Rattle.yp_board.specs.Catalogues.{Catalogue}
 use Rattle.yp_board.specs.Logs.{Log}
-use Rattle.yp_publish.specs.Standing.{Kept, Published}
-use Rattle.yp_publish.specs.Rising.{Moment, moment_of}
-use Rattle.yp_shared.specs.Sources.{Building, IsSourced}
-use Rattle.yp_serve.specs.Serving.{Leaves}
-use Rattle.yp_serve.specs.Origins.{Stems}
+use Rattle.yp_publisher.specs.Standing.{StoredMap, Published}
+use Rattle.yp_publisher.specs.Rising.{PublisherState, publisher_state}
+use Rattle.yp_publisher.specs.sharing.Sources.{Building, IsSourced}
+use Rattle.yp_server.specs.Serving.{DisksStand}
+use Rattle.yp_server.specs.Origins.{Stems}
 
-module _ {D B : Type 0} (history : D → Option History) (Is : Building) (first : Moment) (catalogue : Catalogue)
+module _ {D B : Type 0} (history : D → Option History) (Is : Building) (first : PublisherState) (catalogue : Catalogue)
     (log : B → Log) where
   -- of a publisher whose board is this one, and whose maps are those of the disks
   pub stems : (published : Published D B) (board : B) (disks : List D) (made fetched : ℕ)
       → published.catalogue ≡ catalogue → board ≡ published.board
-      → (leaves : Leaves history published.catalogue (log published.board) disks) → leaves.kept ≡ published.maps
-      → IsSourced Is first (moment_of log published) made fetched
+      → (leaves : DisksStand history published.catalogue (log published.board) disks) → leaves.kept ≡ published.maps
+      → IsSourced Is first (publisher_state log published) made fetched
       → Stems history Is first catalogue (log board) disks made fetched
   stems published board disks made fetched named same leaves maps sourced =
       subst (λ (c : Catalogue). Stems history Is first c (log board) disks made fetched) named
       (subst (λ (b : B). Stems history Is first published.catalogue (log b) disks made fetched) (sym same) (record {
         leaves = leaves;
-        sourced = subst (λ (l : List (Kept D)). IsSourced Is first
+        sourced = subst (λ (l : List (StoredMap D)). IsSourced Is first
             (record { log = log published.board; standings = map (λ kept. kept.standing) l }) made fetched) (sym maps) sourced;
       }))

@@ -3,45 +3,35 @@ use Rattle.std.specs.Prelude.{◌≡◌, ◌+◌, ◌<◌, ◌≤◌, ℕ, Bool,
 use Rattle.std.specs.List.{All}
 use Rattle.yp_io.specs.Counts.{last_count}
 use Rattle.yp_io.specs.Disk.{History}
-use Rattle.yp_slot.specs.Commits.{generation_max}
-use Rattle.yp_slot.specs.Slots.{HasGeneration}
+use Rattle.yp_map_file.specs.Commits.{generation_max}
+use Rattle.yp_map_file.specs.Slots.{HasGeneration}
 use Rattle.yp_board.specs.Catalogues.{Catalogue}
 use Rattle.yp_board.specs.Logs.{Log}
-use Rattle.yp_session.specs.Hosts.{Conduct}
-use Rattle.yp_rpc.specs.Turns.{Box}
-use Rattle.yp_shared.specs.Failures.{faults_over}
-use Rattle.yp_worker.specs.Receptions.{Terms, Opening}
+use Rattle.yp_answer.specs.session.Hosts.{Conduct}
+use Rattle.yp_rpc.specs.Turns.{InboxTells}
+use Rattle.yp_publisher.specs.sharing.Failures.{faults_over}
+use Rattle.yp_worker.specs.Receptions.{Terms, ListenTells}
 use Rattle.yp_worker.specs.Summing.{Counting, SumsUp, counting_of}
-use Rattle.yp_workhost.specs.declared.outcome.Totals.{Totals}
-use Rattle.yp_workhost.specs.Workers.{Worker}
-use Rattle.yp_workhost.specs.Charges.{no_totals, totals_plus, totals_of}
-use Rattle.yp_serve.specs.declared.mail.Mailman.{Mailman}
-use Rattle.yp_serve.specs.Serving.{at_rest, no_counts, IsAtStart, ServesDatagrams}
+use Rattle.yp_host.specs.declared.workers.outcome.Totals.{Totals}
+use Rattle.yp_host.specs.workers.Workers.{WorkerState}
+use Rattle.yp_host.specs.workers.Charges.{no_totals, totals_plus, totals_of}
+use Rattle.yp_server.specs.Serving.{ServesDatagrams}
 
 -- how the hosts of workers count
-abbrev pub count_totals : {V : Type 0} → Counting (Worker V) Totals
+abbrev pub count_totals : {V : Type 0} → Counting (WorkerState V) Totals
 count_totals = counting_of totals_of no_totals totals_plus
 
 -- Datagrams were served by a host that had counted nothing yet, and has counted this then.
 pub record CountsDatagrams {H T : Type 0} (conduct : Conduct H) (counting : Counting H T) (catalogue : Catalogue)
-    (starts log : Log) (turns : ℕ) (fault : Bool) (before after : Box) (count : T) : Type 0 where
+    (starts log : Log) (turns : ℕ) (fault : Bool) (before after : InboxTells) (count : T) : Type 0 where
   pub served : ServesDatagrams conduct counting.counted catalogue starts log turns fault before after
   pub from_none : counting.counted served.old ≡ counting.none
   pub counted : counting.counted served.new ≡ count
 
--- A worker of datagrams has a host that knows what was shown at the start, and has counted nothing yet.
-pub record BeginsMail {I H T : Type 0} (conduct : Conduct H) (counting : Counting H T) (catalogue : Catalogue)
-    (starts : Log) (mailman : Mailman I H T) : Type 0 where
-  pub host : H
-  pub server_is : mailman.server ≡ at_rest host
-  pub start : IsAtStart catalogue starts (conduct.seen host)
-  pub fresh : conduct.counts host ≡ no_counts
-  pub from_none : counting.counted host ≡ counting.none
-
 -- What all hosts did and counted: in the connections that workers served, of which so many records were read, and in
 -- the turns of the datagrams. What was known at the end of each is a front of this log.
 pub record CountsAll {H T : Type 0} (conduct : Conduct H) (counting : Counting H T) (terms : Terms)
-    (door door' : Opening) (calls : ℕ) (log : Log) (turns : ℕ) (fault : Bool) (before after : Box) (all : T)
+    (door door' : ListenTells) (calls : ℕ) (log : Log) (turns : ℕ) (fault : Bool) (before after : InboxTells) (all : T)
     : Type 0 where
   pub connections : T
   pub datagrams : T
@@ -52,7 +42,7 @@ pub record CountsAll {H T : Type 0} (conduct : Conduct H) (counting : Counting H
 
 -- A disk tells what a crash may leave, its count of faults doesn't stand at its last value, and the last generation of
 -- its file isn't reached.
-pub record IsWell {D : Type 0} (history : D → Option History) (faults : D → ℕ) (disk : D) : Type 0 where
+pub record DiskTellsFaults {D : Type 0} (history : D → Option History) (faults : D → ℕ) (disk : D) : Type 0 where
   pub told : IsSome (history disk)
   pub counts : faults disk < last_count
   pub unspent : HasGeneration (history disk) generation_max → ⊥
@@ -62,5 +52,5 @@ pub record IsWell {D : Type 0} (history : D → Option History) (faults : D → 
 abbrev pub FilesAreCovered : {D : Type 0} → (D → Option History) → (D → ℕ) → (texts texts' : ℕ) → List D → List D
     → Totals → Type 0
 FilesAreCovered history faults texts texts' disks disks' totals =
-    texts' < last_count → All (IsWell history faults) disks'
+    texts' < last_count → All (DiskTellsFaults history faults) disks'
     → totals.files + totals.outcomes.file + (texts + faults_over faults disks) ≤ texts' + faults_over faults disks'

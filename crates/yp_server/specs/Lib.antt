@@ -1,5 +1,4 @@
-pub mod Locals
-pub mod Anew
-pub mod Made
-pub mod Carried
-pub mod Connections
+pub mod Serving
+pub mod Counting
+pub mod Origins
+pub mod inside

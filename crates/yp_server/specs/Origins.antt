@@ -4,21 +4,24 @@ use Rattle.yp_io.specs.Disk.{History}
 use Rattle.yp_io.specs.Dials.{Wires}
 use Rattle.yp_board.specs.Catalogues.{Catalogue}
 use Rattle.yp_board.specs.Logs.{Log}
-use Rattle.yp_publish.specs.Rising.{Moment}
-use Rattle.yp_shared.specs.Sources.{Building, IsSourced}
-use Rattle.yp_workhost.specs.Wires.{IsGood, CoversBy}
-use Rattle.yp_serve.specs.Serving.{Leaves}
+use Rattle.yp_publisher.specs.Rising.{PublisherState}
+use Rattle.yp_publisher.specs.sharing.Sources.{Building, IsSourced}
+use Rattle.yp_host.specs.workers.Wires.{IsGood, CoversBy}
+use Rattle.yp_server.specs.Serving.{DisksStand}
 
--- Since a first moment at least so many versions were shown that were built, and at most so many that weren't, with
--- those that maps are behind at the end.
-pub record Stems {D : Type 0} (history : D → Option History) (Is : Building) (first : Moment) (catalogue : Catalogue)
+-- Since a first moment at least `made` built versions were shown. The versions that were shown and weren't built,
+-- together with those that maps are behind at the end, are at most `fetched`.
+pub record Stems {D : Type 0} (history : D → Option History) (Is : Building) (first : PublisherState)
+    (catalogue : Catalogue)
     (log : Log) (disks : List D) (made fetched : ℕ) : Type 0 where
-  pub leaves : Leaves history catalogue log disks
+  pub leaves : DisksStand history catalogue log disks
   pub sourced : IsSourced Is first (record { log = log; standings = map (λ kept. kept.standing) leaves.kept }) made
       fetched
 
--- The same, and those that weren't built are at most the wires that came of the dial and give a version.
-pub record ComesFrom {D : Type 0} (history : D → Option History) (Is : Building) (first : Moment)
+-- Versions come from builds and from wires: at least `made` built versions were shown, and all others that were shown,
+-- with those that maps are behind at the end, are at most as many as the wires that came of the dial and give a
+-- version.
+pub record ComesFrom {D : Type 0} (history : D → Option History) (Is : Building) (first : PublisherState)
     (catalogue : Catalogue) (log : Log) (disks : List D) (made : ℕ) (past past' : Option Wires) : Type 0 where
   pub fetched : ℕ
   pub stems : Stems history Is first catalogue log disks made fetched

@@ -6,40 +6,23 @@ use Rattle.yp_io.specs.declared.texts.TextFile.{TextFile}
 use Rattle.yp_board.specs.Catalogues.{Catalogue}
 use Rattle.yp_board.specs.Logs.{Log}
 use Rattle.yp_board.specs.Views.{Seen, IsFront}
-use Rattle.yp_publish.specs.Standing.{Kept, OfMap, IsStanding, Shows, versions}
-use Rattle.yp_xfr.specs.HostTable.{HostList}
-use Rattle.yp_session.specs.Hosts.{Counts, Conduct, conduct_of}
-use Rattle.yp_rpc.specs.Turns.{Box}
+use Rattle.yp_publisher.specs.Standing.{StoredMap, OfMap, IsStanding, Shows, versions}
+use Rattle.yp_transfer.specs.HostTable.{HostList}
+use Rattle.yp_answer.specs.session.Hosts.{Counts, Conduct, conduct_of}
+use Rattle.yp_rpc.specs.Turns.{InboxTells}
 use Rattle.yp_rpc.specs.declared.turns.Ended.{Ended}
-use Rattle.yp_mailserve.specs.Mailing.{Mailing}
-use Rattle.yp_mailserve.specs.Serving.{ServesMail}
-use Rattle.yp_workhost.specs.Desks.{texts_alone}
-use Rattle.yp_workhost.specs.Workers.{Worker, counts_of, Stepped, Made, Carried}
-use Rattle.yp_worker.specs.Receptions.{Passed}
-
--- what a worker holds of a listener before it begins, and once it has ended
-abbrev pub at_work : Passed
-at_work = record { parts = 1; out = 0; ended = 0 }
-
-abbrev pub gone_home : Passed
-gone_home = record { parts = 1; out = 0; ended = 1 }
+use Rattle.yp_worker.specs.datagrams.Mailing.{Mailing}
+use Rattle.yp_worker.specs.datagrams.Serving.{ServesMail}
+use Rattle.yp_host.specs.workers.Desks.{texts_alone}
+use Rattle.yp_host.specs.workers.Workers.{WorkerState, counts_of, Stepped, WorkerMakesMap, WorkerTransfersMap}
 
 -- what the hosts of workers do whose readers tell this, at a desk with these texts and hosts
 abbrev pub conduct_at : {V : Type 0} → (V → Seen) → (V → V → Type 0) → (TextFile → Option (List ℕ)) → HostList
-    → Conduct (Worker V)
+    → Conduct (WorkerState V)
 conduct_at seen stepped text hosts =
-    conduct_of (λ host. seen host.reader) (λ host. texts_alone text) counts_of (Stepped stepped) (Made seen text)
-    (λ taken peer. Carried seen hosts taken)
-
--- a host that has counted nothing yet
-abbrev pub fresh_worker : {V : Type 0} → V → Worker V
-fresh_worker reader = record {
-  reader = reader;
-  files = 0;
-  made = 0;
-  transfers = 0;
-  outcomes = record { no_address = 0; no_memory = 0; file = 0; source = 0; reached = 0 };
-}
+    conduct_of (λ host. seen host.reader) (λ host. texts_alone text) counts_of (Stepped stepped)
+    (WorkerMakesMap seen text)
+    (λ taken peer. WorkerTransfersMap seen hosts taken)
 
 -- A reader of these maps knows what was shown at the start.
 pub record IsAtStart (catalogue : Catalogue) (starts : Log) (seen : Seen) : Type 0 where
@@ -59,7 +42,7 @@ no_counts = record { files = 0; transfers = 0 }
 -- turns were taken, or the inbox has failed, exactly where that is said. What the host knew then is a front of this
 -- log.
 pub record ServesDatagrams {H T : Type 0} (conduct : Conduct H) (counted : H → T) (catalogue : Catalogue)
-    (starts log : Log) (turns : ℕ) (fault : Bool) (before after : Box) : Type 0 where
+    (starts log : Log) (turns : ℕ) (fault : Bool) (before after : InboxTells) : Type 0 where
   pub old : H
   pub new : H
   pub start : IsAtStart catalogue starts (conduct.seen old)
@@ -72,9 +55,9 @@ pub record ServesDatagrams {H T : Type 0} (conduct : Conduct H) (counted : H →
 -- Disks of maps, in their order. Whatever a crash may leave of one stands for what the log shows of its map, or, where
 -- that is behind, for that or for the version whose install failed. The versions that are kept are those that the log
 -- shows.
-pub record Leaves {D : Type 0} (history : D → Option History) (catalogue : Catalogue) (log : Log) (disks : List D)
+pub record DisksStand {D : Type 0} (history : D → Option History) (catalogue : Catalogue) (log : Log) (disks : List D)
     : Type 0 where
-  pub kept : List (Kept D)
+  pub kept : List (StoredMap D)
   pub disks_are : disks ≡ map (λ kept. kept.disk) kept
   pub count : length kept ≡ length catalogue.maps
   pub shows : Shows log (versions kept)

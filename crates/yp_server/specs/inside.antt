@@ -1,4 +1,3 @@
 pub mod Serving
-pub mod Posts
+pub mod Workers
 pub mod Counting
-pub mod Origins

@@ -2,20 +2,20 @@
 
 ghost use Rattle.std.specs.Prelude.{◌≡◌, false};
 ghost use Rattle.yp_board.specs.Views.{IsFront};
-ghost use Rattle.yp_session.specs.Hosts.{conduct_of};
-ghost use Rattle.yp_rpc.specs.Turns.{box_of};
-ghost use Rattle.yp_serve.specs.Serving.{at_rest};
-ghost use Rattle.yp_serve.specs.Posts.{Mails};
+ghost use Rattle.yp_answer.specs.inside.session.Hosts.{conduct_by};
+ghost use Rattle.yp_rpc.specs.inside.Turns.{box_by};
+ghost use Rattle.yp_server.specs.Serving.{at_rest};
+ghost use Rattle.yp_server.specs.inside.Workers.{AnswersDatagrams};
 
 use yp_io::Inbox;
-use yp_mailserve::{MailServer, serve_mail};
 use yp_rpc::Room;
+use yp_worker::datagrams::{MailServer, serve_mail};
 use yp_worker::{CatchUp, HandsOver};
 
 /// What the worker of datagrams works with: an inbox, the most turns of it, a reader of the maps, and the memory of a
 /// datagram and of its reply.
 #[derive(Drop)]
-pub(crate) struct Mailbag<I, V> {
+pub(crate) struct DatagramResources<I, V> {
     pub(crate) inbox: I,
     pub(crate) turns: u32,
     pub(crate) reader: V,
@@ -24,14 +24,14 @@ pub(crate) struct Mailbag<I, V> {
 
 /// The inbox that comes back of it, and whether that has failed.
 #[derive(Drop)]
-pub(crate) struct Mailed<I> {
+pub(crate) struct EndedInbox<I> {
     pub(crate) inbox: I,
     pub(crate) fault: bool,
 }
 
 /// A worker that answers the datagrams of an inbox, and whether that has failed.
 #[derive(Drop)]
-pub(crate) struct Mailman<I, H: CatchUp> {
+pub(crate) struct DatagramWorker<I, H: CatchUp> {
     inbox: I,
     server: MailServer<H>,
     room: Room,
@@ -39,9 +39,9 @@ pub(crate) struct Mailman<I, H: CatchUp> {
     fault: bool,
 }
 
-impl<I: Inbox, H: CatchUp> Mailman<I, H> {
+impl<I: Inbox, H: CatchUp> DatagramWorker<I, H> {
     /// A worker with this host, which has taken no turn yet.
-    pub(crate) fn new(inbox: I, host: H, room: Room, turns: u32) -> Mailman<I, H>
+    pub(crate) fn new(inbox: I, host: H, room: Room, turns: u32) -> DatagramWorker<I, H>
         ensures { result ≡ record {
           inbox = inbox;
           server = at_rest host;
@@ -50,7 +50,7 @@ impl<I: Inbox, H: CatchUp> Mailman<I, H> {
           fault = false;
         } }
     {
-        Mailman {
+        DatagramWorker {
             inbox,
             server: MailServer::new(host),
             room,
@@ -61,8 +61,7 @@ impl<I: Inbox, H: CatchUp> Mailman<I, H> {
 
     /// Answers datagrams until all turns are taken or the inbox has failed. It takes no lock of a listener.
     pub(crate) fn work(&mut self)
-        ensures { Mails (conduct_of H.seen H.told H.counts H.stepped H.made H.carried) H.counted
-            (box_of I.past I.turns I.quiets) I.faults self.old self.new }
+        ensures { AnswersDatagrams (conduct_by H.Host) H.counted (box_by I.Inbox) I.faults self.old self.new }
     {
         let ended = serve_mail(
             &mut self.inbox,
@@ -74,15 +73,15 @@ impl<I: Inbox, H: CatchUp> Mailman<I, H> {
     }
 }
 
-impl<I, H: HandsOver + Drop> Mailman<I, H> {
+impl<I, H: HandsOver + Drop> DatagramWorker<I, H> {
     /// Adds what its host has counted to a sum, and hands back what came of the inbox.
-    pub(crate) fn hand_over(self, sum: &mut H::Sum) -> Mailed<I>
+    pub(crate) fn hand_over(self, sum: &mut H::Sum) -> EndedInbox<I>
         ensures mailed { (result.inbox ≡ self.inbox) × (result.fault ≡ self.fault) }
         ensures added { H.summed sum.new ≡ H.plus (H.summed sum.old) (H.counted self.server.host) }
         ensures covered { IsFront (H.seen self.server.host).known (H.reached sum.new) }
         ensures kept { IsFront (H.reached sum.old) (H.reached sum.new) }
     {
-        let Mailman {
+        let DatagramWorker {
             inbox,
             server,
             room: _,
@@ -91,6 +90,6 @@ impl<I, H: HandsOver + Drop> Mailman<I, H> {
         } = self;
         let mut host = server.into_host();
         host.hand_over(sum);
-        Mailed { inbox, fault }
+        EndedInbox { inbox, fault }
     }
 }

@@ -1,21 +1,19 @@
-//! A host over stored maps, which answers what is shown of them and makes maps anew, and one connection that it serves.
+//! Serving: the connections of a listener and the datagrams of an inbox, by workers in threads of their own, over maps
+//! that they share.
 //!
-//! That every reply rests on one published state, and what a crash leaves of each map at any moment, stands on
-//! [`serve_wire`], from the loading of the files to the handing back of their disks.
-//!
-//! What the making of a map does to the maps, their files and the board, and with which status, stands on [`LocalHost`]
-//! as a [`Host`](yp_session::Host): the relation `made` of its `make`. Its steps, one for each reason why a map isn't
-//! made, have contracts of their own.
+//! [`serve`] lends a publisher, a desk and a listener to its workers, each under a lock, and takes them apart again
+//! once all workers have ended. Beside them one worker answers the datagrams of the inbox, which it has for itself.
+//! What each worker served, one connection after the other, that all connections were closed, what was counted, what
+//! went out for each datagram, and how each map stands then are its clauses.
 #![tactic(auto)]
 
-mod anew;
-mod carrying;
-mod connection;
-mod desk;
-mod local;
-mod steps;
+mod datagrams;
+mod locks;
+mod preparing;
+mod resources;
+mod serving;
+mod spec;
+mod workers;
 
-pub use anew::build_anew;
-pub use connection::{Stock, serve_wire};
-pub use desk::Desk;
-pub use local::LocalHost;
+pub use serving::serve;
+pub use spec::{ServeRefused, ServeSpec, Served};

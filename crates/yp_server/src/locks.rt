@@ -4,28 +4,34 @@ ghost use Rattle.std.specs.Prelude.{◌≡◌, ◌+◌, ◌-◌, ◌^◌, ◌<�
 ghost use Rattle.std.specs.List.{All};
 ghost use Rattle.yp_io.specs.Counts.{last_count};
 ghost use Rattle.yp_board.specs.Views.{IsFront};
-ghost use Rattle.yp_publish.specs.Grown.{AreTold};
-ghost use Rattle.yp_publish.specs.Rising.{moment_of, IsStart, IsRisingLog};
-ghost use Rattle.yp_shared.specs.Debits.{no_debit};
-ghost use Rattle.yp_shared.specs.Failures.{disks_of, faults_over};
-ghost use Rattle.yp_workhost.specs.Charges.{free_of_charge};
-ghost use Rattle.yp_workhost.specs.Desks.{IsSupplied};
-ghost use Rattle.yp_workhost.specs.Wires.{CoversOrders, CoversSources};
-ghost use Rattle.yp_io.specs.Dials.{dial_tells};
-ghost use Rattle.yp_workhost.specs.Uses.{IsUsedForTransfers, dial_told};
-ghost use Rattle.yp_serve.specs.Counting.{IsWell};
-ghost use Rattle.yp_serve.specs.Origins.{ComesFrom};
-ghost use Rattle.yp_serve.specs.Serving.{Leaves};
+ghost use Rattle.yp_publisher.specs.Grown.{AreTold};
+ghost use Rattle.yp_publisher.specs.Rising.{publisher_state, IsRisingLog};
+ghost use Rattle.yp_publisher.specs.inside.Rising.{IsStart};
+ghost use Rattle.yp_publisher.specs.inside.sharing.Debits.{no_debit};
+ghost use Rattle.yp_publisher.specs.sharing.Failures.{disks_of, faults_over};
+ghost use Rattle.yp_host.specs.inside.workers.Charges.{free_of_charge};
+ghost use Rattle.yp_host.specs.inside.workers.Desks.{IsSupplied};
+ghost use Rattle.yp_host.specs.workers.Wires.{CoversOrders, CoversSources};
+ghost use Rattle.yp_transfer.specs.inside.Dials.{dial_by};
+ghost use Rattle.yp_host.specs.workers.Uses.{IsUsedForTransfers};
+ghost use Rattle.yp_host.specs.inside.workers.Uses.{dial_told};
+ghost use Rattle.yp_server.specs.Counting.{DiskTellsFaults};
+ghost use Rattle.yp_server.specs.Origins.{ComesFrom};
+ghost use Rattle.yp_server.specs.Serving.{DisksStand};
 
-use crate::lent::take_apart;
+use crate::resources::take_apart;
 use std::sync::Mutex;
 use std::sync::ledger::{Blank, Book, Share};
 use yp_board::Tell;
+use yp_host::Desk;
+use yp_host::workers::{
+    Account, Charges, FailedSources, ReachedOrders, SharedDesk, Supplies, Totals, UnreadTexts,
+};
 use yp_io::{Clock, Dial, Disk, Texts};
-use yp_publish::Publisher;
-use yp_server::Desk;
-use yp_shared::{Accounts, Debits, Failures, Locked, Made, Site, Versions};
-use yp_workhost::{Account, Charges, Orders, SharedDesk, Sources, Supplies, Totals, Unread};
+use yp_publisher::Publisher;
+use yp_publisher::sharing::{
+    Accounts, BuiltVersions, Debits, FailedFiles, FetchedVersions, Locked, Site,
+};
 
 /// Ledgers that nothing stands for yet, of what is counted under the locks.
 #[derive(Drop)]
@@ -78,7 +84,7 @@ where
     T: Texts,
     C: Clock,
     requires site { publisher.catalogue ≡ S.catalogue }
-    requires first { moment_of B.log publisher ≡ S.first }
+    requires first { publisher_state B.log publisher ≡ S.first }
     requires disks { faults_over D.faults (disks_of publisher.maps) ≡ S.disk_faults }
     requires supplied { IsSupplied T.Texts S.text S.hosts desk }
     requires texts { T.faults desk.texts ≡ S.text_faults }
@@ -93,7 +99,7 @@ where
     requires some { 0 < S.shares }
     ensures charges { result.2 ≡ free_of_charge S.shares }
 {
-    let (fetched, mut own) = blanks.versions.open::<Versions<S>>();
+    let (fetched, mut own) = blanks.versions.open::<FetchedVersions<S>>();
     let installed = own.split_off(1, 0);
     let (publisher, debits) = lock_publisher(
         publisher,
@@ -119,11 +125,11 @@ fn lock_publisher<S: Site + Accounts, D: Disk, B: Tell>(
     publisher: Publisher<D, B>,
     failures: Blank,
     made: Blank,
-    installed: Share<Versions<S>>,
-    versions: Share<Versions<S>>,
+    installed: Share<FetchedVersions<S>>,
+    versions: Share<FetchedVersions<S>>,
 ) -> (Mutex<Locked<S, D, B>>, Debits<S>)
     requires site { publisher.catalogue ≡ S.catalogue }
-    requires first { moment_of B.log publisher ≡ S.first }
+    requires first { publisher_state B.log publisher ≡ S.first }
     requires disks { faults_over D.faults (disks_of publisher.maps) ≡ S.disk_faults }
     requires failures { (failures.name ≡ S.failures) × (failures.parts ≡ S.shares) }
     requires made { (made.name ≡ S.made) × (made.parts ≡ S.shares) }
@@ -132,8 +138,8 @@ fn lock_publisher<S: Site + Accounts, D: Disk, B: Tell>(
     requires some { 0 < S.shares }
     ensures { result.1 ≡ no_debit S.shares }
 {
-    let (failures, own_failures) = failures.open::<Failures<S>>();
-    let (made, own_made) = made.open::<Made<S>>();
+    let (failures, own_failures) = failures.open::<FailedFiles<S>>();
+    let (made, own_made) = made.open::<BuiltVersions<S>>();
     let locked = Locked::new(publisher, failures, made, installed);
     (
         Mutex::new(locked),
@@ -147,7 +153,7 @@ fn lock_desk<S: Site + Accounts + Supplies, A: Dial, T: Texts, C: Clock>(
     unread: Blank,
     orders: Blank,
     sources: Blank,
-    fetched: Book<Versions<S>>,
+    fetched: Book<FetchedVersions<S>>,
     debits: Debits<S>,
 ) -> (Mutex<SharedDesk<S, A, T, C>>, Charges<S>)
     requires supplied { IsSupplied T.Texts S.text S.hosts desk }
@@ -162,9 +168,9 @@ fn lock_desk<S: Site + Accounts + Supplies, A: Dial, T: Texts, C: Clock>(
     requires some { 0 < S.shares }
     ensures { result.1 ≡ free_of_charge S.shares }
 {
-    let (unread, own_unread) = unread.open::<Unread<S>>();
-    let (orders, own_orders) = orders.open::<Orders<S>>();
-    let (sources, own_sources) = sources.open::<Sources<S>>();
+    let (unread, own_unread) = unread.open::<UnreadTexts<S>>();
+    let (orders, own_orders) = orders.open::<ReachedOrders<S>>();
+    let (sources, own_sources) = sources.open::<FailedSources<S>>();
     let shared = SharedDesk::new(desk, unread, orders, sources, fetched);
     (
         Mutex::new(shared),
@@ -188,11 +194,11 @@ where
     T: Texts,
     C: Clock,
     ensures totals { result.3 ≡ account.totals }
-    ensures stand { Leaves D.history S.catalogue (B.log result.1) result.0.items }
+    ensures stand { DisksStand D.history S.catalogue (B.log result.1) result.0.items }
     ensures grown { IsFront account.reached (B.log result.1) }
     ensures rises { IsStart S.first → AreTold D.history result.0.items → IsRisingLog (B.log result.1) }
     ensures desk { IsSupplied T.Texts S.text S.hosts result.2 }
-    ensures files { T.faults result.2.texts < last_count → All (IsWell D.history D.faults) result.0.items
+    ensures files { T.faults result.2.texts < last_count → All (DiskTellsFaults D.history D.faults) result.0.items
         → result.3.files + result.3.outcomes.file + (S.text_faults + S.disk_faults)
         ≤ T.faults result.2.texts + faults_over D.faults result.0.items }
     ensures orders { CoversOrders S.wires (A.past result.2.dial) result.3.outcomes.reached }
@@ -201,7 +207,7 @@ where
     ensures origins { IsStart S.first → AreTold D.history result.0.items → ComesFrom D.history S.built S.first
         S.catalogue (B.log result.1) result.0.items result.3.made S.wires (A.past result.2.dial) }
     ensures dialed { IsUsedForTransfers S.hosts S.catalogue.maps (dial_told S.wires S.letters S.dial_faults)
-        (dial_tells A.past A.letters A.faults result.2.dial) }
+        (dial_by A.Dial result.2.dial) }
 {
     let (totals, charges, front) = account.into_parts();
     let (mut unread, mut reached, mut failed, mut debits) = charges.into_shares();

@@ -2,29 +2,30 @@
 
 ghost use Rattle.std.specs.Prelude.{◌≡◌, ℕ, ◌+◌, ◌≤◌, [], ◌∷◌, ◌++◌, length, vec_len, IfOk};
 ghost use Rattle.yp_board.specs.Views.{IsFront};
-ghost use Rattle.yp_serve.specs.Serving.{Leaves};
-ghost use Rattle.yp_serve.specs.Counting.{IsWell};
+ghost use Rattle.yp_server.specs.Serving.{DisksStand};
+ghost use Rattle.yp_server.specs.Counting.{DiskTellsFaults};
 ghost use Rattle.std.specs.List.{All};
-ghost use Rattle.yp_publish.specs.Standing.{OfMap, IsNumbered};
-ghost use Rattle.yp_publish.specs.Rising.{IsStart, IsRisingLog};
-ghost use Rattle.yp_publish.specs.Grown.{AreTold};
-ghost use Rattle.yp_shared.specs.Failures.{disks_of, faults_over};
-ghost use Rattle.yp_serve.specs.Origins.{Stems};
+ghost use Rattle.yp_publisher.specs.Standing.{OfMap, IsNumbered};
+ghost use Rattle.yp_publisher.specs.Rising.{IsRisingLog};
+ghost use Rattle.yp_publisher.specs.inside.Rising.{IsStart};
+ghost use Rattle.yp_publisher.specs.Grown.{AreTold};
+ghost use Rattle.yp_publisher.specs.sharing.Failures.{disks_of, faults_over};
+ghost use Rattle.yp_server.specs.Origins.{Stems};
 
 use crate::spec::ServeRefused;
 use std::alloc::Global;
 use std::sync::ledger::Share;
+use yp_answer::session::Session;
 use yp_board::{Show, Tell};
+use yp_host::Desk;
 use yp_io::{Disk, NoMemory};
-use yp_publish::Publisher;
+use yp_publisher::Publisher;
+use yp_publisher::sharing::{Accounts, Debits, FetchedVersions, Locked, Site};
 use yp_rpc::Room;
-use yp_server::Desk;
-use yp_session::Session;
-use yp_shared::{Accounts, Debits, Locked, Site, Versions};
 
 /// What all workers share.
 #[derive(Drop)]
-pub(crate) struct Lent<D: Disk, B: Show, A, T, C, L, I> {
+pub(crate) struct ServerResources<D: Disk, B: Show, A, T, C, L, I> {
     pub(crate) publisher: Publisher<D, B>,
     pub(crate) desk: Desk<A, T, C>,
     pub(crate) listen: L,
@@ -33,19 +34,19 @@ pub(crate) struct Lent<D: Disk, B: Show, A, T, C, L, I> {
 
 /// What is handed back where memory has run out.
 pub(crate) fn refuse<D: Disk, B: Show + Drop, A, T, C, L, I>(
-    lent: Lent<D, B, A, T, C, L, I>,
+    resources: ServerResources<D, B, A, T, C, L, I>,
 ) -> ServeRefused<D, A, T, C, L, I>
-    ensures desk { result.desk ≡ lent.desk }
-    ensures listen { result.listen ≡ lent.listen }
-    ensures inbox { result.inbox ≡ lent.inbox }
-    ensures disks { result.disks.items ≡ disks_of lent.publisher.maps }
+    ensures desk { result.desk ≡ resources.desk }
+    ensures listen { result.listen ≡ resources.listen }
+    ensures inbox { result.inbox ≡ resources.inbox }
+    ensures disks { result.disks.items ≡ disks_of resources.publisher.maps }
 {
-    let Lent {
+    let ServerResources {
         publisher,
         desk,
         listen,
         inbox,
-    } = lent;
+    } = resources;
     let (disks, _) = disassemble(publisher);
     ServeRefused {
         disks,
@@ -58,7 +59,7 @@ pub(crate) fn refuse<D: Disk, B: Show + Drop, A, T, C, L, I>(
 /// The disks of the maps and the board.
 fn disassemble<D: Disk, B: Show>(publisher: Publisher<D, B>) -> (Vec<D>, B)
     ensures board { result.1 ≡ publisher.board }
-    ensures stand { (leaves : Leaves D.history publisher.catalogue (B.log publisher.board) result.0.items)
+    ensures stand { (leaves : DisksStand D.history publisher.catalogue (B.log publisher.board) result.0.items)
         × (leaves.kept ≡ publisher.maps) }
     ensures disks { result.0.items ≡ disks_of publisher.maps }
     ensures numbered { (number : ℕ) → OfMap number publisher.maps (IsNumbered D.history) }
@@ -74,10 +75,10 @@ pub(crate) fn take_apart<S: Site + Accounts, D: Disk, B: Tell>(
     mut locked: Locked<S, D, B>,
     front: &B::Front,
     charge: &mut Debits<S>,
-) -> (Vec<D>, B, Share<Versions<S>>)
-    ensures stand { Leaves D.history S.catalogue (B.log result.1) result.0.items }
+) -> (Vec<D>, B, Share<FetchedVersions<S>>)
+    ensures stand { DisksStand D.history S.catalogue (B.log result.1) result.0.items }
     ensures grown { IsFront (B.kept front.now) (B.log result.1) }
-    ensures covered { All (IsWell D.history D.faults) result.0.items
+    ensures covered { All (DiskTellsFaults D.history D.faults) result.0.items
         → S.disk_faults + charge.old.failures ≤ faults_over D.faults result.0.items }
     ensures rises { IsStart S.first → AreTold D.history result.0.items → IsRisingLog (B.log result.1) }
     ensures sourced { (made : ℕ) → made ≤ charge.old.made → IsStart S.first → AreTold D.history result.0.items
@@ -91,27 +92,32 @@ pub(crate) fn take_apart<S: Site + Accounts, D: Disk, B: Tell>(
 
 /// What workers work with: the memory of a session and a reader for each, and what the worker of datagrams works with.
 #[derive(Drop)]
-pub(crate) struct Staff<V> {
+pub(crate) struct WorkerResources<V> {
     pub(crate) sessions: Vec<Session>,
     pub(crate) readers: Vec<V>,
     pub(crate) spare: V,
     pub(crate) room: Room,
 }
 
-impl<V: Drop> Staff<V> {
-    /// So many workers, with one reader more.
-    pub(crate) fn of(alloc: Global, mut readers: Vec<V>, workers: u32) -> Result<Staff<V>, NoMemory>
+impl<V: Drop> WorkerResources<V> {
+    /// The resources of this many workers of connections, and one reader more for the worker of datagrams.
+    pub(crate) fn of(
+        alloc: Global,
+        mut readers: Vec<V>,
+        workers: u32,
+    ) -> Result<WorkerResources<V>, NoMemory>
         requires { vec_len readers ≡ workers + 1 }
-        ensures sessions { IfOk result (λ staff. length staff.sessions.items ≡ workers) }
-        ensures readers { IfOk result (λ staff. length staff.readers.items ≡ workers) }
-        ensures all { IfOk result (λ staff. readers.items ≡ staff.readers.items ++ staff.spare ∷ []) }
+        ensures sessions { IfOk result (λ worker_resources. length worker_resources.sessions.items ≡ workers) }
+        ensures readers { IfOk result (λ worker_resources. length worker_resources.readers.items ≡ workers) }
+        ensures all { IfOk result (λ worker_resources. readers.items
+            ≡ worker_resources.readers.items ++ worker_resources.spare ∷ []) }
     {
         let Some(spare) = readers.pop() else {
             unreachable!();
         };
         let sessions = sessions_of(alloc, workers)?;
         let room = Room::new(alloc)?;
-        Ok(Staff {
+        Ok(WorkerResources {
             sessions,
             readers,
             spare,

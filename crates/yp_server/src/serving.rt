@@ -4,25 +4,30 @@ ghost use Rattle.std.specs.Prelude.{◌≡◌, ◌≤◌, ◌<◌, ◌+◌, true
 ghost use Rattle.std.specs.List.{All};
 ghost use Rattle.yp_io.specs.Counts.{HasRisen};
 ghost use Rattle.yp_board.specs.Views.{IsFront};
-ghost use Rattle.yp_workhost.specs.Desks.{IsSupplied};
-ghost use Rattle.yp_worker.specs.Receptions.{IsKept, opening_of, terms_of};
-ghost use Rattle.yp_rpc.specs.Turns.{box_of};
-ghost use Rattle.yp_publish.specs.Grown.{AreTold};
-ghost use Rattle.yp_publish.specs.Rising.{moment_of, IsStart, IsRisingLog};
-ghost use Rattle.yp_shared.specs.Failures.{disks_of, faults_over};
-ghost use Rattle.yp_serve.specs.Serving.{conduct_at, IsAtStart, Leaves, ServesDatagrams};
-ghost use Rattle.yp_workhost.specs.Charges.{totals_of};
-ghost use Rattle.yp_workhost.specs.Makings.{Builds, IsBuilt};
-ghost use Rattle.yp_workhost.specs.Wires.{CoversOrders, CoversSources};
-ghost use Rattle.yp_io.specs.Dials.{dial_tells};
-ghost use Rattle.yp_workhost.specs.Uses.{IsUsedForTransfers, dial_told};
-ghost use Rattle.yp_serve.specs.Counting.{count_totals, CountsAll, FilesAreCovered};
-ghost use Rattle.yp_serve.specs.Origins.{ComesFrom};
+ghost use Rattle.yp_board.specs.readers.Boards.{workers_max};
+ghost use Rattle.yp_host.specs.inside.workers.Desks.{IsSupplied};
+ghost use Rattle.yp_worker.specs.Receptions.{IsListenerState, opening_by, terms_of};
+ghost use Rattle.yp_worker.specs.inside.Receptions.{terms_by};
+ghost use Rattle.yp_rpc.specs.inside.Turns.{box_by};
+ghost use Rattle.yp_publisher.specs.Grown.{AreTold};
+ghost use Rattle.yp_publisher.specs.Rising.{publisher_state, IsRisingLog};
+ghost use Rattle.yp_publisher.specs.inside.Rising.{IsStart};
+ghost use Rattle.yp_publisher.specs.sharing.Failures.{disks_of, faults_over};
+ghost use Rattle.yp_server.specs.Serving.{conduct_at, IsAtStart, DisksStand, ServesDatagrams};
+ghost use Rattle.yp_host.specs.workers.Charges.{totals_of};
+ghost use Rattle.yp_host.specs.workers.Makings.{IsBuiltOfText};
+ghost use Rattle.yp_host.specs.inside.workers.Makings.{SiteBuilds};
+ghost use Rattle.yp_host.specs.workers.Wires.{CoversOrders, CoversSources};
+ghost use Rattle.yp_transfer.specs.inside.Dials.{dial_by};
+ghost use Rattle.yp_host.specs.workers.Uses.{IsUsedForTransfers};
+ghost use Rattle.yp_host.specs.inside.workers.Uses.{dial_told};
+ghost use Rattle.yp_server.specs.Counting.{count_totals, CountsAll, FilesAreCovered};
+ghost use Rattle.yp_server.specs.Origins.{ComesFrom};
 
-use crate::lent::{Lent, Staff, refuse};
+use crate::datagrams::DatagramResources;
 use crate::locks::{Blanks, lock_up, unlock};
-use crate::mail::Mailbag;
-use crate::seats::Workplace;
+use crate::preparing::WorkerMaker;
+use crate::resources::{ServerResources, WorkerResources, refuse};
 use crate::spec::{ServeRefused, ServeSpec, Served};
 use std::alloc::Global;
 use std::marker::Brand;
@@ -30,14 +35,14 @@ use std::random::RandomSource;
 use std::sync::Wait;
 use std::sync::ledger::{Blank, Ledger};
 use std::thread::Threads;
+use yp_answer::session::CALLS_MAX;
 use yp_board::Tell;
+use yp_host::Desk;
+use yp_host::workers::Supplies;
 use yp_io::{Clock, Dial, Disk, Inbox, Listen, Texts};
-use yp_publish::Publisher;
-use yp_server::Desk;
-use yp_session::CALLS_MAX;
-use yp_shared::Accounts;
+use yp_publisher::Publisher;
+use yp_publisher::sharing::Accounts;
 use yp_worker::{Gate, Reception};
-use yp_workhost::Supplies;
 
 /// Serves the connections of a listener and the datagrams of an inbox, over maps and a desk that all workers share:
 /// connections until as many were accepted as are to be or an accept has failed, datagrams until all turns are taken or
@@ -73,16 +78,15 @@ where
     A::Out: Send,
     G: Gate + Sync,
     R: Threads + Wait + RandomSource + Sync,
-    requires workers { (1 ≤ spec.now.workers) × (spec.now.workers ≤ 8) }
+    requires workers { (1 ≤ spec.now.workers) × (spec.now.workers ≤ workers_max) }
     requires readers { vec_len readers ≡ spec.now.workers + 1 }
     requires starts { All (λ reader. IsAtStart publisher.catalogue (B.log publisher.board) (B.Reader.seen reader))
         readers.items }
     requires most { spec.now.most ≤ CALLS_MAX }
 
     // All connections were closed that came.
-    ensures gone { IfOk result (λ served. IsKept
-        (opening_of L.past L.most L.accepted L.returned L.faults listen)
-        (opening_of L.past L.most L.accepted L.returned L.faults served.listen)
+    ensures gone { IfOk result (λ served. IsListenerState (opening_by L.Listen listen)
+        (opening_by L.Listen served.listen)
         served.tally.connections served.tally.listen_fault 0 1) }
 
     // Where no accept has failed, as many were accepted as were to be.
@@ -93,28 +97,27 @@ where
     ensures datagrams { IfOk result (λ served. ServesDatagrams
         (conduct_at B.Reader.seen B.Reader.stepped (T.text desk.texts) desk.hosts) totals_of
         publisher.catalogue (B.log publisher.board) (B.log served.writer) spec.now.turns served.inbox_fault
-        (box_of I.past I.turns I.quiets inbox) (box_of I.past I.turns I.quiets served.inbox)) }
+        (box_by I.Inbox inbox) (box_by I.Inbox served.inbox)) }
     ensures inbox_fault { IfOk result (λ served. served.inbox_fault ≡ true
         → HasRisen (I.faults inbox) (I.faults served.inbox)) }
 
     // How each map stands then. From a start the orders of each map rise, where the disks tell what a crash may leave.
-    ensures maps { IfOk result (λ served. Leaves D.history publisher.catalogue (B.log served.writer)
+    ensures maps { IfOk result (λ served. DisksStand D.history publisher.catalogue (B.log served.writer)
         served.disks.items) }
     ensures grown { IfOk result (λ served. IsFront (B.log publisher.board) (B.log served.writer)) }
-    ensures rises { IfOk result (λ served. IsStart (moment_of B.log publisher)
+    ensures rises { IfOk result (λ served. IsStart (publisher_state B.log publisher)
         → AreTold D.history served.disks.items → IsRisingLog (B.log served.writer)) }
     ensures desk { IfOk result (λ served. IsSupplied T.Texts (T.text desk.texts) desk.hosts served.desk) }
 
-    // What each worker served, one connection after the other, and each datagram; what all workers counted, and what
-    // covers it: FILEs by the faults of the texts and of the disks, orders that were reached by the wires that begin
-    // with one, and failed sources by the faults of the dial and the wires that give no version.
+    // What each worker served, one connection after the other, and each datagram; what all workers counted; and what
+    // bounds it: FILEs are at most as many as the faults of the texts and of the disks, orders that were reached as the
+    // wires that begin with one, and failed sources as the faults of the dial and the wires that give no version.
     ensures counted { IfOk result (λ served. CountsAll
         (conduct_at B.Reader.seen B.Reader.stepped (T.text desk.texts) desk.hosts) count_totals
         (terms_of publisher.catalogue (B.log publisher.board) spec.now.most)
-        (opening_of L.past L.most L.accepted L.returned L.faults listen)
-        (opening_of L.past L.most L.accepted L.returned L.faults served.listen)
+        (opening_by L.Listen listen) (opening_by L.Listen served.listen)
         served.tally.calls (B.log served.writer) spec.now.turns served.inbox_fault
-        (box_of I.past I.turns I.quiets inbox) (box_of I.past I.turns I.quiets served.inbox) served.totals) }
+        (box_by I.Inbox inbox) (box_by I.Inbox served.inbox) served.totals) }
     ensures files { IfOk result (λ served. FilesAreCovered D.history D.faults
         (T.faults desk.texts) (T.faults served.desk.texts)
         (disks_of publisher.maps) served.disks.items served.totals) }
@@ -124,35 +127,35 @@ where
         (A.faults desk.dial) (A.faults served.desk.dial) served.totals.outcomes.source) }
 
     // Where what was shown came from: so many makes were answered SUCC, and all else was fetched.
-    ensures origins { IfOk result (λ served. IsStart (moment_of B.log publisher)
+    ensures origins { IfOk result (λ served. IsStart (publisher_state B.log publisher)
         → AreTold D.history served.disks.items → ComesFrom D.history
-        (IsBuilt (T.text desk.texts) publisher.catalogue) (moment_of B.log publisher) publisher.catalogue
+        (IsBuiltOfText (T.text desk.texts) publisher.catalogue) (publisher_state B.log publisher) publisher.catalogue
         (B.log served.writer) served.disks.items served.totals.made (A.past desk.dial) (A.past served.desk.dial)) }
 
     // Whom the dial asked, what for, and whom it told what: it was used for transfers of the maps alone.
     ensures dialed { IfOk result (λ served. IsUsedForTransfers desk.hosts publisher.catalogue.maps
-        (dial_tells A.past A.letters A.faults desk.dial) (dial_tells A.past A.letters A.faults served.desk.dial)) }
+        (dial_by A.Dial desk.dial) (dial_by A.Dial served.desk.dial)) }
 
     // Want of memory, before a connection was accepted or a turn was taken. Nothing has changed.
     ensures refused { IfErr result (λ refused. (refused.desk ≡ desk) × (refused.listen ≡ listen)
         × (refused.inbox ≡ inbox)) }
     ensures disks { IfErr result (λ refused. refused.disks.items ≡ disks_of publisher.maps) }
 {
-    let lent = Lent {
+    let resources = ServerResources {
         publisher,
         desk,
         listen,
         inbox,
     };
-    let Ok(staff) = Staff::of(alloc, readers, spec.workers) else {
-        return Err(refuse(lent));
+    let Ok(worker_resources) = WorkerResources::of(alloc, readers, spec.workers) else {
+        return Err(refuse(resources));
     };
     let parts = spec.workers as u64 + 1;
     under_locks::<Brand, Brand, D, B, A, T, C, L, I, G, R>(
         alloc,
         rt,
-        lent,
-        staff,
+        resources,
+        worker_resources,
         spec,
         gate,
         Blank::new(parts),
@@ -165,8 +168,8 @@ where
 fn under_locks<J, E, D, B, A, T, C, L, I, G, R>(
     alloc: Global,
     rt: &R,
-    lent: Lent<D, B, A, T, C, L, I>,
-    staff: Staff<B::Reader>,
+    resources: ServerResources<D, B, A, T, C, L, I>,
+    worker_resources: WorkerResources<B::Reader>,
     spec: &ServeSpec,
     gate: &G,
     out: Blank,
@@ -192,54 +195,53 @@ where
     A::Out: Send,
     G: Gate + Sync,
     R: Threads + Wait + RandomSource + Sync,
-    requires site { lent.publisher.catalogue ≡ J.catalogue }
-    requires starts { B.log lent.publisher.board ≡ J.starts }
-    requires supplied { IsSupplied T.Texts J.text J.hosts lent.desk }
-    requires opening { opening_of L.past L.most L.accepted L.returned L.faults lent.listen ≡ J.opening }
+    requires site { resources.publisher.catalogue ≡ J.catalogue }
+    requires starts { B.log resources.publisher.board ≡ J.starts }
+    requires supplied { IsSupplied T.Texts J.text J.hosts resources.desk }
+    requires opening { opening_by L.Listen resources.listen ≡ J.opening }
     requires most { (spec.now.most ≡ J.most) × (spec.now.most ≤ CALLS_MAX) }
-    requires some { 0 < length staff.sessions.items }
-    requires readers { length staff.readers.items ≡ length staff.sessions.items }
-    requires know { All (λ reader. IsAtStart J.catalogue J.starts (B.Reader.seen reader)) staff.readers.items }
-    requires spare { IsAtStart J.catalogue J.starts (B.Reader.seen staff.spare) }
-    requires out { (out.name ≡ J.name) × (out.parts ≡ J.parts) × (out.parts ≡ length staff.sessions.items + 1) }
+    requires some { 0 < length worker_resources.sessions.items }
+    requires readers { length worker_resources.readers.items ≡ length worker_resources.sessions.items }
+    requires know { All (λ reader. IsAtStart J.catalogue J.starts (B.Reader.seen reader))
+        worker_resources.readers.items }
+    requires spare { IsAtStart J.catalogue J.starts (B.Reader.seen worker_resources.spare) }
+    requires out { (out.name ≡ J.name) × (out.parts ≡ J.parts)
+        × (out.parts ≡ length worker_resources.sessions.items + 1) }
     requires ended { (ended.name ≡ E.name) × (ended.parts ≡ E.parts)
-        × (ended.parts ≡ length staff.sessions.items + 1) }
-    requires builds { Builds J.text J.catalogue J.built }
+        × (ended.parts ≡ length worker_resources.sessions.items + 1) }
+    requires builds { SiteBuilds J.text J.catalogue J.built }
     requires unread { (blanks.unread.name ≡ J.unread) × (blanks.unread.parts ≡ J.shares)
-        × (J.shares ≡ length staff.sessions.items + 3) }
+        × (J.shares ≡ length worker_resources.sessions.items + 3) }
     requires orders { (blanks.orders.name ≡ J.orders) × (blanks.orders.parts ≡ J.shares) }
     requires sources { (blanks.sources.name ≡ J.sources) × (blanks.sources.parts ≡ J.shares) }
     requires failures { (blanks.failures.name ≡ J.failures) × (blanks.failures.parts ≡ J.shares) }
     requires made { (blanks.made.name ≡ J.made) × (blanks.made.parts ≡ J.shares) }
     requires versions { (blanks.versions.name ≡ J.versions) × (blanks.versions.parts ≡ J.shares + 1) }
-    requires texts { T.faults lent.desk.texts ≡ J.text_faults }
-    requires dial { (A.past lent.desk.dial ≡ J.wires) × (A.faults lent.desk.dial ≡ J.dial_faults)
-        × (A.letters lent.desk.dial ≡ J.letters) }
-    requires disks { faults_over D.faults (disks_of lent.publisher.maps) ≡ J.disk_faults }
-    requires first { moment_of B.log lent.publisher ≡ J.first }
-    ensures gone { IfOk result (λ served. IsKept J.opening
-        (opening_of L.past L.most L.accepted L.returned L.faults served.listen)
+    requires texts { T.faults resources.desk.texts ≡ J.text_faults }
+    requires dial { (A.past resources.desk.dial ≡ J.wires) × (A.faults resources.desk.dial ≡ J.dial_faults)
+        × (A.letters resources.desk.dial ≡ J.letters) }
+    requires disks { faults_over D.faults (disks_of resources.publisher.maps) ≡ J.disk_faults }
+    requires first { publisher_state B.log resources.publisher ≡ J.first }
+    ensures gone { IfOk result (λ served. IsListenerState J.opening (opening_by L.Listen served.listen)
         served.tally.connections served.tally.listen_fault 0 1) }
     ensures datagrams { IfOk result (λ served. ServesDatagrams
         (conduct_at B.Reader.seen B.Reader.stepped J.text J.hosts) totals_of
         J.catalogue J.starts (B.log served.writer) spec.now.turns served.inbox_fault
-        (box_of I.past I.turns I.quiets lent.inbox) (box_of I.past I.turns I.quiets served.inbox)) }
+        (box_by I.Inbox resources.inbox) (box_by I.Inbox served.inbox)) }
     ensures inbox_fault { IfOk result (λ served. served.inbox_fault ≡ true
-        → HasRisen (I.faults lent.inbox) (I.faults served.inbox)) }
-    ensures maps { IfOk result (λ served. Leaves D.history J.catalogue (B.log served.writer) served.disks.items) }
+        → HasRisen (I.faults resources.inbox) (I.faults served.inbox)) }
+    ensures maps { IfOk result (λ served. DisksStand D.history J.catalogue (B.log served.writer) served.disks.items) }
     ensures grown { IfOk result (λ served. IsFront J.starts (B.log served.writer)) }
     ensures rises { IfOk result (λ served. IsStart J.first → AreTold D.history served.disks.items
         → IsRisingLog (B.log served.writer)) }
     ensures desk { IfOk result (λ served. IsSupplied T.Texts J.text J.hosts served.desk) }
     ensures counted { IfOk result (λ served. CountsAll
-        (conduct_at B.Reader.seen B.Reader.stepped J.text J.hosts) count_totals
-        (terms_of J.catalogue J.starts J.most) J.opening
-        (opening_of L.past L.most L.accepted L.returned L.faults served.listen)
-        served.tally.calls (B.log served.writer) spec.now.turns served.inbox_fault
-        (box_of I.past I.turns I.quiets lent.inbox) (box_of I.past I.turns I.quiets served.inbox) served.totals) }
+        (conduct_at B.Reader.seen B.Reader.stepped J.text J.hosts) count_totals (terms_by J.Reception) J.opening
+        (opening_by L.Listen served.listen) served.tally.calls (B.log served.writer) spec.now.turns served.inbox_fault
+        (box_by I.Inbox resources.inbox) (box_by I.Inbox served.inbox) served.totals) }
     ensures files { IfOk result (λ served. FilesAreCovered D.history D.faults
-        (T.faults lent.desk.texts) (T.faults served.desk.texts)
-        (disks_of lent.publisher.maps) served.disks.items served.totals) }
+        (T.faults resources.desk.texts) (T.faults served.desk.texts)
+        (disks_of resources.publisher.maps) served.disks.items served.totals) }
     ensures orders { IfOk result (λ served. CoversOrders J.wires (A.past served.desk.dial)
         served.totals.outcomes.reached) }
     ensures sources { IfOk result (λ served. CoversSources J.wires (A.past served.desk.dial)
@@ -248,22 +250,26 @@ where
         → ComesFrom D.history J.built J.first J.catalogue (B.log served.writer) served.disks.items
         served.totals.made J.wires (A.past served.desk.dial)) }
     ensures dialed { IfOk result (λ served. IsUsedForTransfers J.hosts J.catalogue.maps
-        (dial_told J.wires J.letters J.dial_faults) (dial_tells A.past A.letters A.faults served.desk.dial)) }
-    ensures refused { IfErr result (λ refused. (refused.desk ≡ lent.desk) × (refused.listen ≡ lent.listen)
-        × (refused.inbox ≡ lent.inbox)) }
-    ensures disks { IfErr result (λ refused. refused.disks.items ≡ disks_of lent.publisher.maps) }
+        (dial_told J.wires J.letters J.dial_faults) (dial_by A.Dial served.desk.dial)) }
+    ensures refused { IfErr result (λ refused. (refused.desk ≡ resources.desk) × (refused.listen ≡ resources.listen)
+        × (refused.inbox ≡ resources.inbox)) }
+    ensures disks { IfErr result (λ refused. refused.disks.items ≡ disks_of resources.publisher.maps) }
 {
-    let Ok(posts) = Vec::with_capacity(alloc, staff.sessions.len() + 1) else {
-        return Err(refuse(lent));
+    let Ok(all_workers) = Vec::with_capacity(alloc, worker_resources.sessions.len() + 1) else {
+        return Err(refuse(resources));
     };
-    let Staff {
+    let WorkerResources {
         sessions,
         readers,
         spare,
         room,
-    } = staff;
-    let (publisher, desk, charges) = lock_up::<J, D, B, A, T, C>(lent.publisher, lent.desk, blanks);
-    let place = Workplace {
+    } = worker_resources;
+    let (publisher, desk, charges) = lock_up::<J, D, B, A, T, C>(
+        resources.publisher,
+        resources.desk,
+        blanks,
+    );
+    let place = WorkerMaker {
         alloc,
         rt,
         publisher: &publisher,
@@ -271,21 +277,21 @@ where
         gate,
         most: spec.most,
     };
-    let bag = Mailbag {
-        inbox: lent.inbox,
+    let datagram_resources = DatagramResources {
+        inbox: resources.inbox,
         turns: spec.turns,
         reader: spare,
         room,
     };
     let (listen, tally, mailed, account) = place.serve::<E, L, I>(
-        posts,
+        all_workers,
         sessions,
         readers,
-        lent.listen,
+        resources.listen,
         out,
         ended,
         charges,
-        bag,
+        datagram_resources,
     );
     let (disks, writer, desk, totals) = unlock(publisher, desk, account);
     Ok(Served {

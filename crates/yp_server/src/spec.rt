@@ -1,11 +1,8 @@
 //! What is served, and what comes back.
 
-use yp_server::Desk;
+use yp_host::Desk;
+use yp_host::workers::Totals;
 use yp_worker::Tally;
-use yp_workhost::Totals;
-
-/// The most workers of a server.
-pub const WORKERS_MAX: u32 = 8;
 
 /// How connections and datagrams are served.
 #[derive(Clone, Copy, Debug, PartialEq, Eq)]

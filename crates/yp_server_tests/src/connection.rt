@@ -1,15 +1,15 @@
 //! Connections from the loading of their files to the handing back of their disks.
 
-use crate::given::{assert_same, bytes};
+use crate::given::{NEVER, assert_same};
 use crate::sample::*;
 use std::alloc::Global;
 use std::process::Abort;
 use std::random::RandomSource;
-use yp_io::{MemDisk, MemWire, Source};
-use yp_publish::OpenFault;
-use yp_server::*;
-use yp_session::{End, Trail};
-use yp_slot::{Slot, SlotFault};
+use yp_answer::session::End;
+use yp_host::*;
+use yp_io::{MemDisk, MemWire, Source, Trail};
+use yp_map_file::{Slot, SlotFault};
+use yp_publisher::OpenFault;
 
 // A disk with this file. From call `stop` on its calls fail, and the call `failing` fails.
 fn disk_of(
@@ -63,18 +63,10 @@ fn order_of<R: RandomSource + Abort>(rt: &R, alloc: Global, file: Vec<u8>) -> u3
 // How many files of a disk are looked at that a crash may leave: with each of three writes kept or dropped.
 const CRASHES: u64 = 8;
 
-// The orders that they stand for.
-fn orders_left<R: RandomSource + Abort>(rt: &R, alloc: Global, disks: &[MemDisk]) -> Vec<u32> {
-    let mut orders = Vec::new(alloc);
-    for disk in disks {
-        for kept in 0..CRASHES {
-            let file = disk.crashed(kept).expect(rt, "a file");
-            orders
-                .push(order_of(rt, alloc, file))
-                .expect(rt, "an order");
-        }
-    }
-    orders
+// The order that one of them stands for.
+fn order_left<R: RandomSource + Abort>(rt: &R, alloc: Global, disk: &MemDisk, kept: u64) -> u32 {
+    let file = disk.crashed(kept).expect(rt, "a file");
+    order_of(rt, alloc, file)
 }
 
 // Serves calls to the own host from these disks, and hands them back. Each is hosts.byname of the domain at its place.
@@ -90,11 +82,13 @@ fn served<R: RandomSource + Abort>(
     let desk = desk_of(rt, alloc, text, 100, NEVER);
     let mut wire = wire_of(alloc, input);
     assert_fits(rt, disks.len(), &catalog);
-    let stock = Stock { disks, desk };
+    let resources = ConnectionResources { disks, desk };
     let mut trail = Trail::new();
-    let (end, stock) = serve_wire(alloc, rt, catalog, OWN_HOST, &mut wire, stock, &mut trail);
-    let came = seen(rt, alloc, end, &mut wire, &stock.disks);
-    (came, stock.disks)
+    let (end, resources) = serve_wire(
+        alloc, rt, catalog, OWN_HOST, &mut wire, resources, &mut trail,
+    );
+    let came = seen(rt, alloc, end, &mut wire, &resources.disks);
+    (came, resources.disks)
 }
 
 // Serves calls from two disks with these files.
@@ -111,89 +105,51 @@ fn served_from_two<R: RandomSource + Abort>(
     came
 }
 
-// Serves calls from one disk of `lab`, whose calls fail so. It also gives the orders that a crash may leave then.
+// Serves calls from one disk of `lab`, whose calls fail so.
 fn served_from_one<R: RandomSource + Abort>(
     rt: &R,
     alloc: Global,
     stop: Option<u64>,
     failing: u64,
     input: Vec<u8>,
-) -> (Came, Vec<u32>) {
+) -> (Came, Vec<MemDisk>) {
     let disk = disk_of(rt, alloc, Vec::new(alloc), stop, failing);
     let disks = vec![in alloc; disk].expect(rt, "a disk");
-    let (came, disks) = served(rt, alloc, &[b"lab"], disks, input);
-    let orders = orders_left(rt, alloc, &disks);
-    (came, orders)
+    served(rt, alloc, &[b"lab"], disks, input)
 }
 
-const MATCH_MAKE_MATCH: &[&str] = &[
-    "8000004c 00000001",
-    MATCH,
-    "80000034 00000002",
-    MAKE,
-    "00000005 8000004c 00000003",
-    MATCH,
-];
+const MATCH_MAKE_MATCH: &str =
+    "8000004c 00000001 MATCH 80000034 00000002 MAKE 00000005 8000004c 00000003 MATCH";
 
-const NO_MAP_MADE_VALUE: &[&str] = &[
-    "80000020 00000001",
-    NO_MAP_OF,
-    "8000001c 00000002",
-    MADE,
-    "00000001 80000030 00000003",
-    VALUE_OF,
-];
+const NO_MAP_MADE_VALUE: &str =
+    "80000020 00000001 NO_MAP_OF 8000001c 00000002 MADE 00000001 80000030 00000003 VALUE_OF";
 
 #[test]
 fn make_then_match(rt: HostRuntime) {
     let alloc = rt.alloc();
-    let input = bytes(&rt, alloc, MATCH_MAKE_MATCH);
-    let output = bytes(&rt, alloc, NO_MAP_MADE_VALUE);
-    let file = bytes(&rt, alloc, HOSTS_FILE);
+    let input = words(&rt, alloc, MATCH_MAKE_MATCH);
+    let output = words(&rt, alloc, NO_MAP_MADE_VALUE);
+    let file = words(&rt, alloc, "HOSTS_FILE");
     let files = vec![in alloc; file].expect(&rt, "files");
     let (came, _) = served_from_one(&rt, alloc, None, NEVER, input);
     let wanted = (Ok(End::Clean), output, Vec::new(alloc), files);
     assert_same(&rt, &came, &wanted, "MATCH, MAKE, MATCH");
 }
 
-// MAPLIST of `lab` and of `dev`, behind their transactions.
-const LIST: &str = "00000000 00000002 000186a4 00000002 0000000b 00000000 00000000 00000000
-    00000000 00000003";
+const LISTS: &str = "\
+    80000030 00000001 LIST 6c616200 80000034 00000002 MAKE 00000005 80000030 00000003 LIST \
+    6c616200 80000030 00000004 LIST 64657600";
 
-const NO_MAPS: &str = "00000001 00000000 00000000 00000000 00000000 00000001 00000000";
-
-const HOSTS_LISTED: &str = "00000001 00000000 00000000 00000000 00000000 00000001 00000001
-    0000000c 686f7374 732e6279 6e616d65 00000000";
-
-const LISTS: &[&str] = &[
-    "80000030 00000001",
-    LIST,
-    "6c616200 80000034 00000002",
-    MAKE,
-    "00000005 80000030 00000003",
-    LIST,
-    "6c616200 80000030 00000004",
-    LIST,
-    "64657600",
-];
-
-const LISTED: &[&str] = &[
-    "80000020 00000001",
-    NO_MAPS,
-    "8000001c 00000002",
-    MADE,
-    "00000001 80000034 00000003",
-    HOSTS_LISTED,
-    "80000020 00000004",
-    NO_MAPS,
-];
+const LISTED: &str = "\
+    80000020 00000001 NO_MAPS 8000001c 00000002 MADE 00000001 80000034 00000003 HOSTS_LISTED \
+    80000020 00000004 NO_MAPS";
 
 #[test]
 fn made_map_of_one_domain_is_listed(rt: HostRuntime) {
     let alloc = rt.alloc();
-    let input = bytes(&rt, alloc, LISTS);
-    let output = bytes(&rt, alloc, LISTED);
-    let file = bytes(&rt, alloc, HOSTS_FILE);
+    let input = words(&rt, alloc, LISTS);
+    let output = words(&rt, alloc, LISTED);
+    let file = words(&rt, alloc, "HOSTS_FILE");
     let files = vec![in alloc; Vec::new(alloc), file].expect(&rt, "files");
     let (first, second) = (Vec::new(alloc), Vec::new(alloc));
     let came = served_from_two(&rt, alloc, &[b"dev", b"lab"], first, second, input);
@@ -206,123 +162,76 @@ fn made_map_of_one_domain_is_listed(rt: HostRuntime) {
     );
 }
 
-// The file of order 100 with 1 in the padding of its master, which is at 79.
-const DAMAGED: &[&str] = &[
-    FIRST_CELL,
-    SECOND_CELL,
-    "00000001 00000064 00000002 6d310001 00000001 00000005 616c7068 61000000",
-    "0000000e 31302e30 2e302e31 20616c70 68610000",
-];
-
-const ONE_MATCH: &[&str] = &["8000004c 00000003", MATCH];
+const ONE_MATCH: &str = "8000004c 00000003 MATCH";
 
 #[test]
 fn damaged_disk_is_refused(rt: HostRuntime) {
     let alloc = rt.alloc();
-    let first = bytes(&rt, alloc, HOSTS_FILE);
-    let second = bytes(&rt, alloc, DAMAGED);
-    let input = bytes(&rt, alloc, ONE_MATCH);
+    let first = words(&rt, alloc, "HOSTS_FILE");
+    let second = words(&rt, alloc, "DAMAGED");
+    let input = words(&rt, alloc, ONE_MATCH);
     let came = served_from_two(&rt, alloc, &[b"lab", b"dev"], first, second, input);
     let fault = SlotFault::Damaged { at: 79, rule: 5 };
     let end = Err(OpenFault::Refused { map: 1, fault });
-    let left = bytes(&rt, alloc, ONE_MATCH);
-    let unchanged = [bytes(&rt, alloc, HOSTS_FILE), bytes(&rt, alloc, DAMAGED)];
+    let left = words(&rt, alloc, ONE_MATCH);
+    let unchanged = [
+        words(&rt, alloc, "HOSTS_FILE"),
+        words(&rt, alloc, "DAMAGED"),
+    ];
     let files = Vec::from_array(alloc, unchanged).expect(&rt, "files");
     let wanted = (end, Vec::new(alloc), left, files);
     assert_same(&rt, &came, &wanted, "a damaged file");
 }
 
 // Two calls of MAKE, with a call of MATCH before, between and behind them.
-const TWICE: &[&str] = &[
-    "8000004c 00000001",
-    MATCH,
-    "80000034 00000002",
-    MAKE,
-    "00000005 8000004c 00000003",
-    MATCH,
-    "80000034 00000004",
-    MAKE,
-    "00000005 8000004c 00000005",
-    MATCH,
-];
+const TWICE: &str = "\
+    8000004c 00000001 MATCH 80000034 00000002 MAKE 00000005 8000004c 00000003 MATCH 80000034 \
+    00000004 MAKE 00000005 8000004c 00000005 MATCH";
 
 // The replies where both succeed, where the first has FILE, where both have, and where the second has.
-const BOTH: &[&str] = &[
-    "80000020 00000001",
-    NO_MAP_OF,
-    "8000001c 00000002",
-    MADE,
-    "00000001 80000030 00000003",
-    VALUE_OF,
-    "8000001c 00000004",
-    MADE,
-    "00000001 80000030 00000005",
-    VALUE_OF,
-];
+const BOTH: &str = "\
+    80000020 00000001 NO_MAP_OF 8000001c 00000002 MADE 00000001 80000030 00000003 VALUE_OF \
+    8000001c 00000004 MADE 00000001 80000030 00000005 VALUE_OF";
 
-const SECOND: &[&str] = &[
-    "80000020 00000001",
-    NO_MAP_OF,
-    "8000001c 00000002",
-    MADE,
-    "fffffff7 80000020 00000003",
-    NO_MAP_OF,
-    "8000001c 00000004",
-    MADE,
-    "00000001 80000030 00000005",
-    VALUE_OF,
-];
+const SECOND: &str = "\
+    80000020 00000001 NO_MAP_OF 8000001c 00000002 MADE fffffff7 80000020 00000003 NO_MAP_OF \
+    8000001c 00000004 MADE 00000001 80000030 00000005 VALUE_OF";
 
-const NEITHER: &[&str] = &[
-    "80000020 00000001",
-    NO_MAP_OF,
-    "8000001c 00000002",
-    MADE,
-    "fffffff7 80000020 00000003",
-    NO_MAP_OF,
-    "8000001c 00000004",
-    MADE,
-    "fffffff7 80000020 00000005",
-    NO_MAP_OF,
-];
+const NEITHER: &str = "\
+    80000020 00000001 NO_MAP_OF 8000001c 00000002 MADE fffffff7 80000020 00000003 NO_MAP_OF \
+    8000001c 00000004 MADE fffffff7 80000020 00000005 NO_MAP_OF";
 
-const FIRST: &[&str] = &[
-    "80000020 00000001",
-    NO_MAP_OF,
-    "8000001c 00000002",
-    MADE,
-    "00000001 80000030 00000003",
-    VALUE_OF,
-    "8000001c 00000004",
-    MADE,
-    "fffffff7 80000030 00000005",
-    VALUE_OF,
-];
+const FIRST: &str = "\
+    80000020 00000001 NO_MAP_OF 8000001c 00000002 MADE 00000001 80000030 00000003 VALUE_OF \
+    8000001c 00000004 MADE fffffff7 80000030 00000005 VALUE_OF";
 
 // What is seen of two makings over an empty disk where a call from `first` to `last` fails: the replies, and the orders
 // that its file may stand for after a crash, where none is 0.
-#[derive(Clone, Copy)]
-struct Failing<'a> {
+struct Failing {
     first: u64,
     last: u64,
-    output: &'a [&'a str],
-    orders: &'a [u32],
+    output: &'static str,
+    orders: &'static [u32],
 }
 
-// Compares what came where this call fails.
-fn assert_failed(
-    rt: &impl Abort,
-    came: &Came,
-    orders: &[u32],
-    output: &[u8],
-    wanted: &Failing<'_>,
-    call: u64,
-) {
+// Compares the replies where this call fails.
+fn assert_replied(rt: &impl Abort, came: &Came, output: &[u8], call: u64) {
     let (end, written, _, _) = came;
     let seen = (call, end, written.as_slice());
     assert_same(rt, &seen, &(call, &Ok(End::Clean), output), "replies");
-    for order in orders {
-        let seen = (call, order, wanted.orders.contains(order));
+}
+
+// Compares the orders that a crash may leave then.
+fn assert_orders<R: RandomSource + Abort>(
+    rt: &R,
+    alloc: Global,
+    disk: &MemDisk,
+    wanted: &Failing,
+    call: u64,
+) {
+    for kept in 0..CRASHES {
+        let order = order_left(rt, alloc, disk, kept);
+        let seen = (call, order, wanted.orders.contains(&order));
         assert_same(rt, &seen, &(call, order, true), "order");
     }
 }
@@ -331,7 +240,7 @@ fn assert_failed(
 // body and its entry, syncs, and writes and syncs the gate; the second finds the cells made and the other one closed.
 // So they make the calls from 2 to 10 and from 11 to 15. After a failed first one the file is opened again in the
 // second.
-const ONCE_FAILING: &[Failing<'static>] = &[
+static ONCE_FAILING: [Failing; 5] = [
     Failing {
         first: 2,
         last: 9,
@@ -364,20 +273,38 @@ const ONCE_FAILING: &[Failing<'static>] = &[
     },
 ];
 
-#[test]
-fn each_disk_call_fails_once(rt: HostRuntime) {
-    let alloc = rt.alloc();
-    for wanted in ONCE_FAILING {
-        let output = bytes(&rt, alloc, wanted.output);
-        for failing in wanted.first..wanted.last + 1 {
-            let input = bytes(&rt, alloc, TWICE);
-            let (came, orders) = served_from_one(&rt, alloc, None, failing, input);
-            assert_failed(&rt, &came, &orders, &output, wanted, failing);
-        }
+// Makes twice, where this call fails, and from call `stop` on all calls.
+fn try_failing<R: RandomSource + Abort>(
+    rt: &R,
+    alloc: Global,
+    wanted: &Failing,
+    stop: Option<u64>,
+    failing: u64,
+) {
+    let input = words(rt, alloc, TWICE);
+    let output = words(rt, alloc, wanted.output);
+    let (came, disks) = served_from_one(rt, alloc, stop, failing, input);
+    let call = stop.unwrap_or(failing);
+    assert_replied(rt, &came, &output, call);
+    for disk in &disks {
+        assert_orders(rt, alloc, disk, wanted, call);
     }
 }
 
-const STOPPED: &[Failing<'static>] = &[
+fn try_once<R: RandomSource + Abort>(rt: &R, alloc: Global, wanted: &Failing) {
+    for call in wanted.first..wanted.last.saturating_add(1) {
+        try_failing(rt, alloc, wanted, None, call);
+    }
+}
+
+#[test]
+fn each_disk_call_fails_once(rt: HostRuntime) {
+    for wanted in &ONCE_FAILING {
+        try_once(&rt, rt.alloc(), wanted);
+    }
+}
+
+static STOPPED: [Failing; 5] = [
     Failing {
         first: 2,
         last: 9,
@@ -410,30 +337,33 @@ const STOPPED: &[Failing<'static>] = &[
     },
 ];
 
-#[test]
-fn disk_stops_at_each_call(rt: HostRuntime) {
-    let alloc = rt.alloc();
-    for wanted in STOPPED {
-        let output = bytes(&rt, alloc, wanted.output);
-        for stop in wanted.first..wanted.last + 1 {
-            let input = bytes(&rt, alloc, TWICE);
-            let (came, orders) = served_from_one(&rt, alloc, Some(stop), NEVER, input);
-            assert_failed(&rt, &came, &orders, &output, wanted, stop);
-        }
+fn try_stopped<R: RandomSource + Abort>(rt: &R, alloc: Global, wanted: &Failing) {
+    for call in wanted.first..wanted.last.saturating_add(1) {
+        try_failing(rt, alloc, wanted, Some(call), NEVER);
     }
 }
 
 #[test]
-fn disk_that_is_not_opened(rt: HostRuntime) {
-    let alloc = rt.alloc();
+fn disk_stops_at_each_call(rt: HostRuntime) {
+    for wanted in &STOPPED {
+        try_stopped(&rt, rt.alloc(), wanted);
+    }
+}
+
+// Compares what comes of an opening where this call fails.
+fn try_unopened<R: RandomSource + Abort>(rt: &R, alloc: Global, row: &str, failing: u64) {
     let fault = SlotFault::DiskFault;
     let end = Err(OpenFault::Refused { map: 0, fault });
-    let left = bytes(&rt, alloc, TWICE);
-    let files = vec![in alloc; Vec::new(alloc)].expect(&rt, "files");
+    let left = words(rt, alloc, TWICE);
+    let files = vec![in alloc; Vec::new(alloc)].expect(rt, "files");
     let wanted = (end, Vec::new(alloc), left, files);
-    for (row, failing) in [("call 0 fails", 0), ("call 1 fails", 1)] {
-        let input = bytes(&rt, alloc, TWICE);
-        let (came, _) = served_from_one(&rt, alloc, None, failing, input);
-        assert_same(&rt, &came, &wanted, row);
-    }
+    let input = words(rt, alloc, TWICE);
+    let (came, _) = served_from_one(rt, alloc, None, failing, input);
+    assert_same(rt, &came, &wanted, row);
+}
+
+#[test]
+fn disk_that_is_not_opened(rt: HostRuntime) {
+    try_unopened(&rt, rt.alloc(), "call 0 fails", 0);
+    try_unopened(&rt, rt.alloc(), "call 1 fails", 1);
 }

@@ -3,10 +3,16 @@
 use std::alloc::Global;
 use std::fmt::Debug;
 use std::process::Abort;
+pub use yp_for_tests::NEVER;
 
 /// The bytes of texts of hexadecimal words, as `8000004c 00000001`.
 pub fn bytes<R: Abort>(rt: &R, alloc: Global, texts: &[&str]) -> Vec<u8> {
     yp_for_tests::bytes(alloc, texts).expect(rt, "hexadecimal words")
+}
+
+/// The bytes of a text of hexadecimal words and of names, each told by a line.
+pub fn named<R: Abort>(rt: &R, alloc: Global, names: &str, text: &str) -> Vec<u8> {
+    yp_for_tests::named(alloc, names, text).expect(rt, "hexadecimal words and names")
 }
 
 /// Ends the test where what came isn't what is wanted, and tells of which row.

@@ -1,15 +1,15 @@
 //! Sessions over stored maps that are made anew.
 
-use crate::given::{assert_same, bytes};
+use crate::given::{NEVER, assert_same};
 use crate::sample::*;
 use std::alloc::Global;
 use std::process::Abort;
+use yp_answer::session::{End, Session};
 use yp_board::{Catalog, PlainBoard};
-use yp_io::{MemDial, MemDisk, MemTexts, Peer, SetClock};
-use yp_publish::open_publisher;
-use yp_server::*;
-use yp_session::{End, Session, Trail};
-use yp_slot::Slot;
+use yp_host::*;
+use yp_io::{MemDial, MemDisk, MemTexts, Peer, SetClock, Trail};
+use yp_map_file::Slot;
+use yp_publisher::open_publisher;
 
 type MemHost = LocalHost<MemDisk, PlainBoard, MemDial, MemTexts, SetClock, HostRuntime>;
 
@@ -69,100 +69,99 @@ fn stored_by(rt: &impl Abort, runtime: HostRuntime, alloc: Global, host: MemHost
     load_stored(rt, runtime, alloc, &mut slot)
 }
 
-// A host, a call of MAKE and what is wanted of it: the status, the reply to MATCH behind it, and what the file stands
+// A host, a call of MAKE and what is wanted of it: its reply, the reply to MATCH behind it, and what the file stands
 // for then.
 #[derive(Clone, Copy)]
 struct Making<'a> {
     row: &'a str,
     own: &'a [u8],
-    file: &'a [&'a str],
+    file: &'a str,
     text: &'a [u8],
     // The read of the text that fails.
     failing: u64,
     moment: u32,
     peer: Peer,
-    kind: &'a str,
-    stat: &'a str,
-    answer: &'a [&'a str],
+    make: &'a str,
+    made: &'a str,
+    answer: &'a str,
     stored: Stored,
 }
 
 // What came of a making: of MAKE, of MATCH, and of the file.
 type Came = (Replied, Replied, Stored);
 
-// Makes a map, looks up a key of it, and looks at its file.
-fn came_of(rt: &impl Abort, runtime: HostRuntime, alloc: Global, making: &Making<'_>) -> Came {
-    let file = bytes(rt, alloc, making.file);
+// The host of a making, before that.
+fn host_before(
+    rt: &impl Abort,
+    runtime: HostRuntime,
+    alloc: Global,
+    making: &Making<'_>,
+) -> MemHost {
+    let file = words(rt, alloc, making.file);
     let text = Vec::from_slice(alloc, making.text).expect(rt, "a text");
-    let make = bytes(rt, alloc, &["80000034 00000002", MAKE, making.kind]);
-    let look_up = bytes(rt, alloc, &["8000004c 00000003", MATCH]);
     let disk = MemDisk::new(alloc, file, None, Vec::new(alloc));
     let desk = desk_of(rt, alloc, text, making.moment, making.failing);
     let catalog = catalog_of(rt, alloc, making.own, &[b"lab"]);
+    host_of(rt, runtime, alloc, catalog, disk, desk)
+}
+
+// Makes a map, looks up a key of it, and looks at its file.
+fn came_of(rt: &impl Abort, runtime: HostRuntime, alloc: Global, making: &Making<'_>) -> Came {
+    let make = words(rt, alloc, making.make);
+    let look_up = words(rt, alloc, "8000004c 00000003 MATCH");
     let mut session = Session::new(alloc).expect(rt, "a session");
-    let mut host = host_of(rt, runtime, alloc, catalog, disk, desk);
+    let mut host = host_before(rt, runtime, alloc, making);
     let made = run_session(rt, alloc, &mut session, &mut host, making.peer, make);
     let looked_up = run_session(rt, alloc, &mut session, &mut host, making.peer, look_up);
     let stored = stored_by(rt, runtime, alloc, host);
     (made, looked_up, stored)
 }
 
-// Makes maps, each over a host of its own, and compares what comes.
-fn assert_makes(rt: &impl Abort, runtime: HostRuntime, alloc: Global, makings: &[Making<'_>]) {
-    for making in makings {
-        let made = bytes(rt, alloc, &["8000001c 00000002", MADE, making.stat]);
-        let looked_up = bytes(rt, alloc, making.answer);
-        let wanted = ((End::Clean, made), (End::Clean, looked_up), making.stored);
-        let came = came_of(rt, runtime, alloc, making);
-        assert_same(rt, &came, &wanted, making.row);
-    }
+// Makes a map, and compares what comes.
+fn try_making(rt: &impl Abort, runtime: HostRuntime, alloc: Global, making: &Making<'_>) {
+    let made = words(rt, alloc, making.made);
+    let looked_up = words(rt, alloc, making.answer);
+    let wanted = ((End::Clean, made), (End::Clean, looked_up), making.stored);
+    let came = came_of(rt, runtime, alloc, making);
+    assert_same(rt, &came, &wanted, making.row);
 }
 
-// The numbers of hosts.byname, and of no kind.
-const HOSTS: &str = "00000005";
+// Calls of MAKE of hosts.byname, and of no kind.
+const HOSTS: &str = "80000034 00000002 MAKE 00000005";
 
-const NO_KIND: &str = "00000063";
+const NO_KIND: &str = "80000034 00000002 MAKE 00000063";
 
-// The statuses of MAKE.
-const SUCC: &str = "00000001";
+// The replies to MAKE.
+const SUCC: &str = "8000001c 00000002 MADE 00000001";
 
-const AGE: &str = "00000002";
+const AGE: &str = "8000001c 00000002 MADE 00000002";
 
-const NOMAP: &str = "ffffffff";
+const NOMAP: &str = "8000001c 00000002 MADE ffffffff";
 
-const DBM: &str = "fffffff8";
+const DBM: &str = "8000001c 00000002 MADE fffffff8";
 
-const FILE: &str = "fffffff7";
+const FILE: &str = "8000001c 00000002 MADE fffffff7";
 
-const REFUSED: &str = "fffffff2";
+const REFUSED: &str = "8000001c 00000002 MADE fffffff2";
 
 // The replies to MATCH.
-const VALUE: &[&str] = &["80000030 00000003", VALUE_OF];
+const VALUE: &str = "80000030 00000003 VALUE_OF";
 
-const NO_MAP: &[&str] = &["80000020 00000003", NO_MAP_OF];
+const NO_MAP: &str = "80000020 00000003 NO_MAP_OF";
 
-const YPERR: &[&str] = &["80000020 00000003", YPERR_OF];
-
-// The first cell of a file at the last generation.
-const LAST_CELL: &str = "01000000 00000000 ffffffff ffffffff 00000000 00000040 00000000 00000034";
-
-const SECURE_FILE: &[&str] = &[FIRST_CELL, SECOND_CELL, "00000002 00000064", REST];
-
-const LAST_ORDER: &[&str] = &[FIRST_CELL, SECOND_CELL, "00000001 ffffffff", REST];
-
-const LAST_GENERATION: &[&str] = &[LAST_CELL, SECOND_CELL, "00000001 00000064", REST];
+const YPERR: &str = "80000020 00000003 YPERR_OF";
 
 // A map that is made, on an empty file.
 const EMPTY: Making<'static> = Making {
     row: "made on an empty file",
     own: b"m1",
-    file: &[],
+    file: "",
     text: TEXT,
     failing: NEVER,
     moment: 100,
     peer: OWN_HOST,
-    kind: HOSTS,
-    stat: SUCC,
+    make: HOSTS,
+    made: SUCC,
     answer: VALUE,
     stored: (Some((100, false)), 1),
 };
@@ -174,24 +173,24 @@ const UNMADE: Making<'static> = Making {
     ..EMPTY
 };
 
-const MADE_MAPS: &[Making<'static>] = &[
+static MADE_MAPS: [Making<'static>; 4] = [
     EMPTY,
     Making {
         row: "the order rises where the clock does not",
-        file: HOSTS_FILE,
+        file: "HOSTS_FILE",
         stored: (Some((101, false)), 2),
         ..EMPTY
     },
     Making {
         row: "the order follows the clock",
-        file: HOSTS_FILE,
+        file: "HOSTS_FILE",
         moment: 200,
         stored: (Some((200, false)), 2),
         ..EMPTY
     },
     Making {
         row: "a secure map stays secure",
-        file: SECURE_FILE,
+        file: "SECURE_FILE",
         answer: YPERR,
         stored: (Some((101, true)), 2),
         ..EMPTY
@@ -200,57 +199,59 @@ const MADE_MAPS: &[Making<'static>] = &[
 
 #[test]
 fn made_maps(rt: HostRuntime) {
-    assert_makes(&rt, rt, rt.alloc(), MADE_MAPS);
+    for making in &MADE_MAPS {
+        try_making(&rt, rt, rt.alloc(), making);
+    }
 }
 
-const UNMADE_MAPS: &[Making<'static>] = &[
+static UNMADE_MAPS: [Making<'static>; 7] = [
     Making {
         row: "a call from another host",
         peer: Peer {
             addr: [10, 0, 0, 9],
             port: 40000,
         },
-        stat: REFUSED,
+        made: REFUSED,
         ..UNMADE
     },
     Making {
         row: "an unknown kind",
-        kind: NO_KIND,
-        stat: NOMAP,
+        make: NO_KIND,
+        made: NOMAP,
         ..UNMADE
     },
     Making {
         row: "a text that is not read",
         failing: 0,
-        stat: FILE,
+        made: FILE,
         ..UNMADE
     },
     Making {
         row: "another master",
         own: b"m2",
-        file: HOSTS_FILE,
-        stat: REFUSED,
+        file: "HOSTS_FILE",
+        made: REFUSED,
         ..EMPTY
     },
     Making {
         row: "the orders are spent",
-        file: LAST_ORDER,
-        stat: AGE,
+        file: "LAST_ORDER",
+        made: AGE,
         stored: (Some((u32::MAX, false)), 1),
         ..EMPTY
     },
     Making {
         row: "the orders are spent, and the text is not read",
-        file: LAST_ORDER,
+        file: "LAST_ORDER",
         failing: 0,
-        stat: FILE,
+        made: FILE,
         stored: (Some((u32::MAX, false)), 1),
         ..EMPTY
     },
     Making {
         row: "the generations are spent",
-        file: LAST_GENERATION,
-        stat: FILE,
+        file: "LAST_GENERATION",
+        made: FILE,
         stored: (Some((100, false)), u64::MAX),
         ..EMPTY
     },
@@ -258,22 +259,26 @@ const UNMADE_MAPS: &[Making<'static>] = &[
 
 #[test]
 fn unmade_maps(rt: HostRuntime) {
-    assert_makes(&rt, rt, rt.alloc(), UNMADE_MAPS);
+    for making in &UNMADE_MAPS {
+        try_making(&rt, rt, rt.alloc(), making);
+    }
 }
 
-// One byte more than a key may have.
-const LONG_KEY: &[u8] = &[b'a'; 65_537];
+// A text with a key of one byte more than it may have.
+fn long_text(rt: &impl Abort, alloc: Global) -> Vec<u8> {
+    let mut text = Vec::from_slice(alloc, b"10.0.0.1 ").expect(rt, "a text");
+    text.resize(9 + 65_537, b'a').expect(rt, "a text");
+    text
+}
 
 #[test]
 fn row_past_a_limit(rt: HostRuntime) {
-    let alloc = rt.alloc();
-    let mut text = Vec::from_slice(alloc, b"10.0.0.1 ").expect(&rt, "a text");
-    text.extend_from_slice(LONG_KEY).expect(&rt, "a text");
+    let text = long_text(&rt, rt.alloc());
     let making = Making {
         row: "a row past a limit",
         text: &text,
-        stat: DBM,
+        made: DBM,
         ..UNMADE
     };
-    assert_makes(&rt, rt, alloc, &[making]);
+    try_making(&rt, rt, rt.alloc(), &making);
 }

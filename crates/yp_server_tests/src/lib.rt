@@ -1,5 +1,5 @@
-//! Tests of `yp_server`, `yp_worker`, `yp_mailserve`, `yp_workhost` and `yp_serve`: connections and datagrams that are
-//! served, by one and by workers in threads.
+//! Tests of `yp_host`, `yp_worker`, `yp_worker::datagrams`, `yp_host::workers` and `yp_server`: connections and
+//! datagrams that are served, by one and by workers in threads.
 #![tactic(auto)]
 
 #[cfg(test)]

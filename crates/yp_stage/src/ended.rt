@@ -5,8 +5,8 @@ use crate::row::{Datagram, Row, Stands};
 use std::alloc::{AllocError, Global};
 use std::random::RandomSource;
 use yp_io::{MemDial, MemDisk, Peer};
-use yp_slot::Slot;
-use yp_tools::{NamedDisk, Status};
+use yp_map_file::Slot;
+use yp_program::{NamedDisk, Status};
 
 /// What came of a run, or what a row wants, as a text with a line for each thing that a row looks at, in one order: the
 /// status, the output and the note; the letters and the turns of the inbox; the letters and the wires of the dial, and

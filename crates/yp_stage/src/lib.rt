@@ -1,4 +1,4 @@
-//! What the tests of commands share: rows of tables, and runs of `yp_tools::run` over memory by which a row is tried.
+//! What the tests of commands share: rows of tables, and runs of `yp_program::run` over memory by which a row is tried.
 //! No program stands on it, and it ends no process: what is wrong is handed to the test.
 #![tactic(auto)]
 

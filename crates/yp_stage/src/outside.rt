@@ -1,19 +1,19 @@
 //! The outside of a row, over memory.
 
 ghost use Rattle.std.specs.Prelude.{◌≡◌, All, IfOk};
-ghost use Rattle.yp_io.specs.MemDial.{IsNew};
-ghost use Rattle.yp_io.specs.MemListen.{IsNew as IsNewCall};
-ghost use Rattle.yp_words.specs.Words.{disk_names, texts};
-ghost use Rattle.yp_office.specs.Disks.{names_of};
+ghost use Rattle.yp_io.specs.inside.MemDial.{WireIsNew};
+ghost use Rattle.yp_io.specs.inside.MemListen.{ConnectionIsNew as IsNewCall};
+ghost use Rattle.yp_command.specs.Words.{disk_names, texts};
+ghost use Rattle.yp_command.specs.office.Disks.{names_of};
 
 use crate::row::{Datagram, NEVER, Row};
 use std::alloc::{AllocError, Global};
 use yp_board::MapName;
 use yp_io::{
-    Called, Letter, MemCall, MemDial, MemDisk, MemInbox, MemListen, MemSink, MemSource, MemTexts,
-    MemWire, OWN_HOST, Origin, Pair, Peer, SetClock, TextFile,
+    CallOrigin, Called, Letter, MemCall, MemDial, MemDisk, MemInbox, MemListen, MemSink, MemSource,
+    MemTexts, MemWire, OWN_HOST, Pair, Peer, SetClock, TextFile,
 };
-use yp_tools::{NamedDisk, Outside, disk_names, named_disks};
+use yp_program::{NamedDisk, Outside, disk_names, named_disks};
 
 /// The outside in memory.
 pub type Memory = Outside<
@@ -86,7 +86,7 @@ fn wire_of(
     reads: u64,
     writes: u64,
 ) -> Result<MemWire, AllocError>
-    ensures { IfOk result IsNew }
+    ensures { IfOk result WireIsNew }
 {
     let reads = plan(alloc, reads)?;
     let writes = plan(alloc, writes)?;
@@ -99,7 +99,7 @@ fn wire_of(
 
 /// The wires that come.
 fn wires_of(alloc: Global, row: &Row, wire: &[u8]) -> Result<Vec<MemWire>, AllocError>
-    ensures { IfOk result (λ wires. All IsNew wires.items) }
+    ensures { IfOk result (λ wires. All WireIsNew wires.items) }
 {
     let first = wire_of(alloc, wire, row.piece, row.wire_reads, row.wire_writes)?;
     let second = bytes_of(alloc, row.second_wire)?;
@@ -161,7 +161,7 @@ fn call_of(
     let input = bytes_of(alloc, words)?;
     let wire = wire_of(alloc, &input, piece, reads, writes)?;
     Ok(Called {
-        origin: Origin::new(CALLER, &wire),
+        origin: CallOrigin::new(CALLER, &wire),
         wire,
     })
 }

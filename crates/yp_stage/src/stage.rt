@@ -8,7 +8,7 @@ use std::random::RandomSource;
 use std::sync::Wait;
 use std::thread::Threads;
 use yp_io::MemDisk;
-use yp_tools::{NamedDisk, Status, run};
+use yp_program::{NamedDisk, Status, run};
 
 /// What is wrong with a row.
 #[derive(Debug, Drop)]

@@ -10,17 +10,17 @@ use std::net::{Shutdown, TcpStream};
 /// or where it was silent for too long, the connection is shut down at once: who accepted it closes it when it may next
 /// accept one, which may be much later. Each reply was written before the read that ends.
 #[derive(Drop)]
-pub struct Caller {
+pub struct CallerReader {
     stream: TcpStream,
 }
 
-impl Caller {
-    pub(crate) fn new(stream: TcpStream) -> Caller {
-        Caller { stream }
+impl CallerReader {
+    pub(crate) fn new(stream: TcpStream) -> CallerReader {
+        CallerReader { stream }
     }
 }
 
-impl Read for Caller {
+impl Read for CallerReader {
     fn read(&mut self, buf: &mut [u8]) -> io::Result<usize> {
         let is_wanted = !buf.is_empty();
         let answer = self.stream.read(buf);

@@ -38,7 +38,7 @@ impl<R: Net<Stream = TcpStream> + Drop> TcpDial<R> {
         TcpDial::with_limit(alloc, net, Duration::from_secs(LIMIT_SECONDS))
     }
 
-    /// The same with a limit of its own: each wire fails where connecting, a read or a write takes longer than that.
+    /// A dial with this limit: each wire fails where connecting, a read or a write takes longer.
     pub fn with_limit(alloc: Global, net: R, limit: Duration) -> TcpDial<R>
         ensures { ⟦<TcpDial<R> as Dial>⟧.faults result ≡ 0 }
     {

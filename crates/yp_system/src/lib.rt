@@ -18,7 +18,7 @@ mod streams;
 mod texts;
 mod words;
 
-pub use caller::Caller;
+pub use caller::CallerReader;
 pub use clock::SystemClock;
 pub use dial::{TcpDial, TcpWire};
 pub use disk::FileDisk;

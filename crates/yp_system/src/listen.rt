@@ -7,7 +7,7 @@ ghost use Rattle.yp_io.specs.Dials.{IsFresh};
 ghost use Rattle.yp_io.specs.Calls.{IsFreshCall, closed_then, ended_by, halves_of};
 ghost use Rattle.yp_io.specs.Counts.{next_count};
 
-use crate::caller::Caller;
+use crate::caller::CallerReader;
 use crate::inbox::peer_of;
 use crate::streams::{BlockReader, DirectWriter};
 use std::alloc::Global;
@@ -15,7 +15,7 @@ use std::io::ErrorKind;
 use std::net::{Ipv4Addr, Net, SocketAddr, SocketAddrV4, TcpListener, TcpStream};
 use std::time::Duration;
 use std::{io, rt, thread};
-use yp_io::{Arrival, Called, Failed, Listen, Origin, Pair, Sink, Source, count_fault};
+use yp_io::{Arrival, CallOrigin, Called, Failed, Listen, Pair, Sink, Source, count_fault};
 
 /// How long an accepted connection may bring no byte, or take none, in seconds. Then it fails, so that a silent caller
 /// keeps nobody waiting for longer.
@@ -28,7 +28,7 @@ const TRIES: u32 = 100;
 const PAUSE_MILLIS: u64 = 100;
 
 /// A connection that was accepted by TCP, and its caller.
-pub type TcpCall = Called<BlockReader<Caller>, DirectWriter<TcpStream>>;
+pub type TcpCall = Called<BlockReader<CallerReader>, DirectWriter<TcpStream>>;
 
 /// What closes such connections. It counts them, and tells nothing of them.
 #[derive(Drop)]
@@ -37,7 +37,7 @@ pub struct TcpCloser {
 }
 
 // Its two halves.
-type CallerWire = Pair<BlockReader<Caller>, DirectWriter<TcpStream>>;
+type CallerWire = Pair<BlockReader<CallerReader>, DirectWriter<TcpStream>>;
 
 /// A port of TCP over IPv4, on every address of this machine. It is opened at the first call, or by `open`, so that a
 /// command that has no use for it opens nothing, and a port that can't be opened is a fault of that call. A port that
@@ -74,7 +74,7 @@ impl<R: Net<Stream = TcpStream, Listener = TcpListener> + rt::Clock> TcpListen<R
         )
     }
 
-    /// The same with a limit of its own for silence.
+    /// A listener with this limit for the silence of a caller.
     pub fn with_silence(
         alloc: Global,
         system: R,
@@ -130,14 +130,14 @@ fn opened<'a, R: Net<Stream = TcpStream, Listener = TcpListener>>(
 // The wire of a connection. What is written goes out at once, since each reply is awaited.
 fn wire_of(alloc: Global, stream: TcpStream, silence: Duration) -> io::Result<CallerWire>
     ensures { IfOk result (λ wire. IsFresh
-        (⟦<BlockReader<Caller> as Source>⟧.faults wire.source)
+        (⟦<BlockReader<CallerReader> as Source>⟧.faults wire.source)
         (⟦<DirectWriter<TcpStream> as Sink>⟧.faults wire.sink)
         (⟦<DirectWriter<TcpStream> as Sink>⟧.output wire.sink)) }
 {
     stream.set_nodelay(true)?;
     stream.set_read_timeout(Some(silence))?;
     stream.set_write_timeout(Some(silence))?;
-    let Ok(source) = BlockReader::new(alloc, Caller::new(stream.try_clone()?)) else {
+    let Ok(source) = BlockReader::new(alloc, CallerReader::new(stream.try_clone()?)) else {
         return Err(ErrorKind::OutOfMemory.into());
     };
     Ok(Pair {
@@ -149,13 +149,13 @@ fn wire_of(alloc: Global, stream: TcpStream, silence: Duration) -> io::Result<Ca
 // Accepts one connection. A caller of which no wire can be made is let go.
 fn accept_one(alloc: Global, listener: &TcpListener, silence: Duration) -> io::Result<TcpCall>
     ensures { IfOk result (IsFreshCall
-        (halves_of ⟦<BlockReader<Caller> as Source>⟧ ⟦<DirectWriter<TcpStream> as Sink>⟧)) }
+        (halves_of ⟦<BlockReader<CallerReader> as Source>⟧ ⟦<DirectWriter<TcpStream> as Sink>⟧)) }
 {
     match listener.accept()? {
         (stream, SocketAddr::V4(from)) => {
             let wire = wire_of(alloc, stream, silence)?;
             let peer = peer_of(&from);
-            let origin = Origin::new(peer, &wire);
+            let origin = CallOrigin::new(peer, &wire);
             Ok(Called { origin, wire })
         }
         (_, SocketAddr::V6(_)) => Err(ErrorKind::Unsupported.into()),
@@ -170,7 +170,7 @@ fn accept_next<R: rt::Clock>(
     silence: Duration,
 ) -> Option<TcpCall>
     ensures { IfSome result (IsFreshCall
-        (halves_of ⟦<BlockReader<Caller> as Source>⟧ ⟦<DirectWriter<TcpStream> as Sink>⟧)) }
+        (halves_of ⟦<BlockReader<CallerReader> as Source>⟧ ⟦<DirectWriter<TcpStream> as Sink>⟧)) }
 {
     for _ in 0..TRIES {
         match accept_one(alloc, listener, silence) {
@@ -182,7 +182,7 @@ fn accept_next<R: rt::Clock>(
 }
 
 impl<R: Net<Stream = TcpStream, Listener = TcpListener> + rt::Clock> Listen for TcpListen<R> {
-    type In = BlockReader<Caller>;
+    type In = BlockReader<CallerReader>;
 
     type Out = DirectWriter<TcpStream>;
 
@@ -202,7 +202,9 @@ impl<R: Net<Stream = TcpStream, Listener = TcpListener> + rt::Clock> Listen for 
 
     ghost closed_count = { λ c. c.closed };
 
-    fn accept(&mut self) -> Result<Arrival<BlockReader<Caller>, DirectWriter<TcpStream>>, Failed> {
+    fn accept(
+        &mut self,
+    ) -> Result<Arrival<BlockReader<CallerReader>, DirectWriter<TcpStream>>, Failed> {
         if self.accepted == self.most {
             return Ok(Arrival::Closed);
         }
@@ -226,7 +228,8 @@ impl<R: Net<Stream = TcpStream, Listener = TcpListener> + rt::Clock> Listen for 
     fn close(closer: &mut TcpCloser, call: TcpCall)
         ensures closed { ⟦<TcpListen<R> as Listen>⟧.closed closer.new ≡ closed_then
             (⟦<TcpListen<R> as Listen>⟧.closed closer.old)
-            (ended_by (halves_of ⟦<BlockReader<Caller> as Source>⟧ ⟦<DirectWriter<TcpStream> as Sink>⟧) call ∷ []) }
+            (ended_by (halves_of ⟦<BlockReader<CallerReader> as Source>⟧ ⟦<DirectWriter<TcpStream> as Sink>⟧) call ∷
+            []) }
         ensures count { ⟦<TcpListen<R> as Listen>⟧.closed_count closer.new
             ≡ next_count (⟦<TcpListen<R> as Listen>⟧.closed_count closer.old) }
     {

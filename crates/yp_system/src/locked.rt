@@ -50,7 +50,7 @@ impl MapFile for File {
 
 // The lock that a file has.
 #[derive(Clone, Copy, PartialEq, Eq)]
-enum Held {
+enum FileLock {
     Nothing,
     Shared,
     Only,
@@ -61,7 +61,7 @@ enum Held {
 #[derive(Drop)]
 pub struct LockedFile<F> {
     file: F,
-    held: Held,
+    held: FileLock,
     len: u64,
     front: [u8; FRONT_LEN],
 }
@@ -71,7 +71,7 @@ impl<F: MapFile> LockedFile<F> {
     pub fn new(file: F) -> LockedFile<F> {
         LockedFile {
             file,
-            held: Held::Nothing,
+            held: FileLock::Nothing,
             len: 0,
             front: [0; FRONT_LEN],
         }
@@ -80,7 +80,7 @@ impl<F: MapFile> LockedFile<F> {
     /// Locks the file, where it isn't locked.
     pub fn lock(&mut self, clock: &impl Clock, locking: Locking) -> io::Result<()> {
         match self.held {
-            Held::Nothing => self.lock_as(clock, locking == Locking::AtOnce),
+            FileLock::Nothing => self.lock_as(clock, locking == Locking::AtOnce),
             _ => Ok(()),
         }
     }
@@ -89,10 +89,14 @@ impl<F: MapFile> LockedFile<F> {
     fn lock_as(&mut self, clock: &impl Clock, is_only: bool) -> io::Result<()> {
         for _ in 0..LOCK_MILLISECONDS / PAUSE_MILLISECONDS {
             if self.file.try_lock_as(is_only)? {
-                self.held = if is_only { Held::Only } else { Held::Shared };
+                self.held = if is_only {
+                    FileLock::Only
+                } else {
+                    FileLock::Shared
+                };
                 return Ok(());
             }
-            self.held = Held::Nothing;
+            self.held = FileLock::Nothing;
             sleep(clock, Duration::from_millis(PAUSE_MILLISECONDS));
         }
         Err(ErrorKind::WouldBlock.into())
@@ -115,7 +119,7 @@ impl<F: MapFile> LockedFile<F> {
 
     /// Writes, with the only lock on the file. It fails where the file isn't as it was read last.
     pub fn write(&mut self, clock: &impl Clock, at: u64, piece: &[u8]) -> io::Result<()> {
-        if self.held != Held::Only {
+        if self.held != FileLock::Only {
             self.lock_as(clock, true)?;
             if !self.is_as_read()? {
                 return Err(ErrorKind::StaleNetworkFileHandle.into());

@@ -5,18 +5,18 @@ use Rattle.std.specs.Option.{option_map_or}
 use Rattle.std.proofs.lemmas.Bool.Decides.{eqb_tells}
 use Rattle.yp_version.specs.Versions.{MapVersion}
 use Rattle.yp_version.specs.Drafts.{empty_draft}
-use Rattle.yp_build.specs.declared.kind.Kind.{Kind}
-use Rattle.yp_build.specs.declared.fault.BuildFault.{BuildFault}
-use Rattle.yp_build.specs.declared.fault.BuildFault.TheVariants as fault
-use Rattle.yp_build.specs.Rows.{rows}
-use Rattle.yp_build.specs.Builds.{order_max, order_after, filled, built}
-use Rattle.yp_build.specs.After.{HasOther, other_master, last_order}
-use Rattle.yp_build.specs.After.{secured, secured_build, next_build, built_after, IsOver}
-use Rattle.yp_build.specs.Laws.{BuiltIsBuiltBehind}
-use Rattle.yp_build.proofs.Orders.{filled_order}
+use Rattle.yp_texts.specs.declared.kind.Kind.{Kind}
+use Rattle.yp_texts.specs.declared.fault.BuildFault.{BuildFault}
+use Rattle.yp_texts.specs.declared.fault.BuildFault.TheVariants as fault
+use Rattle.yp_texts.specs.Rows.{rows}
+use Rattle.yp_texts.specs.Builds.{order_max, order_after, filled, built}
+use Rattle.yp_texts.specs.After.{HasOther, other_master, last_order}
+use Rattle.yp_texts.specs.After.{secured, secured_build, next_build, built_after, HasLaterOrder}
+use Rattle.yp_texts.specs.inside.Laws.{BuiltIsBuiltBehind}
+use Rattle.yp_texts.proofs.Orders.{filled_order}
 
 -- a moment that is over the last order is the next one
-order_stays : (last : Option MapVersion) (version : MapVersion) → version.order ≤ order_max → IsOver last version
+order_stays : (last : Option MapVersion) (version : MapVersion) → version.order ≤ order_max → HasLaterOrder last version
     → order_after (last_order last) version.order ≡ Some version.order
 order_stays None version most over = refl
 order_stays (Some last) version most over = elim (eqb_tells last.order order_max) [
@@ -43,7 +43,7 @@ built_filled kind text previous now master version h = builds (order_after previ
 -- and is built behind any other, at the moment of its order
 built_again : (kind : Kind) (text : List ℕ) (previous : Option ℕ) (now : ℕ) (master : List ℕ) (version : MapVersion)
     (last : Option MapVersion)
-    → built kind text previous now master ≡ Ok version → version.order ≤ order_max → IsOver last version
+    → built kind text previous now master ≡ Ok version → version.order ≤ order_max → HasLaterOrder last version
     → built kind text (last_order last) version.order master ≡ Ok version
 built_again kind text previous now master version last h most over =
     subst (λ (o : Option ℕ). option_map_or (λ n. filled (empty_draft n master) (rows kind text)) o (Err fault.OrderSpent)
@@ -59,7 +59,7 @@ built_is_built_behind basis material version last h most own over =
       again next e is =
           let order : next.order ≡ version.order = ap (λ (v : MapVersion). v.order) is in
           let more : next.order ≤ order_max = subst (λ (n : ℕ). n ≤ order_max) (sym order) most in
-          let above : IsOver last next = subst (λ (v : MapVersion). IsOver last v) (sym is) over in
+          let above : HasLaterOrder last next = subst (λ (v : MapVersion). HasLaterOrder last v) (sym is) over in
           let fresh = built_again basis.kind material.text (last_order basis.last) material.moment basis.own next last e more above in
           let at_order : built basis.kind material.text (last_order last) version.order basis.own ≡ Ok next =
           subst (λ (n : ℕ). built basis.kind material.text (last_order last) n basis.own ≡ Ok next) order fresh in

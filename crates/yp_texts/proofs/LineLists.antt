@@ -6,8 +6,8 @@ use Rattle.std.proofs.lemmas.Bool.{cases_lt}
 use Rattle.std.proofs.lemmas.List.{take_all, drop_all}
 use Rattle.std.proofs.lemmas.List.Splits.{slice_split_first, slice_split_none, length-slice_split}
 use Rattle.std.proofs.lemmas.List.Sums.{fails_before_first}
-use Rattle.yp_build.specs.Lines.{Line, is_line_feed, without_empty_end, lines, lines_from, goes_on, before_last_byte}
-use Rattle.yp_build.specs.Lines.{put_before, joined, whole_lines}
+use Rattle.yp_texts.specs.Lines.{Line, is_line_feed, without_empty_end, lines, lines_from, goes_on, before_last_byte}
+use Rattle.yp_texts.specs.Lines.{put_before, joined, whole_lines}
 
 without_empty_end-cons : (piece : List ℕ) (pieces : List (List ℕ)) → 0 < length pieces
     → without_empty_end (piece ∷ pieces) ≡ piece ∷ without_empty_end pieces

@@ -5,13 +5,13 @@ use Rattle.std.specs.Option.{option_map_or}
 use Rattle.yp_version.specs.Rows.{Row, value_of}
 use Rattle.yp_version.specs.Versions.{MapVersion}
 use Rattle.yp_version.specs.Drafts.{Draft, with_new, with_row, with_rows, empty_draft}
-use Rattle.yp_build.specs.declared.kind.Kind.{Kind}
-use Rattle.yp_build.specs.declared.fault.BuildFault.{BuildFault}
-use Rattle.yp_build.specs.declared.fault.BuildFault.TheVariants as fault
-use Rattle.yp_build.specs.Rows.{LineRow, rows}
-use Rattle.yp_build.specs.Pushes.{plain, first_fault}
-use Rattle.yp_build.specs.Builds.{order_max, order_after, finished, filled, built}
-use Rattle.yp_build.specs.After.{last_order, secured, IsOver}
+use Rattle.yp_texts.specs.declared.kind.Kind.{Kind}
+use Rattle.yp_texts.specs.declared.fault.BuildFault.{BuildFault}
+use Rattle.yp_texts.specs.declared.fault.BuildFault.TheVariants as fault
+use Rattle.yp_texts.specs.Rows.{LineRow, rows}
+use Rattle.yp_texts.specs.Pushes.{plain, first_fault}
+use Rattle.yp_texts.specs.Builds.{order_max, order_after, finished, filled, built}
+use Rattle.yp_texts.specs.After.{last_order, secured, HasLaterOrder}
 
 with_row_order : (draft : Draft) (row : Row) → (with_row draft row).order ≡ draft.order
 with_row_order draft row = elim (is_some (value_of row.0 draft.rows)) as
@@ -53,7 +53,7 @@ order_rises last now order h = rises (last == order_max) h where
 
 pub built_over : (kind : Kind) (text : List ℕ) (last : Option MapVersion) (now : ℕ) (own : List ℕ) (flag : Option Bool)
     (version : MapVersion)
-    → built kind text (last_order last) now own ≡ Ok version → IsOver last (secured flag last version)
+    → built kind text (last_order last) now own ≡ Ok version → HasLaterOrder last (secured flag last version)
 built_over kind text None now own flag version h = tt
 built_over kind text (Some last) now own flag version h =
     order_rises last.order now version.order (built_order kind text (Some last.order) now own version h)

@@ -5,10 +5,11 @@ use Rattle.std.specs.Prelude.{Option, Some, None}
 use Rattle.std.specs.Option.{option_map_or}
 use Rattle.yp_version.specs.Drafts.{Draft, refused, with_row, with_rows}
 use Rattle.yp_version.specs.declared.builder.VersionFault.{VersionFault}
-use Rattle.yp_build.specs.declared.fault.BuildFault.{BuildFault}
-use Rattle.yp_build.specs.declared.fault.BuildFault.TheVariants.{NoMemory}
-use Rattle.yp_build.specs.Rows.{LineRow}
-use Rattle.yp_build.specs.Pushes.{fault_at, plain, first_fault, Pushed, Stopped}
+use Rattle.yp_texts.specs.declared.fault.BuildFault.{BuildFault}
+use Rattle.yp_texts.specs.declared.fault.BuildFault.TheVariants.{NoMemory}
+use Rattle.yp_texts.specs.Rows.{LineRow}
+use Rattle.yp_texts.specs.Pushes.{fault_at, plain, first_fault}
+use Rattle.yp_texts.specs.inside.Pushes.{Pushed, Stopped}
 
 first_fault-step : (line : ℕ) (refusal : Option VersionFault) (later later' : Option BuildFault)
     → option_map_or (λ fault. Some (fault_at line fault)) refusal later ≡ None → (later ≡ None → later' ≡ later')

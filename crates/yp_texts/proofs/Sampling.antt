@@ -9,11 +9,13 @@ use Rattle.yp_version.specs.Limits.{key_max, value_max, rows_max, body_max}
 use Rattle.yp_version.specs.Rows.{Row, value_of, padded, row_len}
 use Rattle.yp_version.specs.Drafts.{Draft, draft_len, refused, refused_new, with_row, with_rows}
 use Rattle.yp_version.specs.declared.builder.VersionFault.{VersionFault}
-use Rattle.yp_build.specs.declared.fault.BuildFault.{BuildFault}
-use Rattle.yp_build.specs.declared.fault.BuildFault.TheVariants.{NoMemory}
-use Rattle.yp_build.specs.Pushes.{fault_at, Stopped}
-use Rattle.yp_build.proofs.Pushing.{stopped-cause}
-use Rattle.yp_build.specs.Samples.{number_after, sample_key, sample_value, samples, samples_len}
+use Rattle.yp_texts.specs.declared.fault.BuildFault.{BuildFault}
+use Rattle.yp_texts.specs.declared.fault.BuildFault.TheVariants.{NoMemory}
+use Rattle.yp_texts.specs.Pushes.{fault_at}
+use Rattle.yp_texts.specs.inside.Pushes.{Stopped}
+use Rattle.yp_texts.proofs.Pushing.{stopped-cause}
+use Rattle.yp_texts.specs.Samples.{number_after, sample_key, sample_value, samples}
+use Rattle.yp_texts.specs.inside.Samples.{samples_len}
 
 padded-le : (n : ℕ) → padded n ≤ n + 3
 padded-le n = omega arith

@@ -7,7 +7,7 @@ use Rattle.std.proofs.lemmas.List.{take_all, drop_all}
 use Rattle.std.proofs.lemmas.List.Splits.{slice_split-cons_yes, slice_split_first, slice_split_none}
 use Rattle.std.proofs.lemmas.List.Sums.{prefix_len-drop_no, prefix_len-drop_all, prefix_len_stops, fails_before_first}
 use Rattle.yp_version.specs.Blanks.{is_blank, without_front_blanks}
-use Rattle.yp_build.specs.Words.{is_filled, words}
+use Rattle.yp_texts.specs.Words.{is_filled, words}
 
 is_filled-cons : (b : ℕ) (piece : List ℕ) → is_filled (b ∷ piece) ≡ true
 is_filled-cons b piece = search (rules, tests)

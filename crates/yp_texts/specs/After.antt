@@ -1,15 +1,11 @@
 -- A version that is built behind the last one of its map.
-use Rattle.std.specs.Prelude.{◌≡◌, ◌⊎◌, ◌<◌, ◌≤◌, ℕ, Bool, false, length, ⊤, List, Option, Some, None, IfSome, Result}
+use Rattle.std.specs.Prelude.{◌<◌, ℕ, Bool, false, List, Option, Some, None, IfSome, Result}
 use Rattle.std.specs.Prelude.{Ok, Err, option_map, unwrap_or, bytes_eq, if◌then◌else◌}
 use Rattle.std.specs.Option.{option_map_or}
-use Rattle.yp_version.specs.Limits.{master_max}
 use Rattle.yp_version.specs.Versions.{MapVersion}
-use Rattle.yp_build.specs.declared.kind.Kind.{Kind}
-use Rattle.yp_build.specs.declared.fault.BuildFault.{BuildFault}
-use Rattle.yp_build.specs.declared.fault.BuildFault.TheVariants.{NoMemory}
-use Rattle.yp_build.specs.declared.after.AfterFault.{AfterFault}
-use Rattle.yp_build.specs.declared.after.AfterFault.TheVariants.{Foreign, Build}
-use Rattle.yp_build.specs.Builds.{built}
+use Rattle.yp_texts.specs.declared.kind.Kind.{Kind}
+use Rattle.yp_texts.specs.declared.fault.BuildFault.{BuildFault}
+use Rattle.yp_texts.specs.Builds.{built}
 
 -- what a version is built for: the kind of its map, the own name, whether it is to be secure, where that is said, and
 -- the last version of the map, or none
@@ -68,21 +64,6 @@ built_after basis material =
     option_map_or (λ master. Err (HasOther master)) (other_master basis.own basis.last)
     (secured_build basis.flag basis.last (next_build basis material))
 
--- a fault is the hindrance that is expected; memory may run out at any time
-abbrev pub IsHindered : Result MapVersion Hindrance → AfterFault → Type 0
-IsHindered expected (Foreign master) = expected ≡ Err (HasOther master.items)
-IsHindered expected (Build fault) = (fault ≡ NoMemory) ⊎ (expected ≡ Err (HasFault fault))
-
 -- the order of a version is over that of the last one
-abbrev pub IsOver : Option MapVersion → MapVersion → Type 0
-IsOver last version = IfSome last (λ before. before.order < version.order)
-
--- the master that a fault tells is that of the last version, and not the own name
-abbrev pub TellsMaster : List ℕ → Option MapVersion → AfterFault → Type 0
-TellsMaster own last (Foreign master) = other_master own last ≡ Some master.items
-TellsMaster own last (Build fault) = ⊤
-
--- the master that a fault tells is within its limit
-abbrev pub HasShortMaster : AfterFault → Type 0
-HasShortMaster (Foreign master) = length master.items ≤ master_max
-HasShortMaster (Build fault) = ⊤
+abbrev pub HasLaterOrder : Option MapVersion → MapVersion → Type 0
+HasLaterOrder last version = IfSome last (λ before. before.order < version.order)

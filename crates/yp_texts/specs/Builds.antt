@@ -4,11 +4,11 @@ use Rattle.std.specs.Option.{option_map_or}
 use Rattle.yp_version.specs.Rows.{listed}
 use Rattle.yp_version.specs.Versions.{MapVersion, unmarked}
 use Rattle.yp_version.specs.Drafts.{Draft, empty_draft, with_rows}
-use Rattle.yp_build.specs.declared.kind.Kind.{Kind}
-use Rattle.yp_build.specs.declared.fault.BuildFault.{BuildFault}
-use Rattle.yp_build.specs.declared.fault.BuildFault.TheVariants.{OrderSpent}
-use Rattle.yp_build.specs.Rows.{LineRow, rows}
-use Rattle.yp_build.specs.Pushes.{plain, first_fault}
+use Rattle.yp_texts.specs.declared.kind.Kind.{Kind}
+use Rattle.yp_texts.specs.declared.fault.BuildFault.{BuildFault}
+use Rattle.yp_texts.specs.declared.fault.BuildFault.TheVariants.{OrderSpent}
+use Rattle.yp_texts.specs.Rows.{LineRow, rows}
+use Rattle.yp_texts.specs.Pushes.{plain, first_fault}
 
 -- the last order
 abbrev pub order_max : ℕ

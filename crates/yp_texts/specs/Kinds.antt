@@ -1,11 +1,12 @@
--- The kinds of maps that are made of texts: their numbers, the names of their maps, and their texts.
+-- The kinds of maps that are made of texts: their numbers, the names of their maps, which are those of ypserv's
+-- Makefile, and their texts.
 use Rattle.std.specs.Prelude.{ℕ, List, [], ◌∷◌, codes}
 use Rattle.yp_io.specs.declared.texts.TextFile.{TextFile}
 use Rattle.yp_io.specs.declared.texts.TextFile.TheVariants as file
-use Rattle.yp_build.specs.declared.kind.Kind.{Kind}
-use Rattle.yp_build.specs.declared.kind.Kind.TheVariants.{PasswdByname, PasswdByuid, GroupByname, GroupBygid}
-use Rattle.yp_build.specs.declared.kind.Kind.TheVariants.{HostsByname, HostsByaddr, ServicesByname, ProtocolsBynumber}
-use Rattle.yp_build.specs.declared.kind.Kind.TheVariants.{Netgroup, Ypservers}
+use Rattle.yp_texts.specs.declared.kind.Kind.{Kind}
+use Rattle.yp_texts.specs.declared.kind.Kind.TheVariants.{PasswdByname, PasswdByuid, GroupByname, GroupBygid}
+use Rattle.yp_texts.specs.declared.kind.Kind.TheVariants.{HostsByname, HostsByaddr, ServicesByname, ProtocolsBynumber}
+use Rattle.yp_texts.specs.declared.kind.Kind.TheVariants.{Netgroup, Ypservers}
 
 -- all of them, in the order of their numbers
 abbrev pub kinds : List Kind

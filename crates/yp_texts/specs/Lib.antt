@@ -6,4 +6,4 @@ pub mod Pushes
 pub mod Builds
 pub mod Samples
 pub mod After
-pub mod Laws
+pub mod inside

@@ -1,13 +1,13 @@
 -- Rows of a text that are pushed in turn, and the first that is refused.
-use Rattle.std.specs.Prelude.{◌≡◌, ℕ, ◌⊎◌, List, [], ◌∷◌, ◌++◌, map, take, Option, Some, None}
+use Rattle.std.specs.Prelude.{ℕ, List, [], ◌∷◌, map, Option, Some, None}
 use Rattle.std.specs.Option.{option_map_or}
 use Rattle.yp_version.specs.Rows.{Row}
-use Rattle.yp_version.specs.Drafts.{Draft, refused, with_row, with_rows}
+use Rattle.yp_version.specs.Drafts.{Draft, refused, with_row}
 use Rattle.yp_version.specs.declared.builder.VersionFault.{VersionFault}
 use Rattle.yp_version.specs.declared.builder.VersionFault.TheVariants as version
-use Rattle.yp_build.specs.declared.fault.BuildFault.{BuildFault}
-use Rattle.yp_build.specs.declared.fault.BuildFault.TheVariants.{KeyLong, ValueLong, TooManyRows, TooBig, NoMemory}
-use Rattle.yp_build.specs.Rows.{LineRow}
+use Rattle.yp_texts.specs.declared.fault.BuildFault.{BuildFault}
+use Rattle.yp_texts.specs.declared.fault.BuildFault.TheVariants.{KeyLong, ValueLong, TooManyRows, TooBig, NoMemory}
+use Rattle.yp_texts.specs.Rows.{LineRow}
 
 -- why a row is refused, with its line
 abbrev pub fault_at : ℕ → VersionFault → BuildFault
@@ -25,19 +25,3 @@ abbrev pub first_fault : Draft → List LineRow → Option BuildFault
 first_fault draft [] = None
 first_fault draft (row ∷ rows) =
     option_map_or (λ fault. Some (fault_at row.0 fault)) (refused draft row.1) (first_fault (with_row draft row.1) rows)
-
--- Rows were pushed up to those that are left.
-pub record Pushed (draft : Draft) (rows left : List LineRow) (now : Draft) : Type 0 where
-  pub before : List LineRow
-  pub parts : rows ≡ before ++ left
-  pub fits : first_fault draft before ≡ None
-  pub stands : now ≡ with_rows draft (plain before)
-
--- Pushing rows ended before the last: those before stand, and the next is refused, or memory ran out.
-pub record Stopped (draft : Draft) (rows : List LineRow) (now : Draft) (fault : BuildFault) : Type 0 where
-  pub before : List LineRow
-  pub after : List LineRow
-  pub parts : rows ≡ before ++ after
-  pub fits : first_fault draft before ≡ None
-  pub stands : now ≡ with_rows draft (plain before)
-  pub cause : (fault ≡ NoMemory) ⊎ (first_fault now (take 1 after) ≡ Some fault)

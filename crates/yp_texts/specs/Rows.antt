@@ -1,21 +1,16 @@
 -- The rows that a text makes (manuals of passwd(5), group(5), hosts(5), services(5), protocols(5) and netgroup(5)).
 use Rattle.std.specs.Prelude.{ℕ, Bool, true, false, not, ◌&&◌, ◌||◌, ◌==◌, if◌then◌else◌, List, map, drop, Option, Some}
 use Rattle.std.specs.Prelude.{None, slice_index, option_map, option_to_list}
-use Rattle.std.specs.Borrow.{Bor}
 use Rattle.std.specs.List.{slice_get, list_all, flat_map}
 use Rattle.std.specs.Option.{option_and_then}
 use Rattle.yp_version.specs.Rows.{Row}
-use Rattle.yp_build.specs.declared.kind.Kind.{Kind}
-use Rattle.yp_build.specs.declared.kind.Kind.TheVariants.{PasswdByname, PasswdByuid, GroupByname, GroupBygid}
-use Rattle.yp_build.specs.declared.kind.Kind.TheVariants.{HostsByname, HostsByaddr, ServicesByname, ProtocolsBynumber}
-use Rattle.yp_build.specs.declared.kind.Kind.TheVariants.{Netgroup, Ypservers}
-use Rattle.yp_build.specs.Lines.{Line, whole_lines}
+use Rattle.yp_texts.specs.declared.kind.Kind.{Kind}
+use Rattle.yp_texts.specs.declared.kind.Kind.TheVariants.{PasswdByname, PasswdByuid, GroupByname, GroupBygid}
+use Rattle.yp_texts.specs.declared.kind.Kind.TheVariants.{HostsByname, HostsByaddr, ServicesByname, ProtocolsBynumber}
+use Rattle.yp_texts.specs.declared.kind.Kind.TheVariants.{Netgroup, Ypservers}
+use Rattle.yp_texts.specs.Lines.{Line, whole_lines}
 use Rattle.yp_version.specs.Blanks.{is_blank}
-use Rattle.yp_build.specs.Words.{is_filled, fields, words, after_word, uncommented}
-
--- a key and its value that are lent, as a row
-abbrev pub row_view : Bor (List ℕ) × Bor (List ℕ) → Row
-row_view lent = (lent.0.now, lent.1.now)
+use Rattle.yp_texts.specs.Words.{is_filled, fields, words, after_word, uncommented}
 
 -- ---- passwd and group: the line as it stands, by one of its fields
 
@@ -23,7 +18,7 @@ row_view lent = (lent.0.now, lent.1.now)
 abbrev pub is_mark : ℕ → Bool
 is_mark b = b == 35 || b == 43 || b == 45
 
--- It isn't blank and begins with none of these.
+-- A line is an entry where it isn't blank and doesn't begin with one of these marks.
 abbrev pub is_entry : List ℕ → Bool
 is_entry line = not (list_all is_blank line) && not (is_mark (slice_index line 0))
 

@@ -4,7 +4,7 @@ use Rattle.std.specs.Char.Escape.{hex_digit_at}
 use Rattle.yp_version.specs.Rows.{Row}
 use Rattle.yp_version.specs.Versions.{MapVersion}
 use Rattle.yp_version.specs.Drafts.{with_rows, empty_draft}
-use Rattle.yp_build.specs.Builds.{finished}
+use Rattle.yp_texts.specs.Builds.{finished}
 
 -- the number after one: a linear congruence of full period (Press et al., Numerical Recipes in C, section 7.1)
 abbrev pub number_after : ℕ → ℕ
@@ -24,10 +24,6 @@ sample_value i = 118 ∷ decimal i
 abbrev pub samples : ℕ → ℕ → ℕ → List Row
 samples i x zero = []
 samples i x (suc n) = (sample_key (number_after x), sample_value i) ∷ samples (i + 1) (number_after x) n
-
--- at least the bytes of the stored body of so many of them
-abbrev pub samples_len : ℕ → ℕ
-samples_len n = 24 + 30 * n
 
 -- the version of so many rows after a number
 abbrev pub sampled : ℕ → ℕ → MapVersion

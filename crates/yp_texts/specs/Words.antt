@@ -1,4 +1,5 @@
--- What stands in a line: fields, words, comments.
+-- What stands in a line: fields (passwd(5), group(5)), words (hosts(5), services(5), netgroup(5)), and comments (these
+-- and protocols(5)).
 use Rattle.std.specs.Prelude.{ℕ, Bool, not, ◌==◌, List, length}
 use Rattle.std.specs.List.{slice_split, filter, before_first, after_first}
 use Rattle.yp_version.specs.Blanks.{is_blank, without_front_blanks, bare}

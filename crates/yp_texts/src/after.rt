@@ -3,9 +3,10 @@
 ghost use Rattle.std.specs.Prelude.{◌≡◌, ◌≤◌, None, Some, length, option_map, OnOk, IfOk, IfErr, IfSome};
 ghost use Rattle.yp_io.specs.Texts.{text_max};
 ghost use Rattle.yp_version.specs.Limits.{master_max};
-ghost use Rattle.yp_build.specs.Builds.{order_max};
-ghost use Rattle.yp_build.specs.After.{basis_of, material_of, other_master, last_order, built_after, was_secure};
-ghost use Rattle.yp_build.specs.After.{IsHindered, IsOver, TellsMaster, HasShortMaster};
+ghost use Rattle.yp_texts.specs.Builds.{order_max};
+ghost use Rattle.yp_texts.specs.After.{basis_of, material_of, other_master, last_order, built_after, was_secure};
+ghost use Rattle.yp_texts.specs.After.{HasLaterOrder};
+ghost use Rattle.yp_texts.specs.inside.After.{IsHindered, TellsMaster, HasShortMaster};
 
 use crate::fault::BuildFault;
 use crate::kind::Kind;
@@ -26,7 +27,7 @@ pub enum AfterFault {
 
 impl From<BuildFault> for AfterFault {
     ghost use Rattle.std.specs.Prelude.{◌≡◌};
-    ghost use Rattle.yp_build.specs.declared.after.AfterFault.TheVariants.{Build};
+    ghost use Rattle.yp_texts.specs.declared.after.AfterFault.TheVariants.{Build};
 
     ghost from_gives = { λ fault after. after ≡ Build fault };
 
@@ -80,7 +81,7 @@ pub fn build_after(
 
     // It follows the last one.
     ensures same_master { OnOk result (other_master own.now (option_map (λ last. last.now) last.entry) ≡ None) }
-    ensures over { IfOk result (IsOver (option_map (λ last. last.now) last.entry)) }
+    ensures over { IfOk result (HasLaterOrder (option_map (λ last. last.now) last.entry)) }
 
     // The first reason that applies.
     ensures hindered { IfErr result (IsHindered (built_after

@@ -36,7 +36,7 @@ pub enum BuildFault {
 
 impl From<AllocError> for BuildFault {
     ghost use Rattle.std.specs.Prelude.{◌≡◌};
-    ghost use Rattle.yp_build.specs.declared.fault.BuildFault.TheVariants.{NoMemory as WithoutMemory};
+    ghost use Rattle.yp_texts.specs.declared.fault.BuildFault.TheVariants.{NoMemory as WithoutMemory};
 
     ghost from_gives = { λ _ fault. fault ≡ WithoutMemory };
 
@@ -47,7 +47,7 @@ impl From<AllocError> for BuildFault {
 
 impl From<NoMemory> for BuildFault {
     ghost use Rattle.std.specs.Prelude.{◌≡◌};
-    ghost use Rattle.yp_build.specs.declared.fault.BuildFault.TheVariants.{NoMemory as WithoutMemory};
+    ghost use Rattle.yp_texts.specs.declared.fault.BuildFault.TheVariants.{NoMemory as WithoutMemory};
 
     ghost from_gives = { λ _ fault. fault ≡ WithoutMemory };
 
@@ -58,7 +58,7 @@ impl From<NoMemory> for BuildFault {
 
 impl From<OrderSpent> for BuildFault {
     ghost use Rattle.std.specs.Prelude.{◌≡◌};
-    ghost use Rattle.yp_build.specs.declared.fault.BuildFault.TheVariants.{OrderSpent as Spent};
+    ghost use Rattle.yp_texts.specs.declared.fault.BuildFault.TheVariants.{OrderSpent as Spent};
 
     ghost from_gives = { λ _ fault. fault ≡ Spent };
 

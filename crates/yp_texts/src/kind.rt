@@ -3,7 +3,7 @@
 ghost use Rattle.std.specs.Prelude.{◌≡◌, ◌==◌};
 ghost use Rattle.std.specs.List.{find};
 ghost use Rattle.std.specs.Str.{bytes_eq};
-ghost use Rattle.yp_build.specs.Kinds.{kinds, number_of, name_of, file_of};
+ghost use Rattle.yp_texts.specs.Kinds.{kinds, number_of, name_of, file_of};
 
 use yp_io::TextFile;
 

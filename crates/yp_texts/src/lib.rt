@@ -1,7 +1,8 @@
 //! Source texts (passwd, hosts, netgroup and others) become the versions of maps.
 //!
-//! The rows of a text stand on the contract of [`rows_of`], a raised order on that of [`next_order`], and a whole
-//! version on those of [`build`], [`build_after`] and [`sample`].
+//! The rows of a text, up to the first that is refused, stand on the contract of [`rows_of`], a raised order on that of
+//! [`next_order`], and a whole version, or the first reason why there is none, on those of [`build`], [`build_after`]
+//! and [`sample`].
 #![tactic(auto)]
 
 mod after;

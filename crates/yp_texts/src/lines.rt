@@ -2,7 +2,7 @@
 
 ghost use Rattle.std.specs.Prelude.{◌≡◌, ◌==◌, not, ◌&&◌, ◌+◌, ◌<◌, ◌≤◌, ◌^◌, ◌∷◌, length, IfOk};
 ghost use Rattle.std.specs.List.{before_first, after_first};
-ghost use Rattle.yp_build.specs.Lines.{is_line_feed, lines, lines_from, goes_on, joined};
+ghost use Rattle.yp_texts.specs.Lines.{is_line_feed, lines, lines_from, goes_on, joined};
 
 use crate::words::{after, place_of};
 use std::alloc::AllocError;

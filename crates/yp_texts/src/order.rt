@@ -2,7 +2,7 @@
 
 ghost use Rattle.std.specs.Prelude.{◌≡◌, ◌↔◌, Some};
 ghost use Rattle.std.specs.Result.{result_ok, IsErr};
-ghost use Rattle.yp_build.specs.Builds.{order_after, order_max};
+ghost use Rattle.yp_texts.specs.Builds.{order_after, order_max};
 
 /// The last order was the greatest that there is.
 #[derive(Clone, Copy, Debug, PartialEq, Eq)]

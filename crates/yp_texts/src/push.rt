@@ -4,8 +4,9 @@ ghost use Rattle.std.specs.Prelude.{◌≡◌, ◌≢◌, ◌+◌, ◌<◌, ◌�
 ghost use Rattle.std.specs.Prelude.{IfErr};
 ghost use Rattle.yp_io.specs.Texts.{text_max};
 ghost use Rattle.yp_version.specs.Drafts.{with_rows};
-ghost use Rattle.yp_build.specs.Rows.{at_line, name_rows, line_rows, joins, rows_from, rows};
-ghost use Rattle.yp_build.specs.Pushes.{fault_at, first_fault, plain, Pushed, Stopped};
+ghost use Rattle.yp_texts.specs.Rows.{at_line, name_rows, line_rows, joins, rows_from, rows};
+ghost use Rattle.yp_texts.specs.Pushes.{fault_at, first_fault, plain};
+ghost use Rattle.yp_texts.specs.inside.Pushes.{Pushed, Stopped};
 
 use crate::fault::BuildFault;
 use crate::kind::Kind;

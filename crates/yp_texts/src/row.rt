@@ -3,7 +3,8 @@
 ghost use Rattle.std.specs.Prelude.{◌≡◌, ◌≢◌, not, option_map, option_to_list};
 ghost use Rattle.std.specs.List.{list_all};
 ghost use Rattle.yp_version.specs.Blanks.{is_blank};
-ghost use Rattle.yp_build.specs.Rows.{is_entry, field_row, word_row, group_row, server_row, rows_in, row_view};
+ghost use Rattle.yp_texts.specs.Rows.{is_entry, field_row, word_row, group_row, server_row, rows_in};
+ghost use Rattle.yp_texts.specs.inside.Rows.{row_view};
 
 use crate::kind::Kind;
 use crate::words::{cut_word, field, uncommented};

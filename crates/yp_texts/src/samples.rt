@@ -4,7 +4,8 @@ ghost use Rattle.std.specs.Prelude.{◌≡◌, ◌+◌, ◌<◌, ◌≤◌, ◌�
 ghost use Rattle.std.specs.Char.Escape.{hex_digit_at};
 ghost use Rattle.yp_version.specs.Limits.{rows_max};
 ghost use Rattle.yp_version.specs.Drafts.{with_row, with_rows, empty_draft, draft_len};
-ghost use Rattle.yp_build.specs.Samples.{samples, samples_len, number_after, sample_key, sample_value, sampled};
+ghost use Rattle.yp_texts.specs.Samples.{samples, number_after, sample_key, sample_value, sampled};
+ghost use Rattle.yp_texts.specs.inside.Samples.{samples_len};
 
 use crate::fault::BuildFault;
 use crate::push::push_row;

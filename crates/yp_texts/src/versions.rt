@@ -3,7 +3,7 @@
 ghost use Rattle.std.specs.Prelude.{◌≡◌, ◌≤◌, ◌⊎◌, ◌↔◌, length, Some, Ok, Err, IfOk, IfErr};
 ghost use Rattle.yp_io.specs.Texts.{text_max};
 ghost use Rattle.yp_version.specs.Limits.{master_max};
-ghost use Rattle.yp_build.specs.Builds.{order_max, built};
+ghost use Rattle.yp_texts.specs.Builds.{order_max, built};
 
 use crate::fault::BuildFault;
 use crate::kind::Kind;

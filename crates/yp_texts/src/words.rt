@@ -3,7 +3,7 @@
 ghost use Rattle.std.specs.Prelude.{◌≡◌, ◌==◌, ◌+◌, ◌<◌, ◌≤◌, ◌∷◌, [], length, drop, option_map, IfNone, IfSome};
 ghost use Rattle.std.specs.List.{slice_get, position_or_len, before_first, after_first};
 ghost use Rattle.yp_version.specs.Blanks.{is_blank, without_front_blanks};
-ghost use Rattle.yp_build.specs.Words.{fields, words, uncommented};
+ghost use Rattle.yp_texts.specs.Words.{fields, words, uncommented};
 
 use memchr::memchr;
 use yp_version::{bare, is_blank, without_front_blanks};

@@ -15,15 +15,15 @@ use Rattle.yp_client.specs.Said.{SaysNumber, SaysBytes}
 use Rattle.yp_client.specs.All.{AllSaid, all_said, SaysAll}
 use Rattle.yp_client.specs.Asked.{order_call, master_call, all_call}
 use Rattle.yp_client.specs.States.{ClientState}
-use Rattle.yp_client.specs.Calls.{Calls, Hears, NoReply}
-use Rattle.yp_xfr.specs.declared.fault.XfrFault.{XfrFault}
-use Rattle.yp_xfr.specs.declared.fault.XfrFault.TheVariants.{NoMemory}
-use Rattle.yp_xfr.specs.Faults.{of_client}
-use Rattle.yp_xfr.specs.Fetching.{Outcome, Course, Unless, ByAnswer, Asks, InMemory, Gives, Wanted, AsksAgain, AsksRows}
-use Rattle.yp_xfr.specs.Fetching.{AsksMaster, against_names, against_order, against_master, against_second}
-use Rattle.yp_xfr.specs.Fetched.{Place, place_of, IsUnreplied, Reads, draft_of, rows_of, by_bytes}
-use Rattle.yp_xfr.specs.Fetched.{FailsByWire, IsFetched}
-use Rattle.yp_xfr.specs.Called.{CallsMaster, CallsAll, by_calls, FetchesByCalls}
+use Rattle.yp_client.specs.Calls.{Calls, HearsReply, NoReply}
+use Rattle.yp_transfer.specs.declared.fault.XfrFault.{XfrFault}
+use Rattle.yp_transfer.specs.declared.fault.XfrFault.TheVariants.{NoMemory}
+use Rattle.yp_transfer.specs.Faults.{of_client}
+use Rattle.yp_transfer.specs.Fetching.{FetchOutcome, Course, Unless, ByAnswer, AsksThen, InMemory, Gives, Wanted, AsksAgain, AsksRows}
+use Rattle.yp_transfer.specs.Fetching.{AsksMaster, against_names, against_order, against_master, against_second}
+use Rattle.yp_transfer.specs.Fetched.{StreamPlace, place_of, IsUnreplied, ReadsReply, draft_of, rows_of, by_bytes}
+use Rattle.yp_transfer.specs.Fetched.{FailsByWire, IsFetched}
+use Rattle.yp_transfer.specs.Called.{CallsMaster, CallsAll, by_calls, FetchesByCalls}
 
 -- ---- told bytes
 
@@ -42,11 +42,11 @@ rises_from a b c le risen = grind (arith, le, risen)
 -- ---- one call
 
 -- where the next reply should begin
-here : ClientState → List ℕ → Place
+here : ClientState → List ℕ → StreamPlace
 here client stream = place_of client.xid client.place stream
 
 -- the client goes on from this place
-record GoesOnAt (client : ClientState) (place : Place) : Type 0 where
+record GoesOnAt (client : ClientState) (place : StreamPlace) : Type 0 where
   rest : List ℕ
   place_is : place ≡ place_of client.xid client.place rest
   input : client.wire.input ≡ Some rest
@@ -55,8 +55,8 @@ record GoesOnAt (client : ClientState) (place : Place) : Type 0 where
 -- the answer is that of the bytes
 record IsRead {V : Type 0} (limit : ℕ) (said : ℕ → List ℕ → Result V ClientFault) (answer : Result V ClientFault)
     (stream : List ℕ) (old new : ClientState) : Type 0 where
-  place : Place
-  reads : Reads limit said answer (place_of old.xid old.place stream) place
+  place : StreamPlace
+  reads : ReadsReply limit said answer (place_of old.xid old.place stream) place
   goes_on : (value : V) → answer ≡ Ok value → GoesOnAt new place
 
 -- the wire failed
@@ -104,7 +104,7 @@ module _ {X V : Type 0} (limit : ℕ) (call : ℕ → List ℕ) (answers : ℕ �
 
   -- a reply that was heard
   heard : (lent : Result X ClientFault) → Calls limit call answers lent old new → Means answers said lent answer
-      → Hears limit (answers old.xid) lent old new → ((value : V) → answer ≡ Ok value → new.spent ≡ false)
+      → HearsReply limit (answers old.xid) lent old new → ((value : V) → answer ≡ Ok value → new.spent ≡ false)
       → Comes limit said answer stream old new
   unfolding Comes
   heard lent calls means hears goes_on =
@@ -259,19 +259,19 @@ rows_mean draft after (Err client.NoMemory) answer seen =
 
 -- ---- in turn
 
-Ends : Course Place → Outcome → ClientState → ClientState → List ℕ → Type 0
+Ends : Course StreamPlace → FetchOutcome → ClientState → ClientState → List ℕ → Type 0
 Ends course outcome old new stream =
-    ((last : Place) × course outcome (place_of old.xid old.place stream) last)
+    ((last : StreamPlace) × course outcome (place_of old.xid old.place stream) last)
     ⊎ (FailsByWire outcome old new ⊎ (outcome ≡ Err NoMemory))
 
 -- what comes of the calls is what comes of the bytes, unless the wire fails or memory runs out
-Translates : Course ClientState → Course Place → Type 0
+Translates : Course ClientState → Course StreamPlace → Type 0
 Translates called read =
-    (outcome : Outcome) (old new : ClientState) (stream : List ℕ) → old.wire.input ≡ Some stream → old.spent ≡ false
+    (outcome : FetchOutcome) (old new : ClientState) (stream : List ℕ) → old.wire.input ≡ Some stream → old.spent ≡ false
     → called outcome old new → Ends read outcome old new stream
 
 -- a wire that failed later has failed since
-fails_from : (outcome : Outcome) (old middle new : ClientState) → old.reads ≤ middle.reads
+fails_from : (outcome : FetchOutcome) (old middle new : ClientState) → old.reads ≤ middle.reads
     → old.writes ≤ middle.writes → FailsByWire outcome middle new → FailsByWire outcome old new
 fails_from outcome old middle new reads writes (is, inl risen) =
     (is, inl (rises_from old.reads middle.reads new.reads reads risen))
@@ -279,10 +279,10 @@ fails_from outcome old middle new reads writes (is, inr risen) =
     (is, inr (rises_from old.writes middle.writes new.writes writes risen))
 
 module _ {V : Type 0} (limit : ℕ) (said : ℕ → List ℕ → Result V ClientFault) (follows : V → Course ClientState)
-    (then : V → Course Place) (next : (value : V) → Translates (follows value) (then value))
-    (outcome : Outcome) (old new : ClientState) (stream : List ℕ) where
+    (then : V → Course StreamPlace) (next : (value : V) → Translates (follows value) (then value))
+    (outcome : FetchOutcome) (old new : ClientState) (stream : List ℕ) where
   goes_on : (answer : Result V ClientFault) (middle : ClientState) → Step limit said answer stream old middle
-      → ByAnswer follows answer outcome middle new → Ends (Asks (Reads limit said) then) outcome old new stream
+      → ByAnswer follows answer outcome middle new → Ends (AsksThen (ReadsReply limit said) then) outcome old new stream
   unfolding Ends Failed Comes Translates
   goes_on (Ok value) middle made more = elim made.comes [
     | inl read ↦
@@ -294,7 +294,7 @@ module _ {V : Type 0} (limit : ℕ) (said : ℕ → List ℕ → Result V Client
               answer = Ok value;
               middle = read.place;
               answered = read.reads;
-              goes_on = subst (λ (p : Place). then value outcome p found.0) (sym at.place_is) found.1;
+              goes_on = subst (λ (p : StreamPlace). then value outcome p found.0) (sym at.place_is) found.1;
             },
           )
           | inr others ↦ inr (elim others [
@@ -326,22 +326,22 @@ module _ {V : Type 0} (limit : ℕ) (said : ℕ → List ℕ → Result V Client
     ])
   ]
     where
-      same : (a b : ClientFault) → (let x : Result V ClientFault = Err a in x) ≡ Err b → (let y : Outcome = Err (of_client a) in y) ≡ Err (of_client b)
+      same : (a b : ClientFault) → (let x : Result V ClientFault = Err a in x) ≡ Err b → (let y : FetchOutcome = Err (of_client a) in y) ≡ Err (of_client b)
       same a b e = let is : a ≡ b = cc in ap (λ (f : ClientFault). Err (of_client f)) is
 
 asks : {V : Type 0} (limit : ℕ) (said : ℕ → List ℕ → Result V ClientFault)
     (called : Result V ClientFault → ClientState → ClientState → Type 0) (follows : V → Course ClientState)
-    (then : V → Course Place)
+    (then : V → Course StreamPlace)
     → ((answer : Result V ClientFault) (old new : ClientState) (stream : List ℕ) → old.wire.input ≡ Some stream
     → old.spent ≡ false → called answer old new → Step limit said answer stream old new)
     → ((value : V) → Translates (follows value) (then value))
-    → Translates (Asks called follows) (Asks (Reads limit said) then)
+    → Translates (AsksThen called follows) (AsksThen (ReadsReply limit said) then)
 unfolding Translates
 asks limit said called follows then step next outcome old new stream told unspent asked =
     goes_on limit said follows then next outcome old new stream asked.answer asked.middle
     (step asked.answer old asked.middle stream told unspent asked.answered) asked.goes_on
 
-unless : (cause : Option XfrFault) (called : Course ClientState) (read : Course Place) → Translates called read
+unless : (cause : Option XfrFault) (called : Course ClientState) (read : Course StreamPlace) → Translates called read
     → Translates (Unless cause called) (Unless cause read)
 unfolding Translates Ends
 unless None called read next outcome old new stream told unspent comes =
@@ -349,7 +349,7 @@ unless None called read next outcome old new stream told unspent comes =
 unless (Some fault) called read next outcome old new stream told unspent comes =
     inl (place_of old.xid old.place stream, (comes.0, refl))
 
-in_memory : (domain map : List ℕ) (called : Course ClientState) (read : Course Place) → Translates called read
+in_memory : (domain map : List ℕ) (called : Course ClientState) (read : Course StreamPlace) → Translates called read
     → Translates (InMemory (by_calls domain map) called) (InMemory by_bytes read)
 unfolding Translates Ends
 in_memory domain map called read next outcome old new stream told unspent (inl comes) =
@@ -413,7 +413,7 @@ master domain map order =
     (master_step domain map)
     (λ name. unless (against_master name) _ _ (in_memory domain map _ _ (rows domain map (empty_draft order name))))
 
-pub is_fetched : (wanted : Wanted) (outcome : Outcome) (old new : ClientState) → old.spent ≡ false
+pub is_fetched : (wanted : Wanted) (outcome : FetchOutcome) (old new : ClientState) → old.spent ≡ false
     → FetchesByCalls wanted outcome old new → IsFetched wanted outcome old new
 unfolding Translates Ends
 is_fetched wanted outcome old new unspent fetches =

@@ -4,8 +4,8 @@ use Rattle.std.proofs.Common.{sym, ap, ◌∙◌, get_or}
 use Rattle.std.specs.Prelude.{bytes_eq}
 use Rattle.std.proofs.lemmas.List.{drop_more, drop_all}
 use Rattle.yp_io.specs.declared.stream.Peer.{Peer}
-use Rattle.yp_xfr.specs.declared.hosts.Host.{Host}
-use Rattle.yp_xfr.specs.HostTable.{host_view, find}
+use Rattle.yp_transfer.specs.declared.hosts.Host.{Host}
+use Rattle.yp_transfer.specs.HostTable.{host_view, find}
 
 -- what is found from a host on
 pub found_from : List ℕ → List Host → ℕ → Option Peer

@@ -15,17 +15,17 @@ use Rattle.yp_client.specs.All.{SaysAll}
 use Rattle.yp_client.specs.Asked.{order_call, master_call, all_call}
 use Rattle.yp_client.specs.States.{ClientState}
 use Rattle.yp_client.specs.Calls.{Calls}
-use Rattle.yp_xfr.specs.declared.fault.XfrFault.{XfrFault}
-use Rattle.yp_xfr.specs.declared.fault.XfrFault.TheVariants.{Skew, NoMemory}
-use Rattle.yp_xfr.specs.Faults.{of_client}
-use Rattle.yp_xfr.specs.Fetching.{Outcome, Course, Unless, AsksAgain, AsksRows, AsksMaster}
-use Rattle.yp_xfr.specs.Fetching.{against_master, against_second}
-use Rattle.yp_xfr.specs.Begun.{Begins}
-use Rattle.yp_xfr.specs.Called.{by_calls}
+use Rattle.yp_transfer.specs.declared.fault.XfrFault.{XfrFault}
+use Rattle.yp_transfer.specs.declared.fault.XfrFault.TheVariants.{Skew, NoMemory}
+use Rattle.yp_transfer.specs.Faults.{of_client}
+use Rattle.yp_transfer.specs.Fetching.{FetchOutcome, Course, Unless, AsksAgain, AsksRows, AsksMaster}
+use Rattle.yp_transfer.specs.Fetching.{against_master, against_second}
+use Rattle.yp_transfer.specs.inside.Begun.{BeginsDraft}
+use Rattle.yp_transfer.specs.Called.{by_calls}
 
 -- ---- what stands against it
 
-pub nothing_against : {State : Type 0} (cause : Option XfrFault) (follows : Course State) (outcome : Outcome)
+pub nothing_against : {State : Type 0} (cause : Option XfrFault) (follows : Course State) (outcome : FetchOutcome)
     (old new : State) → cause ≡ None → follows outcome old new → Unless cause follows outcome old new
 nothing_against None follows outcome old new none comes = comes
 nothing_against (Some fault) follows outcome old new none comes = absurd cc
@@ -95,7 +95,7 @@ rows_refused domain map draft after why fault old new calls is = record {
   goes_on = (ap (λ (f : XfrFault). Err f) is, refl);
 }
 
-pub rows_taken : (domain map : List ℕ) (draft after : Draft) (done : Unit {0}) (outcome : Outcome)
+pub rows_taken : (domain map : List ℕ) (draft after : Draft) (done : Unit {0}) (outcome : FetchOutcome)
     (old middle new : ClientState)
     → Calls all_max (all_call domain map) (SaysAll draft after) (Ok done) old middle
     → AsksAgain (by_calls domain map) after outcome middle new → AsksRows (by_calls domain map) draft outcome old new
@@ -120,7 +120,7 @@ master_refused domain map order why fault old new calls is = record {
 
 pub not_begun : (domain map : List ℕ) (order : ℕ) (master : Bor (List ℕ)) (fault : XfrFault) (old new : ClientState)
     → Calls reply_max (master_call domain map) (SaysBytes master_of) (Ok master) old new
-    → Begins order master.now (Err fault) → AsksMaster (by_calls domain map) order (Err fault) old new
+    → BeginsDraft order master.now (Err fault) → AsksMaster (by_calls domain map) order (Err fault) old new
 not_begun domain map order master fault old new calls (inl is) = record {
   answer = Ok master.now;
   middle = new;
@@ -135,10 +135,10 @@ not_begun domain map order master fault old new calls (inr memory) = record {
       (inr (tt, (ap (λ (f : XfrFault). Err f) memory.0, refl)));
 }
 
-pub is_begun : (domain map : List ℕ) (order : ℕ) (master : Bor (List ℕ)) (draft : Draft) (outcome : Outcome)
+pub is_begun : (domain map : List ℕ) (order : ℕ) (master : Bor (List ℕ)) (draft : Draft) (outcome : FetchOutcome)
     (old middle new : ClientState)
     → Calls reply_max (master_call domain map) (SaysBytes master_of) (Ok master) old middle
-    → Begins order master.now (Ok draft) → AsksRows (by_calls domain map) draft outcome middle new
+    → BeginsDraft order master.now (Ok draft) → AsksRows (by_calls domain map) draft outcome middle new
     → AsksMaster (by_calls domain map) order outcome old new
 is_begun domain map order master draft outcome old middle new calls begins more = record {
   answer = Ok master.now;

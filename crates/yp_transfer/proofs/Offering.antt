@@ -2,15 +2,15 @@
 use Rattle.std.proofs.Common.{◌≡◌, ℕ, ◌+◌, Bool, Option, Result, Ok, Err, subst, inr}
 use Rattle.yp_version.specs.Versions.{MapVersion}
 use Rattle.yp_board.specs.Logs.{shown}
-use Rattle.yp_publish.specs.declared.install.InstallFault.{InstallFault}
-use Rattle.yp_publish.specs.declared.install.Installed.{Installed}
-use Rattle.yp_publish.specs.declared.install.Origin.TheVariants.{Fetched}
-use Rattle.yp_publish.specs.Standing.{Published, OfMap}
-use Rattle.yp_publish.specs.Keeping.{Keeping}
-use Rattle.yp_publish.specs.Installs.{offer, Installs, Refuses}
-use Rattle.yp_publish.specs.Opens.{Opens}
-use Rattle.yp_xfr.specs.declared.fault.XfrFault.{XfrFault}
-use Rattle.yp_xfr.specs.Installing.{of_install, marking, Offers, InstallsFetched}
+use Rattle.yp_publisher.specs.declared.install.InstallFault.{InstallFault}
+use Rattle.yp_publisher.specs.declared.install.Installed.{Installed}
+use Rattle.yp_publisher.specs.declared.install.Origin.TheVariants.{Fetched}
+use Rattle.yp_publisher.specs.Standing.{Published, OfMap}
+use Rattle.yp_publisher.specs.Keeping.{Keeping}
+use Rattle.yp_publisher.specs.Installs.{offer, Installs, Refuses}
+use Rattle.yp_publisher.specs.Opens.{Opens}
+use Rattle.yp_transfer.specs.declared.fault.XfrFault.{XfrFault}
+use Rattle.yp_transfer.specs.Installing.{of_install, marking, Offers, InstallsFetched}
 
 module _ {D B : Type 0} (keeping : Keeping D B) (number : ℕ) (version marked : MapVersion) (force : Bool)
     (mark : Option Bool) (old middle new : Published D B) (opens : Opens keeping number old middle)

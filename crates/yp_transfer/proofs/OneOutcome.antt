@@ -2,17 +2,17 @@
 use Rattle.std.proofs.Common.{◌≡◌, ℕ, ◌+◌, List, length, Option, Some, None, Result, Ok, Err, sym, ap}
 use Rattle.std.proofs.Common.{◌∙◌, subst, inl, inr, arith, min, length-append}
 use Rattle.yp_io.specs.Counts.{last_count}
-use Rattle.yp_rpc.specs.Records.{IsBegun, IsRest, IsLong}
-use Rattle.yp_rpc.specs.Laws.{FirstIsOne, RestIsNotWhole, TornIsNotLong, LongIsSome}
+use Rattle.yp_rpc.specs.Records.{IsUnfinished, IsRest, IsLong}
+use Rattle.yp_rpc.specs.inside.Laws.{FirstIsOne, RestIsNotWhole, TornIsNotLong, LongIsSome}
 use Rattle.yp_version.specs.Drafts.{Draft, empty_draft}
 use Rattle.yp_client.specs.declared.fault.ClientFault.{ClientFault}
 use Rattle.yp_client.specs.Limits.{reply_max, all_max}
 use Rattle.yp_client.specs.Results.{order_of, master_of}
-use Rattle.yp_xfr.specs.declared.fault.XfrFault.{XfrFault}
-use Rattle.yp_xfr.specs.Fetching.{Outcome, Course, Unless, ByAnswer, Asks, InMemory, Gives, AsksAgain, AsksRows}
-use Rattle.yp_xfr.specs.Fetching.{AsksMaster, against_names, against_order, against_master, against_second}
-use Rattle.yp_xfr.specs.Fetched.{Place, place_of, IsUnreplied, Reads, rows_of, by_bytes}
-use Rattle.yp_xfr.specs.Laws.{FetchedIsOne}
+use Rattle.yp_transfer.specs.declared.fault.XfrFault.{XfrFault}
+use Rattle.yp_transfer.specs.Fetching.{FetchOutcome, Course, Unless, ByAnswer, AsksThen, InMemory, Gives, AsksAgain, AsksRows}
+use Rattle.yp_transfer.specs.Fetching.{AsksMaster, against_names, against_order, against_master, against_second}
+use Rattle.yp_transfer.specs.Fetched.{StreamPlace, place_of, IsUnreplied, ReadsReply, rows_of, by_bytes}
+use Rattle.yp_transfer.specs.inside.Laws.{FetchedIsOne}
 
 -- what the laws of records say
 pub record Records : Type 0 where
@@ -21,20 +21,20 @@ pub record Records : Type 0 where
   pub torn : TornIsNotLong
   pub long : LongIsSome
 
-begun_is_rest : (limit : ℕ) (bytes : List ℕ) → IsBegun limit bytes → IsRest limit bytes
+begun_is_rest : (limit : ℕ) (bytes : List ℕ) → IsUnfinished limit bytes → IsRest limit bytes
 begun_is_rest limit bytes (inl none) = inl none
 begun_is_rest limit bytes (inr torn) = inr (inl torn)
 
-unreplied_is_rest : {V : Type 0} (limit : ℕ) (answer : Result V ClientFault) (first : Place)
+unreplied_is_rest : {V : Type 0} (limit : ℕ) (answer : Result V ClientFault) (first : StreamPlace)
     → IsUnreplied limit answer first → IsRest limit first.bytes
 unreplied_is_rest limit answer first (inl torn) = begun_is_rest limit first.bytes torn.0
 unreplied_is_rest limit answer first (inr long) = inr (inr long.0)
 
-begun_not_long : Records → (limit : ℕ) (bytes : List ℕ) → IsBegun limit bytes → IsLong limit bytes → ⊥
+begun_not_long : Records → (limit : ℕ) (bytes : List ℕ) → IsUnfinished limit bytes → IsLong limit bytes → ⊥
 begun_not_long laws limit bytes (inl none) long = laws.long limit bytes long none
 begun_not_long laws limit bytes (inr torn) long = laws.torn limit bytes torn long
 
-one_unreplied : Records → {V : Type 0} (limit : ℕ) (answer other : Result V ClientFault) (first : Place)
+one_unreplied : Records → {V : Type 0} (limit : ℕ) (answer other : Result V ClientFault) (first : StreamPlace)
     → IsUnreplied limit answer first → IsUnreplied limit other first → answer ≡ other
 one_unreplied laws limit answer other first (inl a) (inl b) = a.1 ∙ sym b.1
 one_unreplied laws limit answer other first (inr a) (inr b) = a.1 ∙ sym b.1
@@ -44,8 +44,8 @@ one_unreplied laws limit answer other first (inr a) (inl b) =
     absurd (begun_not_long laws limit first.bytes b.0 a.0)
 
 one_reading : Records → {V : Type 0} (limit : ℕ) (said : ℕ → List ℕ → Result V ClientFault)
-    (answer other : Result V ClientFault) (first p q : Place)
-    → Reads limit said answer first p → Reads limit said other first q → (answer ≡ other) × (p ≡ q)
+    (answer other : Result V ClientFault) (first p q : StreamPlace)
+    → ReadsReply limit said answer first p → ReadsReply limit said other first q → (answer ≡ other) × (p ≡ q)
 one_reading laws limit said answer other first p q (inl a) (inl b) =
     let same = laws.first limit a.reply b.reply a.taken b.taken p.bytes q.bytes a.fragments b.fragments
     (sym a.whole ∙ b.whole) in
@@ -75,17 +75,17 @@ one_reading laws limit said answer other first p q (inr a) (inr b) =
 -- ---- in turn
 
 -- a course comes to one outcome
-IsOne : Course Place → Type 0
+IsOne : Course StreamPlace → Type 0
 IsOne course =
-    (outcome other : Outcome) (first last last' : Place) → course outcome first last → course other first last'
+    (outcome other : FetchOutcome) (first last last' : StreamPlace) → course outcome first last → course other first last'
     → outcome ≡ other
 
-unless : (cause : Option XfrFault) (course : Course Place) → IsOne course → IsOne (Unless cause course)
+unless : (cause : Option XfrFault) (course : Course StreamPlace) → IsOne course → IsOne (Unless cause course)
 unfolding IsOne
 unless None course one = one
 unless (Some fault) course one = λ outcome other first last last' a b. a.0 ∙ sym b.0
 
-in_memory : (course : Course Place) → IsOne course → IsOne (InMemory by_bytes course)
+in_memory : (course : Course StreamPlace) → IsOne course → IsOne (InMemory by_bytes course)
 unfolding IsOne
 in_memory course one outcome other first last last' (inl a) (inl b) = one outcome other first last last' a b
 in_memory course one outcome other first last last' (inl a) (inr b) = absurd b.0
@@ -95,19 +95,19 @@ gives : (draft : Draft) → IsOne (Gives by_bytes draft)
 unfolding IsOne
 gives draft outcome other first last last' a b = a.0 ∙ sym b.0
 
-by_answer : {V : Type 0} (follows : V → Course Place) → ((value : V) → IsOne (follows value))
+by_answer : {V : Type 0} (follows : V → Course StreamPlace) → ((value : V) → IsOne (follows value))
     → (answer : Result V ClientFault) → IsOne (ByAnswer follows answer)
 unfolding IsOne
 by_answer follows one (Ok value) = one value
 by_answer follows one (Err fault) = λ outcome other first last last' a b. a.0 ∙ sym b.0
 
-asks : Records → {V : Type 0} (limit : ℕ) (said : ℕ → List ℕ → Result V ClientFault) (follows : V → Course Place)
-    → ((value : V) → IsOne (follows value)) → IsOne (Asks (Reads limit said) follows)
+asks : Records → {V : Type 0} (limit : ℕ) (said : ℕ → List ℕ → Result V ClientFault) (follows : V → Course StreamPlace)
+    → ((value : V) → IsOne (follows value)) → IsOne (AsksThen (ReadsReply limit said) follows)
 unfolding IsOne
 asks laws {V} limit said follows one outcome other first last last' a b =
     let same = one_reading laws limit said a.answer b.answer first a.middle b.middle a.answered b.answered in
     let moved : ByAnswer follows b.answer other a.middle last' =
-    subst (λ (p : Place). ByAnswer follows b.answer other p last') (sym same.1) b.goes_on in
+    subst (λ (p : StreamPlace). ByAnswer follows b.answer other p last') (sym same.1) b.goes_on in
     by_answer follows one a.answer outcome other a.middle last last' a.goes_on
     (subst (λ (r : Result V ClientFault). ByAnswer follows r other a.middle last') (sym same.0) moved)
 

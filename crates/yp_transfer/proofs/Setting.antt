@@ -1,8 +1,8 @@
 -- A call back that is put into its buffer.
 use Rattle.std.proofs.Common.{◌≡◌, ℕ, ◌+◌, List, [], ◌∷◌, ◌++◌, length, take, drop, refl, ap, ◌∙◌, arith}
 use Rattle.std.proofs.lemmas.List.{length-append, append-nil}
-use Rattle.yp_xdr.specs.Writing.{written}
-use Rattle.yp_xdr.specs.Laws.{WrittenIsJoined}
+use Rattle.yp_xdr.specs.inside.Writing.{written}
+use Rattle.yp_xdr.specs.inside.Laws.{WrittenIsJoined}
 
 take_none : (xs : List ℕ) → take 0 xs ≡ []
 take_none [] = refl

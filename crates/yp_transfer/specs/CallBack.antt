@@ -1,17 +1,17 @@
 -- What is posted of the outcome of a transfer: a call of the push response program (yppush_resp of yp.x).
 use Rattle.std.specs.Prelude.{◌≡◌, ◌⊎◌, ℕ, ◌≤◌, Bool, true, false, not, ◌&&◌, ◌==◌, nat_lt, List, Result, Ok, Err}
 use Rattle.yp_io.specs.Counts.{HasRisen}
-use Rattle.yp_io.specs.Dials.{DialTells, Gains}
+use Rattle.yp_io.specs.Dials.{DialTells, GainsItem}
 use Rattle.yp_io.specs.declared.stream.Peer.{Peer}
 use Rattle.yp_rpc.specs.Called.{call_of}
-use Rattle.yp_msgs.specs.declared.transfer.XfrStat.{XfrStat}
-use Rattle.yp_msgs.specs.declared.transfer.XfrStat.TheVariants.{Succ}
-use Rattle.yp_msgs.specs.Numbers.{push_version, xfrresp_procedure}
-use Rattle.yp_msgs.specs.Transfers.{resp_xfr, xfr_number}
-use Rattle.yp_publish.specs.declared.install.Installed.{Installed}
-use Rattle.yp_xfr.specs.declared.fault.XfrFault.{XfrFault}
-use Rattle.yp_xfr.specs.declared.calling_back.Asker.{Asker}
-use Rattle.yp_xfr.specs.Faults.{stat_of}
+use Rattle.yp_messages.specs.declared.transfer.XfrStat.{XfrStat}
+use Rattle.yp_messages.specs.declared.transfer.XfrStat.TheVariants.{Succ}
+use Rattle.yp_messages.specs.Numbers.{push_version, xfrresp_procedure}
+use Rattle.yp_messages.specs.Transfers.{resp_xfr, xfr_number}
+use Rattle.yp_publisher.specs.declared.install.Installed.{Installed}
+use Rattle.yp_transfer.specs.declared.fault.XfrFault.{XfrFault}
+use Rattle.yp_transfer.specs.declared.calling_back.Asker.{Asker}
+use Rattle.yp_transfer.specs.Faults.{stat_of}
 
 -- a call with the number of the transaction, which has it and its status as arguments
 abbrev pub call_back_bytes : ℕ → ℕ → XfrStat → List ℕ
@@ -35,7 +35,7 @@ called_at asker = record { addr = asker.addr; port = asker.port }
 pub record Posts (asker : Asker) (stat : XfrStat) (old new : DialTells) : Type 0 where
   pub past : new.past ≡ old.past
   pub never_falls : old.faults ≤ new.faults
-  pub told : Gains (called_at asker, call_back_bytes asker.prog asker.transid stat) old.letters new.letters
+  pub told : GainsItem (called_at asker, call_back_bytes asker.prog asker.transid stat) old.letters new.letters
       ⊎ ((new.letters ≡ old.letters) × HasRisen old.faults new.faults)
 
 -- A caller that wants to be told is; for any other the dial stays.

@@ -10,7 +10,7 @@ use Rattle.yp_client.specs.All.{SaysAll}
 use Rattle.yp_client.specs.Asked.{order_call, master_call, all_call}
 use Rattle.yp_client.specs.States.{ClientState}
 use Rattle.yp_client.specs.Calls.{Calls}
-use Rattle.yp_xfr.specs.Fetching.{Wanted, Course, Source, Fetches}
+use Rattle.yp_transfer.specs.Fetching.{Wanted, Course, FetchSource, Fetches}
 
 -- MASTER was called, and the name was lent.
 pub record CallsMaster (domain map : List ℕ) (answer : Result (List ℕ) ClientFault) (old new : ClientState)
@@ -28,7 +28,7 @@ pub record CallsAll (domain map : List ℕ) (draft : Draft) (answer : Result Dra
   pub seen : Says (λ _. after) answer done
 
 -- a source by the calls for a map of a domain
-abbrev pub by_calls : List ℕ → List ℕ → Source ClientState
+abbrev pub by_calls : List ℕ → List ℕ → FetchSource ClientState
 by_calls domain map = record {
   order = Calls reply_max (order_call domain map) (SaysNumber order_of);
   master = CallsMaster domain map;

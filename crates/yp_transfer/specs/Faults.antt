@@ -1,15 +1,15 @@
 -- What a fault of a client is to a transfer, and the status with which each fault of a transfer is told (ypxfrstat of
 -- yp.x).
 use Rattle.std.specs.Prelude.{Some, None}
-use Rattle.yp_msgs.specs.declared.stat.YpStat.TheVariants as stats
-use Rattle.yp_msgs.specs.declared.transfer.XfrStat.{XfrStat}
-use Rattle.yp_msgs.specs.declared.transfer.XfrStat.TheVariants as told
+use Rattle.yp_messages.specs.declared.stat.YpStat.TheVariants as stats
+use Rattle.yp_messages.specs.declared.transfer.XfrStat.{XfrStat}
+use Rattle.yp_messages.specs.declared.transfer.XfrStat.TheVariants as told
 use Rattle.yp_version.specs.declared.builder.VersionFault.TheVariants as version
 use Rattle.yp_client.specs.declared.fault.ClientFault.{ClientFault}
 use Rattle.yp_client.specs.declared.fault.ClientFault.TheVariants as client
-use Rattle.yp_xfr.specs.declared.fault.XfrFault.{XfrFault}
-use Rattle.yp_xfr.specs.declared.fault.XfrFault.TheVariants.{Maddr, Rpc, Nodom, Nomap, Yperr, Xfrerr, Age, Skew, Dbm}
-use Rattle.yp_xfr.specs.declared.fault.XfrFault.TheVariants.{Badargs, File, Refused, NoMemory}
+use Rattle.yp_transfer.specs.declared.fault.XfrFault.{XfrFault}
+use Rattle.yp_transfer.specs.declared.fault.XfrFault.TheVariants.{Maddr, Rpc, Nodom, Nomap, Yperr, Xfrerr, Age, Skew, Dbm}
+use Rattle.yp_transfer.specs.declared.fault.XfrFault.TheVariants.{Badargs, File, Refused, NoMemory}
 
 -- the status of a fault
 abbrev pub stat_of : XfrFault → XfrStat

@@ -7,9 +7,9 @@ use Rattle.yp_version.specs.Versions.{MapVersion, unmarked}
 use Rattle.yp_version.specs.Drafts.{Draft, empty_draft}
 use Rattle.yp_board.specs.Catalogues.{is_name}
 use Rattle.yp_client.specs.declared.fault.ClientFault.{ClientFault}
-use Rattle.yp_xfr.specs.declared.fault.XfrFault.{XfrFault}
-use Rattle.yp_xfr.specs.declared.fault.XfrFault.TheVariants.{Age, Skew, Dbm, Badargs, NoMemory}
-use Rattle.yp_xfr.specs.Faults.{of_client}
+use Rattle.yp_transfer.specs.declared.fault.XfrFault.{XfrFault}
+use Rattle.yp_transfer.specs.declared.fault.XfrFault.TheVariants.{Age, Skew, Dbm, Badargs, NoMemory}
+use Rattle.yp_transfer.specs.Faults.{of_client}
 
 -- what is wanted: a map of a domain, with an order over the one that is shown of it, unless it is forced
 pub record Wanted : Type 0 where
@@ -22,8 +22,8 @@ abbrev pub wanted_of : List ℕ → List ℕ → Option ℕ → Bool → Wanted
 wanted_of domain map shown force = record { domain = domain; map = map; shown = shown; force = force }
 
 -- the version, or why there is none
-abbrev pub Outcome : Type 0
-Outcome = Result MapVersion XfrFault
+abbrev pub FetchOutcome : Type 0
+FetchOutcome = Result MapVersion XfrFault
 
 -- ---- what stands against it
 
@@ -51,25 +51,26 @@ against_second first second = if first == second then None else Some (Skew first
 
 -- what comes of something between two states
 abbrev pub Course : Type 0 → Type 1
-Course State = Outcome → State → State → Type 0
+Course State = FetchOutcome → State → State → Type 0
 
 -- Nothing follows.
-abbrev pub Stops : {State : Type 0} → XfrFault → Course State
-Stops fault outcome old new = (outcome ≡ Err fault) × (new ≡ old)
+abbrev pub StopsFetch : {State : Type 0} → XfrFault → Course State
+StopsFetch fault outcome old new = (outcome ≡ Err fault) × (new ≡ old)
 
--- It goes on where nothing stands against it.
+-- A fetch goes on where there is no fault, and else ends by it.
 abbrev pub Unless : {State : Type 0} → Option XfrFault → Course State → Course State
 Unless None follows outcome old new = follows outcome old new
-Unless (Some fault) follows outcome old new = Stops fault outcome old new
+Unless (Some fault) follows outcome old new = StopsFetch fault outcome old new
 
--- It goes on where the answer is a value.
+-- A fetch goes on with the value of an answer, and else ends by its fault.
 abbrev pub ByAnswer : {State V : Type 0} → (V → Course State) → Result V ClientFault → Course State
 ByAnswer follows (Ok value) outcome old new = follows value outcome old new
-ByAnswer follows (Err fault) outcome old new = Stops (of_client fault) outcome old new
+ByAnswer follows (Err fault) outcome old new = StopsFetch (of_client fault) outcome old new
 
 -- Something is asked, and then it goes on by the answer.
-pub record Asks {State V : Type 0} (asked : Result V ClientFault → State → State → Type 0) (follows : V → Course State)
-    (outcome : Outcome) (old new : State) : Type 0 where
+pub record AsksThen {State V : Type 0} (asked : Result V ClientFault → State → State → Type 0)
+    (follows : V → Course State)
+    (outcome : FetchOutcome) (old new : State) : Type 0 where
   pub answer : Result V ClientFault
   pub middle : State
   pub answered : asked answer old middle
@@ -77,16 +78,16 @@ pub record Asks {State V : Type 0} (asked : Result V ClientFault → State → S
 
 -- how the source is asked for the order, for the master, and for all rows, onto some that a version has already; and
 -- whether memory may run out
-pub record Source (State : Type 0) : Type 1 where
+pub record FetchSource (State : Type 0) : Type 1 where
   pub order : Result ℕ ClientFault → State → State → Type 0
   pub master : Result (List ℕ) ClientFault → State → State → Type 0
   pub rows : Draft → Result Draft ClientFault → State → State → Type 0
   pub limited : Type 0
 
-module _ {State : Type 0} (source : Source State) where
-  -- It goes on, unless memory runs out.
+module _ {State : Type 0} (source : FetchSource State) where
+  -- A fetch goes on, or ends because memory ran out.
   abbrev pub InMemory : Course State → Course State
-  InMemory follows outcome old new = follows outcome old new ⊎ (source.limited × Stops NoMemory outcome old new)
+  InMemory follows outcome old new = follows outcome old new ⊎ (source.limited × StopsFetch NoMemory outcome old new)
 
   -- a version of these rows, which isn't secure
   abbrev pub Gives : Draft → Course State
@@ -95,20 +96,20 @@ module _ {State : Type 0} (source : Source State) where
   -- the second ORDER
   abbrev pub AsksAgain : Draft → Course State
   AsksAgain draft =
-      Asks source.order (λ second. Unless (against_second draft.order second) (InMemory (Gives draft)))
+      AsksThen source.order (λ second. Unless (against_second draft.order second) (InMemory (Gives draft)))
 
   -- ALL
   abbrev pub AsksRows : Draft → Course State
-  AsksRows draft = Asks (source.rows draft) AsksAgain
+  AsksRows draft = AsksThen (source.rows draft) AsksAgain
 
   -- MASTER
   abbrev pub AsksMaster : ℕ → Course State
   AsksMaster order =
-      Asks source.master (λ master. Unless (against_master master)
+      AsksThen source.master (λ master. Unless (against_master master)
       (InMemory (AsksRows (empty_draft order master))))
 
   -- ORDER, and the rest
   abbrev pub Fetches : Wanted → Course State
   Fetches wanted =
       Unless (against_names wanted)
-      (Asks source.order (λ order. Unless (against_order wanted order) (AsksMaster order)))
+      (AsksThen source.order (λ order. Unless (against_order wanted order) (AsksMaster order)))

@@ -2,7 +2,7 @@
 use Rattle.std.specs.Prelude.{ℕ, List, bytes_eq, Option}
 use Rattle.std.specs.Map.{lookup}
 use Rattle.yp_io.specs.declared.stream.Peer.{Peer}
-use Rattle.yp_xfr.specs.declared.hosts.Host.{Host}
+use Rattle.yp_transfer.specs.declared.hosts.Host.{Host}
 
 -- names and addresses, in the order in which they were added
 abbrev pub HostList : Type 0

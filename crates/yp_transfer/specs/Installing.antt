@@ -2,18 +2,18 @@
 use Rattle.std.specs.Prelude.{◌≡◌, ◌⊎◌, ℕ, ◌+◌, Bool, false, Option, None, Some, Result, Ok, Err}
 use Rattle.yp_version.specs.Versions.{MapVersion}
 use Rattle.yp_board.specs.Logs.{shown}
-use Rattle.yp_slot.specs.declared.fault.SlotFault.{SlotFault}
-use Rattle.yp_slot.specs.declared.fault.SlotFault.TheVariants as slot
-use Rattle.yp_publish.specs.declared.install.InstallFault.{InstallFault}
-use Rattle.yp_publish.specs.declared.install.InstallFault.TheVariants as install
-use Rattle.yp_publish.specs.declared.install.Installed.{Installed}
-use Rattle.yp_publish.specs.declared.install.Origin.TheVariants.{Fetched}
-use Rattle.yp_publish.specs.Standing.{Published, OfMap}
-use Rattle.yp_publish.specs.Keeping.{Keeping}
-use Rattle.yp_publish.specs.Installs.{Offer, offer, Installs, Refuses}
-use Rattle.yp_publish.specs.Opens.{Opens, StaysBehind}
-use Rattle.yp_xfr.specs.declared.fault.XfrFault.{XfrFault}
-use Rattle.yp_xfr.specs.declared.fault.XfrFault.TheVariants.{Age, File, Refused, NoMemory}
+use Rattle.yp_map_file.specs.declared.fault.SlotFault.{SlotFault}
+use Rattle.yp_map_file.specs.declared.fault.SlotFault.TheVariants as slot
+use Rattle.yp_publisher.specs.declared.install.InstallFault.{InstallFault}
+use Rattle.yp_publisher.specs.declared.install.InstallFault.TheVariants as install
+use Rattle.yp_publisher.specs.declared.install.Installed.{Installed}
+use Rattle.yp_publisher.specs.declared.install.Origin.TheVariants.{Fetched}
+use Rattle.yp_publisher.specs.Standing.{Published, OfMap}
+use Rattle.yp_publisher.specs.Keeping.{Keeping}
+use Rattle.yp_publisher.specs.Installs.{OfferedVersion, offer, Installs, Refuses}
+use Rattle.yp_publisher.specs.Opens.{Opens, StaysBehind}
+use Rattle.yp_transfer.specs.declared.fault.XfrFault.{XfrFault}
+use Rattle.yp_transfer.specs.declared.fault.XfrFault.TheVariants.{Age, File, Refused, NoMemory}
 
 -- a file that isn't opened again
 abbrev pub of_slot : SlotFault → XfrFault
@@ -37,25 +37,27 @@ marking None (Some shown) = shown.secure
 marking None None = false
 
 -- a fetched version, as it is offered of a map
-abbrev pub fetched_offer : {D B : Type 0} → Keeping D B → ℕ → MapVersion → Bool → Option Bool → Published D B → Offer
+abbrev pub fetched_offer : {D B : Type 0} → Keeping D B → ℕ → MapVersion → Bool → Option Bool → Published D B
+    → OfferedVersion
 fetched_offer keeping number version force mark published =
     offer (record version { secure = marking mark (shown number (keeping.log published.board)) }) Fetched force
 
--- It was installed: nothing stood against it, and it is stored and shown.
-pub record IsTaken {D B : Type 0} (keeping : Keeping D B) (number : ℕ) (offered : Offer) (installed : Installed)
+-- A fetched version was installed: nothing stood against it, and it is stored and shown.
+pub record IsTaken {D B : Type 0} (keeping : Keeping D B) (number : ℕ) (offered : OfferedVersion)
+    (installed : Installed)
     (old new : Published D B) : Type 0 where
   pub installs : Installs keeping number offered old new
   pub answer : OfMap number old.maps
       (λ kept. installed ≡ record { order = offered.version.order; generation = kept.generation + 1 })
 
--- It wasn't installed, for the first cause that applies.
-pub record IsNotTaken {D B : Type 0} (keeping : Keeping D B) (number : ℕ) (offered : Offer) (fault : XfrFault)
+-- A fetched version wasn't installed, for the first cause that applies.
+pub record IsNotTaken {D B : Type 0} (keeping : Keeping D B) (number : ℕ) (offered : OfferedVersion) (fault : XfrFault)
     (old new : Published D B) : Type 0 where
   pub why : InstallFault
   pub fault_is : fault ≡ of_install why
   pub refuses : Refuses keeping number offered why old new
 
-abbrev pub Offers : {D B : Type 0} → Keeping D B → ℕ → Offer → Result Installed XfrFault → Published D B
+abbrev pub Offers : {D B : Type 0} → Keeping D B → ℕ → OfferedVersion → Result Installed XfrFault → Published D B
     → Published D B → Type 0
 Offers keeping number offered (Ok installed) old new = IsTaken keeping number offered installed old new
 Offers keeping number offered (Err fault) old new = IsNotTaken keeping number offered fault old new

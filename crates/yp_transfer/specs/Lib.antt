@@ -1,6 +1,5 @@
 pub mod Faults
 pub mod Fetching
-pub mod Begun
 pub mod Fetched
 pub mod Called
 pub mod HostTable
@@ -8,4 +7,5 @@ pub mod Dialing
 pub mod Installing
 pub mod CallBack
 pub mod Transfers
-pub mod Laws
+pub mod walk
+pub mod inside

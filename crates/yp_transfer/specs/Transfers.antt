@@ -4,51 +4,52 @@ use Rattle.yp_io.specs.Counts.{last_count}
 use Rattle.yp_io.specs.Dials.{Dialing, DialTells, wires_told}
 use Rattle.yp_board.specs.Catalogues.{Name}
 use Rattle.yp_board.specs.Logs.{shown}
-use Rattle.yp_publish.specs.declared.install.Installed.{Installed}
-use Rattle.yp_publish.specs.Standing.{Published}
-use Rattle.yp_publish.specs.Keeping.{Keeping}
-use Rattle.yp_xfr.specs.declared.fault.XfrFault.{XfrFault}
-use Rattle.yp_xfr.specs.Fetching.{Wanted, wanted_of, Outcome}
-use Rattle.yp_xfr.specs.HostTable.{HostList}
-use Rattle.yp_xfr.specs.Dialing.{FetchesFrom}
-use Rattle.yp_xfr.specs.Installing.{InstallsFetched}
-use Rattle.yp_xfr.specs.declared.calling_back.Asker.{Asker}
-use Rattle.yp_xfr.specs.CallBack.{outcome_stat, wants_call, CallsBack}
+use Rattle.yp_publisher.specs.declared.install.Installed.{Installed}
+use Rattle.yp_publisher.specs.Standing.{Published}
+use Rattle.yp_publisher.specs.Keeping.{Keeping}
+use Rattle.yp_transfer.specs.declared.fault.XfrFault.{XfrFault}
+use Rattle.yp_transfer.specs.Fetching.{Wanted, wanted_of, FetchOutcome}
+use Rattle.yp_transfer.specs.HostTable.{HostList}
+use Rattle.yp_transfer.specs.Dialing.{FetchesFrom}
+use Rattle.yp_transfer.specs.Installing.{InstallsFetched}
+use Rattle.yp_transfer.specs.declared.calling_back.Asker.{Asker}
+use Rattle.yp_transfer.specs.CallBack.{outcome_stat, wants_call, CallsBack}
 
 -- what is asked for: a map by its number, from a source by its name, whether it is forced, and its mark, if it has one
-pub record Request : Type 0 where
+pub record TransferRequest : Type 0 where
   pub number : ℕ
   pub source : List ℕ
   pub force : Bool
   pub mark : Option Bool
 
-abbrev pub request_of : ℕ → List ℕ → Bool → Option Bool → Request
+abbrev pub request_of : ℕ → List ℕ → Bool → Option Bool → TransferRequest
 request_of number source force mark = record { number = number; source = source; force = force; mark = mark }
 
 -- the map by its name in the catalogue, and the order of the version that is shown of it
-abbrev pub wanted_at : {D B : Type 0} → Keeping D B → Request → Name → Published D B → Wanted
+abbrev pub wanted_at : {D B : Type 0} → Keeping D B → TransferRequest → Name → Published D B → Wanted
 wanted_at keeping request name published =
     wanted_of name.0 name.1
     (option_map (λ version. version.order) (shown request.number (keeping.log published.board))) request.force
 
 -- What was fetched is installed; where nothing was, the maps stay.
-abbrev pub InstallsOutcome : {D B : Type 0} → Keeping D B → Request → Outcome → Result Installed XfrFault
+abbrev pub InstallsOutcome : {D B : Type 0} → Keeping D B → TransferRequest → FetchOutcome → Result Installed XfrFault
     → Published D B → Published D B → Type 0
 InstallsOutcome keeping request (Ok version) result old new =
     InstallsFetched keeping request.number version request.force request.mark result old new
 InstallsOutcome keeping request (Err fault) result old new = (result ≡ Err fault) × (new ≡ old)
 
 -- The map was fetched from the source, the wire was given back, and then what came of it was installed.
-pub record Transfers {D B : Type 0} (keeping : Keeping D B) (hosts : HostList) (request : Request)
+pub record Transfers {D B : Type 0} (keeping : Keeping D B) (hosts : HostList) (request : TransferRequest)
     (result : Result Installed XfrFault) (before after : Dialing) (old new : Published D B) : Type 0 where
-  pub outcome : Outcome
+  pub outcome : FetchOutcome
   pub fetches : IfSome (slice_get old.catalogue.maps request.number)
       (λ name. FetchesFrom hosts request.source (wanted_at keeping request name old) outcome before after)
   pub installs : InstallsOutcome keeping request outcome result old new
 
 -- A map was transferred for a caller, and then, from this moment of the dial on, the caller was told what came of it.
 -- But for its faults the dial then tells the wires of the end and the letters of the start.
-pub record TransfersFor {D B : Type 0} (keeping : Keeping D B) (hosts : HostList) (request : Request) (asker : Asker)
+pub record TransfersFor {D B : Type 0} (keeping : Keeping D B) (hosts : HostList) (request : TransferRequest)
+    (asker : Asker)
     (before after : DialTells) (old new : Published D B) : Type 0 where
   pub result : Result Installed XfrFault
   pub fetched : DialTells

@@ -2,14 +2,15 @@
 
 ghost use Rattle.std.specs.Prelude.{◌≡◌, IsTrue, Some, None, false, length, OnOk, OnErr};
 ghost use Rattle.yp_io.specs.Counts.{CountsFaults};
-ghost use Rattle.yp_io.specs.Dials.{Gains, dial_tells};
-ghost use Rattle.yp_xfr.specs.CallBack.{call_back_bytes, outcome_stat, wants_call, CallsBack};
+ghost use Rattle.yp_io.specs.Dials.{GainsItem};
+ghost use Rattle.yp_transfer.specs.inside.Dials.{dial_by};
+ghost use Rattle.yp_transfer.specs.CallBack.{call_back_bytes, outcome_stat, wants_call, CallsBack};
 
 use crate::fault::XfrFault;
 use yp_io::{Dial, Failed, Peer};
-use yp_msgs::protocol::{PUSHVERS, XFRRESP};
-use yp_msgs::{Message, RespXfr, XfrStat};
-use yp_publish::Installed;
+use yp_messages::protocol::{PUSHVERS, XFRRESP};
+use yp_messages::{Message, RespXfr, XfrStat};
+use yp_publisher::Installed;
 use yp_rpc::write_call;
 use yp_xdr::{NoRoom, laws};
 
@@ -35,7 +36,7 @@ pub fn call_back<A: Dial>(
     stat: XfrStat,
 ) -> Result<(), Failed>
     ensures posted { OnOk result
-        (Gains (to, call_back_bytes prog transid stat) (A.letters dial.old) (A.letters dial.new)) }
+        (GainsItem (to, call_back_bytes prog transid stat) (A.letters dial.old) (A.letters dial.new)) }
     ensures none { OnErr result (A.letters dial.new ≡ A.letters dial.old) }
     ensures past { A.past dial.new ≡ A.past dial.old }
     ensures cause { CountsFaults (A.faults dial.old) (A.faults dial.new) result }
@@ -85,8 +86,7 @@ fn port_of(asker: &Asker) -> Option<u16>
 
 /// Tells a caller the status of a transfer, where it wants to be told. A fault of that changes nothing.
 pub fn tell_back<A: Dial>(dial: &mut A, asker: &Asker, stat: XfrStat)
-    ensures { CallsBack (wants_call asker.now) asker.now stat
-        (dial_tells A.past A.letters A.faults dial.old) (dial_tells A.past A.letters A.faults dial.new) }
+    ensures { CallsBack (wants_call asker.now) asker.now stat (dial_by A.Dial dial.old) (dial_by A.Dial dial.new) }
 {
     if let Some(port) = port_of(asker) {
         let to = Peer {

@@ -1,10 +1,10 @@
 //! Why a map isn't transferred.
 
 ghost use Rattle.std.specs.Prelude.{◌≡◌};
-ghost use Rattle.yp_xfr.specs.Faults.{stat_of};
+ghost use Rattle.yp_transfer.specs.Faults.{stat_of};
 
 use yp_client::ClientFault;
-use yp_msgs::{XfrStat, YpStat};
+use yp_messages::{XfrStat, YpStat};
 use yp_version::VersionFault;
 
 /// Why a map isn't transferred, the first cause that is met.
@@ -64,7 +64,7 @@ impl XfrFault {
 
 impl From<ClientFault> for XfrFault {
     ghost use Rattle.std.specs.Prelude.{◌≡◌};
-    ghost use Rattle.yp_xfr.specs.Faults.{of_client};
+    ghost use Rattle.yp_transfer.specs.Faults.{of_client};
 
     ghost from_gives = { λ fault given. given ≡ of_client fault };
 

@@ -1,20 +1,20 @@
 //! A version that is fetched over a client.
 
 ghost use Rattle.std.specs.Prelude.{◌≡◌, ◌≤◌, false, [], length, IfOk, option_map};
-ghost use Rattle.yp_msgs.specs.Numbers.{name_max};
-ghost use Rattle.yp_client.specs.States.{state_of};
-ghost use Rattle.yp_xfr.specs.Fetching.{wanted_of, against_order, AsksMaster, AsksRows, AsksAgain};
-ghost use Rattle.yp_xfr.specs.Fetching.{InMemory, Unless, Gives};
-ghost use Rattle.yp_xfr.specs.Fetched.{IsFetched};
-ghost use Rattle.yp_xfr.specs.Called.{by_calls, FetchesByCalls};
-ghost use Rattle.yp_xfr.specs.Begun.{Begins};
+ghost use Rattle.yp_messages.specs.Numbers.{name_max};
+ghost use Rattle.yp_client.specs.inside.States.{state_of};
+ghost use Rattle.yp_transfer.specs.Fetching.{wanted_of, against_order, AsksMaster, AsksRows, AsksAgain};
+ghost use Rattle.yp_transfer.specs.Fetching.{InMemory, Unless, Gives};
+ghost use Rattle.yp_transfer.specs.Fetched.{IsFetched};
+ghost use Rattle.yp_transfer.specs.Called.{by_calls, FetchesByCalls};
+ghost use Rattle.yp_transfer.specs.inside.Begun.{BeginsDraft};
 
 use crate::fault::XfrFault;
 use std::alloc::Global;
 use std::random::RandomSource;
 use yp_client::Client;
 use yp_io::{NoMemory, Sink, Source};
-use yp_msgs::protocol::NAME_MAX;
+use yp_messages::protocol::NAME_MAX;
 use yp_version::{Version, VersionBuilder};
 
 /// Fetches a map of a domain from the server that the client calls: ORDER, MASTER, ALL and again ORDER, each where
@@ -46,7 +46,7 @@ pub fn fetch<S: Source, K: Sink>(
     fetch_by_calls(alloc, rt, client, domain, map, shown, force)
 }
 
-/// The same by its calls alone.
+/// Fetches a map, as a statement about the four calls alone.
 fn fetch_by_calls<S: Source, K: Sink>(
     alloc: Global,
     rt: &impl RandomSource,
@@ -118,7 +118,7 @@ pub fn begin(
     order: u32,
     master: &[u8],
 ) -> Result<VersionBuilder, XfrFault>
-    ensures { Begins order master.now result }
+    ensures { BeginsDraft order master.now result }
 {
     if master.is_empty() || master.len() > NAME_MAX as usize {
         return Err(XfrFault::Dbm);

@@ -1,7 +1,7 @@
 //! A table of hosts.
 
 ghost use Rattle.std.specs.Prelude.{◌≡◌, [], ◌∷◌, ◌++◌, OnOk, OnErr};
-ghost use Rattle.yp_xfr.specs.HostTable.{find};
+ghost use Rattle.yp_transfer.specs.HostTable.{find};
 
 use std::alloc::Global;
 use std::marker::Model;
@@ -22,7 +22,7 @@ pub struct Hosts {
 
 impl Model for Hosts {
     ghost use Rattle.std.specs.Prelude.{map};
-    ghost use Rattle.yp_xfr.specs.HostTable.{HostList, host_view};
+    ghost use Rattle.yp_transfer.specs.HostTable.{HostList, host_view};
 
     ghost Value = { HostList };
 

@@ -2,8 +2,8 @@
 
 ghost use Rattle.std.specs.Prelude.{◌≡◌, ◌<◌, length, option_map};
 ghost use Rattle.std.specs.Arc.{arc_value};
-ghost use Rattle.yp_publish.specs.Keeping.{keeping_of};
-ghost use Rattle.yp_xfr.specs.Installing.{of_slot, of_install, marking, InstallsFetched};
+ghost use Rattle.yp_publisher.specs.Keeping.{keeping_of};
+ghost use Rattle.yp_transfer.specs.Installing.{of_slot, of_install, marking, InstallsFetched};
 
 use crate::fault::XfrFault;
 use std::alloc::Global;
@@ -11,8 +11,8 @@ use std::random::RandomSource;
 use std::sync::Arc;
 use yp_board::Show;
 use yp_io::Disk;
-use yp_publish::{InstallFault, Installed, Origin, Publisher};
-use yp_slot::SlotFault;
+use yp_map_file::SlotFault;
+use yp_publisher::{InstallFault, Installed, Origin, Publisher};
 use yp_version::Version;
 
 /// Installs a fetched version of a map, and shows it. A map that is behind is opened again first. The version is

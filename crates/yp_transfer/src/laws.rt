@@ -1,6 +1,6 @@
 //! What holds of what is fetched. Each law is the contract of a function that does nothing.
 
-ghost use Rattle.yp_xfr.specs.Laws.{FetchedIsOne};
+ghost use Rattle.yp_transfer.specs.inside.Laws.{FetchedIsOne};
 
 use yp_rpc::laws::{first_is_one, rest_is_not_whole, rest_is_one_kind};
 

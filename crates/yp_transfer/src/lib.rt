@@ -4,6 +4,8 @@
 //! [`fetch_from`]; that it is installed and shown, and what a crash leaves meanwhile, on [`install_fetched`] and
 //! [`transfer`]; what is posted of the outcome on [`call_back`] and [`tell_back`]; and both for a caller on
 //! [`transfer_for`].
+//!
+//! [`walk`] fetches a map row by row, from a source that serves datagrams alone.
 #![tactic(auto)]
 
 mod calling_back;
@@ -14,6 +16,7 @@ mod hosts;
 mod install;
 pub mod laws;
 mod transferring;
+pub mod walk;
 
 pub use calling_back::{Asker, call_back, tell_back};
 pub use dialed::fetch_from;

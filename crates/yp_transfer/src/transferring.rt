@@ -2,9 +2,10 @@
 
 ghost use Rattle.std.specs.Prelude.{◌≡◌, ◌<◌, ◌≤◌, false, None, length, min};
 ghost use Rattle.yp_io.specs.Counts.{last_count};
-ghost use Rattle.yp_publish.specs.Keeping.{keeping_of};
-ghost use Rattle.yp_io.specs.Dials.{dialing_of, dial_tells};
-ghost use Rattle.yp_xfr.specs.Transfers.{request_of, Transfers, TransfersFor};
+ghost use Rattle.yp_publisher.specs.Keeping.{keeping_of};
+ghost use Rattle.yp_io.specs.Dials.{dialing_of};
+ghost use Rattle.yp_transfer.specs.inside.Dials.{dial_by};
+ghost use Rattle.yp_transfer.specs.Transfers.{request_of, Transfers, TransfersFor};
 
 use crate::calling_back::{Asker, stat_of, tell_back};
 use crate::dialed::fetch_from;
@@ -15,7 +16,7 @@ use std::alloc::Global;
 use std::random::RandomSource;
 use yp_board::Show;
 use yp_io::{Dial, Disk};
-use yp_publish::{Installed, Publisher};
+use yp_publisher::{Installed, Publisher};
 
 /// Fetches a map from a source, by the names of the catalogue and with the order of the version that is shown, and
 /// installs what came. The wire is given back before the disk is called.
@@ -72,8 +73,7 @@ pub fn transfer_for<D: Disk, B: Show, A: Dial>(
 )
     requires { map < length publisher.old.maps }
     ensures { TransfersFor (keeping_of D.history D.faults B.log) hosts.now (request_of map source.now false None) asker
-        (dial_tells A.past A.letters A.faults dial.old) (dial_tells A.past A.letters A.faults dial.new)
-        publisher.old publisher.new }
+        (dial_by A.Dial dial.old) (dial_by A.Dial dial.new) publisher.old publisher.new }
 {
     let outcome = transfer(alloc, rt, publisher, dial, hosts, map, source, false, None);
     tell_back(dial, &asker, stat_of(&outcome));

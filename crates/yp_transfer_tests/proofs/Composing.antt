@@ -3,14 +3,14 @@ use Rattle.std.proofs.Common.{◌≡◌, ◌⊎◌, Result, Ok, Err, inl, inr}
 use Rattle.std.specs.Prelude.{IfOk}
 use Rattle.yp_version.specs.Versions.{MapVersion}
 use Rattle.yp_client.specs.States.{ClientState}
-use Rattle.yp_xfr.specs.declared.fault.XfrFault.{XfrFault}
-use Rattle.yp_xfr.specs.declared.fault.XfrFault.TheVariants.{NoMemory}
-use Rattle.yp_xfr.specs.Fetching.{Wanted, Outcome}
-use Rattle.yp_xfr.specs.Fetched.{Place, Fetched, FailsByWire}
+use Rattle.yp_transfer.specs.declared.fault.XfrFault.{XfrFault}
+use Rattle.yp_transfer.specs.declared.fault.XfrFault.TheVariants.{NoMemory}
+use Rattle.yp_transfer.specs.Fetching.{Wanted, FetchOutcome}
+use Rattle.yp_transfer.specs.Fetched.{StreamPlace, Fetched, FailsByWire}
 use Rattle.yp_transfer_tests.specs.Outcomes.{IsUnlessFailed}
 
-module _ (wanted : Wanted) (place : Place) (old new : ClientState) where
-  pub where_ok : (outcome : Outcome) (P : MapVersion → Type 0)
+module _ (wanted : Wanted) (place : StreamPlace) (old new : ClientState) where
+  pub where_ok : (outcome : FetchOutcome) (P : MapVersion → Type 0)
       → Fetched wanted place outcome ⊎ (FailsByWire outcome old new ⊎ (outcome ≡ Err NoMemory))
       → ((version : MapVersion) → Fetched wanted place (Ok version) → P version) → IfOk outcome P
   where_ok (Ok version) P (inl fetched) law = law version fetched
@@ -18,7 +18,7 @@ module _ (wanted : Wanted) (place : Place) (old new : ClientState) where
   where_ok (Ok version) P (inr (inr memory)) law = absurd cc
   where_ok (Err fault) P comes law = tt
 
-  pub unless_failed : (outcome : Outcome) (version : MapVersion)
+  pub unless_failed : (outcome : FetchOutcome) (version : MapVersion)
       → Fetched wanted place outcome ⊎ (FailsByWire outcome old new ⊎ (outcome ≡ Err NoMemory))
       → (Fetched wanted place outcome → outcome ≡ Ok version) → IsUnlessFailed version outcome old new
   unless_failed outcome version (inl fetched) law = inl (law fetched)

@@ -8,113 +8,130 @@ use std::alloc::Global;
 use std::process::Abort;
 use std::random::RandomSource;
 use yp_io::MemDial;
-use yp_msgs::YpStat;
+use yp_messages::YpStat;
+use yp_transfer::{Hosts, XfrFault, fetch_from};
 use yp_version::Version;
-use yp_xfr::{Hosts, XfrFault, fetch_from};
 
-/// A version: its order, its master, whether it is secure, and its rows as `key=value` with a line feed behind each.
-type Seen = (u32, Vec<u8>, bool, Vec<u8>);
+/// A version: its order, its master, whether it is secure, how many rows it has, and the first one.
+type Seen<'a> = (u32, &'a [u8], bool, usize, Option<(&'a [u8], &'a [u8])>);
 
-/// What came of a fetch: the version or the fault, how many wires were given back, and what was sent.
-type Came = (Result<Seen, XfrFault>, usize, Vec<u8>);
-
-fn rows_text<R: Abort>(rt: &R, alloc: Global, version: &Version) -> Vec<u8> {
-    let mut text = Vec::new(alloc);
-    for i in 0..version.len() {
-        let Some((key, value)) = version.row(i) else {
-            unreachable!()
-        };
-        for piece in [key, b"=", value, b"\n"] {
-            text.extend_from_slice(piece).expect(rt, "a text");
-        }
-    }
-    text
+/// What a source sends, what the wire does, what is shown, and whether the fetch is forced; and what comes of it, how
+/// many wires are given back, and how many calls are made.
+#[derive(Clone, Copy)]
+struct Case {
+    name: &'static str,
+    replies: &'static [&'static str],
+    weather: Weather<'static>,
+    shown: Option<u32>,
+    force: bool,
+    came: Result<Seen<'static>, XfrFault>,
+    wires: usize,
+    calls: usize,
 }
 
-fn seen<R: Abort>(rt: &R, alloc: Global, version: &Version) -> Seen {
-    (
-        version.order(),
-        version.master().to_vec(alloc).expect(rt, "a name"),
-        version.secure(),
-        rows_text(rt, alloc, version),
-    )
+// The version that the good replies say.
+const HOSTS: Seen<'static> = (100, b"m1", false, 1, Some((b"alpha", b"10.0.0.1 alpha")));
+
+const FIRST: Case = Case {
+    name: "nothing is shown",
+    replies: &[ORDER_REPLY, MASTER_REPLY, ALL_REPLY, SECOND_REPLY],
+    weather: FAIR,
+    shown: None,
+    force: false,
+    came: Ok(HOSTS),
+    wires: 1,
+    calls: 4,
+};
+
+fn seen(fetched: &Result<Version, XfrFault>) -> Result<Seen<'_>, XfrFault> {
+    match fetched {
+        Ok(version) => Ok((
+            version.order(),
+            version.master(),
+            version.secure(),
+            version.len(),
+            version.row(0),
+        )),
+        Err(fault) => Err(*fault),
+    }
 }
 
 // Fetches `hosts.byname` of `lab` from `m1`.
-fn fetch_over<R: RandomSource + Abort>(
+fn fetch_over<R: RandomSource>(
     rt: &R,
     alloc: Global,
     dial: &mut MemDial,
     hosts: &Hosts,
     shown: Option<u32>,
     force: bool,
-) -> Came {
-    let fetched = fetch_from(
-        alloc,
-        rt,
-        dial,
-        hosts,
-        b"m1",
-        b"lab",
-        b"hosts.byname",
-        shown,
-        force,
-    );
-    let came = match fetched {
-        Ok(version) => Ok(seen(rt, alloc, &version)),
-        Err(fault) => Err(fault),
-    };
-    (came, dial.past().len(), sent(rt, alloc, dial))
+) -> Result<Version, XfrFault> {
+    let map = b"hosts.byname";
+    fetch_from(alloc, rt, dial, hosts, b"m1", b"lab", map, shown, force)
 }
 
-fn fetch_by<R: RandomSource + Abort>(
+fn assert_came<R: Abort>(
     rt: &R,
     alloc: Global,
-    input: Vec<u8>,
-    weather: Weather<'_>,
-    shown: Option<u32>,
-    force: bool,
-) -> Came {
-    let mut dial = dial(rt, alloc, input, weather);
-    let hosts = table(rt, alloc);
-    fetch_over(rt, alloc, &mut dial, &hosts, shown, force)
+    fetched: &Result<Version, XfrFault>,
+    dial: &MemDial,
+    case: &Case,
+) {
+    assert_same(rt, &seen(fetched), &case.came, case.name);
+    assert_same(rt, &dial.past().len(), &case.wires, case.name);
+    let calls = CALLS.get(..case.calls).expect(rt, "four calls at most");
+    let calls = bytes(rt, alloc, calls);
+    assert_same(rt, &sent(rt, alloc, dial), &calls, case.name);
 }
 
-// The version that the good replies say.
-fn hosts_version<R: Abort>(rt: &R, alloc: Global) -> Seen {
-    (
-        100,
-        b"m1".to_vec(alloc).expect(rt, "a name"),
-        false,
-        b"alpha=10.0.0.1 alpha\n".to_vec(alloc).expect(rt, "a text"),
-    )
+fn try_over<R: RandomSource + Abort>(rt: &R, alloc: Global, input: Vec<u8>, case: &Case) {
+    let mut dial = dial(rt, alloc, input, &case.weather);
+    let hosts = table(rt, alloc);
+    let fetched = fetch_over(rt, alloc, &mut dial, &hosts, case.shown, case.force);
+    assert_came(rt, alloc, &fetched, &dial, case);
 }
+
+fn try_cases<R: RandomSource + Abort>(rt: &R, alloc: Global, cases: &[Case]) {
+    for case in cases {
+        try_over(rt, alloc, bytes(rt, alloc, case.replies), case);
+    }
+}
+
+const OLDER: XfrFault = XfrFault::Age {
+    shown: 100,
+    offered: 100,
+};
+
+static AGES: [Case; 5] = [
+    FIRST,
+    Case {
+        name: "an older one is shown",
+        shown: Some(99),
+        ..FIRST
+    },
+    Case {
+        name: "the same is shown",
+        shown: Some(100),
+        came: Err(OLDER),
+        calls: 1,
+        ..FIRST
+    },
+    Case {
+        name: "the same, forced",
+        shown: Some(100),
+        force: true,
+        ..FIRST
+    },
+    Case {
+        name: "a newer one, forced",
+        shown: Some(101),
+        force: true,
+        ..FIRST
+    },
+];
 
 #[test]
 fn age_and_force(rt: HostRuntime) {
-    let alloc = rt.alloc();
-    let replies = [ORDER_REPLY, MASTER_REPLY, ALL_REPLY, SECOND_REPLY];
-    let older = XfrFault::Age {
-        shown: 100,
-        offered: 100,
-    };
-    let cases: [(&str, Option<u32>, bool, Option<XfrFault>, usize); 5] = [
-        ("nothing is shown", None, false, None, 4),
-        ("an older one is shown", Some(99), false, None, 4),
-        ("the same is shown", Some(100), false, Some(older), 1),
-        ("the same, forced", Some(100), true, None, 4),
-        ("a newer one, forced", Some(101), true, None, 4),
-    ];
-    for (name, shown, force, fault, calls) in &cases {
-        let outcome = match *fault {
-            None => Ok(hosts_version(&rt, alloc)),
-            Some(fault) => Err(fault),
-        };
-        let wanted = (outcome, 1, bytes(&rt, alloc, &CALLS[..*calls]));
-        let input = bytes(&rt, alloc, &replies);
-        let came = fetch_by(&rt, alloc, input, FAIR, *shown, *force);
-        assert_same(&rt, &came, &wanted, *name);
-    }
+    try_cases(&rt, rt.alloc(), &AGES);
 }
 
 // Replies of a hostile source: refusals of the first call, those of the second, of ALL, and of the last.
@@ -159,102 +176,103 @@ const SKEW: XfrFault = XfrFault::Skew {
     second: 101,
 };
 
-/// What a source sends, the fault, and how many calls were made.
-type Hostile = (&'static str, &'static [&'static str], XfrFault, usize);
-
-const HOSTILE: [Hostile; 13] = [
-    ("no such map", &[NOMAP], XfrFault::Nomap, 1),
-    ("no such domain", &[NODOM], XfrFault::Nodom, 1),
-    (
-        "another number",
-        &[OTHER_NUMBER],
-        XfrFault::Xfrerr { at: 0 },
-        1,
-    ),
-    ("no input", &[], XfrFault::Rpc, 1),
-    ("no master", &[ORDER_REPLY, NO_MASTER], XfrFault::Dbm, 2),
-    (
-        "denied",
-        &[ORDER_REPLY, DENIED],
-        XfrFault::Yperr { stat: None },
-        2,
-    ),
-    (
-        "a secure map",
-        &[ORDER_REPLY, MASTER_REPLY, GUARDED],
-        YPERR,
-        3,
-    ),
-    (
-        "a long value",
-        &[ORDER_REPLY, MASTER_REPLY, LONG_VALUE],
-        XfrFault::Xfrerr { at: 32 },
-        3,
-    ),
-    (
-        "bad padding",
-        &[ORDER_REPLY, MASTER_REPLY, BAD_PADDING],
-        XfrFault::Xfrerr { at: 51 },
-        3,
-    ),
-    (
-        "a long reply",
-        &[ORDER_REPLY, MASTER_REPLY, LONG_REPLY],
-        XfrFault::Xfrerr { at: 76 },
-        3,
-    ),
-    (
-        "an end inside ALL",
-        &[ORDER_REPLY, MASTER_REPLY, INSIDE],
-        XfrFault::Rpc,
-        3,
-    ),
-    (
-        "a status at last",
-        &[ORDER_REPLY, MASTER_REPLY, ALL_REPLY, LAST_YPERR],
-        YPERR,
-        4,
-    ),
-    (
-        "skewed",
-        &[ORDER_REPLY, MASTER_REPLY, ALL_REPLY, SKEWED_REPLY],
-        SKEW,
-        4,
-    ),
+static HOSTILE: [Case; 13] = [
+    Case {
+        name: "no such map",
+        replies: &[NOMAP],
+        came: Err(XfrFault::Nomap),
+        calls: 1,
+        ..FIRST
+    },
+    Case {
+        name: "no such domain",
+        replies: &[NODOM],
+        came: Err(XfrFault::Nodom),
+        calls: 1,
+        ..FIRST
+    },
+    Case {
+        name: "another number",
+        replies: &[OTHER_NUMBER],
+        came: Err(XfrFault::Xfrerr { at: 0 }),
+        calls: 1,
+        ..FIRST
+    },
+    Case {
+        name: "no input",
+        replies: &[],
+        came: Err(XfrFault::Rpc),
+        calls: 1,
+        ..FIRST
+    },
+    Case {
+        name: "no master",
+        replies: &[ORDER_REPLY, NO_MASTER],
+        came: Err(XfrFault::Dbm),
+        calls: 2,
+        ..FIRST
+    },
+    Case {
+        name: "denied",
+        replies: &[ORDER_REPLY, DENIED],
+        came: Err(XfrFault::Yperr { stat: None }),
+        calls: 2,
+        ..FIRST
+    },
+    Case {
+        name: "a secure map",
+        replies: &[ORDER_REPLY, MASTER_REPLY, GUARDED],
+        came: Err(YPERR),
+        calls: 3,
+        ..FIRST
+    },
+    Case {
+        name: "a long value",
+        replies: &[ORDER_REPLY, MASTER_REPLY, LONG_VALUE],
+        came: Err(XfrFault::Xfrerr { at: 32 }),
+        calls: 3,
+        ..FIRST
+    },
+    Case {
+        name: "bad padding",
+        replies: &[ORDER_REPLY, MASTER_REPLY, BAD_PADDING],
+        came: Err(XfrFault::Xfrerr { at: 51 }),
+        calls: 3,
+        ..FIRST
+    },
+    Case {
+        name: "a long reply",
+        replies: &[ORDER_REPLY, MASTER_REPLY, LONG_REPLY],
+        came: Err(XfrFault::Xfrerr { at: 76 }),
+        calls: 3,
+        ..FIRST
+    },
+    Case {
+        name: "an end inside ALL",
+        replies: &[ORDER_REPLY, MASTER_REPLY, INSIDE],
+        came: Err(XfrFault::Rpc),
+        calls: 3,
+        ..FIRST
+    },
+    Case {
+        name: "a status at last",
+        replies: &[ORDER_REPLY, MASTER_REPLY, ALL_REPLY, LAST_YPERR],
+        came: Err(YPERR),
+        calls: 4,
+        ..FIRST
+    },
+    Case {
+        name: "skewed",
+        replies: &[ORDER_REPLY, MASTER_REPLY, ALL_REPLY, SKEWED_REPLY],
+        came: Err(SKEW),
+        calls: 4,
+        ..FIRST
+    },
 ];
-
-fn check_hostile<R: RandomSource + Abort>(rt: &R, alloc: Global, hostile: &Hostile) {
-    let (name, replies, fault, calls) = hostile;
-    assert!(rt; *calls <= CALLS.len());
-    let wanted = (Err(*fault), 1, bytes(rt, alloc, &CALLS[..*calls]));
-    let input = bytes(rt, alloc, *replies);
-    let came = fetch_by(rt, alloc, input, FAIR, None, false);
-    assert_same(rt, &came, &wanted, *name);
-}
 
 #[test]
 fn hostile_sources(rt: HostRuntime) {
-    for hostile in &HOSTILE {
-        check_hostile(&rt, rt.alloc(), hostile);
-    }
-}
-
-// A reply of ALL with so many rows, of distinct keys of four bytes and empty values.
-fn many_rows<R: Abort>(rt: &R, alloc: Global, count: u32) -> Vec<u8> {
-    let len = 28 + 20 * u64::from(count);
-    assert!(rt; len < 0x8000_0000);
-    let mut reply = bytes(rt, alloc, &[ORDER_REPLY, MASTER_REPLY]);
-    push_word(rt, &mut reply, 0x8000_0000 + len as u32);
-    for word in [3, 1, 0, 0, 0, 0] {
-        push_word(rt, &mut reply, word);
-    }
-    for key in 0..count {
-        for word in [1, 1, 0, 4, key] {
-            push_word(rt, &mut reply, word);
-        }
-    }
-    push_word(rt, &mut reply, 0);
-    reply
+    try_cases(&rt, rt.alloc(), &HOSTILE);
 }
 
 fn push_word<R: Abort>(rt: &R, reply: &mut Vec<u8>, word: u32) {
@@ -263,95 +281,132 @@ fn push_word<R: Abort>(rt: &R, reply: &mut Vec<u8>, word: u32) {
         .expect(rt, "a reply");
 }
 
+// The head of a reply of ALL with 262,145 rows of 20 bytes, and the front of a row, with an empty value.
+const MANY_HEAD: &str = "80500030 00000003 00000001 00000000 00000000 00000000 00000000";
+
+const MANY_ROW: [u8; 16] = [0, 0, 0, 1, 0, 0, 0, 1, 0, 0, 0, 0, 0, 0, 0, 4];
+
+// That reply, behind those of ORDER and MASTER. Each row has a key of four bytes of its own.
+fn many_rows<R: Abort>(rt: &R, alloc: Global) -> Vec<u8> {
+    let mut reply = bytes(rt, alloc, &[ORDER_REPLY, MASTER_REPLY, MANY_HEAD]);
+    for key in 0..262_145 {
+        reply.extend_from_slice(&MANY_ROW).expect(rt, "a reply");
+        push_word(rt, &mut reply, key);
+    }
+    push_word(rt, &mut reply, 0);
+    reply
+}
+
+static MANY_ROWS: Case = Case {
+    name: "262,145 rows",
+    came: Err(XfrFault::Dbm),
+    calls: 3,
+    ..FIRST
+};
+
 #[test]
 fn too_many_rows(rt: HostRuntime) {
-    let alloc = rt.alloc();
-    let wanted = (Err(XfrFault::Dbm), 1, bytes(&rt, alloc, &CALLS[..3]));
-    let input = many_rows(&rt, alloc, 262_145);
-    let came = fetch_by(&rt, alloc, input, FAIR, None, false);
-    assert_same(&rt, &came, &wanted, "262,145 rows");
+    try_over(&rt, rt.alloc(), many_rows(&rt, rt.alloc()), &MANY_ROWS);
 }
+
+const ALPHA_TWICE: &str = "80000060 00000003 00000001 00000000 00000000 00000000 00000000 \
+    00000001 00000001 0000000e 31302e30 2e302e31 20616c70 68610000 00000005 616c7068 61000000 \
+    00000001 00000001 00000004 6e6f6e65 00000005 616c7068 61000000 00000000";
+
+static TWICE: [Case; 1] = [Case {
+    name: "alpha twice",
+    replies: &[ORDER_REPLY, MASTER_REPLY, ALPHA_TWICE, SECOND_REPLY],
+    ..FIRST
+}];
 
 #[test]
 fn first_of_a_key_stands(rt: HostRuntime) {
-    let alloc = rt.alloc();
-    let twice = "80000060 00000003 00000001 00000000 00000000 00000000 00000000 \
-        00000001 00000001 0000000e 31302e30 2e302e31 20616c70 68610000 00000005 616c7068 61000000 \
-        00000001 00000001 00000004 6e6f6e65 00000005 616c7068 61000000 00000000";
-    let wanted = (Ok(hosts_version(&rt, alloc)), 1, bytes(&rt, alloc, &CALLS));
-    let input = bytes(
-        &rt,
-        alloc,
-        &[ORDER_REPLY, MASTER_REPLY, twice, SECOND_REPLY],
-    );
-    let came = fetch_by(&rt, alloc, input, FAIR, None, false);
-    assert_same(&rt, &came, &wanted, "alpha twice");
+    try_cases(&rt, rt.alloc(), &TWICE);
 }
 
-// A fetch over a wire that fails at a call: it is Rpc, or the version where it made fewer calls.
-fn failing<R: RandomSource + Abort>(rt: &R, alloc: Global, weather: Weather<'_>) -> bool {
-    let replies = [ORDER_REPLY, MASTER_REPLY, ALL_REPLY, SECOND_REPLY];
-    let input = bytes(rt, alloc, &replies);
-    let all = bytes(rt, alloc, &CALLS);
-    let came = fetch_by(rt, alloc, input, weather, None, false);
-    let begun = all.starts_with(&came.2);
-    assert!(rt; begun, "what was sent begins the calls: {weather:?}");
-    if came.0 == Err(XfrFault::Rpc) {
-        return true;
+static NO_FAILURE: Case = FIRST;
+
+// Whether a fetch fails over a wire that fails at a call: it is Rpc then, and else the version.
+fn fails<R: RandomSource + Abort>(rt: &R, alloc: Global, weather: &Weather<'_>) -> bool {
+    let mut dial = dial(rt, alloc, bytes(rt, alloc, NO_FAILURE.replies), weather);
+    let hosts = table(rt, alloc);
+    let fetched = fetch_over(rt, alloc, &mut dial, &hosts, None, false);
+    let has_failed = seen(&fetched) == Err(XfrFault::Rpc);
+    if has_failed {
+        assert_begun(rt, alloc, &dial);
+    } else {
+        assert_came(rt, alloc, &fetched, &dial, &NO_FAILURE);
     }
-    let wanted = (Ok(hosts_version(rt, alloc)), 1, all);
-    assert_same(rt, &came, &wanted, "no call failed");
-    false
+    has_failed
+}
+
+fn assert_begun<R: Abort>(rt: &R, alloc: Global, dial: &MemDial) {
+    let begun = bytes(rt, alloc, &CALLS).starts_with(&sent(rt, alloc, dial));
+    assert_same(rt, &begun, &true, "what was sent begins the calls");
+}
+
+// A read fails, or a write.
+fn try_read<R: RandomSource + Abort>(rt: &R, alloc: Global, call: u64) {
+    let reads: &[u64] = &[call];
+    let has_failed = fails(rt, alloc, &Weather { reads, ..FAIR });
+    assert_same(rt, &(call, has_failed), &(call, true), "a read");
+}
+
+fn try_write<R: RandomSource + Abort>(rt: &R, alloc: Global, call: u64) {
+    let writes: &[u64] = &[call];
+    let has_failed = fails(rt, alloc, &Weather { writes, ..FAIR });
+    assert_same(rt, &(call, has_failed), &(call, true), "a write");
 }
 
 #[test]
 fn one_failing_call(rt: HostRuntime) {
-    let alloc = rt.alloc();
     // Each reply takes two reads or more, and each call two writes and a flush.
     for call in 0..8 {
-        let reads: &[u64] = &[call];
-        let failed = failing(&rt, alloc, Weather { reads, ..FAIR });
-        assert!(rt; failed, "a read {call}");
+        try_read(&rt, rt.alloc(), call);
     }
     for call in 0..12 {
-        let writes: &[u64] = &[call];
-        let failed = failing(&rt, alloc, Weather { writes, ..FAIR });
-        assert!(rt; failed, "a write {call}");
+        try_write(&rt, rt.alloc(), call);
     }
     let late = Weather {
         reads: &[99],
         writes: &[99],
         ..FAIR
     };
-    let failed = failing(&rt, alloc, late);
-    assert!(rt; !failed, "no call is made so late");
+    let has_failed = fails(&rt, rt.alloc(), &late);
+    assert_same(&rt, &has_failed, &false, "no call is made so late");
 }
+
+static UNKNOWN: Case = Case {
+    name: "an empty table",
+    came: Err(XfrFault::Maddr),
+    wires: 0,
+    calls: 0,
+    ..FIRST
+};
 
 #[test]
 fn no_address(rt: HostRuntime) {
     let alloc = rt.alloc();
-    let mut dial = dial(&rt, alloc, Vec::new(alloc), FAIR);
-    let came = fetch_over(&rt, alloc, &mut dial, &Hosts::new(alloc), None, false);
-    assert_same(
-        &rt,
-        &came,
-        &(Err(XfrFault::Maddr), 0, Vec::new(alloc)),
-        "an empty table",
-    );
+    let mut dial = dial(&rt, alloc, Vec::new(alloc), &FAIR);
+    let hosts = Hosts::new(alloc);
+    let fetched = fetch_over(&rt, alloc, &mut dial, &hosts, None, false);
+    assert_came(&rt, alloc, &fetched, &dial, &UNKNOWN);
 }
+
+static NOT_DIALED: [Case; 1] = [Case {
+    name: "a dial that fails",
+    replies: &[],
+    weather: Weather {
+        dials: &[0],
+        ..FAIR
+    },
+    came: Err(XfrFault::Rpc),
+    wires: 0,
+    calls: 0,
+    ..FIRST
+}];
 
 #[test]
 fn not_dialed(rt: HostRuntime) {
-    let alloc = rt.alloc();
-    let weather = Weather {
-        dials: &[0],
-        ..FAIR
-    };
-    let came = fetch_by(&rt, alloc, Vec::new(alloc), weather, None, false);
-    assert_same(
-        &rt,
-        &came,
-        &(Err(XfrFault::Rpc), 0, Vec::new(alloc)),
-        "a dial that fails",
-    );
+    try_cases(&rt, rt.alloc(), &NOT_DIALED);
 }

@@ -4,7 +4,7 @@ use std::alloc::Global;
 use std::fmt::Debug;
 use std::process::Abort;
 use yp_io::{MemDial, MemSink, MemSource, Pair, Peer};
-use yp_xfr::Hosts;
+use yp_transfer::Hosts;
 
 /// The bytes of texts of hexadecimal words, as `8000004c 00000001`.
 pub fn bytes<R: Abort>(rt: &R, alloc: Global, texts: &[&str]) -> Vec<u8> {
@@ -31,12 +31,12 @@ pub fn table<R: Abort>(rt: &R, alloc: Global) -> Hosts {
 }
 
 /// The numbers of calls that fail.
-pub fn list<R: Abort>(rt: &R, alloc: Global, calls: &[u64]) -> Vec<u64> {
+fn list<R: Abort>(rt: &R, alloc: Global, calls: &[u64]) -> Vec<u64> {
     Vec::from_slice(alloc, calls).expect(rt, "a list")
 }
 
 /// The calls that fail, counted from 0: of the dial, and of the source and the sink of its wire.
-#[derive(Clone, Copy, Debug)]
+#[derive(Clone, Copy)]
 pub struct Weather<'a> {
     pub dials: &'a [u64],
     pub reads: &'a [u64],
@@ -51,7 +51,7 @@ pub const FAIR: Weather<'static> = Weather {
 };
 
 /// A dial of one wire with this input, which is read in pieces of up to 64 bytes.
-pub fn dial<R: Abort>(rt: &R, alloc: Global, input: Vec<u8>, weather: Weather<'_>) -> MemDial {
+pub fn dial<R: Abort>(rt: &R, alloc: Global, input: Vec<u8>, weather: &Weather<'_>) -> MemDial {
     let reads = list(rt, alloc, weather.reads);
     let writes = list(rt, alloc, weather.writes);
     let dials = list(rt, alloc, weather.dials);

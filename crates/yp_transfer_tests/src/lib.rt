@@ -1,4 +1,4 @@
-//! Tests of `yp_xfr`, `yp_enum` and `yp_source`: maps that are fetched.
+//! Tests of `yp_transfer`, `yp_transfer::walk` and `yp_end_to_end::transfer`: maps that are fetched.
 #![tactic(auto)]
 
 #[cfg(test)]

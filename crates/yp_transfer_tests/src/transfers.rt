@@ -2,7 +2,7 @@
 
 ghost use Rattle.std.specs.Prelude.{◌≡◌, ◌≤◌};
 
-use crate::calls_back::letters;
+use crate::calls_back::assert_letter;
 use crate::given::{
     ALL_REPLY, FAIR, MASTER_REPLY, ORDER_REPLY, SECOND_REPLY, SKEWED_REPLY, assert_same, bytes,
     dial, table,
@@ -12,8 +12,8 @@ use std::process::Abort;
 use std::random::RandomSource;
 use yp_board::{Catalog, MapName, PlainBoard};
 use yp_io::{MemDial, MemDisk, Peer};
-use yp_publish::{Installed, Publisher, open_publisher};
-use yp_xfr::{Asker, Hosts, XfrFault, transfer, transfer_for};
+use yp_publisher::{Installed, Publisher, open_publisher};
+use yp_transfer::{Asker, Hosts, XfrFault, transfer, transfer_for};
 
 // The cells of a file of one version, at generation 1, and the second one of a file of two: the body behind the first.
 const CELLS: &str = "01000000 00000000 00000000 00000001 00000000 00000040 00000000 00000034
@@ -43,7 +43,9 @@ fn owned(rt: &impl Abort, alloc: Global, bytes: &[u8]) -> Vec<u8> {
 // The catalogue of a host that has `hosts.byname` of `lab`.
 fn catalog(rt: &impl Abort, alloc: Global, own: &[u8]) -> Catalog {
     let (domain, map) = (owned(rt, alloc, b"lab"), owned(rt, alloc, b"hosts.byname"));
-    let maps = vec![in alloc; MapName { domain, map }].expect(rt, "memory for a name");
+    let mut maps = Vec::new(alloc);
+    maps.push(MapName { domain, map })
+        .expect(rt, "memory for a name");
     Catalog::new(alloc, owned(rt, alloc, own), maps).expect(rt, "a catalogue")
 }
 
@@ -63,15 +65,17 @@ fn published<R: RandomSource + Abort>(
     failing: &[u64],
 ) -> Maps {
     let failing = failing.to_vec(alloc).expect(rt, "memory for numbers");
-    let disk = MemDisk::new(alloc, bytes(rt, alloc, file), None, failing);
-    let disks = vec![in alloc; disk].expect(rt, "memory for a disk");
+    let mut disks = Vec::new(alloc);
+    disks
+        .push(MemDisk::new(alloc, bytes(rt, alloc, file), None, failing))
+        .expect(rt, "memory for a disk");
     let catalog = catalog(rt, alloc, own);
     assert_equal(rt, disks.len(), catalog.len() as usize);
     open_publisher(alloc, rt, catalog, disks).expect(rt, "a publisher")
 }
 
-/// What came of a transfer: its result, whether what is shown then is secure, and the bytes of its file.
-type Came = (Result<(u32, u64), XfrFault>, Option<bool>, Vec<u8>);
+/// What came of a transfer: its result, and whether what is shown then is secure.
+type Came = (Result<(u32, u64), XfrFault>, Option<bool>);
 
 // Transfers the map from `m1`.
 fn transfer_over<R: RandomSource + Abort>(
@@ -82,55 +86,71 @@ fn transfer_over<R: RandomSource + Abort>(
     hosts: &Hosts,
     force: bool,
     mark: Option<bool>,
-) -> (Result<(u32, u64), XfrFault>, Option<bool>) {
+) -> Came {
     assert!(rt; 0 < maps.catalog().len());
     let came = match transfer(alloc, rt, maps, dial, hosts, 0, b"m1", force, mark) {
         Ok(Installed { order, generation }) => Ok((order, generation)),
         Err(fault) => Err(fault),
     };
-    (came, maps.shown(0).map(|version| version.secure()))
+    let secure = match maps.shown(0) {
+        Some(version) => Some(version.secure()),
+        None => None,
+    };
+    (came, secure)
 }
 
-// The file of the one disk.
-fn file_of<R: Abort>(rt: &R, alloc: Global, maps: Maps) -> Vec<u8> {
+// Ends the test where the file of the one disk isn't this one.
+fn assert_left<R: Abort>(rt: &R, alloc: Global, maps: Maps, file: &[&str], row: &str) {
+    let file = bytes(rt, alloc, file);
     let (disks, _board) = maps.into_parts();
-    assert!(rt; disks.len() == 1);
-    disks[0].bytes().to_vec(alloc).expect(rt, "a file")
+    let left = match disks.as_slice() {
+        [disk] => Some(disk.bytes()),
+        _ => None,
+    };
+    assert_same(rt, &left, &Some(file.as_slice()), row);
 }
 
-/// A transfer: the own name, the file, the replies behind ORDER, MASTER and ALL, whether it is forced, and its mark.
+/// A transfer: the own name, the file, the reply behind ORDER, MASTER and ALL, whether it is forced, and its mark. What
+/// comes of it: its result; whether what is shown then is secure, and none where nothing is; and its file.
 #[derive(Clone, Copy)]
 struct Case {
+    name: &'static str,
     own: &'static [u8],
     file: &'static [&'static str],
     last: &'static str,
     force: bool,
     mark: Option<bool>,
-    failing: &'static [u64],
+    result: Result<(u32, u64), XfrFault>,
+    secure: Option<bool>,
+    left: &'static [&'static str],
 }
 
 const FIRST: Case = Case {
+    name: "an empty file",
     own: b"s1",
     file: &[],
     last: SECOND_REPLY,
     force: false,
     mark: None,
-    failing: &[],
+    result: Ok((100, 1)),
+    secure: Some(false),
+    left: HOSTS_FILE,
 };
 
-fn play<R: RandomSource + Abort>(rt: &R, alloc: Global, case: &Case) -> Came {
-    let input = bytes(
-        rt,
-        alloc,
-        &[ORDER_REPLY, MASTER_REPLY, ALL_REPLY, case.last],
-    );
-    let mut dial = dial(rt, alloc, input, FAIR);
+// What the source sends, with this last reply.
+fn replies<R: Abort>(rt: &R, alloc: Global, last: &str) -> Vec<u8> {
+    bytes(rt, alloc, &[ORDER_REPLY, MASTER_REPLY, ALL_REPLY, last])
+}
+
+fn try_case<R: RandomSource + Abort>(rt: &R, alloc: Global, case: &Case) {
+    let mut dial = dial(rt, alloc, replies(rt, alloc, case.last), &FAIR);
     let hosts = table(rt, alloc);
-    let mut maps = published(rt, alloc, case.own, case.file, case.failing);
-    let (came, secure) = transfer_over(
+    let mut maps = published(rt, alloc, case.own, case.file, &[]);
+    let came = transfer_over(
         rt, alloc, &mut maps, &mut dial, &hosts, case.force, case.mark,
     );
-    (came, secure, file_of(rt, alloc, maps))
+    assert_same(rt, &came, &(case.result, case.secure), case.name);
+    assert_left(rt, alloc, maps, case.left, case.name);
 }
 
 const SKEW: XfrFault = XfrFault::Skew {
@@ -144,140 +164,85 @@ const AGE: XfrFault = XfrFault::Age {
 };
 
 const FORCED: Case = Case {
+    name: "forced",
     file: HOSTS_FILE,
     force: true,
+    result: Ok((100, 2)),
+    left: &[TWO_CELLS, BODY, BODY],
     ..FIRST
 };
 
 const OVER_SECURE: Case = Case {
+    name: "a secure one is shown",
     file: SECURE_FILE,
-    force: true,
-    ..FIRST
+    secure: Some(true),
+    left: &[TWO_CELLS, SECURE_BODY, SECURE_BODY],
+    ..FORCED
 };
 
-/// A transfer; its result; whether what is shown then is secure, and none where nothing is; and its file.
-type Transferred = (
-    &'static str,
-    Case,
-    Result<(u32, u64), XfrFault>,
-    Option<bool>,
-    &'static [&'static str],
-);
-
-const TRANSFERS: [Transferred; 8] = [
-    (
-        "an empty file",
-        FIRST,
-        Ok((100, 1)),
-        Some(false),
-        HOSTS_FILE,
-    ),
-    (
-        "marked",
-        Case {
-            mark: Some(true),
-            ..FIRST
-        },
-        Ok((100, 1)),
-        Some(true),
-        SECURE_FILE,
-    ),
-    (
-        "skewed",
-        Case {
-            last: SKEWED_REPLY,
-            ..FIRST
-        },
-        Err(SKEW),
-        None,
-        &[],
-    ),
-    (
-        "the same order",
-        Case {
-            file: HOSTS_FILE,
-            ..FIRST
-        },
-        Err(AGE),
-        Some(false),
-        HOSTS_FILE,
-    ),
-    (
-        "forced",
-        FORCED,
-        Ok((100, 2)),
-        Some(false),
-        &[TWO_CELLS, BODY, BODY],
-    ),
-    (
-        "a secure one is shown",
-        OVER_SECURE,
-        Ok((100, 2)),
-        Some(true),
-        &[TWO_CELLS, SECURE_BODY, SECURE_BODY],
-    ),
-    (
-        "plain",
-        Case {
-            mark: Some(false),
-            ..OVER_SECURE
-        },
-        Ok((100, 2)),
-        Some(false),
-        &[TWO_CELLS, SECURE_BODY, BODY],
-    ),
-    (
-        "an own map",
-        Case {
-            own: b"m1",
-            ..FORCED
-        },
-        Err(XfrFault::Refused),
-        Some(false),
-        HOSTS_FILE,
-    ),
+static TRANSFERS: [Case; 8] = [
+    FIRST,
+    Case {
+        name: "marked",
+        mark: Some(true),
+        secure: Some(true),
+        left: SECURE_FILE,
+        ..FIRST
+    },
+    Case {
+        name: "skewed",
+        last: SKEWED_REPLY,
+        result: Err(SKEW),
+        secure: None,
+        left: &[],
+        ..FIRST
+    },
+    Case {
+        name: "the same order",
+        file: HOSTS_FILE,
+        result: Err(AGE),
+        ..FIRST
+    },
+    FORCED,
+    OVER_SECURE,
+    Case {
+        name: "plain",
+        mark: Some(false),
+        secure: Some(false),
+        left: &[TWO_CELLS, SECURE_BODY, BODY],
+        ..OVER_SECURE
+    },
+    Case {
+        name: "an own map",
+        own: b"m1",
+        result: Err(XfrFault::Refused),
+        left: HOSTS_FILE,
+        ..FORCED
+    },
 ];
 
 #[test]
 fn transfers(rt: HostRuntime) {
-    let alloc = rt.alloc();
-    for (name, case, result, secure, file) in &TRANSFERS {
-        let left = bytes(&rt, alloc, *file);
-        let came = play(&rt, alloc, case);
-        assert_same(&rt, &came, &(*result, *secure, left), *name);
+    for case in &TRANSFERS {
+        try_case(&rt, rt.alloc(), case);
     }
+}
+
+// The transfer into an empty file, where a call of the disk fails.
+fn try_failing<R: RandomSource + Abort>(rt: &R, alloc: Global, call: u64) {
+    let mut dial = dial(rt, alloc, replies(rt, alloc, SECOND_REPLY), &FAIR);
+    let hosts = table(rt, alloc);
+    let mut maps = published(rt, alloc, b"s1", &[], &[call]);
+    let came = transfer_over(rt, alloc, &mut maps, &mut dial, &hosts, false, None);
+    assert_same(rt, &came, &(Err(XfrFault::File), None), "a disk that fails");
 }
 
 #[test]
 fn failing_disk(rt: HostRuntime) {
-    let alloc = rt.alloc();
     // The first two calls load the empty file; the install makes nine.
     for call in 2..11 {
-        let at: &[u64] = &[call];
-        let came = play_failing(&rt, alloc, at);
-        assert_same(
-            &rt,
-            &came,
-            &(Err(XfrFault::File), None),
-            "a disk that fails",
-        );
+        try_failing(&rt, rt.alloc(), call);
     }
-}
-
-fn play_failing<R: RandomSource + Abort>(
-    rt: &R,
-    alloc: Global,
-    failing: &[u64],
-) -> (Result<(u32, u64), XfrFault>, Option<bool>) {
-    let input = bytes(
-        rt,
-        alloc,
-        &[ORDER_REPLY, MASTER_REPLY, ALL_REPLY, SECOND_REPLY],
-    );
-    let mut dial = dial(rt, alloc, input, FAIR);
-    let hosts = table(rt, alloc);
-    let mut maps = published(rt, alloc, b"s1", &[], failing);
-    transfer_over(rt, alloc, &mut maps, &mut dial, &hosts, false, None)
 }
 
 const ASKER: Asker = Asker {
@@ -299,10 +264,17 @@ const TOLD_SUCC: &str = "00000009 00000000 00000002 40000000 00000001 00000001
 const TOLD_SKEW: &str = "00000009 00000000 00000002 40000000 00000001 00000001
     00000000 00000000 00000000 00000000 00000009 fffffff6";
 
-/// A caller, the reply to the second ORDER, and the letter that it gets, if it does.
-const CALLERS: [(&str, Asker, &str, Option<&str>); 5] = [
-    ("stored", ASKER, SECOND_REPLY, Some(TOLD_SUCC)),
-    ("skewed", ASKER, SKEWED_REPLY, Some(TOLD_SKEW)),
+/// A caller, the reply to the second ORDER, and where the letter goes that it gets, if it does, and its words.
+type Caller = (
+    &'static str,
+    Asker,
+    &'static str,
+    Option<(Peer, &'static str)>,
+);
+
+static CALLERS: [Caller; 5] = [
+    ("stored", ASKER, SECOND_REPLY, Some((PORT_834, TOLD_SUCC))),
+    ("skewed", ASKER, SKEWED_REPLY, Some((PORT_834, TOLD_SKEW))),
     ("no program", Asker { prog: 0, ..ASKER }, SECOND_REPLY, None),
     ("port 0", Asker { port: 0, ..ASKER }, SECOND_REPLY, None),
     (
@@ -316,38 +288,19 @@ const CALLERS: [(&str, Asker, &str, Option<&str>); 5] = [
     ),
 ];
 
-// The letters behind a transfer for a caller.
-fn told<R: RandomSource + Abort>(
-    rt: &R,
-    alloc: Global,
-    asker: Asker,
-    last: &str,
-) -> Vec<(Peer, Vec<u8>)> {
-    let input = bytes(rt, alloc, &[ORDER_REPLY, MASTER_REPLY, ALL_REPLY, last]);
-    let mut dial = dial(rt, alloc, input, FAIR);
+fn try_caller<R: RandomSource + Abort>(rt: &R, alloc: Global, caller: &Caller) {
+    let (name, asker, last, letter) = caller;
+    let mut dial = dial(rt, alloc, replies(rt, alloc, *last), &FAIR);
     let hosts = table(rt, alloc);
     let mut maps = published(rt, alloc, b"s1", &[], &[]);
     assert!(rt; 0 < maps.catalog().len());
-    transfer_for(alloc, rt, &mut maps, &mut dial, &hosts, 0, b"m1", asker);
-    letters(rt, alloc, &dial)
-}
-
-// What a caller gets.
-fn wanted<R: Abort>(rt: &R, alloc: Global, letter: Option<&str>) -> Vec<(Peer, Vec<u8>)> {
-    let mut wanted = Vec::new(alloc);
-    if let Some(words) = letter {
-        let letter = bytes(rt, alloc, &[words]);
-        wanted.push((PORT_834, letter)).expect(rt, "a letter");
-    }
-    wanted
+    transfer_for(alloc, rt, &mut maps, &mut dial, &hosts, 0, b"m1", *asker);
+    assert_letter(rt, alloc, &dial, letter, *name);
 }
 
 #[test]
 fn callers(rt: HostRuntime) {
-    let alloc = rt.alloc();
-    for (name, asker, last, letter) in &CALLERS {
-        let wanted = wanted(&rt, alloc, *letter);
-        let came = told(&rt, alloc, *asker, *last);
-        assert_same(&rt, &came, &wanted, *name);
+    for caller in &CALLERS {
+        try_caller(&rt, rt.alloc(), caller);
     }
 }

@@ -2,17 +2,17 @@
 //! are written out by hand, from RFC 5531 and yp.x.
 
 ghost use Rattle.std.specs.Prelude.{◌≡◌, Ok};
-ghost use Rattle.yp_enum.specs.Standings.{IsAsking};
-ghost use Rattle.yp_enum.specs.Walks.{IsDone};
+ghost use Rattle.yp_transfer.specs.walk.Standings.{IsAsking};
+ghost use Rattle.yp_transfer.specs.inside.walk.Walks.{WalkGoesOn, WalkIsDone};
 
 use crate::given::{assert_same, bytes};
 use std::alloc::Global;
 use std::process::Abort;
 use std::random::RandomSource;
-use yp_enum::{Walk, Walked};
 use yp_io::Peer;
-use yp_msgs::YpStat;
-use yp_xfr::XfrFault;
+use yp_messages::YpStat;
+use yp_transfer::XfrFault;
+use yp_transfer::walk::{Walk, Walked};
 
 const SOURCE: Peer = Peer {
     addr: [127, 0, 0, 1],
@@ -31,7 +31,7 @@ const OTHER_HOST: Peer = Peer {
 };
 
 /// A mail: its sender, and its words.
-type Mail = (Peer, [&'static str; 3]);
+type Mail<'a> = (Peer, [&'a str; 3]);
 
 // The front of a reply that is SUCCESS, behind its number.
 const SUCCESS: &str = "00000001 00000000 00000000 00000000 00000000";
@@ -51,29 +51,21 @@ const NOMORE: &str = "00000002 00000000 00000000";
 const NOKEY: &str = "fffffffd 00000000 00000000";
 
 // The replies of a source with the one row `alpha`.
-const REPLY_1: Mail = (SOURCE, ["00000001", SUCCESS, ORDER_100]);
+const REPLY_1: Mail<'static> = (SOURCE, ["00000001", SUCCESS, ORDER_100]);
 
-const REPLY_2: Mail = (SOURCE, ["00000002", SUCCESS, MASTER_M1]);
+const REPLY_2: Mail<'static> = (SOURCE, ["00000002", SUCCESS, MASTER_M1]);
 
-const REPLY_3: Mail = (SOURCE, ["00000003", SUCCESS, ALPHA]);
+const REPLY_3: Mail<'static> = (SOURCE, ["00000003", SUCCESS, ALPHA]);
 
-const REPLY_4: Mail = (SOURCE, ["00000004", SUCCESS, NOMORE]);
+const REPLY_4: Mail<'static> = (SOURCE, ["00000004", SUCCESS, NOMORE]);
 
-const REPLY_5: Mail = (SOURCE, ["00000005", SUCCESS, ORDER_100]);
+const REPLY_5: Mail<'static> = (SOURCE, ["00000005", SUCCESS, ORDER_100]);
 
 // The body of that version, of order 100 and the master `m1`.
 const BODY: &str = "00000001 00000064 00000002 6d310000 00000001 00000005 616c7068 61000000 \
     0000000e 31302e30 2e302e31 20616c70 68610000";
 
-// What came of a walk: how many mails were ignored and how many led on, how it ended, and the call that is then
-// outstanding.
-#[derive(Debug, PartialEq, Drop)]
-struct Came {
-    ignored: usize,
-    onward: usize,
-    end: End,
-}
-
+// How a walk ended, and the call that is then outstanding.
 #[derive(Debug, PartialEq, Drop)]
 enum End {
     /// It still asks, by a call of so many bytes.
@@ -83,25 +75,46 @@ enum End {
     Refuses(XfrFault),
 }
 
-// The mails that a walk has heard, up to its end, if there was one.
-#[derive(Clone, Copy, Debug)]
+// How many mails a walk ignored, how many led on, and its end, if there was one.
+#[derive(Clone, Copy)]
 struct Heard {
     ignored: usize,
     onward: usize,
     end: Option<Result<(), XfrFault>>,
 }
 
-fn hear_all<R: RandomSource>(rt: &R, walk: &mut Walk, mails: &[(Peer, Vec<u8>)]) -> Heard
+// What a mail is to a walk.
+fn hear<R: RandomSource + Abort>(
+    rt: &R,
+    alloc: Global,
+    walk: &mut Walk,
+    mail: &Mail<'_>,
+) -> Result<Walked, XfrFault>
     requires { IsAsking walk.old.standing }
-    ensures done { result.end ≡ Some (Ok tt) → IsDone walk.new.standing }
+    ensures { WalkGoesOn result walk.new.standing }
+{
+    let (from, words) = *mail;
+    let mail = bytes(rt, alloc, &words);
+    walk.on_mail(rt, from, &mail)
+}
+
+fn hear_all<R: RandomSource + Abort>(
+    rt: &R,
+    alloc: Global,
+    walk: &mut Walk,
+    mails: &[Mail<'_>],
+) -> Heard
+    requires { IsAsking walk.old.standing }
+    ensures done { result.end ≡ Some (Ok tt) → WalkIsDone walk.new.standing }
+    ensures none { result.end ≡ None → IsAsking walk.new.standing }
 {
     let mut heard = Heard {
         ignored: 0,
         onward: 0,
         end: None,
     };
-    for (from, mail) in mails {
-        match walk.on_mail(rt, *from, mail) {
+    for mail in mails {
+        match hear(rt, alloc, walk, mail) {
             Ok(Walked::Ignored) => heard.ignored = heard.ignored.saturating_add(1),
             Ok(Walked::Onward) => heard.onward = heard.onward.saturating_add(1),
             Ok(Walked::Done) => {
@@ -119,7 +132,7 @@ fn hear_all<R: RandomSource>(rt: &R, walk: &mut Walk, mails: &[(Peer, Vec<u8>)])
 
 // The body of the version of a walk that is done.
 fn body_of<R: Abort>(rt: &R, alloc: Global, walk: Walk) -> End
-    requires { IsDone walk.standing }
+    requires { WalkIsDone walk.standing }
 {
     match walk.finish() {
         Ok(version) => End::Gives(version.body().to_vec(alloc).expect(rt, "a body")),
@@ -127,30 +140,29 @@ fn body_of<R: Abort>(rt: &R, alloc: Global, walk: Walk) -> End
     }
 }
 
-// What comes of these mails to a walk.
+// How many of these mails a walk ignores, how many lead on, and its end.
 fn come_of<R: RandomSource + Abort>(
     rt: &R,
     alloc: Global,
     walk: Walk,
-    mails: &[(Peer, Vec<u8>)],
-) -> Came
+    mails: &[Mail<'_>],
+) -> (usize, usize, End)
     requires { IsAsking walk.standing }
 {
     let mut walk = walk;
-    let heard = hear_all(rt, &mut walk, mails);
+    let heard = hear_all(rt, alloc, &mut walk, mails);
     let end = match heard.end {
-        None => {
-            let mut buf = [0; 8_192];
-            End::Asks(walk.ask(&mut buf))
-        }
+        None => asks(&walk),
         Some(Ok(())) => body_of(rt, alloc, walk),
         Some(Err(fault)) => End::Refuses(fault),
     };
-    Came {
-        ignored: heard.ignored,
-        onward: heard.onward,
-        end,
-    }
+    (heard.ignored, heard.onward, end)
+}
+
+// The call by which a walk asks.
+fn asks(walk: &Walk) -> End {
+    let mut buf = [0; 8_192];
+    End::Asks(walk.ask(&mut buf))
 }
 
 // A walk over `hosts.byname` of `lab`.
@@ -160,17 +172,8 @@ fn hosts_walk<R: Abort>(rt: &R, alloc: Global, shown: Option<u32>, force: bool) 
     Walk::new(alloc, SOURCE, b"lab", b"hosts.byname", shown, force).expect(rt, "a walk")
 }
 
-fn mails_of<R: Abort>(rt: &R, alloc: Global, mails: &[Mail]) -> Vec<(Peer, Vec<u8>)> {
-    let mut list = Vec::new(alloc);
-    for (from, words) in mails {
-        let mail = bytes(rt, alloc, words);
-        list.push((*from, mail)).expect(rt, "a list");
-    }
-    list
-}
-
 // How a walk should end: asking, with a body of these words, or refused.
-#[derive(Clone, Copy, Debug)]
+#[derive(Clone, Copy)]
 enum Wanted {
     Asks(usize),
     Gives(&'static str),
@@ -188,23 +191,22 @@ fn end_of<R: Abort>(rt: &R, alloc: Global, wanted: Wanted) -> End {
 // The mails to a walk where nothing is shown, how many of them are ignored and lead on, and the end.
 struct Row {
     name: &'static str,
-    mails: &'static [Mail],
+    mails: &'static [Mail<'static>],
     ignored: usize,
     onward: usize,
     end: Wanted,
 }
 
+fn check_row<R: RandomSource + Abort>(rt: &R, alloc: Global, row: &Row) {
+    let wanted = (row.ignored, row.onward, end_of(rt, alloc, row.end));
+    let walk = hosts_walk(rt, alloc, None, false);
+    let came = come_of(rt, alloc, walk, row.mails);
+    assert_same(rt, &came, &wanted, row.name);
+}
+
 fn check_rows<R: RandomSource + Abort>(rt: &R, alloc: Global, rows: &[Row]) {
     for row in rows {
-        let mails = mails_of(rt, alloc, row.mails);
-        let wanted = Came {
-            ignored: row.ignored,
-            onward: row.onward,
-            end: end_of(rt, alloc, row.end),
-        };
-        let walk = hosts_walk(rt, alloc, None, false);
-        let came = come_of(rt, alloc, walk, &mails);
-        assert_same(rt, &came, &wanted, row.name);
+        check_row(rt, alloc, row);
     }
 }
 
@@ -216,7 +218,7 @@ const SKEW: XfrFault = XfrFault::Skew {
 const ORDER_101: &str = "00000001 00000065";
 
 // A whole walk.
-const WALKED: [Row; 3] = [
+static WALKED: [Row; 3] = [
     Row {
         name: "a map of one row",
         mails: &[
@@ -256,7 +258,7 @@ fn walked(rt: HostRuntime) {
 }
 
 // What the network does.
-const SCHEDULES: [Row; 7] = [
+static SCHEDULES: [Row; 7] = [
     Row {
         name: "each reply twice",
         mails: &[
@@ -354,7 +356,7 @@ fn any_schedule(rt: HostRuntime) {
 }
 
 // Rows that a map doesn't have at the end: the order decides what that means.
-const LOST_ROWS: [Row; 5] = [
+static LOST_ROWS: [Row; 5] = [
     Row {
         name: "a row twice, and the same order",
         mails: &[
@@ -427,7 +429,7 @@ fn lost_rows(rt: HostRuntime) {
 }
 
 // Other refusals, each by the mail that it comes with.
-const REFUSED: [Row; 8] = [
+static REFUSED: [Row; 8] = [
     Row {
         name: "no such map",
         mails: &[(SOURCE, ["00000001", SUCCESS, "ffffffff 00000000"])],
@@ -513,30 +515,33 @@ fn refused(rt: HostRuntime) {
     check_rows(&rt, rt.alloc(), &REFUSED);
 }
 
+const OLDER: XfrFault = XfrFault::Age {
+    shown: 100,
+    offered: 100,
+};
+
+// What is shown, whether the walk is forced, and its end behind the first reply.
+type Shown = (&'static str, u32, bool, Wanted);
+
+static SHOWN: [Shown; 4] = [
+    ("an older one is shown", 99, false, Wanted::Asks(64)),
+    ("the same is shown", 100, false, Wanted::Refuses(OLDER)),
+    ("the same, forced", 100, true, Wanted::Asks(64)),
+    ("a newer one, forced", 101, true, Wanted::Asks(64)),
+];
+
+fn check_shown<R: RandomSource + Abort>(rt: &R, alloc: Global, row: &Shown) {
+    let (name, shown, force, end) = *row;
+    let wanted = end_of(rt, alloc, end);
+    let walk = hosts_walk(rt, alloc, Some(shown), force);
+    let (_, _, came) = come_of(rt, alloc, walk, &[REPLY_1]);
+    assert_same(rt, &came, &wanted, name);
+}
+
 #[test]
 fn age_and_force(rt: HostRuntime) {
-    let alloc = rt.alloc();
-    let older = XfrFault::Age {
-        shown: 100,
-        offered: 100,
-    };
-    let cases = [
-        ("an older one is shown", Some(99), false, Wanted::Asks(64)),
-        (
-            "the same is shown",
-            Some(100),
-            false,
-            Wanted::Refuses(older),
-        ),
-        ("the same, forced", Some(100), true, Wanted::Asks(64)),
-        ("a newer one, forced", Some(101), true, Wanted::Asks(64)),
-    ];
-    for (name, shown, force, end) in &cases {
-        let mails = mails_of(&rt, alloc, &[REPLY_1]);
-        let walk = hosts_walk(&rt, alloc, *shown, *force);
-        let came = come_of(&rt, alloc, walk, &mails);
-        let wanted = end_of(&rt, alloc, *end);
-        assert_same(&rt, &came.end, &wanted, *name);
+    for row in &SHOWN {
+        check_shown(&rt, rt.alloc(), row);
     }
 }
 
@@ -546,7 +551,7 @@ const FRONT: &str = "00000000 00000002 000186a4 00000002";
 const BEHIND: &str =
     "00000000 00000000 00000000 00000000 00000003 6c616200 0000000c 686f7374 732e6279 6e616d65";
 
-const CALLS: [(&[Mail], [&str; 5]); 5] = [
+static CALLS: [(&[Mail<'static>], [&str; 5]); 5] = [
     (&[], ["00000001", FRONT, "0000000a", BEHIND, ""]),
     (&[REPLY_1], ["00000002", FRONT, "00000009", BEHIND, ""]),
     (
@@ -569,66 +574,58 @@ const CALLS: [(&[Mail], [&str; 5]); 5] = [
     ),
 ];
 
-// Whether a walk asks by these bytes, behind these mails.
-fn asks<R: RandomSource>(rt: &R, walk: Walk, mails: &[(Peer, Vec<u8>)], call: &[u8]) -> bool
-    requires { IsAsking walk.standing }
-{
-    let mut walk = walk;
-    let _heard = hear_all(rt, &mut walk, mails);
+// Ends the test where a walk doesn't ask by these words, behind these mails.
+fn check_call<R: RandomSource + Abort>(
+    rt: &R,
+    alloc: Global,
+    mails: &[Mail<'_>],
+    words: &[&str; 5],
+) {
+    let call = bytes(rt, alloc, words);
+    let mut walk = hosts_walk(rt, alloc, None, false);
+    let _heard = hear_all(rt, alloc, &mut walk, mails);
     let mut buf = [0; 8_192];
     let len = walk.ask(&mut buf);
-    buf.get(..len) == Some(call)
+    assert_same(rt, &buf.get(..len), &Some(call.as_slice()), words[0]);
 }
 
 #[test]
 fn calls_asked(rt: HostRuntime) {
-    let alloc = rt.alloc();
     for (mails, words) in &CALLS {
-        let mails = mails_of(&rt, alloc, *mails);
-        let call = bytes(&rt, alloc, words);
-        let walk = hosts_walk(&rt, alloc, None, false);
-        let is = asks(&rt, walk, &mails, &call);
-        assert_same(&rt, &is, &true, words[0]);
+        check_call(&rt, rt.alloc(), *mails, words);
     }
 }
 
-// A row with a key of so many bytes, multiples of four, and no value.
-fn long_row<R: Abort>(rt: &R, alloc: Global, len: u32) -> (Peer, Vec<u8>) {
-    let mut mail = bytes(rt, alloc, &["00000003", SUCCESS, "00000001 00000000"]);
-    mail.extend_from_slice(&len.to_be_bytes())
-        .expect(rt, "a length");
-    let key = vec![in alloc; 0; len as usize].expect(rt, "a key");
-    mail.extend_from_slice(&key).expect(rt, "a mail");
-    (SOURCE, mail)
+// The words of a row with a key of so many bytes, multiples of four, and no value.
+fn long_row<R: Abort>(rt: &R, alloc: Global, len: u32) -> String {
+    let key = "00".repeat(alloc, len as usize).expect(rt, "a key");
+    format!(in alloc; "00000001 00000000 {len:08x} {key}").expect(rt, "a row")
+}
+
+fn check_long<R: RandomSource + Abort>(rt: &R, alloc: Global, len: u32, end: Wanted) {
+    let row = long_row(rt, alloc, len);
+    let wanted = end_of(rt, alloc, end);
+    let walk = hosts_walk(rt, alloc, None, false);
+    let mails = [REPLY_1, REPLY_2, (SOURCE, ["00000003", SUCCESS, &row])];
+    let (_, _, came) = come_of(rt, alloc, walk, &mails);
+    assert_same(rt, &came, &wanted, "a long key");
 }
 
 #[test]
 fn longest_key(rt: HostRuntime) {
-    let alloc = rt.alloc();
-    let cases = [
-        (8_124, Wanted::Asks(8_192)),
-        (8_128, Wanted::Refuses(XfrFault::Dbm)),
-    ];
-    for (len, end) in &cases {
-        let mut mails = mails_of(&rt, alloc, &[REPLY_1, REPLY_2]);
-        let row = long_row(&rt, alloc, *len);
-        mails.push(row).expect(&rt, "a list");
-        let walk = hosts_walk(&rt, alloc, None, false);
-        let came = come_of(&rt, alloc, walk, &mails);
-        let wanted = end_of(&rt, alloc, *end);
-        assert_same(&rt, &came.end, &wanted, "a long key");
-    }
+    check_long(&rt, rt.alloc(), 8_124, Wanted::Asks(8_192));
+    check_long(&rt, rt.alloc(), 8_128, Wanted::Refuses(XfrFault::Dbm));
+}
+
+fn check_empty<R: Abort>(rt: &R, alloc: Global, domain: &[u8], map: &[u8]) {
+    assert!(rt; domain.len() <= 64);
+    assert!(rt; map.len() <= 64);
+    let fault = Walk::new(alloc, SOURCE, domain, map, None, false).err();
+    assert_same(rt, &fault, &Some(XfrFault::Badargs), "an empty name");
 }
 
 #[test]
 fn empty_names(rt: HostRuntime) {
-    let alloc = rt.alloc();
-    let cases: [(&[u8], &[u8]); 2] = [(b"", b"hosts.byname"), (b"lab", b"")];
-    for (domain, map) in &cases {
-        let fault = match Walk::new(alloc, SOURCE, *domain, *map, None, false) {
-            Ok(_) => None,
-            Err(fault) => Some(fault),
-        };
-        assert_same(&rt, &fault, &Some(XfrFault::Badargs), "an empty name");
-    }
+    check_empty(&rt, rt.alloc(), b"", b"hosts.byname");
+    check_empty(&rt, rt.alloc(), b"lab", b"");
 }

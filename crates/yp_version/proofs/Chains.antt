@@ -10,7 +10,9 @@ use Rattle.std.proofs.lemmas.Option.{none-some, same_Some, slice_get_cases}
 use Rattle.std.specs.Option.{option_map_or}
 use Rattle.std.specs.declared.hash.RandomState.{RandomState}
 use Rattle.yp_version.specs.Rows.{Row}
-use Rattle.yp_version.specs.Tables.{last_below, bucket_of, mark_of, number_in, mark_in, linked, IsMarked, has_key, bucket_at, is_in, HasChains}
+use Rattle.yp_version.specs.Tables.{last_below, bucket_of, mark_of, number_in, mark_in, linked, IsMarked, bucket_at}
+use Rattle.yp_version.specs.Tables.{is_in, HasChains}
+use Rattle.yp_version.specs.inside.Tables.{has_key}
 use Rattle.yp_version.specs.declared.table.Link.{Link}
 use Rattle.yp_version.proofs.Keys.{same_key}
 

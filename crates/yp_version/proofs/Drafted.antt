@@ -10,11 +10,12 @@ use Rattle.std.specs.List.Sorted.{IsStrictlySortedBy}
 use Rattle.std.specs.Map.{keys_of}
 use Rattle.yp_version.specs.Limits.{key_max, value_max, master_max, rows_max, body_max}
 use Rattle.yp_version.specs.Rows.{Row, IsRising, value_of, padded, row_len, rows_len}
-use Rattle.yp_version.specs.Drafts.{Draft, IsDraft, draft_len, refused_new, with_new}
+use Rattle.yp_version.specs.Drafts.{Draft, draft_len, refused_new, with_new}
+use Rattle.yp_version.specs.inside.Drafts.{IsDraft}
 use Rattle.yp_version.specs.declared.builder.VersionFault.TheVariants.{TooManyRows, TooBig}
 use Rattle.yp_version.specs.declared.builder.VersionBuilder.TheInside.{Inside}
-use Rattle.yp_version.specs.VersionBuilder.{IsKept, draft_of}
-use Rattle.yp_version.specs.Slabs.{Packed}
+use Rattle.yp_version.specs.inside.VersionBuilder.{IsKept, draft_of}
+use Rattle.yp_version.specs.inside.Slabs.{Packed}
 use Rattle.yp_version.specs.Table.{IsTable}
 use Rattle.yp_version.specs.declared.table.Table.{Table}
 use Rattle.yp_version.proofs.Chains.{chains_more}

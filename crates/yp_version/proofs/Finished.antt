@@ -1,14 +1,15 @@
 -- A draft whose rows are listed is a version.
 use Rattle.std.proofs.Common.{◌≡◌, ℕ, ◌+◌, ◌≤◌, Bool, List, ◌++◌, length, drop, refl, sym, ap, ◌∙◌, subst, IsPermutation}
 use Rattle.std.proofs.lemmas.List.Sorted.{All-permutation, length_permutation, sum_by-IsPermutation}
-use Rattle.yp_version.specs.Drafts.{Draft, IsDraft, draft_len}
+use Rattle.yp_version.specs.Drafts.{Draft, draft_len}
+use Rattle.yp_version.specs.inside.Drafts.{IsDraft}
 use Rattle.yp_version.specs.Limits.{key_max, value_max, rows_max, body_max}
 use Rattle.yp_version.specs.Rows.{Row, IsRising, listed, padded, row_len}
 use Rattle.yp_version.specs.Versions.{IsVersion, body_len, unmarked}
 use Rattle.yp_xdr.specs.Kind.{U32}
 use Rattle.yp_xdr.specs.Spelling.{spelling}
 use Rattle.yp_version.specs.Bodies.{format, front_bytes}
-use Rattle.yp_version.specs.Slabs.{Packed}
+use Rattle.yp_version.specs.inside.Slabs.{Packed}
 use Rattle.yp_version.specs.Version.{version_of, IsKept}
 use Rattle.yp_version.specs.declared.version.Version.TheInside.{Inside}
 use Rattle.yp_version.proofs.Listed.{listed_rises}

@@ -9,10 +9,10 @@ use Rattle.std.specs.Cmp.{nat_cmp_is}
 use Rattle.std.specs.List.Sorted.{IsSortedBy}
 use Rattle.std.specs.Ordering.{nat_cmp, ordering_then}
 use Rattle.std.specs.Prelude.{slice_index, nat_lt}
-use Rattle.yp_xdr.specs.Reading.{IsBytes}
+use Rattle.yp_xdr.specs.inside.Reading.{IsBytes}
 use Rattle.yp_version.specs.Rows.{key_cmp}
-use Rattle.yp_version.specs.Slabs.{opaque_from, key_from}
-use Rattle.yp_version.specs.Ranks.{front_of, ranked_at, rank_cmp}
+use Rattle.yp_version.specs.inside.Slabs.{opaque_from, key_from}
+use Rattle.yp_version.specs.inside.Ranks.{front_of, ranked_at, rank_cmp}
 use Rattle.yp_version.specs.declared.ranks.Ranked.{Ranked}
 use Rattle.yp_version.proofs.Keys.{cmp_back}
 

@@ -8,7 +8,8 @@ use Rattle.yp_xdr.specs.Spelling.{word, padding, padding_len, opaque, fixed, spe
 use Rattle.yp_version.specs.Limits.{key_max, value_max, master_max}
 use Rattle.yp_version.specs.Rows.{Row, padded, row_len, rows_len}
 use Rattle.yp_version.specs.Versions.{MapVersion, body_len}
-use Rattle.yp_version.specs.Bodies.{row_bytes, front_bytes, head_bytes, body, format}
+use Rattle.yp_version.specs.Bodies.{front_bytes, head_bytes, format}
+use Rattle.yp_version.specs.inside.Bodies.{row_bytes, body}
 
 pub length_opaque : (max : ℕ) (content : List ℕ) → length (spelling (Opaque max) content) ≡ 4 + padded (length content)
 unfolding opaque fixed

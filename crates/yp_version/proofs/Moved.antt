@@ -7,7 +7,8 @@ use Rattle.std.proofs.lemmas.Map.Keys.{IsDistinct-head, IsDistinct-tail}
 use Rattle.std.specs.List.{AllByRecursion}
 use Rattle.std.specs.Map.{keys_of}
 use Rattle.std.specs.Ordering.{match_ordering}
-use Rattle.yp_version.specs.Rows.{Row, key_cmp, HasDistinctKeys, value_of, inserted, listed}
+use Rattle.yp_version.specs.Rows.{Row, key_cmp, value_of, inserted, listed}
+use Rattle.yp_version.specs.inside.Rows.{HasDistinctKeys}
 use Rattle.yp_version.proofs.Keys.{key_itself, cmp_same}
 use Rattle.yp_version.proofs.Listed.{value_of-listed}
 

@@ -9,12 +9,13 @@ use Rattle.std.proofs.lemmas.List.{length-append, length-drop, length-take, leng
 use Rattle.std.proofs.lemmas.List.Elements.{recursion_from_All, All-from_recursion, All-push}
 use Rattle.yp_xdr.specs.Kind.{U32, Opaque}
 use Rattle.yp_xdr.specs.Spelling.{spelling, opaque, fixed, padding}
-use Rattle.yp_xdr.specs.Writing.{written}
+use Rattle.yp_xdr.specs.inside.Writing.{written}
 use Rattle.yp_version.specs.Limits.{key_max, value_max, body_max}
 use Rattle.yp_version.specs.Rows.{Row, padded, row_len, rows_len}
-use Rattle.yp_version.specs.Bodies.{row_bytes, spelled_row}
-use Rattle.yp_version.specs.Slabs.{Packed, KeepsLimits, IsRowAt, Lies, counted, opaque_from, key_from, value_from, row_from, places_from}
-use Rattle.yp_version.specs.Slab.{packed_of, IsPacked}
+use Rattle.yp_version.specs.inside.Bodies.{row_bytes, spelled_row}
+use Rattle.yp_version.specs.inside.Slabs.{Packed, KeepsLimits, IsRowAt, Lies, counted, opaque_from, key_from}
+use Rattle.yp_version.specs.inside.Slabs.{value_from, row_from, places_from}
+use Rattle.yp_version.specs.inside.Slab.{packed_of, IsPacked}
 use Rattle.yp_version.specs.declared.slab.Slab.TheInside.{Inside}
 use Rattle.yp_version.proofs.Lengths.{length_opaque, length_row, length_rows}
 

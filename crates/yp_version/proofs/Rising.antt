@@ -7,7 +7,8 @@ use Rattle.std.specs.List.{AllByRecursion}
 use Rattle.std.specs.List.Sorted.{IsStrictlySortedBy}
 use Rattle.std.specs.Map.{keys_of}
 use Rattle.std.specs.Option.{option_map_or}
-use Rattle.yp_version.specs.Rows.{Row, key_cmp, IsRising, is_over_last, value_of}
+use Rattle.yp_version.specs.Rows.{Row, key_cmp, IsRising, value_of}
+use Rattle.yp_version.specs.inside.Rows.{is_over_last}
 use Rattle.yp_version.proofs.Drafted.{keys_of-push}
 
 -- each of these keys is below this one

@@ -14,9 +14,11 @@ use Rattle.std.specs.Map.{keys_of, lookup}
 use Rattle.std.specs.Option.{option_map_or}
 use Rattle.std.specs.Ordering.{ordering_index}
 use Rattle.std.specs.Result.{result_ok}
-use Rattle.yp_version.specs.Places.{StandsAt, IsAbsent}
-use Rattle.yp_version.specs.Rows.{Row, key_cmp, IsRising, HasDistinctKeys, value_of, following, first_of, row_len, rows_len}
-use Rattle.yp_version.specs.Tables.{last_below, has_key}
+use Rattle.yp_version.specs.inside.Places.{StandsAt, IsAbsent}
+use Rattle.yp_version.specs.Rows.{Row, key_cmp, IsRising, value_of, following, first_of, row_len, rows_len}
+use Rattle.yp_version.specs.inside.Rows.{HasDistinctKeys}
+use Rattle.yp_version.specs.Tables.{last_below}
+use Rattle.yp_version.specs.inside.Tables.{has_key}
 use Rattle.yp_version.proofs.Chains.{last_passes, all_fail}
 use Rattle.yp_version.proofs.Keys.{same_key, key_itself, cmp_back, cmp_flip, cmp_same, eq_flip, eq_is_cmp}
 use Rattle.yp_version.proofs.Sorted.{keys-views}

@@ -9,7 +9,8 @@ use Rattle.std.specs.Cmp.Lexicographic.{texts_ties}
 use Rattle.std.specs.List.{IsDistinct}
 use Rattle.std.specs.List.Sorted.{IsSortedBy, IsStrictlySortedBy}
 use Rattle.std.specs.Map.{keys_of}
-use Rattle.yp_version.specs.Rows.{Row, key_cmp, IsRising, HasDistinctKeys}
+use Rattle.yp_version.specs.Rows.{Row, key_cmp, IsRising}
+use Rattle.yp_version.specs.inside.Rows.{HasDistinctKeys}
 use Rattle.yp_version.proofs.Keys.{cmp_flip}
 
 -- a key that is apart from one that isn't below it, is above that

@@ -2,8 +2,8 @@
 use Rattle.std.proofs.Common.{◌≡◌, ℕ, ◌+◌, List, length, sym, ap, ◌∙◌, subst, arith}
 use Rattle.yp_version.specs.Bodies.{format, head_bytes}
 use Rattle.yp_version.specs.Rows.{padded}
-use Rattle.yp_version.specs.Slabs.{Packed, Lies, places_from}
-use Rattle.yp_version.specs.Stored.{IsStored}
+use Rattle.yp_version.specs.inside.Slabs.{Packed, Lies, places_from}
+use Rattle.yp_version.specs.inside.Stored.{IsStoredBody}
 use Rattle.yp_version.specs.Table.{IsWhole}
 use Rattle.yp_version.specs.Version.{version_of, IsKept}
 use Rattle.yp_version.specs.Versions.{MapVersion, IsVersion}
@@ -17,7 +17,7 @@ stored_slab version = record { head = head_bytes version; rows = version.rows }
 pub stored_head : (version : MapVersion) → length (head_bytes version) ≡ 16 + padded (length version.master)
 stored_head version = length_front (format version.secure) version.order version.master (length version.rows)
 
-pub stored_lies : (bytes starts : List ℕ) (version : MapVersion) → IsStored bytes starts version
+pub stored_lies : (bytes starts : List ℕ) (version : MapVersion) → IsStoredBody bytes starts version
     → Lies bytes starts (stored_slab version)
 stored_lies bytes starts version stored =
     let is = stored.body.within in
@@ -48,6 +48,6 @@ stored_view inside version same slab =
 -- a slab of these parts is that one
 pub slab_is : (bytes starts : List ℕ) (head_len : ℕ) (slab : Packed) (version : MapVersion)
     → ((packed : Packed) → Lies bytes starts packed → head_len ≡ length packed.head → slab ≡ packed)
-    → head_len ≡ 16 + padded (length version.master) → IsStored bytes starts version → slab ≡ stored_slab version
+    → head_len ≡ 16 + padded (length version.master) → IsStoredBody bytes starts version → slab ≡ stored_slab version
 slab_is bytes starts head_len slab version is len stored =
     is (stored_slab version) (stored_lies bytes starts version stored) (len ∙ sym (stored_head version))

@@ -9,7 +9,8 @@ use Rattle.std.proofs.lemmas.Option.{slice_get_within, slice_get_read, get_or_fr
 use Rattle.std.specs.List.{AllByRecursion, IsDistinct}
 use Rattle.std.specs.List.Sorted.{IsStrictlySortedBy}
 use Rattle.std.specs.Map.{keys_of, lookup}
-use Rattle.yp_version.specs.Rows.{Row, key_cmp, IsRising, HasDistinctKeys, value_of, listed}
+use Rattle.yp_version.specs.Rows.{Row, key_cmp, IsRising, value_of, listed}
+use Rattle.yp_version.specs.inside.Rows.{HasDistinctKeys}
 use Rattle.yp_version.proofs.Keys.{same_key, key_itself, eq_flip, eq_is_cmp, eq-Greater, cmp_flip, cmp_back, cmp_same}
 use Rattle.yp_version.proofs.Listed.{listed_rises, value_of-listed}
 

@@ -1,4 +1,4 @@
--- The blanks in a text of a row.
+-- The blanks in a text of a row (netgroup(5), hosts(5)).
 use Rattle.std.specs.Prelude.{ℕ, ◌-◌, Bool, ◌||◌, ◌==◌, List, length, take, drop}
 use Rattle.std.specs.List.{prefix_len, suffix_len}
 

@@ -1,9 +1,9 @@
 -- What a builder has so far, and which rows it refuses.
-use Rattle.std.specs.Prelude.{ℕ, ◌+◌, ◌^◌, ◌<◌, ◌≤◌, List, [], ◌∷◌, ◌++◌, length, fold, All, Option, Some, None}
+use Rattle.std.specs.Prelude.{ℕ, ◌+◌, List, [], ◌∷◌, ◌++◌, length, fold, Option, Some, None}
 use Rattle.std.specs.Prelude.{is_some, if◌then◌else◌, nat_le, nat_lt}
 use Rattle.std.specs.Option.{option_map_or}
-use Rattle.yp_version.specs.Limits.{key_max, value_max, master_max, rows_max, body_max}
-use Rattle.yp_version.specs.Rows.{Row, HasDistinctKeys, value_of, padded, row_len, rows_len}
+use Rattle.yp_version.specs.Limits.{key_max, value_max, rows_max, body_max}
+use Rattle.yp_version.specs.Rows.{Row, value_of, padded, row_len, rows_len}
 use Rattle.yp_version.specs.declared.builder.VersionFault.{VersionFault}
 use Rattle.yp_version.specs.declared.builder.VersionFault.TheVariants.{KeyLong, ValueLong, TooManyRows, TooBig}
 
@@ -13,7 +13,7 @@ pub record Draft : Type 0 where
   pub master : List ℕ
   pub rows : List Row
 
--- one without rows
+-- a draft without rows
 abbrev pub empty_draft : ℕ → List ℕ → Draft
 empty_draft order master = record { order = order; master = master; rows = [] }
 
@@ -57,13 +57,3 @@ refused_from at draft (row ∷ rows) =
 -- the number, from 0, of the first row that is refused, and why
 abbrev pub first_refused : Draft → List Row → Option (ℕ × VersionFault)
 first_refused draft rows = refused_from 0 draft rows
-
--- what holds of every draft
-pub record IsDraft (draft : Draft) : Type 0 where
-  pub order : draft.order < 2 ^ 32
-  pub master : length draft.master ≤ master_max
-  pub distinct : HasDistinctKeys draft.rows
-  pub keys : All (λ row. length row.0 ≤ key_max) draft.rows
-  pub values : All (λ row. length row.1 ≤ value_max) draft.rows
-  pub count : length draft.rows ≤ rows_max
-  pub body : draft_len draft ≤ body_max

@@ -4,14 +4,7 @@ pub mod Rows
 pub mod Versions
 pub mod Bodies
 pub mod Drafts
-pub mod Slabs
-pub mod Slab
-pub mod Ranks
 pub mod Tables
 pub mod Table
 pub mod Version
-pub mod VersionBuilder
-pub mod Next
-pub mod Places
-pub mod Stored
-pub mod Laws
+pub mod inside

@@ -1,18 +1,12 @@
 -- The limits of a version, in bytes and in rows. They are this project's choices, but for the length of a name
--- (`yp.x`).
+-- (`yp.x`). Those of a key and of a value are those of a message.
 use Rattle.std.specs.Prelude.{ℕ}
-
--- the most bytes of a key
-abbrev pub key_max : ℕ
-key_max = 65536
-
--- the most bytes of a value
-abbrev pub value_max : ℕ
-value_max = 65536
+use Rattle.yp_messages.specs.Numbers.{name_max}
+pub use Rattle.yp_messages.specs.Numbers.{key_max, value_max}
 
 -- the most bytes of a master's name (`yp.x`, YPMAXPEER)
 abbrev pub master_max : ℕ
-master_max = 64
+master_max = name_max
 
 -- the most rows
 abbrev pub rows_max : ℕ

@@ -1,13 +1,11 @@
 -- Rows of a map: pairs of a key and a value, their order, and what is looked up in them.
-use Rattle.std.specs.Prelude.{ℕ, ◌+◌, ◌-◌, ◌%◌, Bool, true, List, [], ◌∷◌, length, slice_get, Option, Some, None}
+use Rattle.std.specs.Prelude.{ℕ, ◌+◌, ◌-◌, ◌%◌, List, [], ◌∷◌, length, Option, Some, None}
 use Rattle.std.specs.Prelude.{if◌then◌else◌, bytes_eq}
 use Rattle.std.specs.Prelude.{sum_by}
 use Rattle.std.specs.Cmp.Lexicographic.{slice_cmp}
-use Rattle.std.specs.List.{IsDistinct}
 use Rattle.std.specs.List.Sorted.{IsStrictlySortedBy}
 use Rattle.std.specs.Map.{keys_of, lookup}
-use Rattle.std.specs.Option.{option_map_or}
-use Rattle.std.specs.Ordering.{nat_cmp, is_lt, match_ordering}
+use Rattle.std.specs.Ordering.{nat_cmp, match_ordering}
 use Rattle.std.specs.declared.cmp.Ordering.{Ordering}
 
 -- a row: its key and its value
@@ -21,14 +19,6 @@ key_cmp = slice_cmp nat_cmp
 -- each key is below those of all later rows
 abbrev pub IsRising : List Row → Type 0
 IsRising rows = IsStrictlySortedBy key_cmp (keys_of rows)
-
--- no two rows have the same key
-abbrev pub HasDistinctKeys : List Row → Type 0
-HasDistinctKeys rows = IsDistinct bytes_eq (keys_of rows)
-
--- whether a key is over that of the last row, if there is one
-abbrev pub is_over_last : List ℕ → List Row → Bool
-is_over_last key rows = option_map_or (λ row. is_lt (key_cmp row.0 key)) (slice_get rows (length rows - 1)) true
 
 -- the value of the first row with this key
 abbrev pub value_of : List ℕ → List Row → Option (List ℕ)
@@ -55,7 +45,7 @@ abbrev pub listed : List Row → List Row
 listed [] = []
 listed (row ∷ rows) = inserted row (listed rows)
 
--- bytes up to a multiple of four (RFC 4506 section 3)
+-- bytes up to a multiple of four (RFC 4506 sections 3 and 4.10)
 abbrev pub padded : ℕ → ℕ
 padded n = n + (4 - n % 4) % 4
 

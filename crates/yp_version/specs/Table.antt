@@ -8,7 +8,7 @@ use Rattle.yp_version.specs.declared.table.Table.{Table}
 abbrev pub IsTable : Table → List Row → Type 0
 IsTable table rows = HasChains table.hasher table.heads.items table.before.items rows (length table.before.items)
 
--- it has them all
+-- A table has all rows.
 abbrev pub HasAll : Table → List Row → Type 0
 HasAll table rows = length table.before.items ≡ length rows
 

@@ -1,7 +1,7 @@
 -- A table of row numbers by a hash of the key: chains of rows, one for each bucket. Which hash it is, is free.
-use Rattle.std.specs.Prelude.{◌≡◌, ℕ, zero, suc, ◌-◌, ◌*◌, ◌/◌, ◌%◌, ◌^◌, ◌<◌, ◌≤◌, Bool, false, List, length}
+use Rattle.std.specs.Prelude.{◌≡◌, ℕ, zero, suc, ◌-◌, ◌*◌, ◌/◌, ◌%◌, ◌^◌, ◌<◌, ◌≤◌, Bool, List, length}
 use Rattle.std.specs.Prelude.{slice_get, slice_index_or}
-use Rattle.std.specs.Prelude.{Option, Some, None, option_map, if◌then◌else◌, ◌==◌, bytes_eq}
+use Rattle.std.specs.Prelude.{Option, Some, None, option_map, if◌then◌else◌, ◌==◌}
 use Rattle.std.specs.Hash.DefaultHasher as sip
 use Rattle.std.specs.Option.{option_map_or}
 use Rattle.std.specs.RandomState.{initial_hasher}
@@ -50,10 +50,6 @@ pub record IsMarked (state : RandomState) (rows : List Row) (link : Link) : Type
 abbrev pub last_below : (ℕ → Bool) → ℕ → Option ℕ
 last_below test zero = None
 last_below test (suc n) = if test n then Some n else last_below test n
-
--- whether the row with this number has the key
-abbrev pub has_key : List ℕ → List Row → ℕ → Bool
-has_key key rows i = option_map_or (λ row. bytes_eq row.0 key) (slice_get rows i) false
 
 -- the bucket of the row with this number
 abbrev pub bucket_at : RandomState → ℕ → List Row → ℕ → ℕ

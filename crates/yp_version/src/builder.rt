@@ -4,7 +4,8 @@ ghost use Rattle.std.specs.Prelude.{◌≡◌, ◌<◌, ◌≤◌, ◌⊎◌, �
 ghost use Rattle.std.specs.Prelude.{Some, is_none, is_some, IsTrue, IfOk, IfErr, IfSome, OnOk, OnErr};
 ghost use Rattle.yp_version.specs.Limits.{key_max, value_max, master_max, rows_max, body_max};
 ghost use Rattle.yp_version.specs.Rows.{IsRising, value_of, listed};
-ghost use Rattle.yp_version.specs.Drafts.{IsDraft, draft_len, refused, refused_new, with_new, with_row};
+ghost use Rattle.yp_version.specs.Drafts.{draft_len, refused, refused_new, with_new, with_row};
+ghost use Rattle.yp_version.specs.inside.Drafts.{IsDraft};
 ghost use Rattle.yp_version.specs.Table.{IsTable};
 
 use crate::head::head_of;
@@ -68,7 +69,7 @@ impl Model for VersionBuilder {
 
     ghost Value = { Draft };
 
-    ghost use Rattle.yp_version.specs.VersionBuilder.{draft_of, IsKept};
+    ghost use Rattle.yp_version.specs.inside.VersionBuilder.{draft_of, IsKept};
 
     ghost view = { draft_of };
 

@@ -1,7 +1,7 @@
 //! What the order of rows does to them. Each law is the contract of a function that does nothing.
 
-ghost use Rattle.yp_version.specs.Laws.{ListedIsRising, ListedIsPermutation, RisingIsListed, RisingStays};
-ghost use Rattle.yp_version.specs.Laws.{ListedKeepsValues, RisingIsDistinct};
+ghost use Rattle.yp_version.specs.inside.Laws.{ListedIsRising, ListedIsPermutation, RisingIsListed, RisingStays};
+ghost use Rattle.yp_version.specs.inside.Laws.{ListedKeepsValues, RisingIsDistinct};
 
 /// Listed rows rise.
 pub fn listed_is_rising()

@@ -4,14 +4,16 @@ ghost use Rattle.std.specs.Prelude.{◌≡◌, ◌+◌, ◌^◌, ◌<◌, ◌≤
 ghost use Rattle.yp_version.specs.Limits.{key_max, value_max};
 ghost use Rattle.yp_version.specs.Rows.{padded, row_len};
 
+use yp_messages::protocol;
+
 /// The most bytes of a key.
-pub const KEY_MAX: usize = 65_536;
+pub const KEY_MAX: usize = protocol::KEY_MAX as usize;
 
 /// The most bytes of a value.
-pub const VALUE_MAX: usize = 65_536;
+pub const VALUE_MAX: usize = protocol::VALUE_MAX as usize;
 
 /// The most bytes of a master's name (`yp.x`, YPMAXPEER).
-pub const MASTER_MAX: usize = 64;
+pub const MASTER_MAX: usize = protocol::NAME_MAX as usize;
 
 /// The most rows.
 pub const ROWS_MAX: usize = 262_144;

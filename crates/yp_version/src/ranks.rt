@@ -3,10 +3,10 @@
 ghost use Rattle.std.specs.Prelude.{◌≡◌, map, slice_index, IfOk, IsPermutation};
 ghost use Rattle.std.specs.Ordering.{is_lt};
 ghost use Rattle.std.specs.List.Sorted.{IsSortedBy};
-ghost use Rattle.yp_xdr.specs.Reading.{IsBytes};
+ghost use Rattle.yp_xdr.specs.inside.Reading.{IsBytes};
 ghost use Rattle.yp_version.specs.Rows.{key_cmp};
-ghost use Rattle.yp_version.specs.Slabs.{key_from};
-ghost use Rattle.yp_version.specs.Ranks.{front_of, ranked_at, rank_cmp};
+ghost use Rattle.yp_version.specs.inside.Slabs.{key_from};
+ghost use Rattle.yp_version.specs.inside.Ranks.{front_of, ranked_at, rank_cmp};
 
 use crate::slab::key_from;
 use std::alloc::Global;
@@ -28,7 +28,7 @@ fn byte_at(key: &[u8], i: usize) -> u8
 }
 
 // The first eight bytes of a key as a number.
-#[tactic(auto, unfolding(crate::specs::Ranks::front_of))]
+#[tactic(auto, unfolding(crate::specs::inside::Ranks::front_of))]
 fn front_of(key: &[u8]) -> u64
     ensures { result ≡ front_of key.now }
 {

@@ -6,13 +6,14 @@ ghost use Rattle.std.specs.Prelude.{All, IsPermutation};
 ghost use Rattle.std.specs.List.{flat_map};
 ghost use Rattle.yp_xdr.specs.Kind.{U32};
 ghost use Rattle.yp_xdr.specs.Spelling.{spelling};
-ghost use Rattle.yp_xdr.specs.Writing.{written};
+ghost use Rattle.yp_xdr.specs.inside.Writing.{written};
 ghost use Rattle.yp_version.specs.Limits.{key_max, value_max, body_max};
-ghost use Rattle.yp_version.specs.Rows.{HasDistinctKeys, IsRising, is_over_last, key_cmp, row_len, rows_len};
-ghost use Rattle.yp_version.specs.Tables.{has_key};
-ghost use Rattle.yp_version.specs.Places.{StandsAt, IsAbsent};
-ghost use Rattle.yp_version.specs.Bodies.{row_bytes, spelled_row};
-ghost use Rattle.yp_version.specs.Slabs.{IsRowAt, opaque_from, key_from, row_from};
+ghost use Rattle.yp_version.specs.Rows.{IsRising, key_cmp, row_len, rows_len};
+ghost use Rattle.yp_version.specs.inside.Rows.{HasDistinctKeys, is_over_last};
+ghost use Rattle.yp_version.specs.inside.Tables.{has_key};
+ghost use Rattle.yp_version.specs.inside.Places.{StandsAt, IsAbsent};
+ghost use Rattle.yp_version.specs.inside.Bodies.{row_bytes, spelled_row};
+ghost use Rattle.yp_version.specs.inside.Slabs.{IsRowAt, opaque_from, key_from, row_from};
 
 use crate::limits::{WORD, padded, row_len};
 use crate::ranks::sorted_places;
@@ -31,11 +32,11 @@ pub(crate) struct Slab {
 }
 
 impl Model for Slab {
-    ghost use Rattle.yp_version.specs.Slabs.{Packed};
+    ghost use Rattle.yp_version.specs.inside.Slabs.{Packed};
 
     ghost Value = { Packed };
 
-    ghost use Rattle.yp_version.specs.Slab.{packed_of, IsPacked};
+    ghost use Rattle.yp_version.specs.inside.Slab.{packed_of, IsPacked};
 
     ghost view = { packed_of };
 
@@ -43,7 +44,7 @@ impl Model for Slab {
 }
 
 impl Slab {
-    ghost use Rattle.yp_version.specs.Slabs.{Packed, Lies};
+    ghost use Rattle.yp_version.specs.inside.Slabs.{Packed, Lies};
 
     /// No rows behind these bytes, and room for some.
     pub(crate) fn new(alloc: Global, head: Vec<u8>, rows: usize) -> Result<Slab, NoMemory>
@@ -185,7 +186,7 @@ impl Slab {
         self.bytes.as_slice()
     }
 
-    /// The same with another first word.
+    /// Sets the first word of the head.
     pub(crate) fn set_first_word(&mut self, word: u32)
         requires { 4 ≤ length self.old.head }
         ensures { self.new ≡ record self.old { head = spelling U32 word ++ drop 4 self.old.head } }
@@ -193,7 +194,7 @@ impl Slab {
         set_u32(&mut self.bytes, 0, word);
     }
 
-    /// The same behind another head, and in rising order of the keys. `rises` tells that they stand so already.
+    /// The rows behind another head, in rising order of their keys. `rises` tells that they are in this order already.
     pub(crate) fn finished(
         self,
         alloc: Global,
@@ -315,7 +316,7 @@ fn set_row(buf: &mut [u8], at: usize, key: &[u8], value: &[u8])
 }
 
 // The bytes that are spelled from a place on.
-#[tactic(auto, unfolding(crate::specs::Slabs::opaque_from))]
+#[tactic(auto, unfolding(crate::specs::inside::Slabs::opaque_from))]
 fn opaque_from(bytes: &[u8], place: usize) -> &[u8]
     ensures { result.now ≡ opaque_from bytes.now place }
 {

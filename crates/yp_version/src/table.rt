@@ -4,7 +4,8 @@ ghost use Rattle.std.specs.Prelude.{◌≡◌, ◌+◌, ◌<◌, ◌≤◌, ◌^
 ghost use Rattle.yp_version.specs.Limits.{rows_max};
 ghost use Rattle.yp_version.specs.Rows.{Row};
 ghost use Rattle.yp_version.specs.Table.{IsTable, HasAll, IsWhole};
-ghost use Rattle.yp_version.specs.Tables.{linked, mark_in, hash_of, bucket_by, mark_by, last_below, has_key};
+ghost use Rattle.yp_version.specs.Tables.{linked, mark_in, hash_of, bucket_by, mark_by, last_below};
+ghost use Rattle.yp_version.specs.inside.Tables.{has_key};
 
 use crate::slab::Slab;
 use std::alloc::Global;

@@ -7,11 +7,12 @@ ghost use Rattle.yp_version.specs.Rows.{Row, value_of, first_of, following};
 ghost use Rattle.yp_version.specs.Versions.{IsVersion, body_len, unmarked};
 ghost use Rattle.yp_xdr.specs.Kind.{Opaque};
 ghost use Rattle.yp_xdr.specs.Spelling.{spelling};
-ghost use Rattle.yp_version.specs.Bodies.{IsBody, head_bytes, spelled_row};
-ghost use Rattle.yp_version.specs.Stored.{IsStored};
+ghost use Rattle.yp_version.specs.Bodies.{head_bytes};
+ghost use Rattle.yp_version.specs.inside.Bodies.{IsBody, spelled_row};
+ghost use Rattle.yp_version.specs.inside.Stored.{IsStoredBody};
 ghost use Rattle.yp_version.specs.Table.{IsWhole};
-ghost use Rattle.yp_version.specs.Places.{StandsAt, IsAbsent};
-ghost use Rattle.yp_version.specs.Next.{next_row, IsWithin};
+ghost use Rattle.yp_version.specs.inside.Places.{StandsAt, IsAbsent};
+ghost use Rattle.yp_version.specs.inside.Next.{next_row, IsWithin};
 
 use crate::head::format_of;
 use crate::limits::{HEAD_LEN, padded};
@@ -91,9 +92,9 @@ impl Version {
         body: Vec<u8>,
         places: Vec<u32>,
     ) -> Result<Version, NoMemory>
-        requires { (rows : List Row) × IsStored body.items places.items
+        requires { (rows : List Row) × IsStoredBody body.items places.items
             (record { order = order; master = master.items; secure = secure; rows = rows }) }
-        ensures { (rows : List Row) → IsStored body.items places.items
+        ensures { (rows : List Row) → IsStoredBody body.items places.items
             (record { order = order; master = master.items; secure = secure; rows = rows })
             → IfOk result (λ version. version
             ≡ record { order = order; master = master.items; secure = secure; rows = rows }) }

@@ -9,11 +9,11 @@ use Rattle.yp_answer.specs.Maps.{maps_of}
 use Rattle.yp_answer.specs.Transfer.{Taken}
 use Rattle.yp_answer.specs.Reply.{Response, Silence, Bytes, Takes, Open, reply, asks}
 use Rattle.yp_answer.specs.Answers.{StepsWhere}
-use Rattle.yp_session.specs.declared.session.End.{End}
-use Rattle.yp_session.specs.declared.session.End.TheVariants.{Clean, Torn, TooLong, ReadFault, WriteFault, Enough}
-use Rattle.yp_session.specs.Wires.{Wire}
-use Rattle.yp_session.specs.Hosts.{Conduct, Turn, CarriesWhere, Carries, Link}
-use Rattle.yp_session.specs.Runs.{Dialogue, Chain, Ends, Runs}
+use Rattle.yp_answer.specs.declared.session.session.End.{End}
+use Rattle.yp_answer.specs.declared.session.session.End.TheVariants.{Clean, Torn, TooLong, ReadFault, WriteFault, Enough}
+use Rattle.yp_answer.specs.session.Wires.{Wire}
+use Rattle.yp_answer.specs.session.Hosts.{Conduct, Turn, CarriesWhere, Carries, Link}
+use Rattle.yp_answer.specs.session.Runs.{Dialogue, Chain, Ends, Runs}
 
 -- the same catalogue, and nothing less is known
 pub record Later (old new : Seen) : Type 0 where

@@ -6,14 +6,14 @@ use Rattle.std.proofs.lemmas.List.Elements.{Contains-append_left, Contains-push}
 use Rattle.std.proofs.lemmas.List.Sums.{fold-append}
 use Rattle.yp_io.specs.Counts.{HasRisen, capped}
 use Rattle.yp_io.specs.Dials.{Connected}
-use Rattle.yp_io.specs.Calls.{Calls, Ended, Accepting, Comes, GainsCall, IfCame, taken_in}
+use Rattle.yp_io.specs.Calls.{ListenerHistory, ClosedConnection, Accepting, ConnectionComes, GainsCall, IfCame, taken_in}
 use Rattle.yp_io.specs.declared.called.Called.{Called}
 use Rattle.yp_io.specs.declared.listen.Arrival.{Arrival}
 use Rattle.yp_io.specs.declared.listen.Arrival.TheVariants.{Came}
-use Rattle.yp_worker.specs.Receptions.{closed_in, Gains, Tells, IsExpected, Opening, IsOver, IsKept}
+use Rattle.yp_worker.specs.Receptions.{closed_in, GainsConnections, GainsWhereTold, IsExpected, ListenTells, AcceptsNoMore, IsListenerState}
 
 -- what a listener tells, as it was before the first connection
-abbrev pub told : Opening → Accepting
+abbrev pub told : ListenTells → Accepting
 told opening = record { past = opening.past; most = opening.most; accepted = opening.accepted }
 
 -- what holds of the connection that came
@@ -22,7 +22,7 @@ pub came_one : {S K : Type 0} (P : Called S K → Type 0) (arrival : Arrival S K
 came_one P arrival call is h = subst (IfCame P) is h
 
 -- before the first connection
-gains_none : (calls : Calls) → Gains calls calls 0
+gains_none : (calls : ListenerHistory) → GainsConnections calls calls 0
 gains_none calls = record {
   came = [];
   to_come = refl;
@@ -32,11 +32,11 @@ gains_none calls = record {
   all = refl;
 }
 
-tells_none : (past : Option Calls) → Tells past past 0
+tells_none : (past : Option ListenerHistory) → GainsWhereTold past past 0
 tells_none None = tt
 tells_none (Some calls) = gains_none calls
 
-pub kept_none : (now : Opening) → IsKept now now 0 false 0 0
+pub kept_none : (now : ListenTells) → IsListenerState now now 0 false 0 0
 kept_none now = record {
   most = refl;
   accepts = record {
@@ -54,17 +54,17 @@ kept_none now = record {
 }
 
 -- those that were to come, behind one that came
-all_to_come : (wire : Connected) (old now : Calls) (rest : List Connected) (out : ℕ) → now.coming ≡ wire ∷ rest
-    → (gains : Gains old now out) → old.coming ≡ (gains.came ++ wire ∷ []) ++ rest
+all_to_come : (wire : Connected) (old now : ListenerHistory) (rest : List Connected) (out : ℕ) → now.coming ≡ wire ∷ rest
+    → (gains : GainsConnections old now out) → old.coming ≡ (gains.came ++ wire ∷ []) ++ rest
 all_to_come wire old now rest out first gains =
     gains.to_come
     ∙ ap (λ (l : List Connected). gains.came ++ l) first
     ∙ sym (append_assoc gains.came (wire ∷ []) rest)
 
 -- one more came
-gains_came : (wire : Connected) (old now : Calls) (rest : List Connected) (out : ℕ) → now.coming ≡ wire ∷ rest
-    → Gains old now out
-    → Gains old (record { coming = rest; came = now.came ++ wire ∷ []; closed = now.closed }) (out + 1)
+gains_came : (wire : Connected) (old now : ListenerHistory) (rest : List Connected) (out : ℕ) → now.coming ≡ wire ∷ rest
+    → GainsConnections old now out
+    → GainsConnections old (record { coming = rest; came = now.came ++ wire ∷ []; closed = now.closed }) (out + 1)
 gains_came wire old now rest out first gains = record {
   came = gains.came ++ wire ∷ [];
   to_come = all_to_come wire old now rest out first gains;
@@ -75,17 +75,17 @@ gains_came wire old now rest out first gains = record {
   all = let longer = length_push gains.came wire in omega (arith, longer, gains.all);
 }
 
-tells_came : (wire : Connected) (old past new : Option Calls) (out : ℕ) → Tells old past out
-    → GainsCall wire past new → Tells old new (out + 1)
+tells_came : (wire : Connected) (old past new : Option ListenerHistory) (out : ℕ) → GainsWhereTold old past out
+    → GainsCall wire past new → GainsWhereTold old new (out + 1)
 tells_came wire None past new out tells gained = tt
 tells_came wire (Some old) None new out tells gained = absurd tells
 tells_came wire (Some old) (Some now) None out tells gained = absurd gained
 tells_came wire (Some old) (Some now) (Some others) out tells gained =
-    subst (λ (c : Calls). Gains old c (out + 1)) (sym gained.1)
+    subst (λ (c : ListenerHistory). GainsConnections old c (out + 1)) (sym gained.1)
     (gains_came wire old now others.coming out gained.0 tells)
 
 -- it was one of those that were to come
-pub came_expected : (wire : Connected) (old past new : Option Calls) (out : ℕ) → Tells old past out
+pub came_expected : (wire : Connected) (old past new : Option ListenerHistory) (out : ℕ) → GainsWhereTold old past out
     → GainsCall wire past new → IsExpected old wire
 came_expected wire None past new out tells gained = tt
 came_expected wire (Some old) None new out tells gained = absurd tells
@@ -96,12 +96,12 @@ came_expected wire (Some old) (Some now) (Some others) out tells gained =
     (Contains-append_left (tells.came ++ wire ∷ []) others.coming wire (Contains-push tells.came wire))
 
 -- a closer was taken in that had closed these
-pub closed_in_push : (closed : List (List Ended)) (list : List Ended)
+pub closed_in_push : (closed : List (List ClosedConnection)) (list : List ClosedConnection)
     → closed_in (closed ++ list ∷ []) ≡ closed_in closed + length list
-closed_in_push closed list = fold-append (λ (count : ℕ) (more : List Ended). count + length more) 0 closed (list ∷ [])
+closed_in_push closed list = fold-append (λ (count : ℕ) (more : List ClosedConnection). count + length more) 0 closed (list ∷ [])
 
-gains_closed : (list : List Ended) (old now : Calls) (less : ℕ) → Gains old now (less + length list)
-    → Gains old (record { coming = now.coming; came = now.came; closed = now.closed ++ list ∷ [] }) less
+gains_closed : (list : List ClosedConnection) (old now : ListenerHistory) (less : ℕ) → GainsConnections old now (less + length list)
+    → GainsConnections old (record { coming = now.coming; came = now.came; closed = now.closed ++ list ∷ [] }) less
 gains_closed list old now less gains = record {
   came = gains.came;
   to_come = gains.to_come;
@@ -111,22 +111,22 @@ gains_closed list old now less gains = record {
   all = omega (arith, gains.all);
 }
 
-tells_closed : (list : List Ended) (old past new : Option Calls) (told : Option (List Ended)) (less : ℕ)
-    → Tells old past (less + length list) → IfSome old (λ _. told ≡ Some list) → new ≡ taken_in past told
-    → Tells old new less
+tells_closed : (list : List ClosedConnection) (old past new : Option ListenerHistory) (told : Option (List ClosedConnection)) (less : ℕ)
+    → GainsWhereTold old past (less + length list) → IfSome old (λ _. told ≡ Some list) → new ≡ taken_in past told
+    → GainsWhereTold old new less
 tells_closed list None past new told less tells is taken = tt
 tells_closed list (Some old) None new told less tells is taken = absurd tells
 tells_closed list (Some old) (Some now) new told less tells is taken =
-    subst (λ (past : Option Calls). Tells (Some old) past less)
-    (sym (taken ∙ ap (λ (t : Option (List Ended)). taken_in (Some now) t) is))
+    subst (λ (past : Option ListenerHistory). GainsWhereTold (Some old) past less)
+    (sym (taken ∙ ap (λ (t : Option (List ClosedConnection)). taken_in (Some now) t) is))
     (gains_closed list old now less tells)
 
-module _ (old now new : Opening) (connections : ℕ) (failed : Bool) (out ended : ℕ)
-    (kept : IsKept old now connections failed out ended) where
+module _ (old now new : ListenTells) (connections : ℕ) (failed : Bool) (out ended : ℕ)
+    (kept : IsListenerState old now connections failed out ended) where
   -- a connection came, while no accept had failed
-  pub kept_came : (wire : Connected) → failed ≡ false → Comes wire (told now) (told new)
+  pub kept_came : (wire : Connected) → failed ≡ false → ConnectionComes wire (told now) (told new)
       → new.returned ≡ now.returned → now.faults ≤ new.faults
-      → IsKept old new (capped connections 1) failed (out + 1) ended
+      → IsListenerState old new (capped connections 1) failed (out + 1) ended
   kept_came wire is comes returned falls = record {
     most = comes.most ∙ kept.most;
     accepts = let first = kept.accepts in record {
@@ -149,7 +149,7 @@ module _ (old now new : Opening) (connections : ℕ) (failed : Bool) (out ended 
   -- none came, and the listener tells what it told
   pub kept_none_more : (after : Bool) (more : ℕ) → told new ≡ told now → new.returned ≡ now.returned
       → now.faults ≤ new.faults → (after ≡ true → (failed ≡ true) ⊎ HasRisen now.faults new.faults)
-      → (0 < more → IsOver after new) → IsKept old new connections after out more
+      → (0 < more → AcceptsNoMore after new) → IsListenerState old new connections after out more
   kept_none_more after more same returned falls fault over = record {
     most = ap (λ (a : Accepting). a.most) same ∙ kept.most;
     accepts = record {
@@ -160,7 +160,7 @@ module _ (old now new : Opening) (connections : ℕ) (failed : Bool) (out ended 
       all = kept.accepts.all;
       returned = ap (λ (r : ℕ). capped r 0) returned ∙ kept.accepts.returned;
     };
-    tells = subst (λ (past : Option Calls). Tells old.past past out)
+    tells = subst (λ (past : Option ListenerHistory). GainsWhereTold old.past past out)
         (sym (ap (λ (a : Accepting). a.past) same)) kept.tells;
     never_falls = let before = kept.never_falls in omega (arith, before, falls);
     fault = λ was. let before = kept.never_falls in elim (fault was) [
@@ -170,18 +170,18 @@ module _ (old now new : Opening) (connections : ℕ) (failed : Bool) (out ended 
     over = over;
   }
 
-  over_same : new.accepted ≡ now.accepted → new.most ≡ now.most → IsOver failed now → IsOver failed new
+  over_same : new.accepted ≡ now.accepted → new.most ≡ now.most → AcceptsNoMore failed now → AcceptsNoMore failed new
   over_same accepted most over = elim over [
     | inl was ↦ inl was
     | inr all ↦ inr (accepted ∙ all ∙ sym most)
   ]
 
   -- a closer was taken in that had closed connections which were out
-  pub kept_closed : (list : List Ended) (told : Option (List Ended)) (count less : ℕ) → out ≡ less + length list
+  pub kept_closed : (list : List ClosedConnection) (told : Option (List ClosedConnection)) (count less : ℕ) → out ≡ less + length list
       → IfSome old.past (λ _. told ≡ Some list) → count ≡ capped 0 (length list)
       → new.past ≡ taken_in now.past told → new.most ≡ now.most → new.accepted ≡ now.accepted
       → new.returned ≡ capped now.returned count → new.faults ≡ now.faults
-      → IsKept old new connections failed less ended
+      → IsListenerState old new connections failed less ended
   kept_closed list told count less all is count_is taken most accepted returned faults = record {
     most = most ∙ kept.most;
     accepts = let first = kept.accepts in record {
@@ -193,7 +193,7 @@ module _ (old now new : Opening) (connections : ℕ) (failed : Bool) (out ended 
       returned = let before = first.returned in omega (arith, before, returned, count_is);
     };
     tells = tells_closed list old.past now.past new.past told less
-        (subst (λ (n : ℕ). Tells old.past now.past n) all kept.tells) is taken;
+        (subst (λ (n : ℕ). GainsWhereTold old.past now.past n) all kept.tells) is taken;
     never_falls = let before = kept.never_falls in omega (arith, before, faults);
     fault = λ was. let before = kept.fault was in omega (arith, before, faults);
     over = λ some. over_same accepted most (kept.over some);

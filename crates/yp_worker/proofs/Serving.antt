@@ -2,12 +2,12 @@
 use Rattle.std.proofs.Common.{◌≡◌, List, refl, ap, ◌∙◌}
 use Rattle.yp_io.specs.declared.stream.Peer.{Peer}
 use Rattle.yp_board.specs.Views.{Seen}
-use Rattle.yp_shared.specs.Shares.{Learns}
-use Rattle.yp_session.specs.declared.session.End.{End}
-use Rattle.yp_session.specs.Progress.{Progress, begun}
-use Rattle.yp_session.specs.Wires.{Wire, SeesMore}
-use Rattle.yp_session.specs.Hosts.{Conduct}
-use Rattle.yp_session.specs.Runs.{dialogue_at, Runs}
+use Rattle.yp_publisher.specs.sharing.Shares.{Learns}
+use Rattle.yp_answer.specs.declared.session.session.End.{End}
+use Rattle.yp_answer.specs.session.Progress.{Progress, begun}
+use Rattle.yp_answer.specs.session.Wires.{Wire, SeesMore}
+use Rattle.yp_answer.specs.session.Hosts.{Conduct}
+use Rattle.yp_answer.specs.session.Runs.{dialogue_at, Runs}
 use Rattle.yp_worker.specs.Working.{Working, Attends}
 use Rattle.yp_worker.proofs.Growing.{later}
 

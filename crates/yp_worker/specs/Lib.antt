@@ -1,4 +1,5 @@
 pub mod Working
 pub mod Receptions
 pub mod Summing
-pub mod Laws
+pub mod datagrams
+pub mod inside

@@ -2,12 +2,12 @@
 use Rattle.std.specs.Prelude.{◌≡◌, ℕ, List}
 use Rattle.yp_io.specs.declared.stream.Peer.{Peer}
 use Rattle.yp_board.specs.Views.{IsFront}
-use Rattle.yp_shared.specs.Shares.{Learns}
-use Rattle.yp_session.specs.declared.session.End.{End}
-use Rattle.yp_session.specs.Progress.{Progress, begun}
-use Rattle.yp_session.specs.Wires.{Wire}
-use Rattle.yp_session.specs.Hosts.{Conduct}
-use Rattle.yp_session.specs.Runs.{dialogue_at, Runs}
+use Rattle.yp_publisher.specs.sharing.Shares.{Learns}
+use Rattle.yp_answer.specs.declared.session.session.End.{End}
+use Rattle.yp_answer.specs.session.Progress.{Progress, begun}
+use Rattle.yp_answer.specs.session.Wires.{Wire}
+use Rattle.yp_answer.specs.session.Hosts.{Conduct}
+use Rattle.yp_answer.specs.session.Runs.{dialogue_at, Runs}
 
 -- a worker: its host, the most records that it answers of one connection, and what its session keeps of the last one
 pub record Working (H : Type 0) : Type 0 where

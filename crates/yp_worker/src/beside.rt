@@ -1,8 +1,9 @@
 //! Two workers of one listener, in threads of their own.
 
 ghost use Rattle.std.specs.Prelude.{◌≡◌, ◌+◌};
-ghost use Rattle.yp_session.specs.Hosts.{conduct_of};
-ghost use Rattle.yp_worker.specs.Receptions.{IsUnder, terms_of};
+ghost use Rattle.yp_answer.specs.inside.session.Hosts.{conduct_by};
+ghost use Rattle.yp_worker.specs.Receptions.{IsUnder};
+ghost use Rattle.yp_worker.specs.inside.Receptions.{terms_by};
 
 use crate::catch_up::HandsOver;
 use crate::gate::Gate;
@@ -32,10 +33,8 @@ where
     L::In: Send,
     L::Out: Send,
     L::Closer: Send,
-    requires first { IsUnder (conduct_of H.seen H.told H.counts H.stepped H.made H.carried)
-        (terms_of J.catalogue J.starts J.most) first.0 }
-    requires second { IsUnder (conduct_of H.seen H.told H.counts H.stepped H.made H.carried)
-        (terms_of J.catalogue J.starts J.most) second.0 }
+    requires first { IsUnder (conduct_by H.Host) (terms_by J.Reception) first.0 }
+    requires second { IsUnder (conduct_by H.Host) (terms_by J.Reception) second.0 }
     requires none { (H.counted first.0.host ≡ H.none) × (H.counted second.0.host ≡ H.none) }
     ensures first { result.0.0 ≡ record first.1 { ended = first.1.ended + 1 } }
     ensures second { result.1.0 ≡ record second.1 { ended = second.1.ended + 1 } }
@@ -45,13 +44,11 @@ where
     join(
         rt,
         move || -> (Pass<J, E>, Tally)
-            requires { IsUnder (conduct_of H.seen H.told H.counts H.stepped H.made H.carried)
-                (terms_of J.catalogue J.starts J.most) worker × (H.counted worker.host ≡ H.none) }
+            requires { IsUnder (conduct_by H.Host) (terms_by J.Reception) worker × (H.counted worker.host ≡ H.none) }
             ensures { result.0 ≡ record pass { ended = pass.ended + 1 } }
         { ran(rt, listening, worker, pass) },
         move || -> (Pass<J, E>, Tally)
-            requires { IsUnder (conduct_of H.seen H.told H.counts H.stepped H.made H.carried)
-                (terms_of J.catalogue J.starts J.most) other × (H.counted other.host ≡ H.none) }
+            requires { IsUnder (conduct_by H.Host) (terms_by J.Reception) other × (H.counted other.host ≡ H.none) }
             ensures { result.0 ≡ record its_pass { ended = its_pass.ended + 1 } }
         { ran(rt, listening, other, its_pass) },
     )
@@ -64,8 +61,7 @@ fn ran<J: Reception, E: Ledger, H: HandsOver + Drop, G: Gate + Copy + Drop, L: L
     mut worker: Worker<H, G>,
     mut pass: Pass<J, E>,
 ) -> (Pass<J, E>, Tally)
-    requires under { IsUnder (conduct_of H.seen H.told H.counts H.stepped H.made H.carried)
-        (terms_of J.catalogue J.starts J.most) worker }
+    requires under { IsUnder (conduct_by H.Host) (terms_by J.Reception) worker }
     requires none { H.counted worker.host ≡ H.none }
     ensures { result.0 ≡ record pass { ended = pass.ended + 1 } }
 {

@@ -3,10 +3,10 @@
 ghost use Rattle.std.specs.Prelude.{◌≡◌, OnErr};
 ghost use Rattle.yp_board.specs.Logs.{Log};
 ghost use Rattle.yp_board.specs.Views.{IsFront};
-ghost use Rattle.yp_shared.specs.Shares.{Learns};
+ghost use Rattle.yp_publisher.specs.sharing.Shares.{Learns};
 
+use yp_answer::session::Host;
 use yp_io::NoMemory;
-use yp_session::Host;
 
 /// A host of a board that others show versions on.
 pub trait CatchUp: Host {

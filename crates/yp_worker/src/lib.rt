@@ -1,15 +1,18 @@
 //! One worker of a server: a host, the memory of a session, and a gate that is told of its steps.
 //!
-//! A worker serves one connection after another, and what its host knows never goes back between them. What goes out
-//! on a connection for what comes in stands on [`Worker::one`]. Workers share a listener under one lock: what each that
-//! has ended served, one connection after the other, is a fact of the type [`Listening`], which lies under the lock, and
-//! stands on [`Listening::close`], and so does the sum of what their hosts counted, and that what each was answered on
+//! A worker serves one connection after another, and what its host knows never goes back between them. What goes out on
+//! a connection for what comes in stands on [`Worker::one`]. Workers share a listener under one lock. What each that
+//! has ended served, one connection after the other, is a fact of the type [`Listening`], which lies under the lock,
+//! and stands on [`Listening::close`]; so does the sum of what their hosts counted, and that what each was answered on
 //! is a front of one log. That a worker ends by an end of the listener alone stands on [`Worker::run`], and of two in
 //! threads on [`run_beside`].
+//!
+//! [`datagrams`] answers the datagrams of a server.
 #![tactic(auto)]
 
 mod beside;
 mod catch_up;
+pub mod datagrams;
 mod gate;
 mod gated;
 pub mod laws;

@@ -3,9 +3,11 @@
 ghost use Rattle.std.specs.Prelude.{◌≡◌, ◌<◌, ◌≤◌, ◌+◌, [], length, false, true, ℕ, Some, IfSome};
 ghost use Rattle.yp_io.specs.Counts.{capped};
 ghost use Rattle.yp_io.specs.Calls.{halves_of};
-ghost use Rattle.yp_session.specs.Hosts.{conduct_of};
-ghost use Rattle.yp_worker.specs.Receptions.{Admits, IsGuest, IsKept, opening_of, terms_of};
-ghost use Rattle.yp_worker.specs.Summing.{HasEnded, SumsUp, counting_of};
+ghost use Rattle.yp_answer.specs.inside.session.Hosts.{conduct_by};
+ghost use Rattle.yp_worker.specs.Receptions.{IsListenerState, opening_by};
+ghost use Rattle.yp_worker.specs.inside.Receptions.{Admits, IsExpectedCall, terms_by};
+ghost use Rattle.yp_worker.specs.Summing.{SumsUp, counting_of};
+ghost use Rattle.yp_worker.specs.inside.Summing.{HasEnded};
 
 use crate::catch_up::HandsOver;
 use crate::tally::Tally;
@@ -13,14 +15,14 @@ use crate::worker::Worker;
 use std::marker::{Brand, Model};
 use std::sync::ledger::{Book, Ledger, Share};
 use yp_io::{Arrival, Called, Failed, Listen};
-use yp_shared::Site;
+use yp_publisher::sharing::Site;
 
 /// What every connection of a listener gets, and how the listener was before the first. Each call of a program that
 /// shares a listener picks it.
 pub trait Reception: Site + Ledger {
     ghost use Rattle.std.specs.Prelude.{ℕ};
     ghost use Rattle.yp_board.specs.Logs.{Log};
-    ghost use Rattle.yp_worker.specs.Receptions.{Opening};
+    ghost use Rattle.yp_worker.specs.Receptions.{ListenTells};
 
     /// What was shown before the first connection.
     ghost starts: { Log };
@@ -29,7 +31,7 @@ pub trait Reception: Site + Ledger {
     ghost most: { ℕ };
 
     /// The listener before the first connection.
-    ghost opening: { Opening };
+    ghost opening: { ListenTells };
 }
 
 impl Reception for Brand {
@@ -62,7 +64,7 @@ pub struct Pass<J: Ledger, E: Ledger> {
 
 impl<J: Ledger, E: Ledger> Model for Pass<J, E> {
     ghost use Rattle.std.specs.Prelude.{◌<◌};
-    ghost use Rattle.yp_worker.specs.Receptions.{Passed};
+    ghost use Rattle.yp_worker.specs.inside.Receptions.{Passed};
 
     ghost Value = { Passed };
 
@@ -119,11 +121,12 @@ pub struct Listening<J: Reception, E: Ledger, H: HandsOver, L: Listen> {
 }
 
 impl<J: Reception, E: Ledger, H: HandsOver, L: Listen> Model for Listening<J, E, H, L> {
-    ghost use Rattle.yp_session.specs.Hosts.{conduct_of};
-    ghost use Rattle.yp_worker.specs.Receptions.{Kept, IsKept, opening_of, terms_of};
+    ghost use Rattle.yp_answer.specs.session.Hosts.{conduct_of};
+    ghost use Rattle.yp_worker.specs.Receptions.{IsListenerState, opening_by, terms_of};
+    ghost use Rattle.yp_worker.specs.inside.Receptions.{ListenerState};
     ghost use Rattle.yp_worker.specs.Summing.{SumsUp, counting_of};
 
-    ghost Value = { Kept L };
+    ghost Value = { ListenerState L };
 
     ghost view = { λ l. record {
       listen = l.listen;
@@ -134,18 +137,18 @@ impl<J: Reception, E: Ledger, H: HandsOver, L: Listen> Model for Listening<J, E,
       ended = l.ended.total;
     } };
 
-    ghost invariant = { λ l. IsKept J.opening (opening_of L.past L.most L.accepted L.returned L.faults l.listen)
+    ghost invariant = { λ l. IsListenerState J.opening (opening_by L.Listen l.listen)
         l.connections l.failed l.out.total l.ended.total
         × SumsUp (conduct_of H.seen H.told H.counts H.stepped H.made H.carried)
         (counting_of H.counted H.none H.plus) (terms_of J.catalogue J.starts J.most) J.opening
-        (opening_of L.past L.most L.accepted L.returned L.faults l.listen)
+        (opening_by L.Listen l.listen)
         l.calls (H.summed l.sum) (H.reached l.sum) };
 }
 
 impl<J: Reception, E: Ledger, H: HandsOver, L: Listen> Listening<J, E, H, L> {
     /// A listener before its first connection.
     pub fn new(listen: L, out: Book<J>, ended: Book<E>, sum: H::Sum) -> Listening<J, E, H, L>
-        requires opening { opening_of L.past L.most L.accepted L.returned L.faults listen ≡ J.opening }
+        requires opening { opening_by L.Listen listen ≡ J.opening }
         requires none_out { out.total ≡ 0 }
         requires none_ended { ended.total ≡ 0 }
         requires none_counted { H.summed sum ≡ H.none }
@@ -171,7 +174,7 @@ impl<J: Reception, E: Ledger, H: HandsOver, L: Listen> Listening<J, E, H, L> {
 
     /// Accepts the next connection, where no accept has failed.
     pub(crate) fn admit(&mut self, pass: &mut Pass<J, E>) -> Admission<L::In, L::Out>
-        ensures { Admits (IsGuest (halves_of L.In.Source L.Out.Sink) J.opening.past) result pass.old pass.new }
+        ensures { Admits (IsExpectedCall (halves_of L.In.Source L.Out.Sink) J.opening.past) result pass.old pass.new }
     {
         if self.failed {
             self.ended.add(&mut pass.ended, 1);
@@ -215,8 +218,8 @@ impl<J: Reception, E: Ledger, H: HandsOver, L: Listen> Listening<J, E, H, L> {
         worker: &mut Worker<H, G>,
     )
         requires out { tally.now.connections ≤ pass.old.out }
-        requires served { HasEnded (conduct_of H.seen H.told H.counts H.stepped H.made H.carried)
-            (counting_of H.counted H.none H.plus) (terms_of J.catalogue J.starts J.most) J.opening.past
+        requires served { HasEnded (conduct_by H.Host) (counting_of H.counted H.none H.plus)
+            (terms_by J.Reception) J.opening.past
             tally.now.connections tally.now.calls worker.old (L.closed closer) (L.closed_count closer) }
         ensures out { pass.new.out + tally.now.connections ≡ pass.old.out }
         ensures same { pass.new ≡ record pass.old { out = pass.new.out } }
@@ -236,11 +239,10 @@ impl<J: Reception, E: Ledger, H: HandsOver, L: Listen> Listening<J, E, H, L> {
         requires all { pass.old.parts ≡ J.parts }
         requires none_out { pass.old.out ≡ 0 }
         requires ended { 0 < pass.old.ended }
-        ensures kept { IsKept J.opening (opening_of L.past L.most L.accepted L.returned L.faults result.0)
-            result.1.connections result.1.listen_fault 0 1 }
-        ensures summed { SumsUp (conduct_of H.seen H.told H.counts H.stepped H.made H.carried)
-            (counting_of H.counted H.none H.plus) (terms_of J.catalogue J.starts J.most) J.opening
-            (opening_of L.past L.most L.accepted L.returned L.faults result.0)
+        ensures kept { IsListenerState J.opening (opening_by L.Listen result.0) result.1.connections
+            result.1.listen_fault 0 1 }
+        ensures summed { SumsUp (conduct_by H.Host) (counting_of H.counted H.none H.plus) (terms_by J.Reception)
+            J.opening (opening_by L.Listen result.0)
             result.1.calls (H.summed result.2) (H.reached result.2) }
         ensures same { pass.new ≡ pass.old }
     {

@@ -3,9 +3,11 @@
 ghost use Rattle.std.specs.Prelude.{◌≡◌, ◌<◌, ◌+◌, ◌^◌};
 ghost use Rattle.yp_board.specs.Views.{IsFront};
 ghost use Rattle.yp_io.specs.Calls.{halves_of};
-ghost use Rattle.yp_session.specs.Hosts.{conduct_of};
-ghost use Rattle.yp_worker.specs.Receptions.{Admits, IsGuest, IsUnder, terms_of};
-ghost use Rattle.yp_worker.specs.Summing.{HasEnded, counting_of};
+ghost use Rattle.yp_answer.specs.inside.session.Hosts.{conduct_by};
+ghost use Rattle.yp_worker.specs.Receptions.{IsUnder};
+ghost use Rattle.yp_worker.specs.inside.Receptions.{Admits, IsExpectedCall, terms_by};
+ghost use Rattle.yp_worker.specs.Summing.{counting_of};
+ghost use Rattle.yp_worker.specs.inside.Summing.{HasEnded};
 
 use crate::catch_up::HandsOver;
 use crate::gate::Gate;
@@ -26,11 +28,9 @@ impl<H: HandsOver, G: Gate + Copy> Worker<H, G> {
         listening: &Mutex<Listening<J, E, H, L>>,
         pass: &mut Pass<J, E>,
     ) -> Tally
-        requires under { IsUnder (conduct_of H.seen H.told H.counts H.stepped H.made H.carried)
-            (terms_of J.catalogue J.starts J.most) self.old }
+        requires under { IsUnder (conduct_by H.Host) (terms_by J.Reception) self.old }
         requires none { H.counted self.old.host ≡ H.none }
-        ensures under { IsUnder (conduct_of H.seen H.told H.counts H.stepped H.made H.carried)
-            (terms_of J.catalogue J.starts J.most) self.new }
+        ensures under { IsUnder (conduct_by H.Host) (terms_by J.Reception) self.new }
         ensures none { H.counted self.new.host ≡ H.none }
         ensures grown { IsFront (H.seen self.old.host).known (H.seen self.new.host).known }
 
@@ -61,12 +61,11 @@ impl<H: HandsOver, G: Gate + Copy> Worker<H, G> {
         rt: &R,
         listening: &Mutex<Listening<J, E, H, L>>,
     ) -> (L::Closer, Tally)
-        requires under { IsUnder (conduct_of H.seen H.told H.counts H.stepped H.made H.carried)
-            (terms_of J.catalogue J.starts J.most) self.now }
+        requires under { IsUnder (conduct_by H.Host) (terms_by J.Reception) self.now }
         requires none { H.counted self.now.host ≡ H.none }
         ensures nothing { result.1.connections ≡ 0 }
-        ensures served { HasEnded (conduct_of H.seen H.told H.counts H.stepped H.made H.carried)
-            (counting_of H.counted H.none H.plus) (terms_of J.catalogue J.starts J.most) J.opening.past
+        ensures served { HasEnded (conduct_by H.Host) (counting_of H.counted H.none H.plus)
+            (terms_by J.Reception) J.opening.past
             result.1.connections result.1.calls self.now (L.closed result.0) (L.closed_count result.0) }
     {
         let kept = listening.lock(rt);
@@ -86,19 +85,17 @@ impl<H: HandsOver, G: Gate + Copy> Worker<H, G> {
         call: Called<L::In, L::Out>,
         connection: u64,
     )
-        requires under { IsUnder (conduct_of H.seen H.told H.counts H.stepped H.made H.carried)
-            (terms_of J.catalogue J.starts J.most) self.old }
-        requires guest { IsGuest (halves_of L.In.Source L.Out.Sink) J.opening.past call }
+        requires under { IsUnder (conduct_by H.Host) (terms_by J.Reception) self.old }
+        requires guest { IsExpectedCall (halves_of L.In.Source L.Out.Sink) J.opening.past call }
         requires room { tally.old.connections + 1 < 2 ^ 64 }
-        requires served { HasEnded (conduct_of H.seen H.told H.counts H.stepped H.made H.carried)
-            (counting_of H.counted H.none H.plus) (terms_of J.catalogue J.starts J.most) J.opening.past
+        requires served { HasEnded (conduct_by H.Host) (counting_of H.counted H.none H.plus)
+            (terms_by J.Reception) J.opening.past
             tally.old.connections tally.old.calls self.old (L.closed closer.old) (L.closed_count closer.old) }
-        ensures under { IsUnder (conduct_of H.seen H.told H.counts H.stepped H.made H.carried)
-            (terms_of J.catalogue J.starts J.most) self.new }
+        ensures under { IsUnder (conduct_by H.Host) (terms_by J.Reception) self.new }
         ensures grown { IsFront (H.seen self.old.host).known (H.seen self.new.host).known }
         ensures counted { tally.new.connections ≡ tally.old.connections + 1 }
-        ensures served { HasEnded (conduct_of H.seen H.told H.counts H.stepped H.made H.carried)
-            (counting_of H.counted H.none H.plus) (terms_of J.catalogue J.starts J.most) J.opening.past
+        ensures served { HasEnded (conduct_by H.Host) (counting_of H.counted H.none H.plus)
+            (terms_by J.Reception) J.opening.past
             tally.new.connections tally.new.calls self.new (L.closed closer.new) (L.closed_count closer.new) }
     {
         let Called { origin, wire } = call;
@@ -114,7 +111,7 @@ fn admitted<J: Reception, E: Ledger, H: HandsOver, L: Listen, R: Wait>(
     listening: &Mutex<Listening<J, E, H, L>>,
     pass: &mut Pass<J, E>,
 ) -> Admission<L::In, L::Out>
-    ensures { Admits (IsGuest (halves_of L.In.Source L.Out.Sink) J.opening.past) result pass.old pass.new }
+    ensures { Admits (IsExpectedCall (halves_of L.In.Source L.Out.Sink) J.opening.past) result pass.old pass.new }
 {
     let mut kept = listening.lock(rt);
     kept.admit(pass)

@@ -3,16 +3,16 @@
 ghost use Rattle.std.specs.Prelude.{◌≡◌, ◌≢◌, ◌≤◌, List, IsTrue};
 ghost use Rattle.yp_io.specs.Counts.{HasRisen};
 ghost use Rattle.yp_board.specs.Views.{IsFront};
-ghost use Rattle.yp_session.specs.Wires.{Wire, wire_of, NeverFalls, SeesMore};
-ghost use Rattle.yp_session.specs.Hosts.{conduct_of};
+ghost use Rattle.yp_answer.specs.session.Wires.{Wire, wire_of, NeverFalls, SeesMore};
+ghost use Rattle.yp_answer.specs.inside.session.Hosts.{conduct_by};
 ghost use Rattle.yp_worker.specs.Working.{Attends};
 
 use crate::catch_up::{CatchUp, HandsOver};
 use crate::gate::{Gate, Point};
 use crate::gated::Gated;
 use std::marker::Model;
-use yp_io::{Pair, Peer, Sink, Source};
-use yp_session::{CALLS_MAX, End, Session, Trail, Witness};
+use yp_answer::session::{CALLS_MAX, End, Session, Witness};
+use yp_io::{Pair, Peer, Sink, Source, Trail};
 
 /// A worker. It answers at most so many records of one connection.
 #[derive(Drop)]
@@ -80,8 +80,7 @@ impl<H: CatchUp, G: Gate + Copy> Worker<H, G> {
         witness: &mut W,
     ) -> (Pair<S, K>, End)
         ensures attends { SeesMore (W.wires witness.old) (W.wires witness.new)
-            (Attends (conduct_of H.seen H.told H.counts H.stepped H.made H.carried) H.counted peer result.1
-            self.old self.new
+            (Attends (conduct_by H.Host) H.counted peer result.1 self.old self.new
             (wire_of S.Source K.Sink wire) (wire_of S.Source K.Sink result.0)) }
         ensures flushed { result.1 ≢ End.WriteFault
             → IsTrue (K.flushed wire.sink) → IsTrue (K.flushed result.0.sink) }
@@ -116,8 +115,7 @@ impl<H: CatchUp, G: Gate + Copy> Worker<H, G> {
         peer: Peer,
         connection: u64,
     ) -> (Pair<S, K>, End)
-        ensures attends { (wires : List Wire) × Attends
-            (conduct_of H.seen H.told H.counts H.stepped H.made H.carried) H.counted peer result.1 self.old self.new
+        ensures attends { (wires : List Wire) × Attends (conduct_by H.Host) H.counted peer result.1 self.old self.new
             (wire_of S.Source K.Sink wire) (wire_of S.Source K.Sink result.0) wires }
         ensures flushed { result.1 ≢ End.WriteFault
             → IsTrue (K.flushed wire.sink) → IsTrue (K.flushed result.0.sink) }

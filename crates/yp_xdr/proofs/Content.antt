@@ -9,7 +9,7 @@ use Rattle.std.proofs.lemmas.List.{length-replicate, drop-drop}
 use Rattle.std.proofs.lemmas.List.Folds.{prefix_len-replicate}
 use Rattle.yp_xdr.specs.declared.fault.XdrFault.TheVariants.{Short}
 use Rattle.yp_xdr.specs.Spelling.{padding_len, padding}
-use Rattle.yp_xdr.specs.Reading.{Unread, past, first_nonzero, padded, content_at}
+use Rattle.yp_xdr.specs.Reading.{Remaining, past, first_nonzero, padded, content_at}
 use Rattle.yp_xdr.proofs.Words.{guard_ok, ok_is}
 
 -- the test that first_nonzero makes of each byte
@@ -47,19 +47,19 @@ zeros_from_none bytes e =
     (none_from (ltb (position_or_len is_nonzero bytes) (length bytes)) (position_or_len is_nonzero bytes) e))
 
 -- where padded content was not refused, no byte of the padding isn't zero
-padded_ok : (n : ℕ) (left : Unread) (place : Option ℕ) (y : List ℕ × Unread) → padded n left place ≡ Ok y
+padded_ok : (n : ℕ) (left : Remaining) (place : Option ℕ) (y : List ℕ × Remaining) → padded n left place ≡ Ok y
     → (place ≡ None) × ((take n left.bytes, past (n + padding_len n) left) ≡ y)
 padded_ok n left None y e = (refl, ok_is _ y _ _ refl refl e)
 padded_ok n left (Some place) y e = absurd cc
 
 -- what reading content took from the front
-pub record ContentTaken (n : ℕ) (old : Unread) (content : List ℕ) (new : Unread) : Type 0 where
+pub record ContentTaken (n : ℕ) (old : Remaining) (content : List ℕ) (new : Remaining) : Type 0 where
   pub len : length content ≡ n
   pub parts : old.bytes ≡ content ++ padding n ++ new.bytes
   pub place : new.at ≡ old.at + (n + padding_len n)
 
 -- content that is read is what is at the front, padded
-pub content_takes : (start n : ℕ) (old new : Unread) (content : List ℕ) → content_at start n old ≡ Ok (content, new)
+pub content_takes : (start n : ℕ) (old new : Remaining) (content : List ℕ) → content_at start n old ≡ Ok (content, new)
     → ContentTaken n old content new
 unfolding content_at
 content_takes start n old new content e =
@@ -78,7 +78,7 @@ content_takes start n old new content e =
     ∙ ap (λ (xs : List ℕ). take n old.bytes ++ xs)
     (sym (take-append-drop pad (drop n old.bytes)) ∙ rw (padding_there, behind) refl)
     ∙ sym (append_assoc (take n old.bytes) (padding n) (drop (n + pad) old.bytes)) in
-    subst (λ (y : List ℕ × Unread). ContentTaken n old y.0 y.1) p.1 (record { len = len; parts = parts; place = refl })
+    subst (λ (y : List ℕ × Remaining). ContentTaken n old y.0 y.1) p.1 (record { len = len; parts = parts; place = refl })
 
 -- content that was written is read again
 pub content_again : (start at : ℕ) (content rest : List ℕ)

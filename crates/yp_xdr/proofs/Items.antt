@@ -12,7 +12,8 @@ use Rattle.yp_xdr.specs.declared.fault.XdrFault.{XdrFault}
 use Rattle.yp_xdr.specs.declared.fault.XdrFault.TheVariants.{Short, BadBool, BadEnum}
 use Rattle.yp_xdr.specs.Kind.{U32, I32, Boolean, Enum, Fixed}
 use Rattle.yp_xdr.specs.Spelling.{word, truth, is_one_of, padding_len, padding, fixed}
-use Rattle.yp_xdr.specs.Reading.{Unread, word_at, bool_at, signed_at, one_of_at, content_at, BeginsWith, IsBytes}
+use Rattle.yp_xdr.specs.Reading.{Remaining, word_at, bool_at, signed_at, one_of_at, content_at}
+use Rattle.yp_xdr.specs.inside.Reading.{BeginsWith, IsBytes}
 use Rattle.yp_xdr.proofs.Words.{bind_ok, ok_is, word_takes, word_again}
 use Rattle.yp_xdr.proofs.Content.{content_takes, content_again}
 
@@ -30,27 +31,27 @@ err_not_ok : {A : Type 0} (fault : XdrFault) (y : A) → Err fault ≡ Ok y → 
 err_not_ok fault y e = absurd cc
 
 -- where no word is whole, no boolean is
-pub bool_short : (left : Unread) → length left.bytes < 4 → bool_at left ≡ Err (Short left.at)
+pub bool_short : (left : Remaining) → length left.bytes < 4 → bool_at left ≡ Err (Short left.at)
 unfolding bool_at word_at
 bool_short left short = rw (lt-ltb _ _ short) refl
 
 -- a word that is a boolean is the word of that boolean
-bool_of : (n : ℕ) (left : Unread) (fault : XdrFault) (b : Bool) (new : Unread)
-    → cond {A = Result (Bool × Unread) XdrFault} (eqb n 0) (Ok (false, left))
+bool_of : (n : ℕ) (left : Remaining) (fault : XdrFault) (b : Bool) (new : Remaining)
+    → cond {A = Result (Bool × Remaining) XdrFault} (eqb n 0) (Ok (false, left))
     (cond (eqb n 1) (Ok (true, left)) (Err fault)) ≡ Ok (b, new) → (n ≡ truth b) × (left ≡ new)
 bool_of zero left fault b new e =
     let answer = ok_is (false, left) (b, new) _ _ e refl refl in
-    (ap (λ (y : Bool × Unread). truth y.0) answer, ap (λ (y : Bool × Unread). y.1) answer)
+    (ap (λ (y : Bool × Remaining). truth y.0) answer, ap (λ (y : Bool × Remaining). y.1) answer)
 bool_of (suc zero) left fault b new e =
     let answer = ok_is (true, left) (b, new) _ _ e refl refl in
-    (ap (λ (y : Bool × Unread). truth y.0) answer, ap (λ (y : Bool × Unread). y.1) answer)
+    (ap (λ (y : Bool × Remaining). truth y.0) answer, ap (λ (y : Bool × Remaining). y.1) answer)
 bool_of (suc (suc n)) left fault b new e =
     let not_zero : eqb (suc (suc n)) 0 ≡ false = ne_eqb (suc (suc n)) 0 (omega arith) in
     let not_one : eqb (suc (suc n)) 1 ≡ false = ne_eqb (suc (suc n)) 1 (omega arith) in
     absurd (err_not_ok fault (b, new) (sym (cond-false _ _ _ not_zero ∙ cond-false _ _ _ not_one) ∙ e))
 
 -- a boolean that is read is spelled
-pub bool_takes : (old new : Unread) (b : Bool) → IsBytes old.bytes → bool_at old ≡ Ok (b, new)
+pub bool_takes : (old new : Remaining) (b : Bool) → IsBytes old.bytes → bool_at old ≡ Ok (b, new)
     → BeginsWith Boolean b old new
 unfolding bool_at
 bool_takes old new b are_bytes e =
@@ -62,8 +63,8 @@ bool_takes old new b are_bytes e =
     record {
       front = one.front;
       spells = record { fits = tt; spelled = one.spells.spelled ∙ ap word is.0 };
-      parts = one.parts ∙ ap (λ (u : Unread). one.front ++ u.bytes) is.1;
-      place = ap (λ (u : Unread). u.at) (sym is.1) ∙ one.place;
+      parts = one.parts ∙ ap (λ (u : Remaining). one.front ++ u.bytes) is.1;
+      place = ap (λ (u : Remaining). u.at) (sym is.1) ∙ one.place;
     }
 
 -- ---- signed numbers
@@ -82,7 +83,7 @@ signed_again z at rest fits =
     (ap (λ (v : ℤ). Ok (v, record { at = at + 4; bytes = rest })) back)
 
 -- a word spells the signed number that it is
-begins_signed : (n : ℕ) (old new : Unread) → BeginsWith U32 n old new → BeginsWith I32 (cast_signed w32 n) old new
+begins_signed : (n : ℕ) (old new : Remaining) → BeginsWith U32 n old new → BeginsWith I32 (cast_signed w32 n) old new
 begins_signed n old new one =
     let below : n < 2 ^ 32 = one.spells.fits in
     let back : cast_unsigned w32 (cast_signed w32 n) ≡ n = of_z-to_z w32 n below in
@@ -94,11 +95,11 @@ begins_signed n old new one =
     }
 
 -- a signed number that is read is spelled
-pub signed_takes : (old new : Unread) (z : ℤ) → IsBytes old.bytes → signed_at old ≡ Ok (z, new)
+pub signed_takes : (old new : Remaining) (z : ℤ) → IsBytes old.bytes → signed_at old ≡ Ok (z, new)
     → BeginsWith I32 z old new
 signed_takes old new z are_bytes e =
     let b = bind_ok (word_at old) (λ word. Ok (cast_signed w32 word.0, word.1)) (z, new) e in
-    let P : ℤ × Unread → Type 0 = λ y. BeginsWith I32 y.0 old y.1 in
+    let P : ℤ × Remaining → Type 0 = λ y. BeginsWith I32 y.0 old y.1 in
     subst P (ok_is _ (z, new) _ _ refl refl b.2)
     (begins_signed b.0.0 old b.0.1 (word_takes old b.0.1 b.0.0 are_bytes b.1))
 
@@ -118,7 +119,7 @@ guard_true true fault answer y e = (refl, e)
 guard_true false fault answer y e = absurd cc
 
 -- a number of an enum that is read is listed, and spelled
-pub one_of_takes : (allowed : List ℤ) (old new : Unread) (z : ℤ) → IsBytes old.bytes
+pub one_of_takes : (allowed : List ℤ) (old new : Remaining) (z : ℤ) → IsBytes old.bytes
     → one_of_at allowed old ≡ Ok (z, new) → BeginsWith (Enum allowed) z old new
 unfolding one_of_at
 one_of_takes allowed old new z are_bytes e =
@@ -126,7 +127,7 @@ one_of_takes allowed old new z are_bytes e =
     (z, new) e in
     let g = guard_true (is_one_of allowed b.0.0) (BadEnum old.at) (Ok b.0) (z, new) b.2 in
     let one = signed_takes old b.0.1 b.0.0 are_bytes b.1 in
-    let P : ℤ × Unread → Type 0 = λ y. BeginsWith (Enum allowed) y.0 old y.1 in
+    let P : ℤ × Remaining → Type 0 = λ y. BeginsWith (Enum allowed) y.0 old y.1 in
     subst P (ok_is b.0 (z, new) _ _ refl refl g.1) (record {
       front = one.front;
       spells = record { fits = (one.spells.fits, g.0); spelled = one.spells.spelled };
@@ -154,7 +155,7 @@ fixed_again start n at content rest len =
     ∙ ap (λ (k : ℕ). Ok (content, record { at = at + k; bytes = rest })) (sym (length-fixed content)))
 
 -- fixed bytes that are read are spelled
-pub fixed_takes : (start n : ℕ) (old new : Unread) (content : List ℕ) → content_at start n old ≡ Ok (content, new)
+pub fixed_takes : (start n : ℕ) (old new : Remaining) (content : List ℕ) → content_at start n old ≡ Ok (content, new)
     → BeginsWith (Fixed n) content old new
 unfolding fixed
 fixed_takes start n old new content e =

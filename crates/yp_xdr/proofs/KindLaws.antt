@@ -5,10 +5,12 @@ use Rattle.std.proofs.lemmas.Bool.{ltb-false, le-ltb}
 use Rattle.std.proofs.lemmas.List.{append-nil, length-append}
 use Rattle.yp_xdr.specs.declared.fault.XdrFault.TheVariants.{TooLong}
 use Rattle.yp_xdr.specs.Kind.{Kind, U32, I32, Boolean, Enum, Fixed, Opaque, Sequence, Union, Optional, ListOf, Value}
-use Rattle.yp_xdr.specs.Spelling.{word, fixed, opaque, spelling, Fits}
-use Rattle.yp_xdr.specs.Reading.{Unread, ◌>>=◌, word_at, content_at, opaque_at, reading, BeginsWith, IsBytes}
-use Rattle.yp_xdr.specs.Laws.{OneSpelling, NoSpellingBeginsAnother, WrittenIsReadAgain, ReadIsSpelled}
-use Rattle.yp_xdr.specs.Laws.{RefusedIsNotSpelled, ListIsReadInTurn}
+use Rattle.yp_xdr.specs.Spelling.{word, fixed, opaque, spelling}
+use Rattle.yp_xdr.specs.inside.Spelling.{Fits}
+use Rattle.yp_xdr.specs.Reading.{Remaining, ◌>>=◌, word_at, content_at, opaque_at, reading}
+use Rattle.yp_xdr.specs.inside.Reading.{BeginsWith, IsBytes}
+use Rattle.yp_xdr.specs.inside.Laws.{OneSpelling, NoSpellingBeginsAnother, WrittenIsReadAgain, ReadIsSpelled}
+use Rattle.yp_xdr.specs.inside.Laws.{RefusedIsNotSpelled, ListIsReadInTurn}
 use Rattle.yp_xdr.proofs.Words.{bind_ok, guard_ok, ok_is, IsBytes-behind, word_takes, word_again}
 use Rattle.yp_xdr.proofs.Items.{signed_again, signed_takes, bool_again, bool_takes, one_of_again, one_of_takes}
 use Rattle.yp_xdr.proofs.Items.{fixed_again, fixed_takes}
@@ -74,16 +76,16 @@ no_spelling_begins_another kind v w a b rest one other same =
     let same_answer : reading kind (record { at = 0; bytes = b ++ [] })
     ≡ reading kind (record { at = 0; bytes = a ++ rest }) = ap
     (λ (xs : List ℕ). reading kind (record { at = 0; bytes = xs })) same_bytes in
-    let answer_b : Value kind × Unread = (w, record { at = 0 + length b; bytes = [] }) in
-    let answer_a : Value kind × Unread = (v, record { at = 0 + length a; bytes = rest }) in
+    let answer_b : Value kind × Remaining = (w, record { at = 0 + length b; bytes = [] }) in
+    let answer_a : Value kind × Remaining = (v, record { at = 0 + length a; bytes = rest }) in
     let answer = ok_is answer_b answer_a _ _ same_answer (written_is_read_again kind w b [] 0 other)
     (written_is_read_again kind v a rest 0 one) in
-    (sym (ap (λ (y : Value kind × Unread). y.1.bytes) answer), sym (ap (λ (y : Value kind × Unread). y.0) answer))
+    (sym (ap (λ (y : Value kind × Remaining). y.1.bytes) answer), sym (ap (λ (y : Value kind × Remaining). y.0) answer))
 
 -- ---- what is read is spelled
 
 -- a length and padded content of that length spell the content
-begins_opaque : (max n : ℕ) (old mid new : Unread) (content : List ℕ) → n ≤ max → BeginsWith U32 n old mid
+begins_opaque : (max n : ℕ) (old mid new : Remaining) (content : List ℕ) → n ≤ max → BeginsWith U32 n old mid
     → BeginsWith (Fixed n) content mid new → BeginsWith (Opaque max) content old new
 unfolding opaque
 begins_opaque max n old mid new content le one taken =
@@ -102,7 +104,7 @@ begins_opaque max n old mid new content le one taken =
     }
 
 -- two values spell their sequence
-begins_sequence : (first second : Kind) (v : Value first) (w : Value second) (old mid new : Unread)
+begins_sequence : (first second : Kind) (v : Value first) (w : Value second) (old mid new : Remaining)
     → BeginsWith first v old mid → BeginsWith second w mid new → BeginsWith (Sequence first second) (v, w) old new
 begins_sequence first second v w old mid new one other = record {
   front = one.front ++ other.front;
@@ -117,7 +119,7 @@ begins_sequence first second v w old mid new one other = record {
 }
 
 -- opaque bytes that are read are spelled
-opaque_takes : (max : ℕ) (old new : Unread) (content : List ℕ) → IsBytes old.bytes
+opaque_takes : (max : ℕ) (old new : Remaining) (content : List ℕ) → IsBytes old.bytes
     → opaque_at max old ≡ Ok (content, new) → BeginsWith (Opaque max) content old new
 unfolding opaque_at
 opaque_takes max old new content are_bytes e =
@@ -142,7 +144,7 @@ read_is_spelled (Sequence first second) old new value are_bytes e =
     let one = read_is_spelled first old a.0.1 a.0.0 are_bytes a.1 in
     let other = read_is_spelled second a.0.1 b.0.1 b.0.0
     (IsBytes-behind old.bytes one.front a.0.1.bytes one.parts are_bytes) b.1 in
-    let P : Value (Sequence first second) × Unread → Type 0 = λ y. BeginsWith (Sequence first second) y.0 old y.1 in
+    let P : Value (Sequence first second) × Remaining → Type 0 = λ y. BeginsWith (Sequence first second) y.0 old y.1 in
     subst P (ok_is _ (value, new) _ _ refl refl b.2)
     (begins_sequence first second a.0.0 b.0.0 old a.0.1 b.0.1 one other)
 read_is_spelled (Union one first other second) old new value are_bytes e =

@@ -8,9 +8,11 @@ use Rattle.std.proofs.lemmas.List.Elements.{All-cons, All-nil}
 use Rattle.yp_xdr.specs.declared.fault.XdrFault.{XdrFault}
 use Rattle.yp_xdr.specs.declared.fault.XdrFault.TheVariants.{Short}
 use Rattle.yp_xdr.specs.Kind.{Kind, Boolean, Optional, ListOf, Value}
-use Rattle.yp_xdr.specs.Spelling.{word, truth, present, Fits, spelling}
-use Rattle.yp_xdr.specs.Reading.{Unread, ◌>>=◌, bool_at, some_at, cons_at, elements_at, list_at, reading, BeginsWith}
-use Rattle.yp_xdr.specs.Reading.{IsBytes}
+use Rattle.yp_xdr.specs.Spelling.{word, truth, present, spelling}
+use Rattle.yp_xdr.specs.inside.Spelling.{Fits}
+use Rattle.yp_xdr.specs.Reading.{Remaining, ◌>>=◌, bool_at, some_at, cons_at, elements_at, list_at, reading}
+use Rattle.yp_xdr.specs.inside.Reading.{BeginsWith}
+use Rattle.yp_xdr.specs.inside.Reading.{IsBytes}
 use Rattle.yp_xdr.proofs.Words.{bind_ok, ok_is, IsBytes-behind}
 use Rattle.yp_xdr.proofs.Items.{bool_again, bool_takes, bool_short}
 
@@ -22,7 +24,7 @@ Again kind = (value : Value kind) (at : ℕ) (rest : List ℕ) → Fits kind val
 
 -- what is read is spelled, for one kind
 abbrev pub Takes : Kind → Type 0
-Takes kind = (old new : Unread) (value : Value kind) → IsBytes old.bytes → reading kind old ≡ Ok (value, new)
+Takes kind = (old new : Remaining) (value : Value kind) → IsBytes old.bytes → reading kind old ≡ Ok (value, new)
     → BeginsWith kind value old new
 
 -- ---- optional values
@@ -42,7 +44,7 @@ pub cond_ok : {A : Type 0} (b : Bool) (one other : Result A XdrFault) (y : A) (P
 cond_ok true one other y P e on_true on_false = on_true refl e
 cond_ok false one other y P e on_true on_false = on_false refl e
 
-begins_none : (kind : Kind) (b : Bool) (old new : Unread) → b ≡ false → BeginsWith Boolean b old new
+begins_none : (kind : Kind) (b : Bool) (old new : Remaining) → b ≡ false → BeginsWith Boolean b old new
     → BeginsWith (Optional kind) None old new
 begins_none kind b old new is one = record {
   front = one.front;
@@ -51,7 +53,7 @@ begins_none kind b old new is one = record {
   place = one.place;
 }
 
-begins_some : (kind : Kind) (b : Bool) (v : Value kind) (old mid new : Unread) → b ≡ true
+begins_some : (kind : Kind) (b : Bool) (v : Value kind) (old mid new : Remaining) → b ≡ true
     → BeginsWith Boolean b old mid → BeginsWith kind v mid new → BeginsWith (Optional kind) (Some v) old new
 begins_some kind b v old mid new is one other = record {
   front = one.front ++ other.front;
@@ -71,7 +73,7 @@ optional_takes kind takes old new value are_bytes e =
     let b = bind_ok (bool_at old) (λ more. cond more.0 (some_at (reading kind) more.1) (Ok (None, more.1)))
     (value, new) e in
     let flag = bool_takes old b.0.1 b.0.0 are_bytes b.1 in
-    let P : Option (Value kind) × Unread → Type 0 = λ y. BeginsWith (Optional kind) y.0 old y.1 in
+    let P : Option (Value kind) × Remaining → Type 0 = λ y. BeginsWith (Optional kind) y.0 old y.1 in
     cond_ok b.0.0 (some_at (reading kind) b.0.1) (Ok (None, b.0.1)) (value, new) (P (value, new)) b.2
     (λ is h.
     let s = bind_ok (reading kind b.0.1) (λ one. Ok (Some one.0, one.1)) (value, new) h in
@@ -139,7 +141,7 @@ list_again kind again values at rest fit =
     list_again_in kind again values (length bytes) at rest fit
     (omega (arith, list_len kind values, length-append (spelling (ListOf kind) values) rest))
 
-begins_nil : (kind : Kind) (b : Bool) (old new : Unread) → b ≡ false → BeginsWith Boolean b old new
+begins_nil : (kind : Kind) (b : Bool) (old new : Remaining) → b ≡ false → BeginsWith Boolean b old new
     → BeginsWith (ListOf kind) [] old new
 begins_nil kind b old new is one = record {
   front = one.front;
@@ -148,7 +150,7 @@ begins_nil kind b old new is one = record {
   place = one.place;
 }
 
-begins_cons : (kind : Kind) (b : Bool) (v : Value kind) (values : List (Value kind)) (old mid half new : Unread)
+begins_cons : (kind : Kind) (b : Bool) (v : Value kind) (values : List (Value kind)) (old mid half new : Remaining)
     → b ≡ true
     → BeginsWith Boolean b old mid → BeginsWith kind v mid half → BeginsWith (ListOf kind) values half new
     → BeginsWith (ListOf kind) (v ∷ values) old new
@@ -176,7 +178,7 @@ begins_cons kind b v values old mid half new is flag one others =
       );
     }
 
-list_takes_in : (kind : Kind) → Takes kind → (n : ℕ) (old new : Unread) (values : List (Value kind))
+list_takes_in : (kind : Kind) → Takes kind → (n : ℕ) (old new : Remaining) (values : List (Value kind))
     → IsBytes old.bytes → list_at (reading kind) n old ≡ Ok (values, new) → BeginsWith (ListOf kind) values old new
 list_takes_in kind takes zero old new values are_bytes e = absurd cc
 list_takes_in kind takes (suc n) old new values are_bytes e =
@@ -185,7 +187,7 @@ list_takes_in kind takes (suc n) old new values are_bytes e =
     (values, new) e in
     let flag = bool_takes old b.0.1 b.0.0 are_bytes b.1 in
     let rest = IsBytes-behind old.bytes flag.front b.0.1.bytes flag.parts are_bytes in
-    let P : List (Value kind) × Unread → Type 0 = λ y. BeginsWith (ListOf kind) y.0 old y.1 in
+    let P : List (Value kind) × Remaining → Type 0 = λ y. BeginsWith (ListOf kind) y.0 old y.1 in
     cond_ok b.0.0 (cons_at (reading kind) (list_at (reading kind) n) b.0.1) (Ok ([], b.0.1)) (values, new)
     (P (values, new)) b.2
     (λ is h.
@@ -218,14 +220,14 @@ choice_same true one other none same = same refl
 choice_same false one other none same = refl
 
 -- an element in front of what is read behind it
-abbrev joined : {V : Type 0} → (Unread → Result (List V × Unread) XdrFault) → V × Unread
-    → Result (List V × Unread) XdrFault
+abbrev joined : {V : Type 0} → (Remaining → Result (List V × Remaining) XdrFault) → V × Remaining
+    → Result (List V × Remaining) XdrFault
 joined read_others one = read_others one.1 >>= λ others. Ok (one.0 ∷ others.0, others.1)
 
 -- how a list goes on matters only behind its first element
-elements_same : (kind : Kind) (left : Unread) (one other : Unread → Result (List (Value kind) × Unread) XdrFault)
+elements_same : (kind : Kind) (left : Remaining) (one other : Remaining → Result (List (Value kind) × Remaining) XdrFault)
     → Takes kind → IsBytes left.bytes
-    → ((rest : Unread) → IsBytes rest.bytes → length rest.bytes < length left.bytes → one rest ≡ other rest)
+    → ((rest : Remaining) → IsBytes rest.bytes → length rest.bytes < length left.bytes → one rest ≡ other rest)
     → elements_at (reading kind) one left ≡ elements_at (reading kind) other left
 elements_same kind left one other takes are_bytes same =
     bind_same (bool_at left) _ _ (λ more e.
@@ -240,17 +242,17 @@ elements_same kind left one other takes are_bytes same =
     let less : length v.1.bytes < length left.bytes =
     omega (arith, ap length b.parts, length-append b.front v.1.bytes) in
     let behind = same v.1 (IsBytes-behind more.1.bytes b.front v.1.bytes b.parts rest) less in
-    ap (λ (answer : Result (List (Value kind) × Unread) XdrFault). answer >>= λ others. Ok (v.0 ∷ others.0, others.1))
+    ap (λ (answer : Result (List (Value kind) × Remaining) XdrFault). answer >>= λ others. Ok (v.0 ∷ others.0, others.1))
     behind)))
 
 -- where nothing is left, a list isn't whole
-elements_short : (kind : Kind) (left : Unread) (read_others : Unread → Result (List (Value kind) × Unread) XdrFault)
+elements_short : (kind : Kind) (left : Remaining) (read_others : Remaining → Result (List (Value kind) × Remaining) XdrFault)
     → length left.bytes < 4
     → elements_at (reading kind) read_others left ≡ Err (Short left.at)
 elements_short kind left read_others short = rw (bool_short left short) refl
 
 -- more elements than bytes are not asked for
-enough : (kind : Kind) → Takes kind → (n m : ℕ) (left : Unread) → IsBytes left.bytes → length left.bytes ≤ n
+enough : (kind : Kind) → Takes kind → (n m : ℕ) (left : Remaining) → IsBytes left.bytes → length left.bytes ≤ n
     → length left.bytes ≤ m
     → list_at (reading kind) n left ≡ list_at (reading kind) m left
 enough kind takes zero zero left are_bytes few many = refl
@@ -262,7 +264,7 @@ enough kind takes (suc n) (suc m) left are_bytes few many =
     elements_same kind left (list_at (reading kind) n) (list_at (reading kind) m) takes are_bytes
     (λ rest rest_bytes less. enough kind takes n m rest rest_bytes (omega arith) (omega arith))
 
-pub list_in_turn : (kind : Kind) → Takes kind → (left : Unread) → IsBytes left.bytes
+pub list_in_turn : (kind : Kind) → Takes kind → (left : Remaining) → IsBytes left.bytes
     → reading (ListOf kind) left ≡ elements_at (reading kind) (reading (ListOf kind)) left
 list_in_turn kind takes left are_bytes =
     let n = length left.bytes in

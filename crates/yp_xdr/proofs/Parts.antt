@@ -4,8 +4,8 @@ use Rattle.std.proofs.Common.{append_assoc, arith}
 use Rattle.std.proofs.lemmas.List.{length-append, length-take, length-drop, take_at}
 use Rattle.std.proofs.lemmas.Slice.{drop-append-drop}
 use Rattle.yp_xdr.specs.declared.fault.NoRoom.{NoRoom}
-use Rattle.yp_xdr.specs.Writing.{written, Writes, Sets}
-use Rattle.yp_xdr.specs.Laws.{WrittenIsJoined, WritersJoin, SetsJoin}
+use Rattle.yp_xdr.specs.inside.Writing.{written, Writes, Sets}
+use Rattle.yp_xdr.specs.inside.Laws.{WrittenIsJoined, WritersJoin, SetsJoin}
 
 -- a write and then another behind it
 pub written-written : WrittenIsJoined

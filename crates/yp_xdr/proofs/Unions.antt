@@ -8,7 +8,8 @@ use Rattle.std.proofs.lemmas.Bool.Decides.{Decides-int_eq}
 use Rattle.std.proofs.lemmas.List.{length-append}
 use Rattle.yp_xdr.specs.Kind.{Kind, Enum, Union, Value}
 use Rattle.yp_xdr.specs.Spelling.{word, spelling}
-use Rattle.yp_xdr.specs.Reading.{Unread, one_of_at, first_at, second_at, reading, BeginsWith}
+use Rattle.yp_xdr.specs.Reading.{Remaining, one_of_at, first_at, second_at, reading}
+use Rattle.yp_xdr.specs.inside.Reading.{BeginsWith}
 use Rattle.yp_xdr.proofs.Words.{bind_ok, ok_is, IsBytes-behind}
 use Rattle.yp_xdr.proofs.Items.{one_of_again, one_of_takes}
 use Rattle.yp_xdr.proofs.Lists.{Again, Takes, cond_ok}
@@ -51,7 +52,7 @@ second_of true b listed is = absurd cc
 second_of false true listed is = refl
 second_of false false listed is = absurd cc
 
-begins_first : (one other : ℤ) (first second : Kind) (v : Value first) (old mid new : Unread)
+begins_first : (one other : ℤ) (first second : Kind) (v : Value first) (old mid new : Remaining)
     → BeginsWith (Enum (one ∷ other ∷ [])) one old mid → BeginsWith first v mid new
     → BeginsWith (Union one first other second) (inl v) old new
 begins_first one other first second v old mid new number value = record {
@@ -66,7 +67,7 @@ begins_first one other first second v old mid new number value = record {
   place = omega (arith, number.place, value.place, length-append number.front value.front);
 }
 
-begins_second : (one other : ℤ) (first second : Kind) (v : Value second) (old mid new : Unread)
+begins_second : (one other : ℤ) (first second : Kind) (v : Value second) (old mid new : Remaining)
     → int_eq one other ≡ false → BeginsWith (Enum (one ∷ other ∷ [])) other old mid → BeginsWith second v mid new
     → BeginsWith (Union one first other second) (inr v) old new
 begins_second one other first second v old mid new differs number value = record {
@@ -93,7 +94,7 @@ union_takes one other first second takes_first takes_second old new value are_by
     let number = one_of_takes allowed old b.0.1 b.0.0 are_bytes b.1 in
     let rest = IsBytes-behind old.bytes number.front b.0.1.bytes number.parts are_bytes in
     let N : ℤ → Type 0 = λ z. BeginsWith (Enum allowed) z old b.0.1 in
-    let P : (V ⊎ W) × Unread → Type 0 = λ y. BeginsWith (Union one first other second) y.0 old y.1 in
+    let P : (V ⊎ W) × Remaining → Type 0 = λ y. BeginsWith (Union one first other second) y.0 old y.1 in
     cond_ok (int_eq one b.0.0) (first_at {V = V} {W = W} (reading first) b.0.1) (second_at {V = V} {W = W} (reading second) b.0.1)
     (value, new) (P (value, new)) b.2
     (λ is h.

@@ -10,7 +10,8 @@ use Rattle.yp_xdr.specs.declared.fault.XdrFault.{XdrFault}
 use Rattle.yp_xdr.specs.declared.fault.XdrFault.TheVariants.{Short}
 use Rattle.yp_xdr.specs.Kind.{U32}
 use Rattle.yp_xdr.specs.Spelling.{word}
-use Rattle.yp_xdr.specs.Reading.{Unread, past, ◌>>=◌, word_at, BeginsWith, IsBytes}
+use Rattle.yp_xdr.specs.Reading.{Remaining, past, ◌>>=◌, word_at}
+use Rattle.yp_xdr.specs.inside.Reading.{BeginsWith, IsBytes}
 
 -- the value of a step that was not refused
 pub bind_ok : {A B : Type 0} (step : Result A XdrFault) (next : A → Result B XdrFault) (y : B)
@@ -50,15 +51,15 @@ pub ok_is : {A : Type 0} (x y : A) (one other : Result A XdrFault) → one ≡ o
 ok_is x y one other same e f = cc
 
 -- a word that is read is spelled by the next four bytes
-pub word_takes : (old new : Unread) (n : ℕ) → IsBytes old.bytes → word_at old ≡ Ok (n, new) → BeginsWith U32 n old new
+pub word_takes : (old new : Remaining) (n : ℕ) → IsBytes old.bytes → word_at old ≡ Ok (n, new) → BeginsWith U32 n old new
 unfolding word_at
 word_takes old new n are_bytes e =
     let g = guard_ok (ltb (length old.bytes) 4) (Short old.at) (Ok (from_be_bytes w32 (take 4 old.bytes), past 4 old))
     (n, new) e in
     let long : 4 ≤ length old.bytes = ltb-false _ _ g.0 in
     let answer = ok_is (from_be_bytes w32 (take 4 old.bytes), past 4 old) (n, new) _ _ refl refl g.1 in
-    let value : from_be_bytes w32 (take 4 old.bytes) ≡ n = ap (λ (p : ℕ × Unread). p.0) answer in
-    let left : past 4 old ≡ new = ap (λ (p : ℕ × Unread). p.1) answer in
+    let value : from_be_bytes w32 (take 4 old.bytes) ≡ n = ap (λ (p : ℕ × Remaining). p.0) answer in
+    let left : past 4 old ≡ new = ap (λ (p : ℕ × Remaining). p.1) answer in
     let front_bytes = IsBytes-take 4 old.bytes are_bytes in
     let front : word n ≡ take 4 old.bytes =
     be_bytes_4 (take 4 old.bytes) n (omega (arith, length-take 4 old.bytes)) front_bytes (sym value) in
@@ -70,8 +71,8 @@ word_takes old new n are_bytes e =
         spelled = refl;
       };
       parts = sym (take-append-drop 4 old.bytes) ∙ ap (λ (xs : List ℕ). xs ++ drop 4 old.bytes) (sym front)
-          ∙ ap (λ (u : Unread). word n ++ u.bytes) left;
-      place = ap (λ (u : Unread). u.at) (sym left);
+          ∙ ap (λ (u : Remaining). word n ++ u.bytes) left;
+      place = ap (λ (u : Remaining). u.at) (sym left);
     }
 
 -- a word is what its four bytes say

@@ -1,7 +1,5 @@
 pub mod Kind
 pub mod Spelling
 pub mod Reading
-pub mod Writing
-pub mod Cursor
 pub mod Faults
-pub mod Laws
+pub mod inside

@@ -1,22 +1,22 @@
 -- How each value is spelled in bytes, by RFC 4506 sections 3 and 4.
-use Rattle.std.specs.Prelude.{◌≡◌, ℕ, ◌-◌, ◌%◌, ◌^◌, ◌<◌, ◌≤◌, ℤ, Bool, true, false, IsTrue, List, ◌++◌, length}
-use Rattle.std.specs.Prelude.{replicate, flat_map, All, Option, Some, None, IfSome, FitsSigned, [], ◌∷◌, ◌⊎◌}
+use Rattle.std.specs.Prelude.{ℕ, ◌-◌, ◌%◌, ℤ, Bool, true, false, List, ◌++◌, length}
+use Rattle.std.specs.Prelude.{replicate, flat_map, Option, Some, None, ◌⊎◌}
 use Rattle.std.proofs.Common.{inl, inr}
 use Rattle.std.specs.List.{list_any}
 use Rattle.std.specs.Ordering.{int_eq}
 use Rattle.std.specs.Int.{w32, to_be_bytes, cast_unsigned}
 use Rattle.yp_xdr.specs.Kind.{Kind, U32, I32, Boolean, Enum, Fixed, Opaque, Sequence, Union, Optional, ListOf, Value}
 
--- four bytes, the highest first
+-- four bytes, the highest first (section 4.2)
 abbrev pub word : ℕ → List ℕ
 word n = to_be_bytes w32 n
 
--- FALSE is 0, and TRUE is 1
+-- FALSE is 0, and TRUE is 1 (section 4.4)
 abbrev pub truth : Bool → ℕ
 truth false = 0
 truth true = 1
 
--- it is listed
+-- it is listed (section 4.3)
 abbrev pub is_one_of : List ℤ → ℤ → Bool
 is_one_of allowed z = list_any (λ y. int_eq y z) allowed
 
@@ -28,15 +28,15 @@ padding_len n = (4 - n % 4) % 4
 abbrev pub padding : ℕ → List ℕ
 padding n = replicate (padding_len n) 0
 
--- opaque bytes, padded
+-- opaque bytes, padded (section 4.9)
 unfoldable pub fixed : List ℕ → List ℕ
 fixed content = content ++ padding (length content)
 
--- opaque bytes behind their length, and padded
+-- opaque bytes behind their length, and padded (section 4.10)
 unfoldable pub opaque : List ℕ → List ℕ
 opaque content = word (length content) ++ fixed content
 
--- TRUE and a value, by the spelling of such values
+-- TRUE and a value, by the spelling of such values (section 4.19)
 abbrev pub present : {V : Type 0} → (V → List ℕ) → V → List ℕ
 present spell value = word (truth true) ++ spell value
 
@@ -49,33 +49,10 @@ optional spell (Some value) = present spell value
 abbrev pub list_of : {V : Type 0} → (V → List ℕ) → List V → List ℕ
 list_of spell values = flat_map (present spell) values ++ word (truth false)
 
--- a value of the first kind behind one number, or of the second behind the other
+-- a value of the first kind behind one number, or of the second behind the other (section 4.15)
 abbrev pub union : {V W : Type 0} → (one other : ℤ) → (V → List ℕ) → (W → List ℕ) → V ⊎ W → List ℕ
 union one other spell_first spell_second (inl value) = word (cast_unsigned w32 one) ++ spell_first value
 union one other spell_first spell_second (inr value) = word (cast_unsigned w32 other) ++ spell_second value
-
--- a number is one of the two
-abbrev pub IsNumbered : (one other number : ℤ) → Type 0
-IsNumbered one other number = FitsSigned w32 number × IsTrue (is_one_of (one ∷ other ∷ []) number)
-
--- the value of the first kind fits, or the one of the second, whose number isn't that of the first
-abbrev pub FitsUnion : {V W : Type 0} → (one other : ℤ) → (V → Type 0) → (W → Type 0) → V ⊎ W → Type 0
-FitsUnion one other FitsFirst FitsSecond (inl value) = IsNumbered one other one × FitsFirst value
-FitsUnion one other FitsFirst FitsSecond (inr value) =
-    IsNumbered one other other × (int_eq one other ≡ false) × FitsSecond value
-
--- the values that a kind has
-abbrev pub Fits : (kind : Kind) → Value kind → Type 0
-Fits U32 n = n < 2 ^ 32
-Fits I32 z = FitsSigned w32 z
-Fits Boolean b = Unit {0}
-Fits (Enum allowed) z = FitsSigned w32 z × IsTrue (is_one_of allowed z)
-Fits (Fixed n) content = length content ≡ n
-Fits (Opaque max) content = (length content ≤ max) × (length content < 2 ^ 32)
-Fits (Sequence first second) value = Fits first value.0 × Fits second value.1
-Fits (Union one first other second) value = FitsUnion one other (Fits first) (Fits second) value
-Fits (Optional kind) value = IfSome value (Fits kind)
-Fits (ListOf kind) values = All (Fits kind) values
 
 -- the bytes of a value
 abbrev pub spelling : (kind : Kind) → Value kind → List ℕ
@@ -89,8 +66,3 @@ spelling (Sequence first second) value = spelling first value.0 ++ spelling seco
 spelling (Union one first other second) value = union one other (spelling first) (spelling second) value
 spelling (Optional kind) value = optional (spelling kind) value
 spelling (ListOf kind) values = list_of (spelling kind) values
-
--- these bytes are the spelling of a value that the kind has
-pub record Spells (kind : Kind) (value : Value kind) (bytes : List ℕ) : Type 0 where
-  pub fits : Fits kind value
-  pub spelled : bytes ≡ spelling kind value

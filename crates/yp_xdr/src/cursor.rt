@@ -1,7 +1,7 @@
 //! Values read from bytes.
 
 ghost use Rattle.std.specs.Prelude.{◌≡◌, ◌+◌, ◌^◌, ◌<◌, ◌≤◌, length, IfOk, OnErr};
-ghost use Rattle.yp_xdr.specs.Reading.{IsBytes};
+ghost use Rattle.yp_xdr.specs.inside.Reading.{IsBytes};
 
 use crate::fault::XdrFault;
 use crate::padding::{first_nonzero, padding_of};
@@ -17,8 +17,9 @@ pub struct Cursor<'a> {
 
 impl<'a> Cursor<'a> {
     ghost use Rattle.yp_xdr.specs.Kind.{U32, I32, Boolean, Enum, Fixed, Opaque};
-    ghost use Rattle.yp_xdr.specs.Reading.{Unread, end_of, content_at, ReadsAs, Reads, BeginsWith, BeginsWithNone};
-    ghost use Rattle.yp_xdr.specs.Cursor.{unread};
+    ghost use Rattle.yp_xdr.specs.Reading.{Remaining, content_at};
+    ghost use Rattle.yp_xdr.specs.inside.Reading.{end_of, ReadsAs, Reads, BeginsWith, BeginsWithNone};
+    ghost use Rattle.yp_xdr.specs.inside.Cursor.{unread};
 
     /// A cursor at the first of the bytes.
     pub fn new(bytes: &'a [u8]) -> Cursor<'a>

@@ -1,7 +1,8 @@
 //! What joins writing and reading, for values of every kind. Each law is the contract of a function that does nothing.
 
-ghost use Rattle.yp_xdr.specs.Laws.{OneSpelling, NoSpellingBeginsAnother, WrittenIsReadAgain, ReadIsSpelled};
-ghost use Rattle.yp_xdr.specs.Laws.{RefusedIsNotSpelled, ListIsReadInTurn, WrittenIsJoined, WritersJoin, SetsJoin};
+ghost use Rattle.yp_xdr.specs.inside.Laws.{OneSpelling, NoSpellingBeginsAnother, WrittenIsReadAgain, ReadIsSpelled};
+ghost use Rattle.yp_xdr.specs.inside.Laws.{RefusedIsNotSpelled, ListIsReadInTurn, WrittenIsJoined, WritersJoin};
+ghost use Rattle.yp_xdr.specs.inside.Laws.{SetsJoin};
 
 /// A value has one spelling.
 pub fn one_spelling()
@@ -43,7 +44,7 @@ pub fn writers_join()
     ensures { WritersJoin }
 {}
 
-/// The same of two writers that need the room.
+/// What two writers that need the room set, one behind the other, is the joined bytes.
 pub fn sets_join()
     ensures { SetsJoin }
 {}

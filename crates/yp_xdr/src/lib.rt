@@ -1,7 +1,7 @@
 //! XDR values in bytes (RFC 4506): each value has one spelling, and what was written is read again.
 //!
-//! Writing stands on the clauses of the `put` and `set` functions, reading on those of [`Cursor`], and what joins the
-//! two on the laws of [`laws`].
+//! That the spelling of a value is written stands on the clauses of the `put` and `set` functions, that what the next
+//! bytes spell is read, or the first fault is told, on those of [`Cursor`], and what joins the two on [`laws`].
 #![tactic(auto)]
 
 mod cursor;

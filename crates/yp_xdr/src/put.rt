@@ -3,7 +3,7 @@
 ghost use Rattle.std.specs.Prelude.{◌≡◌, ◌^◌, ◌+◌, ◌<◌, ◌≤◌, length};
 ghost use Rattle.yp_xdr.specs.Kind.{U32, I32, Boolean, Fixed, Opaque};
 ghost use Rattle.yp_xdr.specs.Spelling.{spelling};
-ghost use Rattle.yp_xdr.specs.Writing.{written, Writes, Sets};
+ghost use Rattle.yp_xdr.specs.inside.Writing.{written, Writes, Sets};
 
 use crate::fault::NoRoom;
 use crate::padding::{WORD, padding_of};

@@ -1,14 +1,14 @@
 -- What a host did for one record.
 use Rattle.std.proofs.Common.{◌≡◌, Bool, true, false, ℕ, List, Option, Some, None, refl, sym, ap, subst}
 use Rattle.yp_io.specs.declared.stream.Peer.{Peer}
-use Rattle.yp_msgs.specs.declared.transfer.XfrStat.{XfrStat}
-use Rattle.yp_answer.specs.declared.make.Job.{Job}
+use Rattle.yp_messages.specs.declared.transfer.XfrStat.{XfrStat}
+use Rattle.yp_answer.specs.declared.make.MakeJob.{MakeJob}
 use Rattle.yp_answer.specs.declared.procedure.Path.{Path}
 use Rattle.yp_answer.specs.Maps.{maps_of}
 use Rattle.yp_answer.specs.Transfer.{Taken}
 use Rattle.yp_answer.specs.Reply.{Response, Silence, Bytes, Takes, Open, reply, asks, make_reply}
 use Rattle.yp_answer.specs.Answers.{StepsWhere}
-use Rattle.yp_session.specs.Hosts.{Conduct, Fulfils, Turn, CarriesWhere, Carries, Link}
+use Rattle.yp_answer.specs.session.Hosts.{Conduct, Fulfils, Turn, CarriesWhere, Carries, Link}
 
 -- a read step of this host counts nothing
 abbrev pub CountsNothing : {H : Type 0} → Conduct H → Type 0
@@ -51,7 +51,7 @@ module _ {H : Type 0} (conduct : Conduct H) (path : Path) (peer : Peer) (message
       linked (Some bytes) None (Some taken) (Takes bytes taken) old mid new step is (refl, refl, refl, carried)
 
   -- a map that is made first
-  pub link_open : (xid : ℕ) (job : Job) (stat : XfrStat) (old mid new : H) → StepsWhere (asks path message) conduct.stepped conduct.seen old mid
+  pub link_open : (xid : ℕ) (job : MakeJob) (stat : XfrStat) (old mid new : H) → StepsWhere (asks path message) conduct.stepped conduct.seen old mid
       → reply path (maps_of (conduct.seen mid)) peer message ≡ Open xid job → Fulfils conduct job stat mid new
       → Link conduct path peer (turn message (Some (make_reply xid stat)) (Some stat) None flushed) old new
   link_open xid job stat old mid new step is made =

@@ -11,11 +11,11 @@ use Rattle.yp_answer.specs.Maps.{maps_of}
 use Rattle.yp_answer.specs.Transfer.{Taken}
 use Rattle.yp_answer.specs.Reply.{Response, Silence, Bytes, Takes, Open, reply, asks}
 use Rattle.yp_answer.specs.Answers.{StepsWhere}
-use Rattle.yp_session.specs.declared.session.End.{End}
-use Rattle.yp_session.specs.declared.session.End.TheVariants.{Clean, Torn, TooLong, ReadFault, WriteFault, Enough}
-use Rattle.yp_session.specs.Hosts.{Conduct, Turn, CarriesWhere, Carries, Link}
-use Rattle.yp_session.specs.LogRuns.{Gets, IsAnsweredOn, LogRun}
-use Rattle.yp_session.specs.Runs.{Dialogue, Chain, Ends, unsent}
+use Rattle.yp_answer.specs.declared.session.session.End.{End}
+use Rattle.yp_answer.specs.declared.session.session.End.TheVariants.{Clean, Torn, TooLong, ReadFault, WriteFault, Enough}
+use Rattle.yp_answer.specs.session.Hosts.{Conduct, Turn, CarriesWhere, Carries, Link}
+use Rattle.yp_answer.specs.session.LogRuns.{Gets, IsAnsweredOn, LogRun}
+use Rattle.yp_answer.specs.session.Runs.{Dialogue, Chain, Ends, unsent}
 
 -- a log is a front of itself
 front_same : (log other : Log) → other ≡ log → IsFront log other

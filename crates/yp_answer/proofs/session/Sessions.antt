@@ -10,14 +10,14 @@ use Rattle.yp_answer.specs.declared.procedure.Path.{Path}
 use Rattle.yp_answer.specs.Maps.{maps_of}
 use Rattle.yp_answer.specs.Transfer.{Taken}
 use Rattle.yp_answer.specs.Reply.{Response, Silence, Bytes, Takes, Open, reply}
-use Rattle.yp_session.specs.declared.session.End.{End}
-use Rattle.yp_session.specs.declared.session.End.TheVariants.{Clean, Torn, TooLong, ReadFault, WriteFault, Enough}
-use Rattle.yp_session.specs.declared.session.Step.TheVariants.{Answered, Ended}
-use Rattle.yp_session.specs.Progress.{Progress, begun}
-use Rattle.yp_session.specs.Wires.{SinkTells, Wire, NeverFalls}
-use Rattle.yp_session.specs.Hosts.{Counts, Conduct, Turn, CarriesWhere, Carries, Link, counts_after, counts_where, counts_behind, counts_over}
-use Rattle.yp_session.proofs.Logging.{chain_logs, ends_logs}
-use Rattle.yp_session.specs.Runs.{Dialogue, IsFlushed, AnswersRecord, IsIdle, DoesStep, Chain, Ends, unsent, Runs}
+use Rattle.yp_answer.specs.declared.session.session.End.{End}
+use Rattle.yp_answer.specs.declared.session.session.End.TheVariants.{Clean, Torn, TooLong, ReadFault, WriteFault, Enough}
+use Rattle.yp_answer.specs.declared.session.session.Step.TheVariants.{Answered, Ended}
+use Rattle.yp_answer.specs.session.Progress.{Progress, begun}
+use Rattle.yp_answer.specs.session.Wires.{SinkTells, Wire, NeverFalls}
+use Rattle.yp_answer.specs.session.Hosts.{Counts, Conduct, Turn, CarriesWhere, Carries, Link, counts_after, counts_where, counts_behind, counts_over}
+use Rattle.yp_answer.proofs.session.Logging.{chain_logs, ends_logs}
+use Rattle.yp_answer.specs.session.Runs.{Dialogue, IsFlushed, AnswersRecord, IsIdle, DoesStep, Chain, Ends, unsent, Runs}
 
 module _ {H : Type 0} (conduct : Conduct H) (peer : Peer) where
   -- ---- what is counted

@@ -7,8 +7,8 @@ use Rattle.std.proofs.lemmas.Bool.{cases_lt}
 use Rattle.std.proofs.lemmas.Grind.{flat_map-append}
 use Rattle.std.proofs.Math.Seq.{drop-nil, take-nil}
 use Rattle.yp_rpc.specs.Records.{sent, joined}
-use Rattle.yp_answer.specs.Streams.{Gives}
-use Rattle.yp_session.proofs.Sending.{Appends-none, front_sent}
+use Rattle.yp_answer.specs.inside.Streams.{GivesParts}
+use Rattle.yp_answer.proofs.session.Sending.{Appends-none, front_sent}
 
 -- Bytes of a record were put. What is sent of them and more is what went out, and what is sent of what waits and more.
 pub record HasPut (old new : Option (List ℕ)) (put waits : List ℕ) : Type 0 where
@@ -50,13 +50,13 @@ put_whole a b put waits whole before some all =
 -- ---- parts that are given
 
 -- what was given, and what is left
-pub gives_joined : (bytes : List ℕ) (old new : List (List ℕ)) → Gives bytes old new → joined old ≡ bytes ++ joined new
+pub gives_joined : (bytes : List ℕ) (old new : List (List ℕ)) → GivesParts bytes old new → joined old ≡ bytes ++ joined new
 gives_joined bytes old new h =
     ap joined (sym (take-append-drop h.count old)) ∙ flat_map-append (λ (part : List ℕ). part) (take h.count old) (drop h.count old)
     ∙ rw (h.given, h.left) refl
 
 -- behind the last part there is none
-pub gives_none : (bytes : List ℕ) (old new : List (List ℕ)) → Gives bytes old new → old ≡ [] → new ≡ []
+pub gives_none : (bytes : List ℕ) (old new : List (List ℕ)) → GivesParts bytes old new → old ≡ [] → new ≡ []
 gives_none bytes old new h none = h.left ∙ ap (λ (parts : List (List ℕ)). drop h.count parts) none ∙ drop-nil h.count
 
 -- no bytes of no parts
@@ -64,7 +64,7 @@ none_given : (count : ℕ) (old : List (List ℕ)) → count ≡ 0 → length (j
 none_given count old none = rw none refl
 
 -- where bytes were given, fewer parts are left
-pub gives_fewer : (bytes : List ℕ) (old new : List (List ℕ)) → Gives bytes old new → 0 < length bytes → length new < length old
+pub gives_fewer : (bytes : List ℕ) (old new : List (List ℕ)) → GivesParts bytes old new → 0 < length bytes → length new < length old
 gives_fewer bytes old new h some =
     let len : length bytes ≡ length (joined (take h.count old)) = ap length h.given in
     let left : length new ≡ length old - h.count = ap length h.left ∙ length-drop h.count old in
@@ -80,7 +80,7 @@ gives_fewer bytes old new h some =
     ]
 
 -- a piece that is put makes fewer parts, or ends them
-pub smaller : (len next : ℕ) (bytes : List ℕ) (old new : List (List ℕ)) → Gives bytes old new → length bytes ≡ next → 0 < len → length new + min next 1 < length old + min len 1
+pub smaller : (len next : ℕ) (bytes : List ℕ) (old new : List (List ℕ)) → GivesParts bytes old new → length bytes ≡ next → 0 < len → length new + min next 1 < length old + min len 1
 smaller len next bytes old new h is some =
     elim (cases_lt 0 next) [
       | inl lt ↦ omega (arith, gives_fewer bytes old new h (omega arith))

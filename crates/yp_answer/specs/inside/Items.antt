@@ -2,10 +2,10 @@
 use Rattle.std.specs.Prelude.{◌≡◌, ℕ, ◌+◌, ◌≤◌, List, ◌∷◌, ◌++◌, length, Result, Ok, Err}
 use Rattle.yp_xdr.specs.Kind.{Opaque, Value}
 use Rattle.yp_xdr.specs.Spelling.{spelling}
-use Rattle.yp_msgs.specs.Messages.{resp_val}
-use Rattle.yp_msgs.specs.Statuses.{stat, stat_number}
-use Rattle.yp_msgs.specs.declared.stat.YpStat.{YpStat}
-use Rattle.yp_msgs.specs.Messages.{all_item, all_item_view, AllItemIsWithin}
+use Rattle.yp_messages.specs.Messages.{resp_val}
+use Rattle.yp_messages.specs.Statuses.{stat, stat_number}
+use Rattle.yp_messages.specs.declared.stat.YpStat.{YpStat}
+use Rattle.yp_messages.specs.inside.Messages.{all_item, all_item_view, AllItemIsWithin}
 use Rattle.yp_version.specs.Limits.{key_max, value_max}
 use Rattle.yp_version.specs.Versions.{MapVersion}
 use Rattle.yp_answer.specs.declared.stream.Items.{Items}
@@ -33,6 +33,6 @@ IsWithin (Plain item) = AllItemIsWithin item
 abbrev pub valued_bytes : Valued → List ℕ
 valued_bytes found = spelling stat (stat_number found.stat) ++ found.val.now
 
--- it is this status and this value, spelled
-abbrev pub Tells : Valued → Value resp_val → Type 0
-Tells found told = (stat_number found.stat ≡ told.0) × (found.val.now ≡ spelling (Opaque value_max) told.1)
+-- The result has this status, and its value spells this value.
+abbrev pub IsStatusAndValue : Valued → Value resp_val → Type 0
+IsStatusAndValue found told = (stat_number found.stat ≡ told.0) × (found.val.now ≡ spelling (Opaque value_max) told.1)

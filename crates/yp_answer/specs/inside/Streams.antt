@@ -7,9 +7,9 @@ use Rattle.yp_xdr.specs.Spelling.{spelling}
 use Rattle.yp_rpc.specs.Records.{joined}
 use Rattle.yp_rpc.specs.Reply.{reply_head}
 use Rattle.yp_rpc.specs.declared.reply.ReplyHead.TheVariants.{Success}
-use Rattle.yp_msgs.specs.declared.stat.YpStat.{YpStat}
-use Rattle.yp_msgs.specs.declared.stat.YpStat.TheVariants.{Nomap}
-use Rattle.yp_msgs.specs.Messages.{all_item}
+use Rattle.yp_messages.specs.declared.stat.YpStat.{YpStat}
+use Rattle.yp_messages.specs.declared.stat.YpStat.TheVariants.{Nomap}
+use Rattle.yp_messages.specs.inside.Messages.{all_item}
 use Rattle.yp_version.specs.Versions.{MapVersion}
 use Rattle.yp_board.specs.Logs.{Log, shown}
 use Rattle.yp_answer.specs.Results.{all_items}
@@ -46,8 +46,8 @@ parts_left log stream = drop stream.given (parts stream.xid (source_of log strea
 abbrev pub between : ℕ → ℕ → List (List ℕ) → List (List ℕ)
 between start end parts = take (end - start) (drop start parts)
 
--- Some of the parts were given, whole: these bytes are theirs, and the others are left.
-pub record Gives (bytes : List ℕ) (old new : List (List ℕ)) : Type 0 where
+-- Some parts, each of them whole, were given: these bytes are the bytes of those parts, and the other parts are left.
+pub record GivesParts (bytes : List ℕ) (old new : List (List ℕ)) : Type 0 where
   pub count : ℕ
   pub given : bytes ≡ joined (take count old)
   pub left : new ≡ drop count old

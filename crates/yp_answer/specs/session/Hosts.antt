@@ -3,10 +3,10 @@ use Rattle.std.specs.Prelude.{◌≡◌, ℕ, Bool, true, false, List, fold, Opt
 use Rattle.std.specs.Option.{option_map_or}
 use Rattle.yp_io.specs.Counts.{next_count}
 use Rattle.yp_io.specs.declared.stream.Peer.{Peer}
-use Rattle.yp_msgs.specs.declared.transfer.XfrStat.{XfrStat}
-use Rattle.yp_msgs.specs.declared.transfer.XfrStat.TheVariants.{File}
+use Rattle.yp_messages.specs.declared.transfer.XfrStat.{XfrStat}
+use Rattle.yp_messages.specs.declared.transfer.XfrStat.TheVariants.{File}
 use Rattle.yp_board.specs.Views.{Seen, IsFront}
-use Rattle.yp_answer.specs.declared.make.Job.{Job}
+use Rattle.yp_answer.specs.declared.make.MakeJob.{MakeJob}
 use Rattle.yp_answer.specs.declared.procedure.Path.{Path}
 use Rattle.yp_answer.specs.Maps.{maps_of}
 use Rattle.yp_answer.specs.Transfer.{Taken}
@@ -34,18 +34,18 @@ pub record Conduct (H : Type 0) : Type 1 where
   pub told : H → Told
   pub counts : H → Counts
   pub stepped : H → H → Type 0
-  pub made : Job → XfrStat → H → H → Type 0
+  pub made : MakeJob → XfrStat → H → H → Type 0
   pub carried : Taken → Peer → H → H → Type 0
 
 -- the conduct of a host that tells these, with these relations
 abbrev pub conduct_of : {H : Type 0} → (H → Seen) → (H → Told) → (H → Counts) → (H → H → Type 0)
-    → (Job → XfrStat → H → H → Type 0) → (Taken → Peer → H → H → Type 0) → Conduct H
+    → (MakeJob → XfrStat → H → H → Type 0) → (Taken → Peer → H → H → Type 0) → Conduct H
 conduct_of seen told counts stepped made carried =
     record { seen = seen; told = told; counts = counts; stepped = stepped; made = made; carried = carried }
 
 -- What every host does where a map is made: it does what it says, and its status has a cause. Its catalogue stays, what
 -- it knew stays the front of what it knows, and FILE is counted.
-pub record Fulfils {H : Type 0} (conduct : Conduct H) (job : Job) (stat : XfrStat) (old new : H) : Type 0 where
+pub record Fulfils {H : Type 0} (conduct : Conduct H) (job : MakeJob) (stat : XfrStat) (old new : H) : Type 0 where
   pub made : conduct.made job stat old new
   pub cause : IsCaused (conduct.told old) (conduct.seen old).catalogue.own job stat
       (conduct.seen old).known (conduct.seen new).known

@@ -1,14 +1,14 @@
 -- A run on logs alone: what records get while others may show versions.
 use Rattle.std.specs.Prelude.{◌≡◌, ℕ, List, [], ◌∷◌, Option, Some, None}
 use Rattle.yp_io.specs.declared.stream.Peer.{Peer}
-use Rattle.yp_msgs.specs.declared.transfer.XfrStat.{XfrStat}
+use Rattle.yp_messages.specs.declared.transfer.XfrStat.{XfrStat}
 use Rattle.yp_board.specs.Catalogues.{Catalogue}
 use Rattle.yp_board.specs.Logs.{Log}
 use Rattle.yp_board.specs.Views.{IsFront}
 use Rattle.yp_answer.specs.declared.procedure.Path.{Path}
 use Rattle.yp_answer.specs.Reply.{Response, Silence, Bytes, Takes, Open, reply, make_reply}
 use Rattle.yp_answer.specs.Causes.{Told, IsCaused}
-use Rattle.yp_session.specs.Hosts.{Turn}
+use Rattle.yp_answer.specs.session.Hosts.{Turn}
 
 -- What a record got: its reply, or, where a map is made first, a status with its cause by the log behind that.
 abbrev pub Gets : List ℕ → Response → Option (List ℕ) → Log → Log → Type 0

@@ -9,14 +9,14 @@ use Rattle.yp_rpc.specs.declared.record.RecordFault.{RecordFault}
 use Rattle.yp_rpc.specs.declared.record.RecordFault.TheVariants as faults
 use Rattle.yp_answer.specs.declared.procedure.Path.TheVariants.{Stream}
 use Rattle.yp_answer.specs.Numbers.{record_max}
-use Rattle.yp_session.specs.declared.session.End.{End}
-use Rattle.yp_session.specs.declared.session.End.TheVariants.{Clean, Torn, TooLong, ReadFault, WriteFault, Enough}
-use Rattle.yp_session.specs.declared.session.Step.{Step}
-use Rattle.yp_session.specs.declared.session.Step.TheVariants.{Answered, Ended}
-use Rattle.yp_session.specs.Progress.{Progress}
-use Rattle.yp_session.specs.Wires.{SinkTells, Wire, NeverFalls}
-use Rattle.yp_session.specs.Hosts.{Conduct, Turn, Link, counts_over}
-use Rattle.yp_session.specs.LogRuns.{LogRun}
+use Rattle.yp_answer.specs.declared.session.session.End.{End}
+use Rattle.yp_answer.specs.declared.session.session.End.TheVariants.{Clean, Torn, TooLong, ReadFault, WriteFault, Enough}
+use Rattle.yp_answer.specs.declared.session.session.Step.{Step}
+use Rattle.yp_answer.specs.declared.session.session.Step.TheVariants.{Answered, Ended}
+use Rattle.yp_answer.specs.session.Progress.{Progress}
+use Rattle.yp_answer.specs.session.Wires.{SinkTells, Wire, NeverFalls}
+use Rattle.yp_answer.specs.session.Hosts.{Conduct, Turn, Link, counts_over}
+use Rattle.yp_answer.specs.session.LogRuns.{LogRun}
 
 -- a dialogue at a moment: its host, its wire, and what the session keeps
 pub record Dialogue (H : Type 0) : Type 0 where
@@ -56,12 +56,6 @@ abbrev pub Lacks : {H : Type 0} → RecordFault → Dialogue H → Dialogue H �
 Lacks fault old new =
     HasCause record_max old.progress.place old.wire.source.input new.wire.source.input
     old.wire.source.faults new.wire.source.faults fault × IsIdle old new
-
--- the end that a fault of a record is
-abbrev pub end_of : RecordFault → End
-end_of (faults.Torn at) = Torn at
-end_of (faults.TooLong at) = TooLong at
-end_of faults.ReadFault = ReadFault
 
 module _ {H : Type 0} (conduct : Conduct H) (peer : Peer) where
   -- A record got its link, and its whole reply was flushed, or wasn't.

@@ -15,6 +15,7 @@ pub record SinkTells : Type 0 where
   pub flushed : Bool
   pub faults : ℕ
 
+-- both
 pub record Wire : Type 0 where
   pub source : SourceTells
   pub sink : SinkTells

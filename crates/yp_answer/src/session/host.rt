@@ -2,18 +2,19 @@
 
 ghost use Rattle.std.specs.Prelude.{◌≡◌, ◌<◌, ◌≤◌, length};
 ghost use Rattle.yp_io.specs.declared.stream.Peer.{Peer};
-ghost use Rattle.yp_msgs.specs.declared.transfer.XfrStat.{XfrStat};
-ghost use Rattle.yp_answer.specs.declared.make.Job.{Job};
+ghost use Rattle.yp_messages.specs.declared.transfer.XfrStat.{XfrStat};
+ghost use Rattle.yp_answer.specs.declared.make.MakeJob.{MakeJob};
 ghost use Rattle.yp_answer.specs.Causes.{Told};
 ghost use Rattle.yp_answer.specs.Make.{IsKindOf};
-ghost use Rattle.yp_msgs.specs.Numbers.{name_max};
-ghost use Rattle.yp_answer.specs.Transfer.{Taken, taken_view};
-ghost use Rattle.yp_session.specs.Hosts.{Counts, conduct_of, Fulfils, CarriesOut};
+ghost use Rattle.yp_messages.specs.Numbers.{name_max};
+ghost use Rattle.yp_answer.specs.Transfer.{Taken};
+ghost use Rattle.yp_answer.specs.inside.Transfer.{taken_view};
+ghost use Rattle.yp_answer.specs.session.Hosts.{Counts, conduct_of, Fulfils, CarriesOut};
 
-use yp_answer::{Errand, Job};
+use crate::{MakeJob, TransferJob};
 use yp_board::View;
 use yp_io::Peer;
-use yp_msgs::XfrStat;
+use yp_messages::XfrStat;
 
 /// A view of a board whose maps can be made anew, and fetched from other hosts.
 pub trait Host: View {
@@ -24,10 +25,10 @@ pub trait Host: View {
     ghost counts: { Self → Counts };
 
     /// What the making of a map does to the whole value: the map, the status, before and after.
-    ghost made: { Job → XfrStat → Self → Self → Type 0 };
+    ghost made: { MakeJob → XfrStat → Self → Self → Type 0 };
 
     /// Makes a map of the catalogue anew, and answers how that went: SUCC, REFUSED, AGE, DBM, FILE or RSRC.
-    fn make(&mut self, job: Job) -> XfrStat
+    fn make(&mut self, job: MakeJob) -> XfrStat
         requires inside { job.map < length (Self.seen self.old).catalogue.maps }
         requires kind { IsKindOf (Self.seen self.old).catalogue job.map job.kind }
         ensures { Fulfils (conduct_of Self.seen told counts Self.stepped made carried) job result self.old self.new };
@@ -37,11 +38,11 @@ pub trait Host: View {
 
     /// Carries out a transfer that was taken, once its reply is out: fetches the map, and tells the caller at `peer`
     /// what came of it, where it wants to be told.
-    fn transfer(&mut self, errand: &Errand<'_>, peer: Peer)
-        requires map { errand.now.map < length (Self.seen self.old).catalogue.maps }
-        requires named { 0 < length errand.now.source.now }
-        requires source { length errand.now.source.now ≤ name_max }
-        ensures { CarriesOut (conduct_of Self.seen told counts Self.stepped made carried) (taken_view errand.now) peer
+    fn transfer(&mut self, job: &TransferJob<'_>, peer: Peer)
+        requires map { job.now.map < length (Self.seen self.old).catalogue.maps }
+        requires named { 0 < length job.now.source.now }
+        requires source { length job.now.source.now ≤ name_max }
+        ensures { CarriesOut (conduct_of Self.seen told counts Self.stepped made carried) (taken_view job.now) peer
             self.old self.new };
 
     /// A read step counts nothing.

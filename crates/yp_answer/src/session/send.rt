@@ -6,10 +6,10 @@ ghost use Rattle.yp_io.specs.Counts.{CountsFaults};
 ghost use Rattle.yp_rpc.specs.Records.{sent, joined};
 ghost use Rattle.yp_answer.specs.Numbers.{record_max};
 ghost use Rattle.yp_answer.specs.Maps.{maps_of};
-ghost use Rattle.yp_answer.specs.Streams.{parts_left};
-ghost use Rattle.yp_answer.specs.Answers.{IsInside};
+ghost use Rattle.yp_answer.specs.inside.Streams.{parts_left};
+ghost use Rattle.yp_answer.specs.inside.Answers.{StreamIsInside};
 
-use yp_answer::AllStream;
+use crate::AllStream;
 use yp_board::View;
 use yp_io::{Failed, Sink};
 use yp_rpc::RecordWriter;
@@ -24,7 +24,7 @@ pub fn send_stream<K: Sink, V: View>(
 ) -> Result<(), Failed>
     requires idle { writer.old ≡ [] }
     requires room { record_max ≤ length buf.old }
-    requires inside { IsInside (maps_of (V.seen view.now)) stream.source }
+    requires inside { StreamIsInside (maps_of (V.seen view.now)) stream.source }
     requires some { parts_left (V.seen view.now).known stream ≢ [] }
     ensures sent { OnOk result (Appends (K.output sink.old) (K.output sink.new)
         (sent (joined (parts_left (V.seen view.now).known stream)))) }

@@ -2,26 +2,32 @@
 
 ghost use Rattle.std.specs.Prelude.{◌≡◌, ◌≢◌, ℕ, ◌<◌, ◌≤◌, true, false, IsTrue, [], length, take, IfOk, OnOk, OnErr};
 ghost use Rattle.yp_io.specs.Counts.{CountsFaults, HasRisen};
-ghost use Rattle.yp_msgs.specs.declared.transfer.XfrStat.{XfrStat};
+ghost use Rattle.yp_messages.specs.declared.transfer.XfrStat.{XfrStat};
 ghost use Rattle.yp_answer.specs.Make.{IsKindOf};
 ghost use Rattle.yp_answer.specs.Numbers.{record_max};
 ghost use Rattle.yp_answer.specs.Reply.{make_reply};
-ghost use Rattle.yp_session.specs.Wires.{NeverFalls, SeesMore, sink_of, wire_of};
-ghost use Rattle.yp_session.specs.Progress.{begun};
-ghost use Rattle.yp_session.specs.Hosts.{Turn, conduct_of, Fulfils};
-ghost use Rattle.yp_session.specs.Runs.{dialogue_at, RepliesTo, DoesStep, Runs};
+ghost use Rattle.yp_answer.specs.session.Wires.{NeverFalls, SeesMore, sink_of, wire_of};
+ghost use Rattle.yp_answer.specs.session.Progress.{begun};
+ghost use Rattle.yp_answer.specs.session.Hosts.{Turn, Fulfils};
+ghost use Rattle.yp_answer.specs.inside.session.Hosts.{conduct_by};
+ghost use Rattle.yp_answer.specs.session.Runs.{dialogue_at, RepliesTo, DoesStep, Runs};
 
-use crate::host::Host;
-use crate::send::send_stream;
-use crate::witness::Witness;
+use crate::session::host::Host;
+use crate::session::send::send_stream;
+use crate::session::witness::Witness;
+use crate::{Answered, MakeJob, RECORD_MAX, answer, make_reply};
 use std::alloc::Global;
 use std::marker::Model;
-use yp_answer::{Answered, Job, RECORD_MAX, answer, make_reply};
 use yp_io::{Failed, NoMemory, Pair, Peer, Sink, Source};
 use yp_rpc::{RecordFault, RecordReader, RecordWriter};
 
 /// The most records of a session, so that each has an end.
 pub const CALLS_MAX: u64 = 1_000_000_000;
+
+/// The most records of a session are as many as the documents say. It does nothing.
+pub fn calls_max_is_defined()
+    ensures { CALLS_MAX ≡ 1000000000 }
+{}
 
 /// How a session ended.
 #[derive(Clone, Copy, Debug, PartialEq, Eq)]
@@ -60,7 +66,7 @@ pub struct Session {
 }
 
 impl Model for Session {
-    ghost use Rattle.yp_session.specs.Progress.{Progress};
+    ghost use Rattle.yp_answer.specs.session.Progress.{Progress};
 
     ghost Value = { Progress };
 
@@ -115,7 +121,7 @@ impl Session {
     ) -> End
         requires { most ≤ CALLS_MAX }
         ensures runs { SeesMore (W.wires witness.old) (W.wires witness.new)
-            (Runs (conduct_of H.seen H.told H.counts H.stepped H.made H.carried) peer most result
+            (Runs (conduct_by H.Host) peer most result
             (dialogue_at host.old (wire_of S.Source K.Sink wire.old) begun)
             (dialogue_at host.new (wire_of S.Source K.Sink wire.new) self.new)) }
         ensures flushed { result ≢ End.WriteFault
@@ -141,7 +147,7 @@ impl Session {
         host: &mut H,
         peer: Peer,
     ) -> Step
-        ensures { DoesStep (conduct_of H.seen H.told H.counts H.stepped H.made H.carried) peer result
+        ensures { DoesStep (conduct_by H.Host) peer result
             (dialogue_at host.old (wire_of S.Source K.Sink wire.old) self.old)
             (dialogue_at host.new (wire_of S.Source K.Sink wire.new) self.new) }
     {
@@ -178,10 +184,10 @@ fn reply_to<K: Sink, H: Host>(
     requires idle { writer.old ≡ [] }
     requires room { record_max ≤ length buf.old }
     ensures sent { OnOk result ((turn : Turn) × (turn.message ≡ message.now)
-        × RepliesTo (conduct_of H.seen H.told H.counts H.stepped H.made H.carried) peer true turn host.old host.new
+        × RepliesTo (conduct_by H.Host) peer true turn host.old host.new
         (sink_of K.Sink sink.old) (sink_of K.Sink sink.new)) }
     ensures unsent { OnErr result ((turn : Turn) × (turn.message ≡ message.now)
-        × RepliesTo (conduct_of H.seen H.told H.counts H.stepped H.made H.carried) peer false turn host.old host.new
+        × RepliesTo (conduct_by H.Host) peer false turn host.old host.new
         (sink_of K.Sink sink.old) (sink_of K.Sink sink.new)) }
     ensures idle { writer.new ≡ [] }
     ensures cause { CountsFaults (K.faults sink.old) (K.faults sink.new) result }
@@ -189,9 +195,9 @@ fn reply_to<K: Sink, H: Host>(
     match answer(host, message, peer, buf) {
         Answered::Silent => Ok(()),
         Answered::Reply { len } => writer.send(sink, &buf[..len]),
-        Answered::Transfer { len, errand } => {
+        Answered::Transfer { len, job } => {
             writer.send(sink, &buf[..len])?;
-            host.transfer(&errand, peer);
+            host.transfer(&job, peer);
             Ok(())
         }
         Answered::Stream(stream) => send_stream(writer, sink, host, stream, buf),
@@ -203,12 +209,12 @@ fn reply_to<K: Sink, H: Host>(
 }
 
 /// Has a map made, puts the reply with the status of that at the front of the buffer, and answers its length.
-fn make<H: Host>(host: &mut H, job: Job, xid: u32, buf: &mut [u8]) -> usize
+fn make<H: Host>(host: &mut H, job: MakeJob, xid: u32, buf: &mut [u8]) -> usize
     requires room { record_max ≤ length buf.old }
     requires inside { job.map < length (H.seen host.old).catalogue.maps }
     requires kind { IsKindOf (H.seen host.old).catalogue job.map job.kind }
     ensures made { (stat : XfrStat) × (take result buf.new ≡ make_reply xid stat)
-        × Fulfils (conduct_of H.seen H.told H.counts H.stepped H.made H.carried) job stat host.old host.new }
+        × Fulfils (conduct_by H.Host) job stat host.old host.new }
     ensures some { 0 < result }
     ensures within { result ≤ length buf.new }
 {
@@ -218,7 +224,7 @@ fn make<H: Host>(host: &mut H, job: Job, xid: u32, buf: &mut [u8]) -> usize
 
 impl From<RecordFault> for End {
     ghost use Rattle.std.specs.Prelude.{◌≡◌};
-    ghost use Rattle.yp_session.specs.Runs.{end_of};
+    ghost use Rattle.yp_answer.specs.inside.session.Runs.{end_of};
 
     ghost from_gives = { λ fault end. end ≡ end_of fault };
 

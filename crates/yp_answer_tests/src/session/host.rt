@@ -6,17 +6,17 @@ ghost use Rattle.yp_io.specs.Counts.{next_count};
 ghost use Rattle.yp_io.specs.Texts.{text_max};
 ghost use Rattle.yp_board.specs.Logs.{shown};
 ghost use Rattle.yp_board.specs.Views.{IsFront};
-ghost use Rattle.yp_build.specs.After.{Material, built_after, IsOver};
+ghost use Rattle.yp_texts.specs.After.{Material, built_after, HasLaterOrder};
 ghost use Rattle.yp_answer.specs.Causes.{IsCaused, basis_at};
 
 use std::alloc::Global;
 use std::sync::Arc;
-use yp_answer::{Errand, Job};
+use yp_answer::session::Host;
+use yp_answer::{MakeJob, TransferJob};
 use yp_board::{Catalog, PlainBoard, Show, View};
-use yp_build::{AfterFault, BuildFault, Kind, build_after, other_master};
 use yp_io::Peer;
-use yp_msgs::XfrStat;
-use yp_session::Host;
+use yp_messages::XfrStat;
+use yp_texts::{AfterFault, BuildFault, Kind, build_after, other_master};
 use yp_version::Version;
 
 // The text of each map.
@@ -43,14 +43,14 @@ fn build_next(
     board: &PlainBoard,
     alloc: Global,
     rt: HostRuntime,
-    job: Job,
+    job: MakeJob,
     text: &[u8],
 ) -> Result<Version, XfrStat>
     requires inside { job.map < length board.now.catalogue.maps }
     requires limit { length text.now ≤ text_max }
     ensures built { IfOk result (λ version. (material : Material)
         × (built_after (basis_at board.now.catalogue.own job board.now.known) material ≡ Ok version)
-        × IsOver (shown job.map board.now.known) version) }
+        × HasLaterOrder (shown job.map board.now.known) version) }
     ensures unbuilt { IfErr result (λ stat. IsCaused (record { text = λ file. None; moment = None })
         board.now.catalogue.own job stat board.now.known board.now.known) }
     ensures counted { IfErr result (λ stat. stat ≢ XfrStat.File) }
@@ -71,7 +71,7 @@ fn build_next(
 }
 
 // Builds a map anew, and shows that.
-fn make_next(board: &mut PlainBoard, alloc: Global, rt: HostRuntime, job: Job) -> XfrStat
+fn make_next(board: &mut PlainBoard, alloc: Global, rt: HostRuntime, job: MakeJob) -> XfrStat
     requires { job.map < length board.old.catalogue.maps }
     ensures caused { IsCaused (record { text = λ file. None; moment = None })
         board.old.catalogue.own job result board.old.known board.new.known }
@@ -117,7 +117,7 @@ impl Host for TestHost {
 
     ghost made = { λ job stat old new. Unit {0} };
 
-    fn make(&mut self, job: Job) -> XfrStat {
+    fn make(&mut self, job: MakeJob) -> XfrStat {
         self.makes = self.makes.saturating_add(1);
         match job.kind {
             Kind::GroupBygid => XfrStat::Dbm,
@@ -136,9 +136,9 @@ impl Host for TestHost {
 
     ghost carried = { λ taken peer old new. Unit {0} };
 
-    fn transfer(&mut self, errand: &Errand<'_>, _peer: Peer) {
+    fn transfer(&mut self, job: &TransferJob<'_>, _peer: Peer) {
         self.transfers = self.transfers.saturating_add(1);
-        self.transactions = self.transactions.saturating_add(u64::from(errand.transid));
+        self.transactions = self.transactions.saturating_add(u64::from(job.transid));
     }
 
     ghost step_counts_nothing = { λ old new h.

@@ -1,14 +1,13 @@
 //! Calls of MAKE in a session.
 
-use crate::given::assert_same;
 use crate::sample::{shared, version_of};
 use crate::session::host::TestHost;
 use crate::session::sample::*;
 use std::alloc::Global;
 use std::process::Abort;
 use std::random::RandomSource;
+use yp_answer::session::*;
 use yp_io::Peer;
-use yp_session::*;
 
 // The maps of the kinds 1 to 6.
 static MAPS: [(&[u8], &[u8]); 6] = [
@@ -28,122 +27,156 @@ fn unmade<R: RandomSource + Abort>(rt: &R, runtime: HostRuntime, alloc: Global) 
     host_of(rt, runtime, alloc, &MAPS, start.expect(rt, "versions"))
 }
 
-// The call, the reply, and how often a map was to be made and had FILE by then.
-type Status = (&'static str, &'static str, u64, u64);
-
-static STATUSES: [Status; 7] = [
-    ("MAKE 00000001", "MADE 00000001", 1, 0),
-    ("MAKE 00000002", "MADE fffffff2", 2, 0),
-    ("MAKE 00000003", "MADE 00000002", 3, 0),
-    ("MAKE 00000004", "MADE fffffff8", 4, 0),
-    ("MAKE 00000005", "MADE fffffff7", 5, 1),
-    ("MAKE 00000006", "MADE fffffffd", 6, 1),
-    // The domain has no map of the kind 7, so that none is made.
-    ("MAKE 00000007", "MADE ffffffff", 6, 1),
+// Calls in turn, and how often a map was to be made and had FILE by then. The domain has no map of the kind 7, so that
+// none is made.
+static STATUSES: [Row; 7] = [
+    Row {
+        name: "kind 1",
+        input: "MAKE 00000001",
+        calls: 1,
+        output: "MADE 00000001",
+        counts: (1, 0, true, 0, 0),
+        ..EMPTY
+    },
+    Row {
+        name: "kind 2",
+        input: "MAKE 00000002",
+        calls: 1,
+        output: "MADE fffffff2",
+        counts: (2, 0, true, 0, 0),
+        ..EMPTY
+    },
+    Row {
+        name: "kind 3",
+        input: "MAKE 00000003",
+        calls: 1,
+        output: "MADE 00000002",
+        counts: (3, 0, true, 0, 0),
+        ..EMPTY
+    },
+    Row {
+        name: "kind 4",
+        input: "MAKE 00000004",
+        calls: 1,
+        output: "MADE fffffff8",
+        counts: (4, 0, true, 0, 0),
+        ..EMPTY
+    },
+    Row {
+        name: "kind 5",
+        input: "MAKE 00000005",
+        calls: 1,
+        output: "MADE fffffff7",
+        counts: (5, 1, true, 0, 0),
+        ..EMPTY
+    },
+    Row {
+        name: "kind 6",
+        input: "MAKE 00000006",
+        calls: 1,
+        output: "MADE fffffffd",
+        counts: (6, 1, true, 0, 0),
+        ..EMPTY
+    },
+    Row {
+        name: "kind 7",
+        input: "MAKE 00000007",
+        calls: 1,
+        output: "MADE ffffffff",
+        counts: (6, 1, true, 0, 0),
+        ..EMPTY
+    },
 ];
-
-fn try_status(
-    rt: &impl Abort,
-    alloc: Global,
-    session: &mut Session,
-    host: &mut TestHost,
-    row: &Status,
-) {
-    let (make, made, makes, files) = row;
-    let input = words(rt, alloc, make);
-    let output = words(rt, alloc, made);
-    let came = run(rt, alloc, session, host, PEER, input, &UNBOUNDED);
-    let wanted = ((End::Clean, 1, 0, output), *makes, *files);
-    assert_same(rt, &(came, host.makes, host.files), &wanted, make);
-}
 
 #[test]
 fn statuses_of_makes(rt: HostRuntime) {
-    let alloc = rt.alloc();
-    let mut session = Session::new(alloc).expect(&rt, "a session");
-    let mut host = unmade(&rt, rt, alloc);
-    for row in &STATUSES {
-        try_status(&rt, alloc, &mut session, &mut host, row);
-    }
+    let host = unmade(&rt, rt, rt.alloc());
+    try_rows(&rt, rt.alloc(), host, &STATUSES);
 }
 
-// What came of a session over such a host, how often a map was to be made, and whether one was shown.
-type Makes = (Came, u64, bool);
-
-fn run_unmade<R: RandomSource + Abort>(
-    rt: &R,
-    runtime: HostRuntime,
-    alloc: Global,
-    peer: Peer,
-    input: Vec<u8>,
-    bounds: &Bounds,
-) -> Makes {
-    let mut session = Session::new(alloc).expect(rt, "a session");
-    let mut host = unmade(rt, runtime, alloc);
-    let came = run(rt, alloc, &mut session, &mut host, peer, input, bounds);
-    (came, host.makes, host.shown)
-}
+static MADE: [Row; 1] = [Row {
+    name: "MATCH, MAKE, MATCH",
+    input: "MATCH MAKE 00000001 MATCH",
+    calls: 3,
+    output: "NO_MAP MADE 00000001 VALUE",
+    counts: (1, 0, true, 0, 0),
+    ..EMPTY
+}];
 
 #[test]
 fn make_then_match(rt: HostRuntime) {
-    let alloc = rt.alloc();
-    let input = words(&rt, alloc, "MATCH MAKE 00000001 MATCH");
-    let output = words(&rt, alloc, "NO_MAP MADE 00000001 VALUE");
-    let came = run_unmade(&rt, rt, alloc, PEER, input, &UNBOUNDED);
-    let wanted = ((End::Clean, 3, 0, output), 1, true);
-    assert_same(&rt, &came, &wanted, "MATCH, MAKE, MATCH");
+    let host = unmade(&rt, rt, rt.alloc());
+    try_rows(&rt, rt.alloc(), host, &MADE);
 }
+
+static FROM_ANOTHER: [Row; 1] = [Row {
+    name: "MAKE, MATCH",
+    peer: Peer {
+        addr: [10, 0, 0, 9],
+        port: 700,
+    },
+    input: "MAKE 00000001 MATCH",
+    calls: 2,
+    output: "MADE fffffff2 NO_MAP",
+    ..EMPTY
+}];
 
 #[test]
 fn make_from_another_host(rt: HostRuntime) {
-    let alloc = rt.alloc();
-    let input = words(&rt, alloc, "MAKE 00000001 MATCH");
-    let output = words(&rt, alloc, "MADE fffffff2 NO_MAP");
-    let peer = Peer {
-        addr: [10, 0, 0, 9],
-        port: 700,
-    };
-    let came = run_unmade(&rt, rt, alloc, peer, input, &UNBOUNDED);
-    let wanted = ((End::Clean, 2, 0, output), 0, false);
-    assert_same(&rt, &came, &wanted, "MAKE, MATCH");
+    let host = unmade(&rt, rt, rt.alloc());
+    try_rows(&rt, rt.alloc(), host, &FROM_ANOTHER);
 }
 
-// A reply of 32 bytes is four writes and a flush. The call of the sink that fails, and what it took.
-static LOST: [(u64, &str); 4] = [
-    (0, ""),
-    (1, "8000001c 00000002 0000"),
-    (
-        3,
-        "8000001c 00000002 00000001 00000000 00000000 00000000 00000000 0000",
-    ),
-    (
-        4,
-        "8000001c 00000002 00000001 00000000 00000000 00000000 00000000 00000001",
-    ),
-];
-
-fn try_lost<R: RandomSource + Abort>(
-    rt: &R,
-    runtime: HostRuntime,
-    alloc: Global,
-    row: &(u64, &str),
-) {
-    let (write, taken) = row;
-    let input = words(rt, alloc, "MAKE 00000001 MATCH");
-    let output = words(rt, alloc, taken);
-    let bounds = Bounds {
-        write: *write,
+// A reply of 32 bytes is four writes and a flush. The record of MATCH, of 84 bytes, isn't read.
+const FIRST_LOST: Row = Row {
+    name: "the first write fails",
+    input: "MAKE 00000001 MATCH",
+    bounds: Bounds {
+        write: 0,
         ..UNBOUNDED
-    };
-    let came = run_unmade(rt, runtime, alloc, PEER, input, &bounds);
-    // The record of MATCH, of 84 bytes, isn't read.
-    let wanted = ((End::WriteFault, 1, 84, output), 1, true);
-    assert_same(rt, &(*write, came), &(*write, wanted), "call that fails");
-}
+    },
+    end: End::WriteFault,
+    calls: 1,
+    left: 84,
+    counts: (1, 0, true, 0, 0),
+    ..EMPTY
+};
+
+// Each is a session over a host of its own.
+static LOST: [[Row; 1]; 4] = [
+    [FIRST_LOST],
+    [Row {
+        name: "the second write fails",
+        bounds: Bounds {
+            write: 1,
+            ..UNBOUNDED
+        },
+        output: "8000001c 00000002 0000",
+        ..FIRST_LOST
+    }],
+    [Row {
+        name: "the fourth write fails",
+        bounds: Bounds {
+            write: 3,
+            ..UNBOUNDED
+        },
+        output: "MADE 0000",
+        ..FIRST_LOST
+    }],
+    [Row {
+        name: "the flush fails",
+        bounds: Bounds {
+            write: 4,
+            ..UNBOUNDED
+        },
+        output: "MADE 00000001",
+        ..FIRST_LOST
+    }],
+];
 
 #[test]
 fn make_whose_reply_is_lost(rt: HostRuntime) {
-    for row in &LOST {
-        try_lost(&rt, rt, rt.alloc(), row);
+    for rows in &LOST {
+        try_rows(&rt, rt.alloc(), unmade(&rt, rt, rt.alloc()), rows);
     }
 }

@@ -8,40 +8,20 @@ use crate::session::sample::*;
 use std::alloc::Global;
 use std::process::Abort;
 use std::random::RandomSource;
+use yp_answer::session::*;
 use yp_io::MemWire;
-use yp_session::*;
-
-// A wire, and what comes of a session over it.
-struct Row {
-    name: &'static str,
-    input: &'static str,
-    bounds: Bounds,
-    end: End,
-    calls: u64,
-    // The bytes of the input that are left.
-    left: usize,
-    output: &'static str,
-}
 
 const CLEAN: Row = Row {
     name: "three records",
     input: "NULL NONACK DOMAIN",
-    bounds: UNBOUNDED,
-    end: End::Clean,
     calls: 3,
-    left: 0,
     output: "NULL_REPLY DOMAIN_REPLY",
+    ..EMPTY
 };
 
 static ROWS: [Row; 14] = [
     CLEAN,
-    Row {
-        name: "no record",
-        input: "",
-        calls: 0,
-        output: "",
-        ..CLEAN
-    },
+    EMPTY,
     Row {
         name: "a torn head",
         input: "NULL NONACK DOMAIN 800000",
@@ -172,14 +152,6 @@ static ROWS: [Row; 14] = [
     },
 ];
 
-fn try_row(rt: &impl Abort, alloc: Global, session: &mut Session, host: &mut TestHost, row: &Row) {
-    let input = words(rt, alloc, row.input);
-    let output = words(rt, alloc, row.output);
-    let came = run(rt, alloc, session, host, PEER, input, &row.bounds);
-    let wanted = (row.end, row.calls, row.left, output);
-    assert_same(rt, &came, &wanted, row.name);
-}
-
 // A host of the map `m`, which has no rows.
 fn bare_host<R: RandomSource + Abort>(rt: &R, runtime: HostRuntime, alloc: Global) -> TestHost {
     host_with(rt, runtime, alloc, version(rt, alloc, &[]))
@@ -187,12 +159,8 @@ fn bare_host<R: RandomSource + Abort>(rt: &R, runtime: HostRuntime, alloc: Globa
 
 #[test]
 fn ends(rt: HostRuntime) {
-    let alloc = rt.alloc();
-    let mut session = Session::new(alloc).expect(&rt, "a session");
-    let mut host = bare_host(&rt, rt, alloc);
-    for row in &ROWS {
-        try_row(&rt, alloc, &mut session, &mut host, row);
-    }
+    let host = bare_host(&rt, rt, rt.alloc());
+    try_rows(&rt, rt.alloc(), host, &ROWS);
 }
 
 // What comes of a step, and how many records and bytes of replies there are then.
@@ -211,17 +179,16 @@ static STEPS: [Stepped; 4] = [
     (Step::Ended(End::Torn { at: 148 }), 3, 60),
 ];
 
-fn assert_steps(rt: &impl Abort, session: &mut Session, host: &mut TestHost, wire: &mut MemWire) {
+// Steps, and one behind a new beginning.
+fn try_steps(rt: &impl Abort, session: &mut Session, host: &mut TestHost, wire: &mut MemWire) {
+    assert_same(rt, &session.calls(), &0, "a new session");
     for wanted in &STEPS {
         assert_same(rt, &step(session, host, wire), wanted, "a step");
     }
-}
-
-// What comes of a step behind a new beginning: the records before it, and the step.
-fn step_anew(session: &mut Session, host: &mut TestHost, wire: &mut MemWire) -> (u64, Step) {
     session.begin();
-    let calls = session.calls();
-    (calls, session.step(wire, host, PEER))
+    assert_same(rt, &session.calls(), &0, "a session that is begun anew");
+    let came = session.step(wire, host, PEER);
+    assert_same(rt, &came, &Step::Ended(End::Clean), "begun anew");
 }
 
 #[test]
@@ -229,12 +196,9 @@ fn step_by_step(rt: HostRuntime) {
     let alloc = rt.alloc();
     let input = words(&rt, alloc, "NULL NONACK DOMAIN 800000");
     let mut session = Session::new(alloc).expect(&rt, "a session");
-    let mut host = bare_host(&rt, rt, alloc);
     let mut wire = wire(&rt, alloc, input, NEVER, NEVER);
-    assert_same(&rt, &session.calls(), &0, "a new session");
-    assert_steps(&rt, &mut session, &mut host, &mut wire);
-    let came = step_anew(&mut session, &mut host, &mut wire);
-    assert_same(&rt, &came, &(0, Step::Ended(End::Clean)), "begun anew");
+    let mut host = bare_host(&rt, rt, alloc);
+    try_steps(&rt, &mut session, &mut host, &mut wire);
 }
 
 // Runs a session over a wire with this input, where these are the rows.
@@ -266,43 +230,44 @@ fn all_in_two_fragments(rt: HostRuntime) {
     assert_same(&rt, &(len, came), &(4 + 8_192 + 4 + 4, wanted), "ALL");
 }
 
-// The call of a first sink that fails, how its session ends, and how many bytes of its 60 were taken.
-type FirstWire = (&'static str, u64, End, usize);
+// Nothing of the wire before is left in the session.
+const SECOND_WIRE: Row = Row {
+    name: "the second wire",
+    input: "DOMAIN 80",
+    end: End::Torn { at: 52 },
+    calls: 1,
+    output: "DOMAIN_REPLY",
+    ..EMPTY
+};
 
-static FIRST_WIRES: [FirstWire; 2] = [
-    ("behind a torn wire", NEVER, End::Torn { at: 96 }, 60),
-    ("behind a failed write", 6, End::WriteFault, 48),
+static TWO_WIRES: [Row; 4] = [
+    Row {
+        name: "a torn wire",
+        input: "NULL DOMAIN 80",
+        end: End::Torn { at: 96 },
+        calls: 2,
+        output: "NULL_REPLY DOMAIN_REPLY",
+        ..EMPTY
+    },
+    SECOND_WIRE,
+    Row {
+        name: "a failed write",
+        input: "NULL DOMAIN 80",
+        bounds: Bounds {
+            write: 6,
+            ..UNBOUNDED
+        },
+        end: End::WriteFault,
+        calls: 2,
+        left: 1,
+        output: "NULL_REPLY 8000001c 00000002 00000001 00000000 00000000",
+        ..EMPTY
+    },
+    SECOND_WIRE,
 ];
-
-fn try_two(
-    rt: &impl Abort,
-    alloc: Global,
-    session: &mut Session,
-    host: &mut TestHost,
-    row: &FirstWire,
-) {
-    let (name, write, end, taken) = row;
-    let first = words(rt, alloc, "NULL DOMAIN 80");
-    let second = words(rt, alloc, "DOMAIN 80");
-    // Nothing of the first wire is left in the session.
-    let reply = words(rt, alloc, "DOMAIN_REPLY");
-    let bounds = Bounds {
-        write: *write,
-        ..UNBOUNDED
-    };
-    let (first_end, calls, _, output) = run(rt, alloc, session, host, PEER, first, &bounds);
-    let came = run(rt, alloc, session, host, PEER, second, &UNBOUNDED);
-    let first_came = (first_end, calls, output.len());
-    let wanted = (End::Torn { at: 52 }, 1, 0, reply);
-    assert_same(rt, &(first_came, came), &((*end, 2, *taken), wanted), name);
-}
 
 #[test]
 fn two_wires(rt: HostRuntime) {
-    let alloc = rt.alloc();
-    let mut session = Session::new(alloc).expect(&rt, "a session");
-    let mut host = bare_host(&rt, rt, alloc);
-    for row in &FIRST_WIRES {
-        try_two(&rt, alloc, &mut session, &mut host, row);
-    }
+    let host = bare_host(&rt, rt, rt.alloc());
+    try_rows(&rt, rt.alloc(), host, &TWO_WIRES);
 }

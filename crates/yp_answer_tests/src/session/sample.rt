@@ -1,13 +1,13 @@
 //! Hosts, and sessions over wires in memory.
 
-use crate::given::named;
+use crate::given::{assert_same, named};
 use crate::sample::{board, shared};
 use crate::session::host::TestHost;
 use std::alloc::Global;
 use std::process::Abort;
 use std::sync::Arc;
-use yp_io::{MemSink, MemSource, MemWire, Pair, Peer, Source};
-use yp_session::*;
+use yp_answer::session::*;
+use yp_io::{MemSink, MemSource, MemWire, Pair, Peer, Source, Trail};
 use yp_version::Version;
 
 pub const PEER: Peer = Peer {
@@ -114,13 +114,45 @@ pub fn wire(rt: &impl Abort, alloc: Global, input: Vec<u8>, read: u64, write: u6
     }
 }
 
-// The calls of a wire that fail, and the most records of a session over it.
-#[derive(Clone, Copy)]
+// Numbers of calls of a wire that fail, of its source and of its sink, and the most records of a session over it.
 pub struct Bounds {
     pub read: u64,
     pub write: u64,
     pub most: u8,
 }
+
+// What a host counted: the maps that were to be made, and those of them that had FILE, whether one was shown, the
+// transfers that were carried out, and the sum of their transactions.
+pub type Counts = (u64, u64, bool, u64, u64);
+
+pub const NOTHING: Counts = (0, 0, false, 0, 0);
+
+// A wire, what comes of a session over it, and what its host has counted then.
+pub struct Row {
+    pub name: &'static str,
+    pub peer: Peer,
+    pub input: &'static str,
+    pub bounds: Bounds,
+    pub end: End,
+    pub calls: u64,
+    // The bytes of the input that are left.
+    pub left: usize,
+    pub output: &'static str,
+    pub counts: Counts,
+}
+
+// A session over a wire without a record.
+pub const EMPTY: Row = Row {
+    name: "no record",
+    peer: PEER,
+    input: "",
+    bounds: UNBOUNDED,
+    end: End::Clean,
+    calls: 0,
+    left: 0,
+    output: "",
+    counts: NOTHING,
+};
 
 pub const UNBOUNDED: Bounds = Bounds {
     read: NEVER,
@@ -148,4 +180,32 @@ pub fn run(
     let left = wire.source.read(&mut [0; 1000]).expect(rt, "a read");
     let output = Vec::from_slice(alloc, wire.sink.taken()).expect(rt, "bytes");
     (end, session.calls(), left, output)
+}
+
+fn counts(host: &TestHost) -> Counts {
+    (
+        host.makes,
+        host.files,
+        host.shown,
+        host.transfers,
+        host.transactions,
+    )
+}
+
+fn try_row(rt: &impl Abort, alloc: Global, session: &mut Session, host: &mut TestHost, row: &Row) {
+    let input = words(rt, alloc, row.input);
+    let output = words(rt, alloc, row.output);
+    let came = run(rt, alloc, session, host, row.peer, input, &row.bounds);
+    let wanted = (row.end, row.calls, row.left, output);
+    assert_same(rt, &came, &wanted, row.name);
+    assert_same(rt, &counts(host), &row.counts, row.name);
+}
+
+// Runs one session over the wires of rows in turn, and compares what comes of each.
+pub fn try_rows(rt: &impl Abort, alloc: Global, host: TestHost, rows: &[Row]) {
+    let mut session = Session::new(alloc).expect(rt, "a session");
+    let mut host = host;
+    for row in rows {
+        try_row(rt, alloc, &mut session, &mut host, row);
+    }
 }

@@ -3,9 +3,9 @@ use Rattle.std.proofs.Common.{◌≡◌, ◌∙◌, ◌++◌, ◌&&◌, ◌||◌
 use Rattle.std.specs.Prelude.{nat_lt}
 use Rattle.yp_io.specs.declared.stream.Peer.{Peer}
 use Rattle.std.specs.List.{filter, list_any, IsDistinct, AllByRecursion}
-use Rattle.yp_portmap.specs.declared.mapping.Mapping.{Mapping}
-use Rattle.yp_portmap.specs.Registry.{is_of, is_same, is_here, may_stand, is_set, with_unset, Differ}
-use Rattle.yp_portmap.specs.Numbers.{mappings_max}
+use Rattle.yp_binding.specs.declared.portmap.mapping.Mapping.{Mapping}
+use Rattle.yp_binding.specs.portmap.Registry.{is_of, is_same, is_here, may_stand, is_set, with_unset, Differ}
+use Rattle.yp_binding.specs.portmap.Numbers.{mappings_max}
 
 behind : (m other : Mapping) (ms : List Mapping) → AllByRecursion (λ y. is_same m y ≡ false) ms → is_same m other ≡ false
     → AllByRecursion (λ y. is_same m y ≡ false) (ms ++ other ∷ [])

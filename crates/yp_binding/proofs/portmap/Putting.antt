@@ -3,10 +3,10 @@ use Rattle.std.proofs.Common.{◌≡◌, ℕ, ◌+◌, ◌<◌, ◌≤◌, List,
 use Rattle.std.specs.Prelude.{flat_map}
 use Rattle.std.proofs.lemmas.List.{length-append, length-take, take_at, take_more, map-append, append-nil}
 use Rattle.std.proofs.lemmas.Grind.{flat_map-append}
-use Rattle.yp_xdr.specs.Writing.{Sets, Writes, written}
+use Rattle.yp_xdr.specs.inside.Writing.{Sets, Writes, written}
 use Rattle.yp_xdr.specs.Spelling.{present, spelling}
-use Rattle.yp_portmap.specs.declared.mapping.Mapping.{Mapping}
-use Rattle.yp_portmap.specs.Registry.{mapping_kind, mapping_view}
+use Rattle.yp_binding.specs.declared.portmap.mapping.Mapping.{Mapping}
+use Rattle.yp_binding.specs.portmap.Registry.{mapping_kind, mapping_view}
 
 pub joined : {one other : List ℕ} {at mid end : ℕ} {old half new : List ℕ} → Sets one at mid old half
     → Sets other mid end half new → Sets (one ++ other) at end old new

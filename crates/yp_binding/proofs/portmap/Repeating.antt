@@ -4,13 +4,14 @@ use Rattle.std.specs.Prelude.{nat_lt}
 use Rattle.std.specs.List.{filter, list_any}
 use Rattle.std.proofs.lemmas.List.Folds.{list_any-append}
 use Rattle.yp_io.specs.declared.stream.Peer.{Peer}
-use Rattle.yp_portmap.specs.declared.mapping.Mapping.{Mapping}
-use Rattle.yp_portmap.specs.declared.request.Request.{Request}
-use Rattle.yp_portmap.specs.declared.request.Request.TheVariants.{Nothing, Answer, Set, Unset, GetPort, Dump}
-use Rattle.yp_portmap.specs.Numbers.{mappings_max}
-use Rattle.yp_portmap.specs.Registry.{is_of, is_same, is_here, may_stand, is_set, with_set, with_unset}
-use Rattle.yp_portmap.specs.Replies.{request_after, RepeatsNothing}
-use Rattle.yp_portmap.specs.Requests.{asked_by}
+use Rattle.yp_binding.specs.declared.portmap.mapping.Mapping.{Mapping}
+use Rattle.yp_binding.specs.declared.portmap.request.Request.{Request}
+use Rattle.yp_binding.specs.declared.portmap.request.Request.TheVariants.{Nothing, Answer, Set, Unset, GetPort, Dump}
+use Rattle.yp_binding.specs.portmap.Numbers.{mappings_max}
+use Rattle.yp_binding.specs.portmap.Registry.{is_of, is_same, is_here, may_stand, is_set, with_set, with_unset}
+use Rattle.yp_binding.specs.portmap.Replies.{request_after}
+use Rattle.yp_binding.specs.inside.portmap.Replies.{RepeatsNothing}
+use Rattle.yp_binding.specs.portmap.Requests.{asked_by}
 
 -- A number is itself.
 own : (n : ℕ) → (n == n) ≡ true

@@ -1,20 +1,18 @@
--- What the code keeps of a binder.
+-- What the code keeps of a binder, and what it keeps to.
 use Rattle.std.specs.Prelude.{◌≡◌, ℕ, ◌+◌, ◌%◌, ◌^◌, ◌<◌, ◌≤◌, false, List, length, map, Option}
 use Rattle.std.specs.Prelude.{slice_index_or, IfSome}
-use Rattle.yp_bind.specs.declared.event.Binding.{Binding}
-use Rattle.yp_bind.specs.declared.event.Event.{Event}
-use Rattle.yp_bind.specs.declared.standing.Standing.{Standing}
-use Rattle.yp_bind.specs.declared.binder.Binder.TheInside.{Inside}
-use Rattle.yp_bind.specs.Events.{server_for, binds, is_quiet, is_ping}
-use Rattle.yp_bind.specs.Rounds.{Bindings, out, first_number, targets}
-use Rattle.yp_bind.specs.Standings.{fresh, standing_of}
+use Rattle.yp_binding.specs.declared.event.Binding.{Binding}
+use Rattle.yp_binding.specs.declared.event.Event.{Event}
+use Rattle.yp_binding.specs.declared.standing.BindingState.{BindingState}
+use Rattle.yp_binding.specs.declared.binder.Binder.TheInside.{Inside}
+use Rattle.yp_binding.specs.Events.{server_for, binds, is_quiet, is_ping}
+use Rattle.yp_binding.specs.Rounds.{Bindings, out, first_number, targets}
+use Rattle.yp_binding.specs.inside.Standings.{fresh, standing_of}
+use Rattle.yp_binding.specs.Kept.{servers_max}
 
 -- the most domains and servers
 abbrev pub domains_max : ℕ
 domains_max = 8
-
-abbrev pub servers_max : ℕ
-servers_max = 64
 
 -- what the fields tell
 abbrev pub bindings_of : Inside → Bindings
@@ -26,7 +24,7 @@ bindings_of inside = record {
 }
 
 -- the standings are those by the events, and the numbers are those of the round
-pub record Keeps (bindings : Bindings) (standings : List Standing) (pinged first_xid next_xid : ℕ) : Type 0 where
+pub record Keeps (bindings : Bindings) (standings : List BindingState) (pinged first_xid next_xid : ℕ) : Type 0 where
   pub few : length bindings.domains ≤ domains_max
   pub few_servers : length bindings.servers ≤ servers_max
   pub count : length standings ≡ length bindings.domains

@@ -36,7 +36,3 @@ port_max = 65535
 -- the most mappings that stand at a time
 abbrev pub mappings_max : ℕ
 mappings_max = 256
-
--- the bytes of a call or a reply
-abbrev pub datagram_max : ℕ
-datagram_max = 8192

@@ -1,13 +1,13 @@
 -- The registry of a port mapper: a list of mappings, in the order in which they were set, and what each call does to it
 -- (RFC 1833 section 3).
 use Rattle.std.specs.Prelude.{ℕ, Bool, not, ◌&&◌, ◌||◌, ◌==◌, nat_le, nat_lt, bytes_eq}
-use Rattle.std.specs.Prelude.{if◌then◌else◌, List, [], ◌∷◌, ◌++◌, length, filter, Option, Some, None, ⊤}
+use Rattle.std.specs.Prelude.{if◌then◌else◌, List, [], ◌∷◌, ◌++◌, length, filter, Option, Some, None}
 use Rattle.std.specs.List.{find, list_any, IsDistinct}
 use Rattle.yp_io.specs.declared.stream.Peer.{Peer}
 use Rattle.yp_xdr.specs.Kind.{Kind, U32, Sequence, Value}
-use Rattle.yp_portmap.specs.declared.mapping.Mapping.{Mapping}
+use Rattle.yp_binding.specs.declared.portmap.mapping.Mapping.{Mapping}
 use Rattle.yp_io.specs.Peers.{own_host}
-use Rattle.yp_portmap.specs.Numbers.{tcp, udp, port_max, mappings_max}
+use Rattle.yp_binding.specs.portmap.Numbers.{tcp, udp, port_max, mappings_max}
 
 -- a mapping as XDR: program, version, protocol and port
 abbrev pub mapping_kind : Kind
@@ -64,7 +64,3 @@ port_or_none (Some mapping) = mapping.port
 
 abbrev pub port_for : Mapping → List Mapping → ℕ
 port_for asked mappings = port_or_none (find (is_same asked) mappings)
-
--- The numbers of a mapping have no limits in XDR.
-abbrev pub AnyMapping : Mapping → Type 0
-AnyMapping mapping = ⊤

@@ -1,15 +1,15 @@
--- What a call gets of a port mapper, and what it leaves of its registry.
-use Rattle.std.specs.Prelude.{◌≡◌, ℕ, List, ◌++◌, map, take, zero, suc, Option, Some, None}
+-- What a call gets of a port mapper, and what it leaves of its registry (RFC 1833 section 3).
+use Rattle.std.specs.Prelude.{ℕ, List, ◌++◌, map, Option, Some, None}
 use Rattle.yp_io.specs.declared.stream.Peer.{Peer}
 use Rattle.yp_xdr.specs.Kind.{Kind, U32, Boolean, ListOf, Value}
 use Rattle.yp_xdr.specs.Spelling.{spelling}
 use Rattle.yp_rpc.specs.declared.reply.ReplyHead.TheVariants.{Success}
 use Rattle.yp_rpc.specs.Reply.{reply_head}
-use Rattle.yp_portmap.specs.declared.mapping.Mapping.{Mapping}
-use Rattle.yp_portmap.specs.declared.request.Request.{Request}
-use Rattle.yp_portmap.specs.declared.request.Request.TheVariants.{Nothing, Answer, Set, Unset, GetPort, Dump}
-use Rattle.yp_portmap.specs.Registry.{mapping_kind, mapping_view, is_set, with_set, is_unset, with_unset, port_for}
-use Rattle.yp_portmap.specs.Requests.{asked_by}
+use Rattle.yp_binding.specs.declared.portmap.mapping.Mapping.{Mapping}
+use Rattle.yp_binding.specs.declared.portmap.request.Request.{Request}
+use Rattle.yp_binding.specs.declared.portmap.request.Request.TheVariants.{Nothing, Answer, Set, Unset, GetPort, Dump}
+use Rattle.yp_binding.specs.portmap.Registry.{mapping_kind, mapping_view, is_set, with_set, is_unset, with_unset, port_for}
+use Rattle.yp_binding.specs.portmap.Requests.{asked_by}
 
 -- the head of a reply with results, and the results
 abbrev pub success : ℕ → (kind : Kind) → Value kind → List ℕ
@@ -38,13 +38,3 @@ reply from mappings call = request_reply from mappings (asked_by call)
 
 abbrev pub after : Peer → List Mapping → List ℕ → List Mapping
 after from mappings call = request_after from mappings (asked_by call)
-
--- a reply at the front of a buffer, or silence where its length is 0
-abbrev pub reply_in : ℕ → List ℕ → Option (List ℕ)
-reply_in zero buf = None
-reply_in (suc n) buf = Some (take (suc n) buf)
-
--- A call that is repeated directly after itself leaves the registry as it left it the first time.
-abbrev pub RepeatsNothing : Type 0
-RepeatsNothing = (from : Peer) (mappings : List Mapping) (call : List ℕ)
-    → after from (after from mappings call) call ≡ after from mappings call

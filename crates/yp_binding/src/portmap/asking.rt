@@ -1,12 +1,12 @@
 //! What a client asks a port mapper, and reads of its reply.
 
 ghost use Rattle.std.specs.Prelude.{◌≡◌};
-ghost use Rattle.yp_xdr.specs.Writing.{Writes};
-ghost use Rattle.yp_portmap.specs.Asking.{getport_call, port_read};
+ghost use Rattle.yp_xdr.specs.inside.Writing.{Writes};
+ghost use Rattle.yp_binding.specs.portmap.Asking.{getport_call, port_read};
 
-use crate::mapping::Mapping;
-use crate::protocol::{GETPORT, PROGRAM, VERSION};
-use yp_msgs::Message;
+use crate::portmap::mapping::Mapping;
+use crate::portmap::protocol::{GETPORT, PROGRAM, VERSION};
+use yp_messages::Message;
 use yp_rpc::{ReplyHead, read_reply_at, write_call};
 use yp_xdr::{Cursor, NoRoom, XdrFault, laws};
 

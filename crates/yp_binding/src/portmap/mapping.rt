@@ -1,10 +1,11 @@
 //! Mappings of programs to ports.
 
 ghost use Rattle.std.specs.Prelude.{◌≡◌};
-ghost use Rattle.yp_portmap.specs.Registry.{mapping_kind, mapping_view, AnyMapping, is_of, is_same, may_stand};
+ghost use Rattle.yp_binding.specs.portmap.Registry.{mapping_kind, mapping_view, is_of, is_same, may_stand};
+ghost use Rattle.yp_binding.specs.inside.portmap.Registry.{AnyMapping};
 
-use crate::protocol::{PORT_MAX, TCP, UDP};
-use yp_msgs::{Fields, Message};
+use crate::portmap::protocol::{PORT_MAX, TCP, UDP};
+use yp_messages::{Fields, Message};
 use yp_xdr::{Cursor, XdrFault, set_u32};
 
 /// A version of a program over a protocol, and the port where it is.

@@ -27,6 +27,3 @@ pub const PORT_MAX: u32 = 65_535;
 
 /// The most mappings that stand at a time.
 pub const MAPPINGS_MAX: usize = 256;
-
-/// The most bytes of a call or a reply.
-pub const DATAGRAM_MAX: usize = 8_192;

@@ -6,18 +6,19 @@ ghost use Rattle.std.specs.Option.{option_map};
 ghost use Rattle.yp_xdr.specs.Kind.{Boolean, ListOf, U32};
 ghost use Rattle.yp_xdr.specs.Spelling.{present, spelling};
 ghost use Rattle.yp_rpc.specs.Reply.{reply_head};
-ghost use Rattle.yp_portmap.specs.Registry.{mapping_kind, mapping_view, is_here, is_of, is_same, is_set, with_set};
-ghost use Rattle.yp_portmap.specs.Registry.{is_unset, with_unset, port_for, Differ};
-ghost use Rattle.yp_portmap.specs.Replies.{success, reply, after, reply_in};
+ghost use Rattle.yp_binding.specs.portmap.Registry.{mapping_kind, mapping_view, is_here, is_of, is_same, is_set};
+ghost use Rattle.yp_binding.specs.portmap.Registry.{with_set, is_unset, with_unset, port_for, Differ};
+ghost use Rattle.yp_binding.specs.portmap.Replies.{success, reply, after};
+ghost use Rattle.yp_binding.specs.inside.portmap.Replies.{reply_in};
 
-use crate::mapping::Mapping;
-use crate::protocol::{DATAGRAM_MAX, MAPPINGS_MAX};
-use crate::request::{Request, read_request};
+use crate::portmap::mapping::Mapping;
+use crate::portmap::protocol::MAPPINGS_MAX;
+use crate::portmap::request::{Request, read_request};
 use std::alloc::Global;
 use std::marker::Model;
 use yp_io::{NoMemory, OWN_HOST, Peer};
-use yp_msgs::Message;
-use yp_rpc::{ReplyHead, write_reply};
+use yp_messages::Message;
+use yp_rpc::{DATAGRAM_MAX, ReplyHead, write_reply};
 use yp_xdr::{NoRoom, set_bool, set_u32};
 
 /// The mappings that a port mapper knows. It is seen as their list, in the order in which they were set.
@@ -29,9 +30,9 @@ pub struct Registry {
 
 impl Model for Registry {
     ghost use Rattle.std.specs.Prelude.{◌≤◌, List, length, vec_capacity};
-    ghost use Rattle.yp_portmap.specs.declared.mapping.Mapping.{Mapping};
-    ghost use Rattle.yp_portmap.specs.Numbers.{mappings_max};
-    ghost use Rattle.yp_portmap.specs.Registry.{Differ};
+    ghost use Rattle.yp_binding.specs.declared.portmap.mapping.Mapping.{Mapping};
+    ghost use Rattle.yp_binding.specs.portmap.Numbers.{mappings_max};
+    ghost use Rattle.yp_binding.specs.portmap.Registry.{Differ};
 
     ghost Value = { List Mapping };
 

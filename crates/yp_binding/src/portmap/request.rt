@@ -1,13 +1,50 @@
 //! What a datagram asks of the port mapper.
 
 ghost use Rattle.std.specs.Prelude.{◌≡◌};
-ghost use Rattle.yp_portmap.specs.Requests.{asked_by, procedure_asked};
+ghost use Rattle.yp_binding.specs.portmap.Requests.{programs, asked_by, procedure_asked};
 
-use crate::mapping::Mapping;
-use crate::protocol::{DUMP, GETPORT, NULL, PROGRAM, SET, UNSET, VERSION};
-use yp_msgs::ReadMessage;
-use yp_rpc::{CallHead, Judged, ReplyHead, judge};
+use crate::portmap::mapping::Mapping;
+use crate::portmap::protocol::{DUMP, GETPORT, NULL, PROGRAM, SET, UNSET, VERSION};
+use yp_messages::ReadMessage;
+use yp_rpc::{Judged, Programs, ReplyHead, judge};
 use yp_xdr::Cursor;
+
+/// A procedure of the port mapper.
+#[derive(Clone, Copy, Debug)]
+enum Procedure {
+    Null,
+    Set,
+    Unset,
+    GetPort,
+    Dump,
+}
+
+/// The program of the port mapper alone.
+struct Portmapper;
+
+impl Programs for Portmapper {
+    type Procedure = Procedure;
+
+    ghost table = { λ _. programs };
+
+    fn version(&self, prog: u32) -> Option<u32> {
+        match prog {
+            PROGRAM => Some(VERSION),
+            _ => None,
+        }
+    }
+
+    fn procedure(&self, _prog: u32, number: u32) -> Option<Procedure> {
+        match number {
+            NULL => Some(Procedure::Null),
+            SET => Some(Procedure::Set),
+            UNSET => Some(Procedure::Unset),
+            GETPORT => Some(Procedure::GetPort),
+            DUMP => Some(Procedure::Dump),
+            _ => None,
+        }
+    }
+}
 
 /// What a datagram asks of the port mapper.
 #[derive(Clone, Copy, Debug)]
@@ -26,36 +63,23 @@ pub enum Request {
     Dump { xid: u32 },
 }
 
-/// What the arguments of a call ask of its procedure.
-fn ask_procedure(call: &CallHead, arguments: &[u8]) -> Request
-    ensures { result ≡ procedure_asked call.now arguments.now }
+/// What a call asks of a procedure with its arguments.
+fn ask_procedure(xid: u32, procedure: Procedure, arguments: &[u8]) -> Request
+    ensures { result ≡ procedure_asked xid procedure arguments.now }
 {
-    let xid = call.xid;
-    match call.procedure {
-        NULL => {
-            return Request::Answer {
-                xid,
-                head: ReplyHead::Success,
-            };
-        }
-        DUMP => return Request::Dump { xid },
-        SET | UNSET | GETPORT => {}
-        _ => {
-            return Request::Answer {
-                xid,
-                head: ReplyHead::ProcUnavail,
-            };
-        }
-    }
-    match Mapping::read(&mut Cursor::new(arguments)) {
-        Err(_) => Request::Answer {
+    let mapping = Mapping::read(&mut Cursor::new(arguments));
+    match (procedure, mapping) {
+        (Procedure::Null, _) => Request::Answer {
+            xid,
+            head: ReplyHead::Success,
+        },
+        (Procedure::Dump, _) => Request::Dump { xid },
+        (Procedure::Set, Ok(asked)) => Request::Set { xid, asked },
+        (Procedure::Unset, Ok(asked)) => Request::Unset { xid, asked },
+        (Procedure::GetPort, Ok(asked)) => Request::GetPort { xid, asked },
+        (_, Err(_)) => Request::Answer {
             xid,
             head: ReplyHead::GarbageArgs,
-        },
-        Ok(asked) => match call.procedure {
-            SET => Request::Set { xid, asked },
-            UNSET => Request::Unset { xid, asked },
-            _ => Request::GetPort { xid, asked },
         },
     }
 }
@@ -64,9 +88,11 @@ fn ask_procedure(call: &CallHead, arguments: &[u8]) -> Request
 pub fn read_request(datagram: &[u8]) -> Request
     ensures { result ≡ asked_by datagram.now }
 {
-    match judge(datagram, PROGRAM, VERSION) {
+    match judge(&Portmapper, datagram) {
         Judged::Ignored => Request::Nothing,
         Judged::Refused { xid, head } => Request::Answer { xid, head },
-        Judged::Admitted(call) => ask_procedure(&call, &datagram[call.body..]),
+        Judged::Admitted { call, procedure } => {
+            ask_procedure(call.xid, procedure, &datagram[call.body..])
+        }
     }
 }

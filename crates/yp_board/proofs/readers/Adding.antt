@@ -9,8 +9,8 @@ use prog.Atomic.{either}
 use Rattle.logbook.specs.Pages.{Cell, cell, keeps, gives, adds, Nib}
 use Rattle.logbook.specs.Pages.{nib, no_nib, may_write, may_make, step, Moves, Goes}
 use Rattle.yp_board.specs.Logs.{Log}
-use Rattle.yp_readers.specs.Histories.{Shown, IsCounted, IsNext, Opens, Adds, Looks}
-use Rattle.yp_readers.proofs.Fronts.{prefix_whole}
+use Rattle.yp_board.specs.inside.readers.Histories.{Shown, IsCounted, IsNext, OpensHistory, Adds, Looks}
+use Rattle.yp_board.proofs.readers.Fronts.{prefix_whole}
 
 abbrev pub shown : Log → Log
 shown log = []
@@ -176,7 +176,7 @@ adds_moves v p e next cs log kept pre away =
 opens_goes : (cs : List Cell) (log v : Log) (e : Shown) (old : ℕ) → IsCounted cs log
     → (b : Bool) → eqb (cell cs 0).0 old ≡ b
     → Goes IsCounted shown moved 0 (v, (no_nib, None)) (λ n. either (eqb n old) (old + 1) n)
-    (Opens (step 0 old (old + 1) e) (v, (no_nib, None))) cs log
+    (OpensHistory (step 0 old (old + 1) e) (v, (no_nib, None))) cs log
 opens_goes cs log v e old kept true is =
     let n = counted cs log kept in
     let same : length cs ≡ old = sym n ∙ grind (arith, nat_tests) in
@@ -205,7 +205,7 @@ opens_goes cs log v e old kept false is =
 -- one word more, where there are as many as expected
 pub opens_moves : (v : Log) (e : Shown) (old : ℕ)
     → Moves IsCounted shown moved 0 (v, (no_nib, None)) (λ n. either (eqb n old) (old + 1) n)
-    (Opens (step 0 old (old + 1) e) (v, (no_nib, None)))
+    (OpensHistory (step 0 old (old + 1) e) (v, (no_nib, None)))
 opens_moves v e old cs log kept pre away =
     let first : 0 < length cs = (let bound = kept.within in omega arith) in
     (first, ap (λ (c : Cell). c.1) kept.count, opens_goes cs log v e old kept (eqb (cell cs 0).0 old) refl)

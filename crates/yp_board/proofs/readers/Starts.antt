@@ -5,7 +5,7 @@ use Rattle.std.proofs.lemmas.List.{append-nil, drop_more, drop_all}
 use Rattle.std.proofs.lemmas.Bool.Decides.{nat_tests}
 use Rattle.yp_version.specs.Versions.{MapVersion}
 use Rattle.yp_board.specs.Logs.{Log, starts}
-use Rattle.yp_readers.specs.Tables.{Holds}
+use Rattle.yp_board.specs.inside.readers.Tables.{TableHolds}
 
 -- what is shown of a map after entries
 abbrev pub shown_after : ℕ → Option MapVersion → Log → Option MapVersion
@@ -43,7 +43,7 @@ starts_from map n (suc j) (Some version ∷ versions) e =
     ∙ sym (ap (λ before. shown_after map before (starts (n + 1) versions))
     (shown_other n map version None (omega arith)))
 
-pub holds_starts : (versions : List (Option MapVersion)) → Holds versions (starts 0 versions)
+pub holds_starts : (versions : List (Option MapVersion)) → TableHolds versions (starts 0 versions)
 holds_starts versions map = starts_from map 0 map versions (omega arith)
 
 -- the log so far, and the versions that are left

@@ -3,12 +3,12 @@
 ghost use Rattle.std.specs.Prelude.{◌≡◌};
 ghost use Rattle.yp_board.specs.Views.{Refreshes};
 
-use crate::history::Naming;
-use crate::reader::Reader;
-use crate::writer::Writer;
+use crate::readers::history::Naming;
+use crate::readers::reader::Reader;
+use crate::readers::writer::Writer;
+use crate::{Show, View};
 use std::sync::{Arc, Mutex, Wait};
 use std::thread::{Threads, join};
-use yp_board::{Show, View};
 use yp_version::Version;
 
 /// Shows a version in one thread, and makes a read step in another. It says whether the version was shown.

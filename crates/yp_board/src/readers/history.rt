@@ -5,11 +5,11 @@ ghost use Rattle.std.specs.Prelude.{IfSome, MatchBool, if◌then◌else◌};
 ghost use mathlib.Core.List.{IsPrefix};
 ghost use Rattle.logbook.specs.Pages.{may_write};
 ghost use Rattle.yp_board.specs.Views.{IsFront};
-ghost use Rattle.yp_readers.specs.Histories.{head_of, IsNext};
+ghost use Rattle.yp_board.specs.inside.readers.Histories.{head_of, IsNext};
 
+use crate::log::Entry;
 use logbook::{Gain, Offer, Pen, Plain, Play, Rule, Seen, Start, Word};
 use std::marker::{Brand, Model, PhantomData};
-use std::snapshot::Snapshot;
 use yp_version::Version;
 
 /// A version that was shown of a map.
@@ -27,7 +27,7 @@ pub struct Counted;
 impl Rule<Shown, u64> for Counted {
     ghost use Rattle.std.specs.Prelude.{[]};
     ghost use base.Fml.{ftrue};
-    ghost use Rattle.yp_readers.specs.Histories.{IsCounted};
+    ghost use Rattle.yp_board.specs.inside.readers.Histories.{IsCounted};
 
     ghost holds = { λ cells log. IsCounted cells log };
 
@@ -51,44 +51,37 @@ impl Gain<Shown, u64> for Nothing {
     ghost after = { λ names about answer. ftrue };
 }
 
-/// A version of a map that is to be shown.
-#[derive(Drop)]
-struct Next {
-    map: u32,
-    version: Snapshot<Version>,
-}
-
 /// The step that adds a pair, with the first word that isn't at home.
 struct Add;
 
 impl Play<Shown, u64> for Add {
-    ghost use Rattle.yp_readers.specs.Histories.{Adds};
+    ghost use Rattle.yp_board.specs.inside.readers.Histories.{Adds};
 
     ghost then = { Adds };
 }
 
-impl Plain<Next, Shown, u64> for Add {
+impl Plain<Entry, Shown, u64> for Add {
     ghost use Rattle.std.specs.Prelude.{None};
 
-    ghost ask = { λ next. (next.map, next.version.value) };
+    ghost ask = { λ entry. entry };
 
-    ghost state = { λ next. None };
+    ghost state = { λ entry. None };
 }
 
 /// The step that adds a word.
 struct Open;
 
 impl Play<Shown, u64> for Open {
-    ghost use Rattle.yp_readers.specs.Histories.{Opens};
+    ghost use Rattle.yp_board.specs.inside.readers.Histories.{OpensHistory};
 
-    ghost then = { Opens };
+    ghost then = { OpensHistory };
 }
 
 /// The step that looks how long the log is.
 struct Look;
 
 impl Play<Shown, u64> for Look {
-    ghost use Rattle.yp_readers.specs.Histories.{Looks};
+    ghost use Rattle.yp_board.specs.inside.readers.Histories.{Looks};
 
     ghost then = { Looks };
 }
@@ -99,7 +92,7 @@ struct NoPair;
 
 impl Plain<NoPair, Shown, u64> for Look {
     ghost use Rattle.std.specs.Prelude.{None};
-    ghost use Rattle.yp_readers.specs.Histories.{no_pair};
+    ghost use Rattle.yp_board.specs.inside.readers.Histories.{no_pair};
 
     ghost ask = { λ none. no_pair };
 
@@ -126,7 +119,7 @@ pub struct Opened {
 impl Model for Opened {
     ghost use Rattle.std.specs.Prelude.{◌≡◌, []};
     ghost use Rattle.logbook.specs.Pages.{Book, book_coded};
-    ghost use Rattle.yp_readers.specs.Histories.{head_of};
+    ghost use Rattle.yp_board.specs.inside.readers.Histories.{head_of};
 
     ghost Value = { Book };
 
@@ -190,7 +183,7 @@ impl<J: Naming> Front<J> {
         self.count
     }
 
-    /// The same front once more.
+    /// A copy of the front.
     pub(crate) fn again(&self) -> Front<J>
         ensures { result ≡ self.now }
     {
@@ -223,7 +216,7 @@ pub(crate) struct History<J: Naming> {
 impl<J: Naming> Model for History<J> {
     ghost use Rattle.std.specs.Prelude.{◌≡◌};
     ghost use Rattle.yp_board.specs.Logs.{Log};
-    ghost use Rattle.yp_readers.specs.Histories.{head_of, IsNext};
+    ghost use Rattle.yp_board.specs.inside.readers.Histories.{head_of, IsNext};
 
     ghost Value = { Log };
 
@@ -257,7 +250,7 @@ impl<J: Naming> History<J> {
     }
 
     /// What is known of the log is a front of it.
-    #[tactic(auto, using(crate::proofs::Fronts::covered))]
+    #[tactic(auto, using(crate::proofs::readers::Fronts::covered))]
     pub(crate) fn covers(&mut self, front: &Front<J>)
         ensures front { IsFront front.now self.old }
         ensures same { self.new ≡ self.old }
@@ -327,9 +320,9 @@ impl<J: Naming> Front<J> {
         ensures { result ≡ self.now ++ (map, version.now) ∷ [] }
     {
         let mut seen = self.seen.again();
-        let version = Snapshot::of(version);
-        let mut offer: Offer<Shown, u64, Counted, Nothing> = seen.plain::<Nothing, Next, Add>(
-            &Next { map, version },
+        let entry = Entry::new(map, version);
+        let mut offer: Offer<Shown, u64, Counted, Nothing> = seen.plain::<Nothing, Entry, Add>(
+            &entry,
         );
         head.compare_exchange::<Add, Nothing>(0, 0, &mut seen, &mut offer, pen);
         Front {

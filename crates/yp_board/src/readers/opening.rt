@@ -1,23 +1,27 @@
 //! A board for threads is opened.
 
-ghost use Rattle.std.specs.Prelude.{◌≡◌, ◌≤◌, [], ◌∷◌, ◌++◌, All, map, length, option_map, IfOk, OnOk};
+ghost use Rattle.std.specs.Prelude.{◌≡◌, ◌+◌, ◌≤◌, [], ◌∷◌, ◌++◌, All, map, length, option_map, IfOk, OnOk};
 ghost use Rattle.std.specs.Vec.{vec_len};
 ghost use Rattle.std.specs.Arc.{arc_value};
 ghost use Rattle.yp_board.specs.Logs.{starts};
+ghost use Rattle.yp_board.specs.readers.Boards.{workers_max};
 
-use crate::history::{History, Naming, Opened};
-use crate::reader::Reader;
-use crate::slots::Slots;
-use crate::writer::Writer;
+use crate::Catalog;
+use crate::readers::history::{History, Naming, Opened};
+use crate::readers::reader::Reader;
+use crate::readers::slots::Slots;
+use crate::readers::writer::Writer;
 use std::alloc::Global;
 use std::sync::{Arc, Wait};
-use yp_board::Catalog;
 use yp_io::NoMemory;
 use yp_version::Version;
 
+/// The most workers of a server. Each has a reader of its own, and so has the worker of datagrams.
+pub const WORKERS_MAX: u32 = 8;
+
 /// A board of this catalogue, on which these versions are shown, in the order of their maps: its writer, and its
 /// readers, which know them.
-#[tactic(auto, using(crate::proofs::Starts::holds_starts))]
+#[tactic(auto, using(crate::proofs::readers::Starts::holds_starts))]
 pub fn board<J: Naming, R: Wait + Drop>(
     alloc: Global,
     rt: R,
@@ -28,7 +32,7 @@ pub fn board<J: Naming, R: Wait + Drop>(
 ) -> Result<(Writer<J, R>, Vec<Reader<J>>), NoMemory>
     requires named { opened ≡ J.book }
     requires starts { length start.items ≡ length catalog.maps }
-    requires readers { (1 ≤ readers) × (readers ≤ 9) }
+    requires readers { (1 ≤ readers) × (readers ≤ workers_max + 1) }
     ensures writer { IfOk result (λ board. board.0 ≡ record {
       maps = length catalog.maps;
       log = starts 0 (map (option_map arc_value) start.items);
@@ -70,7 +74,7 @@ fn readers_of<J: Naming, R: Wait + Drop>(
 }
 
 /// Adds these versions to a log with nothing in it, in the order of their maps, which are as many.
-#[tactic(auto, using(crate::proofs::Starts::begun_more, crate::proofs::Starts::begun_all))]
+#[tactic(auto, using(crate::proofs::readers::Starts::begun_more, crate::proofs::readers::Starts::begun_all))]
 fn begin_all<J: Naming>(
     history: &mut History<J>,
     count: u32,

@@ -4,12 +4,12 @@ ghost use Rattle.std.specs.Prelude.{◌≡◌, ◌⊎◌, IfSome, OnOk, OnErr, M
 ghost use Rattle.std.specs.Arc.{arc_value};
 ghost use Rattle.yp_board.specs.Views.{IsFront, Refreshes};
 
-use crate::history::{Front, Naming};
-use crate::table::{Note, Table};
+use crate::readers::history::{Front, Naming};
+use crate::readers::table::{Note, Table};
+use crate::{Catalog, View};
 use left_right::ReadHandle;
 use std::marker::Model;
 use std::sync::Arc;
-use yp_board::{Catalog, Count, View};
 use yp_io::NoMemory;
 use yp_version::Version;
 
@@ -18,7 +18,7 @@ use yp_version::Version;
 pub struct Reader<J: Naming> {
     catalog: Arc<Catalog>,
     table: Table<J>,
-    asked: Count,
+    asked: u64,
     handle: ReadHandle<Table<J>>,
 }
 
@@ -43,7 +43,7 @@ impl<J: Naming> Reader<J> {
         Reader {
             catalog,
             table,
-            asked: Count::new(),
+            asked: 0,
             handle,
         }
     }
@@ -103,7 +103,7 @@ impl<J: Naming> View for Reader<J> {
     }
 
     fn refresh(&mut self) {
-        self.asked.rise();
+        self.asked = self.asked.saturating_add(1);
         if let Some(table) = newer(&mut self.handle, &self.table) {
             self.table = table;
         }

@@ -25,7 +25,7 @@ impl Model for Slots {
 }
 
 impl Slots {
-    /// These versions.
+    /// The slots of these versions.
     pub(crate) fn new(versions: Vec<Option<Arc<Version>>>) -> Slots
         ensures { result ≡ map (option_map arc_value) versions.items }
     {
@@ -49,7 +49,7 @@ impl Slots {
         }
     }
 
-    /// The same versions, with another one of a map. Each has one more owner.
+    /// A copy of the slots with another version of one map. Each version has one more owner.
     pub(crate) fn with(
         &self,
         alloc: Global,
@@ -65,7 +65,7 @@ impl Slots {
     }
 }
 
-/// The same versions, each with one more owner.
+/// A copy of these versions, each with one more owner.
 fn shared(
     alloc: Global,
     versions: &[Option<Arc<Version>>],
@@ -80,7 +80,7 @@ fn shared(
     Ok(copies)
 }
 
-/// The same version, if there is one, with one more owner.
+/// A copy of a version, if there is one, with one more owner.
 fn share(version: &Option<Arc<Version>>) -> Result<Option<Arc<Version>>, AllocError>
     ensures { IfOk result (λ copy. option_map arc_value copy ≡ option_map arc_value version.now) }
 {

@@ -4,10 +4,10 @@ ghost use Rattle.std.specs.Prelude.{◌≡◌, option_map, IfOk, IfSome, Some};
 ghost use Rattle.std.specs.Arc.{arc_value};
 ghost use Rattle.yp_board.specs.Logs.{shown};
 ghost use Rattle.yp_board.specs.Views.{IsFront};
-ghost use Rattle.yp_readers.specs.Tables.{Holds};
+ghost use Rattle.yp_board.specs.inside.readers.Tables.{TableHolds};
 
-use crate::history::{Front, Naming, Shown};
-use crate::slots::Slots;
+use crate::readers::history::{Front, Naming, Shown};
+use crate::readers::slots::Slots;
 use left_right::Absorb;
 use std::alloc::AllocError;
 use std::marker::Model;
@@ -24,20 +24,20 @@ pub struct Table<J: Naming> {
 impl<J: Naming> Model for Table<J> {
     ghost use Rattle.std.specs.Arc.{arc_value};
     ghost use Rattle.yp_board.specs.Logs.{Log};
-    ghost use Rattle.yp_readers.specs.Tables.{Holds};
+    ghost use Rattle.yp_board.specs.inside.readers.Tables.{TableHolds};
 
     ghost Value = { Log };
 
     ghost view = { λ t. t.front };
 
-    ghost invariant = { λ t. Holds (arc_value t.slots) t.front };
+    ghost invariant = { λ t. TableHolds (arc_value t.slots) t.front };
 }
 
 impl<J: Naming> Table<J> {
     /// The table of a front and of the last versions in it. It takes no memory, and is refused where these have too
     /// many owners.
     pub(crate) fn new(front: &Front<J>, slots: &Arc<Slots>) -> Result<Table<J>, AllocError>
-        requires { Holds (arc_value slots.now) front.now }
+        requires { TableHolds (arc_value slots.now) front.now }
         ensures { IfOk result (λ table. table ≡ front.now) }
     {
         let slots = Arc::try_clone(slots)?;
@@ -61,7 +61,7 @@ impl<J: Naming> Table<J> {
         self.slots.get(map)
     }
 
-    /// The same table once more. It takes no memory, and is refused where its versions have too many owners.
+    /// A copy of the table. It takes no memory, and is refused where its versions have too many owners.
     pub(crate) fn copy(&self) -> Result<Table<J>, AllocError>
         ensures { IfOk result (λ table. table ≡ self.now) }
     {
@@ -103,7 +103,7 @@ impl<J: Naming> Model for Note<J> {
 impl<J: Naming> Note<J> {
     /// A note of a front, and of the last versions in it.
     pub(crate) fn new(front: &Front<J>, slots: &Arc<Slots>) -> Note<J>
-        requires { Holds (arc_value slots.now) front.now }
+        requires { TableHolds (arc_value slots.now) front.now }
         ensures { result ≡ front.now }
     {
         let table = Table::new(front, slots).ok();

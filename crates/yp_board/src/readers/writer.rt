@@ -2,17 +2,17 @@
 
 ghost use Rattle.std.specs.Prelude.{◌≡◌, ◌<◌, [], ◌∷◌, ◌++◌, length, IfOk};
 ghost use Rattle.std.specs.Arc.{arc_value};
-ghost use Rattle.yp_readers.specs.Tables.{Holds};
+ghost use Rattle.yp_board.specs.inside.readers.Tables.{TableHolds};
 
-use crate::history::{Front, History, Naming, Shown};
-use crate::reader::Reader;
-use crate::slots::Slots;
-use crate::table::{Note, Table};
+use crate::readers::history::{Front, History, Naming, Shown};
+use crate::readers::reader::Reader;
+use crate::readers::slots::Slots;
+use crate::readers::table::{Note, Table};
+use crate::{Catalog, Show, ShowRefused, Tell};
 use left_right::{Absorb, WriteHandle};
 use std::alloc::Global;
 use std::marker::Model;
 use std::sync::{Arc, Wait};
-use yp_board::{Catalog, Show, ShowRefused, Tell};
 use yp_io::NoMemory;
 use yp_version::Version;
 
@@ -34,14 +34,14 @@ where
 {
     ghost use Rattle.std.specs.Prelude.{length};
     ghost use Rattle.std.specs.Arc.{arc_value};
-    ghost use Rattle.yp_readers.specs.Boards.{Written};
-    ghost use Rattle.yp_readers.specs.Tables.{Holds};
+    ghost use Rattle.yp_board.specs.inside.readers.Boards.{Written};
+    ghost use Rattle.yp_board.specs.inside.readers.Tables.{TableHolds};
 
     ghost Value = { Written };
 
     ghost view = { λ w. record { maps = length (arc_value w.slots); log = w.history } };
 
-    ghost invariant = { λ w. Holds (arc_value w.slots) w.history };
+    ghost invariant = { λ w. TableHolds (arc_value w.slots) w.history };
 }
 
 impl<J: Naming, R: Wait + Drop> Writer<J, R>
@@ -56,7 +56,7 @@ where
         slots: Slots,
         readers: u32,
     ) -> Result<Writer<J, R>, NoMemory>
-        requires held { Holds slots history }
+        requires held { TableHolds slots history }
         requires some { 0 < readers }
         ensures { IfOk result (λ writer. writer ≡ record { maps = length slots; log = history }) }
     {
@@ -126,7 +126,7 @@ where
 
     ghost showed = { λ map version old new. new ≡ record old { log = old.log ++ (map, version) ∷ [] } };
 
-    #[tactic(auto, using(crate::proofs::Held::holds_more))]
+    #[tactic(auto, using(crate::proofs::readers::Held::holds_more))]
     fn show(&mut self, map: u32, version: Arc<Version>) -> Result<(), ShowRefused> {
         let Ok(slots) = self.slots.with(self.alloc, map, &version) else {
             return Err(ShowRefused { version });
@@ -153,7 +153,7 @@ where
 
     ghost kept = { λ front. front };
 
-    #[tactic(auto, using(crate::proofs::Fronts::both_fronts))]
+    #[tactic(auto, using(crate::proofs::readers::Fronts::both_fronts))]
     fn tell_to(&mut self, reader: &mut Reader<J>) -> Result<(), NoMemory> {
         self.history.covers(reader.front());
         reader.meet(self.tell())

@@ -1,7 +1,7 @@
 //! Dials in memory.
 
 ghost use Rattle.std.specs.Prelude.{All};
-ghost use Rattle.yp_io.specs.MemDial.{IsNew};
+ghost use Rattle.yp_io.specs.inside.MemDial.{WireIsNew};
 
 use crate::given::{assert_same, listed, owned, read_two, sent};
 use std::alloc::Global;
@@ -20,7 +20,7 @@ const OTHER: Peer = Peer {
 
 // A wire in memory with this input, which has met no fault and taken nothing. Its second read fails.
 fn new_wire(rt: &impl Abort, alloc: Global, input: &[u8]) -> MemWire
-    ensures { IsNew result }
+    ensures { WireIsNew result }
 {
     Pair {
         source: MemSource::new(owned(rt, alloc, input), 8, listed(rt, alloc, &[1])),
@@ -29,7 +29,7 @@ fn new_wire(rt: &impl Abort, alloc: Global, input: &[u8]) -> MemWire
 }
 
 fn two_wires(rt: &impl Abort, alloc: Global) -> Vec<MemWire>
-    ensures { All IsNew result.items }
+    ensures { All WireIsNew result.items }
 {
     let wires = [new_wire(rt, alloc, b"one"), new_wire(rt, alloc, b"two")];
     Vec::from_array(alloc, wires).expect(rt, "memory for two wires")

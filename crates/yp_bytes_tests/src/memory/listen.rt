@@ -1,18 +1,18 @@
 //! A listener in memory: connections up to a number, those that are closed, and accepts that fail.
 
-ghost use Rattle.yp_io.specs.MemListen.{IsNew};
+ghost use Rattle.yp_io.specs.inside.MemListen.{ConnectionIsNew};
 
 use crate::given::{assert_same, bytes};
 use std::alloc::Global;
 use std::process::Abort;
 use yp_io::{
-    Arrival, Called, Failed, Listen, MemCall, MemCloser, MemListen, MemSink, MemSource, Origin,
+    Arrival, CallOrigin, Called, Failed, Listen, MemCall, MemCloser, MemListen, MemSink, MemSource,
     Pair, Peer,
 };
 
 // A connection of this port, with this input.
 fn call(rt: &impl Abort, alloc: Global, port: u16, input: &[&str]) -> MemCall
-    ensures { IsNew result }
+    ensures { ConnectionIsNew result }
 {
     let source = MemSource::new(bytes(rt, alloc, input), 1000, Vec::new(alloc));
     let sink = MemSink::new(alloc, 1000, Vec::new(alloc));
@@ -22,7 +22,7 @@ fn call(rt: &impl Abort, alloc: Global, port: u16, input: &[&str]) -> MemCall
     };
     let wire = Pair { source, sink };
     Called {
-        origin: Origin::new(peer, &wire),
+        origin: CallOrigin::new(peer, &wire),
         wire,
     }
 }
@@ -74,100 +74,114 @@ fn close(closer: &mut MemCloser, out: &mut Vec<MemCall>) -> Outcome {
     Outcome::Shut
 }
 
-// Plays rows with one closer, which is handed out.
-fn play(
+fn play_row(
     rt: &impl Abort,
     listen: &mut MemListen,
+    closer: &mut MemCloser,
     out: &mut Vec<MemCall>,
-    rows: &[Row],
-) -> MemCloser {
+    row: &Row,
+) {
+    let (step, outcome, accepted, closed) = *row;
+    let came = match step {
+        Step::Accept => accept(rt, listen, out),
+        Step::Close => close(closer, out),
+    };
+    let found = (came, listen.accepted(), closer.calls().len());
+    assert_same(
+        rt,
+        &found,
+        &(outcome, accepted, closed),
+        "a call of a listener",
+    );
+}
+
+// Plays rows with one closer, which is taken in.
+fn play(rt: &impl Abort, listen: &mut MemListen, out: &mut Vec<MemCall>, rows: &[Row]) {
     let mut closer = listen.closer();
-    for (step, outcome, accepted, closed) in rows {
-        let came = match step {
-            Step::Accept => accept(rt, listen, out),
-            Step::Close => close(&mut closer, out),
-        };
-        let found = (came, listen.accepted(), closer.calls().len());
-        assert_same(
-            rt,
-            &found,
-            &(*outcome, *accepted, *closed),
-            "a call of a listener",
-        );
+    for row in rows {
+        play_row(rt, listen, &mut closer, out, row);
     }
-    closer
+    listen.take_in(closer);
 }
 
 fn played(rt: &impl Abort, alloc: Global, most: u32, failing: &[u64], rows: &[Row]) -> MemListen {
     let mut listen = door(rt, alloc, &[], most, failing);
     let mut out = Vec::new(alloc);
-    let closer = play(rt, &mut listen, &mut out, rows);
-    listen.take_in(closer);
+    play(rt, &mut listen, &mut out, rows);
     listen
 }
 
-// The ports of the connections that each closer has closed, in its order, behind each a 0.
-fn closed(rt: &impl Abort, alloc: Global, listen: &MemListen) -> Vec<u16> {
-    let mut ports = Vec::new(alloc);
-    for closer in listen.closers() {
-        for call in closer.calls() {
-            ports
-                .push(call.origin.peer().port)
-                .expect(rt, "memory for a port");
-        }
-        ports.push(0).expect(rt, "memory for a port");
+// Whether connections have these ports, one by one.
+fn have_ports(calls: &[MemCall], ports: &[u16]) -> bool {
+    let mut are_same = calls.len() == ports.len();
+    for (call, port) in calls.iter().zip(ports) {
+        are_same = are_same && call.origin.peer().port == *port;
     }
-    ports
+    are_same
 }
+
+// Whether the closers have closed connections of these ports, in this order.
+fn have_closed(listen: &MemListen, wanted: &[&[u16]]) -> bool {
+    let mut have = listen.closers().len() == wanted.len();
+    for (closer, ports) in listen.closers().iter().zip(wanted) {
+        have = have && have_ports(closer.calls(), *ports);
+    }
+    have
+}
+
+static TWO: [Row; 6] = [
+    (Step::Accept, Outcome::Came(1), 1, 0),
+    (Step::Accept, Outcome::Came(2), 2, 0),
+    (Step::Accept, Outcome::Closed, 2, 0),
+    (Step::Close, Outcome::Shut, 2, 1),
+    (Step::Accept, Outcome::Closed, 2, 1),
+    (Step::Close, Outcome::Shut, 2, 2),
+];
+
+static ONE: [Row; 2] = [
+    (Step::Accept, Outcome::Came(1), 1, 0),
+    (Step::Accept, Outcome::Closed, 1, 0),
+];
 
 #[test]
 fn accepts_up_to_its_number(rt: HostRuntime) {
-    let rows = [
-        (Step::Accept, Outcome::Came(1), 1, 0),
-        (Step::Accept, Outcome::Came(2), 2, 0),
-        (Step::Accept, Outcome::Closed, 2, 0),
-        (Step::Close, Outcome::Shut, 2, 1),
-        (Step::Accept, Outcome::Closed, 2, 1),
-        (Step::Close, Outcome::Shut, 2, 2),
-    ];
-    let listen = played(&rt, rt.alloc(), 2, &[], &rows);
-    let ports = closed(&rt, rt.alloc(), &listen);
-    let wanted = vec![in rt.alloc(); 1, 2, 0].expect(&rt, "memory for ports");
-    assert_same(&rt, &ports, &wanted, "the connections of a closer");
-    let fewer = [
-        (Step::Accept, Outcome::Came(1), 1, 0),
-        (Step::Accept, Outcome::Closed, 1, 0),
-    ];
-    played(&rt, rt.alloc(), 1, &[], &fewer);
+    let listen = played(&rt, rt.alloc(), 2, &[], &TWO);
+    let has = have_closed(&listen, &[&[1, 2]]);
+    assert_same(&rt, &has, &true, "the connections of a closer");
+    played(&rt, rt.alloc(), 1, &[], &ONE);
 }
+
+// The first call fails and the third, and one where nobody calls.
+static FAILING: [Row; 6] = [
+    (Step::Accept, Outcome::Failed, 0, 0),
+    (Step::Accept, Outcome::Came(1), 1, 0),
+    (Step::Accept, Outcome::Failed, 1, 0),
+    (Step::Accept, Outcome::Came(2), 2, 0),
+    (Step::Accept, Outcome::Failed, 2, 0),
+    (Step::Close, Outcome::Shut, 2, 1),
+];
 
 #[test]
 fn accepts_that_fail(rt: HostRuntime) {
-    // The first call fails and the third, and one where nobody calls.
-    let rows = [
-        (Step::Accept, Outcome::Failed, 0, 0),
-        (Step::Accept, Outcome::Came(1), 1, 0),
-        (Step::Accept, Outcome::Failed, 1, 0),
-        (Step::Accept, Outcome::Came(2), 2, 0),
-        (Step::Accept, Outcome::Failed, 2, 0),
-        (Step::Close, Outcome::Shut, 2, 1),
-    ];
-    played(&rt, rt.alloc(), 3, &[0, 2], &rows);
+    played(&rt, rt.alloc(), 3, &[0, 2], &FAILING);
+}
+
+// Accepts two connections, of which each of two closers closes one.
+fn close_two(rt: &impl Abort, listen: &mut MemListen, out: &mut Vec<MemCall>) {
+    let (mut first, mut second) = (listen.closer(), listen.closer());
+    accept(rt, listen, out);
+    accept(rt, listen, out);
+    close(&mut second, out);
+    close(&mut first, out);
+    listen.take_in(second);
+    listen.take_in(first);
 }
 
 #[test]
 fn two_closers(rt: HostRuntime) {
     let mut listen = door(&rt, rt.alloc(), &[], 2, &[]);
     let mut out = Vec::new(rt.alloc());
-    let (mut first, mut second) = (listen.closer(), listen.closer());
-    for _ in 0..2 {
-        accept(&rt, &mut listen, &mut out);
-    }
-    close(&mut second, &mut out);
-    close(&mut first, &mut out);
-    listen.take_in(second);
-    listen.take_in(first);
-    let ports = closed(&rt, rt.alloc(), &listen);
-    let wanted = vec![in rt.alloc(); 1, 0, 2, 0].expect(&rt, "memory for ports");
-    assert_same(&rt, &ports, &wanted, "the connections of two closers");
+    close_two(&rt, &mut listen, &mut out);
+    let has = have_closed(&listen, &[&[1], &[2]]);
+    assert_same(&rt, &has, &true, "the connections of two closers");
 }

@@ -1,9 +1,9 @@
-//! An errand that asks until it is answered.
+//! A handler that asks until it is answered.
 
 ghost use Rattle.std.specs.Prelude.{if◌then◌else◌};
 
 use yp_io::Peer;
-use yp_rpc::{Errand, Wish};
+use yp_rpc::{Handler, Wish};
 
 /// A datagram that begins with this byte is no answer.
 pub const NO_ANSWER: u8 = 0;
@@ -17,7 +17,7 @@ pub struct Asker {
     pub is_done: bool,
 }
 
-impl Errand for Asker {
+impl Handler for Asker {
     ghost goes = { λ _ _ _. Unit {0} };
 
     ghost hears = { λ _ _ _ _ _. Unit {0} };

@@ -2,7 +2,7 @@
 
 ghost use Rattle.std.specs.Prelude.{◌≡◌, ◌<◌, [], length};
 
-use crate::given::{assert_same, bytes};
+use crate::given::{assert_same, assert_shown, bytes, listed};
 use std::alloc::Global;
 use std::process::Abort;
 use yp_io::{Failed, MemSink, MemSource, Sink, Source};
@@ -20,40 +20,6 @@ fn counted<R: Abort>(rt: &R, alloc: Global, len: usize) -> Vec<u8> {
     bytes
 }
 
-// The record in fragments of so many bytes. That of the number `full` has another head than those before it.
-fn cut<R: Abort>(
-    rt: &R,
-    alloc: Global,
-    record: &[u8],
-    size: usize,
-    head: &str,
-    full: usize,
-    last: &str,
-) -> Vec<u8>
-    requires { 0 < size }
-{
-    let head = bytes(rt, alloc, &[head]);
-    let last = bytes(rt, alloc, &[last]);
-    let mut stream = Vec::new(alloc);
-    for (i, piece) in record.chunks(size).enumerate() {
-        let head = if i < full { &head } else { &last };
-        stream.extend_from_slice(head).expect(rt, "a head");
-        stream.extend_from_slice(piece).expect(rt, "a fragment");
-    }
-    stream
-}
-
-// So many empty fragments, and then a record of one byte.
-fn hollow<R: Abort>(rt: &R, alloc: Global, empty: usize) -> Vec<u8> {
-    let mut stream = Vec::new(alloc);
-    for _ in 0..empty {
-        stream.extend_from_slice(&[0; 4]).expect(rt, "a fragment");
-    }
-    let record = bytes(rt, alloc, &["80000001 78"]);
-    stream.extend_from_slice(&record).expect(rt, "a record");
-    stream
-}
-
 // A number that has to be more than zero.
 fn assert_some<R: Abort>(rt: &R, count: usize)
     ensures { 0 < count }
@@ -61,90 +27,180 @@ fn assert_some<R: Abort>(rt: &R, count: usize)
     assert!(rt; count > 0);
 }
 
-// The answer of reading a record, the record, and the answer of reading the next.
-type Read = (
-    Result<Option<usize>, RecordFault>,
-    Vec<u8>,
-    Result<Option<usize>, RecordFault>,
-);
+// How a record is cut: how many bytes a fragment has, the words before each of the first ones, how many these are,
+// and the words before each other.
+#[derive(Clone, Copy)]
+struct Cut {
+    name: &'static str,
+    size: usize,
+    head: &'static str,
+    full: usize,
+    last: &'static str,
+}
 
-// Reads two records from a stream, in pieces of so many bytes.
-fn read_two<R: Abort>(rt: &R, alloc: Global, stream: Vec<u8>, piece: usize) -> Read
+fn put_fragment<R: Abort>(rt: &R, alloc: Global, stream: &mut Vec<u8>, head: &str, piece: &[u8]) {
+    let head = bytes(rt, alloc, &[head]);
+    stream.extend_from_slice(&head).expect(rt, "a head");
+    stream.extend_from_slice(piece).expect(rt, "a fragment");
+}
+
+fn cut_as<R: Abort>(rt: &R, alloc: Global, record: &[u8], how: &Cut) -> Vec<u8> {
+    assert_some(rt, how.size);
+    let mut stream = Vec::new(alloc);
+    for (i, piece) in record.chunks(how.size).enumerate() {
+        let head = if i < how.full { how.head } else { how.last };
+        put_fragment(rt, alloc, &mut stream, head, piece);
+    }
+    stream
+}
+
+// So many empty fragments, and then a record of one byte.
+fn hollow<R: Abort>(rt: &R, alloc: Global, empty: usize) -> Vec<u8> {
+    let zeros = empty.saturating_mul(4);
+    let mut stream = vec![in alloc; 0; zeros].expect(rt, "empty fragments");
+    put_fragment(rt, alloc, &mut stream, "80000001", b"x");
+    stream
+}
+
+// A record of 76 bytes in fragments.
+static CUTS: [Cut; 4] = [
+    Cut {
+        name: "whole",
+        size: 76,
+        head: "",
+        full: 0,
+        last: "8000004c",
+    },
+    Cut {
+        name: "shreds",
+        size: 1,
+        head: "00000001",
+        full: 75,
+        last: "80000001",
+    },
+    Cut {
+        name: "threes",
+        size: 3,
+        head: "00000003",
+        full: 25,
+        last: "80000001",
+    },
+    // An empty fragment before each of the others.
+    Cut {
+        name: "hollows",
+        size: 1,
+        head: "00000000 00000001",
+        full: 75,
+        last: "00000000 80000001",
+    },
+];
+
+// The answer to reading a record.
+type Answer = Result<Option<usize>, RecordFault>;
+
+const TORN: Answer = Err(RecordFault::Torn { at: 0 });
+
+const LONG: Answer = Err(RecordFault::TooLong { at: 0 });
+
+// The answers to reading two records, and whether the buffer begins with this one behind the first.
+fn read_two<S: Source>(source: &mut S, buf: &mut [u8], record: &[u8]) -> (Answer, bool, Answer) {
+    let mut reader = RecordReader::new();
+    let answer = reader.next(source, buf);
+    let is_same = buf.starts_with(record);
+    (answer, is_same, reader.next(source, buf))
+}
+
+// Looks at what comes of reading two records from a stream, in pieces of so many bytes: this one, and then what `next`
+// says.
+fn check_two<R: Abort>(
+    rt: &R,
+    alloc: Global,
+    stream: Vec<u8>,
+    piece: usize,
+    record: &[u8],
+    next: Answer,
+    row: &str,
+)
     requires { 0 < piece }
 {
     let mut buf = vec![in alloc; 0; RECORD_MAX].expect(rt, "a buffer");
     let mut source = MemSource::new(stream, piece, Vec::new(alloc));
-    let mut reader = RecordReader::new();
-    let answer = reader.next(&mut source, &mut buf);
-    let len = match answer {
-        Ok(Some(len)) => len,
-        _ => 0,
-    };
-    let record = buf.get(..len).unwrap_or(b"").to_vec(alloc);
-    let next = reader.next(&mut source, &mut buf);
-    (answer, record.expect(rt, "a copy"), next)
+    let came = (piece, read_two(&mut source, &mut buf, record));
+    let wanted = (piece, (Ok(Some(record.len())), true, next));
+    assert_same(rt, &came, &wanted, row);
 }
 
 // Reads a record from a stream, of whose reads these fail.
-fn read_one(
-    stream: Vec<u8>,
-    piece: usize,
-    failing: Vec<u64>,
-    buf: &mut [u8],
-) -> Result<Option<usize>, RecordFault>
+fn read_one(stream: Vec<u8>, piece: usize, failing: Vec<u64>, buf: &mut [u8]) -> Answer
     requires { 0 < piece }
 {
     let mut source = MemSource::new(stream, piece, failing);
     RecordReader::new().next(&mut source, buf)
 }
 
+fn try_cut<R: Abort>(rt: &R, alloc: Global, record: &[u8], how: &Cut) {
+    check_two(
+        rt,
+        alloc,
+        cut_as(rt, alloc, record, how),
+        1,
+        record,
+        Ok(None),
+        how.name,
+    );
+    check_two(
+        rt,
+        alloc,
+        cut_as(rt, alloc, record, how),
+        3,
+        record,
+        Ok(None),
+        how.name,
+    );
+    check_two(
+        rt,
+        alloc,
+        cut_as(rt, alloc, record, how),
+        80,
+        record,
+        Ok(None),
+        how.name,
+    );
+}
+
 #[test]
 fn one_record(rt: HostRuntime) {
-    let alloc = rt.alloc();
-    let record = counted(&rt, alloc, 76);
-    let whole = cut(&rt, alloc, &record, 76, "", 0, "8000004c");
-    let shreds = cut(&rt, alloc, &record, 1, "00000001", 75, "80000001");
-    // An empty fragment before each of the others.
-    let (head, last) = ("00000000 00000001", "00000000 80000001");
-    let hollows = cut(&rt, alloc, &record, 1, head, 75, last);
-    for piece in [1, 3, 80] {
-        for (row, stream) in [
-            ("whole", &whole),
-            ("shreds", &shreds),
-            ("hollows", &hollows),
-        ] {
-            let stream = stream.to_vec(alloc).expect(&rt, "a copy");
-            let (answer, read, next) = read_two(&rt, alloc, stream, piece);
-            let came = (piece, answer, read.as_slice(), next);
-            let wanted = (piece, Ok(Some(76)), record.as_slice(), Ok(None));
-            assert_same(&rt, &came, &wanted, row);
-        }
+    let record = counted(&rt, rt.alloc(), 76);
+    for how in &CUTS {
+        try_cut(&rt, rt.alloc(), &record, how);
     }
+}
+
+static FEW_BYTES: [(&str, Answer); 11] = [
+    ("", Ok(None)),
+    ("800000", TORN),
+    ("80000002 61", TORN),
+    ("00000000", TORN),
+    ("00000001 61", TORN),
+    ("80000000", Ok(Some(0))),
+    ("00000003 616263 80000000", Ok(Some(3))),
+    ("80000004 61626364", Ok(Some(4))),
+    ("80000005 6162636465", LONG),
+    ("00000003 616263 80000002 6465", LONG),
+    ("ffffffff", LONG),
+];
+
+fn try_few<R: Abort>(rt: &R, alloc: Global, row: &(&str, Answer)) {
+    let (text, wanted) = *row;
+    let stream = bytes(rt, alloc, &[text]);
+    let read = read_one(stream, 80, Vec::new(alloc), &mut [0; 4]);
+    assert_same(rt, &read, &wanted, text);
 }
 
 #[test]
 fn few_bytes(rt: HostRuntime) {
-    let alloc = rt.alloc();
-    let torn = Err(RecordFault::Torn { at: 0 });
-    let long = Err(RecordFault::TooLong { at: 0 });
-    let cases = [
-        ("", Ok(None)),
-        ("800000", torn),
-        ("80000002 61", torn),
-        ("00000000", torn),
-        ("00000001 61", torn),
-        ("80000000", Ok(Some(0))),
-        ("00000003 616263 80000000", Ok(Some(3))),
-        ("80000004 61626364", Ok(Some(4))),
-        ("80000005 6162636465", long),
-        ("00000003 616263 80000002 6465", long),
-        ("ffffffff", long),
-    ];
-    for (text, answer) in &cases {
-        let stream = bytes(&rt, alloc, &[*text]);
-        let mut buf = [0; 4];
-        let read = read_one(stream, 80, Vec::new(alloc), &mut buf);
-        assert_same(&rt, &read, answer, *text);
+    for row in &FEW_BYTES {
+        try_few(&rt, rt.alloc(), row);
     }
 }
 
@@ -152,119 +208,110 @@ fn few_bytes(rt: HostRuntime) {
 fn torn_behind_a_record(rt: HostRuntime) {
     let alloc = rt.alloc();
     let record = counted(&rt, alloc, 76);
-    let stream = cut(&rt, alloc, &record, 76, "", 0, "8000004c");
-    let parts = [stream.as_slice(), &[0x80, 0, 0]];
-    let stream = parts.concat(alloc).expect(&rt, "a stream");
-    let came = read_two(&rt, alloc, stream, 80);
-    let torn = RecordFault::Torn { at: 80 };
-    let wanted = (Ok(Some(76)), record, Err(torn));
-    assert_same(&rt, &came, &wanted, "torn");
+    let mut stream = bytes(&rt, alloc, &["8000004c"]);
+    stream.extend_from_slice(&record).expect(&rt, "a record");
+    stream
+        .extend_from_slice(&[0x80, 0, 0])
+        .expect(&rt, "a head");
+    let torn = Err(RecordFault::Torn { at: 80 });
+    check_two(&rt, alloc, stream, 80, &record, torn, "torn");
 }
 
 // The answer to a record that is too long, and to reading on behind its head, and what is read then.
-type Long = (
-    Result<Option<usize>, RecordFault>,
-    Result<usize, Failed>,
-    [u8; 3],
-);
+type Long = (Answer, Result<usize, Failed>, [u8; 3]);
 
-fn read_long<R: Abort>(rt: &R, alloc: Global, stream: Vec<u8>) -> Long {
+fn read_long<S: Source>(source: &mut S, buf: &mut [u8]) -> Long {
+    let answer = RecordReader::new().next(source, buf);
+    let mut behind = [0; 3];
+    (answer, source.read(&mut behind), behind)
+}
+
+fn check_long<R: Abort>(rt: &R, alloc: Global, text: &str) {
+    let stream = bytes(rt, alloc, &[text]);
     let mut buf = vec![in alloc; 0; RECORD_MAX].expect(rt, "a buffer");
     let mut source = MemSource::new(stream, 80, Vec::new(alloc));
-    let answer = RecordReader::new().next(&mut source, &mut buf);
-    let mut behind = [0; 3];
-    let count = source.read(&mut behind);
-    (answer, count, behind)
+    let came = read_long(&mut source, &mut buf);
+    assert_same(rt, &came, &(LONG, Ok(2), *b"ab\0"), "one byte more");
 }
 
 #[test]
 fn largest_record(rt: HostRuntime) {
     let alloc = rt.alloc();
     let record = counted(&rt, alloc, RECORD_MAX);
-    let stream = cut(&rt, alloc, &record, RECORD_MAX, "", 0, "80040000");
-    let (answer, read, next) = read_two(&rt, alloc, stream, 1000);
-    let came = (answer, read == record, next);
-    let wanted = (Ok(Some(RECORD_MAX)), true, Ok(None));
-    assert_same(&rt, &came, &wanted, "as many bytes as a record may have");
-
-    let long = read_long(&rt, alloc, bytes(&rt, alloc, &["80040001 6162"]));
-    let wanted = (Err(RecordFault::TooLong { at: 0 }), Ok(2), *b"ab\0");
-    assert_same(&rt, &long, &wanted, "one byte more");
+    let mut stream = bytes(&rt, alloc, &["80040000"]);
+    stream.extend_from_slice(&record).expect(&rt, "a record");
+    let row = "as many bytes as a record may have";
+    check_two(&rt, alloc, stream, 1000, &record, Ok(None), row);
+    check_long(&rt, alloc, "80040001 6162");
 }
 
 #[test]
 fn empty_fragments(rt: HostRuntime) {
     let alloc = rt.alloc();
-    let came = read_two(&rt, alloc, hollow(&rt, alloc, 1024), 80);
-    let record = bytes(&rt, alloc, &["78"]);
-    let wanted = (Ok(Some(1)), record, Ok(None));
-    assert_same(&rt, &came, &wanted, "1024 empty fragments");
-    let mut buf = [0; 80];
-    let answer = read_one(hollow(&rt, alloc, 1025), 80, Vec::new(alloc), &mut buf);
-    let wanted = Err(RecordFault::TooLong { at: 0 });
-    assert_same(&rt, &answer, &wanted, "1025 empty fragments");
+    let most = hollow(&rt, alloc, 1024);
+    check_two(&rt, alloc, most, 80, b"x", Ok(None), "1024 empty fragments");
+    let more = hollow(&rt, alloc, 1025);
+    let answer = read_one(more, 80, Vec::new(alloc), &mut [0; 80]);
+    assert_same(&rt, &answer, &LONG, "1025 empty fragments");
+}
+
+fn try_failing_source<R: Abort>(rt: &R, alloc: Global, failing: u64) {
+    let stream = bytes(rt, alloc, &["80000004 61626364"]);
+    let failing_reads = listed(rt, alloc, &[failing]);
+    let answer = read_one(stream, 2, failing_reads, &mut [0; 80]);
+    let wanted = (failing, Err(RecordFault::ReadFault));
+    assert_same(rt, &(failing, answer), &wanted, "the call that fails");
 }
 
 #[test]
 fn failing_source(rt: HostRuntime) {
-    let alloc = rt.alloc();
     for failing in 0..4 {
-        let stream = bytes(&rt, alloc, &["80000004 61626364"]);
-        let mut buf = [0; 80];
-        let failing_reads = vec![in alloc; failing].expect(&rt, "a number");
-        let answer = read_one(stream, 2, failing_reads, &mut buf);
-        let wanted = (failing, Err(RecordFault::ReadFault));
-        assert_same(&rt, &(failing, answer), &wanted, "the call that fails");
+        try_failing_source(&rt, rt.alloc(), failing);
     }
 }
 
-// Reads the next record piece by piece into this buffer, and puts it behind these bytes.
-fn read_pieces<R: Abort>(
-    rt: &R,
+// Takes a piece off the front of what is still wanted.
+fn after<'a>(wanted: Option<&'a [u8]>, piece: &[u8]) -> Option<&'a [u8]> {
+    match wanted {
+        Some(wanted) => wanted.strip_prefix(piece),
+        None => None,
+    }
+}
+
+// The answer to reading a record in pieces, and whether the pieces are those of the wanted one.
+type Pieces = (Result<(), RecordFault>, bool);
+
+// Reads the next record piece by piece into this buffer.
+fn read_pieces<S: Source>(
     reader: &mut RecordReader,
-    source: &mut MemSource,
+    source: &mut S,
     buf: &mut [u8],
     limit: u64,
-    record: &mut Vec<u8>,
-) -> Result<(), RecordFault>
+    record: &[u8],
+) -> Pieces
     requires { 0 < length buf.old }
 {
+    let mut wanted = Some(record);
     for _ in 0..1_000_000 {
-        let count = reader.piece(source, buf, limit)?;
-        if count == 0 {
-            return Ok(());
+        match reader.piece(source, buf, limit) {
+            Ok(0) => break,
+            Ok(count) => wanted = after(wanted, &buf[..count]),
+            Err(fault) => return (Err(fault), matches!(wanted, Some([]))),
         }
-        record
-            .extend_from_slice(&buf[..count])
-            .expect(rt, "a record");
     }
-    Ok(())
+    (Ok(()), matches!(wanted, Some([])))
 }
 
-// What is read of three records of the limit 76, from a stream that gives so many bytes in a read, into a buffer of so
-// many.
-fn pieces_of_three<R: Abort>(
-    rt: &R,
-    alloc: Global,
-    stream: Vec<u8>,
-    piece: usize,
-    room: usize,
-) -> ([Result<(), RecordFault>; 3], [Vec<u8>; 3])
-    requires piece { 0 < piece }
-    requires room { 0 < room }
+// Reads three records of the limit 76: this one twice, and one of which nothing comes.
+fn read_three<S: Source>(source: &mut S, buf: &mut [u8], record: &[u8]) -> [Pieces; 3]
+    requires { 0 < length buf.old }
 {
-    let mut buf = vec![in alloc; 0; room].expect(rt, "a buffer");
-    let mut source = MemSource::new(stream, piece, Vec::new(alloc));
     let mut reader = RecordReader::new();
-    let mut first = Vec::new(alloc);
-    let mut second = Vec::new(alloc);
-    let mut third = Vec::new(alloc);
-    let answers = [
-        read_pieces(rt, &mut reader, &mut source, &mut buf, 76, &mut first),
-        read_pieces(rt, &mut reader, &mut source, &mut buf, 76, &mut second),
-        read_pieces(rt, &mut reader, &mut source, &mut buf, 76, &mut third),
-    ];
-    (answers, [first, second, third])
+    [
+        read_pieces(&mut reader, source, buf, 76, record),
+        read_pieces(&mut reader, source, buf, 76, record),
+        read_pieces(&mut reader, source, buf, 76, b""),
+    ]
 }
 
 // The answer to reading a record of a stream, within a limit.
@@ -280,12 +327,11 @@ fn pieces_of_one<R: Abort>(
     let mut buf = vec![in alloc; 0; room].expect(rt, "a buffer");
     let mut source = MemSource::new(stream, 80, Vec::new(alloc));
     let mut reader = RecordReader::new();
-    let mut record = Vec::new(alloc);
-    read_pieces(rt, &mut reader, &mut source, &mut buf, limit, &mut record)
+    read_pieces(&mut reader, &mut source, &mut buf, limit, b"").0
 }
 
 // How many bytes a read gives at most, and how many the buffer has.
-const PIECES_AND_ROOMS: [(usize, usize); 9] = [
+static PIECES_AND_ROOMS: [(usize, usize); 9] = [
     (1, 1),
     (1, 5),
     (1, 100),
@@ -297,60 +343,78 @@ const PIECES_AND_ROOMS: [(usize, usize); 9] = [
     (200, 100),
 ];
 
-// Looks at what is read of a stream that has the same record twice, and a torn one.
-fn check_pieces<R: Abort>(rt: &R, alloc: Global, stream: &[u8], record: &[u8], row: &str) {
-    let parts = [stream, stream, &[0x80, 0]];
-    let twice = parts.concat(alloc).expect(rt, "a stream");
-    let at = 2 * stream.len() as u64;
-    let answers = [Ok(()), Ok(()), Err(RecordFault::Torn { at })];
-    for (piece, room) in &PIECES_AND_ROOMS {
-        assert_some(rt, *piece);
-        assert_some(rt, *room);
-        let copy = twice.to_vec(alloc).expect(rt, "a copy");
-        let (came, [first, second, third]) = pieces_of_three(rt, alloc, copy, *piece, *room);
-        let read = [first.as_slice(), second.as_slice(), third.as_slice()];
-        let wanted = (*piece, *room, answers, [record, record, b""]);
-        assert_same(rt, &(*piece, *room, came, read), &wanted, row);
+// A stream that has the same record twice, and a torn one.
+fn twice_and_torn<R: Abort>(rt: &R, alloc: Global, record: &[u8], how: &Cut) -> Vec<u8> {
+    let once = cut_as(rt, alloc, record, how);
+    let parts = [once.as_slice(), once.as_slice(), &[0x80, 0]];
+    parts.concat(alloc).expect(rt, "a stream")
+}
+
+// Looks at what is read of it.
+fn try_pieces<R: Abort>(
+    rt: &R,
+    alloc: Global,
+    record: &[u8],
+    how: &Cut,
+    piece_and_room: &(usize, usize),
+) {
+    let (piece, room) = *piece_and_room;
+    assert_some(rt, piece);
+    assert_some(rt, room);
+    let mut buf = vec![in alloc; 0; room].expect(rt, "a buffer");
+    let stream = twice_and_torn(rt, alloc, record, how);
+    // The torn record is the two bytes behind the others.
+    let at = stream.len().saturating_sub(2) as u64;
+    let mut source = MemSource::new(stream, piece, Vec::new(alloc));
+    let came = (piece, room, read_three(&mut source, &mut buf, record));
+    let torn = Err(RecordFault::Torn { at });
+    let wanted = [(Ok(()), true), (Ok(()), true), (torn, true)];
+    assert_same(rt, &came, &(piece, room, wanted), how.name);
+}
+
+fn check_pieces<R: Abort>(rt: &R, alloc: Global, record: &[u8], how: &Cut) {
+    for piece_and_room in &PIECES_AND_ROOMS {
+        try_pieces(rt, alloc, record, how, piece_and_room);
     }
 }
 
 #[test]
 fn records_in_pieces(rt: HostRuntime) {
-    let alloc = rt.alloc();
-    let record = counted(&rt, alloc, 76);
-    let whole = cut(&rt, alloc, &record, 76, "", 0, "8000004c");
-    check_pieces(&rt, alloc, &whole, &record, "whole");
-    let shreds = cut(&rt, alloc, &record, 1, "00000001", 75, "80000001");
-    check_pieces(&rt, alloc, &shreds, &record, "shreds");
-    let threes = cut(&rt, alloc, &record, 3, "00000003", 25, "80000001");
-    check_pieces(&rt, alloc, &threes, &record, "threes");
-    let (head, last) = ("00000000 00000001", "00000000 80000001");
-    let hollows = cut(&rt, alloc, &record, 1, head, 75, last);
-    check_pieces(&rt, alloc, &hollows, &record, "hollows");
+    let record = counted(&rt, rt.alloc(), 76);
+    for how in &CUTS {
+        check_pieces(&rt, rt.alloc(), &record, how);
+    }
+}
+
+const TORN_PIECES: Result<(), RecordFault> = Err(RecordFault::Torn { at: 0 });
+
+const LONG_PIECES: Result<(), RecordFault> = Err(RecordFault::TooLong { at: 0 });
+
+static FEW_PIECES: [(&str, Result<(), RecordFault>); 11] = [
+    ("", TORN_PIECES),
+    ("800000", TORN_PIECES),
+    ("80000002 61", TORN_PIECES),
+    ("00000000", TORN_PIECES),
+    ("00000001 61", TORN_PIECES),
+    ("80000000", Ok(())),
+    ("00000003 616263 80000000", Ok(())),
+    ("80000004 61626364", Ok(())),
+    ("80000005 6162636465", LONG_PIECES),
+    ("00000003 616263 80000002 6465", LONG_PIECES),
+    ("ffffffff", LONG_PIECES),
+];
+
+fn try_few_pieces<R: Abort>(rt: &R, alloc: Global, row: &(&str, Result<(), RecordFault>)) {
+    let (text, wanted) = *row;
+    let narrow = pieces_of_one(rt, alloc, bytes(rt, alloc, &[text]), 1, 4);
+    let wide = pieces_of_one(rt, alloc, bytes(rt, alloc, &[text]), 80, 4);
+    assert_same(rt, &[narrow, wide], &[wanted; 2], text);
 }
 
 #[test]
 fn few_bytes_in_pieces(rt: HostRuntime) {
-    let alloc = rt.alloc();
-    let torn = Err(RecordFault::Torn { at: 0 });
-    let long = Err(RecordFault::TooLong { at: 0 });
-    let cases = [
-        ("", torn),
-        ("800000", torn),
-        ("80000002 61", torn),
-        ("00000000", torn),
-        ("00000001 61", torn),
-        ("80000000", Ok(())),
-        ("00000003 616263 80000000", Ok(())),
-        ("80000004 61626364", Ok(())),
-        ("80000005 6162636465", long),
-        ("00000003 616263 80000002 6465", long),
-        ("ffffffff", long),
-    ];
-    for (text, answer) in &cases {
-        let narrow = pieces_of_one(&rt, alloc, bytes(&rt, alloc, &[*text]), 1, 4);
-        let wide = pieces_of_one(&rt, alloc, bytes(&rt, alloc, &[*text]), 80, 4);
-        assert_same(&rt, &[narrow, wide], &[*answer; 2], *text);
+    for row in &FEW_PIECES {
+        try_few_pieces(&rt, rt.alloc(), row);
     }
 }
 
@@ -360,8 +424,7 @@ fn empty_fragments_in_pieces(rt: HostRuntime) {
     let most = pieces_of_one(&rt, alloc, hollow(&rt, alloc, 1024), 80, 1);
     assert_same(&rt, &most, &Ok(()), "1024 empty fragments");
     let more = pieces_of_one(&rt, alloc, hollow(&rt, alloc, 1025), 80, 1);
-    let wanted = Err(RecordFault::TooLong { at: 0 });
-    assert_same(&rt, &more, &wanted, "1025 empty fragments");
+    assert_same(&rt, &more, &LONG_PIECES, "1025 empty fragments");
 }
 
 // Writes a record in two pieces, the first of which has so many bytes, or all.
@@ -380,29 +443,16 @@ fn write_two<K: Sink>(
     writer.end(sink)
 }
 
-// Writes a record in two pieces, and answers with what was taken. So many bytes are taken in a write, and these calls
-// of the sink fail.
-fn written<R: Abort>(
-    rt: &R,
-    alloc: Global,
-    writer: &mut RecordWriter,
-    message: &[u8],
-    len: usize,
-    piece: usize,
-    failing: Vec<u64>,
-) -> (Result<(), Failed>, Vec<u8>)
-    requires some { 0 < length message.now }
-    requires first { 0 < len }
-    requires piece { 0 < piece }
+fn writer_of<R: Abort>(rt: &R, alloc: Global) -> RecordWriter
+    ensures { result ≡ [] }
 {
-    let mut sink = MemSink::new(alloc, piece, failing);
-    let answer = write_two(writer, &mut sink, message, len);
-    let taken = sink.taken().to_vec(alloc);
-    (answer, taken.expect(rt, "a copy"))
+    RecordWriter::new(alloc).expect(rt, "a writer")
 }
 
 // A record by its length, the length, how many of its fragments aren't the last, and the head of the last.
-const FRAGMENTS: [(&str, usize, usize, &str); 6] = [
+type Fragments = (&'static str, usize, usize, &'static str);
+
+static FRAGMENTS: [Fragments; 6] = [
     ("1 byte", 1, 0, "80000001"),
     ("8192 bytes", 8192, 0, "80002000"),
     ("8196 bytes", 8196, 1, "80000004"),
@@ -411,25 +461,58 @@ const FRAGMENTS: [(&str, usize, usize, &str); 6] = [
     ("200,000 bytes", 200_000, 24, "80000d40"),
 ];
 
+// The record in its fragments.
+fn in_fragments<R: Abort>(rt: &R, alloc: Global, record: &[u8], row: &Fragments) -> Vec<u8> {
+    let (name, _, full, last) = *row;
+    let how = Cut {
+        name,
+        size: 8192,
+        head: "00002000",
+        full,
+        last,
+    };
+    cut_as(rt, alloc, record, &how)
+}
+
+// Looks at what is written of a record in two pieces, the first of which has so many bytes, or all.
+fn check_written<R: Abort>(
+    rt: &R,
+    alloc: Global,
+    writer: &mut RecordWriter,
+    record: &[u8],
+    first: usize,
+    row: &Fragments,
+) {
+    assert_some(rt, record.len());
+    assert_some(rt, first);
+    let stream = in_fragments(rt, alloc, record, row);
+    let mut sink = MemSink::new(alloc, 9000, Vec::new(alloc));
+    let answer = write_two(writer, &mut sink, record, first);
+    let came = (first, answer, sink.taken() == stream.as_slice());
+    assert_same(rt, &came, &(first, Ok(()), true), row.0);
+}
+
+static FIRST_PIECES: [usize; 5] = [1, 8191, 8192, 65_536, 65_537];
+
+fn try_written<R: Abort>(rt: &R, alloc: Global, writer: &mut RecordWriter, row: &Fragments) {
+    let record = counted(rt, alloc, row.1);
+    for first in &FIRST_PIECES {
+        check_written(rt, alloc, writer, &record, *first, row);
+    }
+}
+
 #[test]
 fn fragments_written(rt: HostRuntime) {
-    let alloc = rt.alloc();
-    let mut writer = RecordWriter::new(alloc).expect(&rt, "a writer");
-    for (row, len, full, last) in &FRAGMENTS {
-        let record = counted(&rt, alloc, *len);
-        assert_some(&rt, record.len());
-        let stream = cut(&rt, alloc, &record, 8192, "00002000", *full, *last);
-        for first in [1, 8191, 8192, 65_536, 65_537] {
-            let none = Vec::new(alloc);
-            let (answer, taken) = written(&rt, alloc, &mut writer, &record, first, 9000, none);
-            let came = (first, answer, taken == stream);
-            assert_same(&rt, &came, &(first, Ok(()), true), *row);
-        }
+    let mut writer = writer_of(&rt, rt.alloc());
+    for row in &FRAGMENTS {
+        try_written(&rt, rt.alloc(), &mut writer, row);
     }
 }
 
 // What fails, the length of a record, the most bytes of a write, the call that fails, and what was taken before it.
-const FAILING: [(&str, usize, usize, u64, usize); 8] = [
+type Failing = (&'static str, usize, usize, u64, usize);
+
+static FAILING: [Failing; 8] = [
     ("8196 bytes, at call 0", 8196, 4000, 0, 0),
     ("8196 bytes, at call 1", 8196, 4000, 1, 4000),
     ("8196 bytes, at call 2", 8196, 4000, 2, 8000),
@@ -441,83 +524,110 @@ const FAILING: [(&str, usize, usize, u64, usize); 8] = [
     ("65,537 bytes, at call 2", 65_537, 100_000, 2, 65_573),
 ];
 
+// Looks at how many bytes are taken of a record.
+fn check_torn<R: Abort>(rt: &R, alloc: Global, writer: &mut RecordWriter, row: &Failing) {
+    let (name, len, piece, failing, taken) = *row;
+    let record = counted(rt, alloc, len);
+    assert_some(rt, record.len());
+    assert_some(rt, piece);
+    let mut sink = MemSink::new(alloc, piece, listed(rt, alloc, &[failing]));
+    let answer = write_two(writer, &mut sink, &record, 1);
+    let came = (answer, sink.taken().len());
+    assert_same(rt, &came, &(Err(Failed), taken), name);
+}
+
+// The bytes of a short record in its fragment.
+static SHORT: [u8; 6] = [0x80, 0, 0, 2, b'a', b'b'];
+
+// Looks at whether a short record is written as it is to be.
+fn check_short<R: Abort>(rt: &R, alloc: Global, writer: &mut RecordWriter, row: &str) {
+    let mut sink = MemSink::new(alloc, 4000, Vec::new(alloc));
+    let answer = write_two(writer, &mut sink, b"ab", 1);
+    let came = (answer, sink.taken());
+    assert_same(rt, &came, &(Ok(()), SHORT.as_slice()), row);
+}
+
 #[test]
 fn failing_sink(rt: HostRuntime) {
-    let alloc = rt.alloc();
-    let mut writer = RecordWriter::new(alloc).expect(&rt, "a writer");
-    let short = bytes(&rt, alloc, &["80000002 6162"]);
-    for (row, len, piece, failing, taken) in &FAILING {
-        let record = counted(&rt, alloc, *len);
-        let failing_calls = vec![in alloc; *failing].expect(&rt, "a number");
-        assert_some(&rt, record.len());
-        assert_some(&rt, *piece);
-        let (answer, torn) = written(&rt, alloc, &mut writer, &record, 1, *piece, failing_calls);
-        let (next, whole) = written(&rt, alloc, &mut writer, b"ab", 1, 4000, Vec::new(alloc));
-        let came = (answer, torn.len(), next, whole.as_slice());
-        let wanted = (Err(Failed), *taken, Ok(()), short.as_slice());
-        assert_same(&rt, &came, &wanted, *row);
+    let mut writer = writer_of(&rt, rt.alloc());
+    for row in &FAILING {
+        check_torn(&rt, rt.alloc(), &mut writer, row);
+        check_short(&rt, rt.alloc(), &mut writer, row.0);
     }
 }
 
-// Sends a record at once, and answers with what was taken, where these calls of the sink fail.
-fn sent_by<R: Abort>(
+// Sends a record at once: the answer, and whether this stream is written.
+fn sent_as<R: Abort>(
     rt: &R,
     alloc: Global,
-    writer: &mut RecordWriter,
-    message: &[u8],
-    failing: Vec<u64>,
-) -> (Result<(), Failed>, Vec<u8>)
-    requires idle { writer.old ≡ [] }
-    requires some { 0 < length message.now }
-    ensures { writer.new ≡ [] }
-{
-    let mut sink = MemSink::new(alloc, 9000, failing);
-    let answer = writer.send(&mut sink, message);
-    let taken = sink.taken().to_vec(alloc);
-    (answer, taken.expect(rt, "a copy"))
+    record: &[u8],
+    stream: &[u8],
+) -> (Result<(), Failed>, bool) {
+    assert_some(rt, record.len());
+    let mut writer = writer_of(rt, alloc);
+    let mut sink = MemSink::new(alloc, 9000, Vec::new(alloc));
+    let answer = writer.send(&mut sink, record);
+    (answer, sink.taken() == stream)
+}
+
+fn try_sent<R: Abort>(rt: &R, alloc: Global, row: &Fragments) {
+    let record = counted(rt, alloc, row.1);
+    let stream = in_fragments(rt, alloc, &record, row);
+    let came = sent_as(rt, alloc, &record, &stream);
+    assert_same(rt, &came, &(Ok(()), true), row.0);
 }
 
 #[test]
 fn records_sent_at_once(rt: HostRuntime) {
-    let alloc = rt.alloc();
-    for (row, len, full, last) in &FRAGMENTS {
-        let mut writer = RecordWriter::new(alloc).expect(&rt, "a writer");
-        let record = counted(&rt, alloc, *len);
-        assert_some(&rt, record.len());
-        let stream = cut(&rt, alloc, &record, 8192, "00002000", *full, *last);
-        let (answer, taken) = sent_by(&rt, alloc, &mut writer, &record, Vec::new(alloc));
-        assert_same(&rt, &(answer, taken == stream), &(Ok(()), true), *row);
+    for row in &FRAGMENTS {
+        try_sent(&rt, rt.alloc(), row);
     }
 }
+
+// Sends a short record at once.
+fn send_short<K: Sink>(writer: &mut RecordWriter, sink: &mut K) -> Result<(), Failed>
+    requires { writer.old ≡ [] }
+    ensures { writer.new ≡ [] }
+{
+    writer.send(sink, b"ab")
+}
+
+// Looks at how many bytes are taken of a short record, of whose calls this one fails, and at what is taken of the same
+// without it.
+fn try_failing_send<R: Abort>(rt: &R, alloc: Global, row: &(&str, u64, usize)) {
+    let (name, failing, taken) = *row;
+    let mut writer = writer_of(rt, alloc);
+    let mut torn = MemSink::new(alloc, 9000, listed(rt, alloc, &[failing]));
+    let mut whole = MemSink::new(alloc, 9000, Vec::new(alloc));
+    let answer = send_short(&mut writer, &mut torn);
+    let next = send_short(&mut writer, &mut whole);
+    let came = (answer, torn.taken().len(), next, whole.taken());
+    let wanted = (Err(Failed), taken, Ok(()), SHORT.as_slice());
+    assert_same(rt, &came, &wanted, name);
+}
+
+// The write fails, and then the flush behind it.
+static FAILING_SENDS: [(&str, u64, usize); 2] = [("no write", 0, 0), ("no flush", 1, 6)];
 
 #[test]
 fn failing_calls_of_a_record_sent_at_once(rt: HostRuntime) {
-    let alloc = rt.alloc();
-    let record = bytes(&rt, alloc, &["80000002 6162"]);
-
-    // The write fails, and then the flush behind it.
-    for (row, failing, taken) in [("no write", 0u64, 0), ("no flush", 1, 6)] {
-        let mut writer = RecordWriter::new(alloc).expect(&rt, "a writer");
-        let failing_calls = vec![in alloc; failing].expect(&rt, "a number");
-        let (answer, torn) = sent_by(&rt, alloc, &mut writer, b"ab", failing_calls);
-        let (next, whole) = sent_by(&rt, alloc, &mut writer, b"ab", Vec::new(alloc));
-        let came = (answer, torn.len(), next, whole.as_slice());
-        let wanted = (Err(Failed), taken, Ok(()), record.as_slice());
-        assert_same(&rt, &came, &wanted, row);
+    for row in &FAILING_SENDS {
+        try_failing_send(&rt, rt.alloc(), row);
     }
 }
 
+static TEXTS: [(RecordFault, &str); 3] = [
+    (RecordFault::Torn { at: 80 }, "torn record at 80"),
+    (
+        RecordFault::TooLong { at: 160 },
+        "record at 160 is too long",
+    ),
+    (RecordFault::ReadFault, "read fault"),
+];
+
 #[test]
 fn faults_as_text(rt: HostRuntime) {
-    for (fault, text) in [
-        (RecordFault::Torn { at: 80 }, "torn record at 80"),
-        (
-            RecordFault::TooLong { at: 160 },
-            "record at 160 is too long",
-        ),
-        (RecordFault::ReadFault, "read fault"),
-    ] {
-        let shown = format!(in rt.alloc(); "{fault}").expect(&rt, "a text");
-        assert_same(&rt, &shown.as_str(), &text, text);
+    for (fault, text) in &TEXTS {
+        assert_shown(&rt, rt.alloc(), fault, *text);
     }
 }

@@ -3,11 +3,13 @@
 ghost use Rattle.std.specs.Prelude.{◌≤◌};
 
 use crate::given::{assert_same, bytes};
+use std::alloc::Global;
+use std::process::Abort;
 use yp_rpc::*;
 use yp_xdr::{NoRoom, XdrFault};
 
 // Each head for a call's number, and its words.
-const HEADS: [(u32, ReplyHead, &str); 11] = [
+static HEADS: [(u32, ReplyHead, &str); 11] = [
     (
         1,
         ReplyHead::Success,
@@ -74,39 +76,50 @@ fn write_head(xid: u32, head: &ReplyHead, room: usize) -> (Result<usize, NoRoom>
     (answer, buf)
 }
 
-#[test]
-fn heads(rt: HostRuntime) {
+// Looks at a head in so much room. Where it has room, the buffer is whole, and so many bytes of it are the head.
+fn check_room<R: Abort>(rt: &R, row: &(u32, ReplyHead, &str), room: usize, whole: &[u8], len: usize)
+    requires { room ≤ 40 }
+{
+    let (xid, head, text) = *row;
+    let (answer, buf) = write_head(xid, &head, room);
     let untouched = [9; 40];
-    for (xid, head, text) in &HEADS {
-        let mut whole = bytes(&rt, rt.alloc(), &[*text]);
-        let len = whole.len();
-        whole.resize(40, 9).expect(&rt, "a whole buffer");
-        for room in 0..=40 {
-            let (answer, buf) = write_head(*xid, head, room);
-            let wanted = if room < len {
-                (room, Err(NoRoom), untouched.as_slice())
-            } else {
-                (room, Ok(len), whole.as_slice())
-            };
-            assert_same(&rt, &(room, answer, buf.as_slice()), &wanted, *text);
-        }
+    let wanted = if room < len {
+        (room, Err(NoRoom), untouched.as_slice())
+    } else {
+        (room, Ok(len), whole)
+    };
+    assert_same(rt, &(room, answer, buf.as_slice()), &wanted, text);
+}
+
+fn try_head<R: Abort>(rt: &R, alloc: Global, row: &(u32, ReplyHead, &str)) {
+    let mut whole = bytes(rt, alloc, &[row.2]);
+    let len = whole.len();
+    whole.resize(40, 9).expect(rt, "a whole buffer");
+    for room in 0..=40 {
+        check_room(rt, row, room, &whole, len);
     }
 }
 
 #[test]
+fn heads(rt: HostRuntime) {
+    for row in &HEADS {
+        try_head(&rt, rt.alloc(), row);
+    }
+}
+
+fn try_read<R: Abort>(rt: &R, alloc: Global, row: &(u32, ReplyHead, &str)) {
+    let (xid, head, text) = *row;
+    let alone = bytes(rt, alloc, &[text]);
+    let with_results = bytes(rt, alloc, &[text, "ffffffff ff"]);
+    let body = alone.len();
+    let came = [read_reply(&alone), read_reply(&with_results)];
+    assert_same(rt, &came, &[Ok(ReplyRead { xid, head, body }); 2], text);
+}
+
+#[test]
 fn heads_read(rt: HostRuntime) {
-    for (xid, head, text) in &HEADS {
-        let mut bytes = bytes(&rt, rt.alloc(), &[*text]);
-        let body = bytes.len();
-        let wanted = Ok(ReplyRead {
-            xid: *xid,
-            head: *head,
-            body,
-        });
-        let alone = read_reply(&bytes);
-        bytes.extend_from_slice(&[0xff; 5]).expect(&rt, "results");
-        let with_results = read_reply(&bytes);
-        assert_same(&rt, &[alone, with_results], &[wanted; 2], *text);
+    for row in &HEADS {
+        try_read(&rt, rt.alloc(), row);
     }
 }
 
@@ -115,27 +128,34 @@ const ACCEPTED: &str = "00000001 00000001 00000000";
 
 const DENIED: &str = "00000001 00000001 00000001";
 
+// The words of a verifier, the zeros that follow, and the place of the results.
+static VERIFIERS: [(&str, &[u8], usize); 2] = [
+    ("00000006 00000005 01020304 05000000 00000000", &[], 32),
+    // AUTH_SYS of the most bytes that there may be.
+    ("00000001 00000190", &[0; 404], 424),
+];
+
+fn try_verifier<R: Abort>(rt: &R, alloc: Global, row: &(&str, &[u8], usize)) {
+    let (text, zeros, body) = *row;
+    let mut reply = bytes(rt, alloc, &[ACCEPTED, text]);
+    reply.extend_from_slice(zeros).expect(rt, "a reply");
+    let read = ReplyRead {
+        xid: 1,
+        head: ReplyHead::Success,
+        body,
+    };
+    assert_same(rt, &read_reply(&reply), &Ok(read), text);
+}
+
 #[test]
 fn any_verifier(rt: HostRuntime) {
-    for (text, zeros, body) in [
-        ("00000006 00000005 01020304 05000000 00000000", 0, 32),
-        // AUTH_SYS of the most bytes that there may be.
-        ("00000001 00000190", 404, 424),
-    ] {
-        let mut bytes = bytes(&rt, rt.alloc(), &[ACCEPTED, text]);
-        let zeros = vec![in rt.alloc(); 0; zeros].expect(&rt, "zeros");
-        bytes.extend_from_slice(&zeros).expect(&rt, "a reply");
-        let read = ReplyRead {
-            xid: 1,
-            head: ReplyHead::Success,
-            body,
-        };
-        assert_same(&rt, &read_reply(&bytes), &Ok(read), text);
+    for row in &VERIFIERS {
+        try_verifier(&rt, rt.alloc(), row);
     }
 }
 
 // The two parts of replies that can't be read, and why.
-const REFUSALS: [(&str, &str, XdrFault); 22] = [
+static REFUSALS: [(&str, &str, XdrFault); 22] = [
     // The number, the type of the message and reply_stat.
     ("", "", XdrFault::Short { at: 0 }),
     ("000000", "", XdrFault::Short { at: 0 }),
@@ -204,11 +224,16 @@ const REFUSALS: [(&str, &str, XdrFault); 22] = [
     (DENIED, "00000001 0000", XdrFault::Short { at: 16 }),
 ];
 
+fn try_refusal<R: Abort>(rt: &R, alloc: Global, row: &(&str, &str, XdrFault)) {
+    let (front, text, fault) = *row;
+    let reply = bytes(rt, alloc, &[front, text]);
+    let came = (front, read_reply(&reply));
+    assert_same(rt, &came, &(front, Err(fault)), text);
+}
+
 #[test]
 fn places_of_refusals(rt: HostRuntime) {
-    for (front, text, fault) in &REFUSALS {
-        let bytes = bytes(&rt, rt.alloc(), &[*front, *text]);
-        let came = (*front, read_reply(&bytes));
-        assert_same(&rt, &came, &(*front, Err(*fault)), *text);
+    for row in &REFUSALS {
+        try_refusal(&rt, rt.alloc(), row);
     }
 }

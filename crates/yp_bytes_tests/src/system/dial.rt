@@ -6,13 +6,14 @@ ghost use Rattle.std.specs.Net.Socket.{v4_ip, v4_port};
 ghost use Rattle.yp_io.specs.Counts.{last_count};
 ghost use Rattle.yp_io.specs.Dials.{GoesBack, IsFresh};
 
+use crate::given::assert_same;
 use std::alloc::Global;
 use std::io;
 use std::io::{ErrorKind, Read, Write};
 use std::net::{
     Ipv4Addr, Net, Shutdown, SocketAddr, SocketAddrV4, TcpListener, TcpStream, UdpSocket,
 };
-use std::test::Fail;
+use std::process::Abort;
 use std::time::Duration;
 use yp_io::{Dial, Failed, Pair, Peer, Sink, Source, count_fault};
 use yp_system::{TcpDial, TcpWire};
@@ -31,73 +32,85 @@ pub fn local(port: u16) -> Peer {
     Peer { port, ..ANY }
 }
 
-// A wire that a dial opened to a listener, and the peer's end of it.
-fn open<R: Net<Stream = TcpStream> + Drop>(
+/// A socket at a free port, and where it is.
+pub fn mailbox<R: Net + Abort>(rt: &R) -> (UdpSocket, Peer) {
+    let socket = UdpSocket::bind(rt, address_of(ANY)).expect(rt, "a port");
+    let address = socket.local_addr().expect(rt, "an address");
+    (socket, local(address.port()))
+}
+
+// A listener at a free port, and where it is.
+fn listener<R: Net<Stream = TcpStream, Listener = TcpListener> + Abort>(
+    rt: &R,
+) -> (TcpListener, Peer) {
+    let listener = TcpListener::bind(rt, address_of(ANY)).expect(rt, "a port");
+    let address = listener.local_addr().expect(rt, "an address");
+    (listener, local(address.port()))
+}
+
+// A wire that a dial opened to a listener, and the peer's end of it. Then nobody listens there.
+fn open<R: Net<Stream = TcpStream, Listener = TcpListener> + Drop + Abort>(
+    rt: &R,
     dial: &mut TcpDial<R>,
-    listener: &TcpListener,
-) -> io::Result<(TcpWire, TcpStream)> {
-    let to = local(listener.local_addr()?.port());
-    let Ok(wire) = dial.dial(to) else {
-        return Err(ErrorKind::ConnectionRefused.into());
-    };
-    let (peer, _) = listener.accept()?;
-    Ok((wire, peer))
+) -> (TcpWire, TcpStream, Peer) {
+    let (listener, to) = listener(rt);
+    let wire = dial.dial(to).expect(rt, "a wire");
+    let (peer, _) = listener.accept().expect(rt, "a peer");
+    (wire, peer, to)
 }
 
-// What a write, a flush and three reads answer, with the buffers of two reads, and what the peer got.
-#[derive(Debug, PartialEq, Drop)]
-struct Talked {
-    written: (Result<usize, Failed>, Result<(), Failed>),
-    got: [u8; 4],
-    reads: [(Result<usize, Failed>, [u8; 3]); 2],
-    end: Result<usize, Failed>,
+// What a write and a flush answer, and what the peer got.
+type Called = (Result<usize, Failed>, Result<(), Failed>, bool, [u8; 4]);
+
+fn call(wire: &mut TcpWire, peer: &mut TcpStream) -> Called {
+    let (written, flushed) = (wire.sink.write(b"call"), wire.sink.flush());
+    let mut got = [0; 4];
+    let is_got = peer.read_exact(&mut got).is_ok();
+    (written, flushed, is_got, got)
 }
 
-fn read_three(wire: &mut TcpWire) -> (Result<usize, Failed>, [u8; 3]) {
+// The answer to a read, and the buffer then.
+type Read3 = (Result<usize, Failed>, [u8; 3]);
+
+fn read_three(wire: &mut TcpWire) -> Read3 {
     let mut buf = [0; 3];
     (wire.source.read(&mut buf), buf)
 }
 
-// A call and a reply of five bytes, behind which the peer sends no more.
-fn talk(wire: &mut TcpWire, peer: &mut TcpStream) -> io::Result<Talked> {
-    let written = (wire.sink.write(b"call"), wire.sink.flush());
-    let mut got = [0; 4];
-    peer.read_exact(&mut got)?;
-    peer.write_all(b"reply")?;
-    let reads = [read_three(wire), read_three(wire)];
-    peer.shutdown(Shutdown::Write)?;
-    let end = wire.source.read(&mut [0; 8]);
-    Ok(Talked {
-        written,
-        got,
-        reads,
-        end,
-    })
+// Whether the peer sends five bytes, and no more behind them, and what three reads answer.
+fn reply(wire: &mut TcpWire, peer: &mut TcpStream) -> ([bool; 2], [Read3; 3]) {
+    let is_sent = peer.write_all(b"reply").is_ok();
+    let (first, second) = (read_three(wire), read_three(wire));
+    let is_shut = peer.shutdown(Shutdown::Write).is_ok();
+    ([is_sent, is_shut], [first, second, read_three(wire)])
 }
 
-// The same with a dial of its own: what is left for the peer once the wire is given back, and how often it failed.
-fn talk_over<R: Net<Stream = TcpStream, Listener = TcpListener> + Drop + Copy>(
+// What comes of a call and a reply, what is left for the peer once the wire is given back, and how often the dial
+// failed.
+type Talked = (Called, ([bool; 2], [Read3; 3]), Option<usize>, u64);
+
+fn talk<R: Net<Stream = TcpStream, Listener = TcpListener> + Drop + Copy + Abort>(
+    rt: R,
     alloc: Global,
-    net: R,
-) -> io::Result<(Option<Talked>, Option<usize>, u64)> {
-    let listener = TcpListener::bind(&net, address_of(ANY))?;
-    let mut dial = TcpDial::new(alloc, net);
-    let (mut wire, mut peer) = open(&mut dial, &listener)?;
-    let talked = talk(&mut wire, &mut peer).ok();
+) -> Talked {
+    let mut dial = TcpDial::new(alloc, rt);
+    let (mut wire, mut peer, _) = open(&rt, &mut dial);
+    let called = call(&mut wire, &mut peer);
+    let replied = reply(&mut wire, &mut peer);
     dial.back(wire);
-    Ok((talked, peer.read(&mut [0; 8]).ok(), dial.faults()))
+    (called, replied, peer.read(&mut [0; 8]).ok(), dial.faults())
 }
 
 #[test]
-fn what_comes_and_goes_by_a_wire(rt: HostRuntime) -> Result<(), Fail> {
-    let talked = Talked {
-        written: (Ok(4), Ok(())),
-        got: *b"call",
-        reads: [(Ok(3), *b"rep"), (Ok(2), *b"ly\0")],
-        end: Ok(0),
-    };
-    assert_eq!(rt; talk_over(rt.alloc(), rt)?, (Some(talked), Some(0), 0));
-    Ok(())
+fn what_comes_and_goes_by_a_wire(rt: HostRuntime) {
+    let reads = [(Ok(3), *b"rep"), (Ok(2), *b"ly\0"), (Ok(0), [0; 3])];
+    let wanted = (
+        (Ok(4), Ok(()), true, *b"call"),
+        ([true, true], reads),
+        Some(0),
+        0,
+    );
+    assert_same(&rt, &talk(rt, rt.alloc()), &wanted, "a call and a reply");
 }
 
 // What a write, a read and a further write answer, where the peer ends before the read.
@@ -111,71 +124,75 @@ fn reset(wire: &mut TcpWire, peer: TcpStream) -> [Result<usize, Failed>; 3] {
 
 // The same with a dial of its own: how often it failed then, whether it reaches nobody once none listens, and how
 // often it failed at the end.
-fn reset_over<R: Net<Stream = TcpStream, Listener = TcpListener> + Drop + Copy>(
+fn reset_over<R: Net<Stream = TcpStream, Listener = TcpListener> + Drop + Copy + Abort>(
+    rt: R,
     alloc: Global,
-    net: R,
-) -> io::Result<([Result<usize, Failed>; 3], u64, bool, u64)> {
-    let listener = TcpListener::bind(&net, address_of(ANY))?;
-    let to = local(listener.local_addr()?.port());
-    let mut dial = TcpDial::new(alloc, net);
-    let (mut wire, peer) = open(&mut dial, &listener)?;
+) -> ([Result<usize, Failed>; 3], u64, bool, u64) {
+    let mut dial = TcpDial::new(alloc, rt);
+    let (mut wire, peer, to) = open(&rt, &mut dial);
     let answers = reset(&mut wire, peer);
     dial.back(wire);
     let faults = dial.faults();
-    drop(listener);
-    let alone = dial.dial(to).is_err();
-    Ok((answers, faults, alone, dial.faults()))
+    let is_alone = dial.dial(to).is_err();
+    (answers, faults, is_alone, dial.faults())
 }
 
 #[test]
-fn nobody_listens_and_a_peer_resets(rt: HostRuntime) -> Result<(), Fail> {
-    let answers = [Ok(4), Err(Failed), Err(Failed)];
-    assert_eq!(rt; reset_over(rt.alloc(), rt)?, (answers, 2, true, 3));
-    Ok(())
+fn nobody_listens_and_a_peer_resets(rt: HostRuntime) {
+    let came = reset_over(rt, rt.alloc());
+    let wanted = ([Ok(4), Err(Failed), Err(Failed)], 2, true, 3);
+    assert_same(&rt, &came, &wanted, "a reset, and nobody");
+}
+
+// What a read answers where the peer sends nothing, and how often the dial failed.
+fn wait<R: Net<Stream = TcpStream, Listener = TcpListener> + Drop + Copy + Abort>(
+    rt: R,
+    alloc: Global,
+) -> (Result<usize, Failed>, u64) {
+    let mut dial = TcpDial::with_limit(alloc, rt, Duration::from_millis(100));
+    let (mut wire, peer, _) = open(&rt, &mut dial);
+    let answer = wire.source.read(&mut [0; 8]);
+    dial.back(wire);
+    drop(peer);
+    (answer, dial.faults())
+}
+
+#[test]
+fn peer_that_never_answers(rt: HostRuntime) {
+    let came = wait(rt, rt.alloc());
+    assert_same(&rt, &came, &(Err(Failed), 1), "no answer");
 }
 
 // The length of a letter that arrived, and the front of its bytes.
 fn arrived<R: Net<Stream = TcpStream> + Drop>(
     dial: &mut TcpDial<R>,
     inbox: &UdpSocket,
+    to: Peer,
     letter: &[u8],
-) -> io::Result<(usize, [u8; 8])> {
-    let to = local(inbox.local_addr()?.port());
-    if dial.post(to, letter).is_err() {
-        return Err(ErrorKind::NotConnected.into());
-    }
+) -> Option<(usize, [u8; 8])> {
     let mut buf = [0; 8];
-    let (len, _) = inbox.recv_from(&mut buf)?;
-    Ok((len, buf))
+    if dial.post(to, letter).is_err() {
+        return None;
+    }
+    match inbox.recv_from(&mut buf) {
+        Ok((len, _)) => Some((len, buf)),
+        Err(_) => None,
+    }
 }
 
 #[test]
-fn peer_that_never_answers(rt: HostRuntime) -> Result<(), Fail> {
-    let listener = TcpListener::bind(&rt, address_of(ANY))?;
-    let to = local(listener.local_addr()?.port());
-    let mut dial = TcpDial::with_limit(rt.alloc(), rt, Duration::from_millis(100));
-    let mut wire = dial.dial(to)?;
-    let answer = wire.source.read(&mut [0; 8]);
-    dial.back(wire);
-    assert_eq!(rt; answer, Err(Failed));
-    assert_eq!(rt; dial.faults(), 1);
-    Ok(())
-}
-
-#[test]
-fn letters_arrive(rt: HostRuntime) -> Result<(), Fail> {
-    let inbox = UdpSocket::bind(&rt, address_of(ANY))?;
+fn letters_arrive(rt: HostRuntime) {
+    let (inbox, to) = mailbox(&rt);
     let mut dial = TcpDial::new(rt.alloc(), rt);
     let came = [
-        arrived(&mut dial, &inbox, b"first").ok(),
-        arrived(&mut dial, &inbox, b"").ok(),
-        arrived(&mut dial, &inbox, b"third").ok(),
+        arrived(&mut dial, &inbox, to, b"first"),
+        arrived(&mut dial, &inbox, to, b""),
+        arrived(&mut dial, &inbox, to, b"third"),
     ];
     let wanted = [
         Some((5, *b"first\0\0\0")),
         Some((0, [0; 8])),
         Some((5, *b"third\0\0\0")),
     ];
-    assert_eq!(rt; came, wanted);
-    Ok(())
+    assert_same(&rt, &came, &wanted, "three letters");
 }

@@ -1,92 +1,63 @@
 //! Files as disks, over a system that does what a test wants.
 
 ghost use Rattle.std.specs.Prelude.{None};
+ghost use Rattle.yp_io.specs.Disk.{IsWithin};
 
-use crate::system::scripted::{OneFile, unsupported};
+use crate::given::assert_same;
+use crate::system::scripted::{OneFile, Scripted};
 use std::alloc::{AllocError, Global};
 use std::cell::Cell;
-use std::fs::{DirBuilder, File, Metadata, OpenFile, OpenOptions};
-use std::io::{ErrorKind, Read, Seek, SeekFrom, Write};
+use std::fs::{DirBuilder, File, OpenFile, OpenOptions};
+use std::io::ErrorKind;
 use std::os::unix::fs::{DirBuilderExt, FileExt, OpenOptionsExt};
+use std::process::Abort;
 use std::rt::Files;
 use std::time::Clock;
 use std::{fs, io};
-use yp_io::{Disk, Failed, count_fault};
+use yp_io::{Disk, count_fault};
 use yp_system::{FileDisk, Locking, MapFile};
 
-// An open file that takes all, of whose syncs, counted over all files and folders, the one with this number fails.
-#[derive(Clone, Copy)]
-struct Syncs<'a> {
-    count: &'a Cell<u32>,
-    failing: u32,
+// Whether a write with a sync behind it succeeds.
+fn sync_once<D: Disk>(disk: &mut D) -> bool
+    requires { IsWithin 0 (D.history disk.old) }
+{
+    disk.write_at(0, b"version").is_ok() && disk.sync().is_ok()
 }
 
-impl Read for Syncs<'_> {
-    fn read(&mut self, _buf: &mut [u8]) -> io::Result<usize> {
-        Err(ErrorKind::Unsupported.into())
-    }
+// How three of them end, and how many faults are counted.
+type Synced = ([bool; 3], u64);
+
+fn sync_thrice(disk: &mut FileDisk<OneFile<'_>>) -> Synced {
+    let synced = [sync_once(disk), sync_once(disk), sync_once(disk)];
+    (synced, disk.faults())
 }
 
-impl Write for Syncs<'_> {
-    fn write(&mut self, _buf: &[u8]) -> io::Result<usize> {
-        Err(ErrorKind::Unsupported.into())
-    }
-
-    fn flush(&mut self) -> io::Result<()> {
-        unsupported()
-    }
-}
-
-impl Seek for Syncs<'_> {
-    fn seek(&mut self, _to: SeekFrom) -> io::Result<u64> {
-        unsupported()
+fn stored(alloc: Global, system: OneFile<'_>) -> Option<Synced> {
+    match FileDisk::new(alloc, system, b"lab", b"hosts.byname", Locking::AtOnce) {
+        Ok(mut disk) => Some(sync_thrice(&mut disk)),
+        Err(AllocError) => None,
     }
 }
 
-impl OpenFile for Syncs<'_> {
-    fn metadata(&self) -> io::Result<Metadata> {
-        Ok(Metadata::of_file(0))
-    }
+// The sync that fails, and what comes of that. The first is of the file and three folders, each later one of the file
+// alone.
+static SYNCS: [(u32, Synced); 5] = [
+    (0, ([false, false, false], 3)),
+    (3, ([false, false, false], 3)),
+    (4, ([true, false, false], 2)),
+    (5, ([true, true, false], 1)),
+    (6, ([true, true, true], 0)),
+];
 
-    fn set_len(&self, _size: u64) -> io::Result<()> {
-        unsupported()
-    }
-
-    fn sync_all(&self) -> io::Result<()> {
-        let number = self.count.get();
-        self.count.set(number.saturating_add(1));
-        if number == self.failing {
-            return unsupported();
-        }
-        Ok(())
-    }
-
-    fn sync_data(&self) -> io::Result<()> {
-        unsupported()
-    }
-}
-
-impl FileExt for Syncs<'_> {
-    fn read_at(&self, _buf: &mut [u8], _offset: u64) -> io::Result<usize> {
-        Err(ErrorKind::Unsupported.into())
-    }
-
-    fn write_at(&self, buf: &[u8], _offset: u64) -> io::Result<usize> {
-        Ok(buf.len())
-    }
-}
-
-impl MapFile for Syncs<'_> {
-    fn try_lock_as(&self, _is_only: bool) -> io::Result<bool> {
-        Ok(true)
-    }
-}
-
-// How three writes with a sync behind each end, and how many faults are counted.
-fn stored(alloc: Global, failing: u32) -> Option<([bool; 3], u64)> {
-    let count = Cell::new(0);
-    let file = Syncs {
-        count: &count,
+fn try_sync<R: Abort>(rt: &R, alloc: Global, row: &(u32, Synced)) {
+    let (failing, synced) = *row;
+    let syncs = Cell::new(0);
+    let file = Scripted {
+        len: Some(0),
+        is_interrupted: true,
+        bytes: 0,
+        fault: Some(ErrorKind::Unsupported),
+        syncs: &syncs,
         failing,
     };
     let system = OneFile {
@@ -94,32 +65,13 @@ fn stored(alloc: Global, failing: u32) -> Option<([bool; 3], u64)> {
         len: Some(0),
         file,
     };
-    match FileDisk::new(alloc, system, b"lab", b"hosts.byname", Locking::AtOnce) {
-        Ok(mut disk) => Some((sync_thrice(&mut disk), disk.faults())),
-        Err(AllocError) => None,
-    }
-}
-
-fn sync_thrice(disk: &mut FileDisk<OneFile<'_, Syncs<'_>>>) -> [bool; 3] {
-    let mut synced = [false; 3];
-    for is_synced in &mut synced {
-        let written = disk.write_at(0, b"version");
-        *is_synced = written.is_ok() && disk.sync().is_ok();
-    }
-    synced
+    let came = (failing, stored(alloc, system));
+    assert_same(rt, &came, &(failing, Some(synced)), "the sync that fails");
 }
 
 #[test]
 fn sync_that_failed_is_not_trusted_again(rt: HostRuntime) {
-    // The first sync is of the file and three folders, each later one of the file alone.
-    for (failing, synced, faults) in [
-        (0, [false, false, false], 3),
-        (3, [false, false, false], 3),
-        (4, [true, false, false], 2),
-        (5, [true, true, false], 1),
-        (6, [true, true, true], 0),
-    ] {
-        let came = stored(rt.alloc(), failing);
-        assert_eq!(rt; came, Some((synced, faults)), "{failing}");
+    for row in &SYNCS {
+        try_sync(&rt, rt.alloc(), row);
     }
 }

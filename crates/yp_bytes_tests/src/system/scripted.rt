@@ -1,26 +1,118 @@
-//! A system for tests, whose file does what a test wants.
+//! A system for tests, with one file that does what a test wants.
 
 use std::alloc::Allocator;
+use std::cell::Cell;
 use std::fs::{Metadata, OpenFile, OpenOptions};
 use std::io;
-use std::io::{Empty, ErrorKind, Read, Seek, Write};
+use std::io::{Empty, ErrorKind, Read, Seek, SeekFrom, Write};
+use std::os::unix::fs::FileExt;
 use std::rt::Files;
 use std::time::{Clock, Duration};
+use yp_system::MapFile;
 
-/// What this system doesn't do.
-pub fn unsupported<T>() -> io::Result<T> {
+// What this system doesn't do.
+fn unsupported<T>() -> io::Result<T> {
     Err(ErrorKind::Unsupported.into())
+}
+
+/// An open file. Its first read is interrupted, the next ones give its bytes, and then it fails or ends. It takes all
+/// that is written. Of the syncs, counted over all files and folders, the one with this number fails.
+#[derive(Clone, Copy)]
+pub struct Scripted<'a> {
+    /// Its length, where it tells one.
+    pub len: Option<u64>,
+    pub is_interrupted: bool,
+    pub bytes: usize,
+    pub fault: Option<ErrorKind>,
+    pub syncs: &'a Cell<u32>,
+    pub failing: u32,
+}
+
+impl Read for Scripted<'_> {
+    fn read(&mut self, buf: &mut [u8]) -> io::Result<usize> {
+        if !self.is_interrupted {
+            self.is_interrupted = true;
+            return Err(ErrorKind::Interrupted.into());
+        }
+        match self.fault {
+            Some(kind) if self.bytes == 0 => Err(kind.into()),
+            _ => {
+                let count = self.bytes.min(buf.len());
+                buf[..count].fill(b'x');
+                self.bytes -= count;
+                Ok(count)
+            }
+        }
+    }
+}
+
+impl Write for Scripted<'_> {
+    fn write(&mut self, _buf: &[u8]) -> io::Result<usize> {
+        Err(ErrorKind::Unsupported.into())
+    }
+
+    fn flush(&mut self) -> io::Result<()> {
+        unsupported()
+    }
+}
+
+impl Seek for Scripted<'_> {
+    fn seek(&mut self, _to: SeekFrom) -> io::Result<u64> {
+        unsupported()
+    }
+}
+
+impl OpenFile for Scripted<'_> {
+    fn metadata(&self) -> io::Result<Metadata> {
+        match self.len {
+            Some(len) => Ok(Metadata::of_file(len)),
+            None => unsupported(),
+        }
+    }
+
+    fn set_len(&self, _size: u64) -> io::Result<()> {
+        unsupported()
+    }
+
+    fn sync_all(&self) -> io::Result<()> {
+        let number = self.syncs.get();
+        self.syncs.set(number.saturating_add(1));
+        if number == self.failing {
+            return unsupported();
+        }
+        Ok(())
+    }
+
+    fn sync_data(&self) -> io::Result<()> {
+        unsupported()
+    }
+}
+
+impl FileExt for Scripted<'_> {
+    fn read_at(&self, _buf: &mut [u8], _offset: u64) -> io::Result<usize> {
+        Err(ErrorKind::Unsupported.into())
+    }
+
+    fn write_at(&self, buf: &[u8], _offset: u64) -> io::Result<usize> {
+        Ok(buf.len())
+    }
+}
+
+impl MapFile for Scripted<'_> {
+    fn try_lock_as(&self, _is_only: bool) -> io::Result<bool> {
+        Ok(true)
+    }
 }
 
 /// A system with one file at a path, or at each path. It is a folder where no length is given.
 #[derive(Clone, Copy)]
-pub struct OneFile<'a, F> {
+pub struct OneFile<'a> {
     pub path: Option<&'a str>,
     pub len: Option<u64>,
-    pub file: F,
+    pub file: Scripted<'a>,
 }
 
-impl<F> OneFile<'_, F> {
+impl OneFile<'_> {
     fn is_at(&self, path: &str) -> bool {
         match self.path {
             Some(own) => own == path,
@@ -29,12 +121,12 @@ impl<F> OneFile<'_, F> {
     }
 }
 
-impl<F: Read + Write + Seek + OpenFile + Copy> Files for OneFile<'_, F> {
-    type File = F;
+impl<'a> Files for OneFile<'a> {
+    type File = Scripted<'a>;
 
     type Dir = Empty;
 
-    fn open_file(&self, _how: &OpenOptions, path: &str) -> io::Result<F> {
+    fn open_file(&self, _how: &OpenOptions, path: &str) -> io::Result<Scripted<'a>> {
         match self.len {
             Some(_) if self.is_at(path) => Ok(self.file),
             _ => Err(ErrorKind::NotFound.into()),
@@ -82,7 +174,7 @@ impl<F: Read + Write + Seek + OpenFile + Copy> Files for OneFile<'_, F> {
     }
 }
 
-impl<F> Clock for OneFile<'_, F> {
+impl Clock for OneFile<'_> {
     fn monotonic(&self) -> io::Result<Duration> {
         unsupported()
     }

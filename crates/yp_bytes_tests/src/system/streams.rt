@@ -6,17 +6,19 @@ ghost use Rattle.std.specs.Io.KnownBytes.{Keeps, ReadConsumes, WriteAppends};
 ghost use Rattle.std.specs.Io.Buffered.{reader_remaining};
 ghost use Rattle.std.specs.IoError.{error_kind};
 
+use crate::given::assert_same;
 use std::alloc::Global;
 use std::io;
 use std::io::{BufReader, ErrorKind, Read, Stderr, Stdout, Write};
-use std::test::Fail;
 use yp_io::{Failed, NoMemory, Sink, Source, count_fault};
 use yp_system::{BlockReader, DirectWriter};
+
+type Answer = Result<usize, ErrorKind>;
 
 // A stream whose calls answer in turn, and then with no bytes.
 #[derive(Drop)]
 struct Script {
-    answers: Vec<Result<usize, ErrorKind>>,
+    answers: &'static [Answer],
     calls: usize,
 }
 
@@ -52,7 +54,9 @@ impl Write for Script {
 }
 
 // The answers to five reads, and how many failed.
-fn read_in_turn(source: &mut BlockReader<Script>) -> ([Result<usize, Failed>; 5], u64) {
+type Answers = ([Result<usize, Failed>; 5], u64);
+
+fn read_in_turn(source: &mut BlockReader<Script>) -> Answers {
     let mut answers = [Ok(0); 5];
     for answer in &mut answers {
         *answer = source.read(&mut [0; 2]);
@@ -61,24 +65,29 @@ fn read_in_turn(source: &mut BlockReader<Script>) -> ([Result<usize, Failed>; 5]
 }
 
 // The same of a reader, where there is memory.
-fn reads_of(alloc: Global, script: Script) -> Option<([Result<usize, Failed>; 5], u64)> {
+fn reads_of(alloc: Global, script: Script) -> Option<Answers> {
     match BlockReader::new(alloc, script) {
         Ok(mut source) => Some(read_in_turn(&mut source)),
         Err(_) => None,
     }
 }
 
+static READS: [Answer; 4] = [
+    Err(ErrorKind::Interrupted),
+    Ok(3),
+    Err(ErrorKind::PermissionDenied),
+    Ok(1),
+];
+
 #[test]
-fn reads(rt: HostRuntime) -> Result<(), Fail> {
-    let answers = vec![in rt.alloc();
-        Err(ErrorKind::Interrupted),
-        Ok(3),
-        Err(ErrorKind::PermissionDenied),
-        Ok(1),
-    ]?;
-    let came = reads_of(rt.alloc(), Script { answers, calls: 0 });
-    assert_eq!(rt; came, Some(([Ok(2), Ok(1), Err(Failed), Ok(1), Ok(0)], 1)));
-    Ok(())
+fn reads(rt: HostRuntime) {
+    let script = Script {
+        answers: &READS,
+        calls: 0,
+    };
+    let came = reads_of(rt.alloc(), script);
+    let wanted = ([Ok(2), Ok(1), Err(Failed), Ok(1), Ok(0)], 1);
+    assert_same(&rt, &came, &Some(wanted), "five reads");
 }
 
 // What four writes and two flushes answer, and how many failed.
@@ -97,18 +106,22 @@ fn writes_of(script: Script) -> Written {
     write_in_turn(&mut sink)
 }
 
+static WRITES: [Answer; 6] = [
+    Ok(3),
+    Ok(0),
+    Err(ErrorKind::BrokenPipe),
+    Ok(9),
+    Ok(0),
+    Err(ErrorKind::StorageFull),
+];
+
 #[test]
-fn writes(rt: HostRuntime) -> Result<(), Fail> {
-    let answers = vec![in rt.alloc();
-        Ok(3),
-        Ok(0),
-        Err(ErrorKind::BrokenPipe),
-        Ok(9),
-        Ok(0),
-        Err(ErrorKind::StorageFull),
-    ]?;
-    let came = writes_of(Script { answers, calls: 0 });
+fn writes(rt: HostRuntime) {
+    let script = Script {
+        answers: &WRITES,
+        calls: 0,
+    };
     let written = [Ok(3), Err(Failed), Err(Failed), Ok(4)];
-    assert_eq!(rt; came, (written, [Ok(()), Err(Failed)], 3));
-    Ok(())
+    let wanted = (written, [Ok(()), Err(Failed)], 3);
+    assert_same(&rt, &writes_of(script), &wanted, "writes and flushes");
 }

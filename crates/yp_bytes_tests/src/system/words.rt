@@ -2,10 +2,10 @@
 
 ghost use Rattle.std.specs.Prelude.{◌<◌, IfOk, string_len};
 
+use crate::given::assert_same;
 use std::alloc::{AllocError, Global};
 use std::env::{Env, FillError};
 use std::process::Abort;
-use std::test::Fail;
 use yp_system::{WORD_MAX, read_words};
 
 // A program that was started with these words.
@@ -35,35 +35,36 @@ impl Env for Script<'_> {
     }
 }
 
-// The word and the one behind it must have come, or where it is no text, one that is longer than any.
-fn assert_words(rt: &impl Abort, case: usize, came: &[String], word: &[u8], is_text: bool) {
+// Whether the word and the one behind it came, or where it is no text, one that is longer than any.
+fn are_right(came: &[String], word: &[u8], is_text: bool) -> bool {
     match came {
-        [first, last] if is_text => {
-            let found = (first.as_bytes(), last.as_str());
-            assert_eq!(rt; found, (word, "maps"), "in case {case}");
-        }
-        [only] if !is_text => assert!(rt; only.len() > WORD_MAX, "in case {case}"),
-        _ => assert!(rt; false, "{} words in case {case}", came.len()),
+        [first, last] => is_text && first.as_bytes() == word && last.as_str() == "maps",
+        [only] => !is_text && only.len() > WORD_MAX,
+        _ => false,
     }
 }
 
+fn try_word<R: Abort>(rt: &R, alloc: Global, word: &[u8], is_text: bool, row: &str) {
+    let script = Script {
+        words: &[b"yp", word, b"maps"],
+    };
+    let came = read_words(&script, alloc).expect(rt, "memory for words");
+    assert_same(rt, &are_right(&came, word, is_text), &true, row);
+}
+
+static WORDS: [(&[u8], bool, &str); 4] = [
+    (b"once", true, "a word"),
+    (b"", true, "an empty word"),
+    (b"\xc3\xa9=1", true, "a word with an accent"),
+    (b"k=\xff", false, "no UTF-8"),
+];
+
 #[test]
-fn words_and_what_is_no_text(rt: HostRuntime) -> Result<(), Fail> {
-    let long = vec![in rt.alloc(); b'k'; WORD_MAX + 1]?;
-    let cases = [
-        (b"once".as_slice(), true),
-        (b"", true),
-        ("\u{e9}=1".as_bytes(), true),
-        (&long[1..], true),
-        (b"k=\xff", false),
-        (&long, false),
-    ];
-    for (case, (word, is_text)) in cases.iter().enumerate() {
-        let script = Script {
-            words: &[b"yp", *word, b"maps"],
-        };
-        let came = read_words(&script, rt.alloc())?;
-        assert_words(&rt, case, &came, *word, *is_text);
+fn words_and_what_is_no_text(rt: HostRuntime) {
+    for (word, is_text, row) in &WORDS {
+        try_word(&rt, rt.alloc(), *word, *is_text, *row);
     }
-    Ok(())
+    let long = vec![in rt.alloc(); b'k'; WORD_MAX + 1].expect(&rt, "memory for a word");
+    try_word(&rt, rt.alloc(), &long[1..], true, "the longest word");
+    try_word(&rt, rt.alloc(), &long, false, "one byte more");
 }

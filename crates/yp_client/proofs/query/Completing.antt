@@ -7,11 +7,11 @@ use Rattle.std.specs.Io.KnownBytes.{Consumes, IsAtEnd}
 use Rattle.std.proofs.lemmas.List.{append-nil}
 use Rattle.yp_io.specs.Counts.{HasRisen}
 use Rattle.yp_io.specs.declared.stream.Peer.{Peer}
-use Rattle.yp_io.specs.Dials.{Wires, Connected, connected, WireState, Comes, GoesBack}
+use Rattle.yp_io.specs.Dials.{Wires, Connected, connected, Dialing, WireState, WireComes, GoesBack}
 use Rattle.yp_rpc.specs.Records.{IsRest, IsLong}
-use Rattle.yp_rpc.specs.Laws.{FirstIsOne, RestIsNotWhole}
-use Rattle.yp_msgs.specs.declared.stat.YpStat.{YpStat}
-use Rattle.yp_msgs.specs.declared.stat.YpStat.TheVariants as stat
+use Rattle.yp_rpc.specs.inside.Laws.{FirstIsOne, RestIsNotWhole}
+use Rattle.yp_messages.specs.declared.stat.YpStat.{YpStat}
+use Rattle.yp_messages.specs.declared.stat.YpStat.TheVariants as stat
 use Rattle.yp_version.specs.Drafts.{Draft}
 use Rattle.yp_client.specs.declared.fault.ClientFault.{ClientFault}
 use Rattle.yp_client.specs.declared.fault.ClientFault.TheVariants as client
@@ -19,23 +19,25 @@ use Rattle.yp_client.specs.Limits.{reply_max, all_max}
 use Rattle.yp_client.specs.States.{ClientState, IsFirst}
 use Rattle.yp_client.specs.Results.{Says, SaysInMemory, value_of, master_of, order_of, maps_of}
 use Rattle.yp_client.specs.All.{AllSaid, all_said, IsSaid}
-use Rattle.yp_client.specs.Calls.{Calls, Hears, NoReply}
+use Rattle.yp_client.specs.Calls.{Calls, HearsReply, NoReply}
 use Rattle.yp_client.specs.Said.{SaysNumber, SaysBytes, SaysNames}
 use Rattle.yp_client.specs.Asked.{match_call, master_call, order_call, maplist_call}
-use Rattle.yp_msgs.specs.declared.maplist.MapList.{MapList}
-use Rattle.yp_query.specs.Lines.{line, lines, standing_text}
-use Rattle.yp_query.specs.declared.fault.QueryFault.{QueryFault}
-use Rattle.yp_query.specs.declared.fault.QueryFault.TheVariants.{NoKey, NotMember, Client, Dial, Output, NoMemory}
+use Rattle.yp_messages.specs.declared.maplist.MapList.{MapList}
+use Rattle.yp_client.specs.query.Lines.{line, lines, standing_text}
+use Rattle.yp_client.specs.declared.query.fault.QueryFault.{QueryFault}
+use Rattle.yp_client.specs.declared.query.fault.QueryFault.TheVariants.{NoKey, NotMember, Client, Dial, Output, NoMemory}
 use Rattle.yp_client.specs.declared.question.Question.TheVariants.{Cat, Catk, Match, Which, Poll, Maps, Innetgr}
 use Rattle.yp_client.specs.Questions.{ByteQuestion}
-use Rattle.yp_query.specs.Faults.{query_fault, match_fault}
+use Rattle.yp_client.specs.query.Faults.{query_fault, match_fault}
 use Rattle.yp_version.specs.Rows.{Row, listed}
-use Rattle.yp_netgroup.specs.Reach.{Asked}
+use Rattle.yp_netgroup.specs.Reach.{SoughtMember}
 use Rattle.yp_netgroup.specs.Decided.{is_member}
-use Rattle.yp_query.specs.Asked.{Outcome, told_by, meant_by, IsInMemory, no_rows, TakesRows, MakesMaster}
-use Rattle.yp_query.specs.Asked.{MakesCalls, rows_told, membership_outcome, membership_told, netgroup}
-use Rattle.yp_query.specs.Scenes.{Scene, Exchanges, Asks, HasQueryCause}
-use Rattle.yp_query.specs.Complete.{BeginsWithReply, IsFound, HasAnswer, HasCome, IsAnswered}
+use Rattle.yp_client.specs.query.Asked.{QueryOutcome, told_by, meant_by, IsInMemory, no_rows, TakesRows, MakesMaster}
+use Rattle.yp_client.specs.query.Asked.{MakesCalls, rows_told, membership_outcome, membership_told, netgroup}
+use Rattle.yp_client.specs.query.Scenes.{QueryTells, Exchanges, Asks}
+use Rattle.yp_client.specs.inside.query.Scenes.{HasQueryCause}
+use Rattle.yp_client.specs.query.Complete.{BeginsWithReply, IsValueOrNone, HasAnswer, HasCome}
+use Rattle.yp_client.specs.inside.query.Complete.{QueryIsAnswered}
 
 -- what the laws of records say
 pub record Laws : Type 0 where
@@ -65,7 +67,7 @@ record Heard (limit : ℕ) (stream : List ℕ) (P : List ℕ → List ℕ → Ty
 hears_reply : Laws → {X : Type 0} (limit : ℕ) (stream : List ℕ) (P : List ℕ → List ℕ → Type 0)
     (good : BeginsWithReply limit stream P) (answers : List ℕ → Result X ClientFault → Type 0)
     (answer : Result X ClientFault) (old new : ClientState)
-    → old.wire.input ≡ Some stream → Hears limit answers answer old new
+    → old.wire.input ≡ Some stream → HearsReply limit answers answer old new
     → Heard limit stream P good (λ reply. answers reply answer) new
 hears_reply laws {X} limit stream P good answers answer old new told heard =
     let read : Consumes (Some stream) new.wire.input heard.taken.bytes =
@@ -112,7 +114,7 @@ not_long laws limit stream P good at old new told cause =
     laws.rest limit good.reply good.bytes good.rest good.fragments (inr (inr long))
 
 -- an answer, that there is no such key or no such member, want of memory, or a fault of the wire
-IsGood : Outcome → Type 0
+IsGood : QueryOutcome → Type 0
 IsGood (Ok text) = ⊤
 IsGood (Err NoKey) = ⊤
 IsGood (Err NotMember) = ⊤
@@ -122,7 +124,7 @@ IsGood (Err (Client client.WriteFault)) = ⊤
 IsGood outcome = ⊥
 
 -- what is good stays so in memory
-memory_good : (meant outcome : Outcome) → IsGood meant → IsInMemory meant outcome → IsGood outcome
+memory_good : (meant outcome : QueryOutcome) → IsGood meant → IsInMemory meant outcome → IsGood outcome
 unfolding IsGood
 memory_good meant (Ok text) good is = tt
 memory_good meant (Err NoMemory) good is = tt
@@ -135,7 +137,7 @@ memory_good meant (Err (Client fault)) good is = subst IsGood (sym is) good
 -- One call whose reply is there comes to something good, where what a query_fault would have to say isn't said.
 told_good : Laws → {X : Type 0} (limit : ℕ) (stream : List ℕ) (P : List ℕ → List ℕ → Type 0)
     (good : BeginsWithReply limit stream P) (call : ℕ → List ℕ) (answers : ℕ → List ℕ → Result X ClientFault → Type 0)
-    (refused : ClientFault → QueryFault) (means : X → Outcome) (answer : Result X ClientFault) (old new : ClientState)
+    (refused : ClientFault → QueryFault) (means : X → QueryOutcome) (answer : Result X ClientFault) (old new : ClientState)
     → Calls limit call answers answer old new → old.wire.input ≡ Some stream → old.spent ≡ false
     → ((fault : ClientFault) → answers old.xid good.reply (Err fault) → IsGood (Err (refused fault)))
     → IsGood (Err (refused client.ReadFault)) → IsGood (Err (refused client.WriteFault))
@@ -226,7 +228,7 @@ number_good : {X V : Type 0} (view : X → V) (said : Result V ClientFault) (fau
 number_good view said fault ok says = refused_not_ok said fault says ok
 
 -- nor is a key that isn't there
-key_good : (status : YpStat) → IsFound (Err (client.Yp status)) → IsGood (Err (match_fault (client.Yp status)))
+key_good : (status : YpStat) → IsValueOrNone (Err (client.Yp status)) → IsGood (Err (match_fault (client.Yp status)))
 unfolding IsGood
 key_good stat.True found = absurd found
 key_good stat.Nomore found = absurd found
@@ -240,20 +242,20 @@ key_good stat.Yperr found = absurd found
 key_good stat.Badargs found = absurd found
 key_good stat.Vers found = absurd found
 
-value_good : {X : Type 0} (view : X → List ℕ) (said : Result (List ℕ) ClientFault) (fault : ClientFault) → IsFound said
+value_good : {X : Type 0} (view : X → List ℕ) (said : Result (List ℕ) ClientFault) (fault : ClientFault) → IsValueOrNone said
     → Says view said (Err fault) → IsGood (Err (match_fault fault))
 unfolding IsGood
-value_good view said (client.Yp status) found says = key_good status (subst IsFound says found)
-value_good view said (client.Denied head) found says = absurd (subst IsFound says found)
-value_good view said (client.BadReply at) found says = absurd (subst IsFound says found)
-value_good view said (client.BadXid want got) found says = absurd (subst IsFound says found)
-value_good view said (client.Torn at) found says = absurd (subst IsFound says found)
-value_good view said (client.TooLong at) found says = absurd (subst IsFound says found)
-value_good view said client.ReadFault found says = absurd (subst IsFound says found)
-value_good view said client.WriteFault found says = absurd (subst IsFound says found)
-value_good view said client.Spent found says = absurd (subst IsFound says found)
-value_good view said (client.Rows row why) found says = absurd (subst IsFound says found)
-value_good view said client.NoMemory found says = absurd (subst IsFound says found)
+value_good view said (client.Yp status) found says = key_good status (subst IsValueOrNone says found)
+value_good view said (client.Denied head) found says = absurd (subst IsValueOrNone says found)
+value_good view said (client.BadReply at) found says = absurd (subst IsValueOrNone says found)
+value_good view said (client.BadXid want got) found says = absurd (subst IsValueOrNone says found)
+value_good view said (client.Torn at) found says = absurd (subst IsValueOrNone says found)
+value_good view said (client.TooLong at) found says = absurd (subst IsValueOrNone says found)
+value_good view said client.ReadFault found says = absurd (subst IsValueOrNone says found)
+value_good view said client.WriteFault found says = absurd (subst IsValueOrNone says found)
+value_good view said client.Spent found says = absurd (subst IsValueOrNone says found)
+value_good view said (client.Rows row why) found says = absurd (subst IsValueOrNone says found)
+value_good view said client.NoMemory found says = absurd (subst IsValueOrNone says found)
 
 rows_good : (draft : Draft) (rows : ℕ) (said : AllSaid) (fault : ClientFault) → said.end ≡ Ok tt
     → IsSaid said draft rows (Err fault) → IsGood (Err (query_fault fault))
@@ -282,9 +284,9 @@ rows_good draft rows said client.NoMemory ok says = tt
 
 -- ---- each query
 
-rows_answered : Laws → (means : List Row → Outcome) → ((rows : List Row) → IsGood (means rows))
+rows_answered : Laws → (means : List Row → QueryOutcome) → ((rows : List Row) → IsGood (means rows))
     → (domain map : List ℕ) (stream : List ℕ)
-    (good : BeginsWithReply all_max stream (λ reply rest. (all_said no_rows 1 reply).end ≡ Ok tt)) (outcome : Outcome)
+    (good : BeginsWithReply all_max stream (λ reply rest. (all_said no_rows 1 reply).end ≡ Ok tt)) (outcome : QueryOutcome)
     (old new : ClientState) → IsFirst old → old.wire.input ≡ Some stream
     → TakesRows means domain map outcome old new → IsGood outcome
 unfolding IsGood
@@ -321,7 +323,7 @@ second_good xid said reply fault n is ok says =
 polls_answered : Laws → (domain map : List ℕ) (stream : List ℕ)
     (good : BeginsWithReply reply_max stream
     (λ reply rest. IsOk (order_of 1 reply)
-    × BeginsWithReply reply_max rest (λ second behind. IsOk (master_of 2 second)))) (outcome : Outcome)
+    × BeginsWithReply reply_max rest (λ second behind. IsOk (master_of 2 second)))) (outcome : QueryOutcome)
     (old new : ClientState)
     → IsFirst old → old.wire.input ≡ Some stream → (order : Result ℕ ClientFault) (mid : ClientState)
     → Calls reply_max (order_call domain map) (SaysNumber order_of) order old mid
@@ -344,7 +346,7 @@ polls_answered laws domain map stream good outcome old new first told (Err fault
     (λ why says. absurd (number_good (λ (n : ℕ). n) (order_of 1 good.reply) why good.good.0
     (subst (λ (x : ℕ). Says (λ (n : ℕ). n) (order_of x good.reply) (Err why)) first.xid says))) tt tt)
 
-calls_answered : Laws → (question : ByteQuestion) (stream : List ℕ) (outcome : Outcome) (old new : ClientState)
+calls_answered : Laws → (question : ByteQuestion) (stream : List ℕ) (outcome : QueryOutcome) (old new : ClientState)
     → HasAnswer question stream → IsFirst old → old.wire.input ≡ Some stream → MakesCalls question outcome old new
     → IsGood outcome
 unfolding IsGood
@@ -353,7 +355,7 @@ calls_answered laws (Cat domain map) stream outcome old new good first told make
 calls_answered laws (Catk domain map) stream outcome old new good first told makes =
     rows_answered laws (rows_told true) (λ rows. tt) domain map stream good outcome old new first told makes
 calls_answered laws (Innetgr domain group host user user_domain) stream outcome old new good first told makes =
-    let asked : Asked = record { host = host; user = user; domain = user_domain } in
+    let asked : SoughtMember = record { host = host; user = user; domain = user_domain } in
     rows_answered laws (membership_told group asked) (λ rows. member_good (is_member rows group asked)) domain netgroup
     stream good outcome old new first told makes
 calls_answered laws (Match domain map key) stream outcome old new good first told makes =
@@ -385,7 +387,7 @@ last_same [] x y e = cc
 last_same (z ∷ xs) x y e = let rest : xs ++ x ∷ [] ≡ xs ++ y ∷ [] = cc in last_same xs x y rest
 
 input_is : (wire other : Connected) (last : WireState) (mid : Option Wires) (before after : Wires)
-    → Comes wire (Some before) mid → GoesBack last mid (Some after) → after.came ≡ before.came ++ other ∷ []
+    → WireComes wire (Some before) mid → GoesBack last mid (Some after) → after.came ≡ before.came ++ other ∷ []
     → wire.input ≡ other.input
 input_is wire other last None before after comes back came = absurd comes
 input_is wire other last (Some others) before after comes back came =
@@ -393,35 +395,35 @@ input_is wire other last (Some others) before after comes back came =
     let second : after.came ≡ others.came = ap (λ (w : Wires). w.came) back in
     ap (λ (w : Connected). w.input) (last_same before.came wire other (sym first ∙ sym second ∙ came))
 
-exchanged_good : Laws → (peer : Peer) (question : ByteQuestion) (stream : List ℕ) (outcome : Outcome)
-    (old new : Option Wires) → HasAnswer question stream → HasCome peer stream old new
+exchanged_good : Laws → (peer : Peer) (question : ByteQuestion) (stream : List ℕ) (outcome : QueryOutcome)
+    (old new : Dialing) → HasAnswer question stream → HasCome peer stream old.past new.past
     → Exchanges peer question outcome old new → IsGood outcome
 unfolding IsGood
 exchanged_good laws peer question stream outcome old new good came did =
     let wire = connected peer did.first.wire.input did.first.wire.output in
-    let comes : Comes wire (Some came.before) did.mid =
-    subst (λ (w : Option Wires). Comes wire w did.mid) came.was did.comes in
-    let back : GoesBack did.last.wire did.mid (Some came.after) =
-    subst (λ (w : Option Wires). GoesBack did.last.wire did.mid w) came.is did.goes_back in
-    let told = input_is wire (connected peer (Some stream) came.sent) did.last.wire did.mid came.before came.after comes
-    back came.came in
+    let comes : WireComes wire (Some came.before) did.dialed.middle =
+    subst (λ (w : Option Wires). WireComes wire w did.dialed.middle) came.was did.dialed.comes in
+    let back : GoesBack did.last.wire did.dialed.middle (Some came.after) =
+    subst (λ (w : Option Wires). GoesBack did.last.wire did.dialed.middle w) came.is did.dialed.goes_back in
+    let told = input_is wire (connected peer (Some stream) came.sent) did.last.wire did.dialed.middle came.before
+    came.after comes back came.came in
     elim did.converses [
-      | inl makes ↦ calls_answered laws question stream outcome did.first did.last good did.begins told makes
+      | inl makes ↦ calls_answered laws question stream outcome did.first did.last good did.dialed.begins told makes
       | inr none ↦ subst IsGood (sym none.0) tt
     ]
 
 -- ---- the whole
 
-module _ (laws : Laws) (peer : Peer) (question : ByteQuestion) (stream : List ℕ) (old new : Scene)
+module _ (laws : Laws) (peer : Peer) (question : ByteQuestion) (stream : List ℕ) (old new : QueryTells)
     (good : HasAnswer question stream) (came : HasCome peer stream old.dial.past new.dial.past)
     (dial : HasRisen old.dial.faults new.dial.faults → ⊥) (sink : HasRisen old.faults new.faults → ⊥) where
-  refused_never : (fault : QueryFault) (outcome : Outcome) → outcome ≡ Err fault
-      → Exchanges peer question outcome old.dial.past new.dial.past → IsGood (Err fault)
+  refused_never : (fault : QueryFault) (outcome : QueryOutcome) → outcome ≡ Err fault
+      → Exchanges peer question outcome old.dial new.dial → IsGood (Err fault)
   refused_never fault outcome is did =
-      subst IsGood is (exchanged_good laws peer question stream outcome old.dial.past new.dial.past good came did)
+      subst IsGood is (exchanged_good laws peer question stream outcome old.dial new.dial good came did)
 
   pub query_completes : (result : Result (Unit {0}) QueryFault) → Asks peer question result old new
-      → IfErr result (λ fault. HasQueryCause fault old new) → IsAnswered result
+      → IfErr result (λ fault. HasQueryCause fault old new) → QueryIsAnswered result
   unfolding IsGood
   query_completes (Ok done) asks cause = tt
   query_completes (Err NoKey) asks cause = tt

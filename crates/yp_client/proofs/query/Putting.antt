@@ -7,7 +7,7 @@ use Rattle.std.proofs.KnownBytes.{Appends-trans, Appends-nil}
 use Rattle.std.proofs.lemmas.List.{take_min, take-append-le, take_at}
 use Rattle.std.proofs.Math.Seq.{take-append-add}
 use Rattle.yp_io.specs.Streams.{AppendsFront}
-use Rattle.yp_query.specs.Printed.{Puts}
+use Rattle.yp_client.specs.inside.query.Printed.{Puts}
 
 -- nothing was put
 pub puts_none : (E : Type 0) (waits : List ℕ) (sink : Option (List ℕ)) → Puts {E = E} [] (Ok tt) waits waits sink sink

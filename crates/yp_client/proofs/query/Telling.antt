@@ -1,9 +1,9 @@
 -- The faults that may be told of a question.
 use Rattle.std.proofs.Common.{◌≡◌, ℕ, Bool, true, false, List, Option, Result, Ok, Err, refl, sym, ◌∙◌, subst, inl, inr}
 use Rattle.std.specs.Prelude.{IfErr}
-use Rattle.yp_io.specs.Dials.{Wires}
+use Rattle.yp_io.specs.Dials.{Dialing}
 use Rattle.yp_io.specs.declared.stream.Peer.{Peer}
-use Rattle.yp_msgs.specs.declared.stat.YpStat.TheVariants as stats
+use Rattle.yp_messages.specs.declared.stat.YpStat.TheVariants as stats
 use Rattle.yp_version.specs.declared.builder.VersionFault.TheVariants as version_faults
 use Rattle.yp_client.specs.declared.fault.ClientFault.{ClientFault}
 use Rattle.yp_client.specs.declared.fault.ClientFault.TheVariants as client_faults
@@ -14,20 +14,22 @@ use Rattle.yp_client.specs.Limits.{reply_max, all_max}
 use Rattle.yp_client.specs.All.{SaysAll}
 use Rattle.yp_client.specs.States.{ClientState}
 use Rattle.yp_client.specs.Calls.{Calls}
-use Rattle.yp_query.specs.declared.fault.QueryFault.{QueryFault}
-use Rattle.yp_query.specs.declared.fault.QueryFault.TheVariants.{NotMember, Dial, Output, NoMemory}
+use Rattle.yp_client.specs.declared.query.fault.QueryFault.{QueryFault}
+use Rattle.yp_client.specs.declared.query.fault.QueryFault.TheVariants.{NotMember, Dial, Output, NoMemory}
 use Rattle.yp_client.specs.declared.question.Question.TheVariants.{Cat, Catk, Match, Which, Poll, Maps, Innetgr}
 use Rattle.yp_client.specs.Questions.{ByteQuestion}
-use Rattle.yp_query.specs.Faults.{query_fault, match_fault, IsTellable}
+use Rattle.yp_client.specs.query.Faults.{query_fault, match_fault}
+use Rattle.yp_client.specs.inside.query.Faults.{FaultIsTellable}
 use Rattle.yp_version.specs.Rows.{Row, listed}
-use Rattle.yp_netgroup.specs.Reach.{Asked}
+use Rattle.yp_netgroup.specs.Reach.{SoughtMember}
 use Rattle.yp_netgroup.specs.Decided.{is_member}
-use Rattle.yp_query.specs.Asked.{Outcome, told_by, meant_by, IsInMemory, CallIsMade, no_rows, TakesRows, MakesMaster}
-use Rattle.yp_query.specs.Asked.{MakesCalls, Converses, rows_told, membership_outcome, membership_told, netgroup}
-use Rattle.yp_query.specs.declared.answer.Answer.{Answer}
-use Rattle.yp_query.specs.declared.answer.Answer.TheVariants as answers
-use Rattle.yp_query.specs.Answers.{answer_outcome}
-use Rattle.yp_query.specs.Scenes.{Scene, Exchanges, Dials, Prints, Asks}
+use Rattle.yp_client.specs.query.Asked.{QueryOutcome, told_by, meant_by, IsInMemory, CallIsMade, no_rows, TakesRows, MakesMaster}
+use Rattle.yp_client.specs.query.Asked.{MakesCalls, Converses, rows_told, membership_outcome, membership_told, netgroup}
+use Rattle.yp_client.specs.declared.query.answer.Answer.{Answer}
+use Rattle.yp_client.specs.declared.query.answer.Answer.TheVariants as answers
+use Rattle.yp_client.specs.inside.query.Answers.{answer_outcome}
+use Rattle.yp_client.specs.query.Scenes.{QueryTells, Exchanges, Prints, Asks}
+use Rattle.yp_client.specs.inside.query.Scenes.{Dials}
 
 -- ---- the fault of a call may be told
 
@@ -40,9 +42,9 @@ unspent limit call answers fault old new fresh calls is =
 -- what calls may come to: what may be told, and no fault of a sink
 abbrev IsCalled : QueryFault → Type 0
 IsCalled Output = ⊥
-IsCalled fault = IsTellable fault
+IsCalled fault = FaultIsTellable fault
 
-called_tells : (fault : QueryFault) → IsCalled fault → IsTellable fault
+called_tells : (fault : QueryFault) → IsCalled fault → FaultIsTellable fault
 called_tells Output h = absurd h
 called_tells NotMember h = tt
 called_tells NoMemory h = tt
@@ -64,11 +66,11 @@ match_refused fault fresh = tt
 
 -- ---- what calls come to may be told
 
-abbrev MayTell : Outcome → Type 0
+abbrev MayTell : QueryOutcome → Type 0
 MayTell outcome = IfErr outcome IsCalled
 
-meant_tells : {X : Type 0} (refused : ClientFault → QueryFault) (means : X → Outcome) (answer : Result X ClientFault)
-    (outcome : Outcome) → ((x : X) → MayTell (means x))
+meant_tells : {X : Type 0} (refused : ClientFault → QueryFault) (means : X → QueryOutcome) (answer : Result X ClientFault)
+    (outcome : QueryOutcome) → ((x : X) → MayTell (means x))
     → ((fault : ClientFault) → answer ≡ Err fault → IsCalled (refused fault))
     → IsInMemory (told_by refused means answer) outcome → MayTell outcome
 meant_tells refused means answer (Ok t) m k h = tt
@@ -77,7 +79,7 @@ meant_tells refused means (Ok x) (Err fault) m k h = subst MayTell (sym h) (m x)
 meant_tells refused means (Err f) (Err fault) m k h = subst MayTell (sym h) (k f refl)
 
 call_tells : {X : Type 0} (limit : ℕ) (call : ℕ → List ℕ) (answers : ℕ → List ℕ → Result X ClientFault → Type 0)
-    (refused : ClientFault → QueryFault) (means : X → Outcome) (outcome : Outcome) (old new : ClientState)
+    (refused : ClientFault → QueryFault) (means : X → QueryOutcome) (outcome : QueryOutcome) (old new : ClientState)
     → old.spent ≡ false → ((x : X) → MayTell (means x))
     → ((fault : ClientFault) → (fault ≡ client_faults.Spent → ⊥) → IsCalled (refused fault))
     → CallIsMade limit call answers (told_by refused means) outcome old new → MayTell outcome
@@ -87,14 +89,14 @@ call_tells {X} limit call answers refused means outcome old new fresh m k h =
     (λ fault is. k fault (unspent limit call answers fault old new fresh (subst P is h.calls))) h.meant
 
 makes_tells : {X : Type 0} (limit : ℕ) (call : ℕ → List ℕ) (answers : ℕ → List ℕ → Result X ClientFault → Type 0)
-    (means : ClientFault → QueryFault) (text : X → List ℕ) (outcome : Outcome) (old new : ClientState)
+    (means : ClientFault → QueryFault) (text : X → List ℕ) (outcome : QueryOutcome) (old new : ClientState)
     → old.spent ≡ false
     → ((fault : ClientFault) → (fault ≡ client_faults.Spent → ⊥) → IsCalled (means fault))
     → CallIsMade limit call answers (meant_by means text) outcome old new → MayTell outcome
 makes_tells limit call answers means text outcome old new fresh k h =
     call_tells limit call answers means (λ x. Ok (text x)) outcome old new fresh (λ x. tt) k h
 
-rows_tell : (means : List Row → Outcome) (domain map : List ℕ) (outcome : Outcome) (old new : ClientState)
+rows_tell : (means : List Row → QueryOutcome) (domain map : List ℕ) (outcome : QueryOutcome) (old new : ClientState)
     → old.spent ≡ false → ((rows : List Row) → MayTell (means rows))
     → TakesRows means domain map outcome old new → MayTell outcome
 rows_tell means domain map outcome old new fresh m h =
@@ -106,7 +108,7 @@ outcome_tells : (member : Bool) → MayTell (membership_outcome member)
 outcome_tells true = tt
 outcome_tells false = tt
 
-master_tells : (domain map : List ℕ) (order : Result ℕ ClientFault) (outcome : Outcome) (old mid new : ClientState)
+master_tells : (domain map : List ℕ) (order : Result ℕ ClientFault) (outcome : QueryOutcome) (old mid new : ClientState)
     → old.spent ≡ false → Calls reply_max (order_call domain map) (SaysNumber order_of) order old mid
     → MakesMaster domain map order outcome mid new → MayTell outcome
 master_tells domain map (Ok order) outcome old mid new fresh calls h =
@@ -116,14 +118,14 @@ master_tells domain map (Err fault) outcome old mid new fresh calls h =
     let spent = unspent reply_max (order_call domain map) (SaysNumber order_of) fault old mid fresh calls in
     subst MayTell (sym h.0) (refused fault spent)
 
-calls_tell : (question : ByteQuestion) (outcome : Outcome) (old new : ClientState) → old.spent ≡ false
+calls_tell : (question : ByteQuestion) (outcome : QueryOutcome) (old new : ClientState) → old.spent ≡ false
     → MakesCalls question outcome old new → MayTell outcome
 calls_tell (Cat domain map) outcome old new fresh h =
     rows_tell (rows_told false) domain map outcome old new fresh (λ rows. tt) h
 calls_tell (Catk domain map) outcome old new fresh h =
     rows_tell (rows_told true) domain map outcome old new fresh (λ rows. tt) h
 calls_tell (Innetgr domain group host user user_domain) outcome old new fresh h =
-    let asked : Asked = record { host = host; user = user; domain = user_domain } in
+    let asked : SoughtMember = record { host = host; user = user; domain = user_domain } in
     rows_tell (membership_told group asked) domain netgroup outcome old new fresh
     (λ rows. outcome_tells (is_member rows group asked)) h
 calls_tell (Match domain map key) outcome old new fresh h =
@@ -136,26 +138,26 @@ calls_tell (Poll domain map) outcome old new fresh h =
 calls_tell (Maps domain) outcome old new fresh h =
     makes_tells reply_max (maplist_call domain) (SaysNames maps_of) query_fault _ outcome old new fresh refused h
 
-converses_tell : (question : ByteQuestion) (outcome : Outcome) (old new : ClientState) → old.spent ≡ false
+converses_tell : (question : ByteQuestion) (outcome : QueryOutcome) (old new : ClientState) → old.spent ≡ false
     → Converses question outcome old new → MayTell outcome
 converses_tell question outcome old new fresh (inl h) = calls_tell question outcome old new fresh h
 converses_tell question outcome old new fresh (inr h) = subst MayTell (sym h.0) tt
 
-exchanges_tell : (peer : Peer) (question : ByteQuestion) (outcome : Outcome) (old new : Option Wires)
+exchanges_tell : (peer : Peer) (question : ByteQuestion) (outcome : QueryOutcome) (old new : Dialing)
     → Exchanges peer question outcome old new → MayTell outcome
 exchanges_tell peer question outcome old new h =
-    converses_tell question outcome h.first h.last h.begins.spent h.converses
+    converses_tell question outcome h.first h.last h.dialed.begins.spent h.converses
 
 -- ---- and what a question comes to
 
-pub dials_tells : (peer : Peer) (question : ByteQuestion) (fault : QueryFault) (old new : Option Wires)
-    → Dials peer question (Err fault) old new → IsTellable fault
+pub dials_tells : (peer : Peer) (question : ByteQuestion) (fault : QueryFault) (old new : Dialing)
+    → Dials peer question (Err fault) old new → FaultIsTellable fault
 dials_tells peer question Dial old new h = tt
 dials_tells peer question fault old new h = called_tells fault (exchanges_tell peer question (Err fault) old new h)
 
 -- ---- an answer that is printed
 
-exchanged : (peer : Peer) (question : ByteQuestion) (answer : Answer) (old new : Option Wires)
+exchanged : (peer : Peer) (question : ByteQuestion) (answer : Answer) (old new : Dialing)
     → Dials peer question (answer_outcome answer) old new → Exchanges peer question (answer_outcome answer) old new
 exchanged peer question (answers.Membership true) old new h = h
 exchanged peer question (answers.Membership false) old new h = h
@@ -168,29 +170,29 @@ came answer e = cc
 
 -- A wire came and went back, and what its calls came to was printed.
 pub answer_asks : (peer : Peer) (question : ByteQuestion) (answer : Answer) (result : Result (Unit {0}) QueryFault)
-    (old new : Scene) → Dials peer question (answer_outcome answer) old.dial.past new.dial.past
+    (old new : QueryTells) → Dials peer question (answer_outcome answer) old.dial new.dial
     → Prints (answer_outcome answer) result old.output new.output → Asks peer question result old new
 answer_asks peer question answer (Err Dial) old new dials prints = absurd (came answer prints.0)
 answer_asks peer question answer (Ok done) old new dials prints =
-    (answer_outcome answer, exchanged peer question answer old.dial.past new.dial.past dials, prints)
+    (answer_outcome answer, exchanged peer question answer old.dial new.dial dials, prints)
 answer_asks peer question answer (Err fault) old new dials prints =
-    (answer_outcome answer, exchanged peer question answer old.dial.past new.dial.past dials, prints)
+    (answer_outcome answer, exchanged peer question answer old.dial new.dial dials, prints)
 
 -- what an answer comes to may be told
 answer_tells : (answer : Answer) → MayTell (answer_outcome answer)
 answer_tells (answers.Membership member) = outcome_tells member
 answer_tells answer = tt
 
-tells : (outcome : Outcome) → MayTell outcome → IfErr outcome IsTellable
+tells : (outcome : QueryOutcome) → MayTell outcome → IfErr outcome FaultIsTellable
 tells (Ok text) h = tt
 tells (Err fault) h = called_tells fault h
 
 pub prints_tells : (answer : Answer) (result : Result (Unit {0}) QueryFault) (before after : Option (List ℕ))
-    → Prints (answer_outcome answer) result before after → IfErr result IsTellable
+    → Prints (answer_outcome answer) result before after → IfErr result FaultIsTellable
 prints_tells answer (Ok done) before after h = tt
 prints_tells answer (Err Output) before after h = tt
 prints_tells answer (Err NotMember) before after h = tt
 prints_tells answer (Err NoMemory) before after h = tt
 prints_tells answer (Err fault) before after h =
-    let P : Outcome → Type 0 = λ outcome. IfErr outcome IsTellable in
+    let P : QueryOutcome → Type 0 = λ outcome. IfErr outcome FaultIsTellable in
     subst P h.0 (tells (answer_outcome answer) (answer_tells answer))

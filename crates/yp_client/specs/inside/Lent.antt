@@ -4,9 +4,9 @@ use Rattle.std.specs.Io.BufRead.{Rests}
 use Rattle.yp_io.specs.declared.stream.Source as source
 use Rattle.yp_io.specs.declared.stream.Sink as sink
 use Rattle.yp_client.specs.contracts.client.Client.{the_row}
-use Rattle.yp_client.specs.States.{Held}
+use Rattle.yp_client.specs.States.{ClientModel}
 
 -- P holds of it then
 abbrev pub ClientRests : (S K : RattleType) (ins : source.Ghosts S.Denot) (outs : sink.Ghosts K.Denot)
-    → MutBor (Held S.Denot K.Denot) → (Held S.Denot K.Denot → Type 0) → Fml
+    → MutBor (ClientModel S.Denot K.Denot) → (ClientModel S.Denot K.Denot → Type 0) → Fml
 ClientRests S K ins outs client P = Rests (the_row S K ins outs) client P

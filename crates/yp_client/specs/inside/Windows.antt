@@ -1,9 +1,11 @@
 -- A reply that is read piece by piece: what its record has given, and what of it stands in the buffer.
 use Rattle.std.specs.Prelude.{◌≡◌, ℕ, ◌+◌, ◌≤◌, ◌⊎◌, Bool, true, false, List, [], ◌++◌, length, slice_range, Option}
-use Rattle.std.specs.Prelude.{Some, Result, Ok, Err, ⊤}
-use Rattle.yp_xdr.specs.Reading.{Unread}
+use Rattle.std.specs.Prelude.{Some, Result, Ok, Err, IfErr, ⊤}
+use Rattle.yp_xdr.specs.Reading.{Remaining}
+use Rattle.yp_rpc.specs.declared.record.RecordFault.{RecordFault}
 use Rattle.yp_rpc.specs.Records.{TakesRecord}
-use Rattle.yp_rpc.specs.Pieces.{Reader, not_begun, HasGiven}
+use Rattle.yp_rpc.specs.Pieces.{ReaderState, not_begun}
+use Rattle.yp_rpc.specs.inside.Pieces.{HasGiven, HasNoPiece}
 use Rattle.yp_version.specs.declared.builder.VersionFault.{VersionFault}
 use Rattle.yp_version.specs.Drafts.{Draft}
 use Rattle.yp_client.specs.declared.fault.ClientFault.{ClientFault}
@@ -27,41 +29,40 @@ abbrev pub waiting : AllReply → List ℕ → List ℕ
 waiting reply buf = slice_range buf reply.start reply.end
 
 -- what is left to read, where so much more of the record comes
-abbrev pub ahead : AllReply → List ℕ → List ℕ → Unread
+abbrev pub ahead : AllReply → List ℕ → List ℕ → Remaining
 ahead reply buf more = record { at = reply.at; bytes = waiting reply buf ++ more }
 
 -- how far a record was read: what its source has left, the reader, and whether the end was met
-pub record Progress : Type 0 where
+pub record RecordProgress : Type 0 where
   pub input : Option (List ℕ)
-  pub reader : Reader
+  pub reader : ReaderState
   pub whole : Bool
 
-abbrev pub progress : Option (List ℕ) → Reader → Bool → Progress
+abbrev pub progress : Option (List ℕ) → ReaderState → Bool → RecordProgress
 progress input reader whole = record { input = input; reader = reader; whole = whole }
 
--- These bytes were given of the record that begins at a place, where the source stood at the start. Where its end was
--- met, they are the
--- record.
-abbrev pub HasRead : List ℕ → Option (List ℕ) → ℕ → Option (List ℕ) → Reader → Bool → Type 0
+-- These bytes of a record were read. The record begins at a place of the source. Once its end was met, they are all of
+-- it.
+abbrev pub HasRead : List ℕ → Option (List ℕ) → ℕ → Option (List ℕ) → ReaderState → Bool → Type 0
 HasRead front start place input reader false = HasGiven all_max front start input reader.part × (reader.place ≡ place)
 HasRead front start place input reader true =
     TakesRecord all_max front start input place reader.place × (reader.part ≡ not_begun)
 
-abbrev pub HasReached : List ℕ → Option (List ℕ) → ℕ → Progress → Type 0
-HasReached front start place now = HasRead front start place now.input now.reader now.whole
+abbrev pub HasReadUpTo : List ℕ → Option (List ℕ) → ℕ → RecordProgress → Type 0
+HasReadUpTo front start place now = HasRead front start place now.input now.reader now.whole
 
 -- Of whatever record it is, so much more was given.
-abbrev pub GivesMore : List ℕ → Progress → Progress → Type 0
+abbrev pub GivesMore : List ℕ → RecordProgress → RecordProgress → Type 0
 GivesMore more old new =
-    (front : List ℕ) (start : Option (List ℕ)) (place : ℕ) → HasReached front start place old
-    → HasReached (front ++ more) start place new
+    (front : List ℕ) (start : Option (List ℕ)) (place : ℕ) → HasReadUpTo front start place old
+    → HasReadUpTo (front ++ more) start place new
 
 -- Some record is being read, of which so many bytes were given.
-pub record IsUnderway (count : ℕ) (now : Progress) : Type 0 where
+pub record IsUnderway (count : ℕ) (now : RecordProgress) : Type 0 where
   pub front : List ℕ
   pub start : Option (List ℕ)
   pub place : ℕ
-  pub reached : HasReached front start place now
+  pub reached : HasReadUpTo front start place now
   pub counted : length front ≡ count
 
 -- Behind the end of a record nothing more comes.
@@ -72,31 +73,43 @@ MayCome more whole = whole ≡ true → more ≡ []
 abbrev pub StaysWhole : List ℕ → Bool → Bool → Type 0
 StaysWhole more old new = old ≡ true → (more ≡ []) × (new ≡ true)
 
+-- More of the record was taken, and stands in the buffer behind what stood there.
+abbrev pub TakesMore : AllReply → AllReply → List ℕ → List ℕ → RecordProgress → RecordProgress → Type 0
+TakesMore old new buf buf' was now =
+    (more : List ℕ) × StaysWhole more was.whole now.whole × GivesMore more was now
+    × (waiting new buf' ≡ waiting old buf ++ more)
+
+-- Why no more of the record came, whichever it is: what its source had left, and how its count of faults rose.
+abbrev pub IsCutOff : {X : Type 0} → Result X RecordFault → RecordProgress → Option (List ℕ) → ℕ → ℕ → Type 0
+IsCutOff result was input before after =
+    (front : List ℕ) (start : Option (List ℕ)) (place : ℕ) → HasReadUpTo front start place was
+    → IfErr result (HasNoPiece all_max place start input before after)
+
 -- An item stands whole in the buffer, or the record ends in it.
 abbrev pub HasItem : AllReply → List ℕ → Type 0
 HasItem reply buf = (item_max ≤ length (waiting reply buf)) ⊎ (reply.whole ≡ true)
 
 -- The results begin at what is left, or the fault is that of the head.
-abbrev pub Heads : {X : Type 0} → ℕ → List ℕ → Result X ClientFault → Unread → Type 0
+abbrev pub Heads : {X : Type 0} → ℕ → List ℕ → Result X ClientFault → Remaining → Type 0
 Heads xid message (Ok done) left = results_of xid message ≡ Ok left
 Heads xid message (Err fault) left = results_of xid message ≡ Err fault
 
 -- Why the row with this number was refused: by its cause, or for want of memory.
-abbrev pub IsRefusal : ℕ → Option VersionFault → ClientFault → Type 0
-IsRefusal row cause (Rows number fault) = (number ≡ row) × (cause ≡ Some fault)
-IsRefusal row cause NoMemory = ⊤
-IsRefusal row cause fault = ⊥
+abbrev pub IsRowRefusal : ℕ → Option VersionFault → ClientFault → Type 0
+IsRowRefusal row cause (Rows number fault) = (number ≡ row) × (cause ≡ Some fault)
+IsRowRefusal row cause NoMemory = ⊤
+IsRowRefusal row cause fault = ⊥
 
 -- One item was read, and a row was pushed: what was said from there on is said from here on. Or it is the end of the
 -- rows, or a refusal.
-abbrev pub Advances : Draft → Draft → ℕ → ℕ → Result Bool ClientFault → ℕ → Unread → Unread → Type 0
+abbrev pub Advances : Draft → Draft → ℕ → ℕ → Result Bool ClientFault → ℕ → Remaining → Remaining → Type 0
 Advances before after rows rows' (Ok true) n old new = filled (n + 1) before rows old ≡ filled n after rows' new
 Advances before after rows rows' (Ok false) n old new = IsSaid (filled (n + 1) before rows old) after rows' (Ok tt)
 Advances before after rows rows' (Err fault) n old new = IsSaid (filled (n + 1) before rows old) after rows' (Err fault)
 
 -- More of the record was read, and all rows that it says were pushed, up to the end or the first refusal, whatever
 -- comes behind.
-pub record Pushes (before after : Draft) (old new : AllReply) (buf : List ℕ) (was now : Progress)
+pub record PushesRows (before after : Draft) (old new : AllReply) (buf : List ℕ) (was now : RecordProgress)
     (end : Result (Unit {0}) ClientFault) : Type 0 where
   pub more : List ℕ
   pub stays : StaysWhole more was.whole now.whole
@@ -106,7 +119,7 @@ pub record Pushes (before after : Draft) (old new : AllReply) (buf : List ℕ) (
 
 -- A reply was read from its start, as far as its rows go, and says this, whatever comes behind.
 pub record SaysSoFar (before after : Draft) (rows xid : ℕ) (end : Result (Unit {0}) ClientFault)
-    (start : Option (List ℕ)) (place : ℕ) (now : Progress) : Type 0 where
+    (start : Option (List ℕ)) (place : ℕ) (now : RecordProgress) : Type 0 where
   pub front : List ℕ
-  pub reached : HasReached front start place now
+  pub reached : HasReadUpTo front start place now
   pub said : (rest : List ℕ) → MayCome rest now.whole → IsSaid (all_said before xid (front ++ rest)) after rows end

@@ -1,7 +1,5 @@
-pub mod Lines
 pub mod Printed
 pub mod Faults
 pub mod Answers
-pub mod Asked
 pub mod Scenes
 pub mod Complete

@@ -10,38 +10,39 @@ use Rattle.yp_client.specs.All.{SaysAll}
 use Rattle.yp_client.specs.Asked.{all_call, match_call, master_call, order_call, maplist_call}
 use Rattle.yp_client.specs.States.{ClientState}
 use Rattle.yp_client.specs.Calls.{Calls}
-use Rattle.yp_query.specs.declared.fault.QueryFault.{QueryFault}
-use Rattle.yp_query.specs.declared.fault.QueryFault.TheVariants.{NoMemory, NotMember}
+use Rattle.yp_client.specs.declared.query.fault.QueryFault.{QueryFault}
+use Rattle.yp_client.specs.declared.query.fault.QueryFault.TheVariants.{NoMemory, NotMember}
 use Rattle.yp_client.specs.declared.question.Question.TheVariants.{Cat, Catk, Match, Which, Poll, Maps, Innetgr}
 use Rattle.yp_client.specs.Questions.{ByteQuestion}
-use Rattle.yp_netgroup.specs.Reach.{Asked}
+use Rattle.yp_netgroup.specs.Reach.{SoughtMember}
 use Rattle.yp_netgroup.specs.Decided.{is_member}
-use Rattle.yp_query.specs.Lines.{line, lines, rows_text, standing_text, membership_text}
-use Rattle.yp_query.specs.Faults.{query_fault, match_fault}
+use Rattle.yp_client.specs.query.Lines.{line, lines, rows_text, standing_text, membership_text}
+use Rattle.yp_client.specs.query.Faults.{query_fault, match_fault}
 
 -- the text of an answer, or why there is none
-abbrev pub Outcome : Type 0
-Outcome = Result (List ℕ) QueryFault
+abbrev pub QueryOutcome : Type 0
+QueryOutcome = Result (List ℕ) QueryFault
 
 -- what is told of what a call answers: what is meant by its value, or the fault
-abbrev pub told_by : {X : Type 0} → (ClientFault → QueryFault) → (X → Outcome) → Result X ClientFault → Outcome
+abbrev pub told_by : {X : Type 0} → (ClientFault → QueryFault) → (X → QueryOutcome) → Result X ClientFault
+    → QueryOutcome
 told_by refused means (Ok value) = means value
 told_by refused means (Err fault) = Err (refused fault)
 
--- the same, where the text of the value is meant
-abbrev pub meant_by : {X : Type 0} → (ClientFault → QueryFault) → (X → List ℕ) → Result X ClientFault → Outcome
+-- the outcome of an answer whose value always has a text
+abbrev pub meant_by : {X : Type 0} → (ClientFault → QueryFault) → (X → List ℕ) → Result X ClientFault → QueryOutcome
 meant_by refused text answer = told_by refused (λ value. Ok (text value)) answer
 
--- It is what is meant, unless memory ran out.
-abbrev pub IsInMemory : Outcome → Outcome → Type 0
+-- The outcome is the expected one, or memory ran out.
+abbrev pub IsInMemory : QueryOutcome → QueryOutcome → Type 0
 IsInMemory meant (Err NoMemory) = ⊤
 IsInMemory meant outcome = outcome ≡ meant
 
 -- One call was made, whose reply has at most so many bytes, and came to this. The bytes of the wire fix what was
 -- answered, unless the wire failed or memory ran out.
 pub record CallIsMade {X : Type 0} (limit : ℕ) (call : ℕ → List ℕ)
-    (answers : ℕ → List ℕ → Result X ClientFault → Type 0) (means : Result X ClientFault → Outcome)
-    (outcome : Outcome) (old new : ClientState) : Type 0 where
+    (answers : ℕ → List ℕ → Result X ClientFault → Type 0) (means : Result X ClientFault → QueryOutcome)
+    (outcome : QueryOutcome) (old new : ClientState) : Type 0 where
   pub answer : Result X ClientFault
   pub calls : Calls limit call answers answer old new
   pub meant : IsInMemory (means answer) outcome
@@ -51,7 +52,7 @@ abbrev pub no_rows : Draft
 no_rows = empty_draft 0 []
 
 -- what is meant by rows: their text, with keys or without
-abbrev pub rows_told : Bool → List Row → Outcome
+abbrev pub rows_told : Bool → List Row → QueryOutcome
 rows_told keyed rows = Ok (rows_text keyed rows)
 
 -- the map of the groups (netgroup(5))
@@ -59,23 +60,24 @@ abbrev pub netgroup : List ℕ
 netgroup = codes "netgroup"
 
 -- yes, or no, which is told apart and printed, too
-abbrev pub membership_outcome : Bool → Outcome
+abbrev pub membership_outcome : Bool → QueryOutcome
 membership_outcome is_member = if is_member then Ok (membership_text true) else Err NotMember
 
--- whether a group that is reached from this one lists a triple that fits
-abbrev pub membership_told : List ℕ → Asked → List Row → Outcome
+-- whether a group that is reached from this one lists a triple that fits (innetgr(3))
+abbrev pub membership_told : List ℕ → SoughtMember → List Row → QueryOutcome
 membership_told group asked rows = membership_outcome (is_member rows group asked)
 
 -- ALL was made for the rows of a version, and came to what is meant by them, or to the number of a row that none takes.
 -- The reply fixes the rows.
-pub record TakesRows (means : List Row → Outcome) (domain map : List ℕ) (outcome : Outcome) (old new : ClientState)
+pub record TakesRows (means : List Row → QueryOutcome) (domain map : List ℕ) (outcome : QueryOutcome)
+    (old new : ClientState)
     : Type 0 where
   pub draft : Draft
   pub makes : CallIsMade all_max (all_call domain map) (SaysAll no_rows draft)
       (told_by query_fault (λ _. means (listed draft.rows))) outcome old new
 
 -- MASTER follows an order number, and nothing a fault.
-abbrev pub MakesMaster : List ℕ → List ℕ → Result ℕ ClientFault → Outcome → ClientState → ClientState → Type 0
+abbrev pub MakesMaster : List ℕ → List ℕ → Result ℕ ClientFault → QueryOutcome → ClientState → ClientState → Type 0
 MakesMaster domain map (Ok order) outcome old new =
     CallIsMade reply_max (master_call domain map) (SaysBytes master_of)
     (meant_by query_fault (λ master. standing_text order master.now)) outcome old new
@@ -83,14 +85,14 @@ MakesMaster domain map (Err fault) outcome old new = (outcome ≡ Err (query_fau
 
 -- ORDER was made, and then MASTER. The first call fixes the order, and the client between but for its counts of
 -- faults.
-pub record Polls (domain map : List ℕ) (outcome : Outcome) (old new : ClientState) : Type 0 where
+pub record Polls (domain map : List ℕ) (outcome : QueryOutcome) (old new : ClientState) : Type 0 where
   pub order : Result ℕ ClientFault
   pub mid : ClientState
   pub calls : Calls reply_max (order_call domain map) (SaysNumber order_of) order old mid
   pub follows : MakesMaster domain map order outcome mid new
 
 -- the calls of a question were made, and came to this
-abbrev pub MakesCalls : ByteQuestion → Outcome → ClientState → ClientState → Type 0
+abbrev pub MakesCalls : ByteQuestion → QueryOutcome → ClientState → ClientState → Type 0
 MakesCalls (Cat domain map) outcome old new = TakesRows (rows_told false) domain map outcome old new
 MakesCalls (Catk domain map) outcome old new = TakesRows (rows_told true) domain map outcome old new
 MakesCalls (Match domain map key) outcome old new =
@@ -107,10 +109,11 @@ MakesCalls (Innetgr domain group host user user_domain) outcome old new =
     TakesRows (membership_told group (record { host = host; user = user; domain = user_domain })) domain netgroup
     outcome old new
 
--- These calls were made, or none for want of memory.
-abbrev pub IsUnlessMemory : (Outcome → ClientState → ClientState → Type 0) → Outcome → ClientState → ClientState
+-- These calls were made; or memory ran out, and none was made.
+abbrev pub IsUnlessMemory : (QueryOutcome → ClientState → ClientState → Type 0) → QueryOutcome → ClientState
+    → ClientState
     → Type 0
 IsUnlessMemory calls outcome old new = calls outcome old new ⊎ ((outcome ≡ Err NoMemory) × (new ≡ old))
 
-abbrev pub Converses : ByteQuestion → Outcome → ClientState → ClientState → Type 0
+abbrev pub Converses : ByteQuestion → QueryOutcome → ClientState → ClientState → Type 0
 Converses question outcome old new = IsUnlessMemory (MakesCalls question) outcome old new

@@ -1,11 +1,10 @@
 -- What the fault of a call is to who asks a question.
-use Rattle.std.specs.Prelude.{⊤}
-use Rattle.yp_msgs.specs.declared.stat.YpStat.TheVariants as stats
+use Rattle.yp_messages.specs.declared.stat.YpStat.TheVariants as stats
 use Rattle.yp_version.specs.declared.builder.VersionFault.TheVariants as version_faults
 use Rattle.yp_client.specs.declared.fault.ClientFault.{ClientFault}
 use Rattle.yp_client.specs.declared.fault.ClientFault.TheVariants as client_faults
-use Rattle.yp_query.specs.declared.fault.QueryFault.{QueryFault}
-use Rattle.yp_query.specs.declared.fault.QueryFault.TheVariants.{NoKey, Client, NoMemory}
+use Rattle.yp_client.specs.declared.query.fault.QueryFault.{QueryFault}
+use Rattle.yp_client.specs.declared.query.fault.QueryFault.TheVariants.{NoKey, Client, NoMemory}
 
 -- want of memory has a word of its own
 abbrev pub query_fault : ClientFault → QueryFault
@@ -17,10 +16,3 @@ query_fault fault = Client fault
 abbrev pub match_fault : ClientFault → QueryFault
 match_fault (client_faults.Yp stats.Nokey) = NoKey
 match_fault fault = query_fault fault
-
--- What may be told: no client was spent before, and want of memory has a word of its own.
-abbrev pub IsTellable : QueryFault → Type 0
-IsTellable (Client client_faults.Spent) = ⊥
-IsTellable (Client client_faults.NoMemory) = ⊥
-IsTellable (Client (client_faults.Rows row version_faults.NoMemory)) = ⊥
-IsTellable fault = ⊤

@@ -2,26 +2,27 @@
 
 ghost use Rattle.std.specs.Prelude.{◌≡◌, ◌≤◌, List, length, option_map, IfOk};
 ghost use Rattle.yp_version.specs.Rows.{Row};
-ghost use Rattle.yp_netgroup.specs.Who.{lent, asked_of};
-ghost use Rattle.yp_msgs.specs.Numbers.{name_max, key_max};
+ghost use Rattle.yp_netgroup.specs.inside.Who.{lent, asked_of};
+ghost use Rattle.yp_messages.specs.Numbers.{name_max, key_max};
 ghost use Rattle.yp_client.specs.Results.{value_of, master_of, maps_of};
 ghost use Rattle.yp_client.specs.Said.{SaysBytes, SaysNames};
 ghost use Rattle.yp_client.specs.Asked.{match_call, master_call, maplist_call};
-ghost use Rattle.yp_client.specs.States.{state_of};
-ghost use Rattle.yp_query.specs.Lines.{line, lines};
-ghost use Rattle.yp_client.specs.Questions.{bytes_of, QuestionIsWithin};
-ghost use Rattle.yp_query.specs.Faults.{query_fault, match_fault};
-ghost use Rattle.yp_query.specs.Asked.{Outcome, meant_by, CallIsMade, TakesRows, Polls, IsUnlessMemory, Converses};
-ghost use Rattle.yp_query.specs.Asked.{rows_told, membership_told, netgroup};
+ghost use Rattle.yp_client.specs.inside.States.{state_of};
+ghost use Rattle.yp_client.specs.query.Lines.{line, lines};
+ghost use Rattle.yp_client.specs.Questions.{bytes_of};
+ghost use Rattle.yp_client.specs.inside.Questions.{QuestionIsWithin};
+ghost use Rattle.yp_client.specs.query.Faults.{query_fault, match_fault};
+ghost use Rattle.yp_client.specs.query.Asked.{QueryOutcome, meant_by, CallIsMade, TakesRows, Polls, IsUnlessMemory};
+ghost use Rattle.yp_client.specs.query.Asked.{Converses, rows_told, membership_told, netgroup};
 ghost use Rattle.yp_client.specs.Limits.{reply_max};
-ghost use Rattle.yp_query.specs.Answers.{outcome_of, version_outcome};
+ghost use Rattle.yp_client.specs.inside.query.Answers.{outcome_of, version_outcome};
 
-use crate::fault::{QueryFault, of_match};
+use crate::query::fault::{QueryFault, of_match};
+use crate::{Client, Question};
 use std::alloc::Global;
 use std::random::RandomSource;
-use yp_client::{Client, Question};
 use yp_io::{NoMemory, Sink, Source};
-use yp_msgs::Names;
+use yp_messages::Names;
 use yp_netgroup::laws::membership_is_decided;
 use yp_netgroup::{Who, innetgr};
 use yp_version::{Version, VersionBuilder};
@@ -106,7 +107,7 @@ fn take_rows<S: Source, K: Sink>(
 ) -> Result<Version, QueryFault>
     requires domain { length domain.now ≤ name_max }
     requires map { length map.now ≤ name_max }
-    ensures { (means : List Row → Outcome) → IsUnlessMemory (TakesRows means domain.now map.now)
+    ensures { (means : List Row → QueryOutcome) → IsUnlessMemory (TakesRows means domain.now map.now)
         (version_outcome means result) (state_of S.Source K.Sink client.old) (state_of S.Source K.Sink client.new) }
 {
     let mut builder = match VersionBuilder::new(alloc, rt, 0, b"") {

@@ -1,11 +1,11 @@
 //! Why a question has no answer.
 
 ghost use Rattle.std.specs.Prelude.{◌≡◌};
-ghost use Rattle.yp_query.specs.Faults.{match_fault};
+ghost use Rattle.yp_client.specs.query.Faults.{match_fault};
 
-use yp_client::ClientFault;
+use crate::ClientFault;
 use yp_io::NoMemory;
-use yp_msgs::YpStat;
+use yp_messages::YpStat;
 use yp_version::VersionFault;
 
 /// Why a question has no answer, or that the answer is no. Nothing was printed, but after `NotMember` and `Output`.
@@ -27,7 +27,7 @@ pub enum QueryFault {
 
 impl From<ClientFault> for QueryFault {
     ghost use Rattle.std.specs.Prelude.{◌≡◌};
-    ghost use Rattle.yp_query.specs.Faults.{query_fault};
+    ghost use Rattle.yp_client.specs.query.Faults.{query_fault};
 
     ghost from_gives = { λ fault given. given ≡ query_fault fault };
 
@@ -45,7 +45,7 @@ impl From<ClientFault> for QueryFault {
 
 impl From<NoMemory> for QueryFault {
     ghost use Rattle.std.specs.Prelude.{◌≡◌};
-    ghost use Rattle.yp_query.specs.declared.fault.QueryFault.TheVariants as faults;
+    ghost use Rattle.yp_client.specs.declared.query.fault.QueryFault.TheVariants as faults;
 
     ghost from_gives = { λ _ given. given ≡ faults.NoMemory };
 

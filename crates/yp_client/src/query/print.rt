@@ -2,17 +2,17 @@
 
 ghost use Rattle.std.specs.Prelude.{◌≡◌, ◌≢◌, ◌≤◌, IsTrue, Ok, Err, OnOk, IfErr};
 ghost use Rattle.yp_io.specs.Counts.{CountsFaults, HasRisen};
-ghost use Rattle.yp_query.specs.Lines.{lines, row_line, rows_text, standing_text, membership_text};
-ghost use Rattle.yp_query.specs.Printed.{Puts};
-ghost use Rattle.yp_query.specs.Answers.{answer_text, answer_outcome, said};
-ghost use Rattle.yp_query.specs.Scenes.{Prints};
+ghost use Rattle.yp_client.specs.query.Lines.{lines, row_line, rows_text, standing_text, membership_text};
+ghost use Rattle.yp_client.specs.inside.query.Printed.{Puts};
+ghost use Rattle.yp_client.specs.inside.query.Answers.{answer_text, answer_outcome, said};
+ghost use Rattle.yp_client.specs.query.Scenes.{Prints};
 
-use crate::answer::Answer;
-use crate::fault::QueryFault;
-use crate::text::TextBuffer;
+use crate::query::answer::Answer;
+use crate::query::fault::QueryFault;
+use crate::query::text::TextBuffer;
 use std::alloc::Global;
 use yp_io::{Failed, Sink};
-use yp_msgs::Names;
+use yp_messages::Names;
 use yp_version::Version;
 
 /// Prints an answer, and flushes.

@@ -3,9 +3,9 @@
 ghost use Rattle.std.specs.Prelude.{◌≡◌, ◌+◌, ◌≤◌, [], ◌∷◌, ◌++◌, length, IsTrue, IfOk, OnOk, OnErr};
 ghost use Rattle.std.specs.Io.KnownBytes.{Appends};
 ghost use Rattle.yp_io.specs.Counts.{CountsFaults};
-ghost use Rattle.yp_query.specs.Lines.{line};
+ghost use Rattle.yp_client.specs.query.Lines.{line};
 ghost use Rattle.yp_io.specs.Streams.{AppendsFront};
-ghost use Rattle.yp_query.specs.Printed.{Puts};
+ghost use Rattle.yp_client.specs.inside.query.Printed.{Puts};
 
 use std::alloc::Global;
 use std::marker::Model;

@@ -10,10 +10,10 @@ use std::alloc::Global;
 use std::process::Abort;
 use std::random::RandomSource;
 use yp_board::PlainBoard;
+use yp_client::query::QueryFault;
 use yp_client::{ClientFault, Question, Row};
 use yp_io::{MemSink, MemSource, Pair};
-use yp_msgs::{MapList, YpStat};
-use yp_query::QueryFault;
+use yp_messages::{MapList, YpStat};
 use yp_version::VersionBuilder;
 
 const HOSTS: Given<'static> = Given {
@@ -142,8 +142,8 @@ fn add_records<R: Abort>(rt: &R, alloc: Global, calls: &[Call], stream: &mut Vec
     }
 }
 
-/// A question, the calls that are made for it, and those before which the newer version is shown; what the server sends,
-/// and what is printed or why nothing is.
+/// A question, the calls that are made for it, and those before which the newer version is shown; what the server
+/// sends, and what is printed or why nothing is.
 struct Case {
     row: &'static str,
     question: Fixed,

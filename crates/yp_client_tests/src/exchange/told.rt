@@ -4,34 +4,42 @@ ghost use Rattle.std.specs.Prelude.{◌≤◌, ℕ, List, ◌++◌, length, Ok};
 ghost use Rattle.std.specs.Borrow.{sem};
 ghost use Rattle.yp_io.specs.declared.stream.Peer.{Peer as Caller};
 ghost use Rattle.yp_io.specs.Counts.{HasRisen};
-ghost use Rattle.yp_rpc.specs.Laws.{IsWord};
-ghost use Rattle.yp_msgs.specs.Numbers.{name_max, key_max};
+ghost use Rattle.yp_rpc.specs.inside.Laws.{IsWord};
+ghost use Rattle.yp_messages.specs.Numbers.{name_max, key_max};
 ghost use Rattle.yp_board.specs.Catalogues.{Catalogue, serves};
 ghost use Rattle.yp_board.specs.Logs.{Log};
-ghost use Rattle.yp_client.specs.Questions.{bytes_of, QuestionIsWithin};
-ghost use Rattle.yp_query.specs.Complete.{HasCome, IsAnswered};
+ghost use Rattle.yp_client.specs.Questions.{bytes_of};
+ghost use Rattle.yp_client.specs.inside.Questions.{QuestionIsWithin};
+ghost use Rattle.yp_client.specs.query.Complete.{HasCome};
+ghost use Rattle.yp_client.specs.inside.query.Complete.{QueryIsAnswered};
 ghost use Rattle.yp_answer.specs.Maps.{Maps, row_check};
 ghost use Rattle.yp_answer.specs.Served.{AreServed, maps_on};
 ghost use Rattle.yp_client.specs.Limits.{reply_max, all_max};
-ghost use Rattle.yp_client.specs.States.{state_of};
-ghost use Rattle.yp_client.specs.Lent.{ClientRests};
-ghost use Rattle.yp_client.specs.Asked.{domain_call, match_call, first_call, next_call, all_call};
+ghost use Rattle.yp_client.specs.inside.States.{state_of};
+ghost use Rattle.yp_client.specs.inside.Lent.{ClientRests};
+ghost use Rattle.yp_client.specs.Asked.{match_call, first_call, next_call, all_call};
+ghost use Rattle.yp_client.specs.inside.Asked.{domain_call};
 ghost use Rattle.yp_client.specs.Asked.{master_call, order_call, maplist_call};
-ghost use Rattle.yp_exchange.specs.Told.{told, rows_tell, map_tells, value_in, first_in, next_in};
-ghost use Rattle.yp_exchange.specs.Told.{master_in, order_in, all_told, names_in};
-ghost use Rattle.yp_exchange.specs.Served.{HasRoom};
-ghost use Rattle.yp_exchange.specs.CallLaws.{AnswersAsTold, AnswersInMemory, AllAnswersAsTold, GivesNextReply};
-ghost use Rattle.yp_exchange.specs.MemberLaws.{MembershipIsTold};
-ghost use Rattle.yp_exchange.specs.Answered.{GivesReplies, text_told, HasText, PrintsTold};
-ghost use Rattle.yp_exchange.specs.Runs.{RepliesInTurn, sent_all, calls_made, PrintsOnLogs};
+ghost use Rattle.yp_end_to_end.specs.exchange.Told.{told, rows_tell, map_tells, value_in};
+ghost use Rattle.yp_end_to_end.specs.inside.exchange.Told.{first_in, next_in};
+ghost use Rattle.yp_end_to_end.specs.exchange.Told.{master_in, order_in, names_in};
+ghost use Rattle.yp_end_to_end.specs.inside.exchange.Told.{all_told};
+ghost use Rattle.yp_end_to_end.specs.inside.exchange.Served.{DraftHasRoom};
+ghost use Rattle.yp_end_to_end.specs.inside.exchange.CallLaws.{AnswersAsTold, AnswersInMemory, AllAnswersAsTold};
+ghost use Rattle.yp_end_to_end.specs.inside.exchange.CallLaws.{GivesNextReply};
+ghost use Rattle.yp_end_to_end.specs.inside.exchange.MemberLaws.{MembershipIsTold};
+ghost use Rattle.yp_end_to_end.specs.exchange.Answered.{text_told, PrintsTold};
+ghost use Rattle.yp_end_to_end.specs.inside.exchange.Answered.{GivesReplies, HasText};
+ghost use Rattle.yp_end_to_end.specs.exchange.Runs.{sent_all, calls_made, PrintsOnLogs};
+ghost use Rattle.yp_end_to_end.specs.inside.exchange.Runs.{RepliesInTurn};
 
 use std::alloc::Global;
 use std::random::RandomSource;
+use yp_client::query::QueryFault;
 use yp_client::{Client, ClientFault, Question, Row};
-use yp_exchange::laws;
+use yp_end_to_end::exchange::laws;
 use yp_io::{Dial, Peer, Sink, Source};
-use yp_msgs::MapList;
-use yp_query::QueryFault;
+use yp_messages::MapList;
 use yp_version::VersionBuilder;
 
 /// DOMAIN: whether it is served.
@@ -184,7 +192,7 @@ pub fn all<S: Source, K: Sink>(
     requires domain { length domain.now ≤ name_max }
     requires map { length map.now ≤ name_max }
     ensures { (maps : Maps) (peer : Caller) (rest : List ℕ) → AreServed maps → IsWord client.old.xid
-        → HasRoom into.old (row_check maps peer.port domain.now map.now)
+        → DraftHasRoom into.old (row_check maps peer.port domain.now map.now)
         → GivesNextReply maps peer all_max (all_call domain.now map.now) rest
         (state_of S.Source K.Sink client.old)
         → AllAnswersAsTold (all_told into.old (row_check maps peer.port domain.now map.now))
@@ -231,10 +239,10 @@ pub fn query_told<A: Dial, K: Sink>(
         → HasText (text_told first second caller (bytes_of question.now))
         → HasCome to stream (A.past dial.old) (A.past dial.new)
         → ¬ HasRisen (A.faults dial.old) (A.faults dial.new) → ¬ HasRisen (K.faults sink.old) (K.faults sink.new)
-        → IsAnswered result }
+        → QueryIsAnswered result }
 {
     laws::query_prints_told();
     laws::run_is_printed();
     laws::told_is_answered();
-    yp_query::query(alloc, rt, dial, to, question, sink)
+    yp_client::query::query(alloc, rt, dial, to, question, sink)
 }

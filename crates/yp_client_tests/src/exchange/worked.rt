@@ -1,18 +1,18 @@
 //! What the replies to calls of `hosts.byname` say, reckoned by hand, as the laws have it.
 
 ghost use Rattle.std.specs.Prelude.{◌≡◌, [], ◌∷◌, codes, Ok, Err};
-ghost use Rattle.yp_msgs.specs.declared.stat.YpStat.TheVariants.{Nokey, Nomore};
+ghost use Rattle.yp_messages.specs.declared.stat.YpStat.TheVariants.{Nokey, Nomore};
 ghost use Rattle.yp_client.specs.declared.fault.ClientFault.TheVariants.{Yp};
 ghost use Rattle.yp_client.specs.Limits.{reply_max, all_max};
 ghost use Rattle.yp_client.specs.Results.{value_of, row_of, master_of, order_of, maps_of};
 ghost use Rattle.yp_client.specs.All.{all_said};
 ghost use Rattle.yp_client.specs.Asked.{match_call, first_call, next_call, all_call};
 ghost use Rattle.yp_client.specs.Asked.{master_call, order_call, maplist_call};
-ghost use Rattle.yp_query.specs.Asked.{no_rows};
-ghost use Rattle.yp_exchange.specs.Served.{ReplyTells};
+ghost use Rattle.yp_client.specs.query.Asked.{no_rows};
+ghost use Rattle.yp_end_to_end.specs.inside.exchange.Served.{ReplyTells};
 ghost use Rattle.yp_client_tests.specs.Hosts.{lab, hosts, alpha, address, hosts_maps, caller};
 
-use yp_exchange::laws;
+use yp_end_to_end::exchange::laws;
 
 /// Each reply to the call 1 of `lab` and `hosts.byname`.
 pub fn worked_rows()

@@ -3,7 +3,7 @@ use Rattle.std.proofs.Common.{◌≡◌, ℕ, zero, suc, ◌<◌, List, [], ◌�
 use Rattle.std.specs.Prelude.{slice_get, slice_index_or, All}
 use Rattle.yp_board.specs.Catalogues.{Name, name_view}
 use Rattle.yp_board.specs.declared.catalog.MapName.{MapName}
-use Rattle.yp_words.specs.Words.{IsNamed}
+use Rattle.yp_command.specs.inside.Words.{IsNamed}
 
 -- the name of a map with a number
 pub name_found : (names : List MapName) (number : ℕ) (name : MapName) → number < length names → name ≡ get_or names number name → slice_get (map name_view names) number ≡ Some (name_view name)

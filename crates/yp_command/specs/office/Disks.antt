@@ -3,7 +3,7 @@ use Rattle.std.specs.Prelude.{◌≡◌, ◌⊎◌, ℕ, ◌+◌, List, [], ◌�
 use Rattle.std.specs.Option.{option_and_then, option_map, option_map_or}
 use Rattle.yp_io.specs.Disk.{History, LeavesOnly, MayLeave, after_sync}
 use Rattle.yp_board.specs.Catalogues.{Name, name_view}
-use Rattle.yp_office.specs.declared.disks.NamedDisk.{NamedDisk}
+use Rattle.yp_command.specs.declared.office.disks.NamedDisk.{NamedDisk}
 
 -- the maps of disks, in their order
 abbrev pub names_of : {D : Type 0} → List (NamedDisk D) → List Name

@@ -12,10 +12,10 @@ use Rattle.yp_io.specs.declared.dial.Dial as dial
 use Rattle.yp_io.specs.declared.inbox.Inbox as inbox
 use Rattle.yp_io.specs.declared.texts.Texts as texts
 use Rattle.yp_board.specs.declared.catalog.MapName.{MapName}
-use Rattle.yp_office.specs.declared.office.Office.{Office}
-use Rattle.yp_office.specs.declared.status.Status.{Status}
-use Rattle.yp_office.specs.declared.status.Status.TheVariants.{ReadFault, WriteFault, DiskFault, DialFault}
-use Rattle.yp_office.specs.Disks.{names_of, history_of, faults_of}
+use Rattle.yp_command.specs.declared.office.office.Office.{Office}
+use Rattle.yp_command.specs.declared.office.status.Status.{Status}
+use Rattle.yp_command.specs.declared.office.status.Status.TheVariants.{ReadFault, WriteFault, DiskFault, DialFault}
+use Rattle.yp_command.specs.office.Disks.{names_of, history_of, faults_of}
 
 -- what a dial tells: its wires, the datagrams that were sent, and how often it has failed
 pub record DialGhosts (A : Type 0) : Type 0 where

@@ -2,7 +2,7 @@
 
 ghost use Rattle.std.specs.Prelude.{◌≡◌, ◌≤◌, [], map, length, vec_capacity, IfOk, OnOk, OnErr};
 ghost use Rattle.yp_board.specs.Catalogues.{name_view};
-ghost use Rattle.yp_office.specs.Disks.{names_of, disks_of};
+ghost use Rattle.yp_command.specs.office.Disks.{names_of, disks_of};
 
 use std::alloc::{AllocError, Global};
 use yp_board::MapName;

@@ -2,14 +2,15 @@
 
 ghost use Rattle.std.specs.Prelude.{◌<◌, All, length, map};
 ghost use Rattle.yp_board.specs.Catalogues.{name_view};
-ghost use Rattle.yp_words.specs.Words.{IsNamed};
-ghost use Rattle.yp_office.specs.Status.{IsTellable};
-ghost use Rattle.yp_office.specs.Files.{Fails, TellsOf};
+ghost use Rattle.yp_command.specs.inside.Words.{IsNamed};
+ghost use Rattle.yp_command.specs.inside.office.Status.{IsTellable};
+ghost use Rattle.yp_command.specs.office.Files.{Fails};
+ghost use Rattle.yp_command.specs.inside.office.Files.{TellsOf};
 
-use crate::status::Status;
+use crate::office::status::Status;
 use std::alloc::{AllocError, Global};
 use yp_board::MapName;
-use yp_slot::SlotFault;
+use yp_map_file::SlotFault;
 
 /// The status of a map whose file can't be loaded.
 pub fn status_of_file(map: MapName, fault: SlotFault) -> Status

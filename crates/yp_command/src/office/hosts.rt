@@ -1,12 +1,12 @@
 //! The hosts that words name.
 
 ghost use Rattle.std.specs.Prelude.{◌≡◌, map, IfOk};
-ghost use Rattle.yp_words.specs.Words.{host_view};
+ghost use Rattle.yp_command.specs.Words.{host_view};
 
+use crate::HostWord;
 use std::alloc::Global;
 use yp_io::NoMemory;
-use yp_words::HostWord;
-use yp_xfr::Hosts;
+use yp_transfer::Hosts;
 
 /// A table of the hosts that words name.
 pub fn table_of(alloc: Global, words: Vec<HostWord>) -> Result<Hosts, NoMemory>

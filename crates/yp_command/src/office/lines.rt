@@ -3,7 +3,7 @@
 ghost use Rattle.std.specs.Prelude.{◌≡◌, ◌+◌, ◌≤◌, ◌++◌, codes, decimal, length};
 ghost use Rattle.arrayvec.specs.ArrayVec.{array_vec_len};
 ghost use Rattle.yp_board.specs.Catalogues.{name_view};
-ghost use Rattle.yp_office.specs.Lines.{map_text};
+ghost use Rattle.yp_command.specs.office.Lines.{map_text};
 
 use arrayvec::ArrayVec;
 use yp_board::MapName;

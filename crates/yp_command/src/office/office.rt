@@ -1,6 +1,6 @@
 //! The outside of a command.
 
-use crate::disks::NamedDisk;
+use crate::office::disks::NamedDisk;
 use yp_io::Pair;
 
 /// What a command reaches outside itself.

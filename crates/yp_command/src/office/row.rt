@@ -1,9 +1,9 @@
 //! The status of a row that is refused.
 
 ghost use Rattle.std.specs.Prelude.{◌≡◌};
-ghost use Rattle.yp_office.specs.Rows.{row_status};
+ghost use Rattle.yp_command.specs.office.Rows.{row_status};
 
-use crate::status::Status;
+use crate::office::status::Status;
 use yp_version::VersionFault;
 
 /// The rule of a row whose key is too long.

@@ -3,18 +3,19 @@
 ghost use Rattle.std.specs.Prelude.{◌≡◌, ◌+◌, ◌≤◌, ◌++◌, length, decimal, codes};
 ghost use Rattle.std.specs.Fmt.{signed_decimal};
 ghost use Rattle.arrayvec.specs.ArrayVec.{array_vec_len};
-ghost use Rattle.yp_msgs.specs.Statuses.{stat_number};
-ghost use Rattle.yp_msgs.specs.Transfers.{xfr_number};
+ghost use Rattle.yp_messages.specs.Statuses.{stat_number};
+ghost use Rattle.yp_messages.specs.Transfers.{xfr_number};
 ghost use Rattle.yp_board.specs.Catalogues.{name_view};
-ghost use Rattle.yp_office.specs.Lines.{map_text};
-ghost use Rattle.yp_office.specs.Status.{code_of, note, note_line, orders_text, IsTellable};
-ghost use Rattle.yp_words.specs.Words.{IsNamed};
-ghost use Rattle.yp_xfr.specs.Faults.{stat_of};
+ghost use Rattle.yp_command.specs.office.Lines.{map_text};
+ghost use Rattle.yp_command.specs.office.Status.{note, note_line, orders_text};
+ghost use Rattle.yp_command.specs.inside.office.Status.{code_of, IsTellable};
+ghost use Rattle.yp_command.specs.inside.Words.{IsNamed};
+ghost use Rattle.yp_transfer.specs.Faults.{stat_of};
 
-use crate::lines::{LINE_MAX, Line, add, add_map, add_number};
+use crate::office::lines::{LINE_MAX, Line, add, add_map, add_number};
 use yp_board::MapName;
-use yp_msgs::YpStat;
-use yp_xfr::XfrFault;
+use yp_messages::YpStat;
+use yp_transfer::XfrFault;
 
 /// How a run ended.
 #[derive(Debug, PartialEq, Eq, Drop)]

@@ -3,37 +3,39 @@ use Rattle.std.proofs.Common.{◌≡◌, ℕ, List, [], ◌∷◌, length, map, 
 use Rattle.std.proofs.Common.{arith, inl}
 use Rattle.std.specs.Prelude.{IfSome, option_map}
 use Rattle.yp_io.specs.Disk.{History, LeavesOnly, MayLeave}
-use Rattle.yp_io.specs.DiskLaws.{stays, only_now}
+use Rattle.yp_io.specs.inside.DiskLaws.{stays, only_now}
 use Rattle.yp_version.specs.Versions.{MapVersion}
-use Rattle.yp_slot.specs.declared.fault.SlotFault.TheVariants as slot
+use Rattle.yp_map_file.specs.declared.fault.SlotFault.TheVariants as slot
 use Rattle.yp_board.specs.declared.catalog.MapName.{MapName}
 use Rattle.yp_board.specs.Catalogues.{Name, name_view}
-use Rattle.yp_publish.specs.declared.install.Installed.{Installed}
-use Rattle.yp_rpc.specs.Turns.{Box}
-use Rattle.yp_xfr.specs.declared.fault.XfrFault.{XfrFault}
-use Rattle.yp_xfr.specs.Fetching.{Wanted, wanted_of, Outcome}
-use Rattle.yp_office.specs.declared.disks.NamedDisk.{NamedDisk}
-use Rattle.yp_office.specs.Disks.{names_of}
-use Rattle.yp_storing.specs.declared.xfr.XfrStop.TheVariants as stop
-use Rattle.yp_storing.specs.Xfr.{Order, StoresFetched, KeepsLoaded, LeavesUnloaded}
-use Rattle.yp_walking.specs.declared.walk.WalkStop.{WalkStop}
-use Rattle.yp_walking.specs.declared.walk.WalkStop.TheVariants as walk
-use Rattle.yp_walking.specs.declared.walker.Came.{Came}
-use Rattle.yp_walking.specs.declared.walker.Came.TheVariants.{Outcome as HasOutcome, Spent, Failed as HasFailed}
-use Rattle.yp_walking.specs.Turns.{WalksTo}
-use Rattle.yp_walking.specs.Walk.{StoresWalk, WalksInVain, Moves, Moved}
+use Rattle.yp_publisher.specs.declared.install.Installed.{Installed}
+use Rattle.yp_rpc.specs.Turns.{InboxTells}
+use Rattle.yp_transfer.specs.declared.fault.XfrFault.{XfrFault}
+use Rattle.yp_transfer.specs.Fetching.{Wanted, wanted_of, FetchOutcome}
+use Rattle.yp_command.specs.declared.office.disks.NamedDisk.{NamedDisk}
+use Rattle.yp_command.specs.office.Disks.{names_of}
+use Rattle.yp_command_maps.specs.declared.xfr.XfrStop.TheVariants as stop
+use Rattle.yp_command_maps.specs.Xfr.{Job}
+use Rattle.yp_command_maps.specs.inside.Xfr.{StoresFetched, KeepsLoaded, LeavesUnloaded}
+use Rattle.yp_command_maps.specs.declared.walk.walk.WalkStop.{WalkStop}
+use Rattle.yp_command_maps.specs.declared.walk.walk.WalkStop.TheVariants as walk
+use Rattle.yp_command_maps.specs.declared.walk.walker.Came.{Came}
+use Rattle.yp_command_maps.specs.declared.walk.walker.Came.TheVariants.{Outcome as HasOutcome, Spent, Failed as HasFailed}
+use Rattle.yp_command_maps.specs.walk.Turns.{WalksTo}
+use Rattle.yp_command_maps.specs.walk.Walk.{StoresWalk, WalksInVain}
+use Rattle.yp_command_maps.specs.inside.walk.Walk.{WalkMoves, Moved}
 
-module _ (order : Order) (turns : ℕ) (before after : Box) where
+module _ (job : Job) (turns : ℕ) (before after : InboxTells) where
   -- a walk over the order of a version that is shown
   abbrev Walked : Option MapVersion → Came → Type 0
   Walked shows came =
-      WalksTo order.host.1 (wanted_of order.store.0 order.store.1 (option_map (λ version. version.order) shows) order.force)
+      WalksTo job.host.1 (wanted_of job.store.0 job.store.1 (option_map (λ version. version.order) shows) job.force)
       turns came before after
 
   module _ (shows : Option MapVersion) (old new : Option History) (faults faults' : ℕ) where
-    stored : (outcome : Outcome) (result : Result Installed XfrFault) → Walked shows (HasOutcome outcome)
-        → StoresFetched order shows outcome result old new faults faults'
-        → StoresWalk order turns result before after old new faults faults'
+    stored : (outcome : FetchOutcome) (result : Result Installed XfrFault) → Walked shows (HasOutcome outcome)
+        → StoresFetched job shows outcome result old new faults faults'
+        → StoresWalk job turns result before after old new faults faults'
     stored outcome result walks stores = record {
       held = stores.held;
       outcome = outcome;
@@ -42,7 +44,7 @@ module _ (order : Order) (turns : ℕ) (before after : Box) where
     }
 
     vain : (came : Came) → Walked shows came → KeepsLoaded shows old new faults faults'
-        → WalksInVain order turns came before after old new
+        → WalksInVain job turns came before after old new
     vain came walks kept = record {
       held = kept.held;
       is_held = kept.is_held;
@@ -50,32 +52,32 @@ module _ (order : Order) (turns : ℕ) (before after : Box) where
       unwritten = kept.unwritten;
     }
 
-    pub moved_ok : (outcome : Outcome) (installed : Installed)
-        → WalksTo order.host.1 (wanted_of order.store.0 order.store.1 (option_map (λ version. version.order) shows)
-        order.force) turns (HasOutcome outcome) before after
-        → StoresFetched order shows outcome (Ok installed) old new faults faults'
-        → Moved order turns (Ok installed) before after old new faults faults'
+    pub moved_ok : (outcome : FetchOutcome) (installed : Installed)
+        → WalksTo job.host.1 (wanted_of job.store.0 job.store.1 (option_map (λ version. version.order) shows)
+        job.force) turns (HasOutcome outcome) before after
+        → StoresFetched job shows outcome (Ok installed) old new faults faults'
+        → Moved job turns (Ok installed) before after old new faults faults'
     moved_ok outcome installed walks stores =
         record { moves = stored outcome (Ok installed) walks stores; few = stores.few }
 
-    pub moved_fault : (outcome : Outcome) (why : XfrFault)
-        → WalksTo order.host.1 (wanted_of order.store.0 order.store.1 (option_map (λ version. version.order) shows)
-        order.force) turns (HasOutcome outcome) before after
-        → StoresFetched order shows outcome (Err why) old new faults faults'
-        → Moved order turns (Err (walk.Transfer (stop.Fault why))) before after old new faults faults'
+    pub moved_fault : (outcome : FetchOutcome) (why : XfrFault)
+        → WalksTo job.host.1 (wanted_of job.store.0 job.store.1 (option_map (λ version. version.order) shows)
+        job.force) turns (HasOutcome outcome) before after
+        → StoresFetched job shows outcome (Err why) old new faults faults'
+        → Moved job turns (Err (walk.Transfer (stop.Fault why))) before after old new faults faults'
     moved_fault outcome why walks stores =
         record { moves = stored outcome (Err why) walks stores; few = stores.few }
 
-    pub moved_spent : WalksTo order.host.1 (wanted_of order.store.0 order.store.1
-        (option_map (λ version. version.order) shows) order.force) turns Spent before after
+    pub moved_spent : WalksTo job.host.1 (wanted_of job.store.0 job.store.1
+        (option_map (λ version. version.order) shows) job.force) turns Spent before after
         → KeepsLoaded shows old new faults faults'
-        → Moved order turns (Err walk.Unanswered) before after old new faults faults'
+        → Moved job turns (Err walk.Unanswered) before after old new faults faults'
     moved_spent walks kept = record { moves = vain Spent walks kept; few = kept.few }
 
-    pub moved_failed : WalksTo order.host.1 (wanted_of order.store.0 order.store.1
-        (option_map (λ version. version.order) shows) order.force) turns HasFailed before after
+    pub moved_failed : WalksTo job.host.1 (wanted_of job.store.0 job.store.1
+        (option_map (λ version. version.order) shows) job.force) turns HasFailed before after
         → KeepsLoaded shows old new faults faults'
-        → Moved order turns (Err walk.InboxFault) before after old new faults faults'
+        → Moved job turns (Err walk.InboxFault) before after old new faults faults'
     moved_failed walks kept = record { moves = vain HasFailed walks kept; few = kept.few }
 
     all_told : (o : Option History) (P : History → Type 0) → ((h : History) → P h) → IfSome o P
@@ -84,7 +86,7 @@ module _ (order : Order) (turns : ℕ) (before after : Box) where
 
     -- memory ran out before the walk was begun
     pub moved_unbegun : KeepsLoaded shows old new faults faults'
-        → Moved order turns (Err (walk.Transfer (stop.Unloaded slot.NoMemory))) before after old new faults faults'
+        → Moved job turns (Err (walk.Transfer (stop.Unloaded slot.NoMemory))) before after old new faults faults'
     moved_unbegun kept = record {
       moves = record {
         cause = all_told old _ (λ h. tt);
@@ -96,7 +98,7 @@ module _ (order : Order) (turns : ℕ) (before after : Box) where
 
   -- and before the file was opened
   pub moved_forgone : (old : Option History) (faults : ℕ)
-      → Moved order turns (Err (walk.Transfer (stop.Unloaded slot.NoMemory))) before after old old faults faults
+      → Moved job turns (Err (walk.Transfer (stop.Unloaded slot.NoMemory))) before after old old faults faults
   moved_forgone old faults = record {
     moves = record {
       cause = told old _ (λ h. tt);

@@ -6,28 +6,28 @@ use Rattle.std.proofs.lemmas.Bool.{le-leb, lt-leb}
 use Rattle.std.proofs.lemmas.List.{append-nil}
 use Rattle.yp_io.specs.declared.stream.Failed.{Failed}
 use Rattle.yp_io.specs.declared.stream.Peer.{Peer}
-use Rattle.yp_io.specs.Inboxes.{Post, Arrived, Silent, Sent}
+use Rattle.yp_io.specs.Inboxes.{InboxEvent, Arrived, Silent, Sent}
 use Rattle.yp_rpc.specs.declared.turns.Ended.{Ended}
 use Rattle.yp_rpc.specs.declared.turns.Ended.TheVariants.{Done as IsDone, Spent as AllTaken}
-use Rattle.yp_rpc.specs.Turns.{Want, Letter, Turn, Nothing, Meets, Runs, mail_max}
+use Rattle.yp_rpc.specs.Turns.{Want, Letter, Turn, Nothing, Meets, Runs, datagram_max}
 use Rattle.yp_rpc.specs.Turns as turns
-use Rattle.yp_xfr.specs.declared.fault.XfrFault.{XfrFault}
-use Rattle.yp_xfr.specs.declared.fault.XfrFault.TheVariants as fault
-use Rattle.yp_xfr.specs.Fetching.{Wanted}
-use Rattle.yp_enum.specs.declared.walked.Walked.{Walked}
-use Rattle.yp_enum.specs.declared.walked.Walked.TheVariants.{Ignored, Onward, Done}
-use Rattle.yp_enum.specs.Standings.{Standing, HasEnded, refusal}
-use Rattle.yp_enum.specs.Schedules.{Walking, Delivery, Hears, AddsDelivery, RunsOut, told, answer_to, heard, gone_on}
-use Rattle.yp_enum.specs.Schedules.{is_awaited, walk_by, begun}
-use Rattle.yp_walking.specs.Turns.{Awaiting, is_on, goes_on, wish, sent, GoesOn, TakesMail, Listens, HearsMail, Rests}
-use Rattle.yp_walking.specs.Turns.{walker_ways, heard_of, StandsFor, first_of, Gave, IsCame, WalksTo}
-use Rattle.yp_walking.specs.declared.walker.Came.{Came}
-use Rattle.yp_walking.specs.declared.walker.Came.TheVariants.{Outcome as HasOutcome, Spent, Failed as HasFailed}
-use Rattle.yp_rpc.specs.Turns.{Box, TakesTurns}
-use Rattle.yp_xfr.specs.Fetching.{Outcome}
-use Rattle.yp_enum.specs.Standings.{IsAsking}
-use Rattle.yp_enum.specs.Schedules.{outstanding}
-use Rattle.yp_enum.specs.Walks.{GivesVersion}
+use Rattle.yp_transfer.specs.declared.fault.XfrFault.{XfrFault}
+use Rattle.yp_transfer.specs.declared.fault.XfrFault.TheVariants as fault
+use Rattle.yp_transfer.specs.Fetching.{Wanted}
+use Rattle.yp_transfer.specs.declared.walk.walked.Walked.{Walked}
+use Rattle.yp_transfer.specs.declared.walk.walked.Walked.TheVariants.{Ignored, Onward, Done}
+use Rattle.yp_transfer.specs.walk.Standings.{WalkState, HasEnded, refusal}
+use Rattle.yp_transfer.specs.walk.Schedules.{Walking, Delivery, Hears, AddsDelivery, RunsOut, told, answer_to, heard, gone_on}
+use Rattle.yp_transfer.specs.walk.Schedules.{is_awaited, walk_by, begun}
+use Rattle.yp_command_maps.specs.walk.Turns.{Awaiting, is_on, goes_on, wish, sent, Goes, TakesMail, Listens, HearsMail, Rests}
+use Rattle.yp_command_maps.specs.walk.Turns.{walker_ways, heard_of, StandsFor, first_of, Gave, IsCame, WalksTo}
+use Rattle.yp_command_maps.specs.declared.walk.walker.Came.{Came}
+use Rattle.yp_command_maps.specs.declared.walk.walker.Came.TheVariants.{Outcome as HasOutcome, Spent, Failed as HasFailed}
+use Rattle.yp_rpc.specs.Turns.{InboxTells, TakesTurns}
+use Rattle.yp_transfer.specs.Fetching.{FetchOutcome}
+use Rattle.yp_transfer.specs.walk.Standings.{IsAsking}
+use Rattle.yp_transfer.specs.walk.Schedules.{outstanding}
+use Rattle.yp_transfer.specs.inside.walk.Walks.{WalkGivesVersion}
 
 -- ---- what is wanted
 
@@ -58,7 +58,7 @@ kept_on old new e = ap (λ (w : Walking). goes_on (told w.standing)) e
 -- ---- a mail
 
 -- where memory ran out by the answer, the walk stands so
-out_by_told : (standing : Standing) → told standing ≡ Err fault.NoMemory → standing ≡ refusal fault.NoMemory
+out_by_told : (standing : WalkState) → told standing ≡ Err fault.NoMemory → standing ≡ refusal fault.NoMemory
 out_by_told (HasEnded (Ok draft)) e = absurd cc
 out_by_told (HasEnded (Err why)) e =
     let same : why ≡ fault.NoMemory = cc in ap (λ (w : XfrFault). HasEnded (Err w)) same
@@ -112,18 +112,18 @@ module _ (source : Peer) (wanted : Wanted) where
   same_stands : (ds es : List Delivery) (walk : Walking) → ds ≡ es → Stands ds walk → Stands es walk
   same_stands ds es walk e h = subst (λ (l : List Delivery). Stands l walk) e h
 
-  heard_short : (from : Peer) (mail : List ℕ) → length mail ≤ mail_max
+  heard_short : (from : Peer) (mail : List ℕ) → length mail ≤ datagram_max
       → heard_of (Arrived from mail ∷ []) ≡ (from, mail) ∷ []
-  heard_short from mail few = let short : nat_le (length mail) mail_max ≡ true = le-leb (length mail) mail_max few in rw short refl
+  heard_short from mail few = let short : nat_le (length mail) datagram_max ≡ true = le-leb (length mail) datagram_max few in rw short refl
 
-  heard_long : (from : Peer) (mail : List ℕ) → mail_max < length mail → heard_of (Arrived from mail ∷ []) ≡ []
-  heard_long from mail over = let long : nat_le (length mail) mail_max ≡ false = lt-leb (length mail) mail_max over in rw long refl
+  heard_long : (from : Peer) (mail : List ℕ) → datagram_max < length mail → heard_of (Arrived from mail ∷ []) ≡ []
+  heard_long from mail over = let long : nat_le (length mail) datagram_max ≡ false = lt-leb (length mail) datagram_max over in rw long refl
 
-  met : (turn : Post) (answers : List Post) (old new : Awaiting) (ds : List Delivery)
+  met : (turn : InboxEvent) (answers : List InboxEvent) (old new : Awaiting) (ds : List Delivery)
       → Meets walker_ways turn answers old new → is_on old ≡ true → old.walk ≡ walk_by source wanted ds
       → Stands (ds ++ heard_of (turn ∷ [])) new.walk × (answers ≡ [])
-  met turn answers old new ds (turns.drops from bytes errand over) on e =
-      (same_stands ds _ errand.walk (sym (ap (λ (l : List Delivery). ds ++ l) (heard_long from bytes over) ∙ append-nil ds)) (inl e), refl)
+  met turn answers old new ds (turns.drops from bytes handler over) on e =
+      (same_stands ds _ handler.walk (sym (ap (λ (l : List Delivery). ds ++ l) (heard_long from bytes over) ∙ append-nil ds)) (inl e), refl)
   met turn answers old new ds (turns.listens from bytes before after few hears) on e = (
     same_stands (ds ++ (from, bytes) ∷ []) _ after.walk (sym (ap (λ (l : List Delivery). ds ++ l) (heard_short from bytes few)))
         (listened (is_on before) source wanted ds (from, bytes) before after on e hears.1),
@@ -134,109 +134,109 @@ module _ (source : Peer) (wanted : Wanted) where
   met turn answers old new ds (turns.is_quiet before after rests) on e =
       (same_stands ds _ after.walk (sym (append-nil ds)) (inl (ap (λ (a : Awaiting). a.walk) rests ∙ e)), refl)
 
-  heard_join : (turn : Post) (posts : List Post) → heard_of (turn ∷ posts) ≡ heard_of (turn ∷ []) ++ heard_of posts
-  heard_join (Arrived from mail) posts = by_fit (nat_le (length mail) mail_max)
+  heard_join : (turn : InboxEvent) (events : List InboxEvent) → heard_of (turn ∷ events) ≡ heard_of (turn ∷ []) ++ heard_of events
+  heard_join (Arrived from mail) events = by_fit (nat_le (length mail) datagram_max)
     where
-      by_fit : (fits : Bool) → cond fits ((from, mail) ∷ heard_of posts) (heard_of posts) ≡ cond fits ((from, mail) ∷ []) [] ++ heard_of posts
+      by_fit : (fits : Bool) → cond fits ((from, mail) ∷ heard_of events) (heard_of events) ≡ cond fits ((from, mail) ∷ []) [] ++ heard_of events
       by_fit true = refl
       by_fit false = refl
-  heard_join Silent posts = refl
-  heard_join (Sent to mail) posts = refl
+  heard_join Silent events = refl
+  heard_join (Sent to mail) events = refl
 
   -- memory ran out: nothing more happens
   off_out : (walk : Walking) → walk.standing ≡ refusal fault.NoMemory → goes_on (told walk.standing) ≡ false
-  off_out walk e = ap (λ (s : Standing). goes_on (told s)) e
+  off_out walk e = ap (λ (s : WalkState). goes_on (told s)) e
 
-  run_off : (most : ℕ) (posts : List Post) (end : Result Ended Failed) (old last : Awaiting)
-      → Runs walker_ways most posts end old last → is_on old ≡ false → (last.walk ≡ old.walk) × (posts ≡ [])
-  run_off most posts end old last (turns.is_spent errand) off = (refl, refl)
-  run_off most posts end old last (turns.is_done more before after goes) off = (same_walk (is_on before) before after goes.1, refl)
-  run_off most posts end old last (turns.sends more to bytes rest how before next after goes runs) off =
+  run_off : (most : ℕ) (events : List InboxEvent) (end : Result Ended Failed) (old last : Awaiting)
+      → Runs walker_ways most events end old last → is_on old ≡ false → (last.walk ≡ old.walk) × (events ≡ [])
+  run_off most events end old last (turns.is_spent handler) off = (refl, refl)
+  run_off most events end old last (turns.is_done more before after goes) off = (same_walk (is_on before) before after goes.1, refl)
+  run_off most events end old last (turns.sends more to bytes rest how before next after goes runs) off =
       absurd (no_letter (is_on before) before.is_due before.walk to bytes off goes.0)
-  run_off most posts end old last (turns.loses_letter more to bytes why before after goes) off =
+  run_off most events end old last (turns.loses_letter more to bytes why before after goes) off =
       absurd (no_letter (is_on before) before.is_due before.walk to bytes off goes.0)
-  run_off most posts end old last (turns.takes more turn answers rest how before waiting next after goes meets runs) off =
+  run_off most events end old last (turns.takes more turn answers rest how before waiting next after goes meets runs) off =
       absurd (no_turn (is_on before) before.is_due before.walk off goes.0)
-  run_off most posts end old last (turns.loses_turn more why before after goes) off =
+  run_off most events end old last (turns.loses_turn more why before after goes) off =
       absurd (no_turn (is_on before) before.is_due before.walk off goes.0)
-  run_off most posts end old last (turns.loses_reply more turn reply why before waiting after goes meets) off =
+  run_off most events end old last (turns.loses_reply more turn reply why before waiting after goes meets) off =
       absurd (no_turn (is_on before) before.is_due before.walk off goes.0)
 
   -- what stands for the mails so far stands for all of them at the end
-  run_stands : (most : ℕ) (posts : List Post) (end : Result Ended Failed) (old last : Awaiting)
-      → Runs walker_ways most posts end old last → (on : Bool) → is_on old ≡ on → (ds : List Delivery) → Stands ds old.walk
-      → Stands (ds ++ heard_of posts) last.walk
-  run_stands most posts end old last runs false off ds h =
-      let stays = run_off most posts end old last runs off in
-      subst (λ (w : Walking). Stands (ds ++ heard_of posts) w) (sym stays.0)
-      (same_stands ds _ old.walk (sym (ap (λ (l : List Post). ds ++ heard_of l) stays.1 ∙ append-nil ds)) h)
-  run_stands most posts end old last runs true on ds (inr out) =
+  run_stands : (most : ℕ) (events : List InboxEvent) (end : Result Ended Failed) (old last : Awaiting)
+      → Runs walker_ways most events end old last → (on : Bool) → is_on old ≡ on → (ds : List Delivery) → Stands ds old.walk
+      → Stands (ds ++ heard_of events) last.walk
+  run_stands most events end old last runs false off ds h =
+      let stays = run_off most events end old last runs off in
+      subst (λ (w : Walking). Stands (ds ++ heard_of events) w) (sym stays.0)
+      (same_stands ds _ old.walk (sym (ap (λ (l : List InboxEvent). ds ++ heard_of l) stays.1 ∙ append-nil ds)) h)
+  run_stands most events end old last runs true on ds (inr out) =
       absurd (let no : true ≡ false = sym on ∙ off_out old.walk out in cc)
-  run_stands most posts end old last (turns.is_spent errand) true on ds (inl e) =
-      same_stands ds _ errand.walk (sym (append-nil ds)) (inl e)
-  run_stands most posts end old last (turns.is_done more before after goes) true on ds (inl e) =
+  run_stands most events end old last (turns.is_spent handler) true on ds (inl e) =
+      same_stands ds _ handler.walk (sym (append-nil ds)) (inl e)
+  run_stands most events end old last (turns.is_done more before after goes) true on ds (inl e) =
       absurd (no_end (is_on before) before.is_due before.walk on goes.0)
-  run_stands most posts end old last (turns.sends more to bytes rest how before next after goes runs) true on ds (inl e) =
+  run_stands most events end old last (turns.sends more to bytes rest how before next after goes runs) true on ds (inl e) =
       let same = same_walk (is_on before) before next goes.1 in
       run_stands (suc more) rest how next after runs true (kept_on before next same ∙ on) ds (inl (same ∙ e))
-  run_stands most posts end old last (turns.loses_letter more to bytes why before after goes) true on ds (inl e) =
+  run_stands most events end old last (turns.loses_letter more to bytes why before after goes) true on ds (inl e) =
       same_stands ds _ after.walk (sym (append-nil ds)) (inl (same_walk (is_on before) before after goes.1 ∙ e))
-  run_stands most posts end old last (turns.takes more turn answers rest how before waiting next after goes meets runs) true on ds (inl e) =
+  run_stands most events end old last (turns.takes more turn answers rest how before waiting next after goes meets runs) true on ds (inl e) =
       let same = same_walk (is_on before) before waiting goes.1 in
       let here = met turn answers waiting next ds meets (kept_on before waiting same ∙ on) (same ∙ e) in
       let ends = run_stands more rest how next after runs (is_on next) refl (ds ++ heard_of (turn ∷ [])) here.0 in
       same_stands _ (ds ++ heard_of (turn ∷ answers ++ rest)) after.walk
       (append_assoc ds (heard_of (turn ∷ [])) (heard_of rest)
       ∙ ap (λ (l : List Delivery). ds ++ l) (sym (heard_join turn rest))
-      ∙ ap (λ (l : List Post). ds ++ heard_of (turn ∷ l ++ rest)) (sym here.1)) ends
-  run_stands most posts end old last (turns.loses_turn more why before after goes) true on ds (inl e) =
+      ∙ ap (λ (l : List InboxEvent). ds ++ heard_of (turn ∷ l ++ rest)) (sym here.1)) ends
+  run_stands most events end old last (turns.loses_turn more why before after goes) true on ds (inl e) =
       same_stands ds _ after.walk (sym (append-nil ds)) (inl (same_walk (is_on before) before after goes.1 ∙ e))
-  run_stands most posts end old last (turns.loses_reply more turn reply why before waiting after goes meets) true on ds (inl e) =
+  run_stands most events end old last (turns.loses_reply more turn reply why before waiting after goes meets) true on ds (inl e) =
       let same = same_walk (is_on before) before waiting goes.1 in
       let some = (met turn (reply ∷ []) waiting after ds meets (kept_on before waiting same ∙ on) (same ∙ e)).1 in
       absurd cc
 
-  pub all_stands : (most : ℕ) (posts : List Post) (end : Result Ended Failed) (old last : Awaiting)
-      → Runs walker_ways most posts end old last → old.walk ≡ begun source wanted → Stands (heard_of posts) last.walk
-  all_stands most posts end old last runs e = run_stands most posts end old last runs (is_on old) refl [] (inl e)
+  pub all_stands : (most : ℕ) (events : List InboxEvent) (end : Result Ended Failed) (old last : Awaiting)
+      → Runs walker_ways most events end old last → old.walk ≡ begun source wanted → Stands (heard_of events) last.walk
+  all_stands most events end old last runs e = run_stands most events end old last runs (is_on old) refl [] (inl e)
 
   -- where a call is still outstanding at the end of sound turns, all were taken
-  pub on_is_spent : (most : ℕ) (posts : List Post) (end : Ended) (old last : Awaiting)
-      → Runs walker_ways most posts (Ok end) old last → is_on last ≡ true → end ≡ AllTaken
-  on_is_spent most posts AllTaken old last runs on = refl
-  on_is_spent most posts IsDone old last runs on = absurd (done_off most posts (Ok IsDone) old last runs refl on)
+  pub on_is_spent : (most : ℕ) (events : List InboxEvent) (end : Ended) (old last : Awaiting)
+      → Runs walker_ways most events (Ok end) old last → is_on last ≡ true → end ≡ AllTaken
+  on_is_spent most events AllTaken old last runs on = refl
+  on_is_spent most events IsDone old last runs on = absurd (done_off most events (Ok IsDone) old last runs refl on)
     where
-      done_off : (most : ℕ) (posts : List Post) (end : Result Ended Failed) (old last : Awaiting)
-          → Runs walker_ways most posts end old last → end ≡ Ok IsDone → is_on last ≡ true → ⊥
-      done_off most posts end old last (turns.is_spent errand) e on = absurd cc
-      done_off most posts end old last (turns.is_done more before after goes) e on =
+      done_off : (most : ℕ) (events : List InboxEvent) (end : Result Ended Failed) (old last : Awaiting)
+          → Runs walker_ways most events end old last → end ≡ Ok IsDone → is_on last ≡ true → ⊥
+      done_off most events end old last (turns.is_spent handler) e on = absurd cc
+      done_off most events end old last (turns.is_done more before after goes) e on =
           let same = same_walk (is_on before) before after goes.1 in
           no_end (is_on before) before.is_due before.walk (sym (kept_on before after same) ∙ on) goes.0
-      done_off most posts end old last (turns.sends more to bytes rest how before next after goes runs) e on =
+      done_off most events end old last (turns.sends more to bytes rest how before next after goes runs) e on =
           done_off (suc more) rest how next after runs e on
-      done_off most posts end old last (turns.loses_letter more to bytes why before after goes) e on = absurd cc
-      done_off most posts end old last (turns.takes more turn answers rest how before waiting next after goes meets runs) e on =
+      done_off most events end old last (turns.loses_letter more to bytes why before after goes) e on = absurd cc
+      done_off most events end old last (turns.takes more turn answers rest how before waiting next after goes meets runs) e on =
           done_off more rest how next after runs e on
-      done_off most posts end old last (turns.loses_turn more why before after goes) e on = absurd cc
-      done_off most posts end old last (turns.loses_reply more turn reply why before waiting after goes meets) e on = absurd cc
+      done_off most events end old last (turns.loses_turn more why before after goes) e on = absurd cc
+      done_off most events end old last (turns.loses_reply more turn reply why before waiting after goes meets) e on = absurd cc
 
 -- ---- what came of it
 
-pub gave_done : (standing : Standing) (outcome : Outcome) → GivesVersion standing outcome → Gave standing outcome
+pub gave_done : (standing : WalkState) (outcome : FetchOutcome) → WalkGivesVersion standing outcome → Gave standing outcome
 gave_done (HasEnded (Ok draft)) outcome h = h
 gave_done _ outcome h = absurd h
 
-pub gave_refused : (standing : Standing) (why : XfrFault) → Err why ≡ told standing → Gave standing (Err why)
+pub gave_refused : (standing : WalkState) (why : XfrFault) → Err why ≡ told standing → Gave standing (Err why)
 gave_refused (HasEnded (Err other)) why e =
     let same : why ≡ other = cc in ap (λ (w : XfrFault). Err w) same
 gave_refused _ why e = absurd cc
 
 -- while a call is outstanding the walk asks
-pub asks_on : (standing : Standing) → IsAsking standing → goes_on (told standing) ≡ true
+pub asks_on : (standing : WalkState) → IsAsking standing → goes_on (told standing) ≡ true
 asks_on (HasEnded outcome) h = absurd h
 asks_on _ h = refl
 
-pub walks_ok : (source : Peer) (wanted : Wanted) (most : ℕ) (end : Ended) (last : Awaiting) (before after : Box)
+pub walks_ok : (source : Peer) (wanted : Wanted) (most : ℕ) (end : Ended) (last : Awaiting) (before after : InboxTells)
     (came : Came) → TakesTurns walker_ways most (Ok end) (first_of source wanted) last before after
     → ((is_on last ≡ true → end ≡ AllTaken) → IsCame (Ok end) last.walk.standing came)
     → WalksTo source wanted most came before after
@@ -244,18 +244,18 @@ walks_ok source wanted most end last before after came takes comes = record {
   end = Ok end;
   last = last;
   takes = takes;
-  stands = all_stands source wanted most takes.posts (Ok end) (first_of source wanted) last takes.runs refl;
-  comes = comes (λ on. on_is_spent source wanted most takes.posts end (first_of source wanted) last takes.runs on);
+  stands = all_stands source wanted most takes.events (Ok end) (first_of source wanted) last takes.runs refl;
+  comes = comes (λ on. on_is_spent source wanted most takes.events end (first_of source wanted) last takes.runs on);
 }
 
-pub walks_failed : (source : Peer) (wanted : Wanted) (most : ℕ) (why : Failed) (last : Awaiting) (before after : Box)
+pub walks_failed : (source : Peer) (wanted : Wanted) (most : ℕ) (why : Failed) (last : Awaiting) (before after : InboxTells)
     → TakesTurns walker_ways most (Err why) (first_of source wanted) last before after
     → WalksTo source wanted most HasFailed before after
 walks_failed source wanted most why last before after takes = record {
   end = Err why;
   last = last;
   takes = takes;
-  stands = all_stands source wanted most takes.posts (Err why) (first_of source wanted) last takes.runs refl;
+  stands = all_stands source wanted most takes.events (Err why) (first_of source wanted) last takes.runs refl;
   comes = tt;
 }
 
@@ -282,28 +282,28 @@ end_goes false due old off = (refl, refl)
 end_goes true due old off = absurd cc
 
 -- what came of sound turns isn't a fault of the inbox
-pub never_failed : (end : Ended) (standing : Standing) (came : Came) → IsCame (Ok end) standing came → came ≡ HasFailed → ⊥
+pub never_failed : (end : Ended) (standing : WalkState) (came : Came) → IsCame (Ok end) standing came → came ≡ HasFailed → ⊥
 never_failed end standing (HasOutcome outcome) h e = cc
 never_failed end standing Spent h e = cc
 never_failed end standing HasFailed h e = h
 
 -- the same of a walk that was begun
 pub walks_begun : (source : Peer) (wanted : Wanted) (most : ℕ) (end : Ended) (walk : Walking) (last : Awaiting)
-    (before after : Box) (came : Came) → walk ≡ begun source wanted
+    (before after : InboxTells) (came : Came) → walk ≡ begun source wanted
     → TakesTurns walker_ways most (Ok end) (record { walk = walk; is_due = true }) last before after
     → ((is_on last ≡ true → end ≡ AllTaken) → IsCame (Ok end) last.walk.standing came)
     → WalksTo source wanted most came before after × (came ≡ HasFailed → ⊥)
 walks_begun source wanted most end walk last before after came e takes comes =
     let here = subst (λ (w : Walking). TakesTurns walker_ways most (Ok end) (record { walk = w; is_due = true }) last before
     after) e takes in
-    let spent = λ (on : is_on last ≡ true). on_is_spent source wanted most here.posts end (first_of source wanted) last
+    let spent = λ (on : is_on last ≡ true). on_is_spent source wanted most here.events end (first_of source wanted) last
     here.runs on in (
       walks_ok source wanted most end last before after came here comes,
       never_failed end last.walk.standing came (comes spent),
     )
 
 pub walks_lost : (source : Peer) (wanted : Wanted) (most : ℕ) (why : Failed) (walk : Walking) (last : Awaiting)
-    (before after : Box) → walk ≡ begun source wanted
+    (before after : InboxTells) → walk ≡ begun source wanted
     → TakesTurns walker_ways most (Err why) (record { walk = walk; is_due = true }) last before after
     → WalksTo source wanted most HasFailed before after
 walks_lost source wanted most why walk last before after e takes =

@@ -2,36 +2,37 @@
 use Rattle.std.proofs.Common.{◌≡◌, ◌⊎◌, inl, inr, ℕ, Bool, true, false, List, Option, Result, Ok, Err, refl, sym, ap, ◌∙◌, subst}
 use Rattle.std.specs.Prelude.{OnErr, IsTrue}
 use Rattle.yp_io.specs.Counts.{HasRisen}
-use Rattle.yp_slot.specs.declared.fault.SlotFault.TheVariants as slot
+use Rattle.yp_map_file.specs.declared.fault.SlotFault.TheVariants as slot
 use Rattle.yp_board.specs.declared.catalog.MapName.{MapName}
-use Rattle.yp_publish.specs.declared.install.Installed.{Installed}
-use Rattle.yp_office.specs.declared.office.Office.{Office}
-use Rattle.yp_office.specs.declared.status.Status.{Status}
-use Rattle.yp_office.specs.declared.status.Status.TheVariants.{WriteFault, DiskFault, InboxFault}
-use Rattle.yp_office.specs.Disks.{names_of}
-use Rattle.yp_office.specs.Seeing.{Seeing, output, history, WriteFails, DiskFails, InboxFails}
-use Rattle.yp_storing.specs.declared.xfr.XfrStop.TheVariants as stop
-use Rattle.yp_storing.specs.Xfr.{Order, Declines, disk_faults, xfr_may_end}
-use Rattle.yp_mailing.specs.Telling.{box}
-use Rattle.yp_walking.specs.declared.walk.WalkStop.{WalkStop}
-use Rattle.yp_walking.specs.declared.walk.WalkStop.TheVariants as walk
-use Rattle.yp_walking.specs.declared.walker.Came.TheVariants.{Spent, Failed as HasFailed}
-use Rattle.yp_walking.specs.Walk.{Moves, Moved, is_unmailed, IsEnd, Walks, WalksForNothing, WalkDoes}
+use Rattle.yp_publisher.specs.declared.install.Installed.{Installed}
+use Rattle.yp_command.specs.declared.office.office.Office.{Office}
+use Rattle.yp_command.specs.declared.office.status.Status.{Status}
+use Rattle.yp_command.specs.declared.office.status.Status.TheVariants.{WriteFault, DiskFault, InboxFault}
+use Rattle.yp_command.specs.office.Disks.{names_of}
+use Rattle.yp_command.specs.office.Seeing.{Seeing, output, history, WriteFails, DiskFails, InboxFails}
+use Rattle.yp_command_maps.specs.declared.xfr.XfrStop.TheVariants as stop
+use Rattle.yp_command_maps.specs.Xfr.{Job, XfrDeclines, disk_faults, xfr_may_end}
+use Rattle.yp_command_mail.specs.Telling.{box}
+use Rattle.yp_command_maps.specs.declared.walk.walk.WalkStop.{WalkStop}
+use Rattle.yp_command_maps.specs.declared.walk.walk.WalkStop.TheVariants as walk
+use Rattle.yp_command_maps.specs.declared.walk.walker.Came.TheVariants.{Spent, Failed as HasFailed}
+use Rattle.yp_command_maps.specs.walk.Walk.{Walks, WalksForNothing, WalkDoes}
+use Rattle.yp_command_maps.specs.inside.walk.Walk.{WalkMoves, Moved, is_unmailed, IsWalkEnd}
 
 -- no transfer ends with a fault of the inbox
 pub no_inbox : (status : Status) → IsTrue (xfr_may_end status) → status ≡ InboxFault → ⊥
 no_inbox status may e =
     let no : IsTrue (xfr_may_end InboxFault) = subst (λ (s : Status). IsTrue (xfr_may_end s)) e may in absurd cc
 
-module _ {S K D C A I T : Type 0} (seen : Seeing S K D C A I T) (order : Order) (turns : ℕ) (old new : Office S K D C A I T)
+module _ {S K D C A I T : Type 0} (seen : Seeing S K D C A I T) (job : Job) (turns : ℕ) (old new : Office S K D C A I T)
   where
     -- what was moved and told
     pub record Told (result : Result Installed WalkStop) (status : Status) : Type 0 where
-      pub moved : Moved order turns result (box seen old) (box seen new) (history seen old) (history seen new)
+      pub moved : Moved job turns result (box seen old) (box seen new) (history seen old) (history seen new)
           (disk_faults seen old) (disk_faults seen new)
       pub unmailed : is_unmailed result ≡ true → new.inbox ≡ old.inbox
       pub silent : OnErr result (new.wire.sink ≡ old.wire.sink)
-      pub ends : IsEnd order.store turns result status (output seen old) (output seen new)
+      pub ends : IsWalkEnd job.store turns result status (output seen old) (output seen new)
       pub write_fault : status ≡ WriteFault → WriteFails seen old new
       pub disk : (map : MapName) → status ≡ DiskFault map → result ≡ Err (walk.Transfer (stop.Unloaded slot.DiskFault))
       pub inbox : status ≡ InboxFault → result ≡ Err walk.InboxFault
@@ -54,8 +55,8 @@ module _ {S K D C A I T : Type 0} (seen : Seeing S K D C A I T) (order : Order) 
     only_disks inbox stays = stays ∙ ap (λ (i : I). record old { disks = new.disks; inbox = i }) inbox
 
     does : (result : Result Installed WalkStop) (status : Status) → Told result status
-        → Walks seen order turns status old new
-        ⊎ (WalksForNothing seen order turns status old new ⊎ Declines seen order status old new)
+        → Walks seen job turns status old new
+        ⊎ (WalksForNothing seen job turns status old new ⊎ XfrDeclines seen job status old new)
     does (Ok installed) status told =
         inl (record { result = Ok installed; did = told.moved.moves; tells = told.ends })
     does (Err (walk.Transfer (stop.Fault why))) status told =
@@ -82,11 +83,11 @@ module _ {S K D C A I T : Type 0} (seen : Seeing S K D C A I T) (order : Order) 
     disk_fault : (result : Result Installed WalkStop) (status : Status) (map : MapName) → Told result status
         → status ≡ DiskFault map → DiskFails seen old new
     disk_fault result status map told e =
-        (subst (λ (r : Result Installed WalkStop). Moves order turns r (box seen old) (box seen new) (history seen old)
+        (subst (λ (r : Result Installed WalkStop). WalkMoves job turns r (box seen old) (box seen new) (history seen old)
         (history seen new) (disk_faults seen old) (disk_faults seen new)) (told.disk map e) told.moved.moves).disk_fault refl
 
     pub walk_does : (result : Result Installed WalkStop) (status : Status) → Told result status
-        → WalkDoes seen order turns status old new
+        → WalkDoes seen job turns status old new
     walk_does result status told = record {
       does = does result status told;
       few = told.moved.few;

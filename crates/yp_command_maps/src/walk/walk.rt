@@ -3,35 +3,36 @@
 ghost use Rattle.std.specs.Prelude.{◌≡◌, ◌≢◌, true, false, [], ◌∷◌, Err, OnErr, List, None, length, option_map};
 ghost use Rattle.std.specs.Prelude.{IsTrue};
 ghost use Rattle.yp_io.specs.Counts.{HasRisen};
-ghost use Rattle.yp_board.specs.Catalogues.{catalog_fault, name_view};
+ghost use Rattle.yp_board.specs.Catalogues.{name_view};
+ghost use Rattle.yp_board.specs.inside.Catalogues.{catalog_fault};
 ghost use Rattle.yp_board.specs.Logs.{shown};
-ghost use Rattle.yp_words.specs.Words.{IsNamed};
-ghost use Rattle.yp_rpc.specs.Turns.{Box, box_of};
-ghost use Rattle.yp_publish.specs.Begins.{BeginsLevel};
-ghost use Rattle.yp_xfr.specs.Fetching.{wanted_of};
-ghost use Rattle.yp_office.specs.Disks.{names_of, history_of, faults_of, only_history, total_faults};
-ghost use Rattle.yp_office.specs.Seeing.{seeing, IsPassedOn};
-ghost use Rattle.yp_office.specs.Status.{IsTellable};
-ghost use Rattle.yp_storing.specs.Xfr.{order_view, catalogue_of, IsReady};
-ghost use Rattle.yp_walking.specs.declared.walker.Came.TheVariants.{Failed as HasFailed};
-ghost use Rattle.yp_walking.specs.declared.walk.WalkStop.TheVariants.{InboxFault as NoInbox};
-ghost use Rattle.yp_walking.specs.Turns.{WalksTo};
-ghost use Rattle.yp_walking.specs.Walk.{Moved, is_unmailed, IsEnd, walk_may_end};
-ghost use Rattle.yp_walking.specs.Walk.{WalkDoes};
+ghost use Rattle.yp_command.specs.inside.Words.{IsNamed};
+ghost use Rattle.yp_rpc.specs.Turns.{InboxTells};
+ghost use Rattle.yp_rpc.specs.inside.Turns.{box_by};
+ghost use Rattle.yp_publisher.specs.inside.Begins.{BeginsLevel};
+ghost use Rattle.yp_transfer.specs.Fetching.{wanted_of};
+ghost use Rattle.yp_command.specs.office.Disks.{names_of, history_of, faults_of, only_history, total_faults};
+ghost use Rattle.yp_command.specs.office.Seeing.{seeing, IsPassedOn};
+ghost use Rattle.yp_command.specs.inside.office.Status.{IsTellable};
+ghost use Rattle.yp_command_maps.specs.inside.Xfr.{xfr_job_view, catalogue_of, IsReady};
+ghost use Rattle.yp_command_maps.specs.declared.walk.walker.Came.TheVariants.{Failed as HasFailed};
+ghost use Rattle.yp_command_maps.specs.declared.walk.walk.WalkStop.TheVariants.{InboxFault as NoInbox};
+ghost use Rattle.yp_command_maps.specs.walk.Turns.{WalksTo};
+ghost use Rattle.yp_command_maps.specs.walk.Walk.{walk_may_end};
+ghost use Rattle.yp_command_maps.specs.inside.walk.Walk.{Moved, is_unmailed, IsWalkEnd};
+ghost use Rattle.yp_command_maps.specs.walk.Walk.{WalkDoes};
 
-use crate::walker::{Came, walk_inbox};
+use crate::walk::walker::{Came, walk_inbox};
+use crate::{XfrStop, catalog_of, hand_back, open_only, shown_order, store_fetched, tell_transfer};
 use std::alloc::Global;
 use std::random::RandomSource;
 use yp_board::{Catalog, MapName, PlainBoard};
+use yp_command::WalkJob;
+use yp_command::office::{Apart, NamedDisk, Office, Status, put_together, take_apart};
 use yp_io::{Clock, Dial, Disk, Inbox, NoMemory, Sink, Source, Texts};
-use yp_office::{Apart, NamedDisk, Office, Status, put_together, take_apart};
-use yp_publish::{Installed, Publisher};
+use yp_map_file::SlotFault;
+use yp_publisher::{Installed, Publisher};
 use yp_rpc::Room;
-use yp_slot::SlotFault;
-use yp_storing::{
-    XfrStop, catalog_of, hand_back, open_only, shown_order, store_fetched, tell_transfer,
-};
-use yp_words::WalkJob;
 
 /// Why a map isn't fetched and stored.
 #[derive(Clone, Copy, Debug)]
@@ -46,9 +47,9 @@ pub enum WalkStop {
 
 impl From<NoMemory> for WalkStop {
     ghost use Rattle.std.specs.Prelude.{◌≡◌};
-    ghost use Rattle.yp_slot.specs.declared.fault.SlotFault.TheVariants.{NoMemory as WithoutMemory};
-    ghost use Rattle.yp_storing.specs.declared.xfr.XfrStop.TheVariants.{Unloaded};
-    ghost use Rattle.yp_walking.specs.declared.walk.WalkStop.TheVariants.{Transfer};
+    ghost use Rattle.yp_map_file.specs.declared.fault.SlotFault.TheVariants.{NoMemory as WithoutMemory};
+    ghost use Rattle.yp_command_maps.specs.declared.xfr.XfrStop.TheVariants.{Unloaded};
+    ghost use Rattle.yp_command_maps.specs.declared.walk.walk.WalkStop.TheVariants.{Transfer};
 
     ghost from_gives = { λ fault stop. stop ≡ Transfer (Unloaded WithoutMemory) };
 
@@ -66,13 +67,13 @@ fn store_came<D: Disk>(
     came: Came,
 ) -> (Result<Installed, WalkStop>, Vec<D>)
     requires { length publisher.maps ≡ 1 }
-    ensures moves { (disks : List D) (before after : Box) → length disks ≡ 1
-        → BeginsLevel D.history D.faults (catalogue_of (order_view job.now.xfr)) disks publisher
+    ensures moves { (disks : List D) (before after : InboxTells) → length disks ≡ 1
+        → BeginsLevel D.history D.faults (catalogue_of (xfr_job_view job.now.xfr)) disks publisher
         → WalksTo job.now.xfr.host.peer
         (wanted_of job.now.xfr.store.domain.items job.now.xfr.store.map.items
         (option_map (λ version. version.order) (shown 0 publisher.board.known)) job.now.xfr.force)
         job.now.turns came before after
-        → Moved (order_view job.now.xfr) job.now.turns result.0 before after
+        → Moved (xfr_job_view job.now.xfr) job.now.turns result.0 before after
         (only_history D.history disks) (only_history D.history result.1.items)
         (total_faults D.faults disks) (total_faults D.faults result.1.items) × (length result.1.items ≡ 1) }
     ensures mailed { is_unmailed result.0 ≡ false }
@@ -101,11 +102,11 @@ fn walk_over<D: Disk, I: Inbox, R: RandomSource>(
     disks: Vec<D>,
     inbox: &mut I,
 ) -> (Result<Installed, WalkStop>, Vec<D>)
-    requires catalogue { catalog ≡ catalogue_of (order_view job.now.xfr) }
+    requires catalogue { catalog ≡ catalogue_of (xfr_job_view job.now.xfr) }
     requires named { IsNamed (name_view job.now.xfr.store) }
     requires only { length disks.items ≡ 1 }
-    ensures moves { Moved (order_view job.now.xfr) job.now.turns result.0
-        (box_of I.past I.turns I.quiets inbox.old) (box_of I.past I.turns I.quiets inbox.new)
+    ensures moves { Moved (xfr_job_view job.now.xfr) job.now.turns result.0
+        (box_by I.Inbox inbox.old) (box_by I.Inbox inbox.new)
         (only_history D.history disks.items) (only_history D.history result.1.items)
         (total_faults D.faults disks.items) (total_faults D.faults result.1.items) }
     ensures unmailed { is_unmailed result.0 ≡ true → inbox.new ≡ inbox.old }
@@ -127,7 +128,7 @@ fn walk_over<D: Disk, I: Inbox, R: RandomSource>(
     }
 }
 
-/// The same under the name of its map.
+/// Walks a map over its disk, which keeps the name of the map.
 fn walk_on<D: Disk, I: Inbox, R: RandomSource>(
     alloc: Global,
     rt: &R,
@@ -138,8 +139,8 @@ fn walk_on<D: Disk, I: Inbox, R: RandomSource>(
     requires catalogue { catalog_fault job.now.xfr.name.items (name_view job.now.xfr.store ∷ []) ≡ None }
     requires named { IsNamed (name_view job.now.xfr.store) }
     requires only { length disks.old.items ≡ 1 }
-    ensures moves { Moved (order_view job.now.xfr) job.now.turns result
-        (box_of I.past I.turns I.quiets inbox.old) (box_of I.past I.turns I.quiets inbox.new)
+    ensures moves { Moved (xfr_job_view job.now.xfr) job.now.turns result
+        (box_by I.Inbox inbox.old) (box_by I.Inbox inbox.new)
         (history_of D.history disks.old.items) (history_of D.history disks.new.items)
         (faults_of D.faults disks.old.items) (faults_of D.faults disks.new.items) }
     ensures unmailed { is_unmailed result ≡ true → inbox.new ≡ inbox.old }
@@ -169,7 +170,7 @@ fn tell_walk<K: Sink>(
     done: Result<Installed, WalkStop>,
 ) -> Status
     requires { IsNamed (name_view store) }
-    ensures ends { IsEnd (name_view store) turns done result (K.output sink.old) (K.output sink.new) }
+    ensures ends { IsWalkEnd (name_view store) turns done result (K.output sink.old) (K.output sink.new) }
     ensures may_end { IsTrue (walk_may_end result) }
     ensures tellable { IsTellable result }
     ensures flushed { result ≢ Status.WriteFault → IsTrue (K.flushed sink.old) → IsTrue (K.flushed sink.new) }
@@ -199,9 +200,9 @@ pub fn walk_map<
     T: Texts,
     R: RandomSource,
 >(alloc: Global, rt: &R, job: WalkJob, office: &mut Office<S, K, D, C, A, I, T>) -> Status
-    requires { IsReady (order_view job.xfr) (names_of office.old.disks.items) }
+    requires { IsReady (xfr_job_view job.xfr) (names_of office.old.disks.items) }
     ensures does { WalkDoes (seeing S.Source K.Sink D.Disk C.Clock A.Dial I.Inbox T.Texts)
-        (order_view job.xfr) job.turns result office.old office.new }
+        (xfr_job_view job.xfr) job.turns result office.old office.new }
     ensures may_end { IsTrue (walk_may_end result) }
     ensures passed_on { IsPassedOn (seeing S.Source K.Sink D.Disk C.Clock A.Dial I.Inbox T.Texts)
         result office.old office.new }

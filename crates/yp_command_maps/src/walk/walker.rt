@@ -3,23 +3,23 @@
 ghost use Rattle.std.specs.Prelude.{◌≡◌, true, Ok, IfOk, OnErr, if◌then◌else◌};
 ghost use Rattle.yp_io.specs.Counts.{HasRisen};
 ghost use Rattle.yp_board.specs.Catalogues.{name_view};
-ghost use Rattle.yp_rpc.specs.Turns.{box_of};
+ghost use Rattle.yp_rpc.specs.inside.Turns.{box_by};
 ghost use Rattle.yp_rpc.specs.declared.turns.Ended.{Ended as HowEnded};
 ghost use Rattle.yp_rpc.specs.declared.turns.Ended.TheVariants.{Spent as AllTaken};
-ghost use Rattle.yp_words.specs.Words.{IsNamed};
-ghost use Rattle.yp_xfr.specs.Fetching.{wanted_of};
-ghost use Rattle.yp_walking.specs.declared.walker.Came.TheVariants.{Failed as HasFailed};
-ghost use Rattle.yp_walking.specs.Turns.{goes_on, GoesOn, HearsMail, Rests, is_on, IsCame, WalksTo};
+ghost use Rattle.yp_command.specs.inside.Words.{IsNamed};
+ghost use Rattle.yp_transfer.specs.Fetching.{wanted_of};
+ghost use Rattle.yp_command_maps.specs.declared.walk.walker.Came.TheVariants.{Failed as HasFailed};
+ghost use Rattle.yp_command_maps.specs.walk.Turns.{goes_on, Goes, HearsMail, Rests, is_on, IsCame, WalksTo};
 
 use std::alloc::Global;
 use std::marker::Model;
 use std::random::RandomSource;
-use yp_enum::{Walk, Walked};
+use yp_command::WalkJob;
 use yp_io::{Failed, Inbox, NoMemory, Peer};
-use yp_rpc::{Errand, Room, Wish, take_turns};
+use yp_rpc::{Handler, Room, Wish, take_turns};
+use yp_transfer::XfrFault;
+use yp_transfer::walk::{Walk, Walked};
 use yp_version::Version;
-use yp_words::WalkJob;
-use yp_xfr::XfrFault;
 
 /// What came of the turns of a walk.
 #[derive(Drop)]
@@ -41,7 +41,7 @@ pub struct Walker<'a, R: RandomSource> {
 }
 
 impl<'a, R: RandomSource> Model for Walker<'a, R> {
-    ghost use Rattle.yp_walking.specs.Turns.{Awaiting};
+    ghost use Rattle.yp_command_maps.specs.walk.Turns.{Awaiting};
 
     ghost Value = { Awaiting };
 
@@ -55,8 +55,8 @@ fn goes_on(told: &Result<Walked, XfrFault>) -> bool
     matches!(told, Ok(Walked::Onward))
 }
 
-impl<'a, R: RandomSource> Errand for Walker<'a, R> {
-    ghost goes = { GoesOn };
+impl<'a, R: RandomSource> Handler for Walker<'a, R> {
+    ghost goes = { Goes };
 
     ghost hears = { HearsMail };
 
@@ -118,7 +118,7 @@ pub fn walk_inbox<R: RandomSource, I: Inbox>(
     requires { IsNamed (name_view job.now.xfr.store) }
     ensures walks { IfOk result (λ came. WalksTo job.now.xfr.host.peer
         (wanted_of job.now.xfr.store.domain.items job.now.xfr.store.map.items shown job.now.xfr.force) job.now.turns
-        came (box_of I.past I.turns I.quiets inbox.old) (box_of I.past I.turns I.quiets inbox.new)) }
+        came (box_by I.Inbox inbox.old) (box_by I.Inbox inbox.new)) }
     ensures cause { IfOk result (λ came. came ≡ HasFailed → HasRisen (I.faults inbox.old) (I.faults inbox.new)) }
     ensures unmailed { OnErr result (inbox.new ≡ inbox.old) }
 {

@@ -4,16 +4,16 @@ use Rattle.std.specs.List.{AllZip}
 use Rattle.std.proofs.lemmas.List.{length-append, length-map}
 use Rattle.yp_io.specs.Counts.{HasRisen}
 use Rattle.yp_io.specs.Disk.{History}
-use Rattle.yp_io.specs.DiskLaws.{stays, only_now}
-use Rattle.yp_slot.specs.declared.fault.SlotFault.{SlotFault}
-use Rattle.yp_slot.specs.declared.fault.SlotFault.TheVariants as fault
+use Rattle.yp_io.specs.inside.DiskLaws.{stays, only_now}
+use Rattle.yp_map_file.specs.declared.fault.SlotFault.{SlotFault}
+use Rattle.yp_map_file.specs.declared.fault.SlotFault.TheVariants as fault
 use Rattle.yp_board.specs.Catalogues.{name_view}
 use Rattle.yp_board.specs.declared.catalog.MapName.{MapName}
-use Rattle.yp_publish.specs.Begins.{IsUnwritten}
-use Rattle.yp_publish.specs.Opens.{IsOpened, IsStopped}
-use Rattle.yp_publish.specs.Standing.{Kept}
-use Rattle.yp_office.specs.declared.disks.NamedDisk.{NamedDisk}
-use Rattle.yp_office.specs.Disks.{names_of, disks_of, total_faults, faults_of}
+use Rattle.yp_publisher.specs.Begins.{IsUnwritten}
+use Rattle.yp_publisher.specs.Opens.{IsOpened, OpeningStopped}
+use Rattle.yp_publisher.specs.Standing.{StoredMap}
+use Rattle.yp_command.specs.declared.office.disks.NamedDisk.{NamedDisk}
+use Rattle.yp_command.specs.office.Disks.{names_of, disks_of, total_faults, faults_of}
 
 module _ {D : Type 0} (history : D → Option History) (faults : D → ℕ) where
   -- disks that stay
@@ -28,9 +28,9 @@ module _ {D : Type 0} (history : D → Option History) (faults : D → ℕ) wher
   )
 
   -- disks that were opened, before others
-  front_written : (front : List D) (opened : List (Kept D)) (old new : List D)
+  front_written : (front : List D) (opened : List (StoredMap D)) (old new : List D)
       → AllZip (IsOpened history faults) front opened → AllZip (IsUnwritten history faults) old new
-      → AllZip (IsUnwritten history faults) (front ++ old) (map (λ (k : Kept D). k.disk) opened ++ new)
+      → AllZip (IsUnwritten history faults) (front ++ old) (map (λ (k : StoredMap D). k.disk) opened ++ new)
   front_written [] [] old new each rest = rest
   front_written [] (kept ∷ opened) old new each rest = absurd each
   front_written (disk ∷ front) [] old new each rest = absurd each
@@ -40,12 +40,12 @@ module _ {D : Type 0} (history : D → Option History) (faults : D → ℕ) wher
   )
 
   -- disks that were all opened
-  pub opened_written : (old : List D) (opened : List (Kept D)) (new : List D) → AllZip (IsOpened history faults) old opened
-      → new ≡ map (λ (k : Kept D). k.disk) opened → AllZip (IsUnwritten history faults) old new
+  pub opened_written : (old : List D) (opened : List (StoredMap D)) (new : List D) → AllZip (IsOpened history faults) old opened
+      → new ≡ map (λ (k : StoredMap D). k.disk) opened → AllZip (IsUnwritten history faults) old new
   opened_written old opened new each is = subst (λ (l : List D). AllZip (IsUnwritten history faults) old l) (sym is) (all old opened each)
     where
-      all : (front : List D) (opened : List (Kept D)) → AllZip (IsOpened history faults) front opened
-          → AllZip (IsUnwritten history faults) front (map (λ (k : Kept D). k.disk) opened)
+      all : (front : List D) (opened : List (StoredMap D)) → AllZip (IsOpened history faults) front opened
+          → AllZip (IsUnwritten history faults) front (map (λ (k : StoredMap D). k.disk) opened)
       all [] [] each = tt
       all [] (kept ∷ opened) each = absurd each
       all (disk ∷ front) [] each = absurd each
@@ -54,7 +54,7 @@ module _ {D : Type 0} (history : D → Option History) (faults : D → ℕ) wher
 
   -- disks of which one was refused
   pub stopped_written : (old new : List D) (number : ℕ) (why : SlotFault)
-      → IsStopped history faults old new number why → AllZip (IsUnwritten history faults) old new
+      → OpeningStopped history faults old new number why → AllZip (IsUnwritten history faults) old new
   stopped_written old new number why stopped =
       let refused = stopped.refused in
       let here : AllZip (IsUnwritten history faults) (stopped.before ∷ stopped.rest) (stopped.after ∷ stopped.rest) =
@@ -64,10 +64,10 @@ module _ {D : Type 0} (history : D → Option History) (faults : D → ℕ) wher
       stopped.each here)
 
   -- the faults of disks that were opened haven't fallen, and those of one behind them rose
-  total_rose : (front : List D) (opened : List (Kept D)) (before after : D) (rest : List D)
+  total_rose : (front : List D) (opened : List (StoredMap D)) (before after : D) (rest : List D)
       → AllZip (IsOpened history faults) front opened → HasRisen (faults before) (faults after)
       → HasRisen (total_faults faults (front ++ before ∷ rest))
-      (total_faults faults (map (λ (k : Kept D). k.disk) opened ++ after ∷ rest))
+      (total_faults faults (map (λ (k : StoredMap D). k.disk) opened ++ after ∷ rest))
   total_rose [] [] before after rest each risen = omega (arith, risen)
   total_rose [] (kept ∷ opened) before after rest each risen = absurd each
   total_rose (disk ∷ front) [] before after rest each risen = absurd each
@@ -77,7 +77,7 @@ module _ {D : Type 0} (history : D → Option History) (faults : D → ℕ) wher
       omega (arith, here, more)
 
   pub stopped_risen : (old new : List (NamedDisk D)) (number : ℕ)
-      → IsStopped history faults (disks_of old) (disks_of new) number fault.DiskFault
+      → OpeningStopped history faults (disks_of old) (disks_of new) number fault.DiskFault
       → HasRisen (faults_of faults old) (faults_of faults new)
   stopped_risen old new number stopped =
       let risen = total_rose stopped.front stopped.opened stopped.before stopped.after stopped.rest stopped.each
@@ -85,12 +85,12 @@ module _ {D : Type 0} (history : D → Option History) (faults : D → ℕ) wher
       let was : faults_of faults old ≡ total_faults faults (stopped.front ++ stopped.before ∷ stopped.rest) =
       ap (total_faults faults) stopped.old_is in
       let is : faults_of faults new
-      ≡ total_faults faults (map (λ (k : Kept D). k.disk) stopped.opened ++ stopped.after ∷ stopped.rest) =
+      ≡ total_faults faults (map (λ (k : StoredMap D). k.disk) stopped.opened ++ stopped.after ∷ stopped.rest) =
       ap (total_faults faults) stopped.new_is in
       omega (arith, risen, was, is)
 
   -- as many disks were opened as stood in front
-  opened_count : (front : List D) (opened : List (Kept D)) → AllZip (IsOpened history faults) front opened
+  opened_count : (front : List D) (opened : List (StoredMap D)) → AllZip (IsOpened history faults) front opened
       → length opened ≡ length front
   opened_count [] [] each = refl
   opened_count [] (kept ∷ opened) each = absurd each
@@ -99,18 +99,18 @@ module _ {D : Type 0} (history : D → Option History) (faults : D → ℕ) wher
 
   -- as many disks come back as there were, and the one that was refused is among them
   pub stopped_count : (old new : List D) (number : ℕ) (why : SlotFault)
-      → IsStopped history faults old new number why → (length new ≡ length old) × (number < length old)
+      → OpeningStopped history faults old new number why → (length new ≡ length old) × (number < length old)
   stopped_count old new number why stopped =
       let was : length old ≡ length stopped.front + length (stopped.before ∷ stopped.rest) =
       ap length stopped.old_is ∙ length-append stopped.front (stopped.before ∷ stopped.rest) in
-      let is : length new ≡ length (map (λ (k : Kept D). k.disk) stopped.opened) + length (stopped.after ∷ stopped.rest) =
+      let is : length new ≡ length (map (λ (k : StoredMap D). k.disk) stopped.opened) + length (stopped.after ∷ stopped.rest) =
       ap length stopped.new_is
-      ∙ length-append (map (λ (k : Kept D). k.disk) stopped.opened) (stopped.after ∷ stopped.rest) in
-      let mapped = length-map stopped.opened (λ (k : Kept D). k.disk) in
+      ∙ length-append (map (λ (k : StoredMap D). k.disk) stopped.opened) (stopped.after ∷ stopped.rest) in
+      let mapped = length-map stopped.opened (λ (k : StoredMap D). k.disk) in
       let front = opened_count stopped.front stopped.opened stopped.each in
       (omega (arith, was, is, mapped, front), omega (arith, was, stopped.number_is))
 
-  pub all_opened : (disks : List D) (maps : List (Kept D)) → AllZip (IsOpened history faults) disks maps
+  pub all_opened : (disks : List D) (maps : List (StoredMap D)) → AllZip (IsOpened history faults) disks maps
       → length maps ≡ length disks
   all_opened = opened_count
 

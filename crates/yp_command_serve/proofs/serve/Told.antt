@@ -5,34 +5,37 @@ use Rattle.std.specs.List.{AllZip}
 use Rattle.yp_io.specs.Counts.{HasRisen, capped}
 use Rattle.yp_io.specs.Disk.{History}
 use Rattle.yp_io.specs.declared.texts.TextFile.{TextFile}
-use Rattle.yp_slot.specs.declared.fault.SlotFault.{SlotFault}
-use Rattle.yp_slot.specs.declared.fault.SlotFault.TheVariants as fault
+use Rattle.yp_map_file.specs.declared.fault.SlotFault.{SlotFault}
+use Rattle.yp_map_file.specs.declared.fault.SlotFault.TheVariants as fault
 use Rattle.yp_board.specs.Catalogues.{Name}
 use Rattle.yp_board.specs.declared.catalog.MapName.{MapName}
-use Rattle.yp_publish.specs.Begins.{IsUnwritten}
-use Rattle.yp_publish.specs.Opens.{IsOpened, IsStopped}
-use Rattle.yp_publish.specs.Standing.{Kept}
-use Rattle.yp_worker.specs.Receptions.{Opening, IsKept}
-use Rattle.yp_office.specs.declared.office.Office.{Office}
-use Rattle.yp_office.specs.declared.status.Status.{Status}
-use Rattle.yp_office.specs.declared.status.Status.TheVariants.{Done, WriteFault, NoMemory, Damaged, DiskFault}
-use Rattle.yp_office.specs.declared.status.Status.TheVariants.{ListenFault, InboxFault}
-use Rattle.yp_office.specs.Disks.{names_of, disks_of}
-use Rattle.yp_office.specs.Files.{Fails, TellsOf}
-use Rattle.yp_office.specs.Seeing.{Seeing, output, moment, WriteFails, DiskFails, InboxFails}
-use Rattle.yp_hosting.specs.declared.stock.NotHosted.{NotHosted}
-use Rattle.yp_hosting.specs.declared.stock.Stock.{Stock}
-use Rattle.yp_hosting.specs.declared.stock.NotHosted.TheVariants as unhosted
-use Rattle.yp_hosting.specs.declared.tally.Hosted.{Hosted}
-use Rattle.yp_hosting.specs.Hosting.{IsHosted, IsUnhosted}
-use Rattle.yp_hosting.specs.Serve.{ServeOrder, house, place, IsToAccept, ServesMaps, IsShut}
-use Rattle.yp_hosting.specs.Serve.{Serves, TellsServed, TellsEnd, IsWithin, HasCauses, ServeDoes}
-use Rattle.yp_hosting.proofs.Completed.{completes}
-use Rattle.yp_hosting.proofs.Disks.{nothing_written, opened_written, stopped_written, stopped_risen, stopped_count}
+use Rattle.yp_publisher.specs.Begins.{IsUnwritten}
+use Rattle.yp_publisher.specs.Opens.{IsOpened, OpeningStopped}
+use Rattle.yp_publisher.specs.Standing.{StoredMap}
+use Rattle.yp_worker.specs.Receptions.{ListenTells, IsListenerState}
+use Rattle.yp_command.specs.declared.office.office.Office.{Office}
+use Rattle.yp_command.specs.declared.office.status.Status.{Status}
+use Rattle.yp_command.specs.declared.office.status.Status.TheVariants.{Done, WriteFault, NoMemory, Damaged, DiskFault}
+use Rattle.yp_command.specs.declared.office.status.Status.TheVariants.{ListenFault, InboxFault}
+use Rattle.yp_command.specs.office.Disks.{names_of, disks_of}
+use Rattle.yp_command.specs.office.Files.{Fails}
+use Rattle.yp_command.specs.inside.office.Files.{TellsOf}
+use Rattle.yp_command.specs.office.Seeing.{Seeing, output, moment, WriteFails, DiskFails, InboxFails}
+use Rattle.yp_command_serve.specs.declared.serve.resources.NotHosted.{NotHosted}
+use Rattle.yp_command_serve.specs.declared.serve.resources.ServerResources.{ServerResources}
+use Rattle.yp_command_serve.specs.declared.serve.resources.NotHosted.TheVariants as unhosted
+use Rattle.yp_command_serve.specs.declared.serve.tally.Hosted.{Hosted}
+use Rattle.yp_command_serve.specs.serve.Hosting.{IsHosted}
+use Rattle.yp_command_serve.specs.inside.serve.Hosting.{IsUnhosted}
+use Rattle.yp_command_serve.specs.serve.Serve.{Job, setup, place, IsToAccept, ServesMaps, IsShut}
+use Rattle.yp_command_serve.specs.serve.Serve.{ServesOrRefuses, TellsServed, HasServeCauses, ServeDoes}
+use Rattle.yp_command_serve.specs.inside.serve.Serve.{TellsServeEnd, IsWithin}
+use Rattle.yp_command_serve.proofs.serve.Completed.{completes}
+use Rattle.yp_command_serve.proofs.serve.Disks.{nothing_written, opened_written, stopped_written, stopped_risen, stopped_count}
 
 -- as many connections came as were to, where no accept has failed
-pub all_came : (old now : Opening) (connections wanted : ℕ) (failed : Bool)
-    → IsKept old now connections failed 0 1 → IsToAccept wanted old
+pub all_came : (old now : ListenTells) (connections wanted : ℕ) (failed : Bool)
+    → IsListenerState old now connections failed 0 1 → IsToAccept wanted old
     → failed ≡ false → connections ≡ capped 0 wanted
 all_came old now connections wanted failed kept ready fine =
     let over : now.accepted ≡ now.most =
@@ -41,29 +44,29 @@ all_came old now connections wanted failed kept ready fine =
     omega (arith, over, kept.most, kept.accepts.accepted, ready.most, ready.none) in
     kept.accepts.connections_are ∙ ap (capped 0) count
 
-module _ {S K D C A I T : Type 0} (seen : Seeing S K D C A I T) (order : ServeOrder) (status : Status)
-    (old new : Office S K D C A I T) (door door' : Opening) where
+module _ {S K D C A I T : Type 0} (seen : Seeing S K D C A I T) (job : Job) (status : Status)
+    (old new : Office S K D C A I T) (door door' : ListenTells) where
   -- what was served is told by its status
-  pub served_told : (hosted : Hosted) → IsHosted seen.disk.history seen.disk.faults (house seen order old) hosted
+  pub served_told : (hosted : Hosted) → IsHosted seen.disk.history seen.disk.faults (setup seen job old) hosted
       (place seen old door) (place seen new door') (disks_of old.disks.items) (disks_of new.disks.items)
       → (hosted.inbox_fault ≡ true → InboxFails seen old new)
       → TellsServed hosted status (output seen old) (output seen new)
-      → Serves seen order status old new door door'
+      → ServesOrRefuses seen job status old new door door'
   served_told hosted is inbox tells = by_status status tells
     where
       maps : (s : Status) → TellsServed hosted s (output seen old) (output seen new)
-          → ServesMaps seen order s old new door door'
+          → ServesMaps seen job s old new door door'
       maps s told = record {
         hosted = hosted;
         is_hosted = is;
-        all = λ ready fine. all_came door door' hosted.tally.connections order.connections
+        all = λ ready fine. all_came door door' hosted.tally.connections job.connections
             hosted.tally.listen_fault is.served.connections ready fine;
         inbox = inbox;
         tells = told;
       }
 
       by_status : (s : Status) → TellsServed hosted s (output seen old) (output seen new)
-          → Serves seen order s old new door door'
+          → ServesOrRefuses seen job s old new door door'
       by_status Done told = maps Done told
       by_status WriteFault told = maps WriteFault told
       by_status ListenFault told = maps ListenFault told
@@ -73,15 +76,15 @@ module _ {S K D C A I T : Type 0} (seen : Seeing S K D C A I T) (order : ServeOr
   -- want of memory is told of disks that were stopped at, or were all loaded
   pub memory_told : IsShut old new door door' → AllZip (IsUnwritten seen.disk.history seen.disk.faults)
       (disks_of old.disks.items) (disks_of new.disks.items) → status ≡ NoMemory
-      → Serves seen order status old new door door'
+      → ServesOrRefuses seen job status old new door door'
   memory_told shut unwritten is =
-      subst (λ s. Serves seen order s old new door door') (sym is) (record { disks = unwritten; shut = shut })
+      subst (λ s. ServesOrRefuses seen job s old new door door') (sym is) (record { disks = unwritten; shut = shut })
 
   pub stopped_told : (number : ℕ) (why : SlotFault) → IsShut old new door door'
-      → IsStopped seen.disk.history seen.disk.faults (disks_of old.disks.items) (disks_of new.disks.items) number why
-      → TellsOf order.stores number why status → Serves seen order status old new door door'
+      → OpeningStopped seen.disk.history seen.disk.faults (disks_of old.disks.items) (disks_of new.disks.items) number why
+      → TellsOf job.stores number why status → ServesOrRefuses seen job status old new door door'
   stopped_told number why shut stopped (inl is) =
-      subst (λ s. Serves seen order s old new door door') (sym is) (record {
+      subst (λ s. ServesOrRefuses seen job s old new door door') (sym is) (record {
         disks = stopped_written seen.disk.history seen.disk.faults (disks_of old.disks.items)
             (disks_of new.disks.items) number why stopped;
         shut = shut;
@@ -89,8 +92,8 @@ module _ {S K D C A I T : Type 0} (seen : Seeing S K D C A I T) (order : ServeOr
   stopped_told number why shut stopped (inr (store, found, fails)) = by_fault why stopped status fails
     where
       by_fault : (w : SlotFault)
-          → IsStopped seen.disk.history seen.disk.faults (disks_of old.disks.items) (disks_of new.disks.items) number w
-          → (s : Status) → Fails store w s → Serves seen order s old new door door'
+          → OpeningStopped seen.disk.history seen.disk.faults (disks_of old.disks.items) (disks_of new.disks.items) number w
+          → (s : Status) → Fails store w s → ServesOrRefuses seen job s old new door door'
       by_fault (fault.Damaged at rule) stopped (Damaged map at' rule') fails = record {
         number = number;
         named = found ∙ ap (λ (n : Name). Some n) (sym fails.0);
@@ -112,8 +115,8 @@ module _ {S K D C A I T : Type 0} (seen : Seeing S K D C A I T) (order : ServeOr
 
   -- a fault of a disk is told where its count rose
   pub risen_of : (number : ℕ) (why : SlotFault) (map : MapName) → status ≡ DiskFault map
-      → IsStopped seen.disk.history seen.disk.faults (disks_of old.disks.items) (disks_of new.disks.items) number why
-      → TellsOf order.stores number why status → DiskFails seen old new
+      → OpeningStopped seen.disk.history seen.disk.faults (disks_of old.disks.items) (disks_of new.disks.items) number why
+      → TellsOf job.stores number why status → DiskFails seen old new
   risen_of number why map is stopped (inl memory) = absurd (let no : NoMemory ≡ DiskFault map = sym memory ∙ is in cc)
   risen_of number (fault.Damaged at rule) map is stopped (inr (store, found, fails)) =
       absurd (subst (λ s. Fails store (fault.Damaged at rule) s) is fails)
@@ -151,65 +154,65 @@ no_inbox : (status : Status) → is_load status ≡ true → status ≡ InboxFau
 unfolding is_load
 no_inbox status is e = let no : is_load InboxFault ≡ true = subst (λ s. is_load s ≡ true) e is in absurd cc
 
-module _ {S K D C A I T : Type 0} (seen : Seeing S K D C A I T) (order : ServeOrder) (status : Status)
-    (old new : Office S K D C A I T) (door door' : Opening) where
+module _ {S K D C A I T : Type 0} (seen : Seeing S K D C A I T) (job : Job) (status : Status)
+    (old new : Office S K D C A I T) (door door' : ListenTells) where
   -- what was served, or why nobody was, is told by its status
   pub end_told : (hosted : Result Hosted NotHosted)
-      → IfOk hosted (λ h. IsHosted seen.disk.history seen.disk.faults (house seen order old) h (place seen old door)
+      → IfOk hosted (λ h. IsHosted seen.disk.history seen.disk.faults (setup seen job old) h (place seen old door)
       (place seen new door') (disks_of old.disks.items) (disks_of new.disks.items))
       → IfErr hosted (λ why. IsUnhosted seen.disk.history seen.disk.faults why
       (disks_of old.disks.items) (disks_of new.disks.items))
       → OnErr hosted (IsShut old new door door')
       → IfOk hosted (λ h. h.inbox_fault ≡ true → InboxFails seen old new)
-      → TellsEnd hosted order.stores status (output seen old) (output seen new)
-      → Serves seen order status old new door door'
-  end_told (Ok h) is un shut inbox tells = served_told seen order status old new door door' h is inbox tells
+      → TellsServeEnd hosted job.stores status (output seen old) (output seen new)
+      → ServesOrRefuses seen job status old new door door'
+  end_told (Ok h) is un shut inbox tells = served_told seen job status old new door door' h is inbox tells
   end_told (Err (unhosted.Unloaded number why)) is un shut inbox tells =
-      stopped_told seen order status old new door door' number why shut un tells
+      stopped_told seen job status old new door door' number why shut un tells
   end_told (Err unhosted.NoMemory) is un shut inbox tells =
-      memory_told seen order status old new door door' shut un tells
+      memory_told seen job status old new door door' shut un tells
 
   -- a failed accept is told where the listener's count rose
   pub listen_risen : (hosted : Result Hosted NotHosted)
-      → IfOk hosted (λ h. IsHosted seen.disk.history seen.disk.faults (house seen order old) h (place seen old door)
+      → IfOk hosted (λ h. IsHosted seen.disk.history seen.disk.faults (setup seen job old) h (place seen old door)
       (place seen new door') (disks_of old.disks.items) (disks_of new.disks.items))
-      → TellsEnd hosted order.stores status (output seen old) (output seen new) → status ≡ ListenFault
+      → TellsServeEnd hosted job.stores status (output seen old) (output seen new) → status ≡ ListenFault
       → HasRisen door.faults door'.faults
   listen_risen (Ok h) is tells e =
       let told = subst (λ s. TellsServed h s (output seen old) (output seen new)) e tells in
       is.served.connections.fault told.0
   listen_risen (Err (unhosted.Unloaded number why)) is tells e =
-      absurd (no_listen status (told_load order.stores number why status tells) e)
+      absurd (no_listen status (told_load job.stores number why status tells) e)
   listen_risen (Err unhosted.NoMemory) is tells e = absurd (let no : NoMemory ≡ ListenFault = sym tells ∙ e in cc)
 
   -- a fault of the inbox is told where its count rose
   pub inbox_risen : (hosted : Result Hosted NotHosted)
       → IfOk hosted (λ h. h.inbox_fault ≡ true → InboxFails seen old new)
-      → TellsEnd hosted order.stores status (output seen old) (output seen new) → status ≡ InboxFault
+      → TellsServeEnd hosted job.stores status (output seen old) (output seen new) → status ≡ InboxFault
       → InboxFails seen old new
   inbox_risen (Ok h) cause tells e =
       let told = subst (λ s. TellsServed h s (output seen old) (output seen new)) e tells in
       cause told.1
   inbox_risen (Err (unhosted.Unloaded number why)) cause tells e =
-      absurd (no_inbox status (told_load order.stores number why status tells) e)
+      absurd (no_inbox status (told_load job.stores number why status tells) e)
   inbox_risen (Err unhosted.NoMemory) cause tells e = absurd (let no : NoMemory ≡ InboxFault = sym tells ∙ e in cc)
 
   -- a fault of a disk is told where its count rose
   pub disk_risen : (hosted : Result Hosted NotHosted) (map : MapName)
       → IfErr hosted (λ why. IsUnhosted seen.disk.history seen.disk.faults why
       (disks_of old.disks.items) (disks_of new.disks.items))
-      → TellsEnd hosted order.stores status (output seen old) (output seen new) → status ≡ DiskFault map
+      → TellsServeEnd hosted job.stores status (output seen old) (output seen new) → status ≡ DiskFault map
       → DiskFails seen old new
   disk_risen (Ok h) map un tells e =
       absurd (subst (λ s. TellsServed h s (output seen old) (output seen new)) e tells)
   disk_risen (Err (unhosted.Unloaded number why)) map un tells e =
-      risen_of seen order status old new door door' number why map e un tells
+      risen_of seen job status old new door door' number why map e un tells
   disk_risen (Err unhosted.NoMemory) map un tells e = absurd (let no : NoMemory ≡ DiskFault map = sym tells ∙ e in cc)
 
 -- nothing was done
-pub nothing_done : {S K D C A I T : Type 0} (seen : Seeing S K D C A I T) (order : ServeOrder)
-    (office : Office S K D C A I T) (door : Opening) → ServeDoes seen order NoMemory office office door door
-nothing_done seen order office door = record {
+pub nothing_done : {S K D C A I T : Type 0} (seen : Seeing S K D C A I T) (job : Job)
+    (office : Office S K D C A I T) (door : ListenTells) → ServeDoes seen job NoMemory office office door door
+nothing_done seen job office door = record {
   serves = record {
     disks = nothing_written seen.disk.history seen.disk.faults (disks_of office.disks.items);
     shut = record { stays = refl; door_stays = refl };
@@ -229,8 +232,8 @@ nothing_done seen order office door = record {
 
 -- where memory ran out once all files were loaded, nothing was written
 pub unhosted_of : {D : Type 0} (history : D → Option History) (faults : D → ℕ) (hosted : Result Hosted NotHosted)
-    (old : List D) (opened : List (Kept D)) (new : List D) → AllZip (IsOpened history faults) old opened
-    → IfErr hosted (λ why. why ≡ unhosted.NoMemory) → OnErr hosted (new ≡ map (λ (k : Kept D). k.disk) opened)
+    (old : List D) (opened : List (StoredMap D)) (new : List D) → AllZip (IsOpened history faults) old opened
+    → IfErr hosted (λ why. why ≡ unhosted.NoMemory) → OnErr hosted (new ≡ map (λ (k : StoredMap D). k.disk) opened)
     → IfErr hosted (λ why. IsUnhosted history faults why old new)
 unhosted_of history faults (Ok h) old opened new each is same = tt
 unhosted_of history faults (Err why) old opened new each is same =
@@ -247,10 +250,10 @@ number_within history faults (Err (unhosted.Unloaded number why)) old new count 
     let within = (stopped_count history faults old new number why un).1 in omega (arith, within, e)
 
 -- where nobody was served, an office is as it was but for its disks
-pub shut_of : {S K D C A I T L : Type 0} (tells : L → Opening) (old new : Office S K D C A I T)
-    (stock back : Stock D A T C L I) (hosted : Result Hosted NotHosted)
-    → stock.desk.dial ≡ old.dial → stock.desk.texts ≡ old.texts → stock.desk.clock ≡ old.clock
-    → stock.inbox ≡ old.inbox
+pub shut_of : {S K D C A I T L : Type 0} (tells : L → ListenTells) (old new : Office S K D C A I T)
+    (resources back : ServerResources D A T C L I) (hosted : Result Hosted NotHosted)
+    → resources.desk.dial ≡ old.dial → resources.desk.texts ≡ old.texts → resources.desk.clock ≡ old.clock
+    → resources.inbox ≡ old.inbox
     → new ≡ record {
       wire = record old.wire { sink = new.wire.sink };
       disks = new.disks;
@@ -259,12 +262,12 @@ pub shut_of : {S K D C A I T L : Type 0} (tells : L → Opening) (old new : Offi
       inbox = back.inbox;
       texts = back.desk.texts;
     }
-    → OnErr hosted (back ≡ record stock { disks = back.disks }) → OnErr hosted (new.wire.sink ≡ old.wire.sink)
-    → OnErr hosted (IsShut old new (tells stock.listen) (tells back.listen))
-shut_of tells old new stock back (Ok h) a b c d form same sink = tt
-shut_of {S} {K} {D} {C} {A} {I} {T} {L} tells old new stock back (Err why) a b c d form same sink = record {
+    → OnErr hosted (back ≡ record resources { disks = back.disks }) → OnErr hosted (new.wire.sink ≡ old.wire.sink)
+    → OnErr hosted (IsShut old new (tells resources.listen) (tells back.listen))
+shut_of tells old new resources back (Ok h) a b c d form same sink = tt
+shut_of {S} {K} {D} {C} {A} {I} {T} {L} tells old new resources back (Err why) a b c d form same sink = record {
   stays = form
-      ∙ ap (λ (s : Stock D A T C L I). record {
+      ∙ ap (λ (s : ServerResources D A T C L I). record {
         wire = record old.wire { sink = new.wire.sink };
         disks = new.disks;
         clock = s.desk.clock;
@@ -273,43 +276,43 @@ shut_of {S} {K} {D} {C} {A} {I} {T} {L} tells old new stock back (Err why) a b c
         texts = s.desk.texts;
       }) same
       ∙ rw (a, b, c, d, sink) refl;
-  door_stays = ap (λ (s : Stock D A T C L I). tells s.listen) same;
+  door_stays = ap (λ (s : ServerResources D A T C L I). tells s.listen) same;
 }
 
 -- all that was done, of what is told of it
-pub all_done : {S K D C A I T : Type 0} (seen : Seeing S K D C A I T) (order : ServeOrder) (status : Status)
-    (old new : Office S K D C A I T) (door door' : Opening) (hosted : Result Hosted NotHosted) (apart back : List D)
+pub all_done : {S K D C A I T : Type 0} (seen : Seeing S K D C A I T) (job : Job) (status : Status)
+    (old new : Office S K D C A I T) (door door' : ListenTells) (hosted : Result Hosted NotHosted) (apart back : List D)
     → apart ≡ disks_of old.disks.items → back ≡ disks_of new.disks.items
-    → IfOk hosted (λ h. IsHosted seen.disk.history seen.disk.faults (house seen order old) h (place seen old door)
+    → IfOk hosted (λ h. IsHosted seen.disk.history seen.disk.faults (setup seen job old) h (place seen old door)
     (place seen new door') apart back)
     → IfErr hosted (λ why. IsUnhosted seen.disk.history seen.disk.faults why apart back)
     → OnErr hosted (IsShut old new door door')
-    → TellsEnd hosted order.stores status (output seen old) (output seen new)
+    → TellsServeEnd hosted job.stores status (output seen old) (output seen new)
     → IfOk hosted (λ h. h.inbox_fault ≡ true → InboxFails seen old new)
     → (status ≡ WriteFault → WriteFails seen old new) → names_of new.disks.items ≡ names_of old.disks.items
     → moment seen new ≡ moment seen old
     → ((file : TextFile) → seen.texts.text new.texts file ≡ seen.texts.text old.texts file)
-    → new.wire.source ≡ old.wire.source → ServeDoes seen order status old new door door'
-all_done {D = D} seen order status old new door door' hosted apart back a b is un shut tells inbox write names told texts
+    → new.wire.source ≡ old.wire.source → ServeDoes seen job status old new door door'
+all_done {D = D} seen job status old new door door' hosted apart back a b is un shut tells inbox write names told texts
     source =
     let Is : List D → List D → Type 0 = λ l m. IfOk hosted (λ h. IsHosted seen.disk.history seen.disk.faults
-    (house seen order old) h (place seen old door) (place seen new door') l m) in
+    (setup seen job old) h (place seen old door) (place seen new door') l m) in
     let Un : List D → List D → Type 0 = λ l m. IfErr hosted (λ why. IsUnhosted seen.disk.history seen.disk.faults
     why l m) in
     let was = disks_of old.disks.items in
     let now = disks_of new.disks.items in
     let is' : Is was now = subst (λ (m : List D). Is was m) b (subst (λ (l : List D). Is l back) a is) in
     let un' : Un was now = subst (λ (m : List D). Un was m) b (subst (λ (l : List D). Un l back) a un) in
-    let serves = end_told seen order status old new door door' hosted is' un' shut inbox tells in
-    let causes : HasCauses seen status old new door door' = record {
-      listen_fault = λ e. listen_risen seen order status old new door door' hosted is' tells e;
-      inbox_fault = λ e. inbox_risen seen order status old new door door' hosted inbox tells e;
+    let serves = end_told seen job status old new door door' hosted is' un' shut inbox tells in
+    let causes : HasServeCauses seen status old new door door' = record {
+      listen_fault = λ e. listen_risen seen job status old new door door' hosted is' tells e;
+      inbox_fault = λ e. inbox_risen seen job status old new door door' hosted inbox tells e;
       write_fault = write;
-      disk_fault = λ map e. disk_risen seen order status old new door door' hosted map un' tells e;
+      disk_fault = λ map e. disk_risen seen job status old new door door' hosted map un' tells e;
     } in
     record {
       serves = serves;
-      complete = λ sound listen inbox disk write'. completes seen order old new door door' status serves causes sound
+      complete = λ sound listen inbox disk write'. completes seen job old new door door' status serves causes sound
           listen inbox disk write';
       causes = causes;
       names = names;

@@ -1,6 +1,6 @@
 -- What `serve` does: it serves stored maps to many callers at once.
-use Rattle.std.specs.Prelude.{◌≡◌, ◌⊎◌, ◌<◌, ℕ, Bool, true, false, List, All, ◌++◌, map, Option, Some, Result, Ok, Err}
-use Rattle.std.specs.Prelude.{slice_get, codes, decimal, ⊤}
+use Rattle.std.specs.Prelude.{◌≡◌, ◌⊎◌, ℕ, Bool, true, false, List, All, ◌++◌, map, Option, Some}
+use Rattle.std.specs.Prelude.{slice_get, codes, decimal}
 use Rattle.std.specs.List.{AllZip}
 use Rattle.std.specs.Io.KnownBytes.{Appends}
 use Rattle.yp_io.specs.Counts.{HasRisen, capped}
@@ -8,53 +8,44 @@ use Rattle.yp_io.specs.Disk.{History}
 use Rattle.yp_io.specs.Dials.{dial_tells}
 use Rattle.yp_io.specs.Streams.{AppendsFront}
 use Rattle.yp_io.specs.declared.texts.TextFile.{TextFile}
-use Rattle.yp_slot.specs.declared.fault.SlotFault.{SlotFault}
-use Rattle.yp_slot.specs.declared.fault.SlotFault.TheVariants as fault
-use Rattle.yp_slot.specs.Slots.{IsSound}
-use Rattle.yp_slot.specs.Stands.{stands}
+use Rattle.yp_map_file.specs.declared.fault.SlotFault.{SlotFault}
+use Rattle.yp_map_file.specs.declared.fault.SlotFault.TheVariants as fault
+use Rattle.yp_map_file.specs.Slots.{IsSound}
+use Rattle.yp_map_file.specs.Stands.{stands}
 use Rattle.yp_board.specs.Catalogues.{Catalogue, Name, name_view}
 use Rattle.yp_board.specs.declared.catalog.MapName.{MapName}
-use Rattle.yp_publish.specs.Begins.{IsUnwritten}
-use Rattle.yp_publish.specs.Opens.{IsStopped}
-use Rattle.yp_xfr.specs.HostTable.{HostList}
-use Rattle.yp_rpc.specs.Turns.{box_of}
-use Rattle.yp_worker.specs.Receptions.{Opening}
-use Rattle.yp_words.specs.Words.{host_view}
-use Rattle.yp_words.specs.declared.command.ServeJob.{ServeJob}
-use Rattle.yp_office.specs.declared.office.Office.{Office}
-use Rattle.yp_office.specs.declared.status.Status.{Status}
-use Rattle.yp_office.specs.declared.status.Status.TheVariants.{Done, WriteFault, NoMemory, Damaged, DiskFault}
-use Rattle.yp_office.specs.declared.status.Status.TheVariants.{ListenFault, InboxFault}
-use Rattle.yp_office.specs.Disks.{names_of, disks_of}
-use Rattle.yp_office.specs.Files.{TellsOf}
-use Rattle.yp_office.specs.Seeing.{Seeing, output, moment, WriteFails, DiskFails, InboxFails}
-use Rattle.yp_hosting.specs.declared.stock.NotHosted.{NotHosted}
-use Rattle.yp_hosting.specs.declared.stock.NotHosted.TheVariants as unhosted
-use Rattle.yp_hosting.specs.declared.tally.Hosted.{Hosted}
-use Rattle.yp_hosting.specs.Hosting.{House, Place, Supply, house_of, place_of, supply_of, IsHosted}
+use Rattle.yp_publisher.specs.Begins.{IsUnwritten}
+use Rattle.yp_publisher.specs.Opens.{OpeningStopped}
+use Rattle.yp_transfer.specs.HostTable.{HostList}
+use Rattle.yp_rpc.specs.Turns.{inbox_tells}
+use Rattle.yp_worker.specs.Receptions.{ListenTells}
+use Rattle.yp_command.specs.declared.office.office.Office.{Office}
+use Rattle.yp_command.specs.declared.office.status.Status.{Status}
+use Rattle.yp_command.specs.declared.office.status.Status.TheVariants.{Done, WriteFault, NoMemory, Damaged, DiskFault}
+use Rattle.yp_command.specs.declared.office.status.Status.TheVariants.{ListenFault, InboxFault}
+use Rattle.yp_command.specs.office.Disks.{names_of, disks_of}
+use Rattle.yp_command.specs.office.Seeing.{Seeing, output, moment, WriteFails, DiskFails, InboxFails}
+use Rattle.yp_command_serve.specs.declared.serve.tally.Hosted.{Hosted}
+use Rattle.yp_command_serve.specs.serve.Hosting.{ServeSetup, ServerTells, Supply, setup_of, server_tells, supply_of}
+use Rattle.yp_command_serve.specs.serve.Hosting.{IsHosted}
 
 -- ---- what is asked for
 
 -- the own name, how many connections are to be accepted, how many turns there are at the datagrams, the maps, and the
 -- hosts that are known
-pub record ServeOrder : Type 0 where
+pub record Job : Type 0 where
   pub own : List ℕ
   pub connections : ℕ
   pub turns : ℕ
   pub stores : List Name
   pub hosts : HostList
 
-abbrev pub serve_order : List ℕ → (connections turns : ℕ) → List Name → HostList → ServeOrder
-serve_order own connections turns stores hosts =
+abbrev pub serve_job_of : List ℕ → (connections turns : ℕ) → List Name → HostList → Job
+serve_job_of own connections turns stores hosts =
     record { own = own; connections = connections; turns = turns; stores = stores; hosts = hosts }
 
-abbrev pub order_view : ServeJob → ServeOrder
-order_view job =
-    serve_order job.name.items job.connections job.turns (map name_view job.stores.items)
-    (map host_view job.hosts.items)
-
-abbrev pub catalogue_of : ServeOrder → Catalogue
-catalogue_of order = record { own = order.own; maps = order.stores }
+abbrev pub catalogue_of : Job → Catalogue
+catalogue_of job = record { own = job.own; maps = job.stores }
 
 -- ---- what is told
 
@@ -79,22 +70,11 @@ TellsServed hosted WriteFault before after =
     IsFaultless hosted × AppendsFront (tally_line hosted.tally.connections hosted.tally.calls) before after
 TellsServed hosted _ before after = ⊥
 
--- What is told at the end: what was served, or why nobody was.
-abbrev pub TellsEnd : Result Hosted NotHosted → List Name → Status → Option (List ℕ) → Option (List ℕ) → Type 0
-TellsEnd (Ok hosted) names status before after = TellsServed hosted status before after
-TellsEnd (Err unhosted.NoMemory) names status before after = status ≡ NoMemory
-TellsEnd (Err (unhosted.Unloaded number why)) names status before after = TellsOf names number why status
-
--- the number of a map whose file wasn't loaded is that of one of so many
-abbrev pub IsWithin : ℕ → NotHosted → Type 0
-IsWithin count unhosted.NoMemory = ⊤
-IsWithin count (unhosted.Unloaded number why) = number < count
-
 -- ---- what is done
 
 -- what is served of an office, and of what
-abbrev pub house : {S K D C A I T : Type 0} → Seeing S K D C A I T → ServeOrder → Office S K D C A I T → House
-house seen order office = house_of (catalogue_of order) (seen.texts.text office.texts) order.hosts order.turns
+abbrev pub setup : {S K D C A I T : Type 0} → Seeing S K D C A I T → Job → Office S K D C A I T → ServeSetup
+setup seen job office = setup_of (catalogue_of job) (seen.texts.text office.texts) job.hosts job.turns
 
 -- what is told by the texts and the dial of an office
 abbrev pub supply : {S K D C A I T : Type 0} → Seeing S K D C A I T → Office S K D C A I T → Supply
@@ -103,57 +83,57 @@ supply seen office =
     (dial_tells seen.dial.past seen.dial.letters seen.dial.faults office.dial)
 
 -- what is told by an inbox of an office, and by a listener beside it, and by its texts and its dial
-abbrev pub place : {S K D C A I T : Type 0} → Seeing S K D C A I T → Office S K D C A I T → Opening → Place
+abbrev pub place : {S K D C A I T : Type 0} → Seeing S K D C A I T → Office S K D C A I T → ListenTells → ServerTells
 place seen office door =
-    place_of door (box_of seen.inbox.past seen.inbox.turns seen.inbox.quiets office.inbox) (supply seen office)
+    server_tells door (inbox_tells seen.inbox.past seen.inbox.turns seen.inbox.quiets office.inbox) (supply seen office)
 
 -- A listener is to accept so many connections, and has accepted none.
-pub record IsToAccept (connections : ℕ) (door : Opening) : Type 0 where
+pub record IsToAccept (connections : ℕ) (door : ListenTells) : Type 0 where
   pub most : door.most ≡ connections
   pub none : door.accepted ≡ 0
 
 -- The maps were served, and that is told. Where the listener was to accept as many connections as were asked for, and
 -- no accept has failed, so many came. Where the inbox failed before all its turns were taken, its count rose, whatever
 -- is told. What the listener, the inbox and the status tell fixes what came of it, but for the totals.
-pub record ServesMaps {S K D C A I T : Type 0} (seen : Seeing S K D C A I T) (order : ServeOrder) (status : Status)
-    (old new : Office S K D C A I T) (door door' : Opening) : Type 0 where
+pub record ServesMaps {S K D C A I T : Type 0} (seen : Seeing S K D C A I T) (job : Job) (status : Status)
+    (old new : Office S K D C A I T) (door door' : ListenTells) : Type 0 where
   pub hosted : Hosted
-  pub is_hosted : IsHosted seen.disk.history seen.disk.faults (house seen order old) hosted
+  pub is_hosted : IsHosted seen.disk.history seen.disk.faults (setup seen job old) hosted
       (place seen old door) (place seen new door') (disks_of old.disks.items) (disks_of new.disks.items)
-  pub all : IsToAccept order.connections door → hosted.tally.listen_fault ≡ false
-      → hosted.tally.connections ≡ capped 0 order.connections
+  pub all : IsToAccept job.connections door → hosted.tally.listen_fault ≡ false
+      → hosted.tally.connections ≡ capped 0 job.connections
   pub inbox : hosted.inbox_fault ≡ true → InboxFails seen old new
   pub tells : TellsServed hosted status (output seen old) (output seen new)
 
 -- Nothing was accepted, received or told: of the office the disks alone were touched.
-pub record IsShut {S K D C A I T : Type 0} (old new : Office S K D C A I T) (door door' : Opening) : Type 0 where
+pub record IsShut {S K D C A I T : Type 0} (old new : Office S K D C A I T) (door door' : ListenTells) : Type 0 where
   pub stays : new ≡ record old { disks = new.disks }
   pub door_stays : door' ≡ door
 
 -- The file of a map of this name wasn't loaded, the first one, and nothing was served.
-pub record IsUnloaded {S K D C A I T : Type 0} (seen : Seeing S K D C A I T) (order : ServeOrder) (map : MapName)
-    (why : SlotFault) (old new : Office S K D C A I T) (door door' : Opening) : Type 0 where
+pub record IsUnloaded {S K D C A I T : Type 0} (seen : Seeing S K D C A I T) (job : Job) (map : MapName)
+    (why : SlotFault) (old new : Office S K D C A I T) (door door' : ListenTells) : Type 0 where
   pub number : ℕ
-  pub named : slice_get order.stores number ≡ Some (name_view map)
-  pub stopped : IsStopped seen.disk.history seen.disk.faults (disks_of old.disks.items) (disks_of new.disks.items)
+  pub named : slice_get job.stores number ≡ Some (name_view map)
+  pub stopped : OpeningStopped seen.disk.history seen.disk.faults (disks_of old.disks.items) (disks_of new.disks.items)
       number why
   pub shut : IsShut old new door door'
 
 -- Memory ran out, and nothing was served: nothing was written to a disk.
 pub record IsUnserved {S K D C A I T : Type 0} (seen : Seeing S K D C A I T) (old new : Office S K D C A I T)
-    (door door' : Opening) : Type 0 where
+    (door door' : ListenTells) : Type 0 where
   pub disks : AllZip (IsUnwritten seen.disk.history seen.disk.faults)
       (disks_of old.disks.items) (disks_of new.disks.items)
   pub shut : IsShut old new door door'
 
 -- What is done, for each status.
-abbrev pub Serves : {S K D C A I T : Type 0} → Seeing S K D C A I T → ServeOrder → Status
-    → (old new : Office S K D C A I T) → (door door' : Opening) → Type 0
-Serves seen order (Damaged map at rule) old new door door' =
-    IsUnloaded seen order map (fault.Damaged at rule) old new door door'
-Serves seen order (DiskFault map) old new door door' = IsUnloaded seen order map fault.DiskFault old new door door'
-Serves seen order NoMemory old new door door' = IsUnserved seen old new door door'
-Serves seen order status old new door door' = ServesMaps seen order status old new door door'
+abbrev pub ServesOrRefuses : {S K D C A I T : Type 0} → Seeing S K D C A I T → Job → Status
+    → (old new : Office S K D C A I T) → (door door' : ListenTells) → Type 0
+ServesOrRefuses seen job (Damaged map at rule) old new door door' =
+    IsUnloaded seen job map (fault.Damaged at rule) old new door door'
+ServesOrRefuses seen job (DiskFault map) old new door door' = IsUnloaded seen job map fault.DiskFault old new door door'
+ServesOrRefuses seen job NoMemory old new door door' = IsUnserved seen old new door door'
+ServesOrRefuses seen job status old new door door' = ServesMaps seen job status old new door door'
 
 -- the statuses with which `serve` may end
 abbrev pub serve_may_end : Status → Bool
@@ -173,8 +153,8 @@ pub record IsUndamaged {D : Type 0} (history : D → Option History) (disk : D) 
   pub sound : IsSound (stands told.state.reads)
 
 -- A fault that is told has its cause.
-pub record HasCauses {S K D C A I T : Type 0} (seen : Seeing S K D C A I T) (status : Status)
-    (old new : Office S K D C A I T) (door door' : Opening) : Type 0 where
+pub record HasServeCauses {S K D C A I T : Type 0} (seen : Seeing S K D C A I T) (status : Status)
+    (old new : Office S K D C A I T) (door door' : ListenTells) : Type 0 where
   pub listen_fault : status ≡ ListenFault → HasRisen door.faults door'.faults
   pub inbox_fault : status ≡ InboxFault → InboxFails seen old new
   pub write_fault : status ≡ WriteFault → WriteFails seen old new
@@ -183,13 +163,13 @@ pub record HasCauses {S K D C A I T : Type 0} (seen : Seeing S K D C A I T) (sta
 -- What `serve` does to an office and to what a listener tells: the stored maps are served to all who call, by
 -- connections and by datagrams, and what was served is told; or the first reason why not is, and then nobody was
 -- served. Over files that aren't damaged, with no fault, all is done, unless memory ran out.
-pub record ServeDoes {S K D C A I T : Type 0} (seen : Seeing S K D C A I T) (order : ServeOrder) (status : Status)
-    (old new : Office S K D C A I T) (door door' : Opening) : Type 0 where
-  pub serves : Serves seen order status old new door door'
+pub record ServeDoes {S K D C A I T : Type 0} (seen : Seeing S K D C A I T) (job : Job) (status : Status)
+    (old new : Office S K D C A I T) (door door' : ListenTells) : Type 0 where
+  pub serves : ServesOrRefuses seen job status old new door door'
   pub complete : All (IsUndamaged seen.disk.history) (disks_of old.disks.items) → ¬ HasRisen door.faults door'.faults
       → ¬ InboxFails seen old new → ¬ DiskFails seen old new → ¬ WriteFails seen old new
       → (status ≡ Done) ⊎ (status ≡ NoMemory)
-  pub causes : HasCauses seen status old new door door'
+  pub causes : HasServeCauses seen status old new door door'
   pub names : names_of new.disks.items ≡ names_of old.disks.items
   pub told : moment seen new ≡ moment seen old
   pub texts : (file : TextFile) → seen.texts.text new.texts file ≡ seen.texts.text old.texts file

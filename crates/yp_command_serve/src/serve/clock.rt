@@ -6,14 +6,14 @@ use std::marker::{Brand, Model, PhantomData};
 use yp_io::Clock;
 
 /// Which moment a clock tells. Each call of a program that shares a clock picks it.
-pub(crate) trait Moment {
+pub(crate) trait ClockMoment {
     ghost use Rattle.std.specs.Prelude.{ℕ, Option};
 
     /// The moment, where it is told.
     ghost moment: { Option ℕ };
 }
 
-impl Moment for Brand {
+impl ClockMoment for Brand {
     ghost use Rattle.std.specs.Prelude.{None};
 
     ghost moment = { None };
@@ -21,12 +21,12 @@ impl Moment for Brand {
 
 /// A clock that goes on telling its moment, whoever uses it. It is seen as that clock.
 #[derive(Drop)]
-pub(crate) struct SharedClock<M: Moment, C: Clock> {
+pub(crate) struct SharedClock<M: ClockMoment, C: Clock> {
     clock: C,
     of: PhantomData<M>,
 }
 
-impl<M: Moment, C: Clock> Model for SharedClock<M, C> {
+impl<M: ClockMoment, C: Clock> Model for SharedClock<M, C> {
     ghost use Rattle.std.specs.Prelude.{◌≡◌};
 
     ghost Value = { C };
@@ -36,7 +36,7 @@ impl<M: Moment, C: Clock> Model for SharedClock<M, C> {
     ghost invariant = { λ c. C.moment c.clock ≡ M.moment };
 }
 
-impl<M: Moment, C: Clock> SharedClock<M, C> {
+impl<M: ClockMoment, C: Clock> SharedClock<M, C> {
     /// A clock that tells this moment.
     pub(crate) fn new(clock: C) -> SharedClock<M, C>
         requires { C.moment clock ≡ M.moment }
@@ -57,7 +57,7 @@ impl<M: Moment, C: Clock> SharedClock<M, C> {
     }
 }
 
-impl<M: Moment, C: Clock> Clock for SharedClock<M, C> {
+impl<M: ClockMoment, C: Clock> Clock for SharedClock<M, C> {
     ghost moment = { λ _. M.moment };
 
     fn now(&mut self) -> u32 {

@@ -6,30 +6,33 @@ ghost use Rattle.std.specs.List.{All};
 ghost use Rattle.yp_io.specs.Counts.{HasRisen};
 ghost use Rattle.yp_io.specs.declared.texts.TextFile.{TextFile};
 ghost use Rattle.yp_board.specs.Logs.{starts};
-ghost use Rattle.yp_publish.specs.Standing.{Level, versions};
-ghost use Rattle.yp_publish.specs.Rising.{moment_of, IsStart};
-ghost use Rattle.yp_session.specs.declared.session.TheConstants.{CALLS_MAX};
-ghost use Rattle.yp_rpc.specs.Turns.{box_of};
-ghost use Rattle.yp_worker.specs.Receptions.{opening_of};
-ghost use Rattle.yp_shared.specs.Failures.{disks_of};
-ghost use Rattle.yp_io.specs.Dials.{dial_tells};
-ghost use Rattle.yp_hosting.specs.Hosting.{house_of, place_of, supply_of, IsServed, IsHosted, IsUnhosted};
+ghost use Rattle.yp_board.specs.readers.Boards.{workers_max};
+ghost use Rattle.yp_publisher.specs.Standing.{Level, versions};
+ghost use Rattle.yp_publisher.specs.Rising.{publisher_state};
+ghost use Rattle.yp_publisher.specs.inside.Rising.{IsStart};
+ghost use Rattle.yp_answer.specs.declared.session.session.TheConstants.{CALLS_MAX};
+ghost use Rattle.yp_rpc.specs.inside.Turns.{box_by};
+ghost use Rattle.yp_worker.specs.Receptions.{opening_by};
+ghost use Rattle.yp_publisher.specs.sharing.Failures.{disks_of};
+ghost use Rattle.yp_transfer.specs.inside.Dials.{dial_by};
+ghost use Rattle.yp_command_serve.specs.serve.Hosting.{setup_of, server_tells, supply_of, IsServed, IsHosted};
+ghost use Rattle.yp_command_serve.specs.inside.serve.Hosting.{IsUnhosted};
 
-use crate::clock::{Moment, SharedClock};
-use crate::tally::Hosted;
+use crate::serve::clock::{ClockMoment, SharedClock};
+use crate::serve::tally::Hosted;
 use std::alloc::Global;
 use std::marker::Brand;
 use std::random::RandomSource;
 use std::sync::{Arc, Wait};
 use std::thread::Threads;
+use yp_board::readers::{Naming, Opened, board};
 use yp_board::{Catalog, Show};
+use yp_host::Desk;
 use yp_io::{Clock, Dial, Disk, Inbox, Listen, NoMemory, Texts};
-use yp_publish::laws::{beginning_is_start, starts_are_shown};
-use yp_publish::{Loaded, Publisher, StartRefused, load_all};
-use yp_readers::{Naming, Opened, board};
-use yp_serve::{ServeRefused, ServeSpec, Served, serve};
-use yp_server::Desk;
-use yp_slot::SlotFault;
+use yp_map_file::SlotFault;
+use yp_publisher::laws::{beginning_is_start, starts_are_shown};
+use yp_publisher::{Loaded, Publisher, StartRefused, load_all};
+use yp_server::{ServeRefused, ServeSpec, Served, serve};
 use yp_version::Version;
 use yp_worker::OpenGate;
 
@@ -44,7 +47,7 @@ pub enum NotHosted {
 
 /// What maps are served from.
 #[derive(Drop)]
-pub(crate) struct Stock<D, A, T, C, L, I> {
+pub(crate) struct ServerResources<D, A, T, C, L, I> {
     /// The disks of the maps, in the order of the catalogue.
     pub(crate) disks: Vec<D>,
     pub(crate) desk: Desk<A, T, C>,
@@ -74,7 +77,7 @@ fn publisher_of<D: Disk, B: Show>(loaded: Loaded<D>, catalog: Catalog, board: B)
     requires maps { B.maps board ≡ length catalog.maps }
     requires log { B.log board ≡ starts 0 (versions loaded) }
     ensures publisher { result ≡ record { catalogue = catalog; maps = loaded; board = board } }
-    ensures start { IsStart (moment_of B.log result) }
+    ensures start { IsStart (publisher_state B.log result) }
 {
     starts_are_shown();
     beginning_is_start();
@@ -82,7 +85,7 @@ fn publisher_of<D: Disk, B: Show>(loaded: Loaded<D>, catalog: Catalog, board: B)
 }
 
 /// A desk whose clock workers share.
-fn shared<M: Moment, A, T, C: Clock>(desk: Desk<A, T, C>) -> Desk<A, T, SharedClock<M, C>>
+fn shared<M: ClockMoment, A, T, C: Clock>(desk: Desk<A, T, C>) -> Desk<A, T, SharedClock<M, C>>
     requires { C.moment desk.clock ≡ M.moment }
     ensures { result ≡ record { dial = desk.dial; texts = desk.texts; clock = desk.clock; hosts = desk.hosts } }
 {
@@ -100,8 +103,8 @@ fn shared<M: Moment, A, T, C: Clock>(desk: Desk<A, T, C>) -> Desk<A, T, SharedCl
     }
 }
 
-/// The same desk, once nobody shares its clock.
-fn unshared<M: Moment, A, T, C: Clock>(desk: Desk<A, T, SharedClock<M, C>>) -> Desk<A, T, C>
+/// The desk with its clock, once no worker shares the clock any more.
+fn unshared<M: ClockMoment, A, T, C: Clock>(desk: Desk<A, T, SharedClock<M, C>>) -> Desk<A, T, C>
     ensures desk { result
         ≡ record { dial = desk.dial; texts = desk.texts; clock = desk.clock; hosts = desk.hosts } }
     ensures moment { C.moment result.clock ≡ M.moment }
@@ -120,15 +123,16 @@ fn unshared<M: Moment, A, T, C: Clock>(desk: Desk<A, T, SharedClock<M, C>>) -> D
     }
 }
 
-/// Serves maps from a stock, by workers in threads and a worker of datagrams, until all connections were served and all
+/// Serves maps from a resources, by workers in threads and a worker of datagrams, until all connections were served
+/// and all
 /// turns taken. Where a file isn't loaded, or memory runs out, nobody is served.
 pub(crate) fn host<D, A, T, C, L, I, R>(
     alloc: Global,
     rt: &R,
     catalog: Catalog,
     spec: &ServeSpec,
-    stock: Stock<D, A, T, C, L, I>,
-) -> (Result<Hosted, NotHosted>, Stock<D, A, T, C, L, I>)
+    resources: ServerResources<D, A, T, C, L, I>,
+) -> (Result<Hosted, NotHosted>, ServerResources<D, A, T, C, L, I>)
 where
     D: Disk + Send + Drop,
     A: Dial + Send + Drop,
@@ -142,50 +146,48 @@ where
     A::In: Send,
     A::Out: Send,
     R: Threads + Wait + RandomSource + Sync,
-    requires count { length stock.disks.items ≡ length catalog.maps }
-    requires workers { (1 ≤ spec.now.workers) × (spec.now.workers ≤ 8) }
+    requires count { length resources.disks.items ≡ length catalog.maps }
+    requires workers { (1 ≤ spec.now.workers) × (spec.now.workers ≤ workers_max) }
     requires most { spec.now.most ≡ CALLS_MAX }
     ensures hosted { IfOk result.0 (λ hosted. IsHosted D.history D.faults
-        (house_of catalog (T.text stock.desk.texts) stock.desk.hosts spec.now.turns) hosted
-        (place_of (opening_of L.past L.most L.accepted L.returned L.faults stock.listen)
-        (box_of I.past I.turns I.quiets stock.inbox)
-        (supply_of (T.faults stock.desk.texts) (dial_tells A.past A.letters A.faults stock.desk.dial)))
-        (place_of (opening_of L.past L.most L.accepted L.returned L.faults result.1.listen)
-        (box_of I.past I.turns I.quiets result.1.inbox)
-        (supply_of (T.faults result.1.desk.texts) (dial_tells A.past A.letters A.faults result.1.desk.dial)))
-        stock.disks.items result.1.disks.items) }
+        (setup_of catalog (T.text resources.desk.texts) resources.desk.hosts spec.now.turns) hosted
+        (server_tells (opening_by L.Listen resources.listen) (box_by I.Inbox resources.inbox)
+        (supply_of (T.faults resources.desk.texts) (dial_by A.Dial resources.desk.dial)))
+        (server_tells (opening_by L.Listen result.1.listen) (box_by I.Inbox result.1.inbox)
+        (supply_of (T.faults result.1.desk.texts) (dial_by A.Dial result.1.desk.dial)))
+        resources.disks.items result.1.disks.items) }
     ensures unhosted { IfErr result.0 (λ why.
-        IsUnhosted D.history D.faults why stock.disks.items result.1.disks.items) }
-    ensures untouched { OnErr result.0 (result.1 ≡ record stock { disks = result.1.disks }) }
+        IsUnhosted D.history D.faults why resources.disks.items result.1.disks.items) }
+    ensures untouched { OnErr result.0 (result.1 ≡ record resources { disks = result.1.disks }) }
     ensures inbox_fault { IfOk result.0 (λ hosted. hosted.inbox_fault ≡ true
-        → HasRisen (I.faults stock.inbox) (I.faults result.1.inbox)) }
-    ensures texts { (file : TextFile) → T.text result.1.desk.texts file ≡ T.text stock.desk.texts file }
-    ensures moment { C.moment result.1.desk.clock ≡ C.moment stock.desk.clock }
-    ensures count { length result.1.disks.items ≡ length stock.disks.items }
+        → HasRisen (I.faults resources.inbox) (I.faults result.1.inbox)) }
+    ensures texts { (file : TextFile) → T.text result.1.desk.texts file ≡ T.text resources.desk.texts file }
+    ensures moment { C.moment result.1.desk.clock ≡ C.moment resources.desk.clock }
+    ensures count { length result.1.disks.items ≡ length resources.disks.items }
 {
-    let Stock {
+    let ServerResources {
         disks,
         desk,
         listen,
         inbox,
-    } = stock;
+    } = resources;
     // A catalogue has at most 64 maps.
     prove!(disks.len() <= catalog.len() as usize);
     match load_all(alloc, rt, disks) {
         Ok(loaded) => host_loaded(alloc, rt, catalog, spec, loaded, desk, listen, inbox),
         Err(StartRefused { disks, map, fault }) => {
-            let stock = Stock {
+            let resources = ServerResources {
                 disks,
                 desk,
                 listen,
                 inbox,
             };
-            (Err(NotHosted::Unloaded { map, fault }), stock)
+            (Err(NotHosted::Unloaded { map, fault }), resources)
         }
     }
 }
 
-/// The same of maps that were loaded.
+/// Serves maps whose files were loaded.
 fn host_loaded<D, A, T, C, L, I, R>(
     alloc: Global,
     rt: &R,
@@ -195,7 +197,7 @@ fn host_loaded<D, A, T, C, L, I, R>(
     desk: Desk<A, T, C>,
     listen: L,
     inbox: I,
-) -> (Result<Hosted, NotHosted>, Stock<D, A, T, C, L, I>)
+) -> (Result<Hosted, NotHosted>, ServerResources<D, A, T, C, L, I>)
 where
     D: Disk + Send + Drop,
     A: Dial + Send + Drop,
@@ -211,16 +213,14 @@ where
     R: Threads + Wait + RandomSource + Sync,
     requires count { length loaded ≡ length catalog.maps }
     requires level { All (λ standing. standing ≡ Level) (map (λ kept. kept.standing) loaded) }
-    requires workers { (1 ≤ spec.now.workers) × (spec.now.workers ≤ 8) }
+    requires workers { (1 ≤ spec.now.workers) × (spec.now.workers ≤ workers_max) }
     requires most { spec.now.most ≡ CALLS_MAX }
     ensures hosted { IfOk result.0 (λ hosted. IsServed D.history D.faults
-        (house_of catalog (T.text desk.texts) desk.hosts spec.now.turns) loaded hosted
-        (place_of (opening_of L.past L.most L.accepted L.returned L.faults listen)
-        (box_of I.past I.turns I.quiets inbox)
-        (supply_of (T.faults desk.texts) (dial_tells A.past A.letters A.faults desk.dial)))
-        (place_of (opening_of L.past L.most L.accepted L.returned L.faults result.1.listen)
-        (box_of I.past I.turns I.quiets result.1.inbox)
-        (supply_of (T.faults result.1.desk.texts) (dial_tells A.past A.letters A.faults result.1.desk.dial)))
+        (setup_of catalog (T.text desk.texts) desk.hosts spec.now.turns) loaded hosted
+        (server_tells (opening_by L.Listen listen) (box_by I.Inbox inbox)
+        (supply_of (T.faults desk.texts) (dial_by A.Dial desk.dial)))
+        (server_tells (opening_by L.Listen result.1.listen) (box_by I.Inbox result.1.inbox)
+        (supply_of (T.faults result.1.desk.texts) (dial_by A.Dial result.1.desk.dial)))
         result.1.disks.items) }
     ensures unhosted { IfErr result.0 (λ why. why ≡ NotHosted.NoMemory) }
     ensures disks { OnErr result.0 (result.1.disks.items ≡ disks_of loaded) }
@@ -233,13 +233,13 @@ where
     ensures count { length result.1.disks.items ≡ length loaded }
 {
     let Ok((copy, start)) = starting(alloc, &catalog, &loaded) else {
-        let stock = Stock {
+        let resources = ServerResources {
             disks: loaded.into_disks(),
             desk,
             listen,
             inbox,
         };
-        return (Err(NotHosted::NoMemory), stock);
+        return (Err(NotHosted::NoMemory), resources);
     };
     let opened = Opened::new();
     host_shown::<Brand, Brand, D, A, T, C, L, I, R>(
@@ -247,7 +247,7 @@ where
     )
 }
 
-/// The same of maps with a board of their own, on which these versions of theirs are shown.
+/// Serves maps whose files were loaded, and whose versions are shown on a board for threads.
 fn host_shown<J, M, D, A, T, C, L, I, R>(
     alloc: Global,
     rt: &R,
@@ -260,10 +260,10 @@ fn host_shown<J, M, D, A, T, C, L, I, R>(
     desk: Desk<A, T, C>,
     listen: L,
     inbox: I,
-) -> (Result<Hosted, NotHosted>, Stock<D, A, T, C, L, I>)
+) -> (Result<Hosted, NotHosted>, ServerResources<D, A, T, C, L, I>)
 where
     J: Naming + Send + Sync,
-    M: Moment + Send + Sync,
+    M: ClockMoment + Send + Sync,
     D: Disk + Send + Drop,
     A: Dial + Send + Drop,
     T: Texts + Send + Drop,
@@ -282,16 +282,14 @@ where
     requires start { map (option_map arc_value) start.items ≡ versions loaded }
     requires count { length loaded ≡ length catalog.maps }
     requires level { All (λ standing. standing ≡ Level) (map (λ kept. kept.standing) loaded) }
-    requires workers { (1 ≤ spec.now.workers) × (spec.now.workers ≤ 8) }
+    requires workers { (1 ≤ spec.now.workers) × (spec.now.workers ≤ workers_max) }
     requires most { spec.now.most ≡ CALLS_MAX }
     ensures hosted { IfOk result.0 (λ hosted. IsServed D.history D.faults
-        (house_of catalog (T.text desk.texts) desk.hosts spec.now.turns) loaded hosted
-        (place_of (opening_of L.past L.most L.accepted L.returned L.faults listen)
-        (box_of I.past I.turns I.quiets inbox)
-        (supply_of (T.faults desk.texts) (dial_tells A.past A.letters A.faults desk.dial)))
-        (place_of (opening_of L.past L.most L.accepted L.returned L.faults result.1.listen)
-        (box_of I.past I.turns I.quiets result.1.inbox)
-        (supply_of (T.faults result.1.desk.texts) (dial_tells A.past A.letters A.faults result.1.desk.dial)))
+        (setup_of catalog (T.text desk.texts) desk.hosts spec.now.turns) loaded hosted
+        (server_tells (opening_by L.Listen listen) (box_by I.Inbox inbox)
+        (supply_of (T.faults desk.texts) (dial_by A.Dial desk.dial)))
+        (server_tells (opening_by L.Listen result.1.listen) (box_by I.Inbox result.1.inbox)
+        (supply_of (T.faults result.1.desk.texts) (dial_by A.Dial result.1.desk.dial)))
         result.1.disks.items) }
     ensures unhosted { IfErr result.0 (λ why. why ≡ NotHosted.NoMemory) }
     ensures disks { OnErr result.0 (result.1.disks.items ≡ disks_of loaded) }
@@ -305,13 +303,13 @@ where
 {
     let Ok((writer, readers)) = board::<J, &R>(alloc, rt, opened, copy, start, spec.workers + 1)
     else {
-        let stock = Stock {
+        let resources = ServerResources {
             disks: loaded.into_disks(),
             desk,
             listen,
             inbox,
         };
-        return (Err(NotHosted::NoMemory), stock);
+        return (Err(NotHosted::NoMemory), resources);
     };
     let publisher = publisher_of(loaded, catalog, writer);
     let desk = shared::<M, A, T, C>(desk);
@@ -324,22 +322,22 @@ where
                 totals: served.totals,
                 inbox_fault: served.inbox_fault,
             };
-            let stock = Stock {
+            let resources = ServerResources {
                 disks: served.disks,
                 desk: unshared(served.desk),
                 listen: served.listen,
                 inbox: served.inbox,
             };
-            (Ok(hosted), stock)
+            (Ok(hosted), resources)
         }
         Err(refused) => {
-            let stock = Stock {
+            let resources = ServerResources {
                 disks: refused.disks,
                 desk: unshared(refused.desk),
                 listen: refused.listen,
                 inbox: refused.inbox,
             };
-            (Err(NotHosted::NoMemory), stock)
+            (Err(NotHosted::NoMemory), resources)
         }
     }
 }

@@ -2,28 +2,35 @@
 
 ghost use Rattle.std.specs.Prelude.{◌≡◌, ◌≢◌, ℕ, ◌≤◌, ◌<◌, None, IsTrue, All, map, length, IfErr, OnErr};
 ghost use Rattle.yp_io.specs.Counts.{HasRisen};
-ghost use Rattle.yp_board.specs.Catalogues.{name_view, maps_max, catalog_fault};
-ghost use Rattle.yp_worker.specs.Receptions.{opening_of};
-ghost use Rattle.yp_words.specs.Words.{IsNamed};
-ghost use Rattle.yp_office.specs.Disks.{names_of};
-ghost use Rattle.yp_office.specs.Seeing.{seeing, IsPassedOn};
-ghost use Rattle.yp_office.specs.Status.{IsTellable};
-ghost use Rattle.yp_hosting.specs.Serve.{ServeDoes, serve_order, order_view, serve_may_end, TellsEnd, IsWithin};
+ghost use Rattle.yp_board.specs.Catalogues.{name_view, maps_max};
+ghost use Rattle.yp_board.specs.inside.Catalogues.{catalog_fault};
+ghost use Rattle.yp_board.specs.readers.Boards.{workers_max};
+ghost use Rattle.yp_worker.specs.Receptions.{opening_by};
+ghost use Rattle.yp_command.specs.inside.Words.{IsNamed};
+ghost use Rattle.yp_command.specs.office.Disks.{names_of};
+ghost use Rattle.yp_command.specs.office.Seeing.{seeing, IsPassedOn};
+ghost use Rattle.yp_command.specs.inside.office.Status.{IsTellable};
+ghost use Rattle.yp_command_serve.specs.serve.Serve.{ServeDoes, serve_job_of, serve_may_end};
+ghost use Rattle.yp_command_serve.specs.inside.serve.Serve.{serve_job_view};
+ghost use Rattle.yp_command_serve.specs.inside.serve.Serve.{TellsServeEnd};
+ghost use Rattle.yp_command_serve.specs.inside.serve.Serve.{IsWithin};
 
-use crate::stock::{NotHosted, Stock, host};
-use crate::tally::{Hosted, tell_served};
+use crate::serve::resources::{NotHosted, ServerResources, host};
+use crate::serve::tally::{Hosted, tell_served};
 use std::alloc::Global;
 use std::random::RandomSource;
 use std::sync::Wait;
 use std::thread::Threads;
+use yp_answer::session::CALLS_MAX;
 use yp_board::{Catalog, CatalogFault, MapName};
+use yp_command::ServeJob;
+use yp_command::office::{
+    Apart, Office, Status, put_together, status_of_map, table_of, take_apart,
+};
+use yp_host::Desk;
 use yp_io::{Clock, Dial, Disk, Inbox, Listen, NoMemory, Sink, Source, Texts};
-use yp_office::{Apart, Office, Status, put_together, status_of_map, table_of, take_apart};
-use yp_serve::ServeSpec;
-use yp_server::Desk;
-use yp_session::CALLS_MAX;
-use yp_words::ServeJob;
-use yp_xfr::Hosts;
+use yp_server::ServeSpec;
+use yp_transfer::Hosts;
 
 /// Tells what was served, or answers why nobody was.
 fn tell_end<K: Sink>(
@@ -34,7 +41,7 @@ fn tell_end<K: Sink>(
 ) -> Status
     requires number { IfErr hosted (IsWithin (length names.now)) }
     requires named { All IsNamed (map name_view names.now) }
-    ensures tells { TellsEnd hosted (map name_view names.now) result (K.output sink.old) (K.output sink.new) }
+    ensures tells { TellsServeEnd hosted (map name_view names.now) result (K.output sink.old) (K.output sink.new) }
     ensures untold { OnErr hosted (sink.new ≡ sink.old) }
     ensures flushed { result ≢ Status.WriteFault → IsTrue (K.flushed sink.old) → IsTrue (K.flushed sink.new) }
     ensures cause { result ≡ Status.WriteFault → HasRisen (K.faults sink.old) (K.faults sink.new) }
@@ -75,12 +82,11 @@ where
     R: Threads + Wait + RandomSource + Sync,
     requires named { All IsNamed catalog.maps }
     requires disks { names_of office.disks.items ≡ catalog.maps }
-    requires workers { (1 ≤ spec.now.workers) × (spec.now.workers ≤ 8) }
+    requires workers { (1 ≤ spec.now.workers) × (spec.now.workers ≤ workers_max) }
     requires most { spec.now.most ≡ CALLS_MAX }
     ensures does { (connections : ℕ) → ServeDoes (seeing S.Source K.Sink D.Disk C.Clock A.Dial I.Inbox T.Texts)
-        (serve_order catalog.own connections spec.now.turns catalog.maps hosts) result.0 office result.1
-        (opening_of L.past L.most L.accepted L.returned L.faults listen)
-        (opening_of L.past L.most L.accepted L.returned L.faults result.2) }
+        (serve_job_of catalog.own connections spec.now.turns catalog.maps hosts) result.0 office result.1
+        (opening_by L.Listen listen) (opening_by L.Listen result.2) }
     ensures may_end { IsTrue (serve_may_end result.0) }
     ensures passed_on { IsPassedOn (seeing S.Source K.Sink D.Disk C.Clock A.Dial I.Inbox T.Texts)
         result.0 office result.1 }
@@ -105,20 +111,20 @@ where
         clock,
         hosts,
     };
-    let stock = Stock {
+    let resources = ServerResources {
         disks,
         desk,
         listen,
         inbox,
     };
-    let (hosted, stock) = host(alloc, rt, catalog, spec, stock);
+    let (hosted, resources) = host(alloc, rt, catalog, spec, resources);
     let status = tell_end(alloc, &mut wire.sink, hosted, &names);
-    let Stock {
+    let ServerResources {
         disks,
         desk,
         listen,
         inbox,
-    } = stock;
+    } = resources;
     put_together(&mut named, Apart { names, disks });
     let Desk {
         dial,
@@ -164,11 +170,9 @@ where
     requires catalogue { catalog_fault job.name.items (map name_view job.stores.items) ≡ None }
     requires named { All IsNamed (map name_view job.stores.items) }
     requires disks { names_of office.disks.items ≡ map name_view job.stores.items }
-    requires workers { (1 ≤ job.workers) × (job.workers ≤ 8) }
+    requires workers { (1 ≤ job.workers) × (job.workers ≤ workers_max) }
     ensures does { ServeDoes (seeing S.Source K.Sink D.Disk C.Clock A.Dial I.Inbox T.Texts)
-        (order_view job) result.0 office result.1
-        (opening_of L.past L.most L.accepted L.returned L.faults listen)
-        (opening_of L.past L.most L.accepted L.returned L.faults result.2) }
+        (serve_job_view job) result.0 office result.1 (opening_by L.Listen listen) (opening_by L.Listen result.2) }
     ensures may_end { IsTrue (serve_may_end result.0) }
     ensures passed_on { IsPassedOn (seeing S.Source K.Sink D.Disk C.Clock A.Dial I.Inbox T.Texts)
         result.0 office result.1 }

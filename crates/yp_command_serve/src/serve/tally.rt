@@ -2,14 +2,14 @@
 
 ghost use Rattle.std.specs.Prelude.{◌≡◌, ◌≢◌, IsTrue};
 ghost use Rattle.yp_io.specs.Counts.{HasRisen};
-ghost use Rattle.yp_office.specs.Status.{IsTellable};
-ghost use Rattle.yp_hosting.specs.Serve.{tally_line, TellsServed, serve_may_end};
+ghost use Rattle.yp_command.specs.inside.office.Status.{IsTellable};
+ghost use Rattle.yp_command_serve.specs.serve.Serve.{tally_line, TellsServed, serve_may_end};
 
 use arrayvec::ArrayString;
+use yp_command::office::Status;
+use yp_host::workers::Totals;
 use yp_io::{Failed, Sink, write_through};
-use yp_office::Status;
 use yp_worker::Tally;
-use yp_workhost::Totals;
 
 /// The most bytes of a line.
 const LINE_MAX: usize = 64;

@@ -1,15 +1,15 @@
 //! Words of the commands that ask and answer in datagrams, and the port that they name.
 
 use crate::given::assert_same;
-use crate::words::sentences::{check_wrong, parsed};
+use crate::words::sentences::{Wrong, check_wrong, parsed};
 use std::alloc::Global;
 use std::process::Abort;
-use yp_bind::Policy;
+use yp_binding::Policy;
+use yp_command::{Command, HostWord, port_of};
 use yp_io::Peer;
-use yp_words::{Command, HostWord, port_of};
 
 /// Words that are no sentence, and the word that is wrong.
-const WRONG: [(&[&str], usize); 21] = [
+static WRONG: [Wrong; 21] = [
     (&["portmap"], 1),
     (&["portmap", "0", "3"], 1),
     (&["portmap", "65536", "3"], 1),
@@ -81,9 +81,7 @@ const WRONG: [(&[&str], usize); 21] = [
 
 #[test]
 fn wrong_mailing_words(rt: HostRuntime) {
-    for (words, word) in &WRONG {
-        check_wrong(&rt, rt.alloc(), *words, *word);
-    }
+    check_wrong(&rt, rt.alloc(), &WRONG);
 }
 
 const MAPPER: Peer = Peer {
@@ -169,7 +167,7 @@ fn bound(command: &Command) -> Option<Bound<'_>> {
 }
 
 /// Words of `bind`, and the policy that they say.
-const BINDS: [(&[&str], Policy); 3] = [
+static BINDS: [(&[&str], Policy); 3] = [
     (
         &[
             "bind",
@@ -235,7 +233,7 @@ fn bind_parsed(rt: HostRuntime) {
 }
 
 /// Words of `push` that are no sentence, and the word that is wrong.
-const WRONG_PUSHES: [(&[&str], usize); 10] = [
+static WRONG_PUSHES: [Wrong; 10] = [
     (&["push"], 1),
     (&["push", ".m1", "7001"], 1),
     (&["push", "m1", "0", "3", "5", "lab/hosts.byname"], 2),
@@ -262,9 +260,7 @@ const WRONG_PUSHES: [(&[&str], usize); 10] = [
 
 #[test]
 fn wrong_push_words(rt: HostRuntime) {
-    for (words, word) in &WRONG_PUSHES {
-        check_wrong(&rt, rt.alloc(), *words, *word);
-    }
+    check_wrong(&rt, rt.alloc(), &WRONG_PUSHES);
 }
 
 /// The own name, the window, the turns, the domain, the map, and the first host.

@@ -7,8 +7,8 @@ use std::alloc::Global;
 use std::process::Abort;
 use yp_board::MapName;
 use yp_client::Question;
+use yp_command::{Command, HostWord, KeyValue, ParseFault, XfrJob, disk_names, parse};
 use yp_io::Peer;
-use yp_words::{Command, HostWord, KeyValue, ParseFault, XfrJob, disk_names, parse};
 
 fn strings(rt: &impl Abort, alloc: Global, words: &[&str]) -> Vec<String> {
     let mut owned = Vec::new(alloc);
@@ -43,7 +43,10 @@ const TOO_LONG: &str = "0123456789abcdef0123456789abcdef0123456789abcdef01234567
 const TOO_LONG_BYTES: &[u8] = b"0123456789abcdef0123456789abcdef0123456789abcdef0123456789abcdefg";
 
 /// Words that are no sentence, and the word that is wrong.
-const WRONG: [(&[&str], usize); 26] = [
+pub type Wrong = (&'static [&'static str], usize);
+
+/// Words that are no sentence.
+static WRONG: [Wrong; 26] = [
     (&[], 0),
     (&["Check", "lab/hosts.byname"], 0),
     (&["check"], 1),
@@ -73,7 +76,7 @@ const WRONG: [(&[&str], usize); 26] = [
 ];
 
 /// The same of sentences with addresses and hosts.
-const WRONG_ADDRESSES: [(&[&str], usize); 27] = [
+static WRONG_ADDRESSES: [Wrong; 27] = [
     (&["match", "127.0.0.1:700"], 2),
     (&["match", "127.0.0.1:700", "lab", "hosts.byname"], 4),
     (&["match", "127.0.0.1:0", "lab", "hosts.byname", "a"], 1),
@@ -126,7 +129,7 @@ const WRONG_ADDRESSES: [(&[&str], usize); 27] = [
 ];
 
 /// The same of transfers.
-const WRONG_TRANSFERS: [(&[&str], usize); 9] = [
+static WRONG_TRANSFERS: [Wrong; 9] = [
     (&["xfr"], 1),
     (&["xfr", ".s1"], 1),
     (&["xfr", "s1"], 2),
@@ -162,32 +165,36 @@ const WRONG_TRANSFERS: [(&[&str], usize); 9] = [
     ),
 ];
 
-pub fn check_wrong(rt: &impl Abort, alloc: Global, words: &[&str], word: usize) {
+fn check_word(rt: &impl Abort, alloc: Global, words: &[&str], word: usize) {
     let owned = strings(rt, alloc, words);
-    let came = (words, is_session(alloc, &owned));
-    let wanted = (words, Err(ParseFault::Usage { word }));
-    assert_same(rt, &came, &wanted, "words that are no sentence");
+    let came = is_session(alloc, &owned);
+    assert_same(
+        rt,
+        &(words, came),
+        &(words, Err(ParseFault::Usage { word })),
+        "words that are no sentence",
+    );
+}
+
+pub fn check_wrong(rt: &impl Abort, alloc: Global, rows: &[Wrong]) {
+    for (words, word) in rows {
+        check_word(rt, alloc, *words, *word);
+    }
 }
 
 #[test]
 fn wrong_addresses(rt: HostRuntime) {
-    for (words, word) in &WRONG_ADDRESSES {
-        check_wrong(&rt, rt.alloc(), *words, *word);
-    }
+    check_wrong(&rt, rt.alloc(), &WRONG_ADDRESSES);
 }
 
 #[test]
 fn wrong_transfers(rt: HostRuntime) {
-    for (words, word) in &WRONG_TRANSFERS {
-        check_wrong(&rt, rt.alloc(), *words, *word);
-    }
+    check_wrong(&rt, rt.alloc(), &WRONG_TRANSFERS);
 }
 
 #[test]
 fn wrong_words(rt: HostRuntime) {
-    for (words, word) in &WRONG {
-        check_wrong(&rt, rt.alloc(), *words, *word);
-    }
+    check_wrong(&rt, rt.alloc(), &WRONG);
 }
 
 /// A domain and a map, or a key and a value.
@@ -240,7 +247,7 @@ fn check_parsed(rt: HostRuntime) {
 /// The master, the map and the mark of a version to be built.
 type Built<'a> = (&'a [u8], Names<'a>, Option<bool>);
 
-const BUILT: [(&[&str], Built); 4] = [
+static BUILT: [(&[&str], Built); 4] = [
     (
         &["build", "m1", "lab/hosts.byname"],
         (b"m1", (b"lab", b"hosts.byname"), None),
@@ -330,7 +337,7 @@ fn two_and_two(command: &Command) -> Option<Session<'_>> {
     }
 }
 
-const SESSION: [&str; 7] = [
+static SESSION: [&str; 7] = [
     "session",
     "m1",
     "127.0.0.1:700",
@@ -354,7 +361,7 @@ fn session_parsed(rt: HostRuntime) {
 /// The own name, whether it is forced, the map, its host, and the mark of a transfer.
 pub type Transfer<'a> = (&'a [u8], bool, Names<'a>, (&'a [u8], Peer), Option<bool>);
 
-const TRANSFERS: [(&[&str], Transfer); 3] = [
+static TRANSFERS: [(&[&str], Transfer); 3] = [
     (
         &["xfr", "s1", "newer", "lab/nokind", "m1@127.0.0.1:700"],
         (b"s1", false, (b"lab", b"nokind"), (b"m1", PEER), None),
@@ -479,7 +486,7 @@ fn question_of(command: &Command) -> Option<Asked<'_>> {
 
 const HOSTS: [&[u8]; 3] = [b"lab", b"hosts.byname", b""];
 
-const QUESTIONS: [(&[&str], Asked); 6] = [
+static QUESTIONS: [(&[&str], Asked); 6] = [
     (
         &["cat", "127.0.0.1:700", "lab", "hosts.byname"],
         ("cat", PEER, HOSTS),
@@ -636,7 +643,7 @@ fn two_of(names: &[MapName]) -> Option<(Names<'_>, Names<'_>)> {
 }
 
 /// Words, and the map whose file their command reads or writes.
-const NAMED: [(&[&str], Option<(&[u8], &[u8])>); 12] = [
+static NAMED: [(&[&str], Option<(&[u8], &[u8])>); 12] = [
     (&[], None),
     (&["frob"], None),
     (&["check", "lab"], None),

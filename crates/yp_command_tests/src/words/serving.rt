@@ -1,12 +1,12 @@
 //! Words of `serve`, and the port and the maps that they name.
 
 use crate::given::assert_same;
-use crate::words::sentences::{Names, check_names, check_wrong, host_of, names_of, parsed};
+use crate::words::sentences::{Names, Wrong, check_names, check_wrong, host_of, names_of, parsed};
+use yp_command::{Command, ServeJob, port_of};
 use yp_io::Peer;
-use yp_words::{Command, ServeJob, port_of};
 
 /// Words that are no sentence, and the word that is wrong: those up to the numbers.
-const WRONG_NUMBERS: [(&[&str], usize); 8] = [
+static WRONG_NUMBERS: [Wrong; 8] = [
     (&["serve"], 1),
     (&["serve", "m@1", "7001", "1", "0", "0", "lab/a"], 1),
     (&["serve", "m1", "0", "1", "0", "0", "lab/a"], 2),
@@ -18,7 +18,7 @@ const WRONG_NUMBERS: [(&[&str], usize); 8] = [
 ];
 
 /// The same of the maps and hosts behind them.
-const WRONG_MAPS: [(&[&str], usize); 5] = [
+static WRONG_MAPS: [Wrong; 5] = [
     (&["serve", "m1", "7001", "1", "0"], 5),
     (&["serve", "m1", "7001", "1", "0", "0"], 6),
     (&["serve", "m1", "7001", "1", "0", "0", "m2@127.0.0.1:7"], 7),
@@ -40,16 +40,12 @@ const WRONG_MAPS: [(&[&str], usize); 5] = [
 
 #[test]
 fn wrong_serving_numbers(rt: HostRuntime) {
-    for (words, word) in &WRONG_NUMBERS {
-        check_wrong(&rt, rt.alloc(), *words, *word);
-    }
+    check_wrong(&rt, rt.alloc(), &WRONG_NUMBERS);
 }
 
 #[test]
 fn wrong_served_maps(rt: HostRuntime) {
-    for (words, word) in &WRONG_MAPS {
-        check_wrong(&rt, rt.alloc(), *words, *word);
-    }
+    check_wrong(&rt, rt.alloc(), &WRONG_MAPS);
 }
 
 /// The own name, the port, how many workers, connections and turns there are, two maps and a host.
@@ -81,7 +77,7 @@ fn serving(command: &Command) -> Option<Serving<'_>> {
     }
 }
 
-const WORDS: [&str; 9] = [
+static WORDS: [&str; 9] = [
     "serve",
     "m1",
     "7001",

@@ -1,11 +1,11 @@
 //! Words of `walk`, and the port and the map that they name.
 
 use crate::given::assert_same;
-use crate::words::sentences::{Transfer, check_names, check_wrong, parsed, transfer_of};
+use crate::words::sentences::{Transfer, Wrong, check_names, check_wrong, parsed, transfer_of};
 use std::alloc::Global;
 use std::process::Abort;
+use yp_command::{Command, port_of};
 use yp_io::Peer;
-use yp_words::{Command, port_of};
 
 const HOST: &str = "m1@127.0.0.1:7001";
 
@@ -15,7 +15,7 @@ const SOURCE: Peer = Peer {
 };
 
 /// Words that are no sentence, and the word that is wrong.
-const WRONG: [(&[&str], usize); 10] = [
+static WRONG: [Wrong; 10] = [
     (&["walk"], 1),
     (&["walk", "s1", "older"], 2),
     (&["walk", "s1", "newer", "lab"], 3),
@@ -38,9 +38,7 @@ const WRONG: [(&[&str], usize); 10] = [
 
 #[test]
 fn wrong_walking_words(rt: HostRuntime) {
-    for (words, word) in &WRONG {
-        check_wrong(&rt, rt.alloc(), *words, *word);
-    }
+    check_wrong(&rt, rt.alloc(), &WRONG);
 }
 
 /// The port, the turns and the transfer of a walk.
@@ -53,7 +51,7 @@ fn walked(command: &Command) -> Option<Walk<'_>> {
     }
 }
 
-const WALKS: [(&[&str], Walk); 2] = [
+static WALKS: [(&[&str], Walk); 2] = [
     (
         &["walk", "s1", "newer", "lab/hosts.byname", HOST, "7120", "8"],
         (

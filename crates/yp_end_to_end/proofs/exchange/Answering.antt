@@ -8,9 +8,10 @@ use Rattle.yp_client.specs.States.{ClientState}
 use Rattle.yp_client.specs.Results.{Says, SaysInMemory}
 use Rattle.yp_client.specs.All.{AllSaid, all_said, IsSaid, SaysAll}
 use Rattle.yp_version.specs.Drafts.{Draft}
-use Rattle.yp_exchange.specs.CallLaws.{Leaves, AnswersAsTold, AnswersInMemory, AllAnswersAsTold, AnswerIsTold, NamesAreTold, RowsAreTold}
-use Rattle.yp_exchange.proofs.Hearing.{Records, IsWireFault, call_heard}
-use Rattle.yp_exchange.proofs.Queries.{tells_of}
+use Rattle.yp_end_to_end.specs.inside.exchange.CallLaws.{LeavesInput, AnswersAsTold, AnswersInMemory, AllAnswersAsTold}
+use Rattle.yp_end_to_end.specs.inside.exchange.CallLaws.{AnswerIsTold, NamesAreTold, RowsAreTold}
+use Rattle.yp_end_to_end.proofs.exchange.Hearing.{Records, IsWireFault, call_heard}
+use Rattle.yp_end_to_end.proofs.exchange.Queries.{tells_of}
 
 -- ---- calls without memory
 
@@ -20,7 +21,7 @@ wire_told view expected rest (Err WriteFault) new is = tt
 wire_told view expected rest (Err fault) new is = absurd is
 wire_told view expected rest (Ok x) new is = absurd is
 
-says_told : {X V : Type 0} (view : X → V) (said expected : Result V ClientFault) (rest : List ℕ) (answer : Result X ClientFault) (new : ClientState) → said ≡ expected → Says view said answer → Leaves rest new
+says_told : {X V : Type 0} (view : X → V) (said expected : Result V ClientFault) (rest : List ℕ) (answer : Result X ClientFault) (new : ClientState) → said ≡ expected → Says view said answer → LeavesInput rest new
     → AnswersAsTold view expected rest answer new
 says_told view said expected rest (Err ReadFault) new is says left = tt
 says_told view said expected rest (Err WriteFault) new is says left = tt
@@ -44,7 +45,7 @@ wire_in_memory view expected rest (Err WriteFault) new is = tt
 wire_in_memory view expected rest (Err fault) new is = absurd is
 wire_in_memory view expected rest (Ok x) new is = absurd is
 
-told_in_memory : {X V : Type 0} (view : X → V) (said expected : Result V ClientFault) (rest : List ℕ) (answer : Result X ClientFault) (new : ClientState) → said ≡ expected → SaysInMemory view said answer → Leaves rest new
+told_in_memory : {X V : Type 0} (view : X → V) (said expected : Result V ClientFault) (rest : List ℕ) (answer : Result X ClientFault) (new : ClientState) → said ≡ expected → SaysInMemory view said answer → LeavesInput rest new
     → AnswersInMemory view expected rest answer new
 told_in_memory view said expected rest (Err ReadFault) new is says left = tt
 told_in_memory view said expected rest (Err WriteFault) new is says left = tt
@@ -69,7 +70,7 @@ wire_all expected rest draft (Err WriteFault) new is = tt
 wire_all expected rest draft (Err fault) new is = absurd is
 wire_all expected rest draft (Ok done) new is = absurd is
 
-rows_told : (said expected : AllSaid) (rest : List ℕ) (draft : Draft) (rows : ℕ) (answer : Result (Unit {0}) ClientFault) (new : ClientState) → said ≡ expected → IsSaid said draft rows answer → Leaves rest new
+rows_told : (said expected : AllSaid) (rest : List ℕ) (draft : Draft) (rows : ℕ) (answer : Result (Unit {0}) ClientFault) (new : ClientState) → said ≡ expected → IsSaid said draft rows answer → LeavesInput rest new
     → AllAnswersAsTold expected rest draft answer new
 rows_told said expected rest draft rows (Err ReadFault) new is says left = tt
 rows_told said expected rest draft rows (Err WriteFault) new is says left = tt

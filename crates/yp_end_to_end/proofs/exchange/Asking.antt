@@ -4,13 +4,13 @@ use Rattle.std.specs.Prelude.{⊤, IsOk, IfOk}
 use Rattle.std.specs.Borrow.{Bor}
 use Rattle.std.proofs.lemmas.List.{length-append}
 use Rattle.yp_io.specs.declared.stream.Peer.{Peer}
-use Rattle.yp_io.specs.Dials.{WireState, Connected, connected, Wires, Comes, GoesBack}
-use Rattle.yp_msgs.specs.declared.stat.YpStat.{YpStat}
-use Rattle.yp_msgs.specs.declared.maplist.MapList.{MapList}
+use Rattle.yp_io.specs.Dials.{WireState, Connected, connected, Wires, Dialing, WireComes, GoesBack}
+use Rattle.yp_messages.specs.declared.stat.YpStat.{YpStat}
+use Rattle.yp_messages.specs.declared.maplist.MapList.{MapList}
 use Rattle.yp_version.specs.Rows.{Row, listed}
 use Rattle.yp_version.specs.Versions.{MapVersion}
 use Rattle.yp_version.specs.Drafts.{Draft}
-use Rattle.yp_version.specs.Laws.{RisingStays}
+use Rattle.yp_version.specs.inside.Laws.{RisingStays}
 use Rattle.yp_client.specs.declared.fault.ClientFault.{ClientFault}
 use Rattle.yp_client.specs.declared.fault.ClientFault.TheVariants.{Yp, NoMemory as ClientNoMemory}
 use Rattle.yp_client.specs.Limits.{reply_max, all_max}
@@ -20,26 +20,30 @@ use Rattle.yp_client.specs.Said.{SaysNumber, SaysBytes, SaysNames}
 use Rattle.yp_client.specs.All.{AllSaid, all_said, IsSaid, SaysAll}
 use Rattle.yp_client.specs.Asked.{all_call, match_call, master_call, order_call, maplist_call}
 use Rattle.yp_client.specs.Calls.{Calls}
-use Rattle.yp_query.specs.declared.fault.QueryFault.TheVariants.{Dial}
+use Rattle.yp_client.specs.declared.query.fault.QueryFault.TheVariants.{Dial}
 use Rattle.yp_client.specs.declared.question.Question.TheVariants.{Cat, Catk, Match, Which, Poll, Maps as MapsOf}
 use Rattle.yp_client.specs.declared.question.Question.TheVariants.{Innetgr}
-use Rattle.yp_query.specs.Lines.{line, lines, standing_text}
-use Rattle.yp_query.specs.Faults.{query_fault, match_fault}
-use Rattle.yp_query.specs.Asked.{Outcome, told_by, no_rows, TakesRows, MakesMaster, MakesCalls}
-use Rattle.yp_query.specs.Asked.{rows_told, membership_told, netgroup}
-use Rattle.yp_client.specs.Questions.{ByteQuestion, QuestionIsWithin}
-use Rattle.yp_query.specs.Complete.{HasCome}
-use Rattle.yp_query.specs.Scenes.{Exchanges}
+use Rattle.yp_client.specs.query.Lines.{line, lines, standing_text}
+use Rattle.yp_client.specs.query.Faults.{query_fault, match_fault}
+use Rattle.yp_client.specs.query.Asked.{QueryOutcome, told_by, no_rows, TakesRows, MakesMaster, MakesCalls}
+use Rattle.yp_client.specs.query.Asked.{rows_told, membership_told, netgroup}
+use Rattle.yp_client.specs.Questions.{ByteQuestion}
+use Rattle.yp_client.specs.inside.Questions.{QuestionIsWithin}
+use Rattle.yp_client.specs.query.Complete.{HasCome}
+use Rattle.yp_client.specs.query.Scenes.{Exchanges}
 use Rattle.yp_answer.specs.Maps.{Maps, map_check, row_check}
 use Rattle.yp_answer.specs.Served.{AreServed}
-use Rattle.yp_exchange.specs.Told.{told, of_version, value_in, all_in, master_in, order_in, all_told, names_in}
-use Rattle.yp_exchange.specs.Served.{HasRoom}
-use Rattle.yp_exchange.specs.Answered.{GivesReply, GivesStanding, GivesReplies, standing_told, text_told, ComesTo}
-use Rattle.yp_exchange.specs.Laws.{MatchTells, AllTells, RoomForVersion, MasterTells, OrderTells, MaplistTells}
-use Rattle.yp_exchange.specs.QueryLaws.{CallsAreTold, QueryPrintsTold}
-use Rattle.yp_exchange.proofs.Sound.{IsSound, row_sound}
-use Rattle.yp_exchange.proofs.Hearing.{Records, Heard, IsWireFault, call_heard}
-use Rattle.yp_exchange.proofs.Queries.{comes_same, comes_in_memory, tells_of, says_in_memory, Passes, wire_comes, memory_comes, call_comes}
+use Rattle.yp_end_to_end.specs.exchange.Told.{told, of_version, value_in, all_in, master_in, order_in, names_in}
+use Rattle.yp_end_to_end.specs.inside.exchange.Told.{all_told}
+use Rattle.yp_end_to_end.specs.inside.exchange.Served.{DraftHasRoom}
+use Rattle.yp_end_to_end.specs.exchange.Answered.{standing_told, text_told, IsOutcomeOf}
+use Rattle.yp_end_to_end.specs.inside.exchange.Answered.{GivesReply, GivesStanding, GivesReplies}
+use Rattle.yp_end_to_end.specs.inside.exchange.Laws.{MatchTells, AllTells, RoomForVersion, MasterTells, OrderTells}
+use Rattle.yp_end_to_end.specs.inside.exchange.Laws.{MaplistTells}
+use Rattle.yp_end_to_end.specs.inside.exchange.QueryLaws.{CallsAreTold, QueryPrintsTold}
+use Rattle.yp_end_to_end.proofs.exchange.Sound.{IsSound, row_sound}
+use Rattle.yp_end_to_end.proofs.exchange.Hearing.{Records, Heard, IsWireFault, call_heard}
+use Rattle.yp_end_to_end.proofs.exchange.Queries.{comes_same, comes_in_memory, tells_of, says_in_memory, Passes, wire_comes, memory_comes, call_comes}
 
 -- what the replies to the calls of a question say
 pub record Replies : Type 0 where
@@ -77,7 +81,7 @@ rows_in_memory said draft rows (Err ClientNoMemory) says = inr refl
 rows_in_memory said draft rows (Err fault) says = inl says
 
 -- the rows of a version stand in the builder, in their order
-rows_meant : RisingStays → (means : List Row → Outcome) (held : Result MapVersion YpStat) (draft : Draft) (rows : ℕ) (answer : Result (Unit {0}) ClientFault) → IsSound held
+rows_meant : RisingStays → (means : List Row → QueryOutcome) (held : Result MapVersion YpStat) (draft : Draft) (rows : ℕ) (answer : Result (Unit {0}) ClientFault) → IsSound held
     → record { draft = draft; rows = rows; end = answer } ≡ all_told no_rows held
     → told_by query_fault (λ _. means (listed draft.rows)) answer ≡ told_by query_fault means (told (of_version all_in held))
 rows_meant stays means (Ok version) draft rows (Ok done) is said =
@@ -96,18 +100,18 @@ any_master (Ok version) = omega arith
 any_master (Err stat) = tt
 
 -- a builder of a question has room for the rows of every version
-pub no_rows_room : RoomForVersion → (maps : Maps) (port : ℕ) (domain map : List ℕ) → AreServed maps → HasRoom no_rows (row_check maps port domain map)
+pub no_rows_room : RoomForVersion → (maps : Maps) (port : ℕ) (domain map : List ℕ) → AreServed maps → DraftHasRoom no_rows (row_check maps port domain map)
 no_rows_room law maps port domain map served = law maps port domain map 0 [] served (any_master (row_check maps port domain map))
 
-rows_come : Laws → (maps : Maps) (peer : Peer) (means : List Row → Outcome) (domain map stream : List ℕ) (outcome : Outcome) (old new : ClientState) → AreServed maps → length domain ≤ 64 → length map ≤ 64
+rows_come : Laws → (maps : Maps) (peer : Peer) (means : List Row → QueryOutcome) (domain map stream : List ℕ) (outcome : QueryOutcome) (old new : ClientState) → AreServed maps → length domain ≤ 64 → length map ≤ 64
     → GivesReply maps peer all_max (all_call domain map 1) stream (λ rest. ⊤) → IsFirst old → old.wire.input ≡ Some stream → TakesRows means domain map outcome old new
-    → ComesTo (told_by query_fault means (told (of_version all_in (row_check maps peer.port domain map)))) outcome
+    → IsOutcomeOf (told_by query_fault means (told (of_version all_in (row_check maps peer.port domain map)))) outcome
 rows_come laws maps peer means domain map stream outcome old new served d m good first told_input takes =
     let held = row_check maps peer.port domain map in
     let sound = row_sound maps peer.port domain map served in
     let answer = takes.makes.answer in
     let to = told_by query_fault means (told (of_version all_in held)) in
-    let meant : Unit {0} → Outcome = λ done. means (listed takes.draft.rows) in
+    let meant : Unit {0} → QueryOutcome = λ done. means (listed takes.draft.rows) in
     let says : all_said no_rows 1 good.reply ≡ all_told no_rows held =
     tells_of maps peer all_max (all_call domain map 1) (all_said no_rows 1) (all_told no_rows held) good.reply
     (laws.replies.all maps peer 1 domain served (omega arith) d map m no_rows (no_rows_room laws.replies.room maps peer.port domain map served)) good.good.0 in
@@ -141,7 +145,7 @@ goes_on limit call answers x old new calls first =
 
 module _ (laws : Laws) (first second : Maps) (peer : Peer) (domain map stream : List ℕ) (one : AreServed first) (other : AreServed second) (d : length domain ≤ 64) (m : length map ≤ 64)
     (good : GivesStanding first second peer domain map stream)
-    (outcome : Outcome) (old mid new : ClientState) (begins : IsFirst old) (told_input : old.wire.input ≡ Some stream) where
+    (outcome : QueryOutcome) (old mid new : ClientState) (begins : IsFirst old) (told_input : old.wire.input ≡ Some stream) where
   -- the order that is told, and the master
   abbrev order_told : Result ℕ ClientFault
   order_told = told (of_version order_in (map_check first domain map))
@@ -160,7 +164,7 @@ module _ (laws : Laws) (first second : Maps) (peer : Peer) (domain map stream : 
       sym (number_said (order_of old.xid good.reply) order says) ∙ ap (λ (xid : ℕ). order_of xid good.reply) begins.xid ∙ order_says
 
   master_comes : (order : ℕ) → Calls reply_max (order_call domain map) (SaysNumber order_of) (Ok order) old mid → Heard (SaysNumber order_of old.xid good.reply (Ok order)) good.rest mid
-      → MakesMaster domain map (Ok order) outcome mid new → ComesTo (standing_told (Ok order) master_told) outcome
+      → MakesMaster domain map (Ok order) outcome mid new → IsOutcomeOf (standing_told (Ok order) master_told) outcome
   master_comes order calls heard follows =
       let next = goes_on reply_max (order_call domain map) (SaysNumber order_of) order old mid calls begins in
       let there : GivesReply second peer reply_max (master_call domain map 2) good.rest (λ behind. ⊤) = good.good.1 (order_there (map_check first domain map) order (order_is (Ok order) heard.by_reply)) in
@@ -171,26 +175,26 @@ module _ (laws : Laws) (first second : Maps) (peer : Peer) (domain map stream : 
       (bytes_said master_of) fault_passes follows heard.left next.1 next.0 says
 
   order_comes : (order : Result ℕ ClientFault) → Heard (SaysNumber order_of old.xid good.reply order) good.rest mid ⊎ IsWireFault order
-      → Calls reply_max (order_call domain map) (SaysNumber order_of) order old mid → MakesMaster domain map order outcome mid new → ComesTo (standing_told order_told master_told) outcome
+      → Calls reply_max (order_call domain map) (SaysNumber order_of) order old mid → MakesMaster domain map order outcome mid new → IsOutcomeOf (standing_told order_told master_told) outcome
   order_comes (Ok order) (inl heard) calls follows =
-      subst (λ (said : Result ℕ ClientFault). ComesTo (standing_told said master_told) outcome) (order_is (Ok order) heard.by_reply) (master_comes order calls heard follows)
+      subst (λ (said : Result ℕ ClientFault). IsOutcomeOf (standing_told said master_told) outcome) (order_is (Ok order) heard.by_reply) (master_comes order calls heard follows)
   order_comes (Ok order) (inr failed) calls follows = absurd failed
   order_comes (Err fault) (inl heard) calls follows =
       comes_same (standing_told order_told master_told) outcome
       (follows.0 ∙ ap (λ (said : Result ℕ ClientFault). standing_told said master_told) (order_is (Err fault) heard.by_reply))
   order_comes (Err fault) (inr failed) calls follows =
-      subst (ComesTo (standing_told order_told master_told)) (sym follows.0)
+      subst (IsOutcomeOf (standing_told order_told master_told)) (sym follows.0)
       (wire_comes (standing_told order_told master_told) query_fault (λ (n : ℕ). Ok []) (Err fault) fault_passes failed)
 
   pub polls_come : (order : Result ℕ ClientFault) → Calls reply_max (order_call domain map) (SaysNumber order_of) order old mid → MakesMaster domain map order outcome mid new
-      → ComesTo (standing_told order_told master_told) outcome
+      → IsOutcomeOf (standing_told order_told master_told) outcome
   polls_come order calls follows =
       order_comes order (call_heard laws.records reply_max stream _ good (order_call domain map) (SaysNumber order_of) old mid told_input order calls begins.spent) calls follows
 
 -- ---- each question
 
-module _ (laws : Laws) (first second : Maps) (peer : Peer) (stream : List ℕ) (outcome : Outcome) (old new : ClientState) (one : AreServed first) (other : AreServed second) (begins : IsFirst old) (told_input : old.wire.input ≡ Some stream) where
-  calls_come : (question : ByteQuestion) → QuestionIsWithin question → GivesReplies first second peer question stream → MakesCalls question outcome old new → ComesTo (text_told first second peer question) outcome
+module _ (laws : Laws) (first second : Maps) (peer : Peer) (stream : List ℕ) (outcome : QueryOutcome) (old new : ClientState) (one : AreServed first) (other : AreServed second) (begins : IsFirst old) (told_input : old.wire.input ≡ Some stream) where
+  calls_come : (question : ByteQuestion) → QuestionIsWithin question → GivesReplies first second peer question stream → MakesCalls question outcome old new → IsOutcomeOf (text_told first second peer question) outcome
   calls_come (Cat domain map) within good makes = rows_come laws first peer (rows_told false) domain map stream outcome old new one within.0 within.1 good begins told_input makes
   calls_come (Catk domain map) within good makes = rows_come laws first peer (rows_told true) domain map stream outcome old new one within.0 within.1 good begins told_input makes
   calls_come (Innetgr domain group host user user_domain) within good makes =
@@ -220,7 +224,7 @@ pub calls_are_told : Laws → CallsAreTold
 calls_are_told laws first second peer question stream outcome old new one other within good begins told_input (inl makes) =
     calls_come laws first second peer stream outcome old new one other begins told_input question within good makes
 calls_are_told laws first second peer question stream outcome old new one other within good begins told_input (inr none) =
-    subst (ComesTo (text_told first second peer question)) (sym none.0) tt
+    subst (IsOutcomeOf (text_told first second peer question)) (sym none.0) tt
 
 -- ---- the wire that came
 
@@ -230,7 +234,7 @@ last_same (z ∷ xs) x y e = let rest : xs ++ x ∷ [] ≡ xs ++ y ∷ [] = cc i
 
 -- the wire that came is the one to that peer, which gives the stream
 wire_is : (wire other : Connected) (last : WireState) (mid : Option Wires) (before after : Wires)
-    → Comes wire (Some before) mid → GoesBack last mid (Some after) → after.came ≡ before.came ++ other ∷ []
+    → WireComes wire (Some before) mid → GoesBack last mid (Some after) → after.came ≡ before.came ++ other ∷ []
     → wire ≡ other
 wire_is wire other last None before after comes back came = absurd comes
 wire_is wire other last (Some others) before after comes back came =
@@ -245,18 +249,18 @@ none_came peer stream old new came same =
     let both : came.after ≡ came.before = cc in
     omega (arith, ap (λ (w : Wires). length w.came) both, ap length came.came, length-append came.before.came (connected peer (Some stream) came.sent ∷ []))
 
-exchange_told : CallsAreTold → (first second : Maps) (server caller : Peer) (question : ByteQuestion) (stream : List ℕ) (outcome : Outcome) (old new : Option Wires) → AreServed first → AreServed second
-    → QuestionIsWithin question → GivesReplies first second caller question stream → HasCome server stream old new → Exchanges server question outcome old new → ComesTo (text_told first second caller question) outcome
+exchange_told : CallsAreTold → (first second : Maps) (server caller : Peer) (question : ByteQuestion) (stream : List ℕ) (outcome : QueryOutcome) (old new : Dialing) → AreServed first → AreServed second
+    → QuestionIsWithin question → GivesReplies first second caller question stream → HasCome server stream old.past new.past → Exchanges server question outcome old new → IsOutcomeOf (text_told first second caller question) outcome
 exchange_told laws first second server caller question stream outcome old new one other within good came did =
     let wire : Connected = connected server did.first.wire.input did.first.wire.output in
-    let comes : Comes wire (Some came.before) did.mid = subst (λ (w : Option Wires). Comes wire w did.mid) came.was did.comes in
-    let back : GoesBack did.last.wire did.mid (Some came.after) = subst (λ (w : Option Wires). GoesBack did.last.wire did.mid w) came.is did.goes_back in
-    let same = wire_is wire (connected server (Some stream) came.sent) did.last.wire did.mid came.before came.after comes back came.came in
-    laws first second caller question stream outcome did.first did.last one other within good did.begins (ap (λ (d : Connected). d.input) same) did.converses
+    let comes : WireComes wire (Some came.before) did.dialed.middle = subst (λ (w : Option Wires). WireComes wire w did.dialed.middle) came.was did.dialed.comes in
+    let back : GoesBack did.last.wire did.dialed.middle (Some came.after) = subst (λ (w : Option Wires). GoesBack did.last.wire did.dialed.middle w) came.is did.dialed.goes_back in
+    let same = wire_is wire (connected server (Some stream) came.sent) did.last.wire did.dialed.middle came.before came.after comes back came.came in
+    laws first second caller question stream outcome did.first did.last one other within good did.dialed.begins (ap (λ (d : Connected). d.input) same) did.converses
 
 pub query_prints_told : CallsAreTold → QueryPrintsTold
-query_prints_told laws first second server caller question stream (Err Dial) old new one other within good came asks = absurd (none_came server stream old.dial.past new.dial.past came asks.0)
+query_prints_told laws first second server caller question stream (Err Dial) old new one other within good came asks = absurd (none_came server stream old.dial.past new.dial.past came asks.0.none)
 query_prints_told laws first second server caller question stream (Err fault) old new one other within good came asks =
-    record { outcome = asks.0; comes_to = exchange_told laws first second server caller question stream asks.0 old.dial.past new.dial.past one other within good came asks.1; prints = asks.2 }
+    record { outcome = asks.0; comes_to = exchange_told laws first second server caller question stream asks.0 old.dial new.dial one other within good came asks.1; prints = asks.2 }
 query_prints_told laws first second server caller question stream (Ok done) old new one other within good came asks =
-    record { outcome = asks.0; comes_to = exchange_told laws first second server caller question stream asks.0 old.dial.past new.dial.past one other within good came asks.1; prints = asks.2 }
+    record { outcome = asks.0; comes_to = exchange_told laws first second server caller question stream asks.0 old.dial new.dial one other within good came asks.1; prints = asks.2 }

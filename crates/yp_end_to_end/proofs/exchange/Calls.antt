@@ -3,20 +3,24 @@ use Rattle.std.proofs.Common.{◌≡◌, ℕ, List, [], ◌++◌, length, Result
 use Rattle.std.proofs.lemmas.List.{append-nil, drop_at}
 use Rattle.yp_io.specs.declared.stream.Peer.{Peer}
 use Rattle.yp_xdr.specs.Kind.{Kind, Value}
-use Rattle.yp_xdr.specs.Spelling.{spelling, opaque, fixed, Fits}
-use Rattle.yp_xdr.specs.Laws.{WrittenIsReadAgain}
+use Rattle.yp_xdr.specs.Spelling.{spelling, opaque, fixed}
+use Rattle.yp_xdr.specs.inside.Spelling.{Fits}
+use Rattle.yp_xdr.specs.inside.Laws.{WrittenIsReadAgain}
 use Rattle.yp_rpc.specs.declared.call.CallHead.{CallHead}
 use Rattle.yp_rpc.specs.declared.call.Heard.{Heard}
 use Rattle.yp_rpc.specs.declared.reply.ReplyHead.{ReplyHead}
 use Rattle.yp_rpc.specs.Call.{front_kind, procedure_kind}
-use Rattle.yp_rpc.specs.Called.{front, heading, called, call_of}
-use Rattle.yp_rpc.specs.Laws.{IsWord, CallIsHeardAgain}
-use Rattle.yp_msgs.specs.Numbers.{program, version}
+use Rattle.yp_rpc.specs.Judging.{admitted, judged_call, judged_heard}
+use Rattle.yp_rpc.specs.Called.{front, heading, call_of}
+use Rattle.yp_rpc.specs.inside.Called.{called}
+use Rattle.yp_rpc.specs.inside.Laws.{IsWord, CallIsHeardAgain}
+use Rattle.yp_messages.specs.Numbers.{program, version}
 use Rattle.yp_answer.specs.declared.procedure.Path.{Path}
 use Rattle.yp_answer.specs.declared.procedure.Procedure.{Procedure}
 use Rattle.yp_answer.specs.declared.caller.Caller.{Caller}
 use Rattle.yp_answer.specs.Maps.{Maps}
-use Rattle.yp_answer.specs.Reply.{arguments_of, procedure_reply, admitted, call_reply, heard_reply, reply}
+use Rattle.yp_answer.specs.Procedures.{programs_on}
+use Rattle.yp_answer.specs.Reply.{arguments_of, value_read, procedure_reply, judged_reply, reply}
 
 -- what the head of a call says
 abbrev pub call_head : ℕ → ℕ → CallHead
@@ -38,20 +42,19 @@ call_is kind xid procedure arguments =
 
 -- its arguments are read behind its head
 pub arguments_again : WrittenIsReadAgain → (kind : Kind) (arguments : Value kind) → Fits kind arguments
-    → arguments_of kind (spelling kind arguments) ≡ Ok (arguments, record { at = length (spelling kind arguments); bytes = [] })
+    → arguments_of kind (spelling kind arguments) ≡ Ok arguments
 arguments_again law kind arguments fits =
     ap (λ (bytes : List ℕ). arguments_of kind bytes) (sym (append-nil (spelling kind arguments)))
-    ∙ law kind arguments (spelling kind arguments) [] 0 (record { fits = fits; spelled = refl })
-    ∙ ap (λ (n : ℕ). Ok (arguments, record { at = n; bytes = [] })) (omega arith)
+    ∙ ap value_read (law kind arguments (spelling kind arguments) [] 0 (record { fits = fits; spelled = refl }))
 
 -- the reply to a call is that of its procedure to its arguments
 pub reply_to_call : CallIsHeardAgain → (path : Path) (maps : Maps) (peer : Peer) (kind : Kind) (xid number : ℕ) (arguments : Value kind) (procedure : Procedure) → IsWord xid → IsWord number
-    → admitted path (call_head xid number) ≡ Ok procedure
+    → admitted (programs_on path) (call_head xid number) ≡ Ok procedure
     → reply path maps peer (call_of kind xid program version number arguments) ≡ procedure_reply maps (caller_of path xid peer) procedure (spelling kind arguments)
 reply_to_call law path maps peer kind xid number arguments procedure x n is =
     let head = called xid program version number in
     let bytes = spelling kind arguments in
     ap (λ (message : List ℕ). reply path maps peer message) (call_is kind xid number arguments)
-    ∙ ap (λ (h : Heard). heard_reply path maps peer (head ++ bytes) h) (law xid program version number bytes x (omega arith) (omega arith) n)
-    ∙ ap (λ (a : Result Procedure ReplyHead). call_reply path maps peer (head ++ bytes) (call_head xid number) a) is
+    ∙ ap (λ (h : Heard). judged_reply path maps peer (head ++ bytes) (judged_heard (programs_on path) h)) (law xid program version number bytes x (omega arith) (omega arith) n)
+    ∙ ap (λ (a : Result Procedure ReplyHead). judged_reply path maps peer (head ++ bytes) (judged_call (call_head xid number) a)) is
     ∙ ap (λ (rest : List ℕ). procedure_reply maps (caller_of path xid peer) procedure rest) (drop_at head bytes 40 (length-called xid program version number))

@@ -2,8 +2,8 @@
 use Rattle.std.proofs.Common.{◌≡◌, ℕ, ◌≤◌, true, false, List, length, Result, Ok, Err, refl, sym, ap, ◌∙◌, subst, arith}
 use Rattle.std.specs.Prelude.{⊤, IsOk}
 use Rattle.yp_io.specs.declared.stream.Peer.{Peer}
-use Rattle.yp_msgs.specs.declared.stat.YpStat.{YpStat}
-use Rattle.yp_msgs.specs.declared.stat.YpStat.TheVariants.{Nokey}
+use Rattle.yp_messages.specs.declared.stat.YpStat.{YpStat}
+use Rattle.yp_messages.specs.declared.stat.YpStat.TheVariants.{Nokey}
 use Rattle.yp_version.specs.declared.builder.VersionFault.{VersionFault}
 use Rattle.yp_version.specs.declared.builder.VersionFault.TheVariants.{NoMemory as RowNoMemory}
 use Rattle.yp_version.specs.Versions.{MapVersion}
@@ -15,23 +15,26 @@ use Rattle.yp_client.specs.All.{AllSaid, all_said}
 use Rattle.yp_client.specs.Asked.{all_call, match_call, master_call, order_call, maplist_call}
 use Rattle.yp_client.specs.declared.question.Question.TheVariants.{Cat, Catk, Match, Which, Poll, Maps as MapsOf}
 use Rattle.yp_client.specs.declared.question.Question.TheVariants.{Innetgr}
-use Rattle.yp_query.specs.Lines.{line, lines, standing_text}
-use Rattle.yp_query.specs.Faults.{query_fault, match_fault}
+use Rattle.yp_client.specs.query.Lines.{line, lines, standing_text}
+use Rattle.yp_client.specs.query.Faults.{query_fault, match_fault}
 use Rattle.yp_version.specs.Rows.{Row}
-use Rattle.yp_query.specs.Asked.{Outcome, told_by, meant_by, no_rows, rows_told, membership_told, netgroup}
-use Rattle.yp_client.specs.Questions.{ByteQuestion, QuestionIsWithin}
-use Rattle.yp_query.specs.Complete.{BeginsWithReply, IsFound, HasAnswer}
+use Rattle.yp_client.specs.query.Asked.{QueryOutcome, told_by, meant_by, no_rows, rows_told, membership_told, netgroup}
+use Rattle.yp_client.specs.Questions.{ByteQuestion}
+use Rattle.yp_client.specs.inside.Questions.{QuestionIsWithin}
+use Rattle.yp_client.specs.query.Complete.{BeginsWithReply, IsValueOrNone, HasAnswer}
 use Rattle.yp_answer.specs.Maps.{Maps, map_check, row_check}
 use Rattle.yp_answer.specs.Served.{AreServed}
-use Rattle.yp_exchange.specs.Told.{told, of_version, value_in, all_in, master_in, order_in, all_told, names_in}
-use Rattle.yp_exchange.specs.Answered.{GivesReply, GivesStanding, GivesReplies, standing_told, text_told, HasText}
-use Rattle.yp_exchange.specs.QueryLaws.{ToldIsAnswered}
-use Rattle.yp_exchange.proofs.Queries.{tells_of}
-use Rattle.yp_exchange.proofs.Asking.{Replies, no_rows_room}
+use Rattle.yp_end_to_end.specs.exchange.Told.{told, of_version, value_in, all_in, master_in, order_in, names_in}
+use Rattle.yp_end_to_end.specs.inside.exchange.Told.{all_told}
+use Rattle.yp_end_to_end.specs.exchange.Answered.{standing_told, text_told}
+use Rattle.yp_end_to_end.specs.inside.exchange.Answered.{GivesReply, GivesStanding, GivesReplies, HasText}
+use Rattle.yp_end_to_end.specs.inside.exchange.QueryLaws.{ToldIsAnswered}
+use Rattle.yp_end_to_end.proofs.exchange.Queries.{tells_of}
+use Rattle.yp_end_to_end.proofs.exchange.Asking.{Replies, no_rows_room}
 
 -- ---- what has a text
 
-all_end : (means : List Row → Outcome) (held : Result MapVersion YpStat) → HasText (told_by query_fault means (told (of_version all_in held))) → (all_told no_rows held).end ≡ Ok tt
+all_end : (means : List Row → QueryOutcome) (held : Result MapVersion YpStat) → HasText (told_by query_fault means (told (of_version all_in held))) → (all_told no_rows held).end ≡ Ok tt
 all_end means (Ok version) has = refl
 all_end means (Err stat) has = absurd has
 
@@ -45,7 +48,7 @@ no_text NoMemory has = has
 no_text (Rows row fault) has = row_no_text row fault has
 no_text fault has = has
 
-found : (said : Result (List ℕ) ClientFault) → HasText (meant_by match_fault line said) → IsFound said
+found : (said : Result (List ℕ) ClientFault) → HasText (meant_by match_fault line said) → IsValueOrNone said
 found (Ok value) has = tt
 found (Err (Yp Nokey)) has = tt
 found (Err (Yp stat)) has = absurd has
@@ -72,7 +75,7 @@ given : (limit : ℕ) (stream : List ℕ) (P Q : List ℕ → List ℕ → Type 
 given limit stream P Q good holds = record { reply = good.reply; bytes = good.bytes; rest = good.rest; fragments = good.fragments; whole = good.whole; good = holds }
 
 module _ (laws : Replies) (first second : Maps) (peer : Peer) (stream : List ℕ) (one : AreServed first) (other : AreServed second) where
-  rows_answered : (means : List Row → Outcome) (domain map : List ℕ) → length domain ≤ 64 → length map ≤ 64 → GivesReply first peer all_max (all_call domain map 1) stream (λ rest. ⊤)
+  rows_answered : (means : List Row → QueryOutcome) (domain map : List ℕ) → length domain ≤ 64 → length map ≤ 64 → GivesReply first peer all_max (all_call domain map 1) stream (λ rest. ⊤)
       → HasText (told_by query_fault means (told (of_version all_in (row_check first peer.port domain map))))
       → BeginsWithReply all_max stream (λ reply rest. (all_said no_rows 1 reply).end ≡ Ok tt)
   rows_answered means domain map d m good has =
@@ -107,7 +110,7 @@ module _ (laws : Replies) (first second : Maps) (peer : Peer) (stream : List ℕ
       let expected = told (of_version (value_in key) (row_check first peer.port domain map)) in
       let says = tells_of first peer reply_max (match_call domain map key 1) (value_of 1) expected good.reply
       (laws.value first peer 1 domain one (omega arith) within.0 map within.1 key within.2) good.good.0 in
-      given reply_max stream _ (λ reply rest. IsFound (value_of 1 reply)) good (subst IsFound (sym says) (found expected has))
+      given reply_max stream _ (λ reply rest. IsValueOrNone (value_of 1 reply)) good (subst IsValueOrNone (sym says) (found expected has))
   answered (Which domain map) within good has =
       let expected = told (of_version master_in (map_check first domain map)) in
       let says = tells_of first peer reply_max (master_call domain map 1) (master_of 1) expected good.reply

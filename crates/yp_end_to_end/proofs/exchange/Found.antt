@@ -3,12 +3,12 @@ use Rattle.std.proofs.Common.{◌≡◌, ℕ, ◌≤◌, Bool, true, false, cond
 use Rattle.std.specs.Prelude.{IfSome}
 use Rattle.std.proofs.lemmas.List.Elements.{All-head, All-tail}
 use Rattle.yp_xdr.specs.Kind.{Opaque, Value}
-use Rattle.yp_xdr.specs.Laws.{WrittenIsReadAgain}
-use Rattle.yp_rpc.specs.Laws.{IsWord}
-use Rattle.yp_msgs.specs.declared.stat.YpStat.{YpStat}
-use Rattle.yp_msgs.specs.declared.stat.YpStat.TheVariants.{True, Nomore, Nokey}
-use Rattle.yp_msgs.specs.Numbers.{key_max, value_max, name_max}
-use Rattle.yp_msgs.specs.Messages.{resp_val, key_val, resp_master, resp_order, name}
+use Rattle.yp_xdr.specs.inside.Laws.{WrittenIsReadAgain}
+use Rattle.yp_rpc.specs.inside.Laws.{IsWord}
+use Rattle.yp_messages.specs.declared.stat.YpStat.{YpStat}
+use Rattle.yp_messages.specs.declared.stat.YpStat.TheVariants.{True, Nomore, Nokey}
+use Rattle.yp_messages.specs.Numbers.{key_max, value_max, name_max}
+use Rattle.yp_messages.specs.Messages.{resp_val, key_val, resp_master, resp_order, name}
 use Rattle.yp_xdr.specs.Kind.{U32}
 use Rattle.yp_version.specs.Rows.{Row, value_of, first_of, following}
 use Rattle.yp_version.specs.Versions.{MapVersion, IsVersion}
@@ -16,9 +16,10 @@ use Rattle.yp_client.specs.declared.fault.ClientFault.TheVariants.{Yp}
 use Rattle.yp_client.specs.Results.{value_of as value_read, row_of, master_of, order_of}
 use Rattle.yp_answer.specs.Results.{value_found, matched, row_found, no_row, first_row, next_found, next_row, mastered, ordered}
 use Rattle.yp_answer.specs.Reply.{success}
-use Rattle.yp_exchange.specs.Told.{told, of_version, value_in, row_told, first_in, next_told, next_in, master_in, order_in}
-use Rattle.yp_exchange.proofs.Sound.{IsRefusal, IsSound}
-use Rattle.yp_exchange.proofs.Values.{value_said, row_said}
+use Rattle.yp_end_to_end.specs.exchange.Told.{told, of_version, value_in, master_in, order_in}
+use Rattle.yp_end_to_end.specs.inside.exchange.Told.{row_told, first_in, next_told, next_in}
+use Rattle.yp_end_to_end.proofs.exchange.Sound.{IsRefusal, IsSound}
+use Rattle.yp_end_to_end.proofs.exchange.Values.{value_said, row_said}
 use Rattle.std.specs.Option.{ok_or}
 
 -- ---- within the limits

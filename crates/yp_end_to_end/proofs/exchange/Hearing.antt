@@ -4,12 +4,12 @@ use Rattle.std.specs.Prelude.{⊤}
 use Rattle.std.specs.Io.KnownBytes.{Consumes, IsAtEnd}
 use Rattle.std.proofs.lemmas.List.{append-nil}
 use Rattle.yp_rpc.specs.Records.{IsRest, IsLong}
-use Rattle.yp_rpc.specs.Laws.{FirstIsOne, RestIsNotWhole}
+use Rattle.yp_rpc.specs.inside.Laws.{FirstIsOne, RestIsNotWhole}
 use Rattle.yp_client.specs.declared.fault.ClientFault.{ClientFault}
 use Rattle.yp_client.specs.declared.fault.ClientFault.TheVariants.{Yp, Denied, BadReply, BadXid, Torn, TooLong, ReadFault, WriteFault, Spent, Rows, NoMemory}
 use Rattle.yp_client.specs.States.{ClientState}
-use Rattle.yp_client.specs.Calls.{Calls, Hears, NoReply}
-use Rattle.yp_query.specs.Complete.{BeginsWithReply}
+use Rattle.yp_client.specs.Calls.{Calls, HearsReply, NoReply}
+use Rattle.yp_client.specs.query.Complete.{BeginsWithReply}
 
 -- what the laws of records say
 pub record Records : Type 0 where
@@ -42,7 +42,7 @@ module _ (laws : Records) {X : Type 0} (limit : ℕ) (stream : List ℕ) (P : Li
   consumed : (bytes : List ℕ) → Consumes old.wire.input new.wire.input bytes → (rest : List ℕ) × (new.wire.input ≡ Some rest) × (stream ≡ bytes ++ rest)
   consumed bytes h = taken new.wire.input stream bytes (subst (λ (i : Option (List ℕ)). Consumes i new.wire.input bytes) told h)
 
-  hears_reply : (answer : Result X ClientFault) → Hears limit (answers old.xid) answer old new → Heard (answers old.xid good.reply answer) good.rest new
+  hears_reply : (answer : Result X ClientFault) → HearsReply limit (answers old.xid) answer old new → Heard (answers old.xid good.reply answer) good.rest new
   hears_reply answer heard =
       let behind = consumed heard.taken.bytes heard.taken.taken in
       let same = laws.first limit heard.reply good.reply heard.taken.bytes good.bytes behind.0 good.rest heard.taken.fragments good.fragments (sym behind.2 ∙ good.whole) in

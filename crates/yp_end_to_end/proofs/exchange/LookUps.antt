@@ -4,15 +4,16 @@ use Rattle.std.proofs.lemmas.List.{length-append}
 use Rattle.yp_io.specs.declared.stream.Peer.{Peer}
 use Rattle.yp_xdr.specs.declared.fault.XdrFault.{XdrFault}
 use Rattle.yp_xdr.specs.Kind.{Kind, Boolean, Value}
-use Rattle.yp_xdr.specs.Spelling.{spelling, opaque, Fits}
-use Rattle.yp_xdr.specs.Reading.{Unread}
-use Rattle.yp_xdr.specs.Laws.{WrittenIsReadAgain}
+use Rattle.yp_xdr.specs.Spelling.{spelling, opaque}
+use Rattle.yp_xdr.specs.inside.Spelling.{Fits}
+use Rattle.yp_xdr.specs.inside.Laws.{WrittenIsReadAgain}
+use Rattle.yp_rpc.specs.Judging.{admitted}
 use Rattle.yp_rpc.specs.Called.{call_of}
-use Rattle.yp_rpc.specs.Laws.{IsWord, CallIsHeardAgain}
-use Rattle.yp_msgs.specs.declared.stat.YpStat.TheVariants.{Yperr}
-use Rattle.yp_msgs.specs.Numbers.{program, version, domain_procedure, match_procedure, first_procedure, next_procedure, master_procedure, order_procedure, maplist_procedure, name_max, key_max}
-use Rattle.yp_msgs.specs.Messages.{req_domain, req_nokey, req_key, resp_val, key_val, resp_master, resp_order}
-use Rattle.yp_msgs.specs.MapLists.{map_list}
+use Rattle.yp_rpc.specs.inside.Laws.{IsWord, CallIsHeardAgain}
+use Rattle.yp_messages.specs.declared.stat.YpStat.TheVariants.{Yperr}
+use Rattle.yp_messages.specs.Numbers.{program, version, domain_procedure, match_procedure, first_procedure, next_procedure, master_procedure, order_procedure, maplist_procedure, name_max, key_max}
+use Rattle.yp_messages.specs.Messages.{req_domain, req_nokey, req_key, resp_val, key_val, resp_master, resp_order}
+use Rattle.yp_messages.specs.MapLists.{map_list}
 use Rattle.yp_board.specs.Catalogues.{serves}
 use Rattle.yp_client.specs.Limits.{reply_max}
 use Rattle.yp_answer.specs.declared.procedure.Path.{Path}
@@ -20,14 +21,16 @@ use Rattle.yp_answer.specs.declared.procedure.Path.TheVariants.{Stream}
 use Rattle.yp_answer.specs.declared.procedure.Procedure.{Procedure}
 use Rattle.yp_answer.specs.declared.procedure.Procedure.TheVariants.{Domain, Match, First, Next, Master, Order, Maplist}
 use Rattle.yp_answer.specs.Maps.{Maps, map_check, row_check}
+use Rattle.yp_answer.specs.Procedures.{programs_on}
 use Rattle.yp_answer.specs.Results.{no_value, no_row, matched, first_row, next_row, mastered, ordered, maps_listed}
-use Rattle.yp_answer.specs.Reply.{Response, Bytes, success, look_up, with_arguments, procedure_reply, admitted, arguments_of, reply}
-use Rattle.yp_exchange.specs.Laws.{DomainTells, MatchTells, FirstTells, NextTells, MasterTells, OrderTells, MaplistTells}
-use Rattle.yp_exchange.proofs.Sound.{map_sound, row_sound}
-use Rattle.yp_exchange.proofs.Calls.{call_head, caller_of, reply_to_call, arguments_again}
-use Rattle.yp_exchange.proofs.Found.{matched_said, matched_short, FitsRow, first_said, first_fits, next_said, next_fits, master_said, mastered_short, order_said}
-use Rattle.yp_exchange.proofs.Names.{names_within, names_said, served_said}
-use Rattle.yp_exchange.proofs.Lengths.{opaque_short, length-success}
+use Rattle.yp_answer.specs.Reply.{Response, Bytes, success, look_up, with_arguments, procedure_reply, arguments_of, reply}
+use Rattle.yp_end_to_end.specs.inside.exchange.Laws.{DomainTells, MatchTells, FirstTells, NextTells, MasterTells}
+use Rattle.yp_end_to_end.specs.inside.exchange.Laws.{OrderTells, MaplistTells}
+use Rattle.yp_end_to_end.proofs.exchange.Sound.{map_sound, row_sound}
+use Rattle.yp_end_to_end.proofs.exchange.Calls.{call_head, caller_of, reply_to_call, arguments_again}
+use Rattle.yp_end_to_end.proofs.exchange.Found.{matched_said, matched_short, FitsRow, first_said, first_fits, next_said, next_fits, master_said, mastered_short, order_said}
+use Rattle.yp_end_to_end.proofs.exchange.Names.{names_within, names_said, served_said}
+use Rattle.yp_end_to_end.proofs.exchange.Lengths.{opaque_short, length-success}
 
 -- arguments within their limits
 pub domain_fits : (domain : List ℕ) → length domain ≤ name_max → Fits req_domain domain
@@ -41,13 +44,13 @@ key_fits domain map key d m k = (domain_fits domain d, (domain_fits map m, (k, o
 
 -- what a procedure makes of arguments that were written is the reply to the call
 pub replied_to : WrittenIsReadAgain → CallIsHeardAgain → (path : Path) (maps : Maps) (peer : Peer) (kind : Kind) (xid number : ℕ) (arguments : Value kind) (procedure : Procedure) (reply_to : Value kind → Response)
-    → IsWord xid → IsWord number → admitted path (call_head xid number) ≡ Ok procedure → Fits kind arguments
+    → IsWord xid → IsWord number → admitted (programs_on path) (call_head xid number) ≡ Ok procedure → Fits kind arguments
     → procedure_reply maps (caller_of path xid peer) procedure (spelling kind arguments) ≡ with_arguments xid (arguments_of kind (spelling kind arguments)) reply_to
     → reply path maps peer (call_of kind xid program version number arguments) ≡ reply_to arguments
 replied_to law calls path maps peer kind xid number arguments procedure reply_to x n is fits by =
     reply_to_call calls path maps peer kind xid number arguments procedure x n is
     ∙ by
-    ∙ ap (λ (read : Result (Value kind × Unread) XdrFault). with_arguments xid read reply_to) (arguments_again law kind arguments fits)
+    ∙ ap (λ (read : Result (Value kind) XdrFault). with_arguments xid read reply_to) (arguments_again law kind arguments fits)
 
 pub domain_tells : WrittenIsReadAgain → CallIsHeardAgain → DomainTells
 domain_tells law calls maps peer xid domain served x d = record {

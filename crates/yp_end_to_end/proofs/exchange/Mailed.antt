@@ -5,35 +5,37 @@ use Rattle.std.proofs.lemmas.List.{length-append}
 use Rattle.yp_io.specs.declared.stream.Peer.{Peer}
 use Rattle.yp_xdr.specs.Kind.{Kind, Value, U32, Sequence}
 use Rattle.yp_xdr.specs.Spelling.{spelling, word, opaque, fixed}
-use Rattle.yp_xdr.specs.Reading.{Unread, reading}
-use Rattle.yp_xdr.specs.Laws.{WrittenIsReadAgain}
-use Rattle.yp_rpc.specs.Laws.{IsWord, CallIsHeardAgain}
-use Rattle.yp_msgs.specs.Numbers.{first_procedure, next_procedure, master_procedure, order_procedure}
-use Rattle.yp_msgs.specs.Messages.{req_nokey, req_key, key_val, resp_master, resp_order}
-use Rattle.yp_msgs.specs.declared.stat.YpStat.{YpStat}
-use Rattle.yp_msgs.specs.declared.stat.YpStat.TheVariants.{True, Nomore, Nokey, Badargs, Nodom, Nomap, Yperr}
+use Rattle.yp_xdr.specs.Reading.{Remaining, reading}
+use Rattle.yp_xdr.specs.inside.Laws.{WrittenIsReadAgain}
+use Rattle.yp_rpc.specs.inside.Laws.{IsWord, CallIsHeardAgain}
+use Rattle.yp_messages.specs.Numbers.{first_procedure, next_procedure, master_procedure, order_procedure}
+use Rattle.yp_messages.specs.Messages.{req_nokey, req_key, key_val, resp_master, resp_order}
+use Rattle.yp_messages.specs.declared.stat.YpStat.{YpStat}
+use Rattle.yp_messages.specs.declared.stat.YpStat.TheVariants.{True, Nomore, Nokey, Badargs, Nodom, Nomap, Yperr}
 use Rattle.yp_version.specs.Rows.{Row, row_len, first_of, following}
 use Rattle.yp_version.specs.Versions.{MapVersion}
 use Rattle.yp_answer.specs.declared.procedure.Path.TheVariants.{Datagram}
 use Rattle.yp_answer.specs.declared.procedure.Procedure.TheVariants.{First, Next, Master, Order}
-use Rattle.yp_answer.specs.Numbers.{datagram_max}
+use Rattle.yp_rpc.specs.Turns.{datagram_max}
 use Rattle.yp_answer.specs.Maps.{Maps, map_check, row_check}
 use Rattle.yp_answer.specs.Results.{row_item, no_row, row_found, first_row, next_found, next_row, mastered, ordered}
 use Rattle.yp_answer.specs.Reply.{Bytes, success, look_up, exceeds, reply}
 use Rattle.yp_client.specs.declared.fault.ClientFault.TheVariants.{Yp}
 use Rattle.yp_client.specs.Results.{row_of}
-use Rattle.yp_exchange.specs.Told.{told, of_version, turned}
-use Rattle.yp_exchange.specs.Mail.{MailTells, row_mailed, first_mailed, row_behind_mailed, next_mailed}
-use Rattle.yp_exchange.specs.Mail.{OrderMailTells, MasterMailTells, FirstMailTells, NextMailTells}
-use Rattle.yp_exchange.proofs.Sound.{IsRefusal, IsSound, map_sound, row_sound}
-use Rattle.yp_exchange.proofs.Values.{row_said}
-use Rattle.yp_exchange.proofs.Found.{IsShortRow, rows_short, first_short, next_short, master_said, mastered_short, order_said, refused_row_said}
-use Rattle.yp_exchange.proofs.Lengths.{opaque_short, length-opaque, length-success}
-use Rattle.yp_exchange.proofs.LookUps.{map_fits, key_fits, replied_to}
+use Rattle.yp_end_to_end.specs.exchange.Told.{told, of_version}
+use Rattle.yp_end_to_end.specs.inside.exchange.Told.{turned}
+use Rattle.yp_end_to_end.specs.inside.exchange.Mail.{MailTells, row_mailed, first_mailed, row_behind_mailed}
+use Rattle.yp_end_to_end.specs.inside.exchange.Mail.{next_mailed}
+use Rattle.yp_end_to_end.specs.inside.exchange.Mail.{OrderMailTells, MasterMailTells, FirstMailTells, NextMailTells}
+use Rattle.yp_end_to_end.proofs.exchange.Sound.{IsRefusal, IsSound, map_sound, row_sound}
+use Rattle.yp_end_to_end.proofs.exchange.Values.{row_said}
+use Rattle.yp_end_to_end.proofs.exchange.Found.{IsShortRow, rows_short, first_short, next_short, master_said, mastered_short, order_said, refused_row_said}
+use Rattle.yp_end_to_end.proofs.exchange.Lengths.{opaque_short, length-opaque, length-success}
+use Rattle.yp_end_to_end.proofs.exchange.LookUps.{map_fits, key_fits, replied_to}
 
 -- a reply with results begins with the number of its call, and 1
 begins_so : WrittenIsReadAgain → (kind : Kind) (xid : ℕ) (value : Value kind) → IsWord xid
-    → (rest : Unread) × (reading (Sequence U32 U32) (record { at = 0; bytes = success xid kind value }) ≡ Ok ((xid, 1), rest))
+    → (rest : Remaining) × (reading (Sequence U32 U32) (record { at = 0; bytes = success xid kind value }) ≡ Ok ((xid, 1), rest))
 unfolding opaque fixed
 begins_so law kind xid value x =
     let two : List ℕ = spelling (Sequence U32 U32) (xid, 1) in

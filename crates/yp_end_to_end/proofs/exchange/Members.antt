@@ -1,14 +1,15 @@
 -- The law of members.
 use Rattle.std.proofs.Common.{Bool, true, false, Result, refl, sym, subst, true≢false}
 use Rattle.std.specs.Prelude.{IsTrue, ◌↔◌}
-use Rattle.yp_msgs.specs.declared.stat.YpStat.{YpStat}
+use Rattle.yp_messages.specs.declared.stat.YpStat.{YpStat}
 use Rattle.yp_version.specs.Versions.{MapVersion}
-use Rattle.yp_netgroup.specs.Reach.{IsMember}
-use Rattle.yp_netgroup.specs.Decided.{is_member, MembershipIsDecided}
-use Rattle.yp_query.specs.Asked.{membership_outcome, membership_told, told_by}
-use Rattle.yp_query.specs.Faults.{query_fault}
-use Rattle.yp_exchange.specs.Told.{told, of_version, all_in}
-use Rattle.yp_exchange.specs.MemberLaws.{TellsWhether, MembershipIsTold}
+use Rattle.yp_netgroup.specs.inside.Reach.{IsMember}
+use Rattle.yp_netgroup.specs.Decided.{is_member}
+use Rattle.yp_netgroup.specs.inside.Decided.{MembershipIsDecided}
+use Rattle.yp_client.specs.query.Asked.{membership_outcome, membership_told, told_by}
+use Rattle.yp_client.specs.query.Faults.{query_fault}
+use Rattle.yp_end_to_end.specs.exchange.Told.{told, of_version, all_in}
+use Rattle.yp_end_to_end.specs.inside.exchange.MemberLaws.{TellsWhether, MembershipIsTold}
 
 by_value : (member : Bool) (is : Type 0) → IsTrue member ↔ is → TellsWhether is (membership_outcome member)
 by_value true is law = record {

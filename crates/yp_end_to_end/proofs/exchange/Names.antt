@@ -6,27 +6,29 @@ use Rattle.std.specs.declared.cmp.Ordering.{Ordering}
 use Rattle.std.proofs.lemmas.List.{length-append, length-map}
 use Rattle.std.proofs.lemmas.List.Elements.{All-head, All-tail, All-cons, All-nil, All-filter, All-map}
 use Rattle.yp_xdr.specs.Kind.{Boolean, ListOf, Value}
-use Rattle.yp_xdr.specs.Spelling.{word, opaque, spelling, present, Fits}
-use Rattle.yp_xdr.specs.Reading.{Unread}
-use Rattle.yp_xdr.specs.Laws.{WrittenIsReadAgain}
-use Rattle.yp_rpc.specs.Laws.{IsWord}
-use Rattle.yp_msgs.specs.declared.stat.YpStat.{YpStat}
-use Rattle.yp_msgs.specs.declared.stat.YpStat.TheVariants.{True, Badargs, Nodom}
-use Rattle.yp_msgs.specs.Numbers.{name_max}
-use Rattle.yp_msgs.specs.Statuses.{stat, stat_number}
-use Rattle.yp_msgs.specs.Messages.{name}
-use Rattle.yp_msgs.specs.MapLists.{map_list}
+use Rattle.yp_xdr.specs.Spelling.{word, opaque, spelling, present}
+use Rattle.yp_xdr.specs.inside.Spelling.{Fits}
+use Rattle.yp_xdr.specs.Reading.{Remaining}
+use Rattle.yp_xdr.specs.inside.Laws.{WrittenIsReadAgain}
+use Rattle.yp_rpc.specs.inside.Laws.{IsWord}
+use Rattle.yp_messages.specs.declared.stat.YpStat.{YpStat}
+use Rattle.yp_messages.specs.declared.stat.YpStat.TheVariants.{True, Badargs, Nodom}
+use Rattle.yp_messages.specs.Numbers.{name_max}
+use Rattle.yp_messages.specs.Statuses.{stat, stat_number}
+use Rattle.yp_messages.specs.Messages.{name}
+use Rattle.yp_messages.specs.MapLists.{map_list}
 use Rattle.yp_board.specs.Catalogues.{Name, name_cmp, inserted, listed, serves, maps_max}
 use Rattle.yp_client.specs.declared.fault.ClientFault.{ClientFault}
-use Rattle.yp_client.specs.Results.{◌>>=◌, item, behind_true, served_of, maps_of}
+use Rattle.yp_client.specs.Results.{◌>>=◌, item, behind_true, maps_of}
+use Rattle.yp_client.specs.inside.Results.{served_of}
 use Rattle.yp_answer.specs.Maps.{Maps}
 use Rattle.yp_answer.specs.Results.{is_listed, maps_in, maps_listed}
 use Rattle.yp_answer.specs.Reply.{success}
 use Rattle.yp_answer.specs.Served.{AreServed}
-use Rattle.yp_exchange.specs.Told.{told, names_in}
-use Rattle.yp_exchange.proofs.Heads.{results_again}
-use Rattle.yp_exchange.proofs.Values.{last_again, stat_fits, said_with, behind_again, then_said}
-use Rattle.yp_exchange.proofs.Lengths.{opaque_short}
+use Rattle.yp_end_to_end.specs.exchange.Told.{told, names_in}
+use Rattle.yp_end_to_end.proofs.exchange.Heads.{results_again}
+use Rattle.yp_end_to_end.proofs.exchange.Values.{last_again, stat_fits, said_with, behind_again, then_said}
+use Rattle.yp_end_to_end.proofs.exchange.Lengths.{opaque_short}
 
 -- ---- names in order
 
@@ -109,11 +111,11 @@ list_said : WrittenIsReadAgain → (xid : ℕ) (s : YpStat) (names : List (List 
     → maps_of xid (success xid map_list (stat_number s, names)) ≡ said_with s names
 list_said law xid s names x short =
     let list : Value map_list = (stat_number s, names) in
-    let left : Unread = record { at = 24; bytes = spelling map_list list } in
-    let behind : Unread = record { at = 28; bytes = spelling (ListOf name) names } in
-    ap (λ (r : Result Unread ClientFault). r >>= λ l. behind_true l >>= λ rest. item map_list l >>= λ list. Ok list.0.1) (results_again law map_list xid list x)
-    ∙ ap (λ (r : Result Unread ClientFault). r >>= λ rest. item map_list left >>= λ list. Ok list.0.1) (behind_again law s 24 (spelling (ListOf name) names))
-    ∙ ap (λ (r : Result (Value map_list × Unread) ClientFault). said_with s behind >>= λ rest. r >>= λ list. Ok list.0.1)
+    let left : Remaining = record { at = 24; bytes = spelling map_list list } in
+    let behind : Remaining = record { at = 28; bytes = spelling (ListOf name) names } in
+    ap (λ (r : Result Remaining ClientFault). r >>= λ l. behind_true l >>= λ rest. item map_list l >>= λ list. Ok list.0.1) (results_again law map_list xid list x)
+    ∙ ap (λ (r : Result Remaining ClientFault). r >>= λ rest. item map_list left >>= λ list. Ok list.0.1) (behind_again law s 24 (spelling (ListOf name) names))
+    ∙ ap (λ (r : Result (Value map_list × Remaining) ClientFault). said_with s behind >>= λ rest. r >>= λ list. Ok list.0.1)
     (last_again law map_list list 24 (stat_fits s, names_fit names short))
     ∙ then_said s behind names (λ rest. Ok names) refl
 
@@ -129,8 +131,8 @@ names_said law maps xid domain served x = by (length domain == 0) (not (serves d
 
 pub served_said : WrittenIsReadAgain → (xid : ℕ) (b : Bool) → IsWord xid → served_of xid (success xid Boolean b) ≡ Ok b
 served_said law xid b x =
-    ap (λ (left : Result Unread ClientFault). left >>= λ l. item Boolean l >>= λ served. Ok served.0) (results_again law Boolean xid b x)
-    ∙ ap (λ (read : Result (Bool × Unread) ClientFault). read >>= λ served. Ok served.0) (last_again law Boolean b 24 tt)
+    ap (λ (left : Result Remaining ClientFault). left >>= λ l. item Boolean l >>= λ served. Ok served.0) (results_again law Boolean xid b x)
+    ∙ ap (λ (read : Result (Bool × Remaining) ClientFault). read >>= λ served. Ok served.0) (last_again law Boolean b 24 tt)
 
 -- ---- how long a reply with names is
 

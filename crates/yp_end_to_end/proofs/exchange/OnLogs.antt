@@ -12,19 +12,23 @@ use Rattle.yp_client.specs.Results.{order_of}
 use Rattle.yp_client.specs.Asked.{all_call, match_call, master_call, order_call, maplist_call}
 use Rattle.yp_client.specs.declared.question.Question.TheVariants.{Cat, Catk, Match, Which, Poll, Maps as MapsOf}
 use Rattle.yp_client.specs.declared.question.Question.TheVariants.{Innetgr}
-use Rattle.yp_client.specs.Questions.{ByteQuestion, QuestionIsWithin}
+use Rattle.yp_client.specs.Questions.{ByteQuestion}
+use Rattle.yp_client.specs.inside.Questions.{QuestionIsWithin}
 use Rattle.yp_answer.specs.declared.procedure.Path.TheVariants.{Stream}
 use Rattle.yp_answer.specs.Reply.{Response, Bytes, reply}
 use Rattle.yp_answer.specs.Served.{maps_on}
-use Rattle.yp_query.specs.Asked.{netgroup}
-use Rattle.yp_session.specs.Hosts.{Turn}
-use Rattle.yp_session.specs.LogRuns.{Gets, LogRun}
-use Rattle.yp_exchange.specs.Runs.{RepliesInTurn, RepliesOn, behind_order, poll_calls, calls_made}
-use Rattle.yp_exchange.specs.QueryLaws.{RunIsPrinted}
-use Rattle.yp_exchange.specs.LogRuns.{records_of, replies_of, AnsweredOn, IsRepliedTo}
-use Rattle.yp_exchange.specs.RunLaws.{MatchHasReply, AllHasReply, MasterHasReply, OrderHasReply, MaplistHasReply, RunIsInTurn, RunIsOnLogs}
-use Rattle.yp_exchange.specs.RunLaws.{LogRunIsPrinted}
-use Rattle.yp_exchange.proofs.Running.{front_then, served_before}
+use Rattle.yp_client.specs.query.Asked.{netgroup}
+use Rattle.yp_answer.specs.session.Hosts.{Turn}
+use Rattle.yp_answer.specs.session.LogRuns.{Gets, LogRun}
+use Rattle.yp_end_to_end.specs.exchange.Runs.{behind_order, poll_calls, calls_made}
+use Rattle.yp_end_to_end.specs.inside.exchange.Runs.{RepliesInTurn, RepliesOn}
+use Rattle.yp_end_to_end.specs.inside.exchange.QueryLaws.{RunIsPrinted}
+use Rattle.yp_end_to_end.specs.exchange.LogRuns.{records_of, replies_of, AnsweredOn}
+use Rattle.yp_end_to_end.specs.inside.exchange.LogRuns.{IsRepliedTo}
+use Rattle.yp_end_to_end.specs.inside.exchange.RunLaws.{MatchHasReply, AllHasReply, MasterHasReply, OrderHasReply}
+use Rattle.yp_end_to_end.specs.inside.exchange.RunLaws.{MaplistHasReply, RunIsInTurn, RunIsOnLogs}
+use Rattle.yp_end_to_end.specs.inside.exchange.RunLaws.{LogRunIsPrinted}
+use Rattle.yp_end_to_end.proofs.exchange.Running.{front_then, served_before}
 
 -- ---- a run
 

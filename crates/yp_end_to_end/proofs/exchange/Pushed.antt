@@ -9,9 +9,10 @@ use Rattle.std.proofs.lemmas.List.Elements.{All-head, All-tail}
 use Rattle.std.proofs.lemmas.List.Sums.{sum_by-append}
 use Rattle.std.proofs.lemmas.Map.Keys.{IsDistinct-head, IsDistinct-tail}
 use Rattle.yp_version.specs.Limits.{key_max, value_max, rows_max, body_max}
-use Rattle.yp_version.specs.Rows.{Row, HasDistinctKeys, value_of, row_len, rows_len}
+use Rattle.yp_version.specs.Rows.{Row, value_of, row_len, rows_len}
+use Rattle.yp_version.specs.inside.Rows.{HasDistinctKeys}
 use Rattle.yp_version.specs.Drafts.{Draft, draft_len, refused, with_new}
-use Rattle.yp_exchange.proofs.Found.{IsShortRow, AreShort}
+use Rattle.yp_end_to_end.proofs.exchange.Found.{IsShortRow, AreShort}
 
 -- each row in turn has a new key, and isn't refused
 abbrev pub AreTaken : Draft → List Row → Type 0

@@ -5,20 +5,20 @@ use Rattle.yp_client.specs.declared.fault.ClientFault.{ClientFault}
 use Rattle.yp_client.specs.declared.fault.ClientFault.TheVariants.{ReadFault, WriteFault, NoMemory as ClientNoMemory}
 use Rattle.yp_client.specs.States.{ClientState}
 use Rattle.yp_client.specs.Results.{Says, SaysInMemory}
-use Rattle.yp_query.specs.declared.fault.QueryFault.{QueryFault}
-use Rattle.yp_query.specs.declared.fault.QueryFault.TheVariants.{Client, NoMemory}
-use Rattle.yp_query.specs.Asked.{Outcome, told_by, meant_by, IsInMemory, CallIsMade}
-use Rattle.yp_query.specs.Complete.{BeginsWithReply}
+use Rattle.yp_client.specs.declared.query.fault.QueryFault.{QueryFault}
+use Rattle.yp_client.specs.declared.query.fault.QueryFault.TheVariants.{Client, NoMemory}
+use Rattle.yp_client.specs.query.Asked.{QueryOutcome, told_by, meant_by, IsInMemory, CallIsMade}
+use Rattle.yp_client.specs.query.Complete.{BeginsWithReply}
 use Rattle.yp_answer.specs.declared.procedure.Path.TheVariants.{Stream}
 use Rattle.yp_answer.specs.Maps.{Maps}
 use Rattle.yp_answer.specs.Reply.{Bytes, reply}
-use Rattle.yp_exchange.specs.Served.{ReplyTells}
-use Rattle.yp_exchange.specs.Answered.{ComesTo}
-use Rattle.yp_exchange.proofs.Hearing.{Records, IsWireFault, call_heard}
+use Rattle.yp_end_to_end.specs.inside.exchange.Served.{ReplyTells}
+use Rattle.yp_end_to_end.specs.exchange.Answered.{IsOutcomeOf}
+use Rattle.yp_end_to_end.proofs.exchange.Hearing.{Records, IsWireFault, call_heard}
 
 -- ---- what it comes to
 
-pub comes_same : (expected outcome : Outcome) → outcome ≡ expected → ComesTo expected outcome
+pub comes_same : (expected outcome : QueryOutcome) → outcome ≡ expected → IsOutcomeOf expected outcome
 comes_same expected (Ok text) e = e
 comes_same expected (Err NoMemory) e = tt
 comes_same expected (Err (Client ReadFault)) e = tt
@@ -26,10 +26,10 @@ comes_same expected (Err (Client WriteFault)) e = tt
 comes_same expected (Err (Client fault)) e = e
 comes_same expected (Err fault) e = e
 
-pub comes_in_memory : (expected meant outcome : Outcome) → ComesTo expected meant → IsInMemory meant outcome → ComesTo expected outcome
+pub comes_in_memory : (expected meant outcome : QueryOutcome) → IsOutcomeOf expected meant → IsInMemory meant outcome → IsOutcomeOf expected outcome
 comes_in_memory expected meant (Err NoMemory) comes is = tt
-comes_in_memory expected meant (Ok text) comes is = subst (ComesTo expected) (sym is) comes
-comes_in_memory expected meant (Err fault) comes is = subst (ComesTo expected) (sym is) comes
+comes_in_memory expected meant (Ok text) comes is = subst (IsOutcomeOf expected) (sym is) comes
+comes_in_memory expected meant (Err fault) comes is = subst (IsOutcomeOf expected) (sym is) comes
 
 -- ---- what is said
 
@@ -68,15 +68,15 @@ pub record Passes (refused : ClientFault → QueryFault) : Type 0 where
   pub reading : refused ReadFault ≡ Client ReadFault
   pub writing : refused WriteFault ≡ Client WriteFault
 
-pub wire_comes : {X : Type 0} (expected : Outcome) (refused : ClientFault → QueryFault) (means : X → Outcome) (answer : Result X ClientFault) → Passes refused → IsWireFault answer → ComesTo expected (told_by refused means answer)
-wire_comes expected refused means (Err ReadFault) passes is = subst (λ (fault : QueryFault). ComesTo expected (Err fault)) (sym passes.reading) tt
-wire_comes expected refused means (Err WriteFault) passes is = subst (λ (fault : QueryFault). ComesTo expected (Err fault)) (sym passes.writing) tt
+pub wire_comes : {X : Type 0} (expected : QueryOutcome) (refused : ClientFault → QueryFault) (means : X → QueryOutcome) (answer : Result X ClientFault) → Passes refused → IsWireFault answer → IsOutcomeOf expected (told_by refused means answer)
+wire_comes expected refused means (Err ReadFault) passes is = subst (λ (fault : QueryFault). IsOutcomeOf expected (Err fault)) (sym passes.reading) tt
+wire_comes expected refused means (Err WriteFault) passes is = subst (λ (fault : QueryFault). IsOutcomeOf expected (Err fault)) (sym passes.writing) tt
 wire_comes expected refused means (Ok x) passes is = absurd is
 wire_comes expected refused means (Err fault) passes is = absurd is
 
-pub memory_comes : {X : Type 0} (expected : Outcome) (refused : ClientFault → QueryFault) (means : X → Outcome) (answer : Result X ClientFault) → Passes refused → answer ≡ Err ClientNoMemory → ComesTo expected (told_by refused means answer)
+pub memory_comes : {X : Type 0} (expected : QueryOutcome) (refused : ClientFault → QueryFault) (means : X → QueryOutcome) (answer : Result X ClientFault) → Passes refused → answer ≡ Err ClientNoMemory → IsOutcomeOf expected (told_by refused means answer)
 memory_comes expected refused means answer passes is =
-    subst (λ (a : Result _ ClientFault). ComesTo expected (told_by refused means a)) (sym is) (subst (λ (fault : QueryFault). ComesTo expected (Err fault)) (sym passes.memory) tt)
+    subst (λ (a : Result _ ClientFault). IsOutcomeOf expected (told_by refused means a)) (sym is) (subst (λ (fault : QueryFault). IsOutcomeOf expected (Err fault)) (sym passes.memory) tt)
 
 -- ---- one call
 
@@ -85,9 +85,9 @@ abbrev pub IsSaidInMemory : {X V : Type 0} → (X → V) → (ℕ → List ℕ �
 IsSaidInMemory {X} view said answers = (xid : ℕ) (message : List ℕ) (answer : Result X ClientFault) → answers xid message answer → SaysInMemory view (said xid message) answer
 
 pub call_comes : Records → {X V : Type 0} (limit n : ℕ) (stream : List ℕ) (P : List ℕ → List ℕ → Type 0) (good : BeginsWithReply limit stream P) (call : ℕ → List ℕ) (view : X → V) (said : ℕ → List ℕ → Result V ClientFault)
-    (answers : ℕ → List ℕ → Result X ClientFault → Type 0) (refused : ClientFault → QueryFault) (text : V → List ℕ) (expected : Result V ClientFault) (outcome : Outcome) (old new : ClientState)
+    (answers : ℕ → List ℕ → Result X ClientFault → Type 0) (refused : ClientFault → QueryFault) (text : V → List ℕ) (expected : Result V ClientFault) (outcome : QueryOutcome) (old new : ClientState)
     → IsSaidInMemory view said answers → Passes refused → CallIsMade limit call answers (meant_by refused (λ x. text (view x))) outcome old new
-    → old.wire.input ≡ Some stream → old.spent ≡ false → old.xid ≡ n → said n good.reply ≡ expected → ComesTo (meant_by refused text expected) outcome
+    → old.wire.input ≡ Some stream → old.spent ≡ false → old.xid ≡ n → said n good.reply ≡ expected → IsOutcomeOf (meant_by refused text expected) outcome
 call_comes laws {X} {V} limit n stream P good call view said answers refused text expected outcome old new means passes makes told fresh number says =
     let to = meant_by refused text expected in
     comes_in_memory to (meant_by refused (λ x. text (view x)) makes.answer) outcome

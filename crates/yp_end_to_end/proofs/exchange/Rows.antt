@@ -5,13 +5,13 @@ use Rattle.std.proofs.lemmas.List.{length-append, append-nil}
 use Rattle.std.proofs.lemmas.List.Elements.{All-head, All-tail}
 use Rattle.yp_xdr.specs.Kind.{Boolean, Opaque, ListOf, Value}
 use Rattle.yp_xdr.specs.Spelling.{word, opaque, spelling, present}
-use Rattle.yp_xdr.specs.Reading.{Unread}
-use Rattle.yp_xdr.specs.Laws.{WrittenIsReadAgain}
-use Rattle.yp_msgs.specs.declared.stat.YpStat.{YpStat}
-use Rattle.yp_msgs.specs.declared.stat.YpStat.TheVariants.{True, Nomap, Nodom, Yperr, Badargs}
-use Rattle.yp_msgs.specs.Numbers.{key_max, value_max}
-use Rattle.yp_msgs.specs.Statuses.{stat, stat_number}
-use Rattle.yp_msgs.specs.Messages.{key_val}
+use Rattle.yp_xdr.specs.Reading.{Remaining}
+use Rattle.yp_xdr.specs.inside.Laws.{WrittenIsReadAgain}
+use Rattle.yp_messages.specs.declared.stat.YpStat.{YpStat}
+use Rattle.yp_messages.specs.declared.stat.YpStat.TheVariants.{True, Nomap, Nodom, Yperr, Badargs}
+use Rattle.yp_messages.specs.Numbers.{key_max, value_max}
+use Rattle.yp_messages.specs.Statuses.{stat, stat_number}
+use Rattle.yp_messages.specs.Messages.{key_val}
 use Rattle.yp_version.specs.declared.builder.VersionFault.{VersionFault}
 use Rattle.yp_version.specs.Rows.{Row, value_of, rows_len}
 use Rattle.yp_version.specs.Drafts.{Draft, refused, with_row, with_new}
@@ -20,11 +20,11 @@ use Rattle.yp_client.specs.declared.fault.ClientFault.TheVariants.{Yp}
 use Rattle.yp_client.specs.Results.{◌>>=◌, item}
 use Rattle.yp_client.specs.All.{ItemRead, row_at, by_row_stat, status_at, all_item_at, by_refusal, by_item, filled}
 use Rattle.yp_answer.specs.Results.{row_item, no_row}
-use Rattle.yp_exchange.proofs.Found.{IsShortRow, AreShort}
-use Rattle.yp_exchange.proofs.Values.{item_again, stat_fits}
-use Rattle.yp_exchange.proofs.Pushed.{AreTaken, rows_len-cons}
-use Rattle.yp_exchange.proofs.Sound.{IsRefusal}
-use Rattle.yp_exchange.proofs.Lengths.{length-opaque}
+use Rattle.yp_end_to_end.proofs.exchange.Found.{IsShortRow, AreShort}
+use Rattle.yp_end_to_end.proofs.exchange.Values.{item_again, stat_fits}
+use Rattle.yp_end_to_end.proofs.exchange.Pushed.{AreTaken, rows_len-cons}
+use Rattle.yp_end_to_end.proofs.exchange.Sound.{IsRefusal}
+use Rattle.yp_end_to_end.proofs.exchange.Lengths.{length-opaque}
 
 -- ---- one item
 
@@ -37,11 +37,11 @@ parts : (a b c d rest : List ℕ) → (a ++ (b ++ (c ++ d))) ++ rest ≡ a ++ (b
 parts a b c d rest = simp append_assoc
 
 -- what a client makes of a status
-abbrev by_status : ℤ × Unread → ItemRead
+abbrev by_status : ℤ × Remaining → ItemRead
 by_status status = by_row_stat status.0 status.1
 
 -- and of a boolean
-abbrev by_more : Bool × Unread → ItemRead
+abbrev by_more : Bool × Remaining → ItemRead
 by_more more = cond more.0 (status_at more.1) (Ok (None, more.1))
 
 -- a row behind its status
@@ -51,9 +51,9 @@ unfolding row_at
 row_read law row at rest short =
     let there = at + length (opaque row.1) in (
       there + length (opaque row.0),
-      ap (λ (r : Result (List ℕ × Unread) ClientFault). r >>= λ value. item (Opaque key_max) value.1 >>= λ key. Ok (Some (key.0, value.0), key.1))
+      ap (λ (r : Result (List ℕ × Remaining) ClientFault). r >>= λ value. item (Opaque key_max) value.1 >>= λ key. Ok (Some (key.0, value.0), key.1))
           (item_again law (Opaque value_max) row.1 at (opaque row.0 ++ rest) (short.1, omega (arith, short.1)))
-          ∙ ap (λ (r : Result (List ℕ × Unread) ClientFault). r >>= λ key. Ok (Some (key.0, row.1), key.1))
+          ∙ ap (λ (r : Result (List ℕ × Remaining) ClientFault). r >>= λ key. Ok (Some (key.0, row.1), key.1))
           (item_again law (Opaque key_max) row.0 there rest (short.0, omega (arith, short.0))),
     )
 
@@ -62,8 +62,8 @@ status_read : WrittenIsReadAgain → (s : YpStat) (at : ℕ) (rest : List ℕ)
     → all_item_at (record { at = at; bytes = word 1 ++ (spelling stat (stat_number s) ++ rest) }) ≡ by_row_stat (stat_number s) (record { at = at + 4 + 4; bytes = rest })
 unfolding all_item_at status_at
 status_read law s at rest =
-    ap (λ (r : Result (Bool × Unread) ClientFault). r >>= by_more) (item_again law Boolean true at (spelling stat (stat_number s) ++ rest) tt)
-    ∙ ap (λ (r : Result (ℤ × Unread) ClientFault). r >>= by_status) (item_again law stat (stat_number s) (at + 4) rest (stat_fits s))
+    ap (λ (r : Result (Bool × Remaining) ClientFault). r >>= by_more) (item_again law Boolean true at (spelling stat (stat_number s) ++ rest) tt)
+    ∙ ap (λ (r : Result (ℤ × Remaining) ClientFault). r >>= by_status) (item_again law stat (stat_number s) (at + 4) rest (stat_fits s))
 
 -- a row
 item_read : WrittenIsReadAgain → (row : Row) (at : ℕ) (rest : List ℕ) → IsShortRow row
@@ -80,7 +80,7 @@ item_read law row at rest short =
 -- the end
 end_read : WrittenIsReadAgain → (at : ℕ) → all_item_at (record { at = at; bytes = word 0 }) ≡ Ok (None, record { at = at + 4; bytes = [] })
 unfolding all_item_at
-end_read law at = ap (λ (r : Result (Bool × Unread) ClientFault). r >>= by_more) (item_again law Boolean false at [] tt)
+end_read law at = ap (λ (r : Result (Bool × Remaining) ClientFault). r >>= by_more) (item_again law Boolean false at [] tt)
 
 -- ---- all rows
 
@@ -89,12 +89,12 @@ abbrev pub with_all : Draft → List Row → Draft
 with_all draft rows = record draft { rows = draft.rows ++ rows }
 
 -- one item is read
-filled_item : (n count : ℕ) (draft : Draft) (left : Unread) (read : ItemRead) → all_item_at left ≡ read → filled (suc n) draft count left ≡ by_item (filled n) draft count read
+filled_item : (n count : ℕ) (draft : Draft) (left : Remaining) (read : ItemRead) → all_item_at left ≡ read → filled (suc n) draft count left ≡ by_item (filled n) draft count read
 unfolding filled
 filled_item n count draft left read is = ap (by_item (filled n) draft count) is
 
 -- a row that is taken is pushed
-pushed : (n count : ℕ) (draft : Draft) (row : Row) (left : Unread) → value_of row.0 draft.rows ≡ None → refused draft row ≡ None
+pushed : (n count : ℕ) (draft : Draft) (row : Row) (left : Remaining) → value_of row.0 draft.rows ≡ None → refused draft row ≡ None
     → by_item (filled n) draft count (Ok (Some row, left)) ≡ filled n (with_new draft row) (count + 1) left
 pushed n count draft row left absent taken =
     ap (λ (cause : Option VersionFault). by_refusal cause draft count (filled n (with_row draft row) (count + 1) left)) taken
@@ -111,7 +111,7 @@ rows_filled law (suc n) count draft (row ∷ rows) at few short taken =
     let later = spelling (ListOf key_val) (map row_item rows) in
     let split = append_assoc (item_bytes (row_item row)) (flat_map (present (spelling key_val)) (map row_item rows)) (word 0) in
     let one = item_read law row at later (All-head IsShortRow row rows short) in
-    let left : Unread = record { at = one.0; bytes = later } in
+    let left : Remaining = record { at = one.0; bytes = later } in
     ap (λ (bytes : List ℕ). filled (suc n) draft count (record { at = at; bytes = bytes })) split
     ∙ filled_item n count draft (record { at = at; bytes = item_bytes (row_item row) ++ later }) (Ok (Some row, left)) one.1
     ∙ pushed n count draft row left taken.0 taken.1
@@ -122,7 +122,7 @@ rows_filled law (suc n) count draft (row ∷ rows) at few short taken =
 -- ---- a refusal
 
 -- a status that refuses
-by_refusing : (s : YpStat) (left : Unread) → IsRefusal s → by_row_stat (stat_number s) left ≡ Err (Yp s)
+by_refusing : (s : YpStat) (left : Remaining) → IsRefusal s → by_row_stat (stat_number s) left ≡ Err (Yp s)
 by_refusing Badargs left is = refl
 by_refusing Nodom left is = refl
 by_refusing Nomap left is = refl

@@ -5,7 +5,7 @@ use Rattle.std.proofs.lemmas.List.{append-nil}
 use Rattle.std.proofs.lemmas.List.Elements.{All-nil, All-cons, All-head, All-tail}
 use Rattle.yp_io.specs.declared.stream.Peer.{Peer}
 use Rattle.yp_rpc.specs.Records.{sent}
-use Rattle.yp_msgs.specs.declared.stat.YpStat.{YpStat}
+use Rattle.yp_messages.specs.declared.stat.YpStat.{YpStat}
 use Rattle.yp_version.specs.Versions.{MapVersion, IsVersion}
 use Rattle.yp_board.specs.Catalogues.{Catalogue}
 use Rattle.yp_board.specs.Logs.{Log}
@@ -17,20 +17,23 @@ use Rattle.yp_client.specs.All.{all_said}
 use Rattle.yp_client.specs.Asked.{all_call, match_call, master_call, order_call, maplist_call}
 use Rattle.yp_client.specs.declared.question.Question.TheVariants.{Cat, Catk, Match, Which, Poll, Maps as MapsOf}
 use Rattle.yp_client.specs.declared.question.Question.TheVariants.{Innetgr}
-use Rattle.yp_query.specs.Asked.{no_rows, netgroup}
-use Rattle.yp_client.specs.Questions.{ByteQuestion, QuestionIsWithin}
+use Rattle.yp_client.specs.query.Asked.{no_rows, netgroup}
+use Rattle.yp_client.specs.Questions.{ByteQuestion}
+use Rattle.yp_client.specs.inside.Questions.{QuestionIsWithin}
 use Rattle.yp_answer.specs.declared.procedure.Path.TheVariants.{Stream}
 use Rattle.yp_answer.specs.Maps.{Maps, map_check, row_check}
 use Rattle.yp_answer.specs.Reply.{Bytes, reply}
 use Rattle.yp_answer.specs.Served.{AreServed, maps_on}
-use Rattle.yp_exchange.specs.Told.{told, of_version, value_in, order_in, master_in, all_told, names_in}
-use Rattle.yp_exchange.specs.Served.{ReplyTells}
-use Rattle.yp_exchange.specs.Answered.{GivesReply, GivesReplies}
-use Rattle.yp_exchange.specs.Runs.{RepliesInTurn, sent_all, behind_order, calls_made}
-use Rattle.yp_exchange.specs.QueryLaws.{QueryPrintsTold, RunIsPrinted}
-use Rattle.yp_exchange.proofs.Sent.{sent_is_whole}
-use Rattle.yp_exchange.proofs.Queries.{tells_of}
-use Rattle.yp_exchange.proofs.Asking.{Replies, no_rows_room}
+use Rattle.yp_end_to_end.specs.exchange.Told.{told, of_version, value_in, order_in, master_in, names_in}
+use Rattle.yp_end_to_end.specs.inside.exchange.Told.{all_told}
+use Rattle.yp_end_to_end.specs.inside.exchange.Served.{ReplyTells}
+use Rattle.yp_end_to_end.specs.inside.exchange.Answered.{GivesReply, GivesReplies}
+use Rattle.yp_end_to_end.specs.exchange.Runs.{sent_all, behind_order, calls_made}
+use Rattle.yp_end_to_end.specs.inside.exchange.Runs.{RepliesInTurn}
+use Rattle.yp_end_to_end.specs.inside.exchange.QueryLaws.{QueryPrintsTold, RunIsPrinted}
+use Rattle.yp_end_to_end.proofs.exchange.Sent.{sent_is_whole}
+use Rattle.yp_end_to_end.proofs.exchange.Queries.{tells_of}
+use Rattle.yp_end_to_end.proofs.exchange.Asking.{Replies, no_rows_room}
 
 -- what the replies to the calls say, and what a question prints
 pub record Laws : Type 0 where

@@ -2,15 +2,15 @@
 use Rattle.std.proofs.Common.{◌≡◌, ℕ, Bool, true, false, cond, Option, Some, Result, Ok, Err, refl, sym, ap}
 use Rattle.std.proofs.Common.{◌∙◌, subst, inl, inr, ◌&&◌, nat_le, arith}
 use Rattle.std.specs.Option.{option_and_then}
-use Rattle.yp_msgs.specs.declared.stat.YpStat.{YpStat}
-use Rattle.yp_msgs.specs.declared.stat.YpStat.TheVariants.{Yperr}
+use Rattle.yp_messages.specs.declared.stat.YpStat.{YpStat}
+use Rattle.yp_messages.specs.declared.stat.YpStat.TheVariants.{Yperr}
 use Rattle.yp_version.specs.Versions.{MapVersion}
 use Rattle.yp_board.specs.Logs.{shown}
 use Rattle.yp_answer.specs.Maps.{guarded}
 use Rattle.yp_answer.specs.Served.{maps_on}
-use Rattle.yp_source.specs.Shown.{ShownBetween, FrontIsServed, ShowsRows, ShownIsSound}
-use Rattle.yp_source.proofs.Showing.{is_held, held_again, has_number, held_sound, served_before}
-use Rattle.yp_source.proofs.Rising.{one_between}
+use Rattle.yp_end_to_end.specs.inside.transfer.Shown.{ShownBetween, FrontIsServed, ShowsRows, ShownIsSound}
+use Rattle.yp_end_to_end.proofs.transfer.Showing.{is_held, held_again, has_number, held_sound, served_before}
+use Rattle.yp_end_to_end.proofs.transfer.Rising.{one_between}
 
 pub shown_between : ShownBetween
 shown_between catalogue first middle final log domain map version other rises begins goes ends held last same =

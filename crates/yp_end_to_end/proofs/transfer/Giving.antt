@@ -3,12 +3,12 @@ use Rattle.std.proofs.Common.{◌≡◌, ℕ, ◌<◌, ◌≤◌, ◌⊎◌, Boo
 use Rattle.std.proofs.Common.{None, Result, Ok, Err, refl, sym, ap, ◌∙◌, subst, arith, eq-eqb}
 use Rattle.std.specs.Prelude.{IsOk, IfOk, ⊤}
 use Rattle.yp_io.specs.declared.stream.Peer.{Peer}
-use Rattle.yp_rpc.specs.Laws.{IsWord}
-use Rattle.yp_msgs.specs.declared.stat.YpStat.{YpStat}
-use Rattle.yp_msgs.specs.Numbers.{name_max}
+use Rattle.yp_rpc.specs.inside.Laws.{IsWord}
+use Rattle.yp_messages.specs.declared.stat.YpStat.{YpStat}
+use Rattle.yp_messages.specs.Numbers.{name_max}
 use Rattle.yp_version.specs.Drafts.{Draft, empty_draft}
 use Rattle.yp_version.specs.Versions.{MapVersion, IsVersion, unmarked}
-use Rattle.yp_version.specs.Laws.{RisingStays}
+use Rattle.yp_version.specs.inside.Laws.{RisingStays}
 use Rattle.yp_board.specs.Catalogues.{is_name}
 use Rattle.yp_answer.specs.Maps.{Maps, map_check, row_check}
 use Rattle.yp_answer.specs.Served.{AreServed}
@@ -17,18 +17,20 @@ use Rattle.yp_client.specs.Limits.{reply_max, all_max}
 use Rattle.yp_client.specs.Asked.{order_call, master_call, all_call}
 use Rattle.yp_client.specs.Results.{order_of, master_of}
 use Rattle.yp_client.specs.All.{AllSaid, all_said}
-use Rattle.yp_exchange.specs.Told.{told, of_version, order_in, master_in, all_told}
-use Rattle.yp_exchange.specs.Served.{ReplyTells}
-use Rattle.yp_exchange.specs.Laws.{OrderTells, MasterTells, AllTells, RoomForVersion}
-use Rattle.yp_xfr.specs.declared.fault.XfrFault.TheVariants.{Skew, Dbm, Badargs}
-use Rattle.yp_xfr.specs.Fetching.{Wanted, Outcome, InMemory, Gives, AsksAgain, AsksRows, AsksMaster}
-use Rattle.yp_xfr.specs.Fetching.{against_names, against_order, against_master, against_second}
-use Rattle.yp_xfr.specs.Fetched.{Place, place_of, draft_of, rows_of, by_bytes, Fetched}
-use Rattle.yp_source.specs.Replies.{next_xid, Moments, AtEach, GivesSecond, GivesAll, GivesMaster, GivesFetch}
-use Rattle.yp_source.specs.Replies.{unsecured, IsShown}
-use Rattle.yp_source.proofs.Showing.{is_held, held_sound, rows_held}
-use Rattle.yp_source.proofs.Hearing.{Records}
-use Rattle.yp_source.proofs.Going.{goes, goes_by, goes_in_memory, stepped}
+use Rattle.yp_end_to_end.specs.exchange.Told.{told, of_version, order_in, master_in}
+use Rattle.yp_end_to_end.specs.inside.exchange.Told.{all_told}
+use Rattle.yp_end_to_end.specs.inside.exchange.Served.{ReplyTells}
+use Rattle.yp_end_to_end.specs.inside.exchange.Laws.{OrderTells, MasterTells, AllTells, RoomForVersion}
+use Rattle.yp_transfer.specs.declared.fault.XfrFault.TheVariants.{Skew, Dbm, Badargs}
+use Rattle.yp_transfer.specs.Fetching.{Wanted, FetchOutcome, InMemory, Gives, AsksAgain, AsksRows, AsksMaster}
+use Rattle.yp_transfer.specs.Fetching.{against_names, against_order, against_master, against_second}
+use Rattle.yp_transfer.specs.Fetched.{StreamPlace, place_of, draft_of, rows_of, by_bytes, Fetched}
+use Rattle.yp_end_to_end.specs.transfer.Replies.{next_xid}
+use Rattle.yp_end_to_end.specs.inside.transfer.Replies.{Moments, AtEach, GivesSecond, GivesAll, GivesMaster, GivesFetch}
+use Rattle.yp_end_to_end.specs.transfer.Replies.{unsecured, IsShown}
+use Rattle.yp_end_to_end.proofs.transfer.Showing.{is_held, held_sound, rows_held}
+use Rattle.yp_end_to_end.proofs.transfer.Hearing.{Records}
+use Rattle.yp_end_to_end.proofs.transfer.Going.{goes, goes_by, goes_in_memory, stepped}
 
 -- what the replies to the calls say
 pub record Replies : Type 0 where
@@ -123,8 +125,8 @@ module _ (laws : Replies) (moments : Moments) (peer : Peer) (wanted : Wanted) (s
 
   -- ---- in turn, from the last on
 
-  module _ (outcome : Outcome) (last : Place) where
-    again : (place : Place) (xid : ℕ) → place.xid ≡ xid → IsWord xid
+  module _ (outcome : FetchOutcome) (last : StreamPlace) where
+    again : (place : StreamPlace) (xid : ℕ) → place.xid ≡ xid → IsWord xid
         → GivesSecond peer wanted.domain wanted.map moments xid place.bytes
         → AsksAgain by_bytes (record { order = source.order; master = source.master; rows = source.rows })
         outcome place last
@@ -140,7 +142,7 @@ module _ (laws : Replies) (moments : Moments) (peer : Peer) (wanted : Wanted) (s
         last (same_second source.order source.order refl) more) in
         gave.0 ∙ ap (λ rows. Ok (unmarked source.order source.master rows)) (laws.rising source.rows sound.rising)
 
-    rows : (place : Place) (xid : ℕ) → place.xid ≡ xid → IsWord xid
+    rows : (place : StreamPlace) (xid : ℕ) → place.xid ≡ xid → IsWord xid
         → GivesAll peer wanted.domain wanted.map moments xid place.bytes
         → AsksRows by_bytes (empty_draft source.order source.master) outcome place last → outcome ≡ Ok (unsecured source)
     rows place xid at word gives asks =
@@ -152,7 +154,7 @@ module _ (laws : Replies) (moments : Moments) (peer : Peer) (wanted : Wanted) (s
         rows_held moments.third peer.port wanted.domain wanted.map source may shown.third in
         again asks.middle (next_xid xid) step.xid_is (next_is_word xid) (step.behind (is_ok _ source rows)) more
 
-    master : (source.master ≡ [] → ⊥) → (place : Place) (xid : ℕ) → place.xid ≡ xid → IsWord xid
+    master : (source.master ≡ [] → ⊥) → (place : StreamPlace) (xid : ℕ) → place.xid ≡ xid → IsWord xid
         → GivesMaster peer wanted.domain wanted.map moments xid place.bytes
         → AsksMaster by_bytes source.order outcome place last → outcome ≡ Ok (unsecured source)
     master some place xid at word gives asks =
@@ -165,7 +167,7 @@ module _ (laws : Replies) (moments : Moments) (peer : Peer) (wanted : Wanted) (s
         outcome asks.middle last (has_name source.master some sound.master) more) in
         rows asks.middle (next_xid xid) step.xid_is (next_is_word xid) (step.behind (is_ok _ source shown.second)) asked
 
-  pub is_given : (xid at : ℕ) (stream : List ℕ) (outcome : Outcome) → IsWord xid → (source.master ≡ [] → ⊥)
+  pub is_given : (xid at : ℕ) (stream : List ℕ) (outcome : FetchOutcome) → IsWord xid → (source.master ≡ [] → ⊥)
       → against_order wanted source.order ≡ None
       → GivesFetch peer wanted.domain wanted.map moments xid stream
       → Fetched wanted (place_of xid at stream) outcome → outcome ≡ Ok (unsecured source)

@@ -5,10 +5,10 @@ use Rattle.std.specs.Prelude.{IfOk, is_some, ⊤}
 use Rattle.std.proofs.lemmas.List.{append-nil}
 use Rattle.std.proofs.lemmas.Bool.Decides.{eqb_tells}
 use Rattle.yp_io.specs.declared.stream.Peer.{Peer}
-use Rattle.yp_xdr.specs.Reading.{Unread}
-use Rattle.yp_rpc.specs.Laws.{IsWord}
-use Rattle.yp_msgs.specs.Numbers.{name_max}
-use Rattle.yp_msgs.specs.declared.stat.YpStat.{YpStat}
+use Rattle.yp_xdr.specs.Reading.{Remaining}
+use Rattle.yp_rpc.specs.inside.Laws.{IsWord}
+use Rattle.yp_messages.specs.Numbers.{name_max}
+use Rattle.yp_messages.specs.declared.stat.YpStat.{YpStat}
 use Rattle.yp_version.specs.declared.builder.VersionFault.{VersionFault}
 use Rattle.yp_version.specs.Rows.{listed, rows_len, value_of}
 use Rattle.yp_version.specs.Limits.{body_max}
@@ -24,19 +24,21 @@ use Rattle.yp_client.specs.Limits.{reply_max, all_max}
 use Rattle.yp_client.specs.Asked.{order_call, master_call, all_call}
 use Rattle.yp_client.specs.Results.{order_of, master_of, results_of}
 use Rattle.yp_client.specs.All.{AllSaid, ItemRead, by_item, by_refusal, filled, filled_by, all_said, all_item_at}
-use Rattle.yp_exchange.specs.Told.{told, of_version, order_in, master_in, all_told}
-use Rattle.yp_exchange.specs.Served.{HasRoom}
-use Rattle.yp_exchange.specs.Answered.{GivesReply}
-use Rattle.yp_xfr.specs.Fetching.{Wanted, Outcome, InMemory, Gives, AsksRows, AsksMaster}
-use Rattle.yp_xfr.specs.Fetching.{against_names, against_order, against_master, against_second}
-use Rattle.yp_xfr.specs.Fetched.{Place, place_of, Reads, draft_of, rows_of, by_bytes, Fetched}
-use Rattle.yp_source.specs.Replies.{next_xid, Moments, AtEach, GivesFetch}
-use Rattle.yp_source.specs.Replies.{unsecured, IsShown}
-use Rattle.yp_source.specs.Laws.{Fronts, moments_on}
-use Rattle.yp_source.proofs.Showing.{held_sound, rows_of_held, served_before, front_then}
-use Rattle.yp_source.proofs.Between.{shown_between}
-use Rattle.yp_source.proofs.Going.{goes_in_memory, unless_ok, asked_ok, passed, stepped}
-use Rattle.yp_source.proofs.Giving.{Replies, next_is_word, is_ok, rows_tell}
+use Rattle.yp_end_to_end.specs.exchange.Told.{told, of_version, order_in, master_in}
+use Rattle.yp_end_to_end.specs.inside.exchange.Told.{all_told}
+use Rattle.yp_end_to_end.specs.inside.exchange.Served.{DraftHasRoom}
+use Rattle.yp_end_to_end.specs.inside.exchange.Answered.{GivesReply}
+use Rattle.yp_transfer.specs.Fetching.{Wanted, FetchOutcome, InMemory, Gives, AsksRows, AsksMaster}
+use Rattle.yp_transfer.specs.Fetching.{against_names, against_order, against_master, against_second}
+use Rattle.yp_transfer.specs.Fetched.{StreamPlace, place_of, ReadsReply, draft_of, rows_of, by_bytes, Fetched}
+use Rattle.yp_end_to_end.specs.transfer.Replies.{next_xid}
+use Rattle.yp_end_to_end.specs.inside.transfer.Replies.{Moments, AtEach, GivesFetch}
+use Rattle.yp_end_to_end.specs.transfer.Replies.{unsecured, IsShown}
+use Rattle.yp_end_to_end.specs.inside.transfer.Laws.{Fronts, moments_on}
+use Rattle.yp_end_to_end.proofs.transfer.Showing.{held_sound, rows_of_held, served_before, front_then}
+use Rattle.yp_end_to_end.proofs.transfer.Between.{shown_between}
+use Rattle.yp_end_to_end.proofs.transfer.Going.{goes_in_memory, unless_ok, asked_ok, passed, stepped}
+use Rattle.yp_end_to_end.proofs.transfer.Giving.{Replies, next_is_word, is_ok, rows_tell}
 
 -- ---- what the answers tell
 
@@ -58,7 +60,7 @@ held_or_not (Err stat) = inr (stat, refl)
 same_held : (held : Result MapVersion YpStat) (a b : MapVersion) → held ≡ Ok a → held ≡ Ok b → a ≡ b
 same_held held a b one other = let both : Ok a ≡ Ok b = sym one ∙ other in cc
 
-same_given : (a b : MapVersion) → (let one : Outcome = Ok a in one) ≡ Ok b → a ≡ b
+same_given : (a b : MapVersion) → (let one : FetchOutcome = Ok a in one) ≡ Ok b → a ≡ b
 same_given a b is = cc
 
 no_skew : (first second : ℕ) → against_second first second ≡ None → first ≡ second
@@ -79,8 +81,8 @@ refusal_keeps : (why : Option VersionFault) (draft : Draft) (rows : ℕ) (others
 refusal_keeps None draft rows others same = same
 refusal_keeps (Some fault) draft rows others same = refl
 
-item_keeps : (others : Draft → ℕ → Unread → AllSaid) (draft : Draft) (rows : ℕ)
-    → ((d : Draft) (n : ℕ) (left : Unread) → (others d n left).draft.order ≡ d.order)
+item_keeps : (others : Draft → ℕ → Remaining → AllSaid) (draft : Draft) (rows : ℕ)
+    → ((d : Draft) (n : ℕ) (left : Remaining) → (others d n left).draft.order ≡ d.order)
     → (item : ItemRead) → (by_item others draft rows item).draft.order ≡ draft.order
 item_keeps others draft rows keeps (Err fault) = refl
 item_keeps others draft rows keeps (Ok (None, left)) = refl
@@ -89,12 +91,12 @@ item_keeps others draft rows keeps (Ok (Some row, left)) =
     (keeps (with_row draft row) (rows + 1) left
     ∙ row_keeps (is_some (value_of row.0 draft.rows)) draft _ refl)
 
-filled_keeps : (n : ℕ) (draft : Draft) (rows : ℕ) (left : Unread) → (filled n draft rows left).draft.order ≡ draft.order
+filled_keeps : (n : ℕ) (draft : Draft) (rows : ℕ) (left : Remaining) → (filled n draft rows left).draft.order ≡ draft.order
 unfolding filled
 filled_keeps zero draft rows left = refl
 filled_keeps (suc n) draft rows left = item_keeps (filled n) draft rows (filled_keeps n) (all_item_at left)
 
-results_keep : (draft : Draft) (results : Result Unread ClientFault) → (filled_by draft results).draft.order ≡ draft.order
+results_keep : (draft : Draft) (results : Result Remaining ClientFault) → (filled_by draft results).draft.order ≡ draft.order
 results_keep draft (Ok left) = filled_keeps (length left.bytes) draft 0 left
 results_keep draft (Err fault) = refl
 
@@ -109,7 +111,7 @@ draft_is said draft is = by said.end is
     by (Ok done) e = cc
     by (Err fault) e = absurd cc
 
-read_keeps : (draft value : Draft) (old new : Place) → Reads all_max (rows_of draft) (Ok value) old new
+read_keeps : (draft value : Draft) (old new : StreamPlace) → ReadsReply all_max (rows_of draft) (Ok value) old new
     → value.order ≡ draft.order
 read_keeps draft value old new (inl read) =
     let said = all_said draft old.xid read.reply in
@@ -164,10 +166,10 @@ module _ (laws : Replies) (catalogue : Catalogue) (fronts : Fronts) (peer : Peer
       }
 
   -- where rows were read, they are shown to this caller
-  rows_are_shown : (order : ℕ) (name : List ℕ) (value : Draft) (xid : ℕ) (old new : Place) (P : List ℕ → Type 0)
+  rows_are_shown : (order : ℕ) (name : List ℕ) (value : Draft) (xid : ℕ) (old new : StreamPlace) (P : List ℕ → Type 0)
       → IsWord xid → old.xid ≡ xid
       → GivesReply (maps_on catalogue fronts.third) peer all_max (all_call wanted.domain wanted.map xid) old.bytes P
-      → Reads all_max (rows_of (empty_draft order name)) (Ok value) old new
+      → ReadsReply all_max (rows_of (empty_draft order name)) (Ok value) old new
       → (source : MapVersion)
       × (row_check (maps_on catalogue fronts.third) peer.port wanted.domain wanted.map ≡ Ok source)
   rows_are_shown order name value xid old new P word here gives read =
@@ -177,7 +179,7 @@ module _ (laws : Replies) (catalogue : Catalogue) (fronts : Fronts) (peer : Peer
       elim (held_or_not held) [
         | inl shows ↦ shows
         | inr none ↦
-            let room : HasRoom draft held = record {
+            let room : DraftHasRoom draft held = record {
               empty = refl;
               room = subst (λ (r : Result MapVersion YpStat). IfOk r (λ version. draft_len draft + rows_len version.rows ≤ body_max))
                   (sym none.1) tt;
@@ -194,11 +196,11 @@ module _ (laws : Replies) (catalogue : Catalogue) (fronts : Fronts) (peer : Peer
       ]
 
   -- and they are those of the version
-  rows_are : (source : MapVersion) (order : ℕ) (name : List ℕ) (value : Draft) (xid : ℕ) (old new : Place)
+  rows_are : (source : MapVersion) (order : ℕ) (name : List ℕ) (value : Draft) (xid : ℕ) (old new : StreamPlace)
       (P : List ℕ → Type 0) → IsWord xid → old.xid ≡ xid → name ≡ source.master
       → row_check (maps_on catalogue fronts.third) peer.port wanted.domain wanted.map ≡ Ok source
       → GivesReply (maps_on catalogue fronts.third) peer all_max (all_call wanted.domain wanted.map xid) old.bytes P
-      → Reads all_max (rows_of (empty_draft order name)) (Ok value) old new
+      → ReadsReply all_max (rows_of (empty_draft order name)) (Ok value) old new
       → value ≡ record { order = order; master = name; rows = source.rows }
   rows_are source order name value xid old new P word here same shows gives read =
       let maps = maps_on catalogue fronts.third in

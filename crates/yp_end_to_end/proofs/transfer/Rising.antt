@@ -11,7 +11,7 @@ use Rattle.std.proofs.lemmas.List.Elements.{All-head}
 use Rattle.yp_version.specs.Versions.{MapVersion}
 use Rattle.yp_board.specs.Logs.{Log, shown}
 use Rattle.yp_board.specs.Views.{IsFront}
-use Rattle.yp_publish.specs.Rising.{orders, IsRisingLog}
+use Rattle.yp_publisher.specs.Rising.{orders, IsRisingLog}
 
 Rising : List ℕ → Type 0
 Rising xs = IsStrictlySortedBy nat_cmp xs

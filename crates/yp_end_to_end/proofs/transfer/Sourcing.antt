@@ -3,25 +3,28 @@ use Rattle.std.proofs.Common.{◌≡◌, ◌⊎◌, inl, inr, ⊎_elim, ℕ, ◌
 use Rattle.std.proofs.Common.{sym, ap, ◌∙◌, subst, arith, length-append, All}
 use Rattle.std.proofs.lemmas.List.Elements.{All-nil, All-cons}
 use Rattle.yp_io.specs.declared.stream.Peer.{Peer}
-use Rattle.yp_io.specs.Dials.{Wires, WireState, Connected, connected, Comes, GoesBack, Dialing}
+use Rattle.yp_io.specs.Dials.{Wires, WireState, Connected, connected, WireComes, GoesBack, Dialing}
 use Rattle.yp_version.specs.Versions.{MapVersion}
 use Rattle.yp_client.specs.Asked.{order_call, master_call, all_call}
-use Rattle.yp_query.specs.Complete.{HasCome}
+use Rattle.yp_client.specs.query.Complete.{HasCome}
 use Rattle.yp_board.specs.Logs.{Log}
 use Rattle.yp_answer.specs.Served.{AreServed, maps_on}
-use Rattle.yp_exchange.specs.Runs.{RepliesOn, sent_all}
-use Rattle.yp_exchange.specs.LogRuns.{replies_of, IsRepliedTo}
-use Rattle.yp_exchange.specs.RunLaws.{AllHasReply, MasterHasReply, OrderHasReply, RunIsOnLogs}
+use Rattle.yp_end_to_end.specs.exchange.Runs.{sent_all}
+use Rattle.yp_end_to_end.specs.inside.exchange.Runs.{RepliesOn}
+use Rattle.yp_end_to_end.specs.exchange.LogRuns.{replies_of}
+use Rattle.yp_end_to_end.specs.inside.exchange.LogRuns.{IsRepliedTo}
+use Rattle.yp_end_to_end.specs.inside.exchange.RunLaws.{AllHasReply, MasterHasReply, OrderHasReply, RunIsOnLogs}
 use Rattle.yp_io.specs.Counts.{HasRisen}
-use Rattle.yp_xfr.specs.declared.fault.XfrFault.{XfrFault}
-use Rattle.yp_xfr.specs.declared.fault.XfrFault.TheVariants.{Rpc, NoMemory}
-use Rattle.yp_xfr.specs.Fetching.{Wanted, Outcome}
-use Rattle.yp_xfr.specs.Fetched.{place_of, Fetched}
-use Rattle.yp_xfr.specs.Dialing.{FetchesOnWire, ByAddress, sought}
-use Rattle.yp_source.specs.Replies.{IsShown}
-use Rattle.yp_source.specs.Laws.{FetchedIsShown}
-use Rattle.yp_source.specs.Turns.{fetch_calls, TurnsGiveFetch}
-use Rattle.yp_source.specs.Runs.{WireIsFetched, RunIsFetched}
+use Rattle.yp_transfer.specs.declared.fault.XfrFault.{XfrFault}
+use Rattle.yp_transfer.specs.declared.fault.XfrFault.TheVariants.{Rpc, NoMemory}
+use Rattle.yp_transfer.specs.Fetching.{Wanted, FetchOutcome}
+use Rattle.yp_transfer.specs.Fetched.{place_of, Fetched}
+use Rattle.yp_transfer.specs.Dialing.{FetchesOnWire, ByAddress, sought}
+use Rattle.yp_end_to_end.specs.transfer.Replies.{IsShown}
+use Rattle.yp_end_to_end.specs.inside.transfer.Laws.{FetchedIsShown}
+use Rattle.yp_end_to_end.specs.transfer.Turns.{fetch_calls}
+use Rattle.yp_end_to_end.specs.inside.transfer.Turns.{TurnsGiveFetch}
+use Rattle.yp_end_to_end.specs.inside.transfer.Runs.{WireIsFetched, RunIsFetched}
 
 -- ---- the wire that came
 
@@ -31,7 +34,7 @@ last_same (z ∷ xs) x y e = let rest : xs ++ x ∷ [] ≡ xs ++ y ∷ [] = cc i
 
 -- the wire that came is the one to that peer, which gives the stream
 wire_is : (wire other : Connected) (last : WireState) (mid : Option Wires) (before after : Wires)
-    → Comes wire (Some before) mid → GoesBack last mid (Some after) → after.came ≡ before.came ++ other ∷ []
+    → WireComes wire (Some before) mid → GoesBack last mid (Some after) → after.came ≡ before.came ++ other ∷ []
     → wire ≡ other
 wire_is wire other last None before after comes back came = absurd comes
 wire_is wire other last (Some others) before after comes back came =
@@ -40,19 +43,19 @@ wire_is wire other last (Some others) before after comes back came =
     last_same before.came wire other (sym mine ∙ sym kept ∙ came)
 
 -- so its bytes say what is fetched
-on_wire : (peer server : Peer) (wanted : Wanted) (outcome : Outcome) (stream : List ℕ) (old new : Dialing)
+on_wire : (peer server : Peer) (wanted : Wanted) (outcome : FetchOutcome) (stream : List ℕ) (old new : Dialing)
     → HasCome server stream old.past new.past → FetchesOnWire peer wanted outcome old new
     → Fetched wanted (place_of 1 0 stream) outcome ⊎ ((outcome ≡ Err Rpc) × HasRisen old.faults new.faults)
     ⊎ (outcome ≡ Err NoMemory)
 on_wire peer server wanted outcome stream old new came did =
     let wire = connected peer did.first.wire.input did.first.wire.output in
-    let comes = subst (λ (w : Option Wires). Comes wire w did.middle) came.was did.comes in
-    let back = subst (λ (w : Option Wires). GoesBack did.last.wire did.middle w) came.is did.goes_back in
-    let same = wire_is wire (connected server (Some stream) came.sent) did.last.wire did.middle came.before came.after
-    comes back came.came in
+    let comes = subst (λ (w : Option Wires). WireComes wire w did.dialed.middle) came.was did.dialed.comes in
+    let back = subst (λ (w : Option Wires). GoesBack did.last.wire did.dialed.middle w) came.is did.dialed.goes_back in
+    let same = wire_is wire (connected server (Some stream) came.sent) did.last.wire did.dialed.middle came.before
+    came.after comes back came.came in
     let said = did.fetched stream (ap (λ (w : Connected). w.input) same) in
-    let placed = subst (λ (n : ℕ). Fetched wanted (place_of n did.first.place stream) outcome) did.begins.xid in
-    let from_first = subst (λ (n : ℕ). Fetched wanted (place_of 1 n stream) outcome) did.begins.place in
+    let placed = subst (λ (n : ℕ). Fetched wanted (place_of n did.first.place stream) outcome) did.dialed.begins.xid in
+    let from_first = subst (λ (n : ℕ). Fetched wanted (place_of 1 n stream) outcome) did.dialed.begins.place in
     ⊎_elim (λ fetched. inl (from_first (placed fetched)))
     (λ failed. ⊎_elim (λ wire. inr (inl (wire.0, did.cause wire))) (λ memory. inr (inr memory)) failed) said
 
@@ -68,7 +71,7 @@ none_came peer stream old new came same =
       length-append came.before.came (connected peer (Some stream) came.sent ∷ []),
     )
 
-by_address : (address : Result Peer XfrFault) (server : Peer) (wanted : Wanted) (outcome : Outcome)
+by_address : (address : Result Peer XfrFault) (server : Peer) (wanted : Wanted) (outcome : FetchOutcome)
     (stream : List ℕ) (old new : Dialing) → HasCome server stream old.past new.past
     → ByAddress wanted address outcome old new
     → Fetched wanted (place_of 1 0 stream) outcome ⊎ ((outcome ≡ Err Rpc) × HasRisen old.faults new.faults)
@@ -76,7 +79,7 @@ by_address : (address : Result Peer XfrFault) (server : Peer) (wanted : Wanted) 
 by_address (Err why) server wanted outcome stream old new came did =
     absurd (none_came server stream old.past new.past came (ap (λ (d : Dialing). d.past) did.1))
 by_address (Ok peer) server wanted outcome stream old new came (inl none) =
-    absurd (none_came server stream old.past new.past came none.none)
+    absurd (none_came server stream old.past new.past came none.1.none)
 by_address (Ok peer) server wanted outcome stream old new came (inr did) =
     on_wire peer server wanted outcome stream old new came did
 

@@ -4,7 +4,7 @@ use Rattle.std.proofs.Common.{append_assoc}
 use Rattle.std.specs.Prelude.{IfOk, ⊤}
 use Rattle.yp_io.specs.declared.stream.Peer.{Peer}
 use Rattle.yp_rpc.specs.Records.{sent}
-use Rattle.yp_msgs.specs.declared.stat.YpStat.{YpStat}
+use Rattle.yp_messages.specs.declared.stat.YpStat.{YpStat}
 use Rattle.yp_version.specs.Versions.{MapVersion}
 use Rattle.yp_board.specs.Views.{IsFront}
 use Rattle.yp_answer.specs.declared.procedure.Path.TheVariants.{Stream}
@@ -13,17 +13,18 @@ use Rattle.yp_answer.specs.Reply.{Bytes, reply}
 use Rattle.yp_answer.specs.Served.{maps_on}
 use Rattle.yp_client.specs.Limits.{reply_max, all_max}
 use Rattle.yp_client.specs.Asked.{order_call, master_call, all_call}
-use Rattle.yp_exchange.specs.Served.{ReplyTells}
-use Rattle.yp_exchange.specs.Laws.{OrderTells, MasterTells, AllTells, RoomForVersion}
-use Rattle.yp_exchange.specs.SentLaws.{SentIsWhole}
-use Rattle.yp_exchange.specs.Answered.{GivesReply}
-use Rattle.yp_exchange.specs.Runs.{sent_all}
+use Rattle.yp_end_to_end.specs.inside.exchange.Served.{ReplyTells}
+use Rattle.yp_end_to_end.specs.inside.exchange.Laws.{OrderTells, MasterTells, AllTells, RoomForVersion}
+use Rattle.yp_end_to_end.specs.inside.exchange.SentLaws.{SentIsWhole}
+use Rattle.yp_end_to_end.specs.inside.exchange.Answered.{GivesReply}
+use Rattle.yp_end_to_end.specs.exchange.Runs.{sent_all}
 use Rattle.yp_version.specs.Drafts.{empty_draft}
-use Rattle.yp_source.specs.Replies.{next_xid, GivesSecond, GivesAll, GivesMaster}
-use Rattle.yp_source.specs.Laws.{Fronts, moments_on}
-use Rattle.yp_source.specs.Turns.{TurnsGiveFetch}
-use Rattle.yp_source.proofs.Showing.{served_before, front_then}
-use Rattle.yp_source.proofs.Giving.{next_is_word}
+use Rattle.yp_end_to_end.specs.transfer.Replies.{next_xid}
+use Rattle.yp_end_to_end.specs.inside.transfer.Replies.{GivesSecond, GivesAll, GivesMaster}
+use Rattle.yp_end_to_end.specs.inside.transfer.Laws.{Fronts, moments_on}
+use Rattle.yp_end_to_end.specs.inside.transfer.Turns.{TurnsGiveFetch}
+use Rattle.yp_end_to_end.proofs.transfer.Showing.{served_before, front_then}
+use Rattle.yp_end_to_end.proofs.transfer.Giving.{next_is_word}
 
 -- what the replies to the calls say, and how they are sent
 pub record Sent : Type 0 where

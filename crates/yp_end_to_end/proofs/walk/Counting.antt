@@ -3,7 +3,7 @@ use Rattle.std.proofs.Common.{◌≡◌, ℕ, ◌+◌, ◌<◌, ◌≤◌, Bool,
 use Rattle.std.proofs.Common.{Result, Ok, Err, refl, ap, arith, nat_le}
 use Rattle.std.proofs.lemmas.List.{length-append}
 use Rattle.std.specs.Prelude.{is_some, nat_lt}
-use Rattle.yp_rpc.specs.Turns.{mail_max}
+use Rattle.yp_rpc.specs.Turns.{datagram_max}
 use Rattle.yp_version.specs.Limits.{key_max, value_max, rows_max, body_max}
 use Rattle.yp_version.specs.Rows.{Row, row_len, value_of}
 use Rattle.yp_version.specs.Drafts.{Draft, draft_len, refused, with_row, with_new}
@@ -11,16 +11,16 @@ use Rattle.yp_version.specs.declared.builder.VersionFault.{VersionFault}
 use Rattle.yp_version.specs.declared.builder.VersionFault.TheVariants.{KeyLong, ValueLong, TooManyRows, TooBig}
 use Rattle.yp_client.specs.declared.fault.ClientFault.{ClientFault}
 use Rattle.yp_client.specs.declared.fault.ClientFault.TheVariants.{Yp}
-use Rattle.yp_msgs.specs.declared.stat.YpStat.TheVariants.{Nomore, Nokey}
+use Rattle.yp_messages.specs.declared.stat.YpStat.TheVariants.{Nomore, Nokey}
 use Rattle.yp_client.specs.Results.{order_of, master_of, row_of}
-use Rattle.yp_xfr.specs.declared.fault.XfrFault.{XfrFault}
-use Rattle.yp_xfr.specs.declared.fault.XfrFault.TheVariants.{Xfrerr, Dbm}
-use Rattle.yp_xfr.specs.Fetching.{Wanted, against_order, against_master, against_second}
-use Rattle.yp_enum.specs.Standings.{Standing, AsksOrder, AsksMaster, AsksFirst, AsksNext, AsksAgain, HasEnded}
-use Rattle.yp_enum.specs.Standings.{IsAsking, refusal, unless, by_order, by_master, by_row, by_behind_key, by_first}
-use Rattle.yp_enum.specs.Standings.{by_next, by_again, outcome_of, behind, next_len}
-use Rattle.yp_enum.specs.Schedules.{next_xid}
-use Rattle.yp_walked.proofs.Telling.{IsNumbered, small}
+use Rattle.yp_transfer.specs.declared.fault.XfrFault.{XfrFault}
+use Rattle.yp_transfer.specs.declared.fault.XfrFault.TheVariants.{Xfrerr, Dbm}
+use Rattle.yp_transfer.specs.Fetching.{Wanted, against_order, against_master, against_second}
+use Rattle.yp_transfer.specs.walk.Standings.{WalkState, AsksOrder, AsksMaster, AsksFirst, AsksNext, AsksAgain, HasEnded}
+use Rattle.yp_transfer.specs.walk.Standings.{IsAsking, refusal, unless, by_order, by_master, by_row, by_behind_key, by_first}
+use Rattle.yp_transfer.specs.walk.Standings.{by_next, by_again, outcome_of, state_after, next_len}
+use Rattle.yp_transfer.specs.walk.Schedules.{next_xid}
+use Rattle.yp_end_to_end.proofs.walk.Telling.{IsNumbered, small}
 
 -- ---- a row that is taken
 
@@ -52,7 +52,7 @@ taken draft row fits fresh = by (value_of row.0 draft.rows) fresh fits
 
 -- ---- one mail more
 
-unless_numbered : (xid : ℕ) (cause : Option XfrFault) (standing : Standing) → IsNumbered xid standing
+unless_numbered : (xid : ℕ) (cause : Option XfrFault) (standing : WalkState) → IsNumbered xid standing
     → IsNumbered xid (unless cause standing)
 unless_numbered xid None standing is = is
 unless_numbered xid (Some fault) standing is = 0
@@ -71,7 +71,7 @@ module _ (wanted : Wanted) (xid : ℕ) where
 
   key_numbered : (draft : Draft) (key : List ℕ) → IsNumbered xid (AsksNext draft key)
       → IsNumbered xid (by_behind_key wanted draft key)
-  key_numbered draft key is = by (nat_lt mail_max (next_len wanted key))
+  key_numbered draft key is = by (nat_lt datagram_max (next_len wanted key))
     where
       by : (long : Bool) → IsNumbered xid (cond long (refusal Dbm) (AsksNext draft key))
       by true = 0
@@ -116,11 +116,11 @@ module _ (wanted : Wanted) (xid : ℕ) where
   again_numbered draft why (Err fault) = 0
 
 -- the call behind one has the number behind its number
-pub next_is : (xid : ℕ) (standing : Standing) → IsAsking standing → IsNumbered xid standing → next_xid xid ≡ xid + 1
+pub next_is : (xid : ℕ) (standing : WalkState) → IsAsking standing → IsNumbered xid standing → next_xid xid ≡ xid + 1
 next_is xid standing asking is = omega (arith, small xid standing asking is)
 
-pub next_is_numbered : (wanted : Wanted) (xid : ℕ) (standing : Standing) (mail : List ℕ) → IsAsking standing
-    → IsNumbered xid standing → IsNumbered (next_xid xid) (behind wanted xid standing mail)
+pub next_is_numbered : (wanted : Wanted) (xid : ℕ) (standing : WalkState) (mail : List ℕ) → IsAsking standing
+    → IsNumbered xid standing → IsNumbered (next_xid xid) (state_after wanted xid standing mail)
 next_is_numbered wanted xid AsksOrder mail asking is =
     order_numbered wanted (next_xid xid) (order_of xid mail) (omega (arith, is))
 next_is_numbered wanted xid (AsksMaster order) mail asking is =

@@ -5,17 +5,19 @@ use Rattle.yp_io.specs.declared.stream.Peer.{Peer}
 use Rattle.yp_version.specs.Rows.{listed}
 use Rattle.yp_version.specs.Versions.{MapVersion, unmarked}
 use Rattle.yp_version.specs.Drafts.{Draft}
-use Rattle.yp_version.specs.Laws.{RisingStays}
+use Rattle.yp_version.specs.inside.Laws.{RisingStays}
 use Rattle.yp_board.specs.Catalogues.{Catalogue}
 use Rattle.yp_board.specs.Views.{IsFront}
-use Rattle.yp_xfr.specs.declared.fault.XfrFault.TheVariants.{Skew}
-use Rattle.yp_xfr.specs.Fetching.{Wanted}
-use Rattle.yp_enum.specs.Standings.{Standing, HasEnded}
-use Rattle.yp_enum.specs.Schedules.{Walking, Delivery, is_awaited, next_xid, gone_on, heard, awaited, came_of, begun}
-use Rattle.yp_walked.specs.Sources.{Event, Handles, Delivers, Rests, Scene, first_scene, deliveries_of, AllHappen}
-use Rattle.yp_walked.specs.Mails.{Made, last_front, GoesBy}
-use Rattle.yp_walked.specs.Laws.{HeardIsInTurn, WalkedIsShown, SkewIsShown, ShownIsWalked, HappenedIsDelivered}
-use Rattle.yp_walked.specs.Laws.{AnswersWalk, DeliveredIsOfSource, DeliveredIsWhole, DeliveredSkews}
+use Rattle.yp_transfer.specs.declared.fault.XfrFault.TheVariants.{Skew}
+use Rattle.yp_transfer.specs.Fetching.{Wanted}
+use Rattle.yp_transfer.specs.walk.Standings.{WalkState, HasEnded}
+use Rattle.yp_transfer.specs.walk.Schedules.{Walking, Delivery, is_awaited, next_xid, gone_on, heard, awaited, came_of, begun}
+use Rattle.yp_end_to_end.specs.walk.Sources.{Event, Handles, Delivers, Rests, WalkExchange, first_scene, deliveries_of, AllHappen}
+use Rattle.yp_end_to_end.specs.walk.Mails.{SourceMail, last_front, GoesBy}
+use Rattle.yp_end_to_end.specs.inside.walk.Laws.{HeardIsInTurn, WalkedIsShown, SkewIsShown, ShownIsWalked}
+use Rattle.yp_end_to_end.specs.inside.walk.Laws.{HappenedIsDelivered}
+use Rattle.yp_end_to_end.specs.walk.Laws.{AnswersWalk}
+use Rattle.yp_end_to_end.specs.inside.walk.Laws.{DeliveredIsOfSource, DeliveredIsWhole, DeliveredSkews}
 
 -- the walk by some mails
 by_mails : Walking → List Delivery → Walking
@@ -36,20 +38,20 @@ first_is_heard walk one deliveries = by (is_awaited walk.source walk.xid one)
     by false = refl
 
 module _ (catalogue : Catalogue) (caller : Peer) where
-  walk_is : (events : List Event) (old new : Scene) → AllHappen catalogue caller events old new
+  walk_is : (events : List Event) (old new : WalkExchange) → AllHappen catalogue caller events old new
       → new.walk ≡ by_mails old.walk (deliveries_of events)
   unfolding by_mails
-  walk_is [] old new is = ap (λ (s : Scene). s.walk) is
+  walk_is [] old new is = ap (λ (s : WalkExchange). s.walk) is
   walk_is (Handles call front ∷ events) old new is =
       walk_is events is.0 new is.2
-      ∙ ap (λ (s : Scene). by_mails s.walk (deliveries_of events)) is.1.2
+      ∙ ap (λ (s : WalkExchange). by_mails s.walk (deliveries_of events)) is.1.2
   walk_is (Delivers one ∷ events) old new is =
       walk_is events is.0 new is.2
-      ∙ ap (λ (s : Scene). by_mails s.walk (deliveries_of events)) is.1.2
+      ∙ ap (λ (s : WalkExchange). by_mails s.walk (deliveries_of events)) is.1.2
       ∙ sym (first_is_heard old.walk one (deliveries_of events))
   walk_is (Rests ∷ events) old new is =
       walk_is events is.0 new is.2
-      ∙ ap (λ (s : Scene). by_mails s.walk (deliveries_of events)) is.1
+      ∙ ap (λ (s : WalkExchange). by_mails s.walk (deliveries_of events)) is.1
 
 pub happened_is_delivered : HappenedIsDelivered
 unfolding by_mails
@@ -83,7 +85,7 @@ delivered_is_of_source in_turn shown is_delivered rising catalogue caller source
 -- what was heard of a source by these mails, and the walk that they lead to
 heard_of_source : HeardIsInTurn → HappenedIsDelivered → (catalogue : Catalogue) (caller source : Peer) (wanted : Wanted)
     (deliveries : List Delivery) → (answers : AnswersWalk catalogue caller source wanted deliveries)
-    → (mails : List Made) × (map (λ (made : Made). made.mail) mails ≡ awaited source 1 deliveries)
+    → (mails : List SourceMail) × (map (λ (made : SourceMail). made.mail) mails ≡ awaited source 1 deliveries)
     × GoesBy catalogue caller mails answers.log (begun source wanted) answers.last.walk
     × IsFront (last_front answers.log mails) answers.last.front
     × (answers.last.walk ≡ by_mails (begun source wanted) deliveries)
@@ -104,7 +106,7 @@ unfolding by_mails heard_of_source
 delivered_is_whole in_turn walked is_delivered catalogue caller source wanted deliveries version answers walkable shown count =
     let heard = heard_of_source in_turn is_delivered catalogue caller source wanted deliveries answers in
     let many : length heard.0 ≡ length version.rows + 4 =
-    sym (length-map heard.0 (λ (made : Made). made.mail)) ∙ ap length heard.1 ∙ count in
+    sym (length-map heard.0 (λ (made : SourceMail). made.mail)) ∙ ap length heard.1 ∙ count in
     ap (λ (w : Walking). w.standing) (sym heard.4)
     ∙ walked catalogue caller source wanted answers.log answers.last.front heard.0 answers.last.walk version
     answers.is_source heard.2 heard.3 walkable shown many

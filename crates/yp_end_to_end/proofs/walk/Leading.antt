@@ -4,9 +4,9 @@ use Rattle.std.proofs.Common.{Result, Ok, Err, refl, sym, ap, subst, ◌∙◌, 
 use Rattle.std.specs.Prelude.{is_some, nat_lt, ⊤}
 use Rattle.std.proofs.lemmas.Bool.Decides.{eqb_tells}
 use Rattle.yp_io.specs.declared.stream.Peer.{Peer}
-use Rattle.yp_rpc.specs.Turns.{mail_max}
-use Rattle.yp_msgs.specs.declared.stat.YpStat.{YpStat}
-use Rattle.yp_msgs.specs.declared.stat.YpStat.TheVariants.{Nomore, Nokey, Nomap, Nodom}
+use Rattle.yp_rpc.specs.Turns.{datagram_max}
+use Rattle.yp_messages.specs.declared.stat.YpStat.{YpStat}
+use Rattle.yp_messages.specs.declared.stat.YpStat.TheVariants.{Nomore, Nokey, Nomap, Nodom}
 use Rattle.yp_version.specs.Rows.{Row, value_of}
 use Rattle.yp_version.specs.Versions.{MapVersion}
 use Rattle.yp_version.specs.Drafts.{Draft, refused, with_row, with_new}
@@ -19,22 +19,22 @@ use Rattle.yp_answer.specs.Served.{maps_on}
 use Rattle.yp_client.specs.declared.fault.ClientFault.{ClientFault}
 use Rattle.yp_client.specs.declared.fault.ClientFault.TheVariants.{Yp, Rows}
 use Rattle.yp_client.specs.Results.{order_of, master_of, row_of}
-use Rattle.yp_exchange.specs.Told.{told, of_version, order_in}
-use Rattle.yp_xfr.specs.declared.fault.XfrFault.{XfrFault}
-use Rattle.yp_xfr.specs.declared.fault.XfrFault.TheVariants.{Skew, Xfrerr, Dbm, Age}
-use Rattle.yp_xfr.specs.Faults.{of_client}
-use Rattle.yp_xfr.specs.Fetching.{Wanted, against_age, against_order, against_master, against_second}
-use Rattle.yp_source.specs.Replies.{IsShown}
-use Rattle.yp_source.specs.Shown.{FrontIsServed}
-use Rattle.yp_enum.specs.Standings.{Standing, AsksOrder, AsksMaster, AsksFirst, AsksNext, AsksAgain, HasEnded}
-use Rattle.yp_enum.specs.Standings.{IsAsking, refusal, unless, by_order, by_master, by_row, by_behind_key, by_first}
-use Rattle.yp_enum.specs.Standings.{by_next, by_again, outcome_of, behind, next_len}
-use Rattle.yp_enum.specs.Schedules.{Walking, gone_on, begun}
-use Rattle.yp_walked.specs.Mails.{Made, last_front, GoesBy}
-use Rattle.yp_walked.specs.Laws.{IsSource}
-use Rattle.yp_walked.proofs.Telling.{Mails, Says, IsNumbered, said}
-use Rattle.yp_walked.proofs.Counting.{next_is_numbered}
-use Rattle.yp_walked.proofs.Turning.{front_itself, front_then}
+use Rattle.yp_end_to_end.specs.exchange.Told.{told, of_version, order_in}
+use Rattle.yp_transfer.specs.declared.fault.XfrFault.{XfrFault}
+use Rattle.yp_transfer.specs.declared.fault.XfrFault.TheVariants.{Skew, Xfrerr, Dbm, Age}
+use Rattle.yp_transfer.specs.Faults.{of_client}
+use Rattle.yp_transfer.specs.Fetching.{Wanted, against_age, against_order, against_master, against_second}
+use Rattle.yp_end_to_end.specs.transfer.Replies.{IsShown}
+use Rattle.yp_end_to_end.specs.inside.transfer.Shown.{FrontIsServed}
+use Rattle.yp_transfer.specs.walk.Standings.{WalkState, AsksOrder, AsksMaster, AsksFirst, AsksNext, AsksAgain, HasEnded}
+use Rattle.yp_transfer.specs.walk.Standings.{IsAsking, refusal, unless, by_order, by_master, by_row, by_behind_key, by_first}
+use Rattle.yp_transfer.specs.walk.Standings.{by_next, by_again, outcome_of, state_after, next_len}
+use Rattle.yp_transfer.specs.walk.Schedules.{Walking, gone_on, begun}
+use Rattle.yp_end_to_end.specs.walk.Mails.{SourceMail, last_front, GoesBy}
+use Rattle.yp_end_to_end.specs.walk.Laws.{IsSource}
+use Rattle.yp_end_to_end.proofs.walk.Telling.{Mails, Says, IsNumbered, said}
+use Rattle.yp_end_to_end.proofs.walk.Counting.{next_is_numbered}
+use Rattle.yp_end_to_end.proofs.walk.Turning.{front_itself, front_then}
 
 -- a fault isn't Skew
 abbrev pub IsOther : XfrFault → Type 0
@@ -46,7 +46,7 @@ IsOtherIfSome (Some fault) = IsOther fault
 IsOtherIfSome None = ⊤
 
 -- A walk is on its way with an order.
-abbrev pub Keeps : ℕ → Standing → Type 0
+abbrev pub Keeps : ℕ → WalkState → Type 0
 Keeps order AsksOrder = ⊥
 Keeps order (AsksMaster first) = first ≡ order
 Keeps order (AsksFirst draft) = draft.order ≡ order
@@ -61,7 +61,7 @@ Ends maps wanted order (Err (Skew first second)) =
     (version : MapVersion) × IsShown wanted version maps × (version.order ≡ second) × (first ≡ order) × (first ≢ second)
 Ends maps wanted order (Err fault) = ⊤
 
-abbrev pub Leads : Maps → Wanted → ℕ → Standing → Type 0
+abbrev pub Leads : Maps → Wanted → ℕ → WalkState → Type 0
 Leads maps wanted order (HasEnded outcome) = Ends maps wanted order outcome
 Leads maps wanted order standing = Keeps order standing
 
@@ -87,7 +87,7 @@ module _ (maps : Maps) (wanted : Wanted) (order : ℕ) where
   other_ends (Skew first second) is = absurd is
   other_ends fault is = tt
 
-  unless_leads : (cause : Option XfrFault) (standing : Standing) → IsOtherIfSome cause
+  unless_leads : (cause : Option XfrFault) (standing : WalkState) → IsOtherIfSome cause
       → Leads maps wanted order standing → Leads maps wanted order (unless cause standing)
   unless_leads None standing other is = is
   unless_leads (Some fault) standing other is = other_ends fault other
@@ -105,7 +105,7 @@ module _ (maps : Maps) (wanted : Wanted) (order : ℕ) where
 
   key_leads : (draft : Draft) (key : List ℕ) → draft.order ≡ order
       → Leads maps wanted order (by_behind_key wanted draft key)
-  key_leads draft key is = by (nat_lt mail_max (next_len wanted key))
+  key_leads draft key is = by (nat_lt datagram_max (next_len wanted key))
     where
       by : (long : Bool) → Leads maps wanted order (cond long (refusal Dbm) (AsksNext draft key))
       by true = tt
@@ -184,9 +184,9 @@ module _ (maps : Maps) (wanted : Wanted) (order : ℕ) where
             (other_ends (of_client (Yp none.0)) (client_is_other (Yp none.0)))
       ]
 
-  pub leads : (caller : Peer) (xid : ℕ) (standing : Standing) (mail : List ℕ)
+  pub leads : (caller : Peer) (xid : ℕ) (standing : WalkState) (mail : List ℕ)
       → Says maps caller wanted xid standing mail → Keeps order standing
-      → Leads maps wanted order (behind wanted xid standing mail)
+      → Leads maps wanted order (state_after wanted xid standing mail)
   leads caller xid AsksOrder mail says is = absurd is
   leads caller xid (AsksMaster first) mail says is = master_leads first (master_of xid mail) is
   leads caller xid (AsksFirst draft) mail says is = first_leads draft (row_of xid mail) is
@@ -195,7 +195,7 @@ module _ (maps : Maps) (wanted : Wanted) (order : ℕ) where
   leads caller xid (HasEnded outcome) mail says is = absurd is
 
   -- it goes on, or has ended
-  pub goes_or_ends : (standing : Standing) → Leads maps wanted order standing
+  pub goes_or_ends : (standing : WalkState) → Leads maps wanted order standing
       → Keeps order standing ⊎ ((outcome : Result Draft XfrFault) × (standing ≡ HasEnded outcome)
       × Ends maps wanted order outcome)
   goes_or_ends (HasEnded outcome) is = inr (outcome, refl, is)
@@ -210,12 +210,12 @@ same_end one other is = cc
 
 module _ (catalogue : Catalogue) (caller : Peer) where
   -- no mail is awaited behind the end
-  pub rest_is_none : (mails : List Made) (before : Log) (old new : Walking) (outcome : Result Draft XfrFault)
+  pub rest_is_none : (mails : List SourceMail) (before : Log) (old new : Walking) (outcome : Result Draft XfrFault)
       → old.standing ≡ HasEnded outcome → GoesBy catalogue caller mails before old new → (mails ≡ []) × (new ≡ old)
   rest_is_none [] before old new outcome is goes = (refl, goes)
   rest_is_none (made ∷ mails) before old new outcome is goes = absurd (subst IsAsking is goes.0)
 
-  pub front_of_last : (mails : List Made) (before : Log) (old new : Walking) → GoesBy catalogue caller mails before old new
+  pub front_of_last : (mails : List SourceMail) (before : Log) (old new : Walking) → GoesBy catalogue caller mails before old new
       → IsFront before (last_front before mails)
   front_of_last [] before old new goes = front_itself before
   front_of_last (made ∷ mails) before old new goes =
@@ -224,7 +224,7 @@ module _ (catalogue : Catalogue) (caller : Peer) where
 
   module _ (laws : Mails) (serves : FrontIsServed) (log : Log) where
     -- what the first of some mails says
-    pub says_first : (made : Made) (mails : List Made) (before : Log) (old new : Walking)
+    pub says_first : (made : SourceMail) (mails : List SourceMail) (before : Log) (old new : Walking)
         → IsSource catalogue old.wanted log → GoesBy catalogue caller (made ∷ mails) before old new
         → IsFront (last_front made.front mails) log → IsNumbered old.xid old.standing
         → Says (maps_on catalogue made.front) caller old.wanted old.xid old.standing made.mail
@@ -236,13 +236,13 @@ module _ (catalogue : Catalogue) (caller : Peer) where
         numbered goes.2).0
 
     -- what is shown at the last mail
-    pub last_ends : (order : ℕ) (mails : List Made) (before : Log) (old new : Walking) (outcome : Result Draft XfrFault)
+    pub last_ends : (order : ℕ) (mails : List SourceMail) (before : Log) (old new : Walking) (outcome : Result Draft XfrFault)
         → IsSource catalogue old.wanted log → GoesBy catalogue caller mails before old new
         → IsFront (last_front before mails) log → IsNumbered old.xid old.standing → Keeps order old.standing
         → new.standing ≡ HasEnded outcome
         → Ends (maps_on catalogue (last_front before mails)) old.wanted order outcome
     last_ends order [] before old new outcome source goes ends numbered keeps is =
-        absurd (subst (λ (s : Standing). Keeps order s)
+        absurd (subst (λ (s : WalkState). Keeps order s)
         (ap (λ (w : Walking). w.standing) (sym goes) ∙ is) keeps)
     last_ends order (made ∷ mails) before old new outcome source goes ends numbered keeps is =
         let says = says_first made mails before old new source goes ends numbered in
@@ -256,7 +256,7 @@ module _ (catalogue : Catalogue) (caller : Peer) where
               let none = rest_is_none mails made.front next new over.0 over.1 goes.3 in
               let same : over.0 ≡ outcome =
               same_end over.0 outcome (sym over.1 ∙ ap (λ (w : Walking). w.standing) (sym none.1) ∙ is) in
-              subst (λ (ms : List Made). Ends (maps_on catalogue (last_front made.front ms)) old.wanted order outcome)
+              subst (λ (ms : List SourceMail). Ends (maps_on catalogue (last_front made.front ms)) old.wanted order outcome)
               (sym none.0)
               (subst (λ (o : Result Draft XfrFault). Ends (maps_on catalogue made.front) old.wanted order o) same over.2)
         ]
@@ -302,7 +302,7 @@ first_order maps caller source wanted mail says =
             | inl on ↦ inl (record {
               version = held.0;
               shown = held.1;
-              kept = subst (λ (s : Standing). Keeps held.0.order s) (sym next) on;
+              kept = subst (λ (s : WalkState). Keeps held.0.order s) (sym next) on;
             })
             | inr over ↦ inr (over.0, next ∙ over.1, over.2)
           ]

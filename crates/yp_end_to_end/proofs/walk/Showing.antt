@@ -4,10 +4,9 @@ use Rattle.std.proofs.Common.{Some, None, Result, Ok, Err, refl, sym, ap, subst,
 use Rattle.std.specs.Prelude.{nat_lt}
 use Rattle.std.proofs.lemmas.List.Elements.{All-head, All-tail}
 use Rattle.yp_io.specs.declared.stream.Peer.{Peer}
-use Rattle.yp_rpc.specs.Turns.{mail_max}
-use Rattle.yp_msgs.specs.declared.stat.YpStat.{YpStat}
-use Rattle.yp_msgs.specs.declared.stat.YpStat.TheVariants as stats
-use Rattle.yp_answer.specs.Numbers.{datagram_max}
+use Rattle.yp_rpc.specs.Turns.{datagram_max}
+use Rattle.yp_messages.specs.declared.stat.YpStat.{YpStat}
+use Rattle.yp_messages.specs.declared.stat.YpStat.TheVariants as stats
 use Rattle.yp_version.specs.Rows.{Row, row_len, first_of, following}
 use Rattle.yp_version.specs.Versions.{MapVersion}
 use Rattle.yp_board.specs.Catalogues.{Catalogue, is_name}
@@ -17,29 +16,31 @@ use Rattle.yp_answer.specs.Maps.{Maps, row_check}
 use Rattle.yp_answer.specs.Served.{maps_on}
 use Rattle.yp_client.specs.declared.fault.ClientFault.{ClientFault}
 use Rattle.yp_client.specs.declared.fault.ClientFault.TheVariants.{Yp}
-use Rattle.yp_exchange.specs.Told.{told, of_version, order_in, master_in}
-use Rattle.yp_exchange.specs.Mail.{row_mailed, row_behind_mailed, first_mailed, next_mailed}
-use Rattle.yp_xfr.specs.declared.fault.XfrFault.{XfrFault}
-use Rattle.yp_xfr.specs.declared.fault.XfrFault.TheVariants.{Skew, Dbm}
-use Rattle.yp_xfr.specs.Faults.{of_client}
-use Rattle.yp_xfr.specs.Fetching.{Wanted, against_master}
-use Rattle.yp_source.specs.Replies.{IsShown}
-use Rattle.yp_source.specs.Shown.{FrontIsServed, ShownBetween, ShowsRows, ShownIsSound}
-use Rattle.yp_enum.specs.Standings.{Standing, AsksOrder, AsksMaster, AsksFirst, AsksNext, AsksAgain, HasEnded}
-use Rattle.yp_enum.specs.Standings.{refusal, behind, by_first, by_next, next_len}
-use Rattle.yp_enum.specs.Schedules.{Walking, gone_on, begun, came_of}
-use Rattle.yp_enum.specs.Told.{row_said, next_said, Tells, AllTell, IsAlong, ToldIsWalked, ToldIsWhole, HasLongCall}
-use Rattle.yp_walked.specs.Mails.{Made, last_front, GoesBy}
-use Rattle.yp_walked.specs.Laws.{IsSource, WalkedIsShown, SkewIsShown, IsWalkable, ShownIsWalked}
-use Rattle.yp_walked.proofs.Telling.{Mails, Says, IsNumbered}
-use Rattle.yp_walked.proofs.Counting.{next_is_numbered}
-use Rattle.yp_walked.proofs.Turning.{front_itself, front_then}
-use Rattle.yp_walked.proofs.Leading.{IsOther, rest_is_none, front_of_last, says_first, last_ends, first_order}
+use Rattle.yp_end_to_end.specs.exchange.Told.{told, of_version, order_in, master_in}
+use Rattle.yp_end_to_end.specs.inside.exchange.Mail.{row_mailed, row_behind_mailed, first_mailed, next_mailed}
+use Rattle.yp_transfer.specs.declared.fault.XfrFault.{XfrFault}
+use Rattle.yp_transfer.specs.declared.fault.XfrFault.TheVariants.{Skew, Dbm}
+use Rattle.yp_transfer.specs.Faults.{of_client}
+use Rattle.yp_transfer.specs.Fetching.{Wanted, against_master}
+use Rattle.yp_end_to_end.specs.transfer.Replies.{IsShown}
+use Rattle.yp_end_to_end.specs.inside.transfer.Shown.{FrontIsServed, ShownBetween, ShowsRows, ShownIsSound}
+use Rattle.yp_transfer.specs.walk.Standings.{WalkState, AsksOrder, AsksMaster, AsksFirst, AsksNext, AsksAgain, HasEnded}
+use Rattle.yp_transfer.specs.walk.Standings.{refusal, state_after, by_first, by_next, next_len}
+use Rattle.yp_transfer.specs.walk.Schedules.{Walking, gone_on, begun, came_of}
+use Rattle.yp_transfer.specs.inside.walk.Told.{row_said, next_said, SaysOfVersion, AllTell, IsAlong, ToldIsWalked}
+use Rattle.yp_transfer.specs.inside.walk.Told.{ToldIsWhole, HasLongCall}
+use Rattle.yp_end_to_end.specs.walk.Mails.{SourceMail, last_front, GoesBy}
+use Rattle.yp_end_to_end.specs.walk.Laws.{IsSource, IsWalkable}
+use Rattle.yp_end_to_end.specs.inside.walk.Laws.{WalkedIsShown, SkewIsShown, ShownIsWalked}
+use Rattle.yp_end_to_end.proofs.walk.Telling.{Mails, Says, IsNumbered}
+use Rattle.yp_end_to_end.proofs.walk.Counting.{next_is_numbered}
+use Rattle.yp_end_to_end.proofs.walk.Turning.{front_itself, front_then}
+use Rattle.yp_end_to_end.proofs.walk.Leading.{IsOther, rest_is_none, front_of_last, says_first, last_ends, first_order}
 
 -- ---- a row that a datagram carries, or doesn't
 
 abbrev IsLong : Option Row → Type 0
-IsLong (Some row) = mail_max < 28 + row_len row
+IsLong (Some row) = datagram_max < 28 + row_len row
 IsLong None = ⊥
 
 abbrev IsLongNext : Option (Option Row) → Type 0
@@ -69,7 +70,7 @@ next_carried (Some next) = row_carried next
 abbrev IsSecret : ℕ → MapVersion → Type 0
 IsSecret port version = (version.secure ≡ true) × (1024 ≤ port)
 
-abbrev Bars : ℕ → MapVersion → Standing → Type 0
+abbrev Bars : ℕ → MapVersion → WalkState → Type 0
 Bars port version (AsksFirst draft) = IsSecret port version ⊎ IsLong (first_of version.rows)
 Bars port version (AsksNext draft key) = IsSecret port version ⊎ IsLongNext (following key version.rows)
 Bars port version standing = ⊥
@@ -88,12 +89,12 @@ module _ (maps : Maps) (caller : Peer) (wanted : Wanted) (xid : ℕ) (version : 
     | inr secret ↦ inr (ap (λ (r : Result MapVersion YpStat). told (of_version answer r)) secret.0, (secret.1, secret.2))
   ]
 
-  Told : Standing → Type 0
+  Told : WalkState → Type 0
   Told standing =
-      Tells version xid standing mail
-      ⊎ ((behind wanted xid standing mail ≡ refusal (of_client (Yp stats.Yperr))) × Bars caller.port version standing)
+      SaysOfVersion version xid standing mail
+      ⊎ ((state_after wanted xid standing mail ≡ refusal (of_client (Yp stats.Yperr))) × Bars caller.port version standing)
 
-  tells : (standing : Standing) → Says maps caller wanted xid standing mail → Told standing
+  tells : (standing : WalkState) → Says maps caller wanted xid standing mail → Told standing
   unfolding Told
   tells AsksOrder says = inl (says ∙ ap (λ (r : Result MapVersion YpStat). told (of_version order_in r)) shown)
   tells (AsksMaster order) says = inl (says ∙ ap (λ (r : Result MapVersion YpStat). told (of_version master_in r)) shown)
@@ -132,21 +133,21 @@ module _ (maps : Maps) (caller : Peer) (wanted : Wanted) (xid : ℕ) (version : 
 
 -- ---- in turn
 
-mails_of : List Made → List (List ℕ)
+mails_of : List SourceMail → List (List ℕ)
 mails_of mails = map (λ made. made.mail) mails
 
 module _ (laws : Mails) (serves : FrontIsServed) (sound : ShownIsSound) (catalogue : Catalogue) (caller : Peer) (log : Log) where
-  came : (mails : List Made) (before : Log) (old new : Walking) → GoesBy catalogue caller mails before old new
+  came : (mails : List SourceMail) (before : Log) (old new : Walking) → GoesBy catalogue caller mails before old new
       → came_of old (mails_of mails) ≡ new
   unfolding mails_of
   came [] before old new goes = sym goes
   came (made ∷ mails) before old new goes = came mails made.front (gone_on old made.mail) new goes.3
 
-  all_tell : (version : MapVersion) (mails : List Made) (before : Log) (old new : Walking)
+  all_tell : (version : MapVersion) (mails : List SourceMail) (before : Log) (old new : Walking)
       → IsSource catalogue old.wanted log → GoesBy catalogue caller mails before old new
       → IsFront (last_front before mails) log → IsNumbered old.xid old.standing
       → ((at : Log) → IsFront before at → IsFront at (last_front before mails) → IsShown old.wanted version (maps_on catalogue at))
-      → ((standing : Standing) → Bars caller.port version standing → new.standing ≡ refusal (of_client (Yp stats.Yperr)) → ⊥)
+      → ((standing : WalkState) → Bars caller.port version standing → new.standing ≡ refusal (of_client (Yp stats.Yperr)) → ⊥)
       → AllTell version old (mails_of mails)
   unfolding mails_of Told
   all_tell version [] before old new source goes ends numbered shown never = tt
@@ -173,7 +174,7 @@ module _ (laws : Mails) (serves : FrontIsServed) (sound : ShownIsSound) (catalog
 pub walked_is_shown : Mails → FrontIsServed → ShownIsSound → ShownBetween → ToldIsWalked → WalkedIsShown
 unfolding mails_of
 walked_is_shown laws serves sound between walked catalogue caller source wanted before log [] walk draft is_source goes ends done =
-    absurd (let is : (let asks : Standing = AsksOrder in asks) ≡ HasEnded (Ok draft) =
+    absurd (let is : (let asks : WalkState = AsksOrder in asks) ≡ HasEnded (Ok draft) =
     ap (λ (w : Walking). w.standing) (sym goes) ∙ done in cc)
 walked_is_shown laws serves sound between walked catalogue caller source wanted before log (made ∷ others) walk draft is_source goes ends done =
     let says = says_first catalogue caller laws serves log made others before (begun source wanted) walk is_source goes ends refl in
@@ -187,7 +188,7 @@ walked_is_shown laws serves sound between walked catalogue caller source wanted 
           → IsShown wanted version (maps_on catalogue at) =
           λ at starts stops. between catalogue made.front at (last_front made.front others) log wanted.domain wanted.map
           version last.0 is_source.rises starts stops ends begins.shown last.1 (sym last.2) in
-          let never : (standing : Standing) → Bars caller.port version standing
+          let never : (standing : WalkState) → Bars caller.port version standing
           → walk.standing ≡ refusal (of_client (Yp stats.Yperr)) → ⊥ =
           λ standing bars is. (let both : HasEnded (Ok draft) ≡ refusal (of_client (Yp stats.Yperr)) = sym done ∙ is in cc) in
           let again : GoesBy catalogue caller (made ∷ others) made.front (begun source wanted) walk =
@@ -205,7 +206,7 @@ walked_is_shown laws serves sound between walked catalogue caller source wanted 
             version,
             is,
             record { first = made; others = others; all = refl; shown = shown },
-            subst (λ (s : Standing). IsAlong wanted version s) at_end along,
+            subst (λ (s : WalkState). IsAlong wanted version s) at_end along,
           )
       | inr over ↦
           let none = rest_is_none catalogue caller others made.front next walk _ over.1 goes.3 in
@@ -220,7 +221,7 @@ skew_or fault first second is other = subst IsOther is other
 
 pub skew_is_shown : Mails → FrontIsServed → SkewIsShown
 skew_is_shown laws serves catalogue caller source wanted before log [] walk first second is_source goes ends skew =
-    absurd (let is : (let asks : Standing = AsksOrder in asks) ≡ HasEnded (Err (Skew first second)) =
+    absurd (let is : (let asks : WalkState = AsksOrder in asks) ≡ HasEnded (Err (Skew first second)) =
     ap (λ (w : Walking). w.standing) (sym goes) ∙ skew in cc)
 skew_is_shown laws serves catalogue caller source wanted before log (made ∷ others) walk first second is_source goes ends skew =
     let says = says_first catalogue caller laws serves log made others before (begun source wanted) walk is_source goes ends refl in
@@ -252,7 +253,7 @@ skew_is_shown laws serves catalogue caller source wanted before log (made ∷ ot
 -- ---- whole
 
 abbrev IsCarried : Row → Type 0
-IsCarried row = 28 + row_len row ≤ mail_max
+IsCarried row = 28 + row_len row ≤ datagram_max
 
 first_fits : (rows : List Row) → All IsCarried rows → IsLong (first_of rows) → ⊥
 first_fits [] all long = long
@@ -275,7 +276,7 @@ not_secret port version (inl plain) secret = let both : true ≡ false = sym sec
 not_secret port version (inr low) secret = omega (arith, low, secret.1)
 
 no_bar : (caller : Peer) (wanted : Wanted) (version : MapVersion) → IsWalkable caller wanted version
-    → (standing : Standing) → Bars caller.port version standing → ⊥
+    → (standing : WalkState) → Bars caller.port version standing → ⊥
 no_bar caller wanted version may (AsksFirst draft) (inl secret) = not_secret caller.port version may.rows secret
 no_bar caller wanted version may (AsksFirst draft) (inr long) = first_fits version.rows may.replies long
 no_bar caller wanted version may (AsksNext draft key) (inl secret) = not_secret caller.port version may.rows secret
@@ -298,17 +299,17 @@ of_middle : (P : Row → Type 0) (front : List Row) (row : Row) (rest : List Row
 of_middle P [] row rest all = All-head P row rest all
 of_middle P (first ∷ front) row rest all = of_middle P front row rest (All-tail P first (front ++ row ∷ rest) all)
 
-no_long_call : (wanted : Wanted) (version : MapVersion) → All (λ row. next_len wanted row.0 ≤ mail_max) version.rows
+no_long_call : (wanted : Wanted) (version : MapVersion) → All (λ row. next_len wanted row.0 ≤ datagram_max) version.rows
     → HasLongCall wanted version → ⊥
 no_long_call wanted version fit long =
     omega (
       arith,
       long.long,
-      of_middle (λ row. next_len wanted row.0 ≤ mail_max) long.front long.row long.rest
-          (subst (λ (rows : List Row). All (λ row. next_len wanted row.0 ≤ mail_max) rows) long.whole fit),
+      of_middle (λ row. next_len wanted row.0 ≤ datagram_max) long.front long.row long.rest
+          (subst (λ (rows : List Row). All (λ row. next_len wanted row.0 ≤ datagram_max) rows) long.whole fit),
     )
 
-mails_len : (mails : List Made) → length (mails_of mails) ≡ length mails
+mails_len : (mails : List SourceMail) → length (mails_of mails) ≡ length mails
 unfolding mails_of
 mails_len [] = refl
 mails_len (made ∷ mails) = omega (arith, mails_len mails)

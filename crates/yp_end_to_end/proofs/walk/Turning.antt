@@ -6,24 +6,25 @@ use Rattle.std.proofs.lemmas.List.{append-nil}
 use Rattle.std.proofs.lemmas.Bool.Decides.{eqb_tells}
 use Rattle.yp_io.specs.declared.stream.Peer.{Peer}
 use Rattle.yp_xdr.specs.declared.fault.XdrFault.{XdrFault}
-use Rattle.yp_xdr.specs.Reading.{Unread}
+use Rattle.yp_xdr.specs.Reading.{Remaining}
 use Rattle.yp_board.specs.Catalogues.{Catalogue}
 use Rattle.yp_board.specs.Logs.{Log}
 use Rattle.yp_board.specs.Views.{IsFront}
 use Rattle.yp_answer.specs.declared.procedure.Path.TheVariants.{Datagram}
 use Rattle.yp_answer.specs.Served.{AreServed, maps_on}
 use Rattle.yp_answer.specs.Reply.{Response, Bytes, reply}
-use Rattle.yp_source.specs.Shown.{FrontIsServed}
-use Rattle.yp_xfr.specs.Fetching.{Wanted}
-use Rattle.yp_enum.specs.Standings.{IsAsking, asked_by}
-use Rattle.yp_enum.specs.Schedules.{Walking, Delivery, is_reply, answers, is_awaited, awaited, outstanding, gone_on}
-use Rattle.yp_enum.specs.Schedules.{heard, next_xid, begun}
-use Rattle.yp_walked.specs.Sources.{Event, Handles, Delivers, Rests, Scene, first_scene, is_from, with_reply, hearing}
-use Rattle.yp_walked.specs.Sources.{deliveries_of, AllHappen}
-use Rattle.yp_walked.specs.Mails.{Made, last_front, GoesBy}
-use Rattle.yp_walked.specs.Laws.{IsSource, HeardIsInTurn}
-use Rattle.yp_walked.proofs.Telling.{Mails, IsNumbered, Begins, answer}
-use Rattle.yp_walked.proofs.Counting.{next_is, next_is_numbered}
+use Rattle.yp_end_to_end.specs.inside.transfer.Shown.{FrontIsServed}
+use Rattle.yp_transfer.specs.Fetching.{Wanted}
+use Rattle.yp_transfer.specs.walk.Standings.{IsAsking, asked_by}
+use Rattle.yp_transfer.specs.walk.Schedules.{Walking, Delivery, is_reply, answers, is_awaited, awaited, outstanding, gone_on}
+use Rattle.yp_transfer.specs.walk.Schedules.{heard, next_xid, begun}
+use Rattle.yp_end_to_end.specs.walk.Sources.{Event, Handles, Delivers, Rests, WalkExchange, first_scene, is_from, with_reply, hearing}
+use Rattle.yp_end_to_end.specs.walk.Sources.{deliveries_of, AllHappen}
+use Rattle.yp_end_to_end.specs.walk.Mails.{SourceMail, last_front, GoesBy}
+use Rattle.yp_end_to_end.specs.walk.Laws.{IsSource}
+use Rattle.yp_end_to_end.specs.inside.walk.Laws.{HeardIsInTurn}
+use Rattle.yp_end_to_end.proofs.walk.Telling.{Mails, IsNumbered, Begins, answer}
+use Rattle.yp_end_to_end.proofs.walk.Counting.{next_is, next_is_numbered}
 
 -- ---- fronts
 
@@ -44,7 +45,7 @@ one_or_rest x z xs (suc k, within, is) = inr (k, omega (arith, within), is)
 -- ---- a mail behind others
 
 module _ (catalogue : Catalogue) (caller : Peer) where
-  goes_then : (mails : List Made) (before : Log) (old new : Walking) (made : Made)
+  goes_then : (mails : List SourceMail) (before : Log) (old new : Walking) (made : SourceMail)
       → GoesBy catalogue caller mails before old new → IsAsking new.standing → IsFront (last_front before mails) made.front
       → reply Datagram (maps_on catalogue made.front) caller (outstanding new) ≡ Bytes made.mail
       → GoesBy catalogue caller (mails ++ made ∷ []) before old (gone_on new made.mail)
@@ -58,7 +59,7 @@ module _ (catalogue : Catalogue) (caller : Peer) where
     goes_then mails first.front (gone_on old first.mail) new made goes.3 asking front replied,
   )
 
-last_then : (mails : List Made) (before : Log) (made : Made) → last_front before (mails ++ made ∷ []) ≡ made.front
+last_then : (mails : List SourceMail) (before : Log) (made : SourceMail) → last_front before (mails ++ made ∷ []) ≡ made.front
 last_then [] before made = refl
 last_then (first ∷ mails) before made = last_then mails first.front made
 
@@ -85,14 +86,14 @@ same_number a b is =
 answers_one : (xid number : ℕ) (mail : List ℕ) → Begins number mail → answers xid mail ≡ true → number ≡ xid
 answers_one xid number mail begins is =
     let read : is_reply xid (Ok ((number, 1), begins.0)) ≡ true =
-    ap (λ (r : Result ((ℕ × ℕ) × Unread) XdrFault). is_reply xid r) (sym begins.1) ∙ is in
+    ap (λ (r : Result ((ℕ × ℕ) × Remaining) XdrFault). is_reply xid r) (sym begins.1) ∙ is in
     same_number number xid (left_true (eqb number xid) (eqb 1 1) read)
 
 -- the mails alone
-texts : List Made → List (List ℕ)
-texts mails = map (λ (made : Made). made.mail) mails
+texts : List SourceMail → List (List ℕ)
+texts mails = map (λ (made : SourceMail). made.mail) mails
 
-texts_joined : (one other : List Made) → texts (one ++ other) ≡ texts one ++ texts other
+texts_joined : (one other : List SourceMail) → texts (one ++ other) ≡ texts one ++ texts other
 unfolding texts
 texts_joined [] other = refl
 texts_joined (made ∷ one) other = ap (λ (ms : List (List ℕ)). made.mail ∷ ms) (texts_joined one other)
@@ -129,7 +130,7 @@ module _ (laws : Mails) (serves : FrontIsServed) (catalogue : Catalogue) (caller
       × (reply Datagram (maps_on catalogue front) caller (outstanding walk) ≡ Bytes mail))
       ⊎ ((number : ℕ) × (number < walk.xid) × Begins number mail)
 
-  record Stands (mails : List Made) (scene : Scene) : Type 0 where
+  record Stands (mails : List SourceMail) (scene : WalkExchange) : Type 0 where
     pub goes : GoesBy catalogue caller mails before (begun source wanted) scene.walk
     pub since : IsFront (last_front before mails) scene.front
     pub from : scene.walk.source ≡ source
@@ -179,7 +180,7 @@ module _ (laws : Mails) (serves : FrontIsServed) (catalogue : Catalogue) (caller
         | inr later ↦ others mail later
       ]
 
-  replied_is_sent : (mails : List Made) (scene : Scene) (stands : Stands mails scene) (call : List ℕ) (front : Log) → Contains scene.asked call
+  replied_is_sent : (mails : List SourceMail) (scene : WalkExchange) (stands : Stands mails scene) (call : List ℕ) (front : Log) → Contains scene.asked call
       → IsFront scene.front front → IsFront front log → IsAsking scene.walk.standing
       → (bytes : List ℕ) × (reply Datagram (maps_on catalogue front) caller call ≡ Bytes bytes)
       × IsSent (last_front before mails) front scene.walk bytes
@@ -197,7 +198,7 @@ module _ (laws : Mails) (serves : FrontIsServed) (catalogue : Catalogue) (caller
             let one = earlier.2 front begins in (one.0, one.1, inr (earlier.0, earlier.1, one.2))
       ]
 
-  handled : (mails : List Made) (scene : Scene) (stands : Stands mails scene) (call : List ℕ) (front : Log) → Contains scene.asked call
+  handled : (mails : List SourceMail) (scene : WalkExchange) (stands : Stands mails scene) (call : List ℕ) (front : Log) → Contains scene.asked call
       → IsFront scene.front front → IsFront front log
       → Stands mails (record scene { front = front; sent = with_reply (reply Datagram (maps_on catalogue front) caller call) scene.sent })
   handled mails scene stands call front among grows begins = record {
@@ -229,7 +230,7 @@ module _ (laws : Mails) (serves : FrontIsServed) (catalogue : Catalogue) (caller
         | inr later ↦ others call later
       ]
 
-  passed_by : (mails : List Made) (scene : Scene) → Stands mails scene
+  passed_by : (mails : List SourceMail) (scene : WalkExchange) → Stands mails scene
       → Stands mails (record scene { asked = outstanding scene.walk ∷ scene.asked })
   passed_by mails scene stands = record {
     goes = stands.goes;
@@ -241,7 +242,7 @@ module _ (laws : Mails) (serves : FrontIsServed) (catalogue : Catalogue) (caller
     sent = stands.sent;
   }
 
-  module _ (mails : List Made) (scene : Scene) (stands : Stands mails scene) (asking : IsAsking scene.walk.standing) (mail : List ℕ)
+  module _ (mails : List SourceMail) (scene : WalkExchange) (stands : Stands mails scene) (asking : IsAsking scene.walk.standing) (mail : List ℕ)
       (now : IsFront scene.front log) where
     next : Walking
     next = gone_on scene.walk mail
@@ -291,7 +292,7 @@ module _ (laws : Mails) (serves : FrontIsServed) (catalogue : Catalogue) (caller
         (record scene { walk = next; asked = outstanding next ∷ scene.asked })
     unfolding next
     led_on front since made is =
-        let one : Made = record { front = front; mail = mail } in
+        let one : SourceMail = record { front = front; mail = mail } in
         let ends : last_front before (mails ++ one ∷ []) ≡ front = last_then mails before one in
         record {
           goes = goes_then catalogue caller mails before (begun source wanted) scene.walk one stands.goes asking
@@ -306,7 +307,7 @@ module _ (laws : Mails) (serves : FrontIsServed) (catalogue : Catalogue) (caller
         }
 
     awaited_led : answers scene.walk.xid mail ≡ true → IsSent (last_front before mails) scene.front scene.walk mail
-        → (more : List Made) × (texts more ≡ mail ∷ [])
+        → (more : List SourceMail) × (texts more ≡ mail ∷ [])
         × Stands (mails ++ more) (record scene { walk = next; asked = outstanding next ∷ scene.asked })
     unfolding IsSent texts
     awaited_led is (inl made) =
@@ -314,17 +315,17 @@ module _ (laws : Mails) (serves : FrontIsServed) (catalogue : Catalogue) (caller
     awaited_led is (inr earlier) =
         absurd (omega (arith, earlier.1, answers_one scene.walk.xid earlier.0 mail earlier.2 is))
 
-  delivered : (mails : List Made) (scene : Scene) (stands : Stands mails scene) (one : Delivery)
+  delivered : (mails : List SourceMail) (scene : WalkExchange) (stands : Stands mails scene) (one : Delivery)
       → IsFront scene.front log → IsAsking scene.walk.standing
       → (IsTrue (is_from scene.walk.source one) → Contains scene.sent one.1)
-      → (more : List Made) × (texts more ≡ cond (is_awaited scene.walk.source scene.walk.xid one) (one.1 ∷ []) [])
+      → (more : List SourceMail) × (texts more ≡ cond (is_awaited scene.walk.source scene.walk.xid one) (one.1 ∷ []) [])
       × Stands (mails ++ more) (hearing scene one)
   unfolding next texts
   delivered mails scene stands one now asking was_sent_by =
       by (is_awaited scene.walk.source scene.walk.xid one) refl
     where
       by : (b : Bool) → is_awaited scene.walk.source scene.walk.xid one ≡ b
-          → (more : List Made) × (texts more ≡ cond b (one.1 ∷ []) [])
+          → (more : List SourceMail) × (texts more ≡ cond b (one.1 ∷ []) [])
           × Stands (mails ++ more) (record scene {
             walk = cond b (gone_on scene.walk one.1) scene.walk;
             asked = outstanding (cond b (gone_on scene.walk one.1) scene.walk) ∷ scene.asked;
@@ -332,7 +333,7 @@ module _ (laws : Mails) (serves : FrontIsServed) (catalogue : Catalogue) (caller
       by false is = (
         [],
         refl,
-        subst (λ (ms : List Made). Stands ms (record scene { asked = outstanding scene.walk ∷ scene.asked }))
+        subst (λ (ms : List SourceMail). Stands ms (record scene { asked = outstanding scene.walk ∷ scene.asked }))
             (sym (append-nil mails)) (passed_by mails scene stands),
       )
       by true is =
@@ -343,55 +344,55 @@ module _ (laws : Mails) (serves : FrontIsServed) (catalogue : Catalogue) (caller
 
   -- ---- one thing after the other
 
-  grows : (events : List Event) (old new : Scene) → AllHappen catalogue caller events old new → IsFront old.front new.front
-  grows [] old new is = subst (λ (s : Scene). IsFront old.front s.front) (sym is) (front_itself old.front)
+  grows : (events : List Event) (old new : WalkExchange) → AllHappen catalogue caller events old new → IsFront old.front new.front
+  grows [] old new is = subst (λ (s : WalkExchange). IsFront old.front s.front) (sym is) (front_itself old.front)
   grows (Handles call front ∷ events) old new is =
       let here : IsFront old.front is.0.front =
-      subst (λ (s : Scene). IsFront old.front s.front) (sym is.1.2) is.1.1 in
+      subst (λ (s : WalkExchange). IsFront old.front s.front) (sym is.1.2) is.1.1 in
       front_then old.front is.0.front new.front here (grows events is.0 new is.2)
   grows (Delivers one ∷ events) old new is =
-      let here : is.0.front ≡ old.front = ap (λ (s : Scene). s.front) is.1.2 in
+      let here : is.0.front ≡ old.front = ap (λ (s : WalkExchange). s.front) is.1.2 in
       subst (λ (l : Log). IsFront l new.front) here (grows events is.0 new is.2)
   grows (Rests ∷ events) old new is =
-      let here : is.0.front ≡ old.front = ap (λ (s : Scene). s.front) is.1 in
+      let here : is.0.front ≡ old.front = ap (λ (s : WalkExchange). s.front) is.1 in
       subst (λ (l : Log). IsFront l new.front) here (grows events is.0 new is.2)
 
-  all : (events : List Event) (mails : List Made) (old new : Scene) → Stands mails old
+  all : (events : List Event) (mails : List SourceMail) (old new : WalkExchange) → Stands mails old
       → AllHappen catalogue caller events old new → new.front ≡ log
-      → (more : List Made) × (texts more ≡ awaited old.walk.source old.walk.xid (deliveries_of events))
+      → (more : List SourceMail) × (texts more ≡ awaited old.walk.source old.walk.xid (deliveries_of events))
       × Stands (mails ++ more) new
   unfolding texts
   all [] mails old new stands is ends = (
     [],
     refl,
-    subst (λ (s : Scene). Stands (mails ++ []) s) (sym is)
-        (subst (λ (ms : List Made). Stands ms old) (sym (append-nil mails)) stands),
+    subst (λ (s : WalkExchange). Stands (mails ++ []) s) (sym is)
+        (subst (λ (ms : List SourceMail). Stands ms old) (sym (append-nil mails)) stands),
   )
   all (Handles call front ∷ events) mails old new stands is ends =
       let later : IsFront is.0.front log = subst (λ (l : Log). IsFront is.0.front l) ends (grows events is.0 new is.2) in
-      let here : IsFront front log = subst (λ (s : Scene). IsFront s.front log) is.1.2 later in
+      let here : IsFront front log = subst (λ (s : WalkExchange). IsFront s.front log) is.1.2 later in
       let rest = all events mails is.0 new
-      (subst (λ (s : Scene). Stands mails s) (sym is.1.2) (handled mails old stands call front is.1.0 is.1.1 here))
+      (subst (λ (s : WalkExchange). Stands mails s) (sym is.1.2) (handled mails old stands call front is.1.0 is.1.1 here))
       is.2 ends in
-      (rest.0, rest.1 ∙ ap (λ (s : Scene). awaited s.walk.source s.walk.xid (deliveries_of events)) is.1.2, rest.2)
+      (rest.0, rest.1 ∙ ap (λ (s : WalkExchange). awaited s.walk.source s.walk.xid (deliveries_of events)) is.1.2, rest.2)
   all (Delivers one ∷ events) mails old new stands is ends =
       let later : IsFront is.0.front log = subst (λ (l : Log). IsFront is.0.front l) ends (grows events is.0 new is.2) in
-      let here : IsFront old.front log = subst (λ (s : Scene). IsFront s.front log) is.1.2 later in
+      let here : IsFront old.front log = subst (λ (s : WalkExchange). IsFront s.front log) is.1.2 later in
       let now = delivered mails old stands one here is.1.0 is.1.1 in
       let rest = all events (mails ++ now.0) is.0 new
-      (subst (λ (s : Scene). Stands (mails ++ now.0) s) (sym is.1.2) now.2) is.2 ends in
+      (subst (λ (s : WalkExchange). Stands (mails ++ now.0) s) (sym is.1.2) now.2) is.2 ends in
       let after : texts rest.0 ≡ awaited (heard old.walk one).source (heard old.walk one).xid (deliveries_of events) =
-      rest.1 ∙ ap (λ (s : Scene). awaited s.walk.source s.walk.xid (deliveries_of events)) is.1.2 in (
+      rest.1 ∙ ap (λ (s : WalkExchange). awaited s.walk.source s.walk.xid (deliveries_of events)) is.1.2 in (
         now.0 ++ rest.0,
         texts_joined now.0 rest.0
             ∙ ap (λ (ms : List (List ℕ)). ms ++ texts rest.0) now.1
             ∙ ap (λ (ms : List (List ℕ)). cond (is_awaited old.walk.source old.walk.xid one) (one.1 ∷ []) [] ++ ms) after
             ∙ awaited_more old.walk one (deliveries_of events),
-        subst (λ (ms : List Made). Stands ms new) (append_assoc mails now.0 rest.0) rest.2,
+        subst (λ (ms : List SourceMail). Stands ms new) (append_assoc mails now.0 rest.0) rest.2,
       )
   all (Rests ∷ events) mails old new stands is ends =
-      let rest = all events mails is.0 new (subst (λ (s : Scene). Stands mails s) (sym is.1) stands) is.2 ends in
-      (rest.0, rest.1 ∙ ap (λ (s : Scene). awaited s.walk.source s.walk.xid (deliveries_of events)) is.1, rest.2)
+      let rest = all events mails is.0 new (subst (λ (s : WalkExchange). Stands mails s) (sym is.1) stands) is.2 ends in
+      (rest.0, rest.1 ∙ ap (λ (s : WalkExchange). awaited s.walk.source s.walk.xid (deliveries_of events)) is.1, rest.2)
 
   begins_standing : Stands [] (first_scene source wanted before)
   unfolding IsAsked IsSent

@@ -5,13 +5,11 @@ use Rattle.yp_io.specs.declared.stream.Peer.{Peer}
 use Rattle.yp_board.specs.Catalogues.{Catalogue}
 use Rattle.yp_board.specs.Logs.{Log}
 use Rattle.yp_answer.specs.declared.procedure.Path.TheVariants.{Stream}
-use Rattle.yp_answer.specs.Maps.{Maps}
-use Rattle.yp_answer.specs.Reply.{Bytes, reply}
 use Rattle.yp_answer.specs.Served.{AreServed, maps_on}
-use Rattle.yp_session.specs.Hosts.{Turn}
-use Rattle.yp_session.specs.LogRuns.{LogRun, IsAnsweredOn}
+use Rattle.yp_answer.specs.session.Hosts.{Turn}
+use Rattle.yp_answer.specs.session.LogRuns.{LogRun, IsAnsweredOn}
 use Rattle.yp_client.specs.Questions.{ByteQuestion}
-use Rattle.yp_exchange.specs.Runs.{calls_made}
+use Rattle.yp_end_to_end.specs.exchange.Runs.{calls_made}
 
 -- the records that were answered, and the replies of those that got one
 abbrev pub records_of : List Turn → List (List ℕ)
@@ -28,14 +26,6 @@ AnsweredOn catalogue peer (turn ∷ turns) (log ∷ logs) first last =
     × AnsweredOn catalogue peer turns logs next last
 AnsweredOn catalogue peer [] (log ∷ logs) first last = ⊥
 AnsweredOn catalogue peer (turn ∷ turns) [] first last = ⊥
-
--- A server that knows these maps replies to a record at once: it isn't silent, and makes no map first.
-abbrev pub HasReply : Maps → Peer → List ℕ → Type 0
-HasReply maps peer message = (bytes : List ℕ) × (reply Stream maps peer message ≡ Bytes bytes)
-
--- So does every server.
-abbrev pub IsRepliedTo : Peer → List ℕ → Type 0
-IsRepliedTo peer message = (maps : Maps) → AreServed maps → HasReply maps peer message
 
 -- A run of a server, on a log that grows from one to another, was over the calls that are made for a question.
 pub record AnswersCalls (catalogue : Catalogue) (peer : Peer) (question : ByteQuestion) (turns : List Turn)

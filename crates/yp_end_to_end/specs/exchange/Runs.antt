@@ -1,43 +1,20 @@
 -- A server's replies to the calls of a question in turn, while versions of its maps are shown.
-use Rattle.std.specs.Prelude.{◌≡◌, ℕ, List, [], ◌∷◌, flat_map, Option, Result, Ok, Err}
+use Rattle.std.specs.Prelude.{ℕ, List, [], ◌∷◌, flat_map, Option, Result, Ok, Err}
 use Rattle.yp_io.specs.declared.stream.Peer.{Peer}
 use Rattle.yp_rpc.specs.Records.{sent}
 use Rattle.yp_board.specs.Catalogues.{Catalogue}
 use Rattle.yp_board.specs.Logs.{Log}
 use Rattle.yp_board.specs.Views.{IsFront}
-use Rattle.yp_answer.specs.declared.procedure.Path.TheVariants.{Stream}
 use Rattle.yp_answer.specs.Served.{maps_on}
-use Rattle.yp_answer.specs.Reply.{Bytes, reply}
 use Rattle.yp_client.specs.declared.fault.ClientFault.{ClientFault}
 use Rattle.yp_client.specs.Results.{order_of}
 use Rattle.yp_client.specs.Asked.{all_call, match_call, master_call, order_call, maplist_call}
-use Rattle.yp_query.specs.declared.fault.QueryFault.{QueryFault}
+use Rattle.yp_client.specs.declared.query.fault.QueryFault.{QueryFault}
 use Rattle.yp_client.specs.declared.question.Question.TheVariants.{Cat, Catk, Match, Which, Poll, Maps as MapsOf}
 use Rattle.yp_client.specs.declared.question.Question.TheVariants.{Innetgr}
 use Rattle.yp_client.specs.Questions.{ByteQuestion}
-use Rattle.yp_query.specs.Asked.{netgroup}
-use Rattle.yp_exchange.specs.Answered.{text_told, PrintsTold}
-
--- Calls were answered one after the other, each on a log that begins with the one before. Versions may be shown between
--- any two.
-abbrev pub RepliesInTurn : Catalogue → Peer → List (List ℕ) → List (List ℕ) → Log → Log → Type 0
-RepliesInTurn catalogue peer [] [] old new = IsFront old new
-RepliesInTurn catalogue peer (call ∷ calls) (bytes ∷ replies) old new =
-    (mid : Log) × IsFront old mid × (reply Stream (maps_on catalogue mid) peer call ≡ Bytes bytes)
-    × RepliesInTurn catalogue peer calls replies mid new
-RepliesInTurn catalogue peer [] (bytes ∷ replies) old new = ⊥
-RepliesInTurn catalogue peer (call ∷ calls) [] old new = ⊥
-
--- The same, with the logs on which the calls were answered, in their order.
-abbrev pub RepliesOn : Catalogue → Peer → List (List ℕ) → List (List ℕ) → List Log → Log → Log → Type 0
-RepliesOn catalogue peer [] [] [] old new = IsFront old new
-RepliesOn catalogue peer (call ∷ calls) (bytes ∷ replies) (log ∷ logs) old new =
-    IsFront old log × (reply Stream (maps_on catalogue log) peer call ≡ Bytes bytes)
-    × RepliesOn catalogue peer calls replies logs log new
-RepliesOn catalogue peer [] [] (log ∷ logs) old new = ⊥
-RepliesOn catalogue peer [] (bytes ∷ replies) logs old new = ⊥
-RepliesOn catalogue peer (call ∷ calls) [] logs old new = ⊥
-RepliesOn catalogue peer (call ∷ calls) (bytes ∷ replies) [] old new = ⊥
+use Rattle.yp_client.specs.query.Asked.{netgroup}
+use Rattle.yp_end_to_end.specs.exchange.Answered.{text_told, PrintsTold}
 
 -- what is sent of them
 abbrev pub sent_all : List (List ℕ) → List ℕ
@@ -63,8 +40,9 @@ calls_made (Poll domain map) replies = poll_calls domain map replies
 calls_made (MapsOf domain) replies = maplist_call domain 1 ∷ []
 calls_made (Innetgr domain group host user user_domain) replies = all_call domain netgroup 1 ∷ []
 
--- What these maps tell was printed, on two logs between an old and a new one: as they were at the first reply, and at
--- the second.
+-- What these maps tell was printed, on two logs between an old and a new one, of which the second begins with the
+-- first: what is asked for first is told on the one, and what is asked for second on the other. At which moments they
+-- were so isn't said.
 pub record PrintsOnLogs (catalogue : Catalogue) (peer : Peer) (question : ByteQuestion) (old new : Log)
     (result : Result (Unit {0}) QueryFault) (before after : Option (List ℕ)) : Type 0 where
   pub first : Log

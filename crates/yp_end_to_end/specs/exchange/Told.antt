@@ -1,18 +1,16 @@
--- What the maps of a server tell a client that asks: the value, or the status that refuses it.
-use Rattle.std.specs.Prelude.{ℕ, ◌==◌, not, if◌then◌else◌, List, length, Option, Some, None, Result, Ok, Err}
-use Rattle.std.specs.Option.{option_map, ok_or}
+-- What the maps of a server tell a client that asks (yp.x): the value, or the status that refuses it.
+use Rattle.std.specs.Prelude.{ℕ, ◌==◌, not, if◌then◌else◌, List, length, Result, Ok, Err}
+use Rattle.std.specs.Option.{ok_or}
 use Rattle.yp_io.specs.declared.stream.Peer.{Peer}
-use Rattle.yp_msgs.specs.declared.stat.YpStat.{YpStat}
-use Rattle.yp_msgs.specs.declared.stat.YpStat.TheVariants.{Nomore, Nokey, Badargs, Nodom}
-use Rattle.yp_version.specs.Rows.{Row, value_of, first_of, following}
+use Rattle.yp_messages.specs.declared.stat.YpStat.{YpStat}
+use Rattle.yp_messages.specs.declared.stat.YpStat.TheVariants.{Nokey, Badargs, Nodom}
+use Rattle.yp_version.specs.Rows.{Row, value_of}
 use Rattle.yp_version.specs.Versions.{MapVersion}
-use Rattle.yp_version.specs.Drafts.{Draft}
 use Rattle.yp_board.specs.Catalogues.{serves}
 use Rattle.yp_answer.specs.Maps.{Maps, map_check, row_check}
 use Rattle.yp_answer.specs.Results.{maps_in}
 use Rattle.yp_client.specs.declared.fault.ClientFault.{ClientFault}
 use Rattle.yp_client.specs.declared.fault.ClientFault.TheVariants.{Yp}
-use Rattle.yp_client.specs.All.{AllSaid}
 
 -- a value, or the refusal with a status
 abbrev pub told : {V : Type 0} → Result V YpStat → Result V ClientFault
@@ -38,26 +36,6 @@ map_tells answer maps domain map = told (of_version answer (map_check maps domai
 abbrev pub value_in : List ℕ → MapVersion → Result (List ℕ) YpStat
 value_in key version = ok_or (value_of key version.rows) Nokey
 
--- a row as a client has it: the value, and then the key
-abbrev pub turned : Row → List ℕ × List ℕ
-turned row = (row.1, row.0)
-
--- a row, or the end of the rows
-abbrev pub row_told : Option Row → Result (List ℕ × List ℕ) YpStat
-row_told row = ok_or (option_map turned row) Nomore
-
--- the first row
-abbrev pub first_in : MapVersion → Result (List ℕ × List ℕ) YpStat
-first_in version = row_told (first_of version.rows)
-
--- the row behind the one with a key
-abbrev pub next_told : Option (Option Row) → Result (List ℕ × List ℕ) YpStat
-next_told (Some next) = row_told next
-next_told None = Err Nokey
-
-abbrev pub next_in : List ℕ → MapVersion → Result (List ℕ × List ℕ) YpStat
-next_in key version = next_told (following key version.rows)
-
 -- the name of its master, and its order
 abbrev pub master_in : MapVersion → Result (List ℕ) YpStat
 master_in version = Ok version.master
@@ -68,12 +46,6 @@ order_in version = Ok version.order
 -- all its rows, in their order
 abbrev pub all_in : MapVersion → Result (List Row) YpStat
 all_in version = Ok version.rows
-
--- the same, pushed onto a builder without rows
-abbrev pub all_told : Draft → Result MapVersion YpStat → AllSaid
-all_told draft (Ok version) =
-    record { draft = record draft { rows = version.rows }; rows = length version.rows; end = Ok tt }
-all_told draft (Err stat) = record { draft = draft; rows = 0; end = Err (Yp stat) }
 
 -- ---- what the catalogue tells
 

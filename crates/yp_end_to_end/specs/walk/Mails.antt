@@ -7,23 +7,23 @@ use Rattle.yp_board.specs.Views.{IsFront}
 use Rattle.yp_answer.specs.declared.procedure.Path.TheVariants.{Datagram}
 use Rattle.yp_answer.specs.Served.{maps_on}
 use Rattle.yp_answer.specs.Reply.{Bytes, reply}
-use Rattle.yp_enum.specs.Standings.{IsAsking}
-use Rattle.yp_enum.specs.Schedules.{Walking, outstanding, gone_on}
+use Rattle.yp_transfer.specs.walk.Standings.{IsAsking}
+use Rattle.yp_transfer.specs.walk.Schedules.{Walking, outstanding, gone_on}
 
 -- a mail, and what its source knew as it made it
-pub record Made : Type 0 where
+pub record SourceMail : Type 0 where
   pub front : Log
   pub mail : List ℕ
 
 -- the log that was known at the last of some mails, and before them at first
-abbrev pub last_front : Log → List Made → Log
+abbrev pub last_front : Log → List SourceMail → Log
 last_front before [] = before
 last_front before (made ∷ mails) = last_front made.front mails
 
 module _ (catalogue : Catalogue) (caller : Peer) where
   -- A walk goes on by these mails. Each is the one reply to the call that is outstanding, on a front of the source's
   -- log that begins with the one before.
-  abbrev pub GoesBy : List Made → Log → Walking → Walking → Type 0
+  abbrev pub GoesBy : List SourceMail → Log → Walking → Walking → Type 0
   GoesBy [] before old new = new ≡ old
   GoesBy (made ∷ mails) before old new =
       IsAsking old.standing × IsFront before made.front

@@ -9,9 +9,9 @@ use Rattle.yp_board.specs.Views.{IsFront}
 use Rattle.yp_answer.specs.declared.procedure.Path.TheVariants.{Datagram}
 use Rattle.yp_answer.specs.Served.{maps_on}
 use Rattle.yp_answer.specs.Reply.{Response, Bytes, reply}
-use Rattle.yp_xfr.specs.Fetching.{Wanted}
-use Rattle.yp_enum.specs.Standings.{IsAsking}
-use Rattle.yp_enum.specs.Schedules.{Walking, Delivery, outstanding, heard, begun}
+use Rattle.yp_transfer.specs.Fetching.{Wanted}
+use Rattle.yp_transfer.specs.walk.Standings.{IsAsking}
+use Rattle.yp_transfer.specs.walk.Schedules.{Walking, Delivery, outstanding, heard, begun}
 
 -- What happens: the source handles a copy of a call, on a front of its log; a mail is delivered; a turn is quiet.
 pub data Event : Type 0 where
@@ -27,14 +27,14 @@ deliveries_of (Handles call front ∷ events) = deliveries_of events
 deliveries_of (Rests ∷ events) = deliveries_of events
 
 -- the walk, the calls that it has asked so far, what its source knows, and the mails that this has sent
-pub record Scene : Type 0 where
+pub record WalkExchange : Type 0 where
   pub walk : Walking
   pub asked : List (List ℕ)
   pub front : Log
   pub sent : List (List ℕ)
 
 -- a walk of which nothing was heard, and a source that knows a log
-abbrev pub first_scene : Peer → Wanted → Log → Scene
+abbrev pub first_scene : Peer → Wanted → Log → WalkExchange
 first_scene source wanted log = record {
   walk = begun source wanted;
   asked = outstanding (begun source wanted) ∷ [];
@@ -52,7 +52,7 @@ with_reply (Bytes bytes) sent = bytes ∷ sent
 with_reply response sent = sent
 
 -- the walk heard a mail, and what it then asks is asked
-abbrev pub hearing : Scene → Delivery → Scene
+abbrev pub hearing : WalkExchange → Delivery → WalkExchange
 hearing scene delivered = record scene {
   walk = heard scene.walk delivered;
   asked = outstanding (heard scene.walk delivered) ∷ scene.asked;
@@ -60,7 +60,7 @@ hearing scene delivered = record scene {
 
 module _ (catalogue : Catalogue) (caller : Peer) where
   -- A source with this catalogue answers the caller, and its log grows.
-  abbrev pub Happens : Event → Scene → Scene → Type 0
+  abbrev pub Happens : Event → WalkExchange → WalkExchange → Type 0
   Happens (Handles call front) old new =
       Contains old.asked call × IsFront old.front front
       × (new ≡ record old {
@@ -73,7 +73,7 @@ module _ (catalogue : Catalogue) (caller : Peer) where
       × (new ≡ hearing old delivered)
   Happens Rests old new = new ≡ old
 
-  -- One thing happens after the other.
-  abbrev pub AllHappen : List Event → Scene → Scene → Type 0
+  -- These events happen, one after the other.
+  abbrev pub AllHappen : List Event → WalkExchange → WalkExchange → Type 0
   AllHappen [] old new = new ≡ old
-  AllHappen (event ∷ events) old new = (next : Scene) × Happens event old next × AllHappen events next new
+  AllHappen (event ∷ events) old new = (next : WalkExchange) × Happens event old next × AllHappen events next new

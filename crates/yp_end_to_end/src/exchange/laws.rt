@@ -1,17 +1,21 @@
 //! What joins the replies of a server with what a client reads of them. Each law is the contract of a function that
 //! does nothing.
 
-ghost use Rattle.yp_exchange.specs.Laws.{DomainTells, MatchTells, FirstTells, NextTells, AllTells, RoomForVersion};
-ghost use Rattle.yp_exchange.specs.Laws.{MasterTells, OrderTells, MaplistTells};
-ghost use Rattle.yp_exchange.specs.Mail.{OrderMailTells, MasterMailTells, FirstMailTells, NextMailTells};
-ghost use Rattle.yp_exchange.specs.CallLaws.{NumberIsTold, TruthIsTold, BytesAreTold, RowIsTold, NamesAreTold};
-ghost use Rattle.yp_exchange.specs.CallLaws.{RowsAreTold};
-ghost use Rattle.yp_exchange.specs.QueryLaws.{CallsAreTold, QueryPrintsTold, RunIsPrinted, ToldIsAnswered};
-ghost use Rattle.yp_exchange.specs.RunLaws.{DomainHasReply, MatchHasReply, FirstHasReply, NextHasReply, AllHasReply};
-ghost use Rattle.yp_exchange.specs.RunLaws.{MasterHasReply, OrderHasReply, MaplistHasReply};
-ghost use Rattle.yp_exchange.specs.RunLaws.{RunIsInTurn, RunIsOnLogs, LogRunIsPrinted};
-ghost use Rattle.yp_exchange.specs.SentLaws.{SentIsWhole};
-ghost use Rattle.yp_exchange.specs.MemberLaws.{MembershipIsTold};
+ghost use Rattle.yp_end_to_end.specs.inside.exchange.Laws.{DomainTells, MatchTells, FirstTells, NextTells, AllTells};
+ghost use Rattle.yp_end_to_end.specs.inside.exchange.Laws.{RoomForVersion, MasterTells, OrderTells, MaplistTells};
+ghost use Rattle.yp_end_to_end.specs.inside.exchange.Mail.{OrderMailTells, MasterMailTells, FirstMailTells};
+ghost use Rattle.yp_end_to_end.specs.inside.exchange.Mail.{NextMailTells};
+ghost use Rattle.yp_end_to_end.specs.inside.exchange.CallLaws.{NumberIsTold, TruthIsTold, BytesAreTold, RowIsTold};
+ghost use Rattle.yp_end_to_end.specs.inside.exchange.CallLaws.{NamesAreTold, RowsAreTold};
+ghost use Rattle.yp_end_to_end.specs.inside.exchange.QueryLaws.{CallsAreTold, QueryPrintsTold, RunIsPrinted};
+ghost use Rattle.yp_end_to_end.specs.inside.exchange.QueryLaws.{ToldIsAnswered};
+ghost use Rattle.yp_end_to_end.specs.inside.exchange.RunLaws.{DomainHasReply, MatchHasReply, FirstHasReply};
+ghost use Rattle.yp_end_to_end.specs.inside.exchange.RunLaws.{NextHasReply};
+ghost use Rattle.yp_end_to_end.specs.inside.exchange.RunLaws.{AllHasReply, MasterHasReply, OrderHasReply};
+ghost use Rattle.yp_end_to_end.specs.inside.exchange.RunLaws.{MaplistHasReply};
+ghost use Rattle.yp_end_to_end.specs.inside.exchange.RunLaws.{RunIsInTurn, RunIsOnLogs, LogRunIsPrinted};
+ghost use Rattle.yp_end_to_end.specs.inside.exchange.SentLaws.{SentIsWhole};
+ghost use Rattle.yp_end_to_end.specs.inside.exchange.MemberLaws.{MembershipIsTold};
 
 use yp_netgroup::laws::membership_is_decided;
 use yp_rpc::laws::{call_is_heard_again, first_is_one, rest_is_not_whole};
@@ -129,7 +133,7 @@ pub fn calls_are_told()
     rest_is_not_whole();
 }
 
-/// So this is what a question prints, where the server that was dialed gave a wire of such replies.
+/// A question prints what the maps of the dialed server tell, where the wire gives its replies to the calls.
 pub fn query_prints_told()
     ensures { QueryPrintsTold }
 {
@@ -178,7 +182,7 @@ pub fn run_is_in_turn()
     ensures { RunIsInTurn }
 {}
 
-/// The same, on the very logs on which the records of the run were answered.
+/// The replies of a run are those to its records in turn, on the logs on which these were answered.
 pub fn run_is_on_logs()
     ensures { RunIsOnLogs }
 {}

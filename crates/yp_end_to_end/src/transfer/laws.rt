@@ -1,12 +1,12 @@
 //! What joins the replies of a server with what is fetched from it. Each law is the contract of a function that does
 //! nothing.
 
-ghost use Rattle.yp_source.specs.Shown.{ShownBetween, FrontIsServed, ShownIsSound};
-ghost use Rattle.yp_source.specs.Laws.{FetchedIsShown, ShownIsFetched};
-ghost use Rattle.yp_source.specs.Turns.{TurnsGiveFetch};
-ghost use Rattle.yp_source.specs.Runs.{WireIsFetched, RunIsFetched};
+ghost use Rattle.yp_end_to_end.specs.inside.transfer.Shown.{ShownBetween, FrontIsServed, ShownIsSound};
+ghost use Rattle.yp_end_to_end.specs.inside.transfer.Laws.{FetchedIsShown, ShownIsFetched};
+ghost use Rattle.yp_end_to_end.specs.inside.transfer.Turns.{TurnsGiveFetch};
+ghost use Rattle.yp_end_to_end.specs.inside.transfer.Runs.{WireIsFetched, RunIsFetched};
 
-use yp_exchange::laws::{
+use crate::exchange::laws::{
     all_tells, calls_have_replies, master_tells, order_tells, room_for_version, run_is_on_logs,
     sent_is_whole,
 };

@@ -1,12 +1,13 @@
 //! What joins the replies of a server in datagrams with a walk over its map. Each law is the contract of a function
 //! that does nothing.
 
-ghost use Rattle.yp_walked.specs.Laws.{HeardIsInTurn, WalkedIsShown, SkewIsShown, ShownIsWalked};
-ghost use Rattle.yp_walked.specs.Laws.{HappenedIsDelivered, DeliveredIsOfSource, DeliveredIsWhole, DeliveredSkews};
+ghost use Rattle.yp_end_to_end.specs.inside.walk.Laws.{HeardIsInTurn, WalkedIsShown, SkewIsShown, ShownIsWalked};
+ghost use Rattle.yp_end_to_end.specs.inside.walk.Laws.{HappenedIsDelivered, DeliveredIsOfSource, DeliveredIsWhole};
+ghost use Rattle.yp_end_to_end.specs.inside.walk.Laws.{DeliveredSkews};
 
-use yp_enum::laws::{told_is_walked, told_is_whole};
-use yp_exchange::laws::mail_tells;
-use yp_source::laws::{front_is_served, shown_between, shown_is_sound};
+use crate::exchange::laws::mail_tells;
+use crate::transfer::laws::{front_is_served, shown_between, shown_is_sound};
+use yp_transfer::walk::laws::{told_is_walked, told_is_whole};
 use yp_version::laws::rising_stays;
 
 /// Whatever was lost, repeated or reordered, what a walk has heard of its source is one reply to each of its calls in

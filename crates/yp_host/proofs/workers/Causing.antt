@@ -4,37 +4,41 @@ use Rattle.std.proofs.Common.{arith, refl, sym, ◌∙◌, ap, subst, false}
 use Rattle.std.proofs.lemmas.List.{append-nil}
 use Rattle.std.specs.Option.{option_map_or}
 use Rattle.yp_io.specs.declared.texts.TextFile.{TextFile}
-use Rattle.yp_msgs.specs.declared.transfer.XfrStat.{XfrStat}
-use Rattle.yp_msgs.specs.declared.transfer.XfrStat.TheVariants.{Succ, Age, Nomap, Nodom, Rsrc, Rpc, Maddr, Yperr, Badargs, Dbm, File, Skew, Clear, Force, Xfrerr, Refused}
+use Rattle.yp_messages.specs.declared.transfer.XfrStat.{XfrStat}
+use Rattle.yp_messages.specs.declared.transfer.XfrStat.TheVariants.{Succ, Age, Nomap, Nodom, Rsrc, Rpc, Maddr, Yperr, Badargs, Dbm, File, Skew, Clear, Force, Xfrerr, Refused}
 use Rattle.yp_version.specs.Versions.{MapVersion}
-use Rattle.yp_slot.specs.declared.fault.SlotFault.TheVariants as slot
+use Rattle.yp_map_file.specs.declared.fault.SlotFault.TheVariants as slot
 use Rattle.yp_board.specs.Catalogues.{Catalogue}
 use Rattle.yp_board.specs.Logs.{Log, shown}
 use Rattle.yp_board.specs.Views.{IsFront}
-use Rattle.yp_build.specs.Builds.{order_max}
-use Rattle.yp_build.specs.declared.kind.Kind.{Kind}
-use Rattle.yp_build.specs.Kinds.{file_of}
-use Rattle.yp_build.specs.After.{HasFault, other_master, basis_of, built_after, IsOver}
-use Rattle.yp_build.specs.Laws.{BuiltIsBuiltBehind}
-use Rattle.yp_publish.specs.declared.install.Origin.TheVariants.{Built}
-use Rattle.yp_publish.specs.declared.install.InstallFault.TheVariants as fault
-use Rattle.yp_publish.specs.Installs.{offer, not_following}
-use Rattle.yp_publish.specs.Rising.{with_shown}
+use Rattle.yp_texts.specs.Builds.{order_max}
+use Rattle.yp_texts.specs.declared.kind.Kind.{Kind}
+use Rattle.yp_texts.specs.Kinds.{file_of}
+use Rattle.yp_texts.specs.After.{HasFault, other_master, basis_of, built_after, HasLaterOrder}
+use Rattle.yp_texts.specs.inside.Laws.{BuiltIsBuiltBehind}
+use Rattle.yp_publisher.specs.declared.install.Origin.TheVariants.{Built}
+use Rattle.yp_publisher.specs.declared.install.InstallFault.TheVariants as fault
+use Rattle.yp_publisher.specs.Installs.{offer, not_following}
+use Rattle.yp_publisher.specs.Rising.{with_shown}
 use Rattle.yp_answer.specs.Make.{IsKindOf}
-use Rattle.yp_answer.specs.declared.make.Job.{Job}
+use Rattle.yp_answer.specs.declared.make.MakeJob.{MakeJob}
 use Rattle.yp_answer.specs.Causes.{Told, IsAnew, IsCaused, basis_at, HasBadRowAt}
 use Rattle.yp_answer.specs.Causes as causes
-use Rattle.yp_server.specs.Locals.{Telling}
-use Rattle.yp_server.specs.Anew.{IsUnbuilt}
-use Rattle.yp_shared.specs.declared.locked.ShareFault.{ShareFault}
-use Rattle.yp_shared.specs.declared.locked.ShareFault.TheVariants.{Shut, Unfit, Untold}
-use Rattle.yp_shared.specs.Shares.{offer_behind, IsShownBehind, IsReason}
-use Rattle.yp_shared.specs.Sources.{Building, marked_behind, IsBuiltThere}
-use Rattle.yp_workhost.specs.Desks.{texts_alone, telling_texts}
-use Rattle.yp_workhost.specs.Outcomes.{shared_stat}
-use Rattle.yp_workhost.specs.Makings.{Builds, IsShownLast, IsMadeSo, height, IsOvertaken}
-use Rattle.yp_workhost.proofs.Reasons.{followed, of_another, not_lower}
-use Rattle.yp_workhost.proofs.Learning.{front_same, front_then}
+use Rattle.yp_host.specs.Locals.{Telling}
+use Rattle.yp_host.specs.Anew.{IsUnbuilt}
+use Rattle.yp_publisher.specs.declared.sharing.locked.ShareFault.{ShareFault}
+use Rattle.yp_publisher.specs.declared.sharing.locked.ShareFault.TheVariants.{Shut, Unfit, Untold}
+use Rattle.yp_publisher.specs.sharing.Shares.{offer_behind, IsShownBehind}
+use Rattle.yp_publisher.specs.inside.sharing.Shares.{IsReason}
+use Rattle.yp_publisher.specs.sharing.Sources.{Building}
+use Rattle.yp_publisher.specs.inside.sharing.Sources.{marked_behind, IsBuiltThere}
+use Rattle.yp_host.specs.workers.Desks.{texts_alone}
+use Rattle.yp_host.specs.inside.workers.Desks.{telling_texts}
+use Rattle.yp_host.specs.inside.workers.Outcomes.{shared_stat}
+use Rattle.yp_host.specs.workers.Makings.{IsShownLast, IsMadeSo}
+use Rattle.yp_host.specs.inside.workers.Makings.{SiteBuilds, height, IsOvertaken}
+use Rattle.yp_host.proofs.workers.Reasons.{followed, of_another, not_lower}
+use Rattle.yp_host.proofs.workers.Learning.{front_same, front_then}
 
 -- a master is another's
 another : (master : Option (List ℕ)) → is_some master ≡ true → (name : List ℕ) × (master ≡ Some name)
@@ -43,7 +47,7 @@ another (Some name) e = (name, refl)
 
 -- ---- why none is built
 
-bad_row : (told : Told) (own : List ℕ) (job : Job) (log : Log) (bad : HasBadRowAt told (basis_at own job log)) (text : Option (List ℕ))
+bad_row : (told : Told) (own : List ℕ) (job : MakeJob) (log : Log) (bad : HasBadRowAt told (basis_at own job log)) (text : Option (List ℕ))
     → IfSome text (λ known. bad.material.text ≡ known) → IfSome text (causes.HasBadRow own job)
 bad_row told own job log bad None h = tt
 bad_row told own job log bad (Some text) h = record {
@@ -54,7 +58,7 @@ bad_row told own job log bad (Some text) h = record {
   refused = subst (λ (t : List ℕ). built_after (basis_at own job log) (record { text = t; moment = bad.material.moment }) ≡ Err (HasFault bad.fault)) h bad.cause;
 }
 
-pub unmade : {E : Type 0} (text : TextFile → Option (List ℕ)) (telling : Telling E) (own : List ℕ) (job : Job) (log : Log) (stat : XfrStat)
+pub unmade : {E : Type 0} (text : TextFile → Option (List ℕ)) (telling : Telling E) (own : List ℕ) (job : MakeJob) (log : Log) (stat : XfrStat)
     (old new : E) → IsUnbuilt (telling_texts text telling) (basis_at own job log) stat old new
     → IsMadeSo (texts_alone text) own job stat log log
 unmade text telling own job log Refused old new none =
@@ -91,10 +95,10 @@ module _ (law : BuiltIsBuiltBehind) (text : TextFile → Option (List ℕ)) (own
         built = law (basis_of kind own None before) anew.material version last anew.built most found.0 found.1;
       }
 
-pub built_there : BuiltIsBuiltBehind → (text : TextFile → Option (List ℕ)) (served : Catalogue) (job : Job)
+pub built_there : BuiltIsBuiltBehind → (text : TextFile → Option (List ℕ)) (served : Catalogue) (job : MakeJob)
     (before : Option MapVersion) (version : MapVersion)
     → IsAnew (texts_alone text) (basis_of job.kind served.own None before) version → version.order ≤ order_max
-    → IsKindOf served job.map job.kind → (Is : Building) → Builds text served Is
+    → IsKindOf served job.map job.kind → (Is : Building) → SiteBuilds text served Is
     → IsBuiltThere Is job.map served.own version Built
 built_there law text served job before version anew most is_kind Is builds last follows =
     builds job.map last (marked_behind version last) (
@@ -103,7 +107,7 @@ built_there law text served job before version anew most is_kind Is builds last 
       anew_behind law text served.own job.kind before version anew most last follows,
     )
 
-pub shown_last : BuiltIsBuiltBehind → (text : TextFile → Option (List ℕ)) (own : List ℕ) (job : Job) (version : MapVersion) (old new : Log)
+pub shown_last : BuiltIsBuiltBehind → (text : TextFile → Option (List ℕ)) (own : List ℕ) (job : MakeJob) (version : MapVersion) (old new : Log)
     → IsAnew (texts_alone text) (basis_at own job old) version → version.order ≤ order_max
     → IsShownBehind own job.map version Built old new → IsShownLast (texts_alone text) own job old new
 shown_last law text own job version old new anew most s =
@@ -119,7 +123,7 @@ shown_last law text own job version old new anew most s =
 
 -- ---- why a version isn't installed
 
-pub unfit : (told : Told) (own : List ℕ) (job : Job) (version : MapVersion) (why : ShareFault) (old new : Log)
+pub unfit : (told : Told) (own : List ℕ) (job : MakeJob) (version : MapVersion) (why : ShareFault) (old new : Log)
     → IsReason own job.map version Built why new → shared_stat why ≢ Age → IsMadeSo told own job (shared_stat why) old new
 unfit told own job version Untold old new h n = tt
 unfit told own job version (Shut slot.NoMemory) old new h n = tt
@@ -135,13 +139,13 @@ unfit told own job version (Unfit fault.GenerationsSpent) old new h n = tt
 unfit told own job version (Unfit fault.DiskFault) old new h n = tt
 
 -- the height of what is shown is at most an order that is over it
-height_under : (last : Option MapVersion) (version : MapVersion) → IsOver last version
+height_under : (last : Option MapVersion) (version : MapVersion) → HasLaterOrder last version
     → option_map_or (λ (v : MapVersion). v.order + 1) last 0 ≤ version.order
 height_under None version h = omega arith
 height_under (Some last) version h = omega (arith, h)
 
 pub overtaken : (own : List ℕ) (number : ℕ) (version : MapVersion) (why : ShareFault) (old new : Log)
-    → IsOver (shown number old) version → version.order ≤ order_max
+    → HasLaterOrder (shown number old) version → version.order ≤ order_max
     → IsReason own number version Built why new → shared_stat why ≡ Age → IsOvertaken number old new
 overtaken own number version (Unfit (fault.Age last offered)) old new over most h e =
     let stands = not_lower own (offer_behind number version Built new).version (shown number new) last offered h in
@@ -161,7 +165,7 @@ overtaken own number version (Unfit fault.DiskFault) old new over most h e = abs
 
 -- ---- a log before
 
-pub made_later : (told : Told) (own : List ℕ) (job : Job) (stat : XfrStat) (first old new : Log) → IsFront first old
+pub made_later : (told : Told) (own : List ℕ) (job : MakeJob) (stat : XfrStat) (first old new : Log) → IsFront first old
     → IsMadeSo told own job stat old new → IsMadeSo told own job stat first new
 made_later told own job Succ first old new front h = record {
   version = h.version;
@@ -187,7 +191,7 @@ made_later told own job Force first old new front h = h
 made_later told own job Xfrerr first old new front h = h
 made_later told own job Refused first old new front h = h
 
-pub is_caused : (told : Told) (own : List ℕ) (job : Job) (stat : XfrStat) (old new : Log) → IsMadeSo told own job stat old new
+pub is_caused : (told : Told) (own : List ℕ) (job : MakeJob) (stat : XfrStat) (old new : Log) → IsMadeSo told own job stat old new
     → IsCaused told own job stat old new
 is_caused told own job Succ old new h = record {
   version = h.version;

@@ -1,14 +1,14 @@
 -- What is charged.
 use Rattle.std.proofs.Common.{◌≡◌, ℕ, ◌+◌, refl, ap, ◌∙◌, arith}
-use Rattle.yp_msgs.specs.declared.transfer.XfrStat.{XfrStat}
-use Rattle.yp_slot.specs.declared.fault.SlotFault.TheVariants as slot
-use Rattle.yp_publish.specs.declared.install.InstallFault.TheVariants as fault
-use Rattle.yp_shared.specs.declared.locked.ShareFault.{ShareFault}
-use Rattle.yp_shared.specs.declared.locked.ShareFault.TheVariants.{Shut, Unfit, Untold}
-use Rattle.yp_shared.specs.Failures.{failures_in}
-use Rattle.yp_shared.specs.Debits.{Debit, IsCharged}
-use Rattle.yp_workhost.specs.Outcomes.{shared_stat}
-use Rattle.yp_workhost.specs.Charges.{Charged, ChargesMore, cost_of_make, files_in, made_in}
+use Rattle.yp_messages.specs.declared.transfer.XfrStat.{XfrStat}
+use Rattle.yp_map_file.specs.declared.fault.SlotFault.TheVariants as slot
+use Rattle.yp_publisher.specs.declared.install.InstallFault.TheVariants as fault
+use Rattle.yp_publisher.specs.declared.sharing.locked.ShareFault.{ShareFault}
+use Rattle.yp_publisher.specs.declared.sharing.locked.ShareFault.TheVariants.{Shut, Unfit, Untold}
+use Rattle.yp_publisher.specs.inside.sharing.Failures.{failures_in}
+use Rattle.yp_publisher.specs.inside.sharing.Debits.{Debit, DebitIsCharged}
+use Rattle.yp_host.specs.inside.workers.Outcomes.{shared_stat}
+use Rattle.yp_host.specs.inside.workers.Charges.{Charged, ChargesMore, cost_of_make, files_in, made_in}
 
 -- ---- a status
 
@@ -54,7 +54,7 @@ with_debit parts unread orders sources debit = record {
 -- of a version that was built, and then isn't installed
 pub charged_so : (why : ShareFault) (stat : XfrStat) (old : Charged) (parts unread orders sources made versions : ℕ)
     (debit debit' : Debit) → with_debit parts unread orders sources debit ≡ record old { unread = old.unread + 0 }
-    → IsCharged (failures_in why) made versions debit debit' → stat ≡ shared_stat why
+    → DebitIsCharged (failures_in why) made versions debit debit' → stat ≡ shared_stat why
     → ChargesMore (cost_of_make stat) old (with_debit parts unread orders sources debit')
 charged_so why stat old parts unread orders sources made versions debit debit' inside more is =
     let files : files_in stat ≡ failures_in why = ap files_in is ∙ files_are_failures why in

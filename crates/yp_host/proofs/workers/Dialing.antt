@@ -2,18 +2,18 @@
 use Rattle.std.proofs.Common.{◌≡◌, ◌⊎◌, inl, inr, ℕ, zero, suc, ◌+◌, ◌≤◌, Bool, true, false, if◌then◌else◌, ◌==◌, ◌||◌, List, [], ◌∷◌, ◌++◌, length, Option, None, Some, Ok, Err, refl, sym, ◌∙◌, ap, subst, append_assoc, arith}
 use Rattle.std.specs.Option.{ok_or}
 use Rattle.std.proofs.lemmas.List.{append-nil, length_push}
-use Rattle.yp_io.specs.Dials.{Connected, connected, Wires, WireState, Dialing, DialTells, Comes, GoesBack}
-use Rattle.yp_msgs.specs.declared.transfer.XfrStat.{XfrStat}
-use Rattle.yp_xfr.specs.declared.calling_back.Asker.{Asker}
-use Rattle.yp_xfr.specs.CallBack.{CallsBack}
+use Rattle.yp_io.specs.Dials.{Connected, connected, Wires, WireState, Dialing, DialTells, WireComes, GoesBack}
+use Rattle.yp_messages.specs.declared.transfer.XfrStat.{XfrStat}
+use Rattle.yp_transfer.specs.declared.calling_back.Asker.{Asker}
+use Rattle.yp_transfer.specs.CallBack.{CallsBack}
 use Rattle.yp_io.specs.declared.stream.Peer.{Peer}
 use Rattle.yp_client.specs.States.{ClientState, IsFirst}
-use Rattle.yp_xfr.specs.declared.fault.XfrFault.TheVariants.{Maddr, Rpc, Badargs, NoMemory}
-use Rattle.yp_xfr.specs.HostTable.{HostList, find}
-use Rattle.yp_xfr.specs.Fetching.{Wanted, Outcome}
-use Rattle.yp_xfr.specs.Fetched.{place_of, Fetched, IsFetched}
-use Rattle.yp_xfr.specs.Dialing.{ByAddress, FetchesFrom}
-use Rattle.yp_workhost.specs.Wires.{AtLeast, GainsAtLeast, CoversBy}
+use Rattle.yp_transfer.specs.declared.fault.XfrFault.TheVariants.{Maddr, Rpc, Badargs, NoMemory}
+use Rattle.yp_transfer.specs.HostTable.{HostList, find}
+use Rattle.yp_transfer.specs.Fetching.{Wanted, FetchOutcome}
+use Rattle.yp_transfer.specs.Fetched.{place_of, Fetched, IsFetched}
+use Rattle.yp_transfer.specs.Dialing.{ByAddress, FetchesFrom}
+use Rattle.yp_host.specs.workers.Wires.{AtLeast, GainsAtLeast, CoversBy}
 
 -- ---- at least so many
 
@@ -73,7 +73,7 @@ module _ (P : Connected → Type 0) (more : ℕ) (dialed : Connected) (left : Wi
         enough = enough count was.gained was.enough;
       }
 
-  pub covers_wire : (count : ℕ) (start old middle new : Option Wires) → Comes dialed old middle → GoesBack left middle new
+  pub covers_wire : (count : ℕ) (start old middle new : Option Wires) → WireComes dialed old middle → GoesBack left middle new
       → CoversBy P start old count → CoversBy P start new (count + more)
   covers_wire count None old middle new comes back covers = tt
   covers_wire count (Some start) None middle None comes back covers = λ fair. covers fair
@@ -89,7 +89,7 @@ module _ (P : Connected → Type 0) (more : ℕ) (dialed : Connected) (left : Wi
       gains count start old middle new comes back (covers fair)
 
 -- what a wire tells that is just dialed is fetched from its first byte on
-pub from_first : (wanted : Wanted) (outcome : Outcome) (first : ClientState) (stream : List ℕ) → IsFirst first
+pub from_first : (wanted : Wanted) (outcome : FetchOutcome) (first : ClientState) (stream : List ℕ) → IsFirst first
     → Fetched wanted (place_of first.xid first.place stream) outcome → Fetched wanted (place_of 1 0 stream) outcome
 from_first wanted outcome first stream begins fetched =
     subst (λ (n : ℕ). Fetched wanted (place_of 1 n stream) outcome) begins.place
@@ -98,17 +98,17 @@ from_first wanted outcome first stream begins fetched =
 -- ---- of a fetch
 
 -- nothing is counted where the source isn't asked, or memory runs out
-abbrev pub IsUnasked : (Outcome → ℕ) → Type 0
+abbrev pub IsUnasked : (FetchOutcome → ℕ) → Type 0
 IsUnasked count =
     (count (Err Rpc) ≡ 0) × (count (Err Maddr) ≡ 0) × (count (Err Badargs) ≡ 0) × (count (Err NoMemory) ≡ 0)
 
 -- what counts at most one for a fetch, and that by a wire with P
-module _ (P : Connected → Type 0) (count : Outcome → ℕ) (unasked : IsUnasked count)
+module _ (P : Connected → Type 0) (count : FetchOutcome → ℕ) (unasked : IsUnasked count)
     (untold : (peer : Peer) (output : Option (List ℕ)) → P (connected peer None output))
-    (by_bytes : (wanted : Wanted) (peer : Peer) (stream : List ℕ) (output : Option (List ℕ)) (outcome : Outcome)
+    (by_bytes : (wanted : Wanted) (peer : Peer) (stream : List ℕ) (output : Option (List ℕ)) (outcome : FetchOutcome)
     → Fetched wanted (place_of 1 0 stream) outcome → (count outcome ≡ 0) ⊎ P (connected peer (Some stream) output))
-    (few : (outcome : Outcome) → (count outcome ≡ 0) ⊎ (count outcome ≡ 1)) where
-  by_wire : (peer : Peer) (wanted : Wanted) (outcome : Outcome) (first last : ClientState) → IsFirst first
+    (few : (outcome : FetchOutcome) → (count outcome ≡ 0) ⊎ (count outcome ≡ 1)) where
+  by_wire : (peer : Peer) (wanted : Wanted) (outcome : FetchOutcome) (first last : ClientState) → IsFirst first
       → IsFetched wanted outcome first last → (input : Option (List ℕ)) → first.wire.input ≡ input
       → (count outcome ≡ 0) ⊎ P (connected peer input first.wire.output)
   by_wire peer wanted outcome first last begins fetched None is = inr (untold peer first.wire.output)
@@ -120,14 +120,14 @@ module _ (P : Connected → Type 0) (count : Outcome → ℕ) (unasked : IsUnask
     ]
   ]
 
-  counts_once : (outcome : Outcome) (dialed : Connected) → (count outcome ≡ 0) ⊎ P dialed
+  counts_once : (outcome : FetchOutcome) (dialed : Connected) → (count outcome ≡ 0) ⊎ P dialed
       → (count outcome ≡ 0) ⊎ ((count outcome ≡ 1) × P dialed)
   counts_once outcome dialed which = elim (few outcome) [
     | inl none ↦ inl none
     | inr one ↦ elim which [ inl none ↦ inl none | inr holds ↦ inr (one, holds) ]
   ]
 
-  module _ (start : Option Wires) (counted : ℕ) (wanted : Wanted) (outcome : Outcome) (old new : Dialing)
+  module _ (start : Option Wires) (counted : ℕ) (wanted : Wanted) (outcome : FetchOutcome) (old new : Dialing)
       (covers : CoversBy P start old.past counted) where
     same : count outcome ≡ 0 → new.past ≡ old.past → CoversBy P start new.past (counted + count outcome)
     same none past =
@@ -137,11 +137,11 @@ module _ (P : Connected → Type 0) (count : Outcome → ℕ) (unasked : IsUnask
     by_peer : (peer : Peer) → ByAddress wanted (Ok peer) outcome old new
         → CoversBy P start new.past (counted + count outcome)
     by_peer peer goes = elim goes [
-      | inl none ↦ same (ap count none.fault ∙ unasked.0) none.none
+      | inl none ↦ same (ap count none.0 ∙ unasked.0) none.1.none
       | inr wire ↦ covers_wire P (count outcome) (connected peer wire.first.wire.input wire.first.wire.output) wire.last.wire
           (counts_once outcome (connected peer wire.first.wire.input wire.first.wire.output)
-          (by_wire peer wanted outcome wire.first wire.last wire.begins wire.fetched wire.first.wire.input refl))
-          counted start old.past wire.middle new.past wire.comes wire.goes_back covers
+          (by_wire peer wanted outcome wire.first wire.last wire.dialed.begins wire.fetched wire.first.wire.input refl))
+          counted start old.past wire.dialed.middle new.past wire.dialed.comes wire.dialed.goes_back covers
     ]
 
     by_address : (empty : Bool) (found : Option Peer)

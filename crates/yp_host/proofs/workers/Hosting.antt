@@ -1,19 +1,19 @@
 -- What a host of a worker does, as every host.
 use Rattle.std.proofs.Common.{◌≡◌, ℕ, List, Option, refl, sym, ◌∙◌, ap, subst}
 use Rattle.yp_io.specs.declared.texts.TextFile.{TextFile}
-use Rattle.yp_msgs.specs.declared.transfer.XfrStat.{XfrStat}
-use Rattle.yp_msgs.specs.declared.transfer.XfrStat.TheVariants.{Succ, Age, Nomap, Nodom, Rsrc, Rpc, Maddr, Yperr, Badargs, Dbm, File, Skew, Clear, Force, Xfrerr, Refused}
+use Rattle.yp_messages.specs.declared.transfer.XfrStat.{XfrStat}
+use Rattle.yp_messages.specs.declared.transfer.XfrStat.TheVariants.{Succ, Age, Nomap, Nodom, Rsrc, Rpc, Maddr, Yperr, Badargs, Dbm, File, Skew, Clear, Force, Xfrerr, Refused}
 use Rattle.yp_board.specs.Catalogues.{Catalogue}
 use Rattle.yp_board.specs.Views.{Seen}
-use Rattle.yp_answer.specs.declared.make.Job.{Job}
-use Rattle.yp_xfr.specs.HostTable.{HostList}
-use Rattle.yp_session.specs.Hosts.{Counts, Conduct, conduct_of, counts_after, Fulfils}
-use Rattle.yp_shared.specs.Shares.{Learns}
-use Rattle.yp_workhost.specs.Makings.{IsMadeSo}
-use Rattle.yp_workhost.specs.Desks.{texts_alone}
-use Rattle.yp_workhost.specs.Workers.{Worker, counts_of, files_after, made_after, Stepped, Made, Carried}
-use Rattle.yp_workhost.proofs.Causing.{is_caused}
-use Rattle.yp_workhost.proofs.Learning.{learns_maps}
+use Rattle.yp_answer.specs.declared.make.MakeJob.{MakeJob}
+use Rattle.yp_transfer.specs.HostTable.{HostList}
+use Rattle.yp_answer.specs.session.Hosts.{Counts, Conduct, conduct_of, counts_after, Fulfils}
+use Rattle.yp_publisher.specs.sharing.Shares.{Learns}
+use Rattle.yp_host.specs.workers.Makings.{IsMadeSo}
+use Rattle.yp_host.specs.workers.Desks.{texts_alone}
+use Rattle.yp_host.specs.workers.Workers.{WorkerState, counts_of, files_after, made_after, Stepped, WorkerMakesMap, WorkerTransfersMap}
+use Rattle.yp_host.proofs.workers.Causing.{is_caused}
+use Rattle.yp_host.proofs.workers.Learning.{learns_maps}
 
 -- what a status counts
 counted : (counts : Counts) (stat : XfrStat)
@@ -36,11 +36,11 @@ counted counts Xfrerr = refl
 counted counts Refused = refl
 
 module _ {V : Type 0} (seen : V → Seen) (stepped : V → V → Type 0) (text : TextFile → Option (List ℕ)) (hosts : HostList) where
-  abbrev conduct : Conduct (Worker V)
-  conduct = conduct_of (λ host. seen host.reader) (λ host. texts_alone text) counts_of (Stepped stepped) (Made seen text)
-      (λ taken peer. Carried seen hosts taken)
+  abbrev conduct : Conduct (WorkerState V)
+  conduct = conduct_of (λ host. seen host.reader) (λ host. texts_alone text) counts_of (Stepped stepped) (WorkerMakesMap seen text)
+      (λ taken peer. WorkerTransfersMap seen hosts taken)
 
-  fulfilled : (job : Job) (stat : XfrStat) (old new : Worker V) → Made seen text job stat old new
+  fulfilled : (job : MakeJob) (stat : XfrStat) (old new : WorkerState V) → WorkerMakesMap seen text job stat old new
       → Fulfils conduct job stat old new
   fulfilled job stat old new made = record {
     made = made;
@@ -51,13 +51,13 @@ module _ {V : Type 0} (seen : V → Seen) (stepped : V → V → Type 0) (text :
   }
 
   -- the same from a host inside, whose reader learned and whose counts rose
-  pub made_from : (job : Job) (stat : XfrStat) (inside old : Worker V) (catalogue : Catalogue) (reader : V) (files made : ℕ)
+  pub made_from : (job : MakeJob) (stat : XfrStat) (inside old : WorkerState V) (catalogue : Catalogue) (reader : V) (files made : ℕ)
       → inside ≡ old → (seen inside.reader).catalogue ≡ catalogue
       → IsMadeSo (texts_alone text) catalogue.own job stat (seen inside.reader).known (seen reader).known
       → Learns (seen inside.reader) (seen reader) → files ≡ files_after inside.files stat → made ≡ made_after inside.made stat
       → Fulfils conduct job stat old (record inside { reader = reader; files = files; made = made })
   made_from job stat inside old catalogue reader files made is maps makes learned counts others =
-      subst (λ (o : Worker V). Fulfils conduct job stat o (record inside { reader = reader; files = files; made = made })) is
+      subst (λ (o : WorkerState V). Fulfils conduct job stat o (record inside { reader = reader; files = files; made = made })) is
       (fulfilled job stat inside (record inside { reader = reader; files = files; made = made }) record {
         made = subst (λ (k : Catalogue). IsMadeSo (texts_alone text) k.own job stat (seen inside.reader).known (seen reader).known) (sym maps) makes;
         learned = learned;

@@ -5,54 +5,54 @@ use Rattle.yp_version.specs.Versions.{MapVersion}
 use Rattle.yp_client.specs.declared.fault.ClientFault.{ClientFault}
 use Rattle.yp_client.specs.Limits.{reply_max}
 use Rattle.yp_client.specs.Results.{order_of}
-use Rattle.yp_xfr.specs.declared.fault.XfrFault.{XfrFault}
-use Rattle.yp_xfr.specs.declared.fault.XfrFault.TheVariants.{Age}
-use Rattle.yp_xfr.specs.Fetching.{Wanted, Outcome, Asks, Unless, ByAnswer, AsksMaster, against_order, against_age, against_names}
-use Rattle.yp_xfr.specs.Fetched.{Place, Reads, by_bytes, Fetched}
-use Rattle.yp_workhost.specs.Wires.{sources_in}
+use Rattle.yp_transfer.specs.declared.fault.XfrFault.{XfrFault}
+use Rattle.yp_transfer.specs.declared.fault.XfrFault.TheVariants.{Age}
+use Rattle.yp_transfer.specs.Fetching.{Wanted, FetchOutcome, AsksThen, Unless, ByAnswer, AsksMaster, against_order, against_age, against_names}
+use Rattle.yp_transfer.specs.Fetched.{StreamPlace, ReadsReply, by_bytes, Fetched}
+use Rattle.yp_host.specs.inside.workers.Wires.{sources_in}
 
 -- the first reply has an order, and those behind it give the version
-pub record Leads (first : Place) (version : MapVersion) : Type 0 where
+pub record Leads (first : StreamPlace) (version : MapVersion) : Type 0 where
   pub order : ℕ
-  pub middle : Place
-  pub last : Place
-  pub reads : Reads reply_max order_of (Ok order) first middle
+  pub middle : StreamPlace
+  pub last : StreamPlace
+  pub reads : ReadsReply reply_max order_of (Ok order) first middle
   pub asks : AsksMaster by_bytes order (Ok version) middle last
 
-module _ (wanted : Wanted) (first : Place) (version : MapVersion) (last : Place) where
-  unless : (order : ℕ) (middle : Place) (against : Option XfrFault) → Reads reply_max order_of (Ok order) first middle
+module _ (wanted : Wanted) (first : StreamPlace) (version : MapVersion) (last : StreamPlace) where
+  unless : (order : ℕ) (middle : StreamPlace) (against : Option XfrFault) → ReadsReply reply_max order_of (Ok order) first middle
       → Unless against (AsksMaster by_bytes order) (Ok version) middle last → Leads first version
   unless order middle None reads asks =
       record { order = order; middle = middle; last = last; reads = reads; asks = asks }
   unless order middle (Some fault) reads stops = let is = stops.0 in absurd cc
 
-  answered : (answer : Result ℕ ClientFault) (middle : Place) → Reads reply_max order_of answer first middle
+  answered : (answer : Result ℕ ClientFault) (middle : StreamPlace) → ReadsReply reply_max order_of answer first middle
       → ByAnswer (λ order. Unless (against_order wanted order) (AsksMaster by_bytes order)) answer (Ok version) middle last
       → Leads first version
   answered (Ok order) middle reads goes = unless order middle (against_order wanted order) reads goes
   answered (Err fault) middle reads stops = let is = stops.0 in absurd cc
 
   named : (against : Option XfrFault)
-      → Unless against (Asks (by_bytes.order) (λ order. Unless (against_order wanted order) (AsksMaster by_bytes order)))
+      → Unless against (AsksThen (by_bytes.order) (λ order. Unless (against_order wanted order) (AsksMaster by_bytes order)))
       (Ok version) first last → (against ≡ None) × Leads first version
   named None asks = (refl, answered asks.answer asks.middle asks.answered asks.goes_on)
   named (Some fault) stops = let is = stops.0 in absurd cc
 
 -- where a version is fetched, they lead to it, and names are wanted
-pub leads : (wanted : Wanted) (first : Place) (version : MapVersion) → Fetched wanted first (Ok version)
+pub leads : (wanted : Wanted) (first : StreamPlace) (version : MapVersion) → Fetched wanted first (Ok version)
     → (against_names wanted ≡ None) × Leads first version
 leads wanted first version fetched = named wanted first version fetched.0 (against_names wanted) fetched.1
 
 -- they lead whoever wants names to it, or to what is against their order
-module _ (wanted : Wanted) (first : Place) (version : MapVersion) (found : Leads first version)
+module _ (wanted : Wanted) (first : StreamPlace) (version : MapVersion) (found : Leads first version)
     (names : against_names wanted ≡ None) where
-  follow : (outcome : Outcome) (last : Place)
+  follow : (outcome : FetchOutcome) (last : StreamPlace)
       → Unless (against_order wanted found.order) (AsksMaster by_bytes found.order) outcome found.middle last
       → Fetched wanted first outcome
   follow outcome last goes = (
     last,
     subst (λ (against : Option XfrFault). Unless against
-        (Asks (by_bytes.order) (λ order. Unless (against_order wanted order) (AsksMaster by_bytes order))) outcome first last) (sym names)
+        (AsksThen (by_bytes.order) (λ order. Unless (against_order wanted order) (AsksMaster by_bytes order))) outcome first last) (sym names)
         record { answer = Ok found.order; middle = found.middle; answered = found.reads; goes_on = goes },
   )
 

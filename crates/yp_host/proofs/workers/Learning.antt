@@ -4,7 +4,7 @@ use Rattle.std.proofs.lemmas.List.{append-nil, append_assoc}
 use Rattle.yp_board.specs.Catalogues.{Catalogue}
 use Rattle.yp_board.specs.Logs.{Log}
 use Rattle.yp_board.specs.Views.{Seen, IsFront}
-use Rattle.yp_shared.specs.Shares.{Learns}
+use Rattle.yp_publisher.specs.sharing.Shares.{Learns}
 
 pub front_same : (log : Log) → IsFront log log
 front_same log = ([], sym (append-nil log))

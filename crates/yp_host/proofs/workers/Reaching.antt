@@ -8,16 +8,17 @@ use Rattle.yp_version.specs.declared.builder.VersionFault.{VersionFault}
 use Rattle.yp_version.specs.declared.builder.VersionFault.TheVariants as version
 use Rattle.yp_client.specs.Limits.{reply_max}
 use Rattle.yp_client.specs.Results.{order_of}
-use Rattle.yp_msgs.specs.declared.stat.YpStat.{YpStat}
-use Rattle.yp_msgs.specs.declared.stat.YpStat.TheVariants as stats
-use Rattle.yp_xfr.specs.declared.fault.XfrFault.TheVariants.{Maddr, Rpc, Nodom, Nomap, Yperr, Xfrerr, Age, Skew, Dbm, Badargs, File, Refused, NoMemory}
-use Rattle.yp_xfr.specs.Faults.{of_client}
-use Rattle.yp_xfr.specs.HostTable.{HostList}
-use Rattle.yp_xfr.specs.Fetching.{Wanted, Outcome, Asks, Unless, ByAnswer, AsksMaster, against_order}
-use Rattle.yp_xfr.specs.Fetched.{Place, place_of, Reads, by_bytes, Fetched}
-use Rattle.yp_xfr.specs.Dialing.{FetchesFrom}
-use Rattle.yp_workhost.specs.Wires.{HasOrder, BeginsWithOrder, orders_in, CoversOrders}
-use Rattle.yp_workhost.proofs.Dialing.{fetched_counts}
+use Rattle.yp_messages.specs.declared.stat.YpStat.{YpStat}
+use Rattle.yp_messages.specs.declared.stat.YpStat.TheVariants as stats
+use Rattle.yp_transfer.specs.declared.fault.XfrFault.TheVariants.{Maddr, Rpc, Nodom, Nomap, Yperr, Xfrerr, Age, Skew, Dbm, Badargs, File, Refused, NoMemory}
+use Rattle.yp_transfer.specs.Faults.{of_client}
+use Rattle.yp_transfer.specs.HostTable.{HostList}
+use Rattle.yp_transfer.specs.Fetching.{Wanted, FetchOutcome, AsksThen, Unless, ByAnswer, AsksMaster, against_order}
+use Rattle.yp_transfer.specs.Fetched.{StreamPlace, place_of, ReadsReply, by_bytes, Fetched}
+use Rattle.yp_transfer.specs.Dialing.{FetchesFrom}
+use Rattle.yp_host.specs.workers.Wires.{BytesHaveOrder, BeginsWithOrder, CoversOrders}
+use Rattle.yp_host.specs.inside.workers.Wires.{orders_in}
+use Rattle.yp_host.proofs.workers.Dialing.{fetched_counts}
 
 -- ---- an order that was reached
 
@@ -55,7 +56,7 @@ not_of_client client.Spent = refl
 not_of_client (client.Rows row fault) = not_of_rows row fault
 not_of_client client.NoMemory = refl
 
-few_orders : (outcome : Outcome) → (orders_in outcome ≡ 0) ⊎ (orders_in outcome ≡ 1)
+few_orders : (outcome : FetchOutcome) → (orders_in outcome ≡ 0) ⊎ (orders_in outcome ≡ 1)
 few_orders (Ok version) = inr refl
 few_orders (Err (Age shown offered)) = inr refl
 few_orders (Err Maddr) = inl refl
@@ -71,11 +72,11 @@ few_orders (Err File) = inl refl
 few_orders (Err Refused) = inl refl
 few_orders (Err NoMemory) = inl refl
 
-module _ (wanted : Wanted) (stream : List ℕ) (outcome : Outcome) (last : Place) where
-  by_answer : (answer : Result ℕ ClientFault) (middle : Place)
-      → Reads reply_max order_of answer (place_of 1 0 stream) middle
+module _ (wanted : Wanted) (stream : List ℕ) (outcome : FetchOutcome) (last : StreamPlace) where
+  by_answer : (answer : Result ℕ ClientFault) (middle : StreamPlace)
+      → ReadsReply reply_max order_of answer (place_of 1 0 stream) middle
       → ByAnswer (λ order. Unless (against_order wanted order) (AsksMaster by_bytes order)) answer outcome middle last
-      → (orders_in outcome ≡ 0) ⊎ HasOrder stream
+      → (orders_in outcome ≡ 0) ⊎ BytesHaveOrder stream
   by_answer (Ok order) middle reads goes = elim reads [
     | inl whole ↦ inr record { order = order; next = middle; replied = whole }
     | inr un ↦ elim un.0 [ inl begun ↦ absurd cc | inr long ↦ absurd cc ]
@@ -84,19 +85,19 @@ module _ (wanted : Wanted) (stream : List ℕ) (outcome : Outcome) (last : Place
 
   by_names : (empty : Bool)
       → Unless (if empty then Some Badargs else None)
-      (Asks (by_bytes.order) (λ order. Unless (against_order wanted order) (AsksMaster by_bytes order)))
+      (AsksThen (by_bytes.order) (λ order. Unless (against_order wanted order) (AsksMaster by_bytes order)))
       outcome (place_of 1 0 stream) last
-      → (orders_in outcome ≡ 0) ⊎ HasOrder stream
+      → (orders_in outcome ≡ 0) ⊎ BytesHaveOrder stream
   by_names true stops = inl (ap orders_in stops.0)
   by_names false asks = by_answer asks.answer asks.middle asks.answered asks.goes_on
 
-by_order : (wanted : Wanted) (peer : Peer) (stream : List ℕ) (output : Option (List ℕ)) (outcome : Outcome)
+by_order : (wanted : Wanted) (peer : Peer) (stream : List ℕ) (output : Option (List ℕ)) (outcome : FetchOutcome)
     → Fetched wanted (place_of 1 0 stream) outcome
     → (orders_in outcome ≡ 0) ⊎ BeginsWithOrder (connected peer (Some stream) output)
 by_order wanted peer stream output outcome fetched =
     by_names wanted stream outcome fetched.0 (length wanted.domain == 0 || length wanted.map == 0) fetched.1
 
-pub fetched_orders : (start : Option Wires) (orders : ℕ) (wanted : Wanted) (outcome : Outcome) (old new : Dialing)
+pub fetched_orders : (start : Option Wires) (orders : ℕ) (wanted : Wanted) (outcome : FetchOutcome) (old new : Dialing)
     → CoversOrders start old.past orders → (hosts : HostList) (source : List ℕ) → FetchesFrom hosts source wanted outcome old new
     → CoversOrders start new.past (orders + orders_in outcome)
 fetched_orders start orders wanted outcome old new covers hosts source fetches =

@@ -3,10 +3,10 @@ use Rattle.std.proofs.Common.{◌≡◌, inl, inr, ℕ, ◌<◌, ◌≤◌, Bool
 use Rattle.std.proofs.Common.{if◌then◌else◌, IsSome, refl, sym, ◌∙◌, ap}
 use Rattle.std.proofs.lemmas.Bool.Decides.{leb_tells}
 use Rattle.yp_version.specs.Versions.{MapVersion}
-use Rattle.yp_build.specs.After.{other_master, IsOver}
-use Rattle.yp_publish.specs.declared.install.Origin.{Origin}
-use Rattle.yp_publish.specs.declared.install.Origin.TheVariants.{Built}
-use Rattle.yp_publish.specs.Installs.{Refusal, HasMaster, IsNotNewer, offer, not_following}
+use Rattle.yp_texts.specs.After.{other_master, HasLaterOrder}
+use Rattle.yp_publisher.specs.declared.install.Origin.{Origin}
+use Rattle.yp_publisher.specs.declared.install.Origin.TheVariants.{Built}
+use Rattle.yp_publisher.specs.Installs.{Refusal, HasMaster, IsNotNewer, offer, not_following}
 
 -- the refusal of a version that is built here, by both tests
 abbrev verdict : MapVersion → MapVersion → Bool → Bool → Option Refusal
@@ -16,7 +16,7 @@ verdict version last own newer =
 
 -- what follows comes from here, and its order is higher
 pub followed : (own : List ℕ) (version : MapVersion) (last : Option MapVersion)
-    → not_following own (offer version Built false) last ≡ None → (other_master own last ≡ None) × IsOver last version
+    → not_following own (offer version Built false) last ≡ None → (other_master own last ≡ None) × HasLaterOrder last version
 followed own version None h = (refl, tt)
 followed own version (Some last) h = by_tests (bytes_eq last.master own) (nat_le version.order last.order) refl refl h where
   by_tests : (same lower : Bool) → bytes_eq last.master own ≡ same → nat_le version.order last.order ≡ lower

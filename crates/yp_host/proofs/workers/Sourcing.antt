@@ -5,25 +5,26 @@ use Rattle.std.proofs.lemmas.Bool.{ne_eqb}
 use Rattle.yp_io.specs.Counts.{HasRisen, last_count}
 use Rattle.yp_io.specs.declared.stream.Peer.{Peer}
 use Rattle.yp_io.specs.Dials.{Wires, Dialing, connected}
-use Rattle.yp_xfr.specs.declared.fault.XfrFault.{XfrFault}
-use Rattle.yp_xfr.specs.declared.fault.XfrFault.TheVariants.{Maddr, Rpc, Nodom, Nomap, Yperr, Xfrerr, Age, Skew, Dbm, Badargs, File, Refused, NoMemory}
-use Rattle.yp_xfr.specs.HostTable.{HostList, find}
-use Rattle.yp_xfr.specs.Fetching.{Wanted, wanted_of, Outcome, against_order, against_names}
-use Rattle.yp_xfr.specs.Fetched.{place_of, Fetched}
-use Rattle.yp_xfr.specs.Dialing.{ByAddress, FetchesFrom, FetchesOnWire}
-use Rattle.yp_xfr.specs.Laws.{FetchedIsOne}
-use Rattle.yp_workhost.specs.Wires.{GivesVersion, IsGood, IsBad, sources_in, versions_in, CoversBy, CoversSources}
-use Rattle.yp_workhost.proofs.Dialing.{fetched_counts, covers_wire, covers_none, from_first, same_wires}
-use Rattle.yp_workhost.proofs.Leading.{Leads, leads, to_version, to_fault, only_age}
+use Rattle.yp_transfer.specs.declared.fault.XfrFault.{XfrFault}
+use Rattle.yp_transfer.specs.declared.fault.XfrFault.TheVariants.{Maddr, Rpc, Nodom, Nomap, Yperr, Xfrerr, Age, Skew, Dbm, Badargs, File, Refused, NoMemory}
+use Rattle.yp_transfer.specs.HostTable.{HostList, find}
+use Rattle.yp_transfer.specs.Fetching.{Wanted, wanted_of, FetchOutcome, against_order, against_names}
+use Rattle.yp_transfer.specs.Fetched.{place_of, Fetched}
+use Rattle.yp_transfer.specs.Dialing.{ByAddress, FetchesFrom, FetchesOnWire}
+use Rattle.yp_transfer.specs.inside.Laws.{FetchedIsOne}
+use Rattle.yp_host.specs.workers.Wires.{BytesGiveVersion, IsGood, IsBad, CoversBy, CoversSources}
+use Rattle.yp_host.specs.inside.workers.Wires.{sources_in, versions_in}
+use Rattle.yp_host.proofs.workers.Dialing.{fetched_counts, covers_wire, covers_none, from_first, same_wires}
+use Rattle.yp_host.proofs.workers.Leading.{Leads, leads, to_version, to_fault, only_age}
 
 -- ---- a version
 
-few_versions : (outcome : Outcome) → (versions_in outcome ≡ 0) ⊎ (versions_in outcome ≡ 1)
+few_versions : (outcome : FetchOutcome) → (versions_in outcome ≡ 0) ⊎ (versions_in outcome ≡ 1)
 few_versions (Ok version) = inr refl
 few_versions (Err why) = inl refl
 
 -- bytes that give a version give it where none is shown
-good : (wanted : Wanted) (peer : Peer) (stream : List ℕ) (output : Option (List ℕ)) (outcome : Outcome)
+good : (wanted : Wanted) (peer : Peer) (stream : List ℕ) (output : Option (List ℕ)) (outcome : FetchOutcome)
     → Fetched wanted (place_of 1 0 stream) outcome
     → (versions_in outcome ≡ 0) ⊎ IsGood (connected peer (Some stream) output)
 good wanted peer stream output (Err why) fetched = inl refl
@@ -37,7 +38,7 @@ good wanted peer stream output (Ok version) fetched =
       fetched = to_version unshown first version found.1 found.0 refl;
     }
 
-pub fetched_versions : (start : Option Wires) (versions : ℕ) (wanted : Wanted) (outcome : Outcome) (old new : Dialing)
+pub fetched_versions : (start : Option Wires) (versions : ℕ) (wanted : Wanted) (outcome : FetchOutcome) (old new : Dialing)
     → CoversBy IsGood start old.past versions → (hosts : HostList) (source : List ℕ) → FetchesFrom hosts source wanted outcome old new
     → CoversBy IsGood start new.past (versions + versions_in outcome)
 fetched_versions start versions wanted outcome old new covers hosts source fetches =
@@ -46,7 +47,7 @@ fetched_versions start versions wanted outcome old new covers hosts source fetch
 
 -- ---- a source that failed
 
-few_sources : (outcome : Outcome) → (sources_in outcome ≡ 0) ⊎ (sources_in outcome ≡ 1)
+few_sources : (outcome : FetchOutcome) → (sources_in outcome ≡ 0) ⊎ (sources_in outcome ≡ 1)
 few_sources (Ok version) = inl refl
 few_sources (Err (Age shown offered)) = inl refl
 few_sources (Err NoMemory) = inl refl
@@ -63,14 +64,14 @@ few_sources (Err File) = inr refl
 few_sources (Err Refused) = inr refl
 
 -- bytes by which it failed give no version: where they gave one, they would have given it here, or too low an order
-module _ (law : FetchedIsOne) (wanted : Wanted) (stream : List ℕ) (outcome : Outcome) (names : against_names wanted ≡ None)
+module _ (law : FetchedIsOne) (wanted : Wanted) (stream : List ℕ) (outcome : FetchOutcome) (names : against_names wanted ≡ None)
     (fetched : Fetched wanted (place_of 1 0 stream) outcome) (failed : sources_in outcome ≡ 1) where
-  other : (else' : Outcome) → Fetched wanted (place_of 1 0 stream) else' → sources_in else' ≡ 0 → ⊥
+  other : (else' : FetchOutcome) → Fetched wanted (place_of 1 0 stream) else' → sources_in else' ≡ 0 → ⊥
   other else' fetched' none =
       let same = ap sources_in (law wanted (place_of 1 0 stream) outcome else' fetched fetched') in
       omega (arith, same, none, failed)
 
-  by_against : (gives : GivesVersion stream) (found : Leads (place_of 1 0 stream) gives.version) (against : Option XfrFault)
+  by_against : (gives : BytesGiveVersion stream) (found : Leads (place_of 1 0 stream) gives.version) (against : Option XfrFault)
       → against_order wanted found.order ≡ against → ⊥
   by_against gives found None is =
       other (Ok gives.version) (to_version wanted (place_of 1 0 stream) gives.version found names is) refl
@@ -78,20 +79,20 @@ module _ (law : FetchedIsOne) (wanted : Wanted) (stream : List ℕ) (outcome : O
       other (Err fault) (to_fault wanted (place_of 1 0 stream) gives.version found names fault is)
       (only_age wanted found.order fault is)
 
-  bad : GivesVersion stream → ⊥
+  bad : BytesGiveVersion stream → ⊥
   bad gives =
       let found = (leads gives.wanted (place_of 1 0 stream) gives.version gives.fetched).1 in
       by_against gives found (against_order wanted found.order) refl
 
 -- so it failed by a wire that gives no version, or by a fault of the dial
-module _ (law : FetchedIsOne) (peer : Peer) (wanted : Wanted) (outcome : Outcome) (old new : Dialing)
+module _ (law : FetchedIsOne) (peer : Peer) (wanted : Wanted) (outcome : FetchOutcome) (old new : Dialing)
     (names : against_names wanted ≡ None) (failed : sources_in outcome ≡ 1)
     (wire : FetchesOnWire peer wanted outcome old new) where
   by_input : (input : Option (List ℕ)) → wire.first.wire.input ≡ input
       → IsBad (connected peer input wire.first.wire.output) ⊎ HasRisen old.faults new.faults
   by_input None is = inl tt
   by_input (Some stream) is = elim (wire.fetched stream is) [
-    | inl one ↦ inl (bad law wanted stream outcome names (from_first wanted outcome wire.first stream wire.begins one) failed)
+    | inl one ↦ inl (bad law wanted stream outcome names (from_first wanted outcome wire.first stream wire.dialed.begins one) failed)
     | inr more ↦ elim more [
       | inl fails ↦ inr (wire.cause fails)
       | inr memory ↦ let none = ap sources_in memory in absurd (omega (arith, none, failed))
@@ -127,27 +128,27 @@ module _ (start : Option Wires) (faults sources more : ℕ) (old new : Dialing)
         omega (arith, kept, was, one);
   }
 
-module _ (law : FetchedIsOne) (start : Option Wires) (faults sources : ℕ) (wanted : Wanted) (outcome : Outcome) (old new : Dialing)
+module _ (law : FetchedIsOne) (start : Option Wires) (faults sources : ℕ) (wanted : Wanted) (outcome : FetchOutcome) (old new : Dialing)
     (names : against_names wanted ≡ None) (covers : CoversSources start old.past faults old.faults sources) where
   -- with a wire that isn't counted
   uncounted : (peer : Peer) (wire : FetchesOnWire peer wanted outcome old new)
       → CoversBy IsBad start new.past (covers.bad + 0)
   uncounted peer wire =
-      covers_wire IsBad 0 (connected peer wire.first.wire.input wire.first.wire.output) wire.last.wire (inl refl) covers.bad start old.past wire.middle new.past
-      wire.comes wire.goes_back covers.wires
+      covers_wire IsBad 0 (connected peer wire.first.wire.input wire.first.wire.output) wire.last.wire (inl refl) covers.bad start old.past wire.dialed.middle new.past
+      wire.dialed.comes wire.dialed.goes_back covers.wires
 
   by_peer : (peer : Peer) → FetchesOnWire peer wanted outcome old new
       → CoversSources start new.past faults new.faults (sources + sources_in outcome)
   by_peer peer wire =
-      let counted = wire.counted in
+      let counted = wire.dialed.counted in
       let stays : new.faults < last_count → old.faults ≤ new.faults = λ below. omega (arith, below, counted) in
       let same = subst (λ (n : ℕ). CoversBy IsBad start new.past n) (omega arith) (uncounted peer wire) in
       elim (few_sources outcome) [
         | inl none ↦ by_fault start faults sources (sources_in outcome) old new covers stays same (inl none)
         | inr one ↦ elim (by_wire law peer wanted outcome old new names one wire) [
           | inl bad ↦ by_bad start faults sources (sources_in outcome) old new covers stays
-              (covers_wire IsBad 1 (connected peer wire.first.wire.input wire.first.wire.output) wire.last.wire (inr (refl, bad)) covers.bad start old.past wire.middle
-              new.past wire.comes wire.goes_back covers.wires) one
+              (covers_wire IsBad 1 (connected peer wire.first.wire.input wire.first.wire.output) wire.last.wire (inr (refl, bad)) covers.bad start old.past wire.dialed.middle
+              new.past wire.dialed.comes wire.dialed.goes_back covers.wires) one
           | inr risen ↦ by_fault start faults sources (sources_in outcome) old new covers stays same (inr (one, risen))
         ]
       ]
@@ -156,9 +157,9 @@ module _ (law : FetchedIsOne) (start : Option Wires) (faults sources : ℕ) (wan
       → CoversSources start new.past faults new.faults (sources + sources_in outcome)
   by_address peer goes = elim goes [
     | inl none ↦
-        let risen = none.cause in
+        let risen = none.1.cause in
         by_fault start faults sources (sources_in outcome) old new covers (λ below. omega (arith, below, risen))
-        (same_wires IsBad start old.past new.past covers.bad none.none covers.wires) (inr (ap sources_in none.fault, risen))
+        (same_wires IsBad start old.past new.past covers.bad none.1.none covers.wires) (inr (ap sources_in none.0, risen))
     | inr wire ↦ by_peer peer wire
   ]
 
@@ -185,7 +186,7 @@ no_source domain map source one two three =
     let third : (length source == 0) ≡ false = ne_eqb (length source) 0 (omega arith) in
     rw (first, second, third)
 
-pub fetched_sources : FetchedIsOne → (start : Option Wires) (faults sources : ℕ) (wanted : Wanted) (outcome : Outcome)
+pub fetched_sources : FetchedIsOne → (start : Option Wires) (faults sources : ℕ) (wanted : Wanted) (outcome : FetchOutcome)
     (old new : Dialing) → CoversSources start old.past faults old.faults sources → (hosts : HostList) (source : List ℕ)
     → 0 < length wanted.domain → 0 < length wanted.map → 0 < length source → (known : Peer) → Some known ≡ find source hosts
     → FetchesFrom hosts source wanted outcome old new

@@ -2,8 +2,8 @@
 use Rattle.std.proofs.Common.{◌≡◌, List, [], ◌∷◌, ◌++◌, refl, sym, subst}
 use Rattle.yp_io.specs.Dials.{DialTells}
 use Rattle.yp_board.specs.Catalogues.{Name}
-use Rattle.yp_xfr.specs.HostTable.{HostList}
-use Rattle.yp_workhost.specs.Uses.{DialUse, UsesDial, UsesInTurn, IsUsedForTransfers}
+use Rattle.yp_transfer.specs.HostTable.{HostList}
+use Rattle.yp_host.specs.workers.Uses.{DialUse, UsesDial, UsesInTurn, IsUsedForTransfers}
 
 module _ (hosts : HostList) (maps : List Name) where
   one_behind : (uses : List DialUse) (one : DialUse) (first old new : DialTells) → UsesInTurn hosts maps uses first old

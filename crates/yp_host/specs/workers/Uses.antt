@@ -1,19 +1,18 @@
 -- What a server does with the dial that its workers share: whom it dials, what it asks there, and what it posts.
-use Rattle.std.specs.Prelude.{◌≡◌, ℕ, Bool, false, List, [], ◌∷◌, Option, Some, slice_get}
-use Rattle.yp_io.specs.Dials.{DialTells, Wires, wires_told}
-use Rattle.yp_io.specs.declared.stream.Peer.{Peer}
-use Rattle.yp_msgs.specs.declared.transfer.XfrStat.{XfrStat}
+use Rattle.std.specs.Prelude.{◌≡◌, ℕ, false, List, [], ◌∷◌, Option, Some, slice_get}
+use Rattle.yp_io.specs.Dials.{DialTells, wires_told}
+use Rattle.yp_messages.specs.declared.transfer.XfrStat.{XfrStat}
 use Rattle.yp_board.specs.Catalogues.{Name}
-use Rattle.yp_xfr.specs.declared.calling_back.Asker.{Asker}
-use Rattle.yp_xfr.specs.HostTable.{HostList}
-use Rattle.yp_xfr.specs.Fetching.{Outcome, wanted_of}
-use Rattle.yp_xfr.specs.Dialing.{FetchesFrom}
-use Rattle.yp_xfr.specs.CallBack.{wants_call, CallsBack}
+use Rattle.yp_transfer.specs.declared.calling_back.Asker.{Asker}
+use Rattle.yp_transfer.specs.HostTable.{HostList}
+use Rattle.yp_transfer.specs.Fetching.{FetchOutcome, wanted_of}
+use Rattle.yp_transfer.specs.Dialing.{FetchesFrom}
+use Rattle.yp_transfer.specs.CallBack.{wants_call, CallsBack}
 
 -- a use of a dial: a map of this name was wanted of this source behind the order that was shown, and that came of it;
 -- or a caller was told a status, where it wants to be
 pub data DialUse : Type 0 where
-  Fetching : List ℕ → Name → Option ℕ → Outcome → DialUse
+  Fetching : List ℕ → Name → Option ℕ → FetchOutcome → DialUse
   Telling : Asker → XfrStat → DialUse
 
 -- A map of this name is served.
@@ -39,7 +38,3 @@ UsesInTurn hosts maps (one ∷ more) old new =
 pub record IsUsedForTransfers (hosts : HostList) (maps : List Name) (old new : DialTells) : Type 0 where
   pub uses : List DialUse
   pub in_turn : UsesInTurn hosts maps uses old new
-
--- what a dial told: its wires, the datagrams that were sent, and how often it had failed
-abbrev pub dial_told : Option Wires → Option (List (Peer × List ℕ)) → ℕ → DialTells
-dial_told wires letters faults = record { past = wires; letters = letters; faults = faults }

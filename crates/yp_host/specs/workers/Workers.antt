@@ -2,34 +2,34 @@
 use Rattle.std.specs.Prelude.{◌≡◌, ◌≢◌, ◌⊎◌, ℕ, List, Option, None, IsSome, ⊤}
 use Rattle.yp_io.specs.Counts.{next_count}
 use Rattle.yp_io.specs.declared.texts.TextFile.{TextFile}
-use Rattle.yp_msgs.specs.declared.transfer.XfrStat.{XfrStat}
-use Rattle.yp_msgs.specs.declared.transfer.XfrStat.TheVariants as stats
+use Rattle.yp_messages.specs.declared.transfer.XfrStat.{XfrStat}
+use Rattle.yp_messages.specs.declared.transfer.XfrStat.TheVariants as stats
 use Rattle.yp_version.specs.Versions.{MapVersion}
 use Rattle.yp_board.specs.Logs.{Log, shown}
 use Rattle.yp_board.specs.Views.{Seen}
-use Rattle.yp_answer.specs.declared.make.Job.{Job}
+use Rattle.yp_answer.specs.declared.make.MakeJob.{MakeJob}
 use Rattle.yp_answer.specs.Transfer.{Taken}
-use Rattle.yp_publish.specs.declared.install.Origin.TheVariants.{Fetched}
-use Rattle.yp_xfr.specs.HostTable.{HostList, find}
-use Rattle.yp_session.specs.Hosts.{Counts}
-use Rattle.yp_shared.specs.Shares.{IsShownBehind, Learns}
-use Rattle.yp_workhost.specs.declared.outcome.Group.{Group}
-use Rattle.yp_workhost.specs.declared.outcome.Group.TheVariants.{NoAddress, NoMemory, File, Source, Reached}
-use Rattle.yp_workhost.specs.declared.outcome.Outcomes.{Outcomes}
-use Rattle.yp_workhost.specs.Desks.{texts_alone}
-use Rattle.yp_workhost.specs.Outcomes.{counted_in}
-use Rattle.yp_workhost.specs.Makings.{IsMadeSo}
+use Rattle.yp_publisher.specs.declared.install.Origin.TheVariants.{Fetched}
+use Rattle.yp_transfer.specs.HostTable.{HostList, find}
+use Rattle.yp_answer.specs.session.Hosts.{Counts}
+use Rattle.yp_publisher.specs.sharing.Shares.{IsShownBehind, Learns}
+use Rattle.yp_host.specs.declared.workers.outcome.Group.{Group}
+use Rattle.yp_host.specs.declared.workers.outcome.Group.TheVariants.{NoAddress, NoMemory, File, Source, Reached}
+use Rattle.yp_host.specs.declared.workers.outcome.Outcomes.{Outcomes}
+use Rattle.yp_host.specs.workers.Desks.{texts_alone}
+use Rattle.yp_host.specs.workers.Outcomes.{counted_in}
+use Rattle.yp_host.specs.workers.Makings.{IsMadeSo}
 
 -- a host of a worker: its reader, how often it answered FILE and how often SUCC where a map was to be made, how many
 -- transfers it carried out, and what they came to
-pub record Worker (V : Type 0) : Type 0 where
+pub record WorkerState (V : Type 0) : Type 0 where
   pub reader : V
   pub files : ℕ
   pub made : ℕ
   pub transfers : ℕ
   pub outcomes : Outcomes
 
-abbrev pub counts_of : {V : Type 0} → Worker V → Counts
+abbrev pub counts_of : {V : Type 0} → WorkerState V → Counts
 counts_of worker = record { files = worker.files; transfers = worker.transfers }
 
 -- how often FILE was answered, once a map was made with a status
@@ -43,13 +43,14 @@ made_after made stats.Succ = next_count made
 made_after made _ = made
 
 -- A read step of the reader was made, and nothing else.
-abbrev pub Stepped : {V : Type 0} → (V → V → Type 0) → Worker V → Worker V → Type 0
+abbrev pub Stepped : {V : Type 0} → (V → V → Type 0) → WorkerState V → WorkerState V → Type 0
 Stepped stepped old new = stepped old.reader new.reader × (new ≡ record old { reader = new.reader })
 
 -- A map was made, with this status. The reader knows all that it knew and what the status says, and FILE and SUCC are
 -- counted.
-pub record Made {V : Type 0} (seen : V → Seen) (text : TextFile → Option (List ℕ)) (job : Job) (stat : XfrStat)
-    (old new : Worker V) : Type 0 where
+pub record WorkerMakesMap {V : Type 0} (seen : V → Seen) (text : TextFile → Option (List ℕ)) (job : MakeJob)
+    (stat : XfrStat)
+    (old new : WorkerState V) : Type 0 where
   pub made : IsMadeSo (texts_alone text) (seen old.reader).catalogue.own job stat
       (seen old.reader).known (seen new.reader).known
   pub learned : Learns (seen old.reader) (seen new.reader)
@@ -80,7 +81,8 @@ IsCarriedTo own hosts taken group old new =
     (find taken.source hosts ≢ None) × IsInstalledTo own taken.map group old new
 
 -- A transfer was carried out, and counted once, by what it came to.
-pub record Carried {V : Type 0} (seen : V → Seen) (hosts : HostList) (taken : Taken) (old new : Worker V)
+pub record WorkerTransfersMap {V : Type 0} (seen : V → Seen) (hosts : HostList) (taken : Taken)
+    (old new : WorkerState V)
     : Type 0 where
   pub group : Group
   pub outcome : IsCarriedTo (seen old.reader).catalogue.own hosts taken group

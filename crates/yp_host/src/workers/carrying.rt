@@ -1,29 +1,30 @@
 //! A transfer that a worker carries out.
 
 ghost use Rattle.std.specs.Prelude.{◌≡◌, ◌≢◌, ◌<◌, ◌≤◌, length, option_map, Err, IsSome};
-ghost use Rattle.yp_answer.specs.Transfer.{taken_view};
-ghost use Rattle.yp_shared.specs.Shares.{Learns};
-ghost use Rattle.yp_workhost.specs.Workers.{IsCarriedTo, IsInstalledTo};
-ghost use Rattle.yp_workhost.specs.Charges.{ChargesMore, cost_of_install, cost_of_transfer};
-ghost use Rattle.yp_workhost.specs.Charges.{files_at, orders_at, sources_at};
-ghost use Rattle.yp_workhost.specs.Wires.{orders_in, sources_in, IsAgedBy};
+ghost use Rattle.yp_answer.specs.inside.Transfer.{taken_view};
+ghost use Rattle.yp_publisher.specs.sharing.Shares.{Learns};
+ghost use Rattle.yp_host.specs.workers.Workers.{IsCarriedTo, IsInstalledTo};
+ghost use Rattle.yp_host.specs.inside.workers.Charges.{ChargesMore, cost_of_install, cost_of_transfer};
+ghost use Rattle.yp_host.specs.inside.workers.Charges.{files_at, orders_at, sources_at};
+ghost use Rattle.yp_host.specs.inside.workers.Wires.{orders_in, sources_in, IsAgedBy};
 
-use crate::charges::Charges;
-use crate::desk::{SharedDesk, Supplies};
-use crate::outcome::{Group, group_of, shared_stat};
+use crate::workers::charges::Charges;
+use crate::workers::desk::{SharedDesk, Supplies};
+use crate::workers::outcome::{Group, group_of, shared_stat};
 use std::alloc::Global;
 use std::random::RandomSource;
 use std::sync::{Mutex, Wait};
-use yp_answer::Errand;
+use yp_answer::TransferJob;
 use yp_board::{Tell, View};
 use yp_io::{Clock, Dial, Disk, Peer, Texts};
-use yp_msgs::XfrStat;
-use yp_publish::Origin;
-use yp_shared::{Accounts, Locked, Site, install_shared};
+use yp_messages::XfrStat;
+use yp_publisher::Origin;
+use yp_publisher::sharing::{Accounts, Locked, Site, install_shared};
+use yp_transfer::{Asker, XfrFault};
 use yp_version::Version;
-use yp_xfr::{Asker, XfrFault};
 
-/// Fetches the map of an errand and installs it, and tells the caller at `peer` what came of it, where it wants to be
+/// Fetches the map of a transfer job and installs it, and tells the caller at `peer` what came of it, where it wants
+/// to be
 /// told. The desk's lock is held while it is fetched, and again for the call back.
 pub(crate) fn carry_out<S, D, B, A, T, C, R>(
     alloc: Global,
@@ -32,7 +33,7 @@ pub(crate) fn carry_out<S, D, B, A, T, C, R>(
     desk: &Mutex<SharedDesk<S, A, T, C>>,
     reader: &mut B::Reader,
     charges: &mut Charges<S>,
-    errand: &Errand<'_>,
+    job: &TransferJob<'_>,
     peer: Peer,
 ) -> Group
 where
@@ -43,27 +44,27 @@ where
     T: Texts,
     C: Clock,
     R: RandomSource + Wait,
-    requires map { errand.now.map < length S.catalogue.maps }
-    requires named { 0 < length errand.now.source.now }
+    requires map { job.now.map < length S.catalogue.maps }
+    requires named { 0 < length job.now.source.now }
     requires catalogue { (B.Reader.seen reader.old).catalogue ≡ S.catalogue }
-    ensures outcome { IsCarriedTo S.catalogue.own S.hosts (taken_view errand.now) result
+    ensures outcome { IsCarriedTo S.catalogue.own S.hosts (taken_view job.now) result
         (B.Reader.seen reader.old).known (B.Reader.seen reader.new).known }
     ensures learned { Learns (B.Reader.seen reader.old) (B.Reader.seen reader.new) }
     ensures charged { ChargesMore (cost_of_transfer result) charges.old charges.new }
 {
-    let (group, stat) = fetch_and_install(alloc, rt, publisher, desk, reader, charges, errand);
+    let (group, stat) = fetch_and_install(alloc, rt, publisher, desk, reader, charges, job);
     let addr = peer.addr;
     let asker = Asker {
         addr,
-        prog: errand.prog,
-        port: errand.port,
-        transid: errand.transid,
+        prog: job.prog,
+        port: job.port,
+        transid: job.transid,
     };
     desk.lock(rt).tell_back(&asker, stat);
     group
 }
 
-/// Fetches the map of an errand and installs it: what that came to, and the status that the caller is told.
+/// Fetches the map of a transfer job and installs it: what that came to, and the status that the caller is told.
 fn fetch_and_install<S, D, B, A, T, C, R>(
     alloc: Global,
     rt: &R,
@@ -71,7 +72,7 @@ fn fetch_and_install<S, D, B, A, T, C, R>(
     desk: &Mutex<SharedDesk<S, A, T, C>>,
     reader: &mut B::Reader,
     charges: &mut Charges<S>,
-    errand: &Errand<'_>,
+    job: &TransferJob<'_>,
 ) -> (Group, XfrStat)
 where
     S: Site + Accounts + Supplies,
@@ -81,24 +82,24 @@ where
     T: Texts,
     C: Clock,
     R: RandomSource + Wait,
-    requires map { errand.now.map < length S.catalogue.maps }
-    requires named { 0 < length errand.now.source.now }
+    requires map { job.now.map < length S.catalogue.maps }
+    requires named { 0 < length job.now.source.now }
     requires catalogue { (B.Reader.seen reader.old).catalogue ≡ S.catalogue }
-    ensures outcome { IsCarriedTo S.catalogue.own S.hosts (taken_view errand.now) result.0
+    ensures outcome { IsCarriedTo S.catalogue.own S.hosts (taken_view job.now) result.0
         (B.Reader.seen reader.old).known (B.Reader.seen reader.new).known }
     ensures learned { Learns (B.Reader.seen reader.old) (B.Reader.seen reader.new) }
     ensures charged { ChargesMore (cost_of_transfer result.0) charges.old charges.new }
 {
-    let name = reader.catalog().name(errand.map);
-    let shown = order_of(reader.held(errand.map));
+    let name = reader.catalog().name(job.map);
+    let shown = order_of(reader.held(job.map));
     let fetched = desk
         .lock(rt)
-        .fetch(alloc, rt, errand.source, name, shown, charges);
+        .fetch(alloc, rt, job.source, name, shown, charges);
     match fetched {
         None => (Group::NoAddress, XfrStat::Maddr),
         Some(Err(fault)) => (failed_group(&fault, shown), fault.stat()),
         Some(Ok(version)) => {
-            install_for(alloc, rt, publisher, reader, charges, errand.map, version)
+            install_for(alloc, rt, publisher, reader, charges, job.map, version)
         },
     }
 }

@@ -2,29 +2,30 @@
 
 ghost use Rattle.std.specs.Prelude.{◌≡◌, ◌+◌, ◌<◌};
 ghost use Rattle.yp_board.specs.Views.{IsFront};
-ghost use Rattle.yp_workhost.specs.Charges.{IsCharged, charged_both, free_of_charge, no_totals, totals_plus};
+ghost use Rattle.yp_host.specs.workers.Charges.{no_totals, totals_plus};
+ghost use Rattle.yp_host.specs.inside.workers.Charges.{TotalsAreCharged, charged_both, free_of_charge};
 
-use crate::desk::{Orders, Sources, Supplies, Unread};
-use crate::outcome::Totals;
+use crate::workers::desk::{FailedSources, ReachedOrders, Supplies, UnreadTexts};
+use crate::workers::outcome::Totals;
 use std::marker::Model;
 use std::mem;
 use std::sync::ledger::Share;
 use yp_board::Tell;
-use yp_shared::{Accounts, Debits};
+use yp_publisher::sharing::{Accounts, Debits};
 
 /// What a worker is charged with, for contracts alone: shares of the ledgers of texts that weren't read, of orders that
 /// were reached and of sources that failed, and what it is charged with as it installs versions.
 #[derive(Drop)]
 pub struct Charges<S: Accounts + Supplies> {
-    pub(crate) unread: Share<Unread<S>>,
-    pub(crate) orders: Share<Orders<S>>,
-    pub(crate) sources: Share<Sources<S>>,
+    pub(crate) unread: Share<UnreadTexts<S>>,
+    pub(crate) orders: Share<ReachedOrders<S>>,
+    pub(crate) sources: Share<FailedSources<S>>,
     pub(crate) debits: Debits<S>,
 }
 
 impl<S: Accounts + Supplies> Model for Charges<S> {
     ghost use Rattle.std.specs.Prelude.{◌≡◌, ◌<◌};
-    ghost use Rattle.yp_workhost.specs.Charges.{Charged};
+    ghost use Rattle.yp_host.specs.inside.workers.Charges.{Charged};
 
     ghost Value = { Charged };
 
@@ -45,9 +46,9 @@ impl<S: Accounts + Supplies> Model for Charges<S> {
 impl<S: Accounts + Supplies> Charges<S> {
     /// Charges of these shares.
     pub fn new(
-        unread: Share<Unread<S>>,
-        orders: Share<Orders<S>>,
-        sources: Share<Sources<S>>,
+        unread: Share<UnreadTexts<S>>,
+        orders: Share<ReachedOrders<S>>,
+        sources: Share<FailedSources<S>>,
         debits: Debits<S>,
     ) -> Charges<S>
         requires some { 0 < unread.parts }
@@ -106,9 +107,9 @@ impl<S: Accounts + Supplies> Charges<S> {
     pub fn into_shares(
         self,
     ) -> (
-        Share<Unread<S>>,
-        Share<Orders<S>>,
-        Share<Sources<S>>,
+        Share<UnreadTexts<S>>,
+        Share<ReachedOrders<S>>,
+        Share<FailedSources<S>>,
         Debits<S>,
     )
         ensures unread { result.0.amount ≡ self.unread }
@@ -139,13 +140,13 @@ pub struct Account<S: Accounts + Supplies, B: Tell> {
 
 impl<S: Accounts + Supplies, B: Tell> Model for Account<S, B> {
     ghost use Rattle.std.specs.Prelude.{◌<◌};
-    ghost use Rattle.yp_workhost.specs.Charges.{Accounted, IsCharged};
+    ghost use Rattle.yp_host.specs.inside.workers.Charges.{Accounted, TotalsAreCharged};
 
     ghost Value = { Accounted };
 
     ghost view = { λ a. record { totals = a.totals; reached = B.kept a.front } };
 
-    ghost invariant = { λ a. (1 < a.charges.parts) × IsCharged a.totals a.charges };
+    ghost invariant = { λ a. (1 < a.charges.parts) × TotalsAreCharged a.totals a.charges };
 }
 
 impl<S: Accounts + Supplies, B: Tell> Account<S, B> {
@@ -164,7 +165,7 @@ impl<S: Accounts + Supplies, B: Tell> Account<S, B> {
     /// Takes in what a worker has counted and is charged with for it, and what it knows. The worker is charged with
     /// nothing then.
     pub(crate) fn take_in(&mut self, totals: Totals, charges: &mut Charges<S>, reader: &B::Reader)
-        requires { IsCharged totals charges.old }
+        requires { TotalsAreCharged totals charges.old }
         ensures totals { self.new.totals ≡ totals_plus self.old.totals totals }
         ensures covered { IsFront (B.Reader.seen reader.now).known self.new.reached }
         ensures kept { IsFront self.old.reached self.new.reached }
@@ -180,7 +181,7 @@ impl<S: Accounts + Supplies, B: Tell> Account<S, B> {
     /// What was counted, what that is charged with, and what was known.
     pub fn into_parts(self) -> (Totals, Charges<S>, B::Front)
         ensures totals { result.0 ≡ self.totals }
-        ensures charged { IsCharged result.0 result.1 }
+        ensures charged { TotalsAreCharged result.0 result.1 }
         ensures reached { B.kept result.2 ≡ self.reached }
     {
         let Account {

@@ -4,35 +4,39 @@ ghost use Rattle.std.specs.Prelude.{◌≡◌, ℕ, ◌+◌, ◌<◌, ◌≤◌,
 ghost use Rattle.std.specs.Prelude.{IsNone};
 ghost use Rattle.std.specs.Option.{option_map_or};
 ghost use Rattle.yp_version.specs.Limits.{master_max};
-ghost use Rattle.yp_build.specs.After.{basis_of, IsOver};
+ghost use Rattle.yp_texts.specs.After.{basis_of, HasLaterOrder};
 ghost use Rattle.yp_answer.specs.Causes.{IsAnew};
-ghost use Rattle.yp_io.specs.Dials.{dial_tells};
-ghost use Rattle.yp_msgs.specs.Numbers.{name_max};
-ghost use Rattle.yp_xfr.specs.CallBack.{wants_call, CallsBack};
-ghost use Rattle.yp_xfr.specs.HostTable.{find};
-ghost use Rattle.yp_server.specs.Locals.{telling_of, IsUsed, LeavesDial};
-ghost use Rattle.yp_server.specs.Anew.{IsUnbuilt};
-ghost use Rattle.yp_workhost.specs.Desks.{texts_alone, telling_texts, IsSupplied};
-ghost use Rattle.yp_workhost.specs.Charges.{CoversUnread, unread_in};
-ghost use Rattle.yp_workhost.specs.Wires.{CoversBy, CoversOrders, CoversSources, IsGood, IsAgedBy};
-ghost use Rattle.yp_workhost.specs.Wires.{orders_in, sources_in, versions_in};
+ghost use Rattle.yp_transfer.specs.inside.Dials.{dial_by};
+ghost use Rattle.yp_messages.specs.Numbers.{name_max};
+ghost use Rattle.yp_transfer.specs.CallBack.{wants_call, CallsBack};
+ghost use Rattle.yp_transfer.specs.HostTable.{find};
+ghost use Rattle.yp_host.specs.Locals.{IsUsed, LeavesDial};
+ghost use Rattle.yp_host.specs.inside.Locals.{telling_by};
+ghost use Rattle.yp_host.specs.Anew.{IsUnbuilt};
+ghost use Rattle.yp_host.specs.workers.Desks.{texts_alone};
+ghost use Rattle.yp_host.specs.inside.workers.Desks.{telling_texts, IsSupplied};
+ghost use Rattle.yp_host.specs.inside.workers.Charges.{CoversUnread, unread_in};
+ghost use Rattle.yp_host.specs.workers.Wires.{CoversBy, CoversOrders, CoversSources, IsGood};
+ghost use Rattle.yp_host.specs.inside.workers.Wires.{IsAgedBy};
+ghost use Rattle.yp_host.specs.inside.workers.Wires.{orders_in, sources_in, versions_in};
 ghost use Rattle.yp_board.specs.Catalogues.{name_view};
-ghost use Rattle.yp_workhost.specs.Uses.{IsAmong, IsUsedForTransfers, dial_told};
+ghost use Rattle.yp_host.specs.workers.Uses.{IsAmong, IsUsedForTransfers};
+ghost use Rattle.yp_host.specs.inside.workers.Uses.{dial_told};
 
-use crate::charges::Charges;
+use crate::workers::charges::Charges;
+use crate::{Desk, build_anew};
 use std::alloc::Global;
 use std::marker::{Brand, Model, PhantomData};
 use std::random::RandomSource;
 use std::sync::ledger::{Book, Ledger, Share};
 use yp_board::MapName;
-use yp_build::Kind;
 use yp_io::{Clock, Dial, Texts};
-use yp_msgs::XfrStat;
-use yp_server::{Desk, build_anew};
-use yp_shared::{Accounts, Site, Versions};
+use yp_messages::XfrStat;
+use yp_publisher::sharing::{Accounts, FetchedVersions, Site};
+use yp_texts::Kind;
+use yp_transfer::laws::fetched_is_one;
+use yp_transfer::{Asker, XfrFault, fetch_from, tell_back};
 use yp_version::Version;
-use yp_xfr::laws::fetched_is_one;
-use yp_xfr::{Asker, XfrFault, fetch_from, tell_back};
 
 /// What a desk of a site has, whoever uses it: it never changes; how often its texts and its dial had failed before it
 /// was shared, and which wires its dial had and what it had sent; and the ledgers of what is counted since then. Each
@@ -42,7 +46,7 @@ pub trait Supplies {
     ghost use Rattle.yp_io.specs.declared.stream.Peer.{Peer};
     ghost use Rattle.yp_io.specs.declared.texts.TextFile.{TextFile};
     ghost use Rattle.yp_io.specs.Dials.{Wires};
-    ghost use Rattle.yp_xfr.specs.HostTable.{HostList};
+    ghost use Rattle.yp_transfer.specs.HostTable.{HostList};
 
     /// The bytes of each text, where they are told.
     ghost text: { TextFile → Option (List ℕ) };
@@ -96,11 +100,11 @@ impl Supplies for Brand {
 
 /// The ledger of the texts of a site that weren't read.
 #[derive(Drop)]
-pub struct Unread<S: Accounts + Supplies> {
+pub struct UnreadTexts<S: Accounts + Supplies> {
     of: PhantomData<S>,
 }
 
-impl<S: Accounts + Supplies> Ledger for Unread<S> {
+impl<S: Accounts + Supplies> Ledger for UnreadTexts<S> {
     ghost name = { S.unread };
 
     ghost parts = { S.shares };
@@ -108,11 +112,11 @@ impl<S: Accounts + Supplies> Ledger for Unread<S> {
 
 /// The ledger of the orders that the fetches of a site reached.
 #[derive(Drop)]
-pub struct Orders<S: Accounts + Supplies> {
+pub struct ReachedOrders<S: Accounts + Supplies> {
     of: PhantomData<S>,
 }
 
-impl<S: Accounts + Supplies> Ledger for Orders<S> {
+impl<S: Accounts + Supplies> Ledger for ReachedOrders<S> {
     ghost name = { S.orders };
 
     ghost parts = { S.shares };
@@ -120,11 +124,11 @@ impl<S: Accounts + Supplies> Ledger for Orders<S> {
 
 /// The ledger of the sources that failed the fetches of a site.
 #[derive(Drop)]
-pub struct Sources<S: Accounts + Supplies> {
+pub struct FailedSources<S: Accounts + Supplies> {
     of: PhantomData<S>,
 }
 
-impl<S: Accounts + Supplies> Ledger for Sources<S> {
+impl<S: Accounts + Supplies> Ledger for FailedSources<S> {
     ghost name = { S.sources };
 
     ghost parts = { S.shares };
@@ -136,19 +140,20 @@ impl<S: Accounts + Supplies> Ledger for Sources<S> {
 #[derive(Drop)]
 pub struct SharedDesk<S: Site + Accounts + Supplies, A: Dial, T: Texts, C: Clock> {
     desk: Desk<A, T, C>,
-    unread: Book<Unread<S>>,
-    orders: Book<Orders<S>>,
-    sources: Book<Sources<S>>,
-    versions: Book<Versions<S>>,
+    unread: Book<UnreadTexts<S>>,
+    orders: Book<ReachedOrders<S>>,
+    sources: Book<FailedSources<S>>,
+    versions: Book<FetchedVersions<S>>,
 }
 
 impl<S: Site + Accounts + Supplies, A: Dial, T: Texts, C: Clock> Model for SharedDesk<S, A, T, C> {
-    ghost use Rattle.yp_server.specs.declared.desk.Desk.{Desk};
-    ghost use Rattle.yp_workhost.specs.Desks.{IsSupplied};
-    ghost use Rattle.yp_workhost.specs.Charges.{CoversUnread};
-    ghost use Rattle.yp_workhost.specs.Wires.{CoversBy, CoversOrders, CoversSources, IsGood};
-    ghost use Rattle.yp_io.specs.Dials.{dial_tells};
-    ghost use Rattle.yp_workhost.specs.Uses.{IsUsedForTransfers, dial_told};
+    ghost use Rattle.yp_host.specs.declared.desk.Desk.{Desk};
+    ghost use Rattle.yp_host.specs.inside.workers.Desks.{IsSupplied};
+    ghost use Rattle.yp_host.specs.inside.workers.Charges.{CoversUnread};
+    ghost use Rattle.yp_host.specs.workers.Wires.{CoversBy, CoversOrders, CoversSources, IsGood};
+    ghost use Rattle.yp_transfer.specs.inside.Dials.{dial_by};
+    ghost use Rattle.yp_host.specs.workers.Uses.{IsUsedForTransfers};
+    ghost use Rattle.yp_host.specs.inside.workers.Uses.{dial_told};
 
     ghost Value = { Desk A T C };
 
@@ -160,17 +165,17 @@ impl<S: Site + Accounts + Supplies, A: Dial, T: Texts, C: Clock> Model for Share
         × CoversSources S.wires (A.past d.desk.dial) S.dial_faults (A.faults d.desk.dial) d.sources.total
         × CoversBy IsGood S.wires (A.past d.desk.dial) d.versions.total
         × IsUsedForTransfers S.hosts S.catalogue.maps (dial_told S.wires S.letters S.dial_faults)
-        (dial_tells A.past A.letters A.faults d.desk.dial) };
+        (dial_by A.Dial d.desk.dial) };
 }
 
 impl<S: Site + Accounts + Supplies, A: Dial, T: Texts, C: Clock> SharedDesk<S, A, T, C> {
     /// A desk that has what its site says, with the books of what is counted from now on.
     pub fn new(
         desk: Desk<A, T, C>,
-        unread: Book<Unread<S>>,
-        orders: Book<Orders<S>>,
-        sources: Book<Sources<S>>,
-        versions: Book<Versions<S>>,
+        unread: Book<UnreadTexts<S>>,
+        orders: Book<ReachedOrders<S>>,
+        sources: Book<FailedSources<S>>,
+        versions: Book<FetchedVersions<S>>,
     ) -> SharedDesk<S, A, T, C>
         requires supplied { IsSupplied T.Texts S.text S.hosts desk }
         requires before { (T.faults desk.texts ≡ S.text_faults) × (A.past desk.dial ≡ S.wires)
@@ -192,10 +197,10 @@ impl<S: Site + Accounts + Supplies, A: Dial, T: Texts, C: Clock> SharedDesk<S, A
     /// used for transfers of the maps of its site alone.
     pub fn close(
         self,
-        unread: &mut Share<Unread<S>>,
-        orders: &mut Share<Orders<S>>,
-        sources: &mut Share<Sources<S>>,
-        versions: &mut Share<Versions<S>>,
+        unread: &mut Share<UnreadTexts<S>>,
+        orders: &mut Share<ReachedOrders<S>>,
+        sources: &mut Share<FailedSources<S>>,
+        versions: &mut Share<FetchedVersions<S>>,
     ) -> Desk<A, T, C>
         ensures desk { result ≡ self }
         ensures supplied { IsSupplied T.Texts S.text S.hosts result }
@@ -205,7 +210,7 @@ impl<S: Site + Accounts + Supplies, A: Dial, T: Texts, C: Clock> SharedDesk<S, A
             → CoversSources S.wires (A.past result.dial) S.dial_faults (A.faults result.dial) n }
         ensures versions { (n : ℕ) → n ≤ versions.old.amount → CoversBy IsGood S.wires (A.past result.dial) n }
         ensures dialed { IsUsedForTransfers S.hosts S.catalogue.maps (dial_told S.wires S.letters S.dial_faults)
-            (dial_tells A.past A.letters A.faults result.dial) }
+            (dial_by A.Dial result.dial) }
     {
         let mut shared = self;
         shared.unread.audit(unread);
@@ -235,12 +240,11 @@ impl<S: Site + Accounts + Supplies, A: Dial, T: Texts, C: Clock> SharedDesk<S, A
         requires { length own.now ≤ master_max }
         ensures anew { IfOk result (IsAnew (texts_alone S.text)
             (basis_of kind own.now None (option_map (λ version. version.now) shown.entry))) }
-        ensures over { IfOk result (IsOver (option_map (λ version. version.now) shown.entry)) }
-        ensures unbuilt { IfErr result (λ stat. IsUnbuilt
-            (telling_texts S.text (telling_of T.Texts C.Clock A.past A.letters A.faults))
+        ensures over { IfOk result (HasLaterOrder (option_map (λ version. version.now) shown.entry)) }
+        ensures unbuilt { IfErr result (λ stat. IsUnbuilt (telling_texts S.text (telling_by T.Texts C.Clock A.Dial))
             (basis_of kind own.now None (option_map (λ version. version.now) shown.entry)) stat self.old self.new) }
-        ensures desk { IsUsed (telling_of T.Texts C.Clock A.past A.letters A.faults) self.old self.new }
-        ensures dial { LeavesDial (telling_of T.Texts C.Clock A.past A.letters A.faults) self.old self.new }
+        ensures desk { IsUsed (telling_by T.Texts C.Clock A.Dial) self.old self.new }
+        ensures dial { LeavesDial (telling_by T.Texts C.Clock A.Dial) self.old self.new }
         ensures charged { charges.new ≡ record charges.old { unread = charges.old.unread + unread_in result } }
     {
         let built = build_anew(alloc, rt, &mut self.desk, kind, own, shown);
@@ -293,7 +297,7 @@ impl<S: Site + Accounts + Supplies, A: Dial, T: Texts, C: Clock> SharedDesk<S, A
     /// Tells a caller the status of a transfer, where it wants to be told.
     pub(crate) fn tell_back(&mut self, asker: &Asker, stat: XfrStat)
         ensures { CallsBack (wants_call asker.now) asker.now stat
-            (dial_tells A.past A.letters A.faults self.old.dial) (dial_tells A.past A.letters A.faults self.new.dial) }
+            (dial_by A.Dial self.old.dial) (dial_by A.Dial self.new.dial) }
     {
         tell_back(&mut self.desk.dial, asker, stat);
     }
@@ -301,7 +305,7 @@ impl<S: Site + Accounts + Supplies, A: Dial, T: Texts, C: Clock> SharedDesk<S, A
 
 /// Charges a version, where one was fetched.
 fn charge_version<S: Accounts + Supplies>(
-    book: &mut Book<Versions<S>>,
+    book: &mut Book<FetchedVersions<S>>,
     charges: &mut Charges<S>,
     fetched: &Result<Version, XfrFault>,
 )

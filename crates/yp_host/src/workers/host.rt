@@ -2,27 +2,27 @@
 
 ghost use Rattle.std.specs.Prelude.{◌≡◌, OnErr};
 ghost use Rattle.std.proofs.Common.{ap};
-ghost use Rattle.yp_shared.specs.Shares.{Learns};
-ghost use Rattle.yp_workhost.specs.Desks.{texts_alone};
-ghost use Rattle.yp_workhost.specs.Makings.{Builds};
-ghost use Rattle.yp_workhost.specs.Workers.{counts_of, Stepped, Made, Carried};
-ghost use Rattle.yp_workhost.specs.Charges.{no_totals, totals_of, totals_plus};
+ghost use Rattle.yp_publisher.specs.sharing.Shares.{Learns};
+ghost use Rattle.yp_host.specs.workers.Desks.{texts_alone};
+ghost use Rattle.yp_host.specs.inside.workers.Makings.{SiteBuilds};
+ghost use Rattle.yp_host.specs.workers.Workers.{counts_of, Stepped, WorkerMakesMap, WorkerTransfersMap};
+ghost use Rattle.yp_host.specs.workers.Charges.{no_totals, totals_of, totals_plus};
 
-use crate::carrying::carry_out;
-use crate::charges::{Account, Charges};
-use crate::desk::{SharedDesk, Supplies};
-use crate::making::make_shared;
-use crate::outcome::{Outcomes, Totals, files_after, made_after};
+use crate::workers::carrying::carry_out;
+use crate::workers::charges::{Account, Charges};
+use crate::workers::desk::{SharedDesk, Supplies};
+use crate::workers::making::make_shared;
+use crate::workers::outcome::{Outcomes, Totals, files_after, made_after};
 use std::alloc::Global;
 use std::marker::Model;
 use std::random::RandomSource;
 use std::sync::{Mutex, Wait};
-use yp_answer::{Errand, Job};
+use yp_answer::session::Host;
+use yp_answer::{MakeJob, TransferJob};
 use yp_board::{Catalog, Tell, View};
 use yp_io::{Clock, Dial, Disk, NoMemory, Peer, Texts};
-use yp_msgs::XfrStat;
-use yp_session::Host;
-use yp_shared::{Accounts, Locked, Site, tell_shared};
+use yp_messages::XfrStat;
+use yp_publisher::sharing::{Accounts, Locked, Site, tell_shared};
 use yp_version::Version;
 use yp_worker::{CatchUp, HandsOver};
 
@@ -61,11 +61,11 @@ impl<
     R: RandomSource + Wait,
 > Model for WorkerHost<'a, S, D, B, A, T, C, R> {
     ghost use Rattle.std.specs.Prelude.{◌≡◌};
-    ghost use Rattle.yp_workhost.specs.Workers.{Worker};
-    ghost use Rattle.yp_workhost.specs.Charges.{IsCharged};
-    ghost use Rattle.yp_workhost.specs.Makings.{Builds};
+    ghost use Rattle.yp_host.specs.workers.Workers.{WorkerState};
+    ghost use Rattle.yp_host.specs.inside.workers.Charges.{TotalsAreCharged};
+    ghost use Rattle.yp_host.specs.inside.workers.Makings.{SiteBuilds};
 
-    ghost Value = { Worker B.Reader };
+    ghost Value = { WorkerState B.Reader };
 
     ghost view = { λ h. record {
       reader = h.reader;
@@ -75,8 +75,8 @@ impl<
       outcomes = h.totals.outcomes;
     } };
 
-    ghost invariant = { λ h. ((B.Reader.seen h.reader).catalogue ≡ S.catalogue) × IsCharged h.totals h.charges
-        × Builds S.text S.catalogue S.built };
+    ghost invariant = { λ h. ((B.Reader.seen h.reader).catalogue ≡ S.catalogue) × TotalsAreCharged h.totals h.charges
+        × SiteBuilds S.text S.catalogue S.built };
 }
 
 impl<
@@ -101,7 +101,7 @@ impl<
         charges: Charges<S>,
     ) -> WorkerHost<'a, S, D, B, A, T, C, R>
         requires catalogue { (B.Reader.seen reader).catalogue ≡ S.catalogue }
-        requires builds { Builds S.text S.catalogue S.built }
+        requires builds { SiteBuilds S.text S.catalogue S.built }
         ensures { result ≡ record {
           reader = reader;
           files = 0;
@@ -197,9 +197,9 @@ impl<
 
     ghost counts = { counts_of };
 
-    ghost made = { Made B.Reader.seen S.text };
+    ghost made = { WorkerMakesMap B.Reader.seen S.text };
 
-    fn make(&mut self, job: Job) -> XfrStat {
+    fn make(&mut self, job: MakeJob) -> XfrStat {
         let mut desk = self.desk.lock(&self.rt);
         let stat = make_shared(
             self.alloc,
@@ -215,9 +215,9 @@ impl<
         stat
     }
 
-    ghost carried = { λ taken peer. Carried B.Reader.seen S.hosts taken };
+    ghost carried = { λ taken peer. WorkerTransfersMap B.Reader.seen S.hosts taken };
 
-    fn transfer(&mut self, errand: &Errand<'_>, peer: Peer) {
+    fn transfer(&mut self, job: &TransferJob<'_>, peer: Peer) {
         let group = carry_out(
             self.alloc,
             &self.rt,
@@ -225,7 +225,7 @@ impl<
             self.desk,
             &mut self.reader,
             &mut self.charges,
-            errand,
+            job,
             peer,
         );
         self.totals.transfers = self.totals.transfers.saturating_add(1);

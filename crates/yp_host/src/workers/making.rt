@@ -3,24 +3,25 @@
 ghost use Rattle.std.specs.Prelude.{◌≡◌, ◌<◌, None, length, IfSome};
 ghost use Rattle.std.specs.Option.{option_map_or};
 ghost use Rattle.yp_answer.specs.Make.{IsKindOf};
-ghost use Rattle.yp_shared.specs.Shares.{Learns};
-ghost use Rattle.yp_workhost.specs.Desks.{texts_alone};
-ghost use Rattle.yp_workhost.specs.Makings.{Builds, IsMadeSo, IsOvertaken};
-ghost use Rattle.yp_workhost.specs.Charges.{ChargesMore, cost_of_make, no_cost};
+ghost use Rattle.yp_publisher.specs.sharing.Shares.{Learns};
+ghost use Rattle.yp_host.specs.workers.Desks.{texts_alone};
+ghost use Rattle.yp_host.specs.workers.Makings.{IsMadeSo};
+ghost use Rattle.yp_host.specs.inside.workers.Makings.{SiteBuilds, IsOvertaken};
+ghost use Rattle.yp_host.specs.inside.workers.Charges.{ChargesMore, cost_of_make, no_cost};
 
-use crate::charges::Charges;
-use crate::desk::{SharedDesk, Supplies};
-use crate::outcome::shared_stat;
+use crate::workers::charges::Charges;
+use crate::workers::desk::{SharedDesk, Supplies};
+use crate::workers::outcome::shared_stat;
 use std::alloc::Global;
 use std::random::RandomSource;
 use std::sync::{Mutex, Wait};
-use yp_answer::Job;
+use yp_answer::MakeJob;
 use yp_board::{Tell, View};
-use yp_build::laws::built_is_built_behind;
 use yp_io::{Clock, Dial, Disk, NoMemory, Texts};
-use yp_msgs::XfrStat;
-use yp_publish::Origin;
-use yp_shared::{Accounts, Locked, Site, install_shared, tell_shared};
+use yp_messages::XfrStat;
+use yp_publisher::Origin;
+use yp_publisher::sharing::{Accounts, Locked, Site, install_shared, tell_shared};
+use yp_texts::laws::built_is_built_behind;
 
 /// Makes a map anew, behind all that was shown, and lets the reader know it. Where another version of the map is shown
 /// meanwhile, it is built again behind that, so the orders of the map rise with each round.
@@ -31,7 +32,7 @@ pub(crate) fn make_shared<S, D, B, A, T, C, R>(
     desk: &mut SharedDesk<S, A, T, C>,
     reader: &mut B::Reader,
     charges: &mut Charges<S>,
-    job: Job,
+    job: MakeJob,
 ) -> XfrStat
 where
     S: Site + Accounts + Supplies,
@@ -41,7 +42,7 @@ where
     T: Texts,
     C: Clock,
     R: RandomSource + Wait,
-    requires builds { Builds S.text S.catalogue S.built }
+    requires builds { SiteBuilds S.text S.catalogue S.built }
     requires map { job.map < length S.catalogue.maps }
     requires kind { IsKindOf S.catalogue job.map job.kind }
     requires catalogue { (B.Reader.seen reader.old).catalogue ≡ S.catalogue }
@@ -69,7 +70,7 @@ fn make_behind<S, D, B, A, T, C, R>(
     desk: &mut SharedDesk<S, A, T, C>,
     reader: &mut B::Reader,
     charges: &mut Charges<S>,
-    job: Job,
+    job: MakeJob,
 ) -> Option<XfrStat>
 where
     S: Site + Accounts + Supplies,
@@ -79,7 +80,7 @@ where
     T: Texts,
     C: Clock,
     R: RandomSource + Wait,
-    requires builds { Builds S.text S.catalogue S.built }
+    requires builds { SiteBuilds S.text S.catalogue S.built }
     requires map { job.map < length S.catalogue.maps }
     requires kind { IsKindOf S.catalogue job.map job.kind }
     requires catalogue { (B.Reader.seen reader.old).catalogue ≡ S.catalogue }

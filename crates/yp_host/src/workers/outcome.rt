@@ -1,14 +1,15 @@
 //! What transfers came to, and how often.
 
 ghost use Rattle.std.specs.Prelude.{◌≡◌};
-ghost use Rattle.yp_workhost.specs.Outcomes.{counted_in, group_of, shared_stat};
-ghost use Rattle.yp_workhost.specs.Workers.{files_after, made_after};
-ghost use Rattle.yp_workhost.specs.Charges.{no_outcomes, no_totals, outcomes_plus, totals_plus};
+ghost use Rattle.yp_host.specs.workers.Outcomes.{counted_in};
+ghost use Rattle.yp_host.specs.inside.workers.Outcomes.{group_of, shared_stat};
+ghost use Rattle.yp_host.specs.workers.Workers.{files_after, made_after};
+ghost use Rattle.yp_host.specs.workers.Charges.{no_outcomes, no_totals, outcomes_plus, totals_plus};
 
-use yp_msgs::XfrStat;
-use yp_publish::InstallFault;
-use yp_shared::ShareFault;
-use yp_slot::SlotFault;
+use yp_map_file::SlotFault;
+use yp_messages::XfrStat;
+use yp_publisher::InstallFault;
+use yp_publisher::sharing::ShareFault;
 
 /// What a transfer came to.
 #[derive(Clone, Copy, Debug, PartialEq, Eq)]
@@ -62,7 +63,7 @@ impl Outcomes {
         }
     }
 
-    /// These transfers and others.
+    /// The sum of two counts of transfers.
     fn plus(self, other: Outcomes) -> Outcomes
         ensures { result ≡ outcomes_plus self other }
     {
@@ -102,7 +103,7 @@ impl Totals {
         }
     }
 
-    /// These and others.
+    /// The sum of two totals.
     pub(crate) fn plus(self, other: Totals) -> Totals
         ensures { result ≡ totals_plus self other }
     {

@@ -1,7 +1,7 @@
 -- What follows from the words on disks: the proofs of the laws of a disk that tells its history.
 use Rattle.std.specs.Prelude.{◌≡◌, ◌⊎◌, ℕ, suc, ◌-◌, List, [], ◌∷◌, ◌++◌, length, take, Option, None, Some}
 use Rattle.std.proofs.Common.{refl, sym, ◌∙◌, ap, subst, inl, inr, ⊎_elim, arith, append_assoc, length-append, take_at}
-use Rattle.yp_io.specs.Disk.{DiskState, IsImage, History, states, moment, LeftIn, LeftSince, Continues, GoesOn}
+use Rattle.yp_io.specs.Disk.{DiskState, IsImage, History, states, moment, LeftIn, LeftSince, Continues, HistoryGoesOn}
 use Rattle.yp_io.specs.Disk.{LeftBetween, MayLeave}
 
 left_in_either : (xs ys : List DiskState) (image : List ℕ) → LeftIn (xs ++ ys) image → LeftIn xs image ⊎ LeftIn ys image
@@ -35,7 +35,7 @@ to_between : (old new : History) (went : Continues old new) (image : List ℕ)
 to_between old new went image left =
     subst (λ (l : List DiskState). LeftIn l image) (sym (since_is old new went.steps went.follow)) left
 
-pub stays : (history : Option History) → GoesOn history history
+pub stays : (history : Option History) → HistoryGoesOn history history
 stays None = tt
 stays (Some h) = record { steps = []; follow = refl }
 
@@ -52,7 +52,7 @@ newest old new (step ∷ steps) follow image now =
     let first : LeftIn (step ∷ []) image = subst (λ (l : List DiskState). LeftIn (take 1 l) image) follow (inl now) in
     ⊎_elim (λ here. inl here) (λ none. absurd none) first
 
-pub counts_now : (old new : Option History) (image : List ℕ) → GoesOn old new → MayLeave new image
+pub counts_now : (old new : Option History) (image : List ℕ) → HistoryGoesOn old new → MayLeave new image
     → LeftBetween old new image
 counts_now None None image went now = absurd now
 counts_now None (Some new) image went now = absurd went
@@ -68,7 +68,8 @@ continues_twice old middle new first second = record {
       ∙ sym (append_assoc second.steps first.steps (states old));
 }
 
-pub goes_on : (old middle new : Option History) → GoesOn old middle → GoesOn middle new → GoesOn old new
+pub goes_on : (old middle new : Option History) → HistoryGoesOn old middle → HistoryGoesOn middle new
+    → HistoryGoesOn old new
 goes_on None None None first second = tt
 goes_on None None (Some new) first second = second
 goes_on None (Some middle) new first second = absurd first
@@ -76,7 +77,7 @@ goes_on (Some old) None new first second = absurd first
 goes_on (Some old) (Some middle) None first second = absurd second
 goes_on (Some old) (Some middle) (Some new) first second = continues_twice old middle new first second
 
-pub splits : (old middle new : Option History) (image : List ℕ) → GoesOn old middle → GoesOn middle new
+pub splits : (old middle new : Option History) (image : List ℕ) → HistoryGoesOn old middle → HistoryGoesOn middle new
     → LeftBetween old new image → LeftBetween old middle image ⊎ LeftBetween middle new image
 unfolding continues_twice
 splits None middle new image first second left = absurd left

@@ -1,7 +1,8 @@
 -- What the forms in memory keep.
 use Rattle.std.specs.Prelude.{ℕ, ◌<◌, Bool, List, length, Result, Ok, Err, MatchOption, ⊤}
 use Rattle.yp_io.specs.Counts.{next_count}
-use Rattle.yp_io.specs.Texts.{text_max, text_of}
+use Rattle.yp_io.specs.Texts.{text_max}
+use Rattle.yp_io.specs.inside.Texts.{text_of}
 use Rattle.yp_io.specs.declared.texts.TextFile.{TextFile}
 use Rattle.yp_io.specs.declared.texts.TextFault.{TextFault}
 use Rattle.yp_io.specs.declared.texts.TextFault.TheVariants.{Failed, NoMemory}

@@ -4,7 +4,7 @@ use Rattle.yp_io.specs.declared.stream.Pair.{Pair}
 use Rattle.yp_io.specs.declared.stream.Peer.{Peer}
 use Rattle.yp_io.specs.declared.dial.Letter.{Letter}
 use Rattle.yp_io.specs.declared.mem_dial.MemDialed.{MemDialed}
-use Rattle.yp_io.specs.Mem.{Feed, Drain}
+use Rattle.yp_io.specs.inside.Mem.{Feed, Drain}
 use Rattle.yp_io.specs.Dials.{Wires, Connected, connected, WireState, wire_state, IsFresh}
 
 -- a wire in memory
@@ -43,5 +43,5 @@ wires_of dial =
     if dial.lost then None else Some (record { came = map connected_of dial.came; back = map ended_of dial.back })
 
 -- a wire that has met no fault and taken nothing
-abbrev pub IsNew : Wire → Type 0
-IsNew wire = IsFresh wire.source.faults wire.sink.faults (Some wire.sink.output)
+abbrev pub WireIsNew : Wire → Type 0
+WireIsNew wire = IsFresh wire.source.faults wire.sink.faults (Some wire.sink.output)

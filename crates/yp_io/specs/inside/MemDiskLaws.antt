@@ -7,8 +7,9 @@ use Rattle.std.proofs.lemmas.List.{places}
 use Rattle.std.proofs.lemmas.Bool.Decides.{nat_tests}
 use Rattle.yp_io.specs.Disk.{DiskState, IsImage, Torn, History, is_written, overwritten, touched, written_at}
 use Rattle.yp_io.specs.Disk.{after_sync, IsReadAnImage}
-use Rattle.yp_io.specs.MemDisk.{DiskStep, Wrote, Synced, fresh, after_step, played, unsynced_after, placed, with_kept}
-use Rattle.yp_io.specs.MemDisk.{crashed}
+use Rattle.yp_io.specs.inside.MemDisk.{DiskStep, Wrote, Synced, fresh, after_step, played, unsynced_after, placed}
+use Rattle.yp_io.specs.inside.MemDisk.{with_kept}
+use Rattle.yp_io.specs.inside.MemDisk.{crashed}
 
 length-overwritten : (at : ℕ) (piece old : List ℕ) → at ≤ length old
     → length (overwritten at piece old) ≡ max (length old) (at + length piece)

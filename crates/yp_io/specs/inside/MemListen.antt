@@ -1,9 +1,9 @@
 -- What a listener in memory keeps.
 use Rattle.std.specs.Prelude.{ℕ, Bool, List, map, Option, Some}
-use Rattle.yp_io.specs.Mem.{Feed, Drain}
+use Rattle.yp_io.specs.inside.Mem.{Feed, Drain}
 use Rattle.yp_io.specs.declared.called.Called.{Called}
 use Rattle.yp_io.specs.Dials.{Connected}
-use Rattle.yp_io.specs.Calls.{Calls, Ended, Halves, IsFreshCall, came_by, ended_by}
+use Rattle.yp_io.specs.Calls.{ListenerHistory, ClosedConnection, Halves, IsFreshCall, came_by, ended_by}
 
 -- a connection in memory
 abbrev pub MemConnection : Type 0
@@ -19,7 +19,7 @@ pub record Closing : Type 0 where
 -- a listener: the connections that will come, each that came, as it was then, the closers that were taken in, whether
 -- there was no memory to keep one, how many are to be accepted and how many were, how many were closed, and which calls
 -- fail
-pub record Door : Type 0 where
+pub record MemListenModel : Type 0 where
   pub waiting : List MemConnection
   pub came : List MemConnection
   pub closers : List Closing
@@ -45,15 +45,15 @@ mem_halves = record {
 abbrev pub connected_of : MemConnection → Connected
 connected_of call = came_by mem_halves call
 
-abbrev pub ended_of : MemConnection → Ended
+abbrev pub ended_of : MemConnection → ClosedConnection
 ended_of call = ended_by mem_halves call
 
 -- the connections that a closer has closed
-abbrev pub closed_of : Closing → List Ended
+abbrev pub closed_of : Closing → List ClosedConnection
 closed_of closer = map ended_of closer.closed
 
 -- its connections
-abbrev pub calls_of : Door → Option Calls
+abbrev pub calls_of : MemListenModel → Option ListenerHistory
 calls_of door = Some (record {
   coming = map connected_of door.waiting;
   came = map connected_of door.came;
@@ -61,5 +61,5 @@ calls_of door = Some (record {
 })
 
 -- a connection as it comes
-abbrev pub IsNew : MemConnection → Type 0
-IsNew call = IsFreshCall mem_halves call
+abbrev pub ConnectionIsNew : MemConnection → Type 0
+ConnectionIsNew call = IsFreshCall mem_halves call

@@ -1,18 +1,18 @@
 -- The steps that a disk in memory keeps.
 use Rattle.std.specs.Prelude.{ℕ, ◌/◌, ◌%◌, List, map, Option, None, Some, Vec, ◌==◌, if◌then◌else◌}
 use Rattle.std.specs.declared.alloc.Global.{Global}
-use Rattle.yp_io.specs.declared.mem_disk.Step.{Step}
-use Rattle.yp_io.specs.declared.mem_disk.Step.TheVariants as step
+use Rattle.yp_io.specs.declared.mem_disk.DiskCall.{DiskCall}
+use Rattle.yp_io.specs.declared.mem_disk.DiskCall.TheVariants as step
 use Rattle.yp_io.specs.declared.mem_disk.Crash.{Crash}
 use Rattle.yp_io.specs.Disk.{overwritten}
-use Rattle.yp_io.specs.MemDisk.{DiskStep, Wrote, Synced, placed}
+use Rattle.yp_io.specs.inside.MemDisk.{DiskStep, Wrote, Synced, placed}
 
 -- a step, its piece as bytes
-abbrev pub step_of : Step → DiskStep
+abbrev pub step_of : DiskCall → DiskStep
 step_of (step.Wrote at piece) = Wrote at piece.items
 step_of step.Synced = Synced
 
-abbrev pub steps_of : List Step → List DiskStep
+abbrev pub steps_of : List DiskCall → List DiskStep
 steps_of steps = map step_of steps
 
 -- what a read gives: the bytes at first, until the first write

@@ -1,7 +1,7 @@
 //! What a client asks a port mapper, and reads of its reply.
 
 use crate::given::{assert_same, bytes};
-use yp_portmap::*;
+use yp_binding::portmap::*;
 use yp_rpc::ReplyHead;
 use yp_xdr::NoRoom;
 

@@ -2,116 +2,40 @@
 
 ghost use Rattle.std.specs.Prelude.{◌≡◌};
 
-use crate::given::{assert_same, bytes};
+use crate::given::{assert_same, named, parts};
 use std::alloc::Global;
 use std::process::Abort;
+use yp_push::turns::hear_callback;
 use yp_push::{Outcome, Push};
-use yp_pushing::hear_callback;
 
-/// A datagram, its reply, and whether the slave with the transaction 500 has an answer behind it.
-struct Row {
-    name: &'static str,
-    datagram: &'static [&'static str],
-    reply: &'static str,
-    counts: bool,
-}
+static NAMES: &str = "\
+NONE = 00000000 00000000 00000000 00000000
+XFRRESP = 00000007 00000000 00000002 40000000 00000001 00000001 00000000 00000000 00000000 00000000
+TOLD = 000001f4 00000001
+DONE = 00000007 00000001 00000000 00000000 00000000 00000000
+";
 
-const NONE: &str = "00000000 00000000 00000000 00000000";
+/// A datagram and its reply. The slave with the transaction 500 has an answer behind it.
+static COUNTED: [&str; 1] = ["XFRRESP: XFRRESP TOLD -> DONE"];
 
-const TOLD: &str = "000001f4 00000001";
-
-const ROWS: [Row; 10] = [
-    Row {
-        name: "NULL",
-        datagram: &[
-            "00000007 00000000 00000002 40000000 00000001 00000000",
-            NONE,
-        ],
-        reply: "00000007 00000001 00000000 00000000 00000000 00000000",
-        counts: false,
-    },
-    Row {
-        name: "XFRRESP",
-        datagram: &[
-            "00000007 00000000 00000002 40000000 00000001 00000001",
-            NONE,
-            TOLD,
-        ],
-        reply: "00000007 00000001 00000000 00000000 00000000 00000000",
-        counts: true,
-    },
-    Row {
-        name: "a status that there isn't",
-        datagram: &[
-            "00000007 00000000 00000002 40000000 00000001 00000001",
-            NONE,
-            "000001f4 00000007",
-        ],
-        reply: "00000007 00000001 00000000 00000000 00000000 00000004",
-        counts: false,
-    },
-    Row {
-        name: "no status",
-        datagram: &[
-            "00000007 00000000 00000002 40000000 00000001 00000001",
-            NONE,
-            "000001f4",
-        ],
-        reply: "00000007 00000001 00000000 00000000 00000000 00000004",
-        counts: false,
-    },
-    Row {
-        name: "another version",
-        datagram: &[
-            "00000007 00000000 00000002 40000000 00000002 00000001",
-            NONE,
-            TOLD,
-        ],
-        reply: "00000007 00000001 00000000 00000000 00000000 00000002 00000001 00000001",
-        counts: false,
-    },
-    Row {
-        name: "another program",
-        datagram: &[
-            "00000007 00000000 00000002 40000001 00000001 00000001",
-            NONE,
-            TOLD,
-        ],
-        reply: "00000007 00000001 00000000 00000000 00000000 00000001",
-        counts: false,
-    },
-    Row {
-        name: "another procedure",
-        datagram: &[
-            "00000007 00000000 00000002 40000000 00000001 00000002",
-            NONE,
-            TOLD,
-        ],
-        reply: "00000007 00000001 00000000 00000000 00000000 00000003",
-        counts: false,
-    },
-    Row {
-        name: "another version of RPC",
-        datagram: &["00000007 00000000 00000003"],
-        reply: "00000007 00000001 00000001 00000000 00000002 00000002",
-        counts: false,
-    },
-    Row {
-        name: "another credential",
-        datagram: &[
-            "00000007 00000000 00000002 40000000 00000001 00000001",
-            "00000006 00000000 00000000 00000000",
-            TOLD,
-        ],
-        reply: "00000007 00000001 00000001 00000001 00000002",
-        counts: false,
-    },
-    Row {
-        name: "a reply",
-        datagram: &["00000007 00000001 00000000 00000000 00000000 00000000"],
-        reply: "",
-        counts: false,
-    },
+/// It has none behind these.
+static UNCOUNTED: [&str; 9] = [
+    "NULL: 00000007 00000000 00000002 40000000 00000001 00000000 NONE -> DONE",
+    "a status that there isn't: XFRRESP 000001f4 00000007 \
+        -> 00000007 00000001 00000000 00000000 00000000 00000004",
+    "no status: XFRRESP 000001f4 -> 00000007 00000001 00000000 00000000 00000000 00000004",
+    "another version: 00000007 00000000 00000002 40000000 00000002 00000001 NONE TOLD \
+        -> 00000007 00000001 00000000 00000000 00000000 00000002 00000001 00000001",
+    "another program: 00000007 00000000 00000002 40000001 00000001 00000001 NONE TOLD \
+        -> 00000007 00000001 00000000 00000000 00000000 00000001",
+    "another procedure: 00000007 00000000 00000002 40000000 00000001 00000002 NONE TOLD \
+        -> 00000007 00000001 00000000 00000000 00000000 00000003",
+    "another version of RPC: 00000007 00000000 00000003 \
+        -> 00000007 00000001 00000001 00000000 00000002 00000002",
+    "another credential: 00000007 00000000 00000002 40000000 00000001 00000001 \
+        00000006 00000000 00000000 00000000 TOLD \
+        -> 00000007 00000001 00000001 00000001 00000002",
+    "a reply: 00000007 00000001 00000000 00000000 00000000 00000000 ->",
 ];
 
 /// A push to one slave with the transaction 500, which was asked.
@@ -133,17 +57,23 @@ fn hear(push: &mut Push, datagram: &[u8], reply: &[u8]) -> (bool, bool)
     (buf.get(..len) == Some(reply), counts)
 }
 
-fn play<R: Abort>(rt: &R, alloc: Global, row: &Row) -> (bool, bool) {
-    let datagram = bytes(rt, alloc, row.datagram);
-    let reply = bytes(rt, alloc, &[row.reply]);
+fn try_row<R: Abort>(rt: &R, alloc: Global, row: &str, counts: bool) {
+    let (name, datagram, reply) = parts(rt, row);
+    let datagram = named(rt, alloc, NAMES, datagram);
+    let reply = named(rt, alloc, NAMES, reply);
     let mut push = push_of(rt, alloc);
-    hear(&mut push, &datagram, &reply)
+    let came = hear(&mut push, &datagram, &reply);
+    assert_same(rt, &came, &(true, counts), name);
+}
+
+fn try_rows<R: Abort>(rt: &R, alloc: Global, rows: &[&str], counts: bool) {
+    for row in rows {
+        try_row(rt, alloc, *row, counts);
+    }
 }
 
 #[test]
 fn one_reply_to_each_datagram(rt: HostRuntime) {
-    for row in &ROWS {
-        let came = play(&rt, rt.alloc(), row);
-        assert_same(&rt, &came, &(true, row.counts), row.name);
-    }
+    try_rows(&rt, rt.alloc(), &COUNTED, true);
+    try_rows(&rt, rt.alloc(), &UNCOUNTED, false);
 }

@@ -1,55 +1,11 @@
 //! What comes of each slave.
 
-use crate::pushing::stage::{Row, try_row};
+use crate::given::NEVER;
+use crate::pushing::sample::{Row, try_row};
 use std::alloc::Global;
 use std::process::Abort;
 use yp_io::Failed;
 use yp_rpc::Ended;
-
-/// Replies to XFR: SUCC with each transaction, REFUSED, and one that is cut.
-const FIRST: &[&str] = &[
-    "80000020 00000001 00000001 00000000 00000000 00000000 00000000 000001f4 00000001",
-];
-
-const SECOND: &[&str] = &[
-    "80000020 00000001 00000001 00000000 00000000 00000000 00000000 000001f5 00000001",
-];
-
-const THIRD: &[&str] = &[
-    "80000020 00000001 00000001 00000000 00000000 00000000 00000000 000001f6 00000001",
-];
-
-const REFUSED: &[&str] = &[
-    "80000020 00000001 00000001 00000000 00000000 00000000 00000000 000001f4 fffffff2",
-];
-
-const CUT: &[&str] = &["8000001c 00000001 00000001 00000000 00000000 00000000 00000000 000001f6"];
-
-/// Calls of XFRRESP: a transaction and its status.
-const FIRST_SUCC: &[&str] = &[
-    "00000007 00000000 00000002 40000000 00000001 00000001 00000000 00000000 00000000 00000000",
-    "000001f4 00000001",
-];
-
-const FIRST_SKEW: &[&str] = &[
-    "00000007 00000000 00000002 40000000 00000001 00000001 00000000 00000000 00000000 00000000",
-    "000001f4 fffffff6",
-];
-
-const SECOND_AGE: &[&str] = &[
-    "00000007 00000000 00000002 40000000 00000001 00000001 00000000 00000000 00000000 00000000",
-    "000001f5 00000002",
-];
-
-const THIRD_SUCC: &[&str] = &[
-    "00000007 00000000 00000002 40000000 00000001 00000001 00000000 00000000 00000000 00000000",
-    "000001f6 00000001",
-];
-
-const UNKNOWN_SUCC: &[&str] = &[
-    "00000007 00000000 00000002 40000000 00000001 00000001 00000000 00000000 00000000 00000000",
-    "000003e7 00000001",
-];
 
 /// The first callback of a slave counts, and the last slave doesn't call.
 const CALLED: Row = Row {
@@ -57,16 +13,11 @@ const CALLED: Row = Row {
     window: 3,
     most: 5,
     known: (true, true, true),
-    wires: (FIRST, SECOND, THIRD),
-    dials: &[],
-    reads: &[],
-    failing: &[],
-    brings: &[
-        Some(FIRST_SUCC),
-        Some(FIRST_SKEW),
-        Some(SECOND_AGE),
-        Some(UNKNOWN_SUCC),
-    ],
+    wires: ("FIRST", "SECOND", "THIRD"),
+    dials: NEVER,
+    reads: NEVER,
+    failing: NEVER,
+    brings: "FIRST_SUCC FIRST_SKEW SECOND_AGE UNKNOWN_SUCC",
     ended: Ok(Ended::Spent),
     text: "s1 1\ns2 2\ns3 none\n",
     all: false,
@@ -75,12 +26,12 @@ const CALLED: Row = Row {
     came: 3,
 };
 
-const ROWS: [Row; 10] = [
+static ROWS: [Row; 10] = [
     CALLED,
     Row {
         name: "no address, and a dial that fails",
         known: (true, false, true),
-        dials: &[1],
+        dials: 1,
         ended: Ok(Ended::Done),
         text: "s1 1\ns2 -5\ns3 -4\n",
         replies: 1,
@@ -99,8 +50,8 @@ const ROWS: [Row; 10] = [
     },
     Row {
         name: "another status at once, a read that fails, and a reply that is cut",
-        wires: (REFUSED, SECOND, CUT),
-        reads: &[0],
+        wires: ("REFUSED", "SECOND", "CUT"),
+        reads: 0,
         ended: Ok(Ended::Done),
         text: "s1 -14\ns2 -4\ns3 -4\n",
         replies: 0,
@@ -110,7 +61,7 @@ const ROWS: [Row; 10] = [
     Row {
         name: "one at a time",
         window: 1,
-        brings: &[Some(FIRST_SUCC), Some(SECOND_AGE), Some(THIRD_SUCC)],
+        brings: "FIRST_SUCC SECOND_AGE THIRD_SUCC",
         ended: Ok(Ended::Done),
         text: "s1 1\ns2 2\ns3 1\n",
         all: true,
@@ -122,7 +73,7 @@ const ROWS: [Row; 10] = [
         name: "a callback before its request",
         window: 1,
         most: 2,
-        brings: &[Some(SECOND_AGE), Some(FIRST_SUCC)],
+        brings: "SECOND_AGE FIRST_SUCC",
         text: "s1 1\ns2 none\ns3 none\n",
         replies: 2,
         turns: 2,
@@ -133,7 +84,7 @@ const ROWS: [Row; 10] = [
         name: "a slave that is passed over",
         window: 1,
         most: 3,
-        brings: &[None, Some(FIRST_SUCC), None],
+        brings: "QUIET FIRST_SUCC QUIET",
         text: "s1 1\ns2 none\ns3 none\n",
         replies: 1,
         turns: 3,
@@ -142,9 +93,9 @@ const ROWS: [Row; 10] = [
     },
     Row {
         name: "a callback of a slave whose dial failed",
-        dials: &[2],
+        dials: 2,
         most: 1,
-        brings: &[Some(THIRD_SUCC)],
+        brings: "THIRD_SUCC",
         text: "s1 none\ns2 none\ns3 1\n",
         replies: 1,
         turns: 1,
@@ -153,7 +104,7 @@ const ROWS: [Row; 10] = [
     },
     Row {
         name: "the first turn fails",
-        failing: &[0],
+        failing: 0,
         ended: Err(Failed),
         text: "s1 none\ns2 none\ns3 none\n",
         replies: 0,
@@ -162,7 +113,7 @@ const ROWS: [Row; 10] = [
     },
     Row {
         name: "the first reply fails",
-        failing: &[1],
+        failing: 1,
         ended: Err(Failed),
         text: "s1 1\ns2 none\ns3 none\n",
         replies: 0,

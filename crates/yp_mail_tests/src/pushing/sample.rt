@@ -1,41 +1,58 @@
 //! Pushes in memory, to the slaves `s1`, `s2` and `s3`.
 
 ghost use Rattle.std.specs.Prelude.{◌≡◌, ◌<◌, [], All, length};
-ghost use Rattle.yp_io.specs.MemDial.{IsNew};
-ghost use Rattle.yp_pushing.specs.Kept.{request_view, IsWithin};
+ghost use Rattle.yp_io.specs.inside.MemDial.{WireIsNew};
+ghost use Rattle.yp_push.specs.inside.turns.Kept.{request_view, IsWithin};
 
-use crate::given::{assert_same, bytes, listed};
+use crate::given::{NEVER, SELF, assert_same, failing, named};
 use std::alloc::Global;
 use std::process::Abort;
 use yp_board::MapName;
 use yp_io::{Failed, Letter, MemDial, MemInbox, MemSink, MemSource, MemWire, Pair, Peer};
 use yp_push::Push;
-use yp_pushing::{Order, Pusher, Slave, all_have_map, text_of};
+use yp_push::turns::{PushRequest, Pusher, Slave, all_have_map, text_of};
 use yp_rpc::{Ended, Room, take_turns};
 
-/// A datagram, or a quiet turn.
-pub type Brings = Option<&'static [&'static str]>;
+/// Names of what comes and goes: replies to XFR with SUCC and each transaction, with REFUSED, and one that is cut;
+/// calls of XFRRESP of a transaction with its status; and the first call of XFR, with the transaction 500, program
+/// 0x40000000 and port 7001.
+static NAMES: &str = "\
+FIRST = 80000020 00000001 00000001 00000000 00000000 00000000 00000000 000001f4 00000001
+SECOND = 80000020 00000001 00000001 00000000 00000000 00000000 00000000 000001f5 00000001
+THIRD = 80000020 00000001 00000001 00000000 00000000 00000000 00000000 000001f6 00000001
+REFUSED = 80000020 00000001 00000001 00000000 00000000 00000000 00000000 000001f4 fffffff2
+CUT = 8000001c 00000001 00000001 00000000 00000000 00000000 00000000 000001f6
+FIRST_SUCC = 00000007 00000000 00000002 40000000 00000001 00000001 00000000 00000000 00000000 \
+    00000000 000001f4 00000001
+FIRST_SKEW = 00000007 00000000 00000002 40000000 00000001 00000001 00000000 00000000 00000000 \
+    00000000 000001f4 fffffff6
+SECOND_AGE = 00000007 00000000 00000002 40000000 00000001 00000001 00000000 00000000 00000000 \
+    00000000 000001f5 00000002
+THIRD_SUCC = 00000007 00000000 00000002 40000000 00000001 00000001 00000000 00000000 00000000 \
+    00000000 000001f6 00000001
+UNKNOWN_SUCC = 00000007 00000000 00000002 40000000 00000001 00000001 00000000 00000000 00000000 \
+    00000000 000003e7 00000001
+CALL = 80000058 00000001 00000000 00000002 000186a4 00000002 00000006 00000000 00000000 00000000 \
+    00000000 00000003 6c616200 0000000c 686f7374 732e6279 6e616d65 00000064 00000002 6d310000 \
+    000001f4 40000000 00001b59
+";
 
 /// A push of the map `hosts.byname` of `lab`, with the order 100, from `m1`, whose first transaction is 500: how many
 /// slaves may be outstanding, the most turns, which slaves have an address, the replies of the wires in the order in
-/// which they come, the dials, the reads of the second wire and the calls of the inbox that fail, and what the turns
-/// bring. What comes of it: how the turns ended, the text, whether all slaves have the map, and how many replies and
-/// turns there were, and how many wires came.
+/// which they come, the dial, the read of the second wire and the call of the inbox that fail, and what the turns
+/// bring, each a word. What comes of it: how the turns ended, the text, whether all slaves have the map, and how many
+/// replies and turns there were, and how many wires came.
 #[derive(Clone, Copy)]
 pub struct Row {
     pub name: &'static str,
     pub window: u32,
     pub most: u32,
     pub known: (bool, bool, bool),
-    pub wires: (
-        &'static [&'static str],
-        &'static [&'static str],
-        &'static [&'static str],
-    ),
-    pub dials: &'static [u64],
-    pub reads: &'static [u64],
-    pub failing: &'static [u64],
-    pub brings: &'static [Brings],
+    pub wires: (&'static str, &'static str, &'static str),
+    pub dials: u64,
+    pub reads: u64,
+    pub failing: u64,
+    pub brings: &'static str,
     pub ended: Result<Ended, Failed>,
     pub text: &'static str,
     pub all: bool,
@@ -44,55 +61,47 @@ pub struct Row {
     pub came: usize,
 }
 
-/// Whoever sends the datagrams.
-const CALLER: Peer = Peer {
-    addr: [127, 0, 0, 1],
-    port: 1_021,
-};
-
 const SLAVE: Peer = Peer {
     addr: [127, 0, 0, 1],
     port: 7_011,
 };
 
-/// The record of the first call: XFR, with the transaction 500, program 0x40000000 and port 7001.
-pub const CALL: &[&str] = &[
-    "80000058 00000001 00000000 00000002 000186a4 00000002 00000006 00000000 00000000 00000000 00000000",
-    "00000003 6c616200 0000000c 686f7374 732e6279 6e616d65 00000064 00000002 6d310000",
-    "000001f4 40000000 00001b59",
-];
+/// The datagram of this name, or a quiet turn.
+fn letter_of<R: Abort>(rt: &R, alloc: Global, name: &str) -> Option<Letter> {
+    if name == "QUIET" {
+        return None;
+    }
+    Some(Letter {
+        peer: SELF,
+        bytes: named(rt, alloc, NAMES, name),
+    })
+}
 
-fn mail_of<R: Abort>(rt: &R, alloc: Global, brings: &[Brings]) -> Vec<Option<Letter>> {
+fn mail_of<R: Abort>(rt: &R, alloc: Global, brings: &str) -> Vec<Option<Letter>> {
     let mut mail = Vec::new(alloc);
-    for turn in brings {
-        let came = match turn {
-            Some(texts) => Some(Letter {
-                peer: CALLER,
-                bytes: bytes(rt, alloc, texts),
-            }),
-            None => None,
-        };
-        mail.push(came).expect(rt, "memory for mail");
+    for name in brings.split_whitespace() {
+        let letter = letter_of(rt, alloc, name);
+        mail.push(letter).expect(rt, "memory for mail");
     }
     mail
 }
 
-fn wire_of<R: Abort>(rt: &R, alloc: Global, texts: &[&str], reads: &[u64]) -> MemWire
-    ensures { IsNew result }
+fn wire_of<R: Abort>(rt: &R, alloc: Global, name: &str, read: u64) -> MemWire
+    ensures { WireIsNew result }
 {
     Pair {
-        source: MemSource::new(bytes(rt, alloc, texts), 64, listed(rt, alloc, reads)),
+        source: MemSource::new(named(rt, alloc, NAMES, name), 64, failing(rt, alloc, read)),
         sink: MemSink::new(alloc, 4_096, Vec::new(alloc)),
     }
 }
 
 /// The wires of a row.
 fn wires_of<R: Abort>(rt: &R, alloc: Global, row: &Row) -> Vec<MemWire>
-    ensures { All IsNew result.items }
+    ensures { All WireIsNew result.items }
 {
-    let first = wire_of(rt, alloc, row.wires.0, &[]);
+    let first = wire_of(rt, alloc, row.wires.0, NEVER);
     let second = wire_of(rt, alloc, row.wires.1, row.reads);
-    let third = wire_of(rt, alloc, row.wires.2, &[]);
+    let third = wire_of(rt, alloc, row.wires.2, NEVER);
     let mut wires = Vec::new(alloc);
     wires.push(first).expect(rt, "memory for wires");
     wires.push(second).expect(rt, "memory for wires");
@@ -116,10 +125,10 @@ fn slaves_of<R: Abort>(rt: &R, alloc: Global, known: (bool, bool, bool)) -> Vec<
     vec![in alloc; first, second, third].expect(rt, "memory for slaves")
 }
 
-fn order_of<R: Abort>(rt: &R, alloc: Global) -> Order
+fn order_of<R: Abort>(rt: &R, alloc: Global) -> PushRequest
     ensures { IsWithin (request_view result) }
 {
-    Order {
+    PushRequest {
         store: MapName {
             domain: b"lab".to_vec(alloc).expect(rt, "memory for a name"),
             map: b"hosts.byname"
@@ -147,7 +156,7 @@ fn pusher_of<R: Abort>(rt: &R, alloc: Global, row: &Row) -> Pusher<MemDial> {
     let slaves = slaves_of(rt, alloc, row.known);
     let order = order_of(rt, alloc);
     let push = push_of(rt, alloc, row.window);
-    let dials = listed(rt, alloc, row.dials);
+    let dials = failing(rt, alloc, row.dials);
     let wires = wires_of(rt, alloc, row);
     let dial = MemDial::new(alloc, wires, dials);
     Pusher::new(alloc, dial, push, slaves, order)
@@ -198,19 +207,19 @@ fn take(
     )
 }
 
-fn play<R: Abort>(rt: &R, alloc: Global, row: &Row) -> Came {
-    let call = bytes(rt, alloc, CALL);
+fn pushed<R: Abort>(rt: &R, alloc: Global, row: &Row) -> Came {
+    let call = named(rt, alloc, NAMES, "CALL");
     let mail = mail_of(rt, alloc, row.brings);
-    let failing = listed(rt, alloc, row.failing);
+    let calls = failing(rt, alloc, row.failing);
     let mut room = room_of(rt, alloc);
     let pusher = pusher_of(rt, alloc, row);
-    let mut inbox = MemInbox::new(alloc, mail, failing);
+    let mut inbox = MemInbox::new(alloc, mail, calls);
     take(alloc, &mut room, &mut inbox, pusher, &call, row)
 }
 
 /// Pushes as a row says, and compares what came of it.
 pub fn try_row<R: Abort>(rt: &R, alloc: Global, row: &Row) {
-    let came = play(rt, alloc, row);
+    let came = pushed(rt, alloc, row);
     let wanted = (
         row.ended,
         true,

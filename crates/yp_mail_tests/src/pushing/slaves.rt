@@ -5,12 +5,12 @@ use std::alloc::Global;
 use std::process::Abort;
 use std::random::RandomSource;
 use yp_io::Peer;
-use yp_pushing::{Slave, slaves_of};
+use yp_push::turns::{Slave, slaves_of};
+use yp_transfer::Hosts;
 use yp_version::{Version, VersionBuilder};
-use yp_xfr::Hosts;
 
 /// The keys of a map of servers, in the order in which they were pushed.
-const SERVERS: [&[u8]; 4] = [b"s2", b"m1", b"s10", b"s1"];
+static SERVERS: [&[u8]; 4] = [b"s2", b"m1", b"s10", b"s1"];
 
 const KNOWN: Peer = Peer {
     addr: [127, 0, 0, 1],
@@ -36,7 +36,7 @@ fn table<R: Abort>(rt: &R, alloc: Global) -> Hosts {
 }
 
 /// The slaves, with `m1` as the own name.
-fn play<R: RandomSource + Abort>(rt: &R, alloc: Global) -> Vec<Slave> {
+fn slaves_named<R: RandomSource + Abort>(rt: &R, alloc: Global) -> Vec<Slave> {
     let servers = version(rt, alloc);
     let hosts = table(rt, alloc);
     slaves_of(alloc, &servers, b"m1", &hosts).expect(rt, "memory for slaves")
@@ -57,7 +57,7 @@ fn are(slaves: &[Slave], wanted: &[(&[u8], Option<Peer>)]) -> bool {
 
 #[test]
 fn servers_but_the_own_host(rt: HostRuntime) {
-    let slaves = play(&rt, rt.alloc());
+    let slaves = slaves_named(&rt, rt.alloc());
     let wanted: [(&[u8], Option<Peer>); 3] = [(b"s1", None), (b"s10", None), (b"s2", Some(KNOWN))];
     let came = are(&slaves, &wanted);
     assert_same(&rt, &came, &true, "slaves in rising order");

@@ -1,22 +1,15 @@
--- A commit: what each of its parts makes of the bytes of a file.
+-- A commit part by part: where a version is laid, and what each write makes of the file.
 use Rattle.std.specs.Prelude.{ℕ, ◌+◌, ◌-◌, List, [], ◌∷◌, length, replicate, Option, Some, None, if◌then◌else◌, nat_lt}
 use Rattle.std.specs.Prelude.{nat_le}
 use Rattle.yp_io.specs.Disk.{overwritten}
-use Rattle.yp_slot.specs.declared.cells.Cell.{Cell}
-use Rattle.yp_slot.specs.declared.cells.Cell.TheVariants.{First}
-use Rattle.yp_slot.specs.declared.cells.Entry.{Entry}
-use Rattle.yp_slot.specs.Cells.{cells_len, open_gate, cell_place, other, is_open, entry, entry_bytes, winner}
-use Rattle.yp_slot.specs.declared.cells.Winner.{Winner}
-use Rattle.yp_slot.specs.declared.cells.Winner.TheVariants.{Nobody, Both, Only}
-
--- the entry of the cell that wins, if one does
-abbrev pub winner_entry : Winner → List ℕ → Option Entry
-winner_entry Nobody file = None
-winner_entry Both file = None
-winner_entry (Only cell) file = Some (entry cell file)
-
-unfoldable pub winning : List ℕ → Option Entry
-winning file = if nat_lt (length file) cells_len then None else winner_entry (winner file) file
+use Rattle.yp_map_file.specs.declared.cells.Cell.{Cell}
+use Rattle.yp_map_file.specs.declared.cells.Cell.TheVariants.{First}
+use Rattle.yp_map_file.specs.declared.cells.Entry.{Entry}
+use Rattle.yp_map_file.specs.Cells.{cells_len, open_gate, cell_place, is_open, winner}
+use Rattle.yp_map_file.specs.inside.Cells.{other, entry_bytes}
+use Rattle.yp_map_file.specs.declared.cells.Winner.{Winner}
+use Rattle.yp_map_file.specs.declared.cells.Winner.TheVariants.{Nobody, Both, Only}
+use Rattle.yp_map_file.specs.Commits.{winning, generation_of}
 
 -- the cell that is written: the one that doesn't win, and the first where none wins
 abbrev pub loser : Winner → Cell
@@ -26,15 +19,6 @@ loser (Only cell) = other cell
 
 unfoldable pub target : List ℕ → Cell
 target file = if nat_lt (length file) cells_len then First else loser (winner file)
-
--- the winner's generation, and 0 where none wins
-abbrev pub generation_of : Option Entry → ℕ
-generation_of None = 0
-generation_of (Some winner) = winner.generation
-
--- the last generation
-abbrev pub generation_max : ℕ
-generation_max = 18446744073709551615
 
 -- where a body of n bytes goes: behind the cells where it fits there, else behind the winner's body
 abbrev pub place_for : Option Entry → ℕ → ℕ

@@ -1,13 +1,13 @@
 -- What joins the body of a version, the cells and the file.
 use Rattle.std.specs.Prelude.{◌≡◌, ◌⊎◌, ◌≤◌, ℕ, List, [], ◌∷◌, length, Ok, ⊤}
 use Rattle.std.specs.List.{AllByRecursion}
-use Rattle.yp_xdr.specs.Reading.{IsBytes}
+use Rattle.yp_xdr.specs.inside.Reading.{IsBytes}
 use Rattle.yp_version.specs.Limits.{body_max}
 use Rattle.yp_version.specs.Versions.{MapVersion}
-use Rattle.yp_version.specs.Bodies.{IsBody}
-use Rattle.yp_slot.specs.Bodies.{body_at}
-use Rattle.yp_slot.specs.Stands.{file_max, Stored, stands}
-use Rattle.yp_slot.specs.Slots.{IsSound}
+use Rattle.yp_version.specs.inside.Bodies.{IsBody}
+use Rattle.yp_map_file.specs.Bodies.{body_at}
+use Rattle.yp_map_file.specs.Stands.{file_max, Stored, stands}
+use Rattle.yp_map_file.specs.Slots.{IsSound}
 
 -- the body of a version is read again as that version
 abbrev pub BodyIsReadAgain : Type 0

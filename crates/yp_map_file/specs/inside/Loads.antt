@@ -1,17 +1,20 @@
--- What is loaded of a file.
-use Rattle.std.specs.Prelude.{◌≡◌, ℕ, ◌+◌, ◌^◌, ◌<◌, List, Option, Some, None, Result, Ok, Err, ⊤}
+-- What is loaded of a file, and the fault that is told instead.
+use Rattle.std.specs.Prelude.{◌≡◌, ℕ, ◌+◌, ◌^◌, ◌<◌, List, Option, Some, Result, Ok, Err, ⊤}
 use Rattle.yp_io.specs.Disk.{History, IsWithin}
 use Rattle.yp_version.specs.Versions.{MapVersion}
-use Rattle.yp_slot.specs.declared.cells.Cell.{Cell}
-use Rattle.yp_slot.specs.declared.cells.Entry.{Entry}
-use Rattle.yp_slot.specs.declared.cells.Winner.TheVariants.{Only}
-use Rattle.yp_slot.specs.declared.fault.SlotFault.{SlotFault}
-use Rattle.yp_slot.specs.declared.fault.SlotFault.TheVariants as fault
-use Rattle.yp_slot.specs.declared.known.Known.{Known}
-use Rattle.yp_slot.specs.declared.wrong.BodyFault.{BodyFault}
-use Rattle.yp_slot.specs.declared.wrong.BodyFault.TheVariants.{Wrong, NoMemory}
-use Rattle.yp_slot.specs.Stands.{by_winner, Stands, Nothing, Stored, Damaged, stands, standing}
-use Rattle.yp_slot.specs.Slots.{IsSound, IsKnown, LiesWithin}
+use Rattle.yp_map_file.specs.declared.cells.Cell.{Cell}
+use Rattle.yp_map_file.specs.declared.cells.Entry.{Entry}
+use Rattle.yp_map_file.specs.declared.cells.Winner.TheVariants.{Only}
+use Rattle.yp_map_file.specs.declared.fault.SlotFault.{SlotFault}
+use Rattle.yp_map_file.specs.declared.fault.SlotFault.TheVariants as fault
+use Rattle.yp_map_file.specs.declared.known.Known.{Known}
+use Rattle.yp_map_file.specs.declared.wrong.BodyFault.{BodyFault}
+use Rattle.yp_map_file.specs.declared.wrong.BodyFault.TheVariants.{Wrong, NoMemory}
+use Rattle.yp_map_file.specs.Stands.{by_winner, Stands, Stored, Damaged, stands}
+use Rattle.yp_map_file.specs.inside.Stands.{standing}
+use Rattle.yp_map_file.specs.Slots.{IsSound}
+use Rattle.yp_map_file.specs.inside.Slots.{IsKnown, LiesWithin}
+use Rattle.yp_map_file.specs.Loads.{Loads}
 
 -- the fault of a file whose body, at this place, can't be read
 abbrev pub fault_in : ℕ → BodyFault → SlotFault
@@ -22,15 +25,7 @@ abbrev pub FitsIn : ℕ → BodyFault → Type 0
 FitsIn place (Wrong wrong) = place + wrong.at < 2 ^ 64
 FitsIn place NoMemory = ⊤
 
--- a file that stands for this was loaded, unless the disk failed or memory ran out
-abbrev pub Loads : Stands → Result (Option MapVersion) SlotFault → Type 0
-Loads stood (Ok None) = stood ≡ Nothing
-Loads stood (Ok (Some version)) = stood ≡ Stored version
-Loads stood (Err (fault.Damaged at rule)) = stood ≡ Damaged at rule
-Loads stood (Err fault.DiskFault) = ⊤
-Loads stood (Err fault.NoMemory) = ⊤
-
--- the same of a body alone
+-- The result of loading a body is what the body stands for, unless the disk failed or memory ran out.
 abbrev pub LoadsBody : Stands → Result MapVersion SlotFault → Type 0
 LoadsBody stood (Ok version) = stood ≡ Stored version
 LoadsBody stood (Err (fault.Damaged at rule)) = stood ≡ Damaged at rule

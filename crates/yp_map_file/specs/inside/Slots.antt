@@ -1,27 +1,24 @@
--- What a slot holds, and what it knows of its file.
+-- What a slot holds and knows of its file, between its calls and inside them.
 use Rattle.std.specs.Prelude.{◌≡◌, ◌⊎◌, ℕ, ◌+◌, ◌≤◌, Bool, true, false, List, [], length, Option, Some, None, IfSome}
 use Rattle.std.specs.Prelude.{is_some, nat_le, ⊤}
 use Rattle.yp_io.specs.Disk.{DiskState, History}
 use Rattle.yp_xdr.specs.Reading.{first_nonzero}
 use Rattle.yp_version.specs.Limits.{body_max}
 use Rattle.yp_version.specs.Versions.{MapVersion}
-use Rattle.yp_slot.specs.declared.cells.Entry.{Entry}
-use Rattle.yp_slot.specs.declared.known.Known.{Known}
-use Rattle.yp_slot.specs.declared.known.Stage.{Stage}
-use Rattle.yp_slot.specs.declared.known.Stage.TheVariants.{Unready, Loaded, Laid, Closed, Filled}
-use Rattle.yp_slot.specs.Cells.{cells_len, bytes_at, other, is_open, filler, entry}
-use Rattle.yp_slot.specs.Bodies.{body_at}
-use Rattle.yp_slot.specs.Stands.{file_max, has_room, by_body, Stands, Nothing, Stored, Damaged, stands}
-use Rattle.yp_slot.specs.Commits.{winning, target, generation_of, laid, opened}
-
--- not damaged
-abbrev pub IsSound : Stands → Type 0
-IsSound Nothing = ⊤
-IsSound (Stored version) = ⊤
-IsSound (Damaged at rule) = ⊥
+use Rattle.yp_map_file.specs.declared.cells.Entry.{Entry}
+use Rattle.yp_map_file.specs.declared.known.Known.{Known}
+use Rattle.yp_map_file.specs.declared.known.Stage.{Stage}
+use Rattle.yp_map_file.specs.declared.known.Stage.TheVariants.{Unready, Loaded, Laid, Closed, Filled}
+use Rattle.yp_map_file.specs.Cells.{cells_len, bytes_at, is_open, filler, entry}
+use Rattle.yp_map_file.specs.inside.Cells.{other}
+use Rattle.yp_map_file.specs.Bodies.{body_at}
+use Rattle.yp_map_file.specs.Stands.{file_max, has_room, by_body, Stored, stands}
+use Rattle.yp_map_file.specs.Commits.{winning, generation_of}
+use Rattle.yp_map_file.specs.inside.Commits.{target, laid, opened}
+use Rattle.yp_map_file.specs.Slots.{IsSound, IsAsBefore}
 
 -- a slot as its callers see it
-pub record Held (D : Type 0) : Type 0 where
+pub record SlotModel (D : Type 0) : Type 0 where
   pub disk : D
   pub stage : Stage
   pub generation : ℕ
@@ -76,14 +73,10 @@ Knows Filled known next history =
     × (next.generation ≡ generation_of known.winner + 1)
     × Fills next history
 
--- what is read is told, and has P
-abbrev pub IsTold : (List ℕ → Type 0) → Option History → Type 0
-IsTold P None = ⊥
-IsTold P (Some h) = P h.state.reads
-
--- these bytes stand for what is read now
-abbrev pub IsAsBefore : Option History → List ℕ → Type 0
-IsAsBefore history image = IfSome history (λ h. stands image ≡ stands h.state.reads)
+-- The disk tells its history, and P holds of what a read gives.
+abbrev pub ReadIsTold : (List ℕ → Type 0) → Option History → Type 0
+ReadIsTold P None = ⊥
+ReadIsTold P (Some h) = P h.state.reads
 
 -- for what is read now, or for this version
 abbrev pub IsAsBeforeOr : MapVersion → Option History → List ℕ → Type 0
@@ -112,10 +105,6 @@ abbrev pub ReadsChanged : (List ℕ → List ℕ) → Option History → Option 
 ReadsChanged change None new = ⊤
 ReadsChanged change (Some h) None = ⊥
 ReadsChanged change (Some h) (Some k) = k.state.reads ≡ change h.state.reads
-
--- this is the generation of what a read gives
-abbrev pub HasGeneration : Option History → ℕ → Type 0
-HasGeneration history generation = IfSome history (λ h. generation ≡ generation_of (winning h.state.reads))
 
 -- whether the file is known
 abbrev pub is_ready : Stage → Bool

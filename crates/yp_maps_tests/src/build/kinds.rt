@@ -1,8 +1,8 @@
 //! Kinds of maps: their numbers, their names, and the texts that they are built of.
 
 use crate::given::assert_same;
-use yp_build::*;
 use yp_io::TextFile;
+use yp_texts::*;
 
 const KINDS: [(u32, &[u8], TextFile); 10] = [
     (1, b"passwd.byname", TextFile::Passwd),

@@ -4,7 +4,7 @@ use crate::given::{assert_fits, assert_same, long_text, text_of};
 use std::alloc::Global;
 use std::process::Abort;
 use std::random::RandomSource;
-use yp_build::*;
+use yp_texts::*;
 use yp_version::{Version, VersionBuilder};
 
 /// A name, a kind, a text, and the rows that it makes, by rising keys.

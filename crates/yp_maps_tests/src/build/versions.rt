@@ -4,7 +4,7 @@ use crate::given::{assert_same, long_text, text_of};
 use std::alloc::Global;
 use std::process::Abort;
 use std::random::RandomSource;
-use yp_build::*;
+use yp_texts::*;
 use yp_version::Version;
 
 /// The order before, the moment, and the order that follows.

@@ -5,7 +5,7 @@ use crate::netgroup::groups::{Row, version};
 use std::alloc::Global;
 use std::process::Abort;
 use std::random::RandomSource;
-use yp_revnet::{Field, RevFault, reverse};
+use yp_netgroup::reverse::{Field, RevFault, reverse};
 use yp_version::Version;
 
 // The first refusal of a reverse by users.

@@ -4,8 +4,8 @@ use crate::given::assert_same;
 use crate::netgroup::groups::{Row, version};
 use std::alloc::Global;
 use std::random::RandomSource;
+use yp_netgroup::reverse::{Field, listed_in, reverse, split};
 use yp_netgroup::{Who, innetgr};
-use yp_revnet::{Field, listed_in, reverse, split};
 use yp_version::Version;
 
 /// A map, the rows of its two reverses, and whether each of them is split.

@@ -1,38 +1,26 @@
--- The arguments and results of YP version 2 as kinds, as the protocol file yp.x has them, and each struct as a value of
--- its kind.
+-- Each struct of a message as a value of its kind, and its limits.
 use Rattle.std.specs.Prelude.{◌≤◌, length, Some, None}
-use Rattle.yp_xdr.specs.Kind.{Kind, U32, Opaque, Sequence, Optional, Value}
-use Rattle.yp_msgs.specs.declared.requests.ReqDomain.{ReqDomain}
-use Rattle.yp_msgs.specs.declared.requests.ReqKey.{ReqKey}
-use Rattle.yp_msgs.specs.declared.requests.ReqNokey.{ReqNokey}
-use Rattle.yp_msgs.specs.declared.results.RespVal.{RespVal}
-use Rattle.yp_msgs.specs.declared.results.KeyVal.{KeyVal}
-use Rattle.yp_msgs.specs.declared.results.AllItem.{AllItem}
-use Rattle.yp_msgs.specs.declared.results.AllItem.TheVariants.{More, End}
-use Rattle.yp_msgs.specs.declared.results.RespMaster.{RespMaster}
-use Rattle.yp_msgs.specs.declared.results.RespOrder.{RespOrder}
-use Rattle.yp_msgs.specs.Numbers.{name_max, key_max, value_max}
-use Rattle.yp_msgs.specs.Statuses.{stat, stat_number}
-
--- the name of a domain, a map or a host
-abbrev pub name : Kind
-name = Opaque name_max
+use Rattle.yp_xdr.specs.Kind.{Kind, Optional, Value}
+use Rattle.yp_messages.specs.declared.requests.ReqDomain.{ReqDomain}
+use Rattle.yp_messages.specs.declared.requests.ReqKey.{ReqKey}
+use Rattle.yp_messages.specs.declared.requests.ReqNokey.{ReqNokey}
+use Rattle.yp_messages.specs.declared.results.RespVal.{RespVal}
+use Rattle.yp_messages.specs.declared.results.KeyVal.{KeyVal}
+use Rattle.yp_messages.specs.declared.results.AllItem.{AllItem}
+use Rattle.yp_messages.specs.declared.results.AllItem.TheVariants.{More, End}
+use Rattle.yp_messages.specs.declared.results.RespMaster.{RespMaster}
+use Rattle.yp_messages.specs.declared.results.RespOrder.{RespOrder}
+use Rattle.yp_messages.specs.Numbers.{name_max, key_max, value_max}
+use Rattle.yp_messages.specs.Statuses.{stat_number}
+use Rattle.yp_messages.specs.Messages.{req_domain, req_key, req_nokey, resp_val, key_val, resp_master, resp_order}
 
 -- ---- arguments
-
--- a domain
-abbrev pub req_domain : Kind
-req_domain = name
 
 abbrev pub req_domain_view : ReqDomain → Value req_domain
 req_domain_view asked = asked.domain.now
 
 abbrev pub ReqDomainIsWithin : ReqDomain → Type 0
 ReqDomainIsWithin asked = length asked.domain.now ≤ name_max
-
--- a domain, a map and a key
-abbrev pub req_key : Kind
-req_key = Sequence name (Sequence name (Opaque key_max))
 
 abbrev pub req_key_view : ReqKey → Value req_key
 req_key_view asked = (asked.domain.now, (asked.map.now, asked.key.now))
@@ -41,10 +29,6 @@ pub record ReqKeyIsWithin (asked : ReqKey) : Type 0 where
   pub domain : length asked.domain.now ≤ name_max
   pub map : length asked.map.now ≤ name_max
   pub key : length asked.key.now ≤ key_max
-
--- a domain and a map
-abbrev pub req_nokey : Kind
-req_nokey = Sequence name name
 
 abbrev pub req_nokey_view : ReqNokey → Value req_nokey
 req_nokey_view asked = (asked.domain.now, asked.map.now)
@@ -55,19 +39,11 @@ pub record ReqNokeyIsWithin (asked : ReqNokey) : Type 0 where
 
 -- ---- results
 
--- a status and a value
-abbrev pub resp_val : Kind
-resp_val = Sequence stat (Opaque value_max)
-
 abbrev pub resp_val_view : RespVal → Value resp_val
 resp_val_view answer = (stat_number answer.stat, answer.val.now)
 
 abbrev pub RespValIsWithin : RespVal → Type 0
 RespValIsWithin answer = length answer.val.now ≤ value_max
-
--- a status, a value, and the key that has it
-abbrev pub key_val : Kind
-key_val = Sequence stat (Sequence (Opaque value_max) (Opaque key_max))
 
 abbrev pub key_val_view : KeyVal → Value key_val
 key_val_view answer = (stat_number answer.stat, (answer.val.now, answer.key.now))
@@ -88,19 +64,11 @@ abbrev pub AllItemIsWithin : AllItem → Type 0
 AllItemIsWithin (More row) = KeyValIsWithin row
 AllItemIsWithin End = Unit {0}
 
--- a status and the name of the master
-abbrev pub resp_master : Kind
-resp_master = Sequence stat name
-
 abbrev pub resp_master_view : RespMaster → Value resp_master
 resp_master_view answer = (stat_number answer.stat, answer.peer.now)
 
 abbrev pub RespMasterIsWithin : RespMaster → Type 0
 RespMasterIsWithin answer = length answer.peer.now ≤ name_max
-
--- a status and an order number
-abbrev pub resp_order : Kind
-resp_order = Sequence stat U32
 
 abbrev pub resp_order_view : RespOrder → Value resp_order
 resp_order_view answer = (stat_number answer.stat, answer.ordernum)

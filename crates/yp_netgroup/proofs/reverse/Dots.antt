@@ -11,9 +11,9 @@ use Rattle.std.proofs.lemmas.List.Sums.{AllPass-from_list_all}
 use Rattle.std.proofs.lemmas.List.Splits.{slice_split_at, slice_split_none}
 use Rattle.yp_version.specs.Blanks.{is_blank}
 use Rattle.yp_netgroup.specs.Parts.{is_comma, is_name_byte, is_open, is_close}
-use Rattle.yp_revnet.specs.Keys.{dotted}
-use Rattle.yp_revnet.specs.Reverse.{is_name}
-use Rattle.yp_revnet.specs.Listed.{has_dot}
+use Rattle.yp_netgroup.specs.reverse.Keys.{dotted}
+use Rattle.yp_netgroup.specs.reverse.Reverse.{is_name}
+use Rattle.yp_netgroup.specs.inside.reverse.Listed.{has_dot}
 
 -- ---- tests
 

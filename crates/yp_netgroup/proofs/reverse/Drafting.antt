@@ -16,12 +16,14 @@ use Rattle.yp_version.specs.Rows.{Row, IsRising, key_cmp, value_of}
 use Rattle.yp_version.specs.Drafts.{Draft, with_new, with_row, with_rows, refused, refused_from, first_refused}
 use Rattle.yp_version.specs.declared.builder.VersionFault.{VersionFault}
 use Rattle.yp_version.specs.declared.builder.VersionFault.TheVariants.{KeyLong, ValueLong, TooManyRows, TooBig, NoMemory}
-use Rattle.yp_revnet.specs.declared.field.Field.{Field}
-use Rattle.yp_revnet.specs.declared.fault.RevFault.{RevFault}
-use Rattle.yp_revnet.specs.Reverse.{IsListed, IsReversed, IsReverse}
-use Rattle.yp_revnet.specs.Refused.{RefusesRow, IsCause, rule_of, row_fault, IsPut, Without, With, IsRefusal, IsSoFar}
-use Rattle.yp_revnet.proofs.Meeting.{contains-none, contains-one}
-use Rattle.yp_revnet.proofs.Pieces.{first-in, later-in, in-cases}
+use Rattle.yp_netgroup.specs.declared.reverse.field.Field.{Field}
+use Rattle.yp_netgroup.specs.declared.reverse.fault.RevFault.{RevFault}
+use Rattle.yp_netgroup.specs.reverse.Reverse.{IsListed, IsReversed, IsReverse}
+use Rattle.yp_netgroup.specs.reverse.Refused.{RefusesRow, rule_of}
+use Rattle.yp_netgroup.specs.inside.reverse.Refused.{IsReverseCause, row_fault, IsPut, Without, With, IsReverseRefusal}
+use Rattle.yp_netgroup.specs.inside.reverse.Refused.{IsSoFar}
+use Rattle.yp_netgroup.proofs.reverse.Meeting.{contains-none, contains-one}
+use Rattle.yp_netgroup.proofs.reverse.Pieces.{first-in, later-in, in-cases}
 
 abbrev Name : Type 0
 Name = List ℕ
@@ -160,10 +162,10 @@ module _ (rows : List Row) (field : Field) (start : Draft) where
         subst (λ (d : Draft). IsSoFar rows field start d (keys ++ key ∷ [])) (sym there) (pushed row at reversed fits)
 
     -- or it is the first that is refused
-    pub so_far-refused : (fault : RevFault) → IsRefusal rows field key draft fault
+    pub so_far-refused : (fault : RevFault) → IsReverseRefusal rows field key draft fault
         → ((other group : Name) → IsListed rows field other group → Contains keys other ⊎ ((key ≡ other) ⊎ (key_cmp key other ≡ Less)))
-        → IsCause rows field start fault
-    so_far-refused fault refusal all = subst (IsCause rows field start) (sym refusal.says) (by refusal.cause refusal.refuses)
+        → IsReverseCause rows field start fault
+    so_far-refused fault refusal all = subst (IsReverseCause rows field start) (sym refusal.says) (by refusal.cause refusal.refuses)
       where
         row : Row
         row = refusal.row
@@ -194,7 +196,7 @@ module _ (rows : List Row) (field : Field) (start : Draft) where
           rule_is = is_rule;
         }
 
-        by : (cause : VersionFault) → refused draft row ≡ Some cause → IsCause rows field start (row_fault (length draft.rows) cause)
+        by : (cause : VersionFault) → refused draft row ≡ Some cause → IsReverseCause rows field start (row_fault (length draft.rows) cause)
         by (KeyLong len) e = by_rule (KeyLong len) e 1 refl
         by (ValueLong len) e = by_rule (ValueLong len) e 2 refl
         by TooManyRows e = by_rule TooManyRows e 3 refl

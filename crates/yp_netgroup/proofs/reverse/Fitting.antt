@@ -8,12 +8,12 @@ use Rattle.std.specs.List.{list_any}
 use Rattle.std.proofs.lemmas.Bool.Decides.{nat_tests}
 use Rattle.yp_netgroup.specs.Parts.{Triple}
 use Rattle.yp_netgroup.specs.Reach.{fits}
-use Rattle.yp_revnet.specs.declared.field.Field.{Field}
-use Rattle.yp_revnet.specs.declared.field.Field.TheVariants.{User, Host}
-use Rattle.yp_revnet.specs.Keys.{part_of, is_dash, counts, folded, or_any, dotted, key_of}
-use Rattle.yp_revnet.specs.Listed.{any, keys_for, has_dot, is_mixed, is_plain, asked_for}
-use Rattle.yp_revnet.proofs.Dots.{or_left, or_right, or_cases, neither, both, parted, not_true, not_false, same, equal}
-use Rattle.yp_revnet.proofs.Dots.{undotted, lower_dots, lower_asterisk}
+use Rattle.yp_netgroup.specs.declared.reverse.field.Field.{Field}
+use Rattle.yp_netgroup.specs.declared.reverse.field.Field.TheVariants.{User, Host}
+use Rattle.yp_netgroup.specs.reverse.Keys.{part_of, is_dash, counts, folded, or_any, dotted, key_of}
+use Rattle.yp_netgroup.specs.inside.reverse.Listed.{any, keys_for, has_dot, is_mixed, is_plain, asked_for}
+use Rattle.yp_netgroup.proofs.reverse.Dots.{or_left, or_right, or_cases, neither, both, parted, not_true, not_false, same, equal}
+use Rattle.yp_netgroup.proofs.reverse.Dots.{undotted, lower_dots, lower_asterisk}
 
 -- ---- one field
 

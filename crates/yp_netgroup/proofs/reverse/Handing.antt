@@ -2,7 +2,7 @@
 use Rattle.std.proofs.Common.{◌≡◌, Result, Ok, Err, subst, sym}
 use Rattle.std.specs.Prelude.{IfErr}
 use Rattle.std.specs.Result.{IsErrAnd}
-use Rattle.yp_revnet.specs.declared.fault.RevFault.{RevFault}
+use Rattle.yp_netgroup.specs.declared.reverse.fault.RevFault.{RevFault}
 
 -- what is so of it is so of what is answered
 pub err_same : {T : Type 0} (result : Result T RevFault) (fault : RevFault) (P : RevFault → Type 0)

@@ -5,17 +5,17 @@ use Rattle.std.specs.Borrow.{Bor}
 use Rattle.std.specs.List.Sorted.{IsStrictlySortedBy}
 use Rattle.yp_version.specs.Rows.{Row, key_cmp}
 use Rattle.yp_netgroup.specs.Reach.{members_of}
-use Rattle.yp_revnet.specs.declared.field.Field.{Field}
-use Rattle.yp_revnet.specs.declared.keys.Listing.{Listing}
-use Rattle.yp_revnet.specs.Links.{Link, LinkTable, bytes_in, under, sources, listing, key_in}
-use Rattle.yp_revnet.specs.Listings.{link_of}
-use Rattle.yp_revnet.specs.Refused.{HasAllKeys}
-use Rattle.yp_revnet.specs.Reverse.{IsListed}
-use Rattle.yp_revnet.specs.Groups.{IsKeptOf, IsReadOf}
-use Rattle.yp_revnet.proofs.Dots.{same}
-use Rattle.yp_revnet.proofs.Leading.{names_link, key_picked}
-use Rattle.yp_revnet.proofs.Meeting.{contains-none}
-use Rattle.yp_revnet.proofs.Pieces.{first-in, later-in}
+use Rattle.yp_netgroup.specs.declared.reverse.field.Field.{Field}
+use Rattle.yp_netgroup.specs.declared.reverse.keys.Listing.{Listing}
+use Rattle.yp_netgroup.specs.inside.reverse.Links.{Link, LinkTable, bytes_in, under, sources, listing, key_in}
+use Rattle.yp_netgroup.specs.inside.reverse.Listings.{link_of}
+use Rattle.yp_netgroup.specs.inside.reverse.Refused.{HasAllKeys}
+use Rattle.yp_netgroup.specs.reverse.Reverse.{IsListed}
+use Rattle.yp_netgroup.specs.inside.reverse.Groups.{IsKeptOf, IsReadOf}
+use Rattle.yp_netgroup.proofs.reverse.Dots.{same}
+use Rattle.yp_netgroup.proofs.reverse.Leading.{names_link, key_picked}
+use Rattle.yp_netgroup.proofs.reverse.Meeting.{contains-none}
+use Rattle.yp_netgroup.proofs.reverse.Pieces.{first-in, later-in}
 
 abbrev Name : Type 0
 Name = List ℕ

@@ -8,20 +8,21 @@ use Rattle.std.specs.Map.{keys_of, lookup}
 use Rattle.std.proofs.lemmas.Cmp.{nat_list_eq_equiv}
 use Rattle.std.proofs.lemmas.List.Elements.{Contains-append_left, Contains-append_right, Contains-append_cases}
 use Rattle.std.proofs.lemmas.Map.Views.{lookup-from_Contains}
-use Rattle.yp_version.specs.Rows.{Row, HasDistinctKeys, key_cmp, value_of}
+use Rattle.yp_version.specs.Rows.{Row, key_cmp, value_of}
+use Rattle.yp_version.specs.inside.Rows.{HasDistinctKeys}
 use Rattle.yp_netgroup.specs.Parts.{Part, Triple, Includes, Lists, parts, names, triples, name_of, triple_in_part}
-use Rattle.yp_netgroup.specs.Reach.{Names, Reaches, Itself, Onward, members_of}
-use Rattle.yp_revnet.specs.declared.field.Field.{Field}
-use Rattle.yp_revnet.specs.Keys.{counts, key_of, has_key}
-use Rattle.yp_revnet.specs.Links.{Link, source, sources, naming, listing, key_in}
-use Rattle.yp_revnet.specs.Back.{Leads, Start, Back}
-use Rattle.yp_revnet.specs.Reverse.{is_name, HasKey}
-use Rattle.yp_revnet.specs.Groups.{IsGroups}
-use Rattle.yp_revnet.proofs.Dots.{both, parted, same, equal}
-use Rattle.yp_revnet.proofs.Linking.{sources-append}
-use Rattle.yp_revnet.proofs.Looking.{Found, found, finds, row_of, no_parts}
-use Rattle.yp_revnet.proofs.Meeting.{contains-none}
-use Rattle.yp_revnet.proofs.Pieces.{first-in, later-in, in-cases, Contains-map, Contains-filter, from-filter, picked, Contains-pick}
+use Rattle.yp_netgroup.specs.Reach.{NamesGroup, Reaches, Itself, Onward, members_of}
+use Rattle.yp_netgroup.specs.declared.reverse.field.Field.{Field}
+use Rattle.yp_netgroup.specs.reverse.Keys.{counts, key_of, has_key}
+use Rattle.yp_netgroup.specs.inside.reverse.Links.{Link, source, sources, naming, listing, key_in}
+use Rattle.yp_netgroup.specs.inside.reverse.Back.{LeadsBack, Start, Back}
+use Rattle.yp_netgroup.specs.reverse.Reverse.{is_name, HasKey}
+use Rattle.yp_netgroup.specs.inside.reverse.Groups.{IsGroups}
+use Rattle.yp_netgroup.proofs.reverse.Dots.{both, parted, same, equal}
+use Rattle.yp_netgroup.proofs.reverse.Linking.{sources-append}
+use Rattle.yp_netgroup.proofs.reverse.Looking.{Found, found, finds, row_of, no_parts}
+use Rattle.yp_netgroup.proofs.reverse.Meeting.{contains-none}
+use Rattle.yp_netgroup.proofs.reverse.Pieces.{first-in, later-in, in-cases, Contains-map, Contains-filter, from-filter, picked, Contains-pick}
 
 abbrev Name : Type 0
 Name = List ℕ
@@ -169,13 +170,13 @@ module _ (rows : List Row) where
       Contains-map (λ (row : Row). row.0) rows (group, at.text) at.row
 
   -- a group that names one that reaches another reaches it, too
-  reaches_front : (group name via : Name) → Names rows group name → Reaches rows name via → Reaches rows group via
+  reaches_front : (group name via : Name) → NamesGroup rows group name → Reaches rows name via → Reaches rows group via
   reaches_front group name via named Itself = Onward Itself named
   reaches_front group name via named (Onward {via = mid} reached last) = Onward (reaches_front group name mid named reached) last
 
   module _ (distinct : HasDistinctKeys rows) (field : Field) (key : Name) (under : Name → List Name) (starts : List Name)
       (are : (name : Name) → under name ≡ sources name (naming rows)) (begin : starts ≡ sources key (listing field rows)) where
-    leads_has : (group : Name) → Leads under starts group → HasKey rows field key group
+    leads_has : (group : Name) → LeadsBack under starts group → HasKey rows field key group
     leads_has group (Start h) = record {
       via = group;
       reached = Itself;
@@ -190,24 +191,24 @@ module _ (rows : List Row) where
           listed = has.listed;
         }
 
-    leads_row : (group : Name) → Leads under starts group → Contains (keys_of rows) group
+    leads_row : (group : Name) → LeadsBack under starts group → Contains (keys_of rows) group
     leads_row group (Start h) = link_row (key_in field) key group (subst (λ groups. Contains groups group) begin h)
     leads_row group (Back {via} led below) = link_row name_of via group (subst (λ groups. Contains groups group) (are via) below)
 
-    reaches_leads : (group via : Name) → Reaches rows group via → Leads under starts via → Leads under starts group
+    reaches_leads : (group via : Name) → Reaches rows group via → LeadsBack under starts via → LeadsBack under starts group
     reaches_leads group via Itself led = led
     reaches_leads group via (Onward {via = mid} reached named) led =
         reaches_leads group mid reached
         (Back led (subst (λ groups. Contains groups mid) (sym (are via)) (names_link name_of via mid named)))
 
-    has_leads : (group : Name) → HasKey rows field key group → Leads under starts group
+    has_leads : (group : Name) → HasKey rows field key group → LeadsBack under starts group
     has_leads group has =
         reaches_leads group has.via has.reached
         (Start (subst (λ groups. Contains groups has.via) (sym begin)
         (names_link (key_in field) key has.via (key_picked field key (members_of rows has.via) has.listed))))
 
     -- of the groups that lead to it, those with names that a text can spell are those of the key
-    pub leading_groups : (seen groups : List Name) → ((group : Name) → Contains seen group ↔ Leads under starts group)
+    pub leading_groups : (seen groups : List Name) → ((group : Name) → Contains seen group ↔ LeadsBack under starts group)
         → IsStrictlySortedBy key_cmp groups → ((group : Name) → Contains groups group ↔ Contains (filter is_name seen) group)
         → IsGroups rows field key groups
     leading_groups seen groups led sorted spelled = record {

@@ -9,8 +9,8 @@ use Rattle.std.proofs.lemmas.Option.{slice_get_within}
 use Rattle.std.proofs.lemmas.Grind.{flat_map-append}
 use Rattle.indexmap.specs.IndexMap.{insert_entry}
 use Rattle.yp_version.specs.Rows.{Row}
-use Rattle.yp_revnet.specs.Links.{Link, source, sources, bytes_of}
-use Rattle.yp_revnet.proofs.Dots.{same, equal}
+use Rattle.yp_netgroup.specs.inside.reverse.Links.{Link, source, sources, bytes_of}
+use Rattle.yp_netgroup.proofs.reverse.Dots.{same, equal}
 
 abbrev pub Names : Type 0
 Names = Vec (Bor (List ℕ)) Global

@@ -10,13 +10,15 @@ use Rattle.std.proofs.lemmas.Map.Made.{is_some-lookup}
 use Rattle.std.proofs.lemmas.Map.Views.{Contains-from_lookup}
 use Rattle.yp_version.specs.Rows.{Row, value_of}
 use Rattle.yp_netgroup.specs.Parts.{Part, Triple, parts, names, triples, is_comma}
-use Rattle.yp_netgroup.specs.Reach.{Asked, Names, Reaches, Itself, Onward, members_of, fits, has_fitting, IsMember}
-use Rattle.yp_revnet.specs.declared.field.Field.{Field}
-use Rattle.yp_revnet.specs.Keys.{counts, folded, key_of}
-use Rattle.yp_revnet.specs.Reverse.{is_name, HasKey, IsListed, IsReversed, IsReverse}
-use Rattle.yp_revnet.specs.Listed.{has_group, keys_for, is_listed, has_dot, is_mixed, is_split, is_plain, asked_for, ListedIsMembership}
-use Rattle.yp_revnet.proofs.Dots.{both, parted, not_true, same, equal, joined_split}
-use Rattle.yp_revnet.proofs.Fitting.{fitting_has, having_fits}
+use Rattle.yp_netgroup.specs.Reach.{SoughtMember, NamesGroup, Reaches, Itself, Onward, members_of, fits, has_fitting}
+use Rattle.yp_netgroup.specs.inside.Reach.{IsMember}
+use Rattle.yp_netgroup.specs.declared.reverse.field.Field.{Field}
+use Rattle.yp_netgroup.specs.reverse.Keys.{counts, folded, key_of}
+use Rattle.yp_netgroup.specs.reverse.Reverse.{is_name, HasKey, IsListed, IsReversed, IsReverse}
+use Rattle.yp_netgroup.specs.inside.reverse.Listed.{has_group, keys_for, is_listed, has_dot, is_mixed, is_split}
+use Rattle.yp_netgroup.specs.inside.reverse.Listed.{is_plain, asked_for, ListedIsMembership}
+use Rattle.yp_netgroup.proofs.reverse.Dots.{both, parted, not_true, same, equal, joined_split}
+use Rattle.yp_netgroup.proofs.reverse.Fitting.{fitting_has, having_fits}
 
 abbrev Name : Type 0
 Name = List ℕ
@@ -77,7 +79,7 @@ module _ (rows : List Row) where
   none : (x : Name) → Contains [] x → ⊥
   none x h = absurd (omega (arith, h.1))
 
-  naming_row : (group name : Name) → Names rows group name → Contains (keys_of rows) group
+  naming_row : (group name : Name) → NamesGroup rows group name → Contains (keys_of rows) group
   naming_row group name named =
       elim (row_case group (is_some (value_of group rows)) refl) [
         | inl has ↦ has
@@ -89,7 +91,7 @@ module _ (rows : List Row) where
   reaching_row group via Itself has = has
   reaching_row group via (Onward {via = mid} reached named) has = reaching_row group mid reached (naming_row mid via named)
 
-  fitting_row : (asked : Asked) (via : Name) → has_fitting asked (members_of rows via) ≡ true → Contains (keys_of rows) via
+  fitting_row : (asked : SoughtMember) (via : Name) → has_fitting asked (members_of rows via) ≡ true → Contains (keys_of rows) via
   fitting_row asked via fits =
       elim (row_case via (is_some (value_of via rows)) refl) [
         | inl has ↦ has

@@ -8,9 +8,9 @@ use Rattle.std.proofs.lemmas.List.{get_or_append_left, get_or_default, map-appen
 use Rattle.std.proofs.lemmas.List.Elements.{Contains-get_or, Contains-append_left, Contains-append_right, Contains-append_cases}
 use Rattle.indexmap.specs.IndexSet.{insert_key, insert_all}
 use Rattle.indexmap.proofs.CallerLemmas.{Contains-insert_key}
-use Rattle.yp_revnet.specs.Back.{Leads, Start, Back, IsMet}
-use Rattle.yp_revnet.proofs.Dots.{same}
-use Rattle.yp_revnet.proofs.Linking.{alike}
+use Rattle.yp_netgroup.specs.inside.reverse.Back.{LeadsBack, Start, Back, IsMetBack}
+use Rattle.yp_netgroup.proofs.reverse.Dots.{same}
+use Rattle.yp_netgroup.proofs.reverse.Linking.{alike}
 
 abbrev Name : Type 0
 Name = List ℕ
@@ -115,7 +115,7 @@ all-from met (name ∷ more) x h =
 
 module _ (under : Name → List Name) (starts : List Name) where
   -- the starts are met first
-  pub met-first : IsMet under starts (insert_all bytes_eq [] starts) 0
+  pub met-first : IsMetBack under starts (insert_all bytes_eq [] starts) 0
   met-first = record {
     reached = λ name h. elim (all-from [] starts name h) [ inl old ↦ absurd (contains-none name old) | inr new ↦ Start new ];
     started = λ name h. all-new [] starts name h;
@@ -123,8 +123,8 @@ module _ (under : Name → List Name) (starts : List Name) where
   }
 
   -- those under the next name are met
-  pub met-next : (met : List Name) (read : ℕ) (name : Name) → IsMet under starts met read → read < length met
-      → name ≡ get_or met read [] → IsMet under starts (insert_all bytes_eq met (under name)) (read + 1)
+  pub met-next : (met : List Name) (read : ℕ) (name : Name) → IsMetBack under starts met read → read < length met
+      → name ≡ get_or met read [] → IsMetBack under starts (insert_all bytes_eq met (under name)) (read + 1)
   met-next met read name is within at =
       let added = under name in
       let new = insert_all bytes_eq met added in
@@ -142,8 +142,8 @@ module _ (under : Name → List Name) (starts : List Name) where
       }
 
   -- at the end all that are led to are met
-  pub met-whole : (met : List Name) (read : ℕ) → length met ≤ read → IsMet under starts met read
-      → (name : Name) → Leads under starts name → Contains met name
+  pub met-whole : (met : List Name) (read : ℕ) → length met ≤ read → IsMetBack under starts met read
+      → (name : Name) → LeadsBack under starts name → Contains met name
   met-whole met read whole is name (Start h) = is.started name h
   met-whole met read whole is name (Back {via} led below) =
       let found = met-whole met read whole is via led in

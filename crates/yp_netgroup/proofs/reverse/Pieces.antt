@@ -3,7 +3,7 @@ use Rattle.std.proofs.Common.{◌≡◌, Bool, true, false, cond, List, [], ◌�
 use Rattle.std.specs.Prelude.{filter}
 use Rattle.std.specs.List.{filter_map, cons_option}
 use Rattle.std.proofs.lemmas.List.Elements.{Contains-append_left, Contains-append_right, Contains-append_cases}
-use Rattle.yp_revnet.proofs.Meeting.{contains-none, contains-one}
+use Rattle.yp_netgroup.proofs.reverse.Meeting.{contains-none, contains-one}
 
 -- the first item is in a list, and so are those of the rest
 pub first-in : {X : Type 0} (x : X) (xs : List X) → Contains (x ∷ xs) x

@@ -1,5 +1,3 @@
-pub mod Keys
-pub mod Reverse
 pub mod Listed
 pub mod Links
 pub mod Listings

@@ -1,10 +1,11 @@
--- The keys of a reverse netgroup map: a user or a host, a dot, and a domain.
+-- The keys of a reverse netgroup map: a user or a host, a dot, and a domain, as clients ask netgroup.byuser and
+-- netgroup.byhost. What counts, and what is in lower case, is this project's choice where netgroup(5) says nothing.
 use Rattle.std.specs.Prelude.{ℕ, Bool, not, ◌||◌, ◌&&◌, List, [], ◌∷◌, ◌++◌, bytes_eq, codes}
 use Rattle.std.specs.List.{list_any}
 use Rattle.std.specs.Str.{str_to_ascii_lowercase}
 use Rattle.yp_netgroup.specs.Parts.{Triple, Part, triples}
-use Rattle.yp_revnet.specs.declared.field.Field.{Field}
-use Rattle.yp_revnet.specs.declared.field.Field.TheVariants.{User, Host}
+use Rattle.yp_netgroup.specs.declared.reverse.field.Field.{Field}
+use Rattle.yp_netgroup.specs.declared.reverse.field.Field.TheVariants.{User, Host}
 
 -- the part of a triple that a map is reversed by
 abbrev pub part_of : Field → Triple → List ℕ

@@ -6,8 +6,8 @@ use Rattle.std.specs.Map.{keys_of}
 use Rattle.yp_version.specs.Rows.{Row, IsRising, key_cmp}
 use Rattle.yp_netgroup.specs.Parts.{is_name_byte}
 use Rattle.yp_netgroup.specs.Reach.{Reaches, members_of}
-use Rattle.yp_revnet.specs.declared.field.Field.{Field}
-use Rattle.yp_revnet.specs.Keys.{has_key}
+use Rattle.yp_netgroup.specs.declared.reverse.field.Field.{Field}
+use Rattle.yp_netgroup.specs.reverse.Keys.{has_key}
 
 -- a name that a text can spell
 abbrev pub is_name : List ℕ → Bool

@@ -2,10 +2,10 @@
 
 ghost use Rattle.std.specs.Prelude.{◌≡◌, ◌↔◌, ℕ, List, [], Contains, IfOk, OnOk, bytes_eq};
 ghost use Rattle.indexmap.specs.IndexSet.{insert_all};
-ghost use Rattle.yp_revnet.specs.Links.{bytes_in, under};
-ghost use Rattle.yp_revnet.specs.Back.{Leads};
+ghost use Rattle.yp_netgroup.specs.inside.reverse.Links.{bytes_in, under};
+ghost use Rattle.yp_netgroup.specs.inside.reverse.Back.{LeadsBack};
 
-use crate::links::Links;
+use crate::reverse::links::Links;
 use indexmap::IndexSet;
 use std::alloc::Global;
 use std::hash::RandomState;
@@ -13,10 +13,10 @@ use std::random::RandomSource;
 use yp_io::NoMemory;
 
 // The groups that were met so far, in the order of meeting.
-pub(crate) type Seen<'a> = IndexSet<&'a [u8], RandomState>;
+pub(crate) type NameSet<'a> = IndexSet<&'a [u8], RandomState>;
 
 // No groups.
-fn none_met<'a>(alloc: Global, rt: &impl RandomSource) -> Result<Seen<'a>, NoMemory>
+fn none_met<'a>(alloc: Global, rt: &impl RandomSource) -> Result<NameSet<'a>, NoMemory>
     ensures { IfOk result (λ seen. bytes_in seen.keys ≡ []) }
 {
     match RandomState::new(rt) {
@@ -26,7 +26,7 @@ fn none_met<'a>(alloc: Global, rt: &impl RandomSource) -> Result<Seen<'a>, NoMem
 }
 
 // Meets groups.
-fn meet<'a>(groups: &[&'a [u8]], seen: &mut Seen<'a>) -> Result<(), NoMemory>
+fn meet<'a>(groups: &[&'a [u8]], seen: &mut NameSet<'a>) -> Result<(), NoMemory>
     ensures { OnOk result (bytes_in seen.new.keys
         ≡ insert_all bytes_eq (bytes_in seen.old.keys) (bytes_in groups.now)) }
 {
@@ -37,7 +37,7 @@ fn meet<'a>(groups: &[&'a [u8]], seen: &mut Seen<'a>) -> Result<(), NoMemory>
 }
 
 // Meets the groups under a name.
-fn meet_under<'a>(links: &Links<'a>, name: &[u8], seen: &mut Seen<'a>) -> Result<(), NoMemory>
+fn meet_under<'a>(links: &Links<'a>, name: &[u8], seen: &mut NameSet<'a>) -> Result<(), NoMemory>
     ensures { OnOk result (bytes_in seen.new.keys
         ≡ insert_all bytes_eq (bytes_in seen.old.keys) (under links.now name.now)) }
 {
@@ -53,11 +53,11 @@ fn meet_leading<'a>(
     named: &Links<'a>,
     listed: &Links<'a>,
     key: &[u8],
-    seen: &mut Seen<'a>,
+    seen: &mut NameSet<'a>,
 ) -> Result<(), NoMemory>
     requires { bytes_in seen.old.keys ≡ [] }
     ensures { OnOk result ((name : List ℕ) →
-        Contains (bytes_in seen.new.keys) name ↔ Leads (under named.now) (under listed.now key.now) name) }
+        Contains (bytes_in seen.new.keys) name ↔ LeadsBack (under named.now) (under listed.now key.now) name) }
 {
     meet_under(listed, key, seen)?;
     let mut next = 0;
@@ -76,9 +76,9 @@ pub(crate) fn leading<'a>(
     named: &Links<'a>,
     listed: &Links<'a>,
     key: &[u8],
-) -> Result<Seen<'a>, NoMemory>
+) -> Result<NameSet<'a>, NoMemory>
     ensures { IfOk result (λ seen. (name : List ℕ) →
-        Contains (bytes_in seen.keys) name ↔ Leads (under named.now) (under listed.now key.now) name) }
+        Contains (bytes_in seen.keys) name ↔ LeadsBack (under named.now) (under listed.now key.now) name) }
 {
     let mut seen = none_met(alloc, rt)?;
     meet_leading(named, listed, key, &mut seen)?;

@@ -2,7 +2,7 @@
 
 ghost use Rattle.std.specs.Prelude.{◌≡◌, ◌≤◌};
 ghost use Rattle.yp_version.specs.Limits.{rows_max};
-ghost use Rattle.yp_revnet.specs.Refused.{row_fault};
+ghost use Rattle.yp_netgroup.specs.inside.reverse.Refused.{row_fault};
 
 use yp_io::NoMemory;
 use yp_version::VersionFault;
@@ -20,7 +20,7 @@ pub enum RevFault {
 
 impl From<NoMemory> for RevFault {
     ghost use Rattle.std.specs.Prelude.{◌≡◌};
-    ghost use Rattle.yp_revnet.specs.declared.fault.RevFault.TheVariants.{NoMemory as WithoutMemory};
+    ghost use Rattle.yp_netgroup.specs.declared.reverse.fault.RevFault.TheVariants.{NoMemory as WithoutMemory};
 
     ghost from_gives = { λ _ fault. fault ≡ WithoutMemory };
 

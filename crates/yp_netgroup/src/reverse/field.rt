@@ -2,7 +2,7 @@
 
 ghost use Rattle.std.specs.Prelude.{◌≡◌, ◌++◌, IfOk};
 ghost use Rattle.std.specs.Str.{str_to_ascii_lowercase};
-ghost use Rattle.yp_revnet.specs.Keys.{is_dash, folded, or_any, dotted};
+ghost use Rattle.yp_netgroup.specs.reverse.Keys.{is_dash, folded, or_any, dotted};
 
 use std::alloc::Global;
 use yp_io::NoMemory;

@@ -1,18 +1,18 @@
 //! The keys of a map's triples, and the groups that list them.
 
 ghost use Rattle.std.specs.Prelude.{◌≡◌, ◌++◌, ℕ, List, [], IfOk, OnOk, map, option_map};
-ghost use Rattle.yp_netgroup.specs.Member.{part_of as member_of};
+ghost use Rattle.yp_netgroup.specs.inside.Member.{part_of as member_of};
 ghost use Rattle.yp_netgroup.specs.Parts.{parts};
 ghost use Rattle.yp_version.specs.Rows.{IsRising};
-ghost use Rattle.yp_revnet.specs.Links.{bytes_in, key_in, listing, listing_members, sources, under};
-ghost use Rattle.yp_revnet.specs.Listings.{link_of};
+ghost use Rattle.yp_netgroup.specs.inside.reverse.Links.{bytes_in, key_in, listing, listing_members, sources, under};
+ghost use Rattle.yp_netgroup.specs.inside.reverse.Listings.{link_of};
 
-use crate::field::{Field, is_dash};
-use crate::links::{Links, no_links, put};
+use crate::reverse::field::{Field, is_dash};
+use crate::reverse::links::{Links, no_links, put};
+use crate::{Member, members};
 use std::alloc::Global;
 use std::random::RandomSource;
 use yp_io::NoMemory;
-use yp_netgroup::{Member, members};
 use yp_version::Version;
 
 // A key, and a group that lists a triple with it.

@@ -1,16 +1,16 @@
 //! Groups under the names and the keys by which others find them.
 
 ghost use Rattle.std.specs.Prelude.{◌≡◌, ◌++◌, ℕ, List, [], ◌∷◌, IfOk, OnOk, map};
-ghost use Rattle.yp_netgroup.specs.Member.{part_of as member_of};
+ghost use Rattle.yp_netgroup.specs.inside.Member.{part_of as member_of};
 ghost use Rattle.yp_netgroup.specs.Parts.{names};
-ghost use Rattle.yp_revnet.specs.Links.{source, sources, under, naming_text, naming};
+ghost use Rattle.yp_netgroup.specs.inside.reverse.Links.{source, sources, under, naming_text, naming};
 
+use crate::{Member, members};
 use indexmap::IndexMap;
 use std::alloc::Global;
 use std::hash::RandomState;
 use std::random::RandomSource;
 use yp_io::NoMemory;
-use yp_netgroup::{Member, members};
 use yp_version::Version;
 
 // Under each name the groups that were put under it, in their order. Names come from others, so they are hashed with

@@ -5,14 +5,14 @@ ghost use Rattle.std.specs.List.{list_any, slice_split};
 ghost use Rattle.std.specs.Str.{str_to_ascii_lowercase};
 ghost use Rattle.yp_version.specs.Rows.{value_of};
 ghost use Rattle.yp_netgroup.specs.Parts.{is_comma, parts, triples};
-ghost use Rattle.yp_netgroup.specs.Member.{part_of as member_of};
-ghost use Rattle.yp_revnet.specs.Keys.{folded, dotted};
-ghost use Rattle.yp_revnet.specs.Listed.{has_group, has_dot, keys_for, is_mixed, is_listed, is_split};
+ghost use Rattle.yp_netgroup.specs.inside.Member.{part_of as member_of};
+ghost use Rattle.yp_netgroup.specs.reverse.Keys.{folded, dotted};
+ghost use Rattle.yp_netgroup.specs.inside.reverse.Listed.{has_group, has_dot, keys_for, is_mixed, is_listed, is_split};
 
-use crate::field::{ANY, Field, dotted, is_dash, lowered};
+use crate::reverse::field::{ANY, Field, dotted, is_dash, lowered};
+use crate::{Member, members};
 use std::alloc::Global;
 use yp_io::NoMemory;
-use yp_netgroup::{Member, members};
 use yp_version::Version;
 
 // Whether a value lists a group: its groups have commas between.
@@ -64,7 +64,7 @@ fn stands_for(
 /// Whether a group is listed in a reverse map under a user, or a host, and a domain, or under any in place of either.
 /// Of domains and hosts, upper and lower case of ASCII letters are one. It takes the memory of these names and of one
 /// key.
-#[tactic(auto, unfolding(crate::specs::Listed::is_listed))]
+#[tactic(auto, unfolding(crate::specs::inside::reverse::Listed::is_listed))]
 pub fn listed_in(
     alloc: Global,
     reverse: &Version,
@@ -121,7 +121,7 @@ impl Field {
 
 /// Whether no triple that counts, of any row, has a domain with a dot in it, or an asterisk for its domain or its part:
 /// then the key of each is that of no other. It takes the memory of one row's members at a time.
-#[tactic(auto, unfolding(crate::specs::Listed::is_split))]
+#[tactic(auto, unfolding(crate::specs::inside::reverse::Listed::is_split))]
 pub fn split(alloc: Global, netgroup: &Version, field: Field) -> Result<bool, NoMemory>
     ensures { IfOk result (λ split. split ≡ is_split field netgroup.now.rows) }
 {

@@ -5,19 +5,19 @@ ghost use Rattle.yp_version.specs.Limits.{master_max};
 ghost use Rattle.yp_version.specs.Rows.{Row};
 ghost use Rattle.yp_version.specs.Drafts.{first_refused, empty_draft};
 ghost use Rattle.yp_version.specs.Versions.{unmarked};
-ghost use Rattle.yp_revnet.specs.declared.field.Field.{Field};
-ghost use Rattle.yp_revnet.specs.Groups.{IsReadOf};
-ghost use Rattle.yp_revnet.specs.Links.{naming, sources, under};
-ghost use Rattle.yp_revnet.specs.Listings.{link_of};
-ghost use Rattle.yp_revnet.specs.Reverse.{IsReverse};
-ghost use Rattle.yp_revnet.specs.Refused.{IsCause, HasAllRows};
+ghost use Rattle.yp_netgroup.specs.declared.reverse.field.Field.{Field};
+ghost use Rattle.yp_netgroup.specs.inside.reverse.Groups.{IsReadOf};
+ghost use Rattle.yp_netgroup.specs.inside.reverse.Links.{naming, sources, under};
+ghost use Rattle.yp_netgroup.specs.inside.reverse.Listings.{link_of};
+ghost use Rattle.yp_netgroup.specs.reverse.Reverse.{IsReverse};
+ghost use Rattle.yp_netgroup.specs.inside.reverse.Refused.{IsReverseCause, HasAllRows};
 
-use crate::fault::RevFault;
-use crate::field::Field;
-use crate::keys::{Listing, keys_of, listed};
-use crate::links::{Links, naming};
-use crate::rising::rising;
-use crate::rows::put_rows;
+use crate::reverse::fault::RevFault;
+use crate::reverse::field::Field;
+use crate::reverse::keys::{Listing, keys_of, listed};
+use crate::reverse::links::{Links, naming};
+use crate::reverse::rising::rising;
+use crate::reverse::rows::put_rows;
 use std::alloc::Global;
 use std::random::RandomSource;
 use yp_version::laws::rising_stays;
@@ -41,7 +41,8 @@ pub fn reverse(
     ensures reverse { IfOk result (λ version. IsReverse netgroup.now.rows field version.rows) }
     ensures version { IfOk result (λ version. version ≡ unmarked order master.now version.rows) }
     ensures fits { IfOk result (λ version. first_refused (empty_draft order master.now) version.rows ≡ None) }
-    ensures cause { IfErr result (λ fault. IsCause netgroup.now.rows field (empty_draft order master.now) fault) }
+    ensures cause { IfErr result (λ fault. IsReverseCause netgroup.now.rows field
+        (empty_draft order master.now) fault) }
 {
     rising_stays();
     let mut builder = VersionBuilder::new(alloc, rt, order, master)?;
@@ -59,7 +60,7 @@ fn put_all(
 ) -> Result<(), RevFault>
     requires none { builder.old.rows ≡ [] }
     ensures all { OnOk result (HasAllRows netgroup.now.rows field builder.old builder.new) }
-    ensures cause { IfErr result (λ fault. IsCause netgroup.now.rows field builder.old fault) }
+    ensures cause { IfErr result (λ fault. IsReverseCause netgroup.now.rows field builder.old fault) }
 {
     let named = naming(alloc, rt, netgroup)?;
     put_named(alloc, rt, netgroup, field, &named, builder)
@@ -77,7 +78,7 @@ fn put_named(
     requires names { (name : List ℕ) → under named.now name ≡ sources name (naming netgroup.now.rows) }
     requires none { builder.old.rows ≡ [] }
     ensures all { OnOk result (HasAllRows netgroup.now.rows field builder.old builder.new) }
-    ensures cause { IfErr result (λ fault. IsCause netgroup.now.rows field builder.old fault) }
+    ensures cause { IfErr result (λ fault. IsReverseCause netgroup.now.rows field builder.old fault) }
 {
     let listings = field.listings(alloc, netgroup)?;
     put_listings(alloc, rt, named, &listings, builder)
@@ -95,7 +96,7 @@ fn put_listings<'a>(
     ensures all { OnOk result ((rows : List Row) (field : Field)
         → IsReadOf rows field named.now (map link_of listings.now) → HasAllRows rows field builder.old builder.new) }
     ensures cause { IfErr result (λ fault. (rows : List Row) (field : Field)
-        → IsReadOf rows field named.now (map link_of listings.now) → IsCause rows field builder.old fault) }
+        → IsReadOf rows field named.now (map link_of listings.now) → IsReverseCause rows field builder.old fault) }
 {
     let listed = listed(alloc, rt, listings)?;
     put_keys(alloc, rt, named, &listed, listings, builder)
@@ -115,7 +116,7 @@ fn put_keys(
     ensures all { OnOk result ((rows : List Row) (field : Field)
         → IsReadOf rows field named.now (map link_of listings.now) → HasAllRows rows field builder.old builder.new) }
     ensures cause { IfErr result (λ fault. (rows : List Row) (field : Field)
-        → IsReadOf rows field named.now (map link_of listings.now) → IsCause rows field builder.old fault) }
+        → IsReadOf rows field named.now (map link_of listings.now) → IsReverseCause rows field builder.old fault) }
 {
     let keys = rising(keys_of(alloc, listings)?);
     put_rows(alloc, rt, named, listed, &keys, builder)

@@ -3,7 +3,7 @@
 ghost use Rattle.std.specs.Prelude.{◌≡◌, ◌↔◌, ℕ, List, Contains};
 ghost use Rattle.std.specs.List.Sorted.{IsStrictlySortedBy};
 ghost use Rattle.yp_version.specs.Rows.{key_cmp};
-ghost use Rattle.yp_revnet.specs.Links.{bytes_in};
+ghost use Rattle.yp_netgroup.specs.inside.reverse.Links.{bytes_in};
 
 // The same names in rising order, each once.
 pub(crate) fn rising<'a>(names: Vec<&'a [u8]>) -> Vec<&'a [u8]>

@@ -4,16 +4,17 @@ ghost use Rattle.std.specs.Prelude.{◌≡◌, ◌⊎◌, List, [], IfErr, OnOk}
 ghost use Rattle.std.specs.List.Sorted.{IsStrictlySortedBy};
 ghost use Rattle.yp_version.specs.Rows.{Row, key_cmp};
 ghost use Rattle.yp_version.specs.Drafts.{Draft};
-ghost use Rattle.yp_revnet.specs.declared.field.Field.{Field};
-ghost use Rattle.yp_revnet.specs.declared.fault.RevFault.TheVariants.{NoMemory as WithoutMemory};
-ghost use Rattle.yp_revnet.specs.Links.{bytes_in};
-ghost use Rattle.yp_revnet.specs.Reverse.{IsReversed};
-ghost use Rattle.yp_revnet.specs.Groups.{IsGroups, IsKeptOf};
-ghost use Rattle.yp_revnet.specs.Refused.{IsPut, IsRefusal, IsCause, IsSoFar, HasAllKeys};
+ghost use Rattle.yp_netgroup.specs.declared.reverse.field.Field.{Field};
+ghost use Rattle.yp_netgroup.specs.declared.reverse.fault.RevFault.TheVariants.{NoMemory as WithoutMemory};
+ghost use Rattle.yp_netgroup.specs.inside.reverse.Links.{bytes_in};
+ghost use Rattle.yp_netgroup.specs.reverse.Reverse.{IsReversed};
+ghost use Rattle.yp_netgroup.specs.inside.reverse.Groups.{IsGroups, IsKeptOf};
+ghost use Rattle.yp_netgroup.specs.inside.reverse.Refused.{IsPut, IsReverseRefusal, IsReverseCause, IsSoFar};
+ghost use Rattle.yp_netgroup.specs.inside.reverse.Refused.{HasAllKeys};
 
-use crate::fault::{RevFault, fault_of};
-use crate::groups::{groups_of, put_commas};
-use crate::links::Links;
+use crate::reverse::fault::{RevFault, fault_of};
+use crate::reverse::groups::{groups_of, put_commas};
+use crate::reverse::links::Links;
 use std::alloc::Global;
 use std::random::RandomSource;
 use yp_version::VersionBuilder;
@@ -23,7 +24,7 @@ fn push_row(key: &[u8], value: &[u8], builder: &mut VersionBuilder) -> Result<()
     ensures ok { OnOk result ((rows : List Row) (field : Field) → IsReversed rows field (key.now, value.now)
         → IsPut rows field key.now builder.old builder.new) }
     ensures err { IfErr result (λ fault. (rows : List Row) (field : Field) → IsReversed rows field (key.now, value.now)
-        → (fault ≡ WithoutMemory) ⊎ IsRefusal rows field key.now builder.old fault) }
+        → (fault ≡ WithoutMemory) ⊎ IsReverseRefusal rows field key.now builder.old fault) }
 {
     match builder.push(key, value) {
         Ok(_) => Ok(()),
@@ -42,7 +43,7 @@ fn put_groups(
         → IsPut rows field key.now builder.old builder.new) }
     ensures err { IfErr result (λ fault. (rows : List Row) (field : Field)
         → IsGroups rows field key.now (bytes_in groups.now)
-        → (fault ≡ WithoutMemory) ⊎ IsRefusal rows field key.now builder.old fault) }
+        → (fault ≡ WithoutMemory) ⊎ IsReverseRefusal rows field key.now builder.old fault) }
 {
     if groups.is_empty() {
         return Ok(());
@@ -64,7 +65,7 @@ fn put_row(
     ensures ok { OnOk result ((rows : List Row) (field : Field) → IsKeptOf rows field named.now listed.now
         → IsPut rows field key.now builder.old builder.new) }
     ensures err { IfErr result (λ fault. (rows : List Row) (field : Field) → IsKeptOf rows field named.now listed.now
-        → (fault ≡ WithoutMemory) ⊎ IsRefusal rows field key.now builder.old fault) }
+        → (fault ≡ WithoutMemory) ⊎ IsReverseRefusal rows field key.now builder.old fault) }
 {
     let groups = groups_of(alloc, rt, named, listed, key)?;
     put_groups(alloc, key, &groups, builder)
@@ -85,7 +86,7 @@ pub(crate) fn put_rows(
         → IsSoFar rows field start builder.new (bytes_in keys.now)) }
     ensures err { IfErr result (λ fault. (rows : List Row) (field : Field) (start : Draft)
         → IsKeptOf rows field named.now listed.now → IsSoFar rows field start builder.old []
-        → HasAllKeys rows field (bytes_in keys.now) → IsCause rows field start fault) }
+        → HasAllKeys rows field (bytes_in keys.now) → IsReverseCause rows field start fault) }
 {
     for key in keys {
         put_row(alloc, rt, named, listed, *key, builder)?;

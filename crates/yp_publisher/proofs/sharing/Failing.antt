@@ -5,30 +5,32 @@ use Rattle.std.proofs.lemmas.Option.{slice_get_cases, same_Some}
 use Rattle.std.proofs.lemmas.Bool.{cases_eq}
 use Rattle.std.proofs.lemmas.Bool.Decides.{nat_tests}
 use Rattle.yp_io.specs.Counts.{HasRisen, last_count}
-use Rattle.yp_io.specs.Disk.{History, GoesOn}
+use Rattle.yp_io.specs.Disk.{History, HistoryGoesOn}
 use Rattle.yp_version.specs.Versions.{MapVersion}
-use Rattle.yp_slot.specs.Commits.{generation_max}
-use Rattle.yp_slot.specs.declared.fault.SlotFault.{SlotFault}
-use Rattle.yp_slot.specs.declared.fault.SlotFault.TheVariants as slot
-use Rattle.yp_publish.specs.declared.install.Origin.{Origin}
-use Rattle.yp_publish.specs.declared.install.InstallFault.{InstallFault}
-use Rattle.yp_publish.specs.declared.install.InstallFault.TheVariants as fault
-use Rattle.yp_publish.specs.Standing.{MapStanding, Level, Kept, Published, OfMap, At, IsSameElsewhere}
-use Rattle.yp_publish.specs.Keeping.{Keeping, Upholds}
-use Rattle.yp_publish.specs.Installs.{Offer, IsBehind, HasMaster, IsNotNewer, IsSpent, Refusal, is_behind, is_foreign, is_no_newer, not_following, no_further, install_refusal, LeavesEither, Installs, Refuses}
-use Rattle.yp_publish.specs.Opens.{StandsMeanwhile, Opens, IsOpenCause, StaysBehind}
-use Rattle.yp_shared.specs.declared.locked.ShareFault.{ShareFault}
-use Rattle.yp_shared.specs.declared.locked.ShareFault.TheVariants.{Shut, Unfit, Untold}
-use Rattle.yp_shared.specs.Shares.{offer_behind, OpensAndInstalls, OpensAndRefuses, IsNotInstalled}
-use Rattle.yp_shared.specs.Failures.{failures_in, failures_of, faults_over, disks_of, IsWell, Covers}
+use Rattle.yp_map_file.specs.Commits.{generation_max}
+use Rattle.yp_map_file.specs.declared.fault.SlotFault.{SlotFault}
+use Rattle.yp_map_file.specs.declared.fault.SlotFault.TheVariants as slot
+use Rattle.yp_publisher.specs.declared.install.Origin.{Origin}
+use Rattle.yp_publisher.specs.declared.install.InstallFault.{InstallFault}
+use Rattle.yp_publisher.specs.declared.install.InstallFault.TheVariants as fault
+use Rattle.yp_publisher.specs.Standing.{MapStanding, Level, StoredMap, Published, OfMap, At, IsSameElsewhere}
+use Rattle.yp_publisher.specs.Keeping.{Keeping, Upholds}
+use Rattle.yp_publisher.specs.Installs.{OfferedVersion, IsBehind, HasMaster, IsNotNewer, IsSpent, Refusal, is_behind, is_foreign, is_no_newer, not_following, no_further, install_refusal, LeavesEither, Installs, Refuses}
+use Rattle.yp_publisher.specs.Opens.{StandsMeanwhile, Opens, IsOpenCause, StaysBehind}
+use Rattle.yp_publisher.specs.declared.sharing.locked.ShareFault.{ShareFault}
+use Rattle.yp_publisher.specs.declared.sharing.locked.ShareFault.TheVariants.{Shut, Unfit, Untold}
+use Rattle.yp_publisher.specs.sharing.Shares.{offer_behind}
+use Rattle.yp_publisher.specs.inside.sharing.Shares.{OpensAndInstalls, OpensAndRefuses, IsNotInstalled}
+use Rattle.yp_publisher.specs.sharing.Failures.{faults_over, disks_of}
+use Rattle.yp_publisher.specs.inside.sharing.Failures.{failures_in, failures_of, MapTellsFaults, Covers}
 
 -- ---- all faults, where one map has changed
 
 module _ {D : Type 0} (faults : D → ℕ) where
-  abbrev total : List (Kept D) → ℕ
+  abbrev total : List (StoredMap D) → ℕ
   total maps = faults_over faults (disks_of maps)
 
-  total_same : (xs ys : List (Kept D)) → length ys ≡ length xs → ((n : ℕ) → slice_get ys n ≡ slice_get xs n)
+  total_same : (xs ys : List (StoredMap D)) → length ys ≡ length xs → ((n : ℕ) → slice_get ys n ≡ slice_get xs n)
       → total ys ≡ total xs
   total_same [] [] count each = refl
   total_same [] (y ∷ ys) count each = absurd (omega (arith, count))
@@ -36,10 +38,10 @@ module _ {D : Type 0} (faults : D → ℕ) where
   total_same (x ∷ xs) (y ∷ ys) count each =
       let first : y ≡ x = same_Some y x (each 0) in
       let rest = total_same xs ys (omega (arith, count)) (λ n. each (suc n)) in
-      let same : faults y.disk ≡ faults x.disk = ap (λ (z : Kept D). faults z.disk) first in
+      let same : faults y.disk ≡ faults x.disk = ap (λ (z : StoredMap D). faults z.disk) first in
       omega (arith, rest, same)
 
-  total_one : (more number : ℕ) (xs ys : List (Kept D)) → length ys ≡ length xs
+  total_one : (more number : ℕ) (xs ys : List (StoredMap D)) → length ys ≡ length xs
       → ((other : ℕ) → other ≢ number → slice_get ys other ≡ slice_get xs other)
       → number < length xs
       → IfSome (slice_get xs number) (λ x. IfSome (slice_get ys number) (λ y. faults x.disk + more ≤ faults y.disk))
@@ -51,7 +53,7 @@ module _ {D : Type 0} (faults : D → ℕ) where
       omega (arith, rest, at)
   total_one more (suc number) (x ∷ xs) (y ∷ ys) count others below at =
       let first : y ≡ x = same_Some y x (others 0 (λ e. absurd (omega (arith, e)))) in
-      let same : faults y.disk ≡ faults x.disk = ap (λ (z : Kept D). faults z.disk) first in
+      let same : faults y.disk ≡ faults x.disk = ap (λ (z : StoredMap D). faults z.disk) first in
       let rest = total_one more number xs ys (omega (arith, count))
       (λ n apart. others (suc n) (λ e. apart (omega (arith, e)))) (omega (arith, below)) at in
       omega (arith, rest, same)
@@ -59,7 +61,7 @@ module _ {D : Type 0} (faults : D → ℕ) where
 -- ---- a map that has changed
 
 -- a disk that tells its history told it before
-pub told_before : (old new : Option History) → GoesOn old new → IsSome new → IsSome old
+pub told_before : (old new : Option History) → HistoryGoesOn old new → IsSome new → IsSome old
 told_before None None goes told = absurd cc
 told_before None (Some new) goes told = absurd goes
 told_before (Some old) new goes told = refl
@@ -70,49 +72,49 @@ none_told (Some history) none told = absurd cc
 
 module _ {D : Type 0} (history : D → Option History) (faults : D → ℕ) where
   -- so many files failed in it
-  pub record Fails (more : ℕ) (before after : Kept D) : Type 0 where
-    pub well : IsWell history faults after → IsWell history faults before
-    pub counted : IsWell history faults after → faults before.disk + more ≤ faults after.disk
+  pub record Fails (more : ℕ) (before after : StoredMap D) : Type 0 where
+    pub well : MapTellsFaults history faults after → MapTellsFaults history faults before
+    pub counted : MapTellsFaults history faults after → faults before.disk + more ≤ faults after.disk
 
-  fails_then : (one other : ℕ) (a b c : Kept D) → Fails one a b → Fails other b c → Fails (one + other) a c
+  fails_then : (one other : ℕ) (a b c : StoredMap D) → Fails one a b → Fails other b c → Fails (one + other) a c
   fails_then one other a b c first second = record {
     well = λ is. first.well (second.well is);
     counted = λ is. omega (arith, first.counted (second.well is), second.counted is);
   }
 
   -- of one map, while the others stay
-  covers_then : (started already more number : ℕ) (old new : List (Kept D)) (before after : Kept D)
+  covers_then : (started already more number : ℕ) (old new : List (StoredMap D)) (before after : StoredMap D)
       → IsSameElsewhere number old new → number < length old → slice_get old number ≡ Some before
       → slice_get new number ≡ Some after → Fails more before after
       → Covers history faults started old already → Covers history faults started new (already + more)
   covers_then started already more number old new before after elsewhere within here there fails covers = λ all.
-      let is : IsWell history faults after = subst (λ (o : Option (Kept D)). IfSome o (IsWell history faults)) there (all number) in
-      let was : (other : ℕ) → OfMap other old (IsWell history faults) = λ other. elim (cases_eq other number) [
-        | inl e ↦ subst (λ (n : ℕ). OfMap n old (IsWell history faults)) (sym e)
-            (subst (λ (o : Option (Kept D)). IfSome o (IsWell history faults)) (sym here) (fails.well is))
-        | inr ne ↦ subst (λ (o : Option (Kept D)). IfSome o (IsWell history faults)) (elsewhere.others other ne) (all other)
+      let is : MapTellsFaults history faults after = subst (λ (o : Option (StoredMap D)). IfSome o (MapTellsFaults history faults)) there (all number) in
+      let was : (other : ℕ) → OfMap other old (MapTellsFaults history faults) = λ other. elim (cases_eq other number) [
+        | inl e ↦ subst (λ (n : ℕ). OfMap n old (MapTellsFaults history faults)) (sym e)
+            (subst (λ (o : Option (StoredMap D)). IfSome o (MapTellsFaults history faults)) (sym here) (fails.well is))
+        | inr ne ↦ subst (λ (o : Option (StoredMap D)). IfSome o (MapTellsFaults history faults)) (elsewhere.others other ne) (all other)
       ] in
       let at : IfSome (slice_get old number) (λ x. IfSome (slice_get new number) (λ y. faults x.disk + more ≤ faults y.disk)) =
-      subst (λ (o : Option (Kept D)). IfSome o (λ x. IfSome (slice_get new number) (λ y. faults x.disk + more ≤ faults y.disk))) (sym here)
-      (subst (λ (o : Option (Kept D)). IfSome o (λ y. faults before.disk + more ≤ faults y.disk)) (sym there) (fails.counted is)) in
+      subst (λ (o : Option (StoredMap D)). IfSome o (λ x. IfSome (slice_get new number) (λ y. faults x.disk + more ≤ faults y.disk))) (sym here)
+      (subst (λ (o : Option (StoredMap D)). IfSome o (λ y. faults before.disk + more ≤ faults y.disk)) (sym there) (fails.counted is)) in
       let sums = total_one faults more number old new elsewhere.count elsewhere.others within at in
       omega (arith, covers was, sums)
 
 -- ---- the calls of a publisher
 
 -- a map that is there
-pub the_map : {D : Type 0} (maps : List (Kept D)) (number : ℕ) → number < length maps
-    → (kept : Kept D) × (slice_get maps number ≡ Some kept)
+pub the_map : {D : Type 0} (maps : List (StoredMap D)) (number : ℕ) → number < length maps
+    → (kept : StoredMap D) × (slice_get maps number ≡ Some kept)
 the_map maps number within = elim (slice_get_cases maps number).1 [
   | inl here ↦ (here.0, here.2)
   | inr past ↦ let le : length maps ≤ number = past.0 in absurd (omega arith)
 ]
 
-pub of_map : {D : Type 0} (P : Kept D → Type 0) (number : ℕ) (maps : List (Kept D)) (kept : Kept D)
+pub of_map : {D : Type 0} (P : StoredMap D → Type 0) (number : ℕ) (maps : List (StoredMap D)) (kept : StoredMap D)
     → slice_get maps number ≡ Some kept → OfMap number maps P → P kept
-of_map {D} P number maps kept here h = subst (λ (o : Option (Kept D)). IfSome o P) here h
+of_map {D} P number maps kept here h = subst (λ (o : Option (StoredMap D)). IfSome o P) here h
 
-pub at_map : {D : Type 0} (P : Kept D → Kept D → Type 0) (number : ℕ) (old new : List (Kept D)) (before after : Kept D)
+pub at_map : {D : Type 0} (P : StoredMap D → StoredMap D → Type 0) (number : ℕ) (old new : List (StoredMap D)) (before after : StoredMap D)
     → slice_get old number ≡ Some before → slice_get new number ≡ Some after → At number old new P → P before after
 at_map {D} P number old new before after here there h =
     of_map (P before) number new after there (of_map (λ b. OfMap number new (P b)) number old before here h)
@@ -131,7 +133,7 @@ opposed_is_spent : (generation : ℕ) (b : Bool) → (generation == generation_m
 opposed_is_spent generation true is spent = grind (arith, nat_tests)
 opposed_is_spent generation false is spent = absurd cc
 
-not_following_is_not_spent : (own : List ℕ) (offered : Offer) (version : Option MapVersion) (generation : ℕ)
+not_following_is_not_spent : (own : List ℕ) (offered : OfferedVersion) (version : Option MapVersion) (generation : ℕ)
     → option_or (not_following own offered version) (no_further generation) ≡ Some IsSpent
     → generation ≡ generation_max
 not_following_is_not_spent own offered None generation is =
@@ -146,12 +148,12 @@ not_following_is_not_spent own offered (Some version) generation is =
       by_cases false false h = opposed_is_spent generation (generation == generation_max) refl h
 
 -- of a level map it is the refusal of the first of the other reasons
-pub level_refusal : {D : Type 0} (own : List ℕ) (offered : Offer) (kept : Kept D) → kept.standing ≡ Level
+pub level_refusal : {D : Type 0} (own : List ℕ) (offered : OfferedVersion) (kept : StoredMap D) → kept.standing ≡ Level
     → install_refusal own offered kept ≡ option_or (not_following own offered kept.version) (no_further kept.generation)
 level_refusal own offered kept level =
     ap (λ (s : MapStanding). if is_behind s then Some IsBehind else option_or (not_following own offered kept.version) (no_further kept.generation)) level
 
-not_behind : (own : List ℕ) (offered : Offer) (version : Option MapVersion) (generation : ℕ)
+not_behind : (own : List ℕ) (offered : OfferedVersion) (version : Option MapVersion) (generation : ℕ)
     → option_or (not_following own offered version) (no_further generation) ≡ Some IsBehind → ⊥
 not_behind own offered None generation is = by_end (generation == generation_max) is where
   by_end : (b : Bool) → (if b then Some IsSpent else None) ≡ Some IsBehind → ⊥
@@ -171,14 +173,14 @@ risen_by_one : (before after : ℕ) → HasRisen before after → after < last_c
 risen_by_one before after risen below = omega (arith, risen, below)
 
 module _ {D B : Type 0} (keeping : Keeping D B) (number : ℕ) where
-  abbrev Step : ℕ → Kept D → Kept D → Type 0
+  abbrev Step : ℕ → StoredMap D → StoredMap D → Type 0
   Step = Fails keeping.history keeping.faults
 
-  fails_same : (before after : Kept D) → after ≡ before → Step 0 before after
-  fails_same before after e = subst (λ (k : Kept D). Step 0 before k) (sym e)
+  fails_same : (before after : StoredMap D) → after ≡ before → Step 0 before after
+  fails_same before after e = subst (λ (k : StoredMap D). Step 0 before k) (sym e)
       (record { well = λ is. is; counted = λ is. omega arith })
 
-  module _ (old new : Published D B) (before after : Kept D) (here : slice_get old.maps number ≡ Some before)
+  module _ (old new : Published D B) (before after : StoredMap D) (here : slice_get old.maps number ≡ Some before)
       (there : slice_get new.maps number ≡ Some after) where
     after_same : new ≡ old → after ≡ before
     after_same same =
@@ -193,16 +195,16 @@ module _ {D B : Type 0} (keeping : Keeping D B) (number : ℕ) where
             counts = omega (arith, never, is.counts);
             unspent = λ level spent.
                 let same = of_map (λ m. m.standing ≡ Level → new ≡ old) number old.maps before here opens.unchanged level in
-                subst (λ (k : Kept D). k.standing ≡ Level → k.generation ≢ generation_max) (after_same same) is.unspent level spent;
+                subst (λ (k : StoredMap D). k.standing ≡ Level → k.generation ≢ generation_max) (after_same same) is.unspent level spent;
           };
           counted = λ is. omega (arith, never);
         }
 
     -- of a version that nothing stands against
-    changed : (more : ℕ) (offered : Offer) → Upholds keeping number old new
+    changed : (more : ℕ) (offered : OfferedVersion) → Upholds keeping number old new
         → At number old.maps new.maps (LeavesEither keeping.history offered.version)
         → install_refusal old.catalogue.own offered before ≡ None
-        → (IsWell keeping.history keeping.faults after → keeping.faults before.disk + more ≤ keeping.faults after.disk)
+        → (MapTellsFaults keeping.history keeping.faults after → keeping.faults before.disk + more ≤ keeping.faults after.disk)
         → Step more before after
     changed more offered upheld meanwhile none counted =
         let never = at_map (λ b a. keeping.faults b.disk ≤ keeping.faults a.disk) number old.maps new.maps before after here there upheld.never_falls in
@@ -216,19 +218,19 @@ module _ {D B : Type 0} (keeping : Keeping D B) (number : ℕ) where
           counted = counted;
         }
 
-    never_rises : Upholds keeping number old new → IsWell keeping.history keeping.faults after
+    never_rises : Upholds keeping number old new → MapTellsFaults keeping.history keeping.faults after
         → keeping.faults before.disk + 0 ≤ keeping.faults after.disk
     never_rises upheld is =
         let never = at_map (λ b a. keeping.faults b.disk ≤ keeping.faults a.disk) number old.maps new.maps before after here there upheld.never_falls in
         omega (arith, never)
 
-    installed : (offered : Offer) → Installs keeping number offered old new → Step 0 before after
+    installed : (offered : OfferedVersion) → Installs keeping number offered old new → Step 0 before after
     installed offered installs =
         changed 0 offered installs.upheld installs.meanwhile
         (of_map (λ k. install_refusal old.catalogue.own offered k ≡ None) number old.maps before here installs.unopposed)
         (never_rises installs.upheld)
 
-    refused : (offered : Offer) (why : InstallFault) → before.standing ≡ Level
+    refused : (offered : OfferedVersion) (why : InstallFault) → before.standing ≡ Level
         → Refuses keeping number offered why old new → Step (failures_in (Unfit why)) before after
     refused offered fault.Behind level refuses =
         let cause = of_map (λ k. install_refusal old.catalogue.own offered k ≡ Some IsBehind) number old.maps before here refuses.cause in
@@ -240,8 +242,8 @@ module _ {D B : Type 0} (keeping : Keeping D B) (number : ℕ) where
         let cause = of_map (λ k. install_refusal old.catalogue.own offered k ≡ Some IsSpent) number old.maps before here refuses.cause in
         let spent : before.generation ≡ generation_max = not_following_is_not_spent old.catalogue.own offered before.version before.generation
         (sym (level_refusal old.catalogue.own offered before level) ∙ cause) in
-        let never : IsWell keeping.history keeping.faults after → ⊥ = λ is.
-        subst (λ (k : Kept D). k.standing ≡ Level → k.generation ≢ generation_max) (after_same refuses.left) is.unspent level spent in
+        let never : MapTellsFaults keeping.history keeping.faults after → ⊥ = λ is.
+        subst (λ (k : StoredMap D). k.standing ≡ Level → k.generation ≢ generation_max) (after_same refuses.left) is.unspent level spent in
         record { well = λ is. absurd (never is); counted = λ is. absurd (never is) }
     refused offered fault.DiskFault level refuses =
         let cause = of_map (λ k. install_refusal old.catalogue.own offered k ≡ None) number old.maps before here refuses.cause in
@@ -260,7 +262,7 @@ module _ {D B : Type 0} (keeping : Keeping D B) (number : ℕ) where
       behind : before.standing ≢ Level
       behind = of_map (λ m. m.standing ≢ Level) number old.maps before here stays.behind
 
-      well : IsWell keeping.history keeping.faults after → IsWell keeping.history keeping.faults before
+      well : MapTellsFaults keeping.history keeping.faults after → MapTellsFaults keeping.history keeping.faults before
       well is =
           let never = at_map (λ b a. keeping.faults b.disk ≤ keeping.faults a.disk) number old.maps new.maps before after here there stays.upheld.never_falls in
           let meanwhile = at_map (StandsMeanwhile keeping.history) number old.maps new.maps before after here there stays.meanwhile in record {
@@ -334,12 +336,12 @@ module _ {D B : Type 0} (keeping : Keeping D B) (number : ℕ) where
     not_installed_covers Untold is = absurd is
 
 -- fewer failures are covered, too
-pub covers_fewer : {D : Type 0} (history : D → Option History) (faults : D → ℕ) (started fewer more : ℕ) (maps : List (Kept D))
+pub covers_fewer : {D : Type 0} (history : D → Option History) (faults : D → ℕ) (started fewer more : ℕ) (maps : List (StoredMap D))
     → fewer ≤ more → Covers history faults started maps more → Covers history faults started maps fewer
 covers_fewer history faults started fewer more maps le covers = λ all. let all_of = covers all in omega (arith, le, all_of)
 
 -- before the first
-pub covers_none : {D : Type 0} (history : D → Option History) (faults : D → ℕ) (started : ℕ) (maps : List (Kept D))
+pub covers_none : {D : Type 0} (history : D → Option History) (faults : D → ℕ) (started : ℕ) (maps : List (StoredMap D))
     → faults_over faults (disks_of maps) ≡ started → Covers history faults started maps 0
 covers_none history faults started maps is = λ all. omega (arith, is)
 

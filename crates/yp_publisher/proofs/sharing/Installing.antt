@@ -7,21 +7,22 @@ use Rattle.yp_version.specs.Versions.{MapVersion}
 use Rattle.yp_board.specs.Catalogues.{Catalogue}
 use Rattle.yp_board.specs.Logs.{Log, shown}
 use Rattle.yp_board.specs.Views.{IsFront}
-use Rattle.yp_publish.specs.declared.install.Origin.{Origin}
-use Rattle.yp_publish.specs.declared.install.InstallFault.{InstallFault}
-use Rattle.yp_publish.specs.declared.install.InstallFault.TheVariants as fault
-use Rattle.yp_publish.specs.Standing.{Kept, Published, At}
-use Rattle.yp_publish.specs.Keeping.{Keeping}
-use Rattle.yp_publish.specs.Installs.{Offer, Leaves, Installs, not_following}
-use Rattle.yp_publish.specs.Opens.{IsAnother, Opens}
-use Rattle.yp_publish.specs.Rising.{with_shown}
-use Rattle.yp_shared.specs.declared.locked.ShareFault.{ShareFault}
-use Rattle.yp_shared.specs.declared.locked.ShareFault.TheVariants.{Shut, Unfit, Untold}
-use Rattle.yp_shared.specs.Shares.{offer_behind, OpensAndInstalls, IsRefused, IsNotInstalled, IsShownBehind}
+use Rattle.yp_publisher.specs.declared.install.Origin.{Origin}
+use Rattle.yp_publisher.specs.declared.install.InstallFault.{InstallFault}
+use Rattle.yp_publisher.specs.declared.install.InstallFault.TheVariants as fault
+use Rattle.yp_publisher.specs.Standing.{StoredMap, Published, At}
+use Rattle.yp_publisher.specs.Keeping.{Keeping}
+use Rattle.yp_publisher.specs.Installs.{OfferedVersion, FaultLeaves, Installs, not_following}
+use Rattle.yp_publisher.specs.Opens.{IsAnother, Opens}
+use Rattle.yp_publisher.specs.Rising.{with_shown}
+use Rattle.yp_publisher.specs.declared.sharing.locked.ShareFault.{ShareFault}
+use Rattle.yp_publisher.specs.declared.sharing.locked.ShareFault.TheVariants.{Shut, Unfit, Untold}
+use Rattle.yp_publisher.specs.sharing.Shares.{offer_behind, IsShownBehind}
+use Rattle.yp_publisher.specs.inside.sharing.Shares.{OpensAndInstalls, OfferIsRefused, IsNotInstalled}
 
 -- after a fault no version was shown
-pub unshown : {D B : Type 0} (keeping : Keeping D B) (number : ℕ) (offered : Offer) (why : InstallFault)
-    (old new : Published D B) → Leaves keeping number offered why old new → new.board ≡ old.board
+pub unshown : {D B : Type 0} (keeping : Keeping D B) (number : ℕ) (offered : OfferedVersion) (why : InstallFault)
+    (old new : Published D B) → FaultLeaves keeping number offered why old new → new.board ≡ old.board
 unshown {D} {B} keeping number offered fault.Behind old new h = ap (λ (p : Published D B). p.board) h
 unshown {D} {B} keeping number offered (fault.Refused master) old new h = ap (λ (p : Published D B). p.board) h
 unshown {D} {B} keeping number offered (fault.Age before order) old new h = ap (λ (p : Published D B). p.board) h
@@ -33,16 +34,16 @@ unshown {D} {B} keeping number offered fault.NoMemory old new h = elim h [
 ]
 
 -- what holds of a map before and after a call, where there is that map
-at_one : {D Q : Type 0} (P : Kept D → Kept D → Type 0) (number : ℕ) (old new : List (Kept D))
-    → number < length old → length new ≡ length old → ((before after : Kept D) → P before after → Q)
+at_one : {D Q : Type 0} (P : StoredMap D → StoredMap D → Type 0) (number : ℕ) (old new : List (StoredMap D))
+    → number < length old → length new ≡ length old → ((before after : StoredMap D) → P before after → Q)
     → At number old new P → Q
 at_one {D} P number old new lt count f h =
     elim (slice_get_cases old number).1 [
       | inl here ↦ elim (slice_get_cases new number).1 [
         | inl there ↦
             let first : IfSome (slice_get new number) (P here.0) =
-            subst (λ (o : Option (Kept D)). IfSome o (λ before. IfSome (slice_get new number) (P before))) here.2 h in
-            f here.0 there.0 (subst (λ (o : Option (Kept D)). IfSome o (P here.0)) there.2 first)
+            subst (λ (o : Option (StoredMap D)). IfSome o (λ before. IfSome (slice_get new number) (P before))) here.2 h in
+            f here.0 there.0 (subst (λ (o : Option (StoredMap D)). IfSome o (P here.0)) there.2 first)
         | inr past ↦ let le : length new ≤ number = past.0 in absurd (omega arith)
       ]
       | inr past ↦ let le : length old ≤ number = past.0 in absurd (omega arith)
@@ -67,7 +68,7 @@ if_err (Ok x) f h = tt
 if_err (Err e) f h = f e h
 
 -- what an offer adds to a log
-offered_front : {T E D B : Type 0} (keeping : Keeping D B) (number : ℕ) (offered : Offer) (middle new : Published D B)
+offered_front : {T E D B : Type 0} (keeping : Keeping D B) (number : ℕ) (offered : OfferedVersion) (middle new : Published D B)
     (r : Result T E) → OnOk r (Installs keeping number offered middle new) → OnErr r (new.board ≡ middle.board)
     → IsFront (keeping.log middle.board) (keeping.log new.board)
 offered_front keeping number offered middle new (Ok x) h k = ((number, offered.version) ∷ [], h.log)
@@ -96,7 +97,7 @@ module _ {D B : Type 0} (keeping : Keeping D B) (number : ℕ) (version : MapVer
   installed installs = record { middle = middle; opens = opens; installs = installs }
 
   pub refused : (why : ShareFault)
-      → IsRefused keeping number (offer_behind number version origin (keeping.log middle.board)) why middle new
+      → OfferIsRefused keeping number (offer_behind number version origin (keeping.log middle.board)) why middle new
       → IsNotInstalled keeping number version origin why old new
   refused (Shut why) h = absurd h
   refused (Unfit why) h = record { middle = middle; opens = opens; refuses = h }

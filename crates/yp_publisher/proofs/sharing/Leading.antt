@@ -5,62 +5,64 @@ use Rattle.std.proofs.lemmas.List.{length-map}
 use Rattle.std.proofs.lemmas.Option.{slice_get_cases, slice_get-map, get_or_from_slice_get}
 use Rattle.yp_io.specs.Disk.{History}
 use Rattle.yp_version.specs.Versions.{MapVersion}
-use Rattle.yp_slot.specs.declared.fault.SlotFault.{SlotFault}
-use Rattle.yp_publish.specs.declared.install.Origin.{Origin}
-use Rattle.yp_publish.specs.Standing.{Kept, Published, At, IsSameElsewhere}
-use Rattle.yp_publish.specs.Keeping.{Keeping}
-use Rattle.yp_publish.specs.Installs.{Offer, LeavesEither, GoesOnRising}
-use Rattle.yp_publish.specs.Opens.{Opens, StaysBehind}
-use Rattle.yp_publish.specs.Rising.{Moment, moment_of, Steps, Follow, IsStart, IsRisingLog}
-use Rattle.yp_publish.specs.Grown.{AreTold}
-use Rattle.yp_publish.specs.Laws.{LogRises}
-use Rattle.yp_shared.specs.declared.locked.ShareFault.{ShareFault}
-use Rattle.yp_shared.specs.declared.locked.ShareFault.TheVariants.{Shut, Unfit, Untold}
-use Rattle.yp_shared.specs.Shares.{offer_behind, OpensAndInstalls, IsNotInstalled}
-use Rattle.yp_shared.specs.Failures.{disks_of}
-use Rattle.yp_shared.specs.Moments.{Leads, MapsTell, IsLed}
-use Rattle.yp_shared.proofs.Telling.{opened_then, offered_then, shut_then}
+use Rattle.yp_map_file.specs.declared.fault.SlotFault.{SlotFault}
+use Rattle.yp_publisher.specs.declared.install.Origin.{Origin}
+use Rattle.yp_publisher.specs.Standing.{StoredMap, Published, At, IsSameElsewhere}
+use Rattle.yp_publisher.specs.Keeping.{Keeping}
+use Rattle.yp_publisher.specs.Installs.{OfferedVersion, LeavesEither, GoesOnRising}
+use Rattle.yp_publisher.specs.Opens.{Opens, StaysBehind}
+use Rattle.yp_publisher.specs.Rising.{PublisherState, publisher_state, IsRisingLog}
+use Rattle.yp_publisher.specs.inside.Rising.{Steps, Follow, IsStart}
+use Rattle.yp_publisher.specs.Grown.{AreTold}
+use Rattle.yp_publisher.specs.inside.Laws.{LogRises}
+use Rattle.yp_publisher.specs.declared.sharing.locked.ShareFault.{ShareFault}
+use Rattle.yp_publisher.specs.declared.sharing.locked.ShareFault.TheVariants.{Shut, Unfit, Untold}
+use Rattle.yp_publisher.specs.sharing.Shares.{offer_behind}
+use Rattle.yp_publisher.specs.inside.sharing.Shares.{OpensAndInstalls, IsNotInstalled}
+use Rattle.yp_publisher.specs.sharing.Failures.{disks_of}
+use Rattle.yp_publisher.specs.inside.sharing.Moments.{LeadsTo, MapsTell, IsLed}
+use Rattle.yp_publisher.proofs.sharing.Telling.{opened_then, offered_then, shut_then}
 
 -- ---- one step more
 
-follow_on : (first middle last : Moment) (moments : List Moment) → Follow first (moments ++ middle ∷ [])
+follow_on : (first middle last : PublisherState) (moments : List PublisherState) → Follow first (moments ++ middle ∷ [])
     → Steps middle last → Follow first ((moments ++ middle ∷ []) ++ last ∷ [])
 follow_on first middle last [] follow step = (follow.0, (step, tt))
 follow_on first middle last (next ∷ moments) follow step =
     (follow.0, follow_on next middle last moments follow.1 step)
 
-leads_on : (first middle last : Moment) → Leads first middle → Steps middle last → Leads first last
+leads_on : (first middle last : PublisherState) → LeadsTo first middle → Steps middle last → LeadsTo first last
 leads_on first middle last leads step = record {
   moments = leads.moments ++ middle ∷ [];
   follow = follow_on first middle last leads.moments leads.follow step;
 }
 
 -- before the first step
-pub led_at_first : {D B : Type 0} (keeping : Keeping D B) (first : Moment) (published : Published D B)
-    → moment_of keeping.log published ≡ first → IsLed keeping first published
+pub led_at_first : {D B : Type 0} (keeping : Keeping D B) (first : PublisherState) (published : Published D B)
+    → publisher_state keeping.log published ≡ first → IsLed keeping first published
 led_at_first keeping first published is = λ told. record { moments = []; follow = (inr (0, inl is), tt) }
 
 -- disks of maps that tell it
-pub maps_tell : {D : Type 0} (history : D → Option History) (maps : List (Kept D)) → AreTold history (disks_of maps)
+pub maps_tell : {D : Type 0} (history : D → Option History) (maps : List (StoredMap D)) → AreTold history (disks_of maps)
     → MapsTell history maps
 maps_tell {D} history maps told = λ number. elim (slice_get_cases maps number).1 [
   | inl here ↦
       let kept = here.0 in
       let there : slice_get (disks_of maps) number ≡ Some kept.disk =
-      slice_get-map (λ (k : Kept D). k.disk) maps number ∙ ap (option_map (λ (k : Kept D). k.disk)) here.2 in
-      let long = length-map maps (λ (k : Kept D). k.disk) in
+      slice_get-map (λ (k : StoredMap D). k.disk) maps number ∙ ap (option_map (λ (k : StoredMap D). k.disk)) here.2 in
+      let long = length-map maps (λ (k : StoredMap D). k.disk) in
       let inside : number < length maps = here.1 in
-      subst (λ (o : Option (Kept D)). IfSome o (λ k. IsSome (history k.disk))) (sym here.2)
+      subst (λ (o : Option (StoredMap D)). IfSome o (λ k. IsSome (history k.disk))) (sym here.2)
       (subst (λ (d : D). IsSome (history d)) (get_or_from_slice_get (disks_of maps) number kept.disk kept.disk there)
       (told number kept.disk (omega (arith, long, inside))))
-  | inr past ↦ subst (λ (o : Option (Kept D)). IfSome o (λ k. IsSome (history k.disk))) (sym past.1) tt
+  | inr past ↦ subst (λ (o : Option (StoredMap D)). IfSome o (λ k. IsSome (history k.disk))) (sym past.1) tt
 ]
 
 -- ---- the calls of a publisher
 
-module _ {D B : Type 0} (keeping : Keeping D B) (first : Moment) (number : ℕ) where
-  abbrev now_of : Published D B → Moment
-  now_of = moment_of keeping.log
+module _ {D B : Type 0} (keeping : Keeping D B) (first : PublisherState) (number : ℕ) where
+  abbrev now_of : Published D B → PublisherState
+  now_of = publisher_state keeping.log
 
   -- a step of one map, while the others stay
   module _ (old new : Published D B) (elsewhere : IsSameElsewhere number old.maps new.maps)
@@ -69,7 +71,7 @@ module _ {D B : Type 0} (keeping : Keeping D B) (first : Moment) (number : ℕ) 
     opened opens led = opened_then keeping number old new elsewhere within led opens
         (λ reopens leads. leads_on first (now_of old) (now_of new) leads (inr (number, reopens)))
 
-    offered : (offer : Offer) → offer.force ≡ false → At number old.maps new.maps (LeavesEither keeping.history offer.version)
+    offered : (offer : OfferedVersion) → offer.force ≡ false → At number old.maps new.maps (LeavesEither keeping.history offer.version)
         → GoesOnRising keeping number offer old new → IsLed keeping first old → IsLed keeping first new
     offered offer unforced leaves rising led =
         offered_then keeping number old new elsewhere within led offer unforced leaves rising
@@ -102,7 +104,7 @@ module _ {D B : Type 0} (keeping : Keeping D B) (first : Moment) (number : ℕ) 
     led_refused Untold is = absurd is
 
 -- behind an install or a refusal
-pub led_after : {T D B : Type 0} (keeping : Keeping D B) (first : Moment) (number : ℕ) (version : MapVersion) (origin : Origin)
+pub led_after : {T D B : Type 0} (keeping : Keeping D B) (first : PublisherState) (number : ℕ) (version : MapVersion) (origin : Origin)
     (old new : Published D B) (r : Result T ShareFault) → number < length old.maps
     → OnOk r (OpensAndInstalls keeping number version origin old new)
     → IfErr r (λ why. IsNotInstalled keeping number version origin why old new)
@@ -114,16 +116,16 @@ led_after keeping first number version origin old new (Err why) within none refu
 
 -- ---- the log at the last moment
 
-last_of : (P : Moment → Type 0) (moments : List Moment) (last : Moment) → AllByRecursion P (moments ++ last ∷ []) → P last
+last_of : (P : PublisherState → Type 0) (moments : List PublisherState) (last : PublisherState) → AllByRecursion P (moments ++ last ∷ []) → P last
 last_of P [] last all = all.0
 last_of P (moment ∷ moments) last all = last_of P moments last all.1
 
 -- from a start it rises
-pub rises : LogRises → {D B : Type 0} (keeping : Keeping D B) (first : Moment) (published : Published D B)
+pub rises : LogRises → {D B : Type 0} (keeping : Keeping D B) (first : PublisherState) (published : Published D B)
     → IsLed keeping first published → IsStart first → AreTold keeping.history (disks_of published.maps)
     → IsRisingLog (keeping.log published.board)
 rises law keeping first published led start told =
-    let now = moment_of keeping.log published in
+    let now = publisher_state keeping.log published in
     let leads = led (maps_tell keeping.history published.maps told) in
     last_of (λ moment. IsRisingLog moment.log) (first ∷ leads.moments) now
     (law first (leads.moments ++ now ∷ []) start leads.follow)

@@ -2,7 +2,7 @@
 use Rattle.std.proofs.Common.{◌≡◌, sym, ◌∙◌, ap, subst}
 use Rattle.yp_board.specs.Logs.{Log}
 use Rattle.yp_board.specs.Views.{Seen, IsFront}
-use Rattle.yp_shared.specs.Shares.{Learns}
+use Rattle.yp_publisher.specs.sharing.Shares.{Learns}
 
 -- what it is told
 pub learned : (old new : Seen) (log : Log) → IsFront old.known log → new ≡ record old { known = log } → Learns old new

@@ -9,25 +9,29 @@ use Rattle.std.proofs.lemmas.Bool.{ne_eqb}
 use Rattle.yp_version.specs.Versions.{MapVersion}
 use Rattle.yp_board.specs.Catalogues.{Catalogue}
 use Rattle.yp_board.specs.Logs.{Log, shown}
-use Rattle.yp_slot.specs.declared.fault.SlotFault.{SlotFault}
-use Rattle.yp_publish.specs.declared.install.Origin.{Origin}
-use Rattle.yp_publish.specs.declared.install.Origin.TheVariants.{Built, Fetched}
-use Rattle.yp_publish.specs.declared.install.InstallFault.{InstallFault}
-use Rattle.yp_publish.specs.declared.install.InstallFault.TheVariants as fault
-use Rattle.yp_publish.specs.Standing.{MapStanding, Level, Behind, Kept, Published, OfMap, At, IsSameElsewhere, versions, Shows}
-use Rattle.yp_publish.specs.Keeping.{Keeping}
-use Rattle.yp_publish.specs.Installs.{Offer, Refusal, install_refusal, not_following, no_further, LeavesEither, GoesOnRising, IsUnopposed, Installs, Refuses}
-use Rattle.yp_publish.specs.Opens.{Opens, StaysBehind}
-use Rattle.yp_publish.specs.Rising.{Moment, moment_of, InstallsNewer, Reopens, IsStart, with_shown}
-use Rattle.yp_publish.specs.Grown.{AreTold}
-use Rattle.yp_shared.specs.declared.locked.ShareFault.{ShareFault}
-use Rattle.yp_shared.specs.declared.locked.ShareFault.TheVariants.{Shut, Unfit, Untold}
-use Rattle.yp_shared.specs.Shares.{offer_behind, OpensAndInstalls, IsNotInstalled}
-use Rattle.yp_shared.specs.Failures.{disks_of, made_by}
-use Rattle.yp_shared.specs.Sources.{Building, IsBuiltThere, fetched_in, AreFrom, AreBehind, IsSourced, IsSourcedAt}
-use Rattle.yp_shared.proofs.Failing.{of_map, the_map, level_refusal}
-use Rattle.yp_shared.proofs.Telling.{opened_then, offered_then, shut_then}
-use Rattle.yp_shared.proofs.Leading.{maps_tell}
+use Rattle.yp_map_file.specs.declared.fault.SlotFault.{SlotFault}
+use Rattle.yp_publisher.specs.declared.install.Origin.{Origin}
+use Rattle.yp_publisher.specs.declared.install.Origin.TheVariants.{Built, Fetched}
+use Rattle.yp_publisher.specs.declared.install.InstallFault.{InstallFault}
+use Rattle.yp_publisher.specs.declared.install.InstallFault.TheVariants as fault
+use Rattle.yp_publisher.specs.Standing.{MapStanding, Level, Behind, StoredMap, Published, OfMap, At, IsSameElsewhere, versions, Shows}
+use Rattle.yp_publisher.specs.Keeping.{Keeping}
+use Rattle.yp_publisher.specs.Installs.{OfferedVersion, Refusal, install_refusal, not_following, no_further, LeavesEither, GoesOnRising, IsUnopposed, Installs, Refuses}
+use Rattle.yp_publisher.specs.Opens.{Opens, StaysBehind}
+use Rattle.yp_publisher.specs.Rising.{PublisherState, publisher_state, InstallsNewer, Reopens, with_shown}
+use Rattle.yp_publisher.specs.inside.Rising.{IsStart}
+use Rattle.yp_publisher.specs.Grown.{AreTold}
+use Rattle.yp_publisher.specs.declared.sharing.locked.ShareFault.{ShareFault}
+use Rattle.yp_publisher.specs.declared.sharing.locked.ShareFault.TheVariants.{Shut, Unfit, Untold}
+use Rattle.yp_publisher.specs.sharing.Shares.{offer_behind}
+use Rattle.yp_publisher.specs.inside.sharing.Shares.{OpensAndInstalls, IsNotInstalled}
+use Rattle.yp_publisher.specs.sharing.Failures.{disks_of}
+use Rattle.yp_publisher.specs.inside.sharing.Failures.{made_by}
+use Rattle.yp_publisher.specs.sharing.Sources.{Building, AreFrom, AreBehind, IsSourced}
+use Rattle.yp_publisher.specs.inside.sharing.Sources.{IsBuiltThere, fetched_in, IsSourcedAt}
+use Rattle.yp_publisher.proofs.sharing.Failing.{of_map, the_map, level_refusal}
+use Rattle.yp_publisher.proofs.sharing.Telling.{opened_then, offered_then, shut_then}
+use Rattle.yp_publisher.proofs.sharing.Leading.{maps_tell}
 
 -- ---- one more entry
 
@@ -192,7 +196,7 @@ not_grown number version log same =
     omega (arith, long, count)
 
 -- fewer built ones and more others
-pub sourced_less : (Is : Building) (first now : Moment) (made fewer fetched more : ℕ) → fewer ≤ made → fetched ≤ more
+pub sourced_less : (Is : Building) (first now : PublisherState) (made fewer fetched more : ℕ) → fewer ≤ made → fetched ≤ more
     → IsSourced Is first now made fetched → IsSourced Is first now fewer more
 sourced_less Is first now made fewer fetched more le ge sourced = record {
   more = sourced.more;
@@ -206,7 +210,7 @@ sourced_less Is first now made fewer fetched more le ge sourced = record {
   most = let most = sourced.most in omega (arith, most, ge);
 }
 
-module _ (Is : Building) (first old : Moment) (made fetched : ℕ) (sourced : IsSourced Is first old made fetched)
+module _ (Is : Building) (first old : PublisherState) (made fetched : ℕ) (sourced : IsSourced Is first old made fetched)
     (number : ℕ) (version : MapVersion) (standings : List MapStanding) where
   -- no version was shown
   then_stands : (left limit : ℕ) → AreBehind Is old.log 0 standings left → sourced.others + left ≤ limit
@@ -224,7 +228,7 @@ module _ (Is : Building) (first old : Moment) (made fetched : ℕ) (sourced : Is
   }
 
   -- a version was shown of a level map
-  abbrev then_shown : Moment
+  abbrev then_shown : PublisherState
   then_shown = record { log = with_shown number version old.log; standings = standings }
 
   grown_then : with_shown number version old.log ≡ first.log ++ (sourced.more ++ (number, version) ∷ [])
@@ -268,10 +272,10 @@ module _ (Is : Building) (first old : Moment) (made fetched : ℕ) (sourced : Is
     }
 
 -- a reopen
-sourced_reopened : (Is : Building) (first old new : Moment) (made fetched number : ℕ) → Reopens number old new
+sourced_reopened : (Is : Building) (first old new : PublisherState) (made fetched number : ℕ) → Reopens number old new
     → IsSourced Is first old made fetched → IsSourced Is first new made fetched
 sourced_reopened Is first old new made fetched number reopens sourced = elim reopens [
-  | inl same ↦ subst (λ (m : Moment). IsSourced Is first m made fetched) (sym same) sourced
+  | inl same ↦ subst (λ (m : PublisherState). IsSourced Is first m made fetched) (sym same) sourced
   | inr opened ↦
       let failed = opened.0 in
       let standings = slice_set old.standings number Level in
@@ -279,13 +283,13 @@ sourced_reopened Is first old new made fetched number reopens sourced = elim reo
       let level : slice_get standings number ≡ Some Level = level_there old.standings number failed opened.1 in
       let fewer = fewer_behind Is old.log 0 number failed old.standings sourced.left opened.1 sourced.behind in
       elim opened.2 [
-        | inl stays ↦ subst (λ (m : Moment). IsSourced Is first m made fetched) (sym stays) (elim fewer [
+        | inl stays ↦ subst (λ (m : PublisherState). IsSourced Is first m made fetched) (sym stays) (elim fewer [
           | inl built ↦ then_stands Is first old made fetched sourced number failed standings sourced.left fetched built.1 most
           | inr other ↦
               let less : sourced.left ≡ suc other.0 = other.1 in
               then_stands Is first old made fetched sourced number failed standings other.0 fetched other.2 (omega (arith, most, less))
         ])
-        | inr shows ↦ subst (λ (m : Moment). IsSourced Is first m made fetched) (sym shows) (elim fewer [
+        | inr shows ↦ subst (λ (m : PublisherState). IsSourced Is first m made fetched) (sym shows) (elim fewer [
           | inl built ↦ sourced_less Is first (then_shown Is first old made fetched sourced number failed standings)
               (made + 1) made fetched fetched (omega arith) (omega arith)
               (then_built Is first old made fetched sourced number failed standings sourced.left level built.1 fetched
@@ -300,7 +304,7 @@ sourced_reopened Is first old new made fetched number reopens sourced = elim reo
 
 -- ---- an install
 
-module _ (Is : Building) (first old new : Moment) (made fetched number : ℕ) (version : MapVersion)
+module _ (Is : Building) (first old new : PublisherState) (made fetched number : ℕ) (version : MapVersion)
     (sourced : IsSourced Is first old made fetched) where
   abbrev Now : (made fetched : ℕ) → Type 0
   Now made fetched = IsSourced Is first new made fetched
@@ -309,15 +313,15 @@ module _ (Is : Building) (first old new : Moment) (made fetched number : ℕ) (v
   installs_other : InstallsNewer number version old new → Now made (fetched + 1)
   installs_other installs = elim installs [
     | inl same ↦ sourced_less Is first new made made fetched (fetched + 1) (omega arith) (omega arith)
-        (subst (λ (m : Moment). IsSourced Is first m made fetched) (sym same) sourced)
+        (subst (λ (m : PublisherState). IsSourced Is first m made fetched) (sym same) sourced)
     | inr newer ↦
         let stores = newer.1 in
         let most = sourced.most in
         elim stores.1 [
-          | inl shows ↦ subst (λ (m : Moment). IsSourced Is first m made (fetched + 1)) (sym shows)
+          | inl shows ↦ subst (λ (m : PublisherState). IsSourced Is first m made (fetched + 1)) (sym shows)
               (then_other Is first old made fetched sourced number version old.standings sourced.left stores.0 sourced.behind
               (fetched + 1) (omega (arith, most)))
-          | inr stands ↦ subst (λ (m : Moment). IsSourced Is first m made (fetched + 1)) (sym stands)
+          | inr stands ↦ subst (λ (m : PublisherState). IsSourced Is first m made (fetched + 1)) (sym stands)
               (then_stands Is first old made fetched sourced number version (slice_set old.standings number (Behind version))
               (suc sourced.left) (fetched + 1)
               (more_behind Is old.log 0 number version old.standings sourced.left stores.0 sourced.behind) (omega (arith, most)))
@@ -327,20 +331,20 @@ module _ (Is : Building) (first old new : Moment) (made fetched number : ℕ) (v
   module _ (is : Is number (shown number old.log) version) where
     shows_one : slice_get old.standings number ≡ Some Level
         → new ≡ record old { log = with_shown number version old.log } → Now (made + 1) fetched
-    shows_one level shows = subst (λ (m : Moment). IsSourced Is first m (made + 1) fetched) (sym shows)
+    shows_one level shows = subst (λ (m : PublisherState). IsSourced Is first m (made + 1) fetched) (sym shows)
         (then_built Is first old made fetched sourced number version old.standings sourced.left level sourced.behind
         fetched is sourced.most)
 
     -- of one that was built
     installs_built : InstallsNewer number version old new → Now made fetched
     installs_built installs = elim installs [
-      | inl same ↦ subst (λ (m : Moment). IsSourced Is first m made fetched) (sym same) sourced
+      | inl same ↦ subst (λ (m : PublisherState). IsSourced Is first m made fetched) (sym same) sourced
       | inr newer ↦
           let stores = newer.1 in
           elim stores.1 [
             | inl shows ↦ sourced_less Is first new (made + 1) made fetched fetched (omega arith) (omega arith)
                 (shows_one stores.0 shows)
-            | inr stands ↦ subst (λ (m : Moment). IsSourced Is first m made fetched) (sym stands)
+            | inr stands ↦ subst (λ (m : PublisherState). IsSourced Is first m made fetched) (sym stands)
                 (then_stands Is first old made fetched sourced number version (slice_set old.standings number (Behind version))
                 sourced.left fetched
                 (built_behind Is old.log 0 number version old.standings sourced.left stores.0
@@ -352,10 +356,10 @@ module _ (Is : Building) (first old new : Moment) (made fetched number : ℕ) (v
     shows_built : InstallsNewer number version old new → new.log ≡ with_shown number version old.log
         → Now (made + 1) fetched
     shows_built installs grown = elim installs [
-      | inl same ↦ absurd (not_grown number version old.log (sym grown ∙ ap (λ (m : Moment). m.log) same))
+      | inl same ↦ absurd (not_grown number version old.log (sym grown ∙ ap (λ (m : PublisherState). m.log) same))
       | inr newer ↦ elim newer.1.1 [
         | inl shows ↦ shows_one newer.1.0 shows
-        | inr stands ↦ absurd (not_grown number version old.log (sym grown ∙ ap (λ (m : Moment). m.log) stands))
+        | inr stands ↦ absurd (not_grown number version old.log (sym grown ∙ ap (λ (m : PublisherState). m.log) stands))
       ]
     ]
 
@@ -366,49 +370,49 @@ nothing_first None other none = refl
 nothing_first (Some why) other none = absurd cc
 
 -- a version that nothing stands against follows what is shown of its level map
-follows_shown : {D B : Type 0} (keeping : Keeping D B) (number : ℕ) (offered : Offer) (published : Published D B)
-    (kept : Kept D) → slice_get published.maps number ≡ Some kept → kept.standing ≡ Level
+follows_shown : {D B : Type 0} (keeping : Keeping D B) (number : ℕ) (offered : OfferedVersion) (published : Published D B)
+    (kept : StoredMap D) → slice_get published.maps number ≡ Some kept → kept.standing ≡ Level
     → Shows (keeping.log published.board) (versions published.maps)
     → install_refusal published.catalogue.own offered kept ≡ None
     → not_following published.catalogue.own offered (shown number (keeping.log published.board)) ≡ None
 follows_shown {D} keeping number offered published kept here level shows none =
     let own = published.catalogue.own in
     let there : slice_get (versions published.maps) number ≡ Some kept.version =
-    slice_get-map (λ (k : Kept D). k.version) published.maps number ∙ ap (option_map (λ (k : Kept D). k.version)) here in
+    slice_get-map (λ (k : StoredMap D). k.version) published.maps number ∙ ap (option_map (λ (k : StoredMap D). k.version)) here in
     let version : slice_index_or (versions published.maps) number None ≡ kept.version =
     get_or_from_slice_get (versions published.maps) number kept.version None there in
     subst (λ (last : Option MapVersion). not_following own offered last ≡ None) (sym (shows number ∙ version))
     (nothing_first (not_following own offered kept.version) (no_further kept.generation)
     (sym (level_refusal own offered kept level) ∙ none))
 
-module _ {D B : Type 0} (keeping : Keeping D B) (Is : Building) (first : Moment) where
+module _ {D B : Type 0} (keeping : Keeping D B) (Is : Building) (first : PublisherState) where
   abbrev SourcedAt : Published D B → (made fetched : ℕ) → Type 0
   SourcedAt published made fetched = IsSourcedAt keeping Is first published made fetched
 
   at_less : (published : Published D B) (made fewer fetched more : ℕ) → fewer ≤ made → fetched ≤ more
       → SourcedAt published made fetched → SourcedAt published fewer more
   at_less published made fewer fetched more le ge sourced = λ start told.
-      sourced_less Is first (moment_of keeping.log published) made fewer fetched more le ge (sourced start told)
+      sourced_less Is first (publisher_state keeping.log published) made fewer fetched more le ge (sourced start told)
 
   module _ (number : ℕ) (version : MapVersion) (own : List ℕ) (made fetched : ℕ) where
     sourced_middle : (old middle : Published D B) → number < length old.maps → Opens keeping number old middle
         → SourcedAt old made fetched → SourcedAt middle made fetched
     sourced_middle old middle within opens sourced = λ start.
         opened_then keeping number old middle opens.upheld.elsewhere within (sourced start) opens
-        (sourced_reopened Is first (moment_of keeping.log old) (moment_of keeping.log middle) made fetched number)
+        (sourced_reopened Is first (publisher_state keeping.log old) (publisher_state keeping.log middle) made fetched number)
 
     sourced_shut : (why : SlotFault) (old new : Published D B) → number < length old.maps
         → StaysBehind keeping number why old new → SourcedAt old made fetched → SourcedAt new made fetched
     sourced_shut why old new within stays sourced = λ start.
         shut_then keeping number old new stays.upheld.elsewhere within (sourced start) why stays
-        (λ same before. subst (λ (m : Moment). IsSourced Is first m made fetched) (sym same) before)
+        (λ same before. subst (λ (m : PublisherState). IsSourced Is first m made fetched) (sym same) before)
 
     -- what is offered of a level map
     module _ (old new : Published D B) (within : number < length old.maps)
         (level : OfMap number old.maps (λ m. m.standing ≡ Level))
         (shows : Shows (keeping.log old.board) (versions old.maps)) (own_is : old.catalogue.own ≡ own)
         (sourced : SourcedAt old made fetched) where
-      abbrev offered : Origin → Offer
+      abbrev offered : Origin → OfferedVersion
       offered origin = offer_behind number version origin (keeping.log old.board)
 
       unchanged : new ≡ old → SourcedAt new made fetched
@@ -419,7 +423,7 @@ module _ {D B : Type 0} (keeping : Keeping D B) (Is : Building) (first : Moment)
           → GoesOnRising keeping number (offered Fetched) old new → SourcedAt new made (fetched + 1)
       offered_fetched elsewhere leaves rising = λ start.
           offered_then keeping number old new elsewhere within (sourced start) (offered Fetched) refl leaves rising
-          (λ installs before. installs_other Is first (moment_of keeping.log old) (moment_of keeping.log new) made
+          (λ installs before. installs_other Is first (publisher_state keeping.log old) (publisher_state keeping.log new) made
           fetched number (offered Fetched).version before installs)
 
       module _ (built : IsBuiltThere Is number own version Built) where
@@ -437,7 +441,7 @@ module _ {D B : Type 0} (keeping : Keeping D B) (Is : Building) (first : Moment)
         installed_built installs = λ start.
             offered_then keeping number old new installs.upheld.elsewhere within (sourced start) (offered Built) refl
             installs.meanwhile installs.rising
-            (λ newer before. shows_built Is first (moment_of keeping.log old) (moment_of keeping.log new) made fetched
+            (λ newer before. shows_built Is first (publisher_state keeping.log old) (publisher_state keeping.log new) made fetched
             number (offered Built).version before (built_there installs.unopposed) newer installs.log)
 
         changed_built : (why : InstallFault) → Refuses keeping number (offered Built) why old new
@@ -445,7 +449,7 @@ module _ {D B : Type 0} (keeping : Keeping D B) (Is : Building) (first : Moment)
         changed_built why refuses unopposed = λ start.
             offered_then keeping number old new refuses.upheld.elsewhere within (sourced start) (offered Built) refl
             refuses.meanwhile refuses.rising
-            (λ newer before. installs_built Is first (moment_of keeping.log old) (moment_of keeping.log new) made
+            (λ newer before. installs_built Is first (publisher_state keeping.log old) (publisher_state keeping.log new) made
             fetched number (offered Built).version before (built_there unopposed) newer)
 
         refused_built : (why : InstallFault) → Refuses keeping number (offered Built) why old new
@@ -499,7 +503,7 @@ module _ {D B : Type 0} (keeping : Keeping D B) (Is : Building) (first : Moment)
       after_refusal origin Untold built is = absurd is
 
 -- behind an install or a refusal
-pub sourced_after : {T D B : Type 0} (keeping : Keeping D B) (Is : Building) (first : Moment) (number : ℕ)
+pub sourced_after : {T D B : Type 0} (keeping : Keeping D B) (Is : Building) (first : PublisherState) (number : ℕ)
     (version : MapVersion) (origin : Origin) (own : List ℕ) (made fetched : ℕ) (old new : Published D B)
     (r : Result T ShareFault) → number < length old.maps → old.catalogue.own ≡ own
     → IsBuiltThere Is number own version origin → OnOk r (OpensAndInstalls keeping number version origin old new)
@@ -520,11 +524,11 @@ sourced_after keeping Is first number version Fetched own made fetched old new (
     (after_refusal keeping Is first number version own made fetched old new within own_is sourced Fetched why built is)
 
 -- before the first one
-pub sourced_at_first : {D B : Type 0} (keeping : Keeping D B) (Is : Building) (first : Moment) (published : Published D B)
-    (made fetched : ℕ) → moment_of keeping.log published ≡ first → made ≡ 0
+pub sourced_at_first : {D B : Type 0} (keeping : Keeping D B) (Is : Building) (first : PublisherState) (published : Published D B)
+    (made fetched : ℕ) → publisher_state keeping.log published ≡ first → made ≡ 0
     → IsSourcedAt keeping Is first published made fetched
 sourced_at_first keeping Is first published made fetched is none = λ start told.
-    subst (λ (m : Moment). IsSourced Is first m made fetched) (sym is) (record {
+    subst (λ (m : PublisherState). IsSourced Is first m made fetched) (sym is) (record {
       more = [];
       grown = sym (append-nil first.log);
       built = 0;
@@ -537,10 +541,10 @@ sourced_at_first keeping Is first published made fetched is none = λ start told
     })
 
 -- at the last one
-pub sourced_at_last : {D B : Type 0} (keeping : Keeping D B) (Is : Building) (first : Moment) (published : Published D B)
+pub sourced_at_last : {D B : Type 0} (keeping : Keeping D B) (Is : Building) (first : PublisherState) (published : Published D B)
     (made fewer fetched : ℕ) → fewer ≤ made → IsSourcedAt keeping Is first published made fetched → IsStart first
     → AreTold keeping.history (disks_of published.maps)
-    → IsSourced Is first (moment_of keeping.log published) fewer fetched
+    → IsSourced Is first (publisher_state keeping.log published) fewer fetched
 sourced_at_last keeping Is first published made fewer fetched le sourced start told =
-    sourced_less Is first (moment_of keeping.log published) made fewer fetched fetched le (omega arith)
+    sourced_less Is first (publisher_state keeping.log published) made fewer fetched fetched le (omega arith)
     (sourced start (maps_tell keeping.history published.maps told))

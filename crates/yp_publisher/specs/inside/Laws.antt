@@ -3,13 +3,14 @@ use Rattle.std.specs.Prelude.{◌≡◌, List, ◌∷◌, Option}
 use Rattle.std.specs.List.{All, AllByRecursion}
 use Rattle.yp_version.specs.Versions.{MapVersion}
 use Rattle.yp_board.specs.Logs.{starts}
-use Rattle.yp_publish.specs.Standing.{MapStanding, Level, Shows}
-use Rattle.yp_publish.specs.Rising.{Moment, IsRisingLog, Follow, IsStart}
+use Rattle.yp_publisher.specs.Standing.{MapStanding, Level, Shows}
+use Rattle.yp_publisher.specs.Rising.{PublisherState, IsRisingLog}
+use Rattle.yp_publisher.specs.inside.Rising.{Follow, IsStart}
 
 -- From maps that are all level, and a log with at most one version of each, installs that aren't forced and reopens
 -- leave a log that rises.
 abbrev pub LogRises : Type 0
-LogRises = (first : Moment) (moments : List Moment) → IsStart first → Follow first moments
+LogRises = (first : PublisherState) (moments : List PublisherState) → IsStart first → Follow first moments
     → AllByRecursion (λ moment. IsRisingLog moment.log) (first ∷ moments)
 
 -- Publishers of level maps start so: a log that begins with versions has at most one of each map.

@@ -5,12 +5,13 @@ use Rattle.std.specs.declared.alloc.Global.{Global}
 use Rattle.std.specs.declared.sync.Arc.{Arc}
 use Rattle.yp_io.specs.Disk.{History, MayLeave}
 use Rattle.yp_version.specs.Versions.{MapVersion}
-use Rattle.yp_slot.specs.declared.known.Stage.{Stage}
-use Rattle.yp_slot.specs.declared.fault.SlotFault.{SlotFault}
-use Rattle.yp_slot.specs.Loads.{Loads}
-use Rattle.yp_slot.specs.Slots.{is_ready, HasGeneration}
-use Rattle.yp_slot.specs.Stands.{Stands}
-use Rattle.yp_publish.specs.Standing.{MapStanding, Level, Behind, StandsAs, stands_for}
+use Rattle.yp_map_file.specs.declared.known.Stage.{Stage}
+use Rattle.yp_map_file.specs.declared.fault.SlotFault.{SlotFault}
+use Rattle.yp_map_file.specs.Loads.{Loads}
+use Rattle.yp_map_file.specs.Slots.{HasGeneration}
+use Rattle.yp_map_file.specs.inside.Slots.{is_ready}
+use Rattle.yp_map_file.specs.Stands.{Stands}
+use Rattle.yp_publisher.specs.Standing.{MapStanding, Level, Behind, StandsAs, stands_for}
 
 -- the standing of a map with this failed version, or none
 abbrev pub standing_of : Option (Arc MapVersion Global) → MapStanding

@@ -1,9 +1,9 @@
 //! What callers are charged with.
 
 ghost use Rattle.std.specs.Prelude.{◌≡◌, ◌+◌, ◌<◌};
-ghost use Rattle.yp_shared.specs.Debits.{debit_both, no_debit};
+ghost use Rattle.yp_publisher.specs.inside.sharing.Debits.{debit_both, no_debit};
 
-use crate::locked::{Accounts, Failures, Made, Versions};
+use crate::sharing::locked::{Accounts, BuiltVersions, FailedFiles, FetchedVersions};
 use std::marker::Model;
 use std::sync::ledger::{Book, Share};
 
@@ -11,14 +11,14 @@ use std::sync::ledger::{Book, Share};
 /// failed, of built versions that were shown, and of fetched versions, of which it has those that it hasn't installed.
 #[derive(Drop)]
 pub struct Debits<S: Accounts> {
-    pub(crate) failures: Share<Failures<S>>,
-    pub(crate) made: Share<Made<S>>,
-    pub(crate) versions: Share<Versions<S>>,
+    pub(crate) failures: Share<FailedFiles<S>>,
+    pub(crate) made: Share<BuiltVersions<S>>,
+    pub(crate) versions: Share<FetchedVersions<S>>,
 }
 
 impl<S: Accounts> Model for Debits<S> {
     ghost use Rattle.std.specs.Prelude.{◌≡◌, ◌<◌};
-    ghost use Rattle.yp_shared.specs.Debits.{Debit};
+    ghost use Rattle.yp_publisher.specs.inside.sharing.Debits.{Debit};
 
     ghost Value = { Debit };
 
@@ -36,9 +36,9 @@ impl<S: Accounts> Model for Debits<S> {
 impl<S: Accounts> Debits<S> {
     /// Charges of these shares.
     pub fn new(
-        failures: Share<Failures<S>>,
-        made: Share<Made<S>>,
-        versions: Share<Versions<S>>,
+        failures: Share<FailedFiles<S>>,
+        made: Share<BuiltVersions<S>>,
+        versions: Share<FetchedVersions<S>>,
     ) -> Debits<S>
         requires some { 0 < failures.parts }
         requires same { (made.parts ≡ failures.parts) × (versions.parts ≡ failures.parts) }
@@ -85,7 +85,7 @@ impl<S: Accounts> Debits<S> {
     }
 
     /// A version was fetched, and is told to the book of those.
-    pub fn fetched(&mut self, book: &mut Book<Versions<S>>)
+    pub fn fetched(&mut self, book: &mut Book<FetchedVersions<S>>)
         ensures total { book.new.total ≡ book.old.total + 1 }
         ensures versions { self.new ≡ record self.old { versions = self.old.versions + 1 } }
     {

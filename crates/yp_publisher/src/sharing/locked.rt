@@ -5,18 +5,25 @@ ghost use Rattle.std.specs.Arc.{arc_value};
 ghost use Rattle.std.specs.Option.{option_map_or};
 ghost use Rattle.yp_board.specs.Logs.{shown};
 ghost use Rattle.yp_board.specs.Views.{IsFront};
-ghost use Rattle.yp_publish.specs.Standing.{Level, OfMap};
-ghost use Rattle.yp_publish.specs.Installs.{Installs, not_following};
-ghost use Rattle.yp_publish.specs.Keeping.{keeping_of};
-ghost use Rattle.yp_publish.specs.Rising.{moment_of, with_shown, IsStart, IsRisingLog};
-ghost use Rattle.yp_publish.specs.Grown.{AreTold};
-ghost use Rattle.yp_shared.specs.Shares.{offer_behind, OpensAndInstalls, IsNotInstalled, IsRefused, IsShownBehind};
-ghost use Rattle.yp_shared.specs.Shares.{IsReason, Learns};
-ghost use Rattle.yp_shared.specs.Failures.{failures_in, failures_of, made_by, faults_over, disks_of, Covers};
-ghost use Rattle.yp_shared.specs.Debits.{IsCharged};
-ghost use Rattle.yp_shared.specs.Sources.{IsBuiltThere, fetched_in, IsSourced};
+ghost use Rattle.yp_publisher.specs.Standing.{Level, OfMap};
+ghost use Rattle.yp_publisher.specs.Installs.{Installs, not_following};
+ghost use Rattle.yp_publisher.specs.Keeping.{keeping_of};
+ghost use Rattle.yp_publisher.specs.Rising.{publisher_state, with_shown, IsRisingLog};
+ghost use Rattle.yp_publisher.specs.inside.Rising.{IsStart};
+ghost use Rattle.yp_publisher.specs.Grown.{AreTold};
+ghost use Rattle.yp_publisher.specs.sharing.Shares.{offer_behind};
+ghost use Rattle.yp_publisher.specs.inside.sharing.Shares.{OpensAndInstalls, IsNotInstalled, OfferIsRefused};
+ghost use Rattle.yp_publisher.specs.sharing.Shares.{IsShownBehind, Learns};
+ghost use Rattle.yp_publisher.specs.inside.sharing.Shares.{IsReason};
+ghost use Rattle.yp_publisher.specs.sharing.Failures.{faults_over, disks_of};
+ghost use Rattle.yp_publisher.specs.inside.sharing.Failures.{failures_in, failures_of, made_by, Covers};
+ghost use Rattle.yp_publisher.specs.inside.sharing.Debits.{DebitIsCharged};
+ghost use Rattle.yp_publisher.specs.sharing.Sources.{IsSourced};
+ghost use Rattle.yp_publisher.specs.inside.sharing.Sources.{IsBuiltThere, fetched_in};
 
-use crate::debits::Debits;
+use crate::laws::log_rises;
+use crate::sharing::debits::Debits;
+use crate::{InstallFault, Origin, Publisher};
 use std::alloc::Global;
 use std::marker::{Brand, Model, PhantomData};
 use std::random::RandomSource;
@@ -24,9 +31,7 @@ use std::sync::Arc;
 use std::sync::ledger::{Book, Ledger, Share};
 use yp_board::{Show, Tell};
 use yp_io::{Disk, NoMemory};
-use yp_publish::laws::log_rises;
-use yp_publish::{InstallFault, Origin, Publisher};
-use yp_slot::SlotFault;
+use yp_map_file::SlotFault;
 use yp_version::Version;
 
 /// Which maps are served. Each call of a program that shares a publisher picks it.
@@ -48,13 +53,13 @@ impl Site for Brand {
 pub trait Accounts {
     ghost use Rattle.std.specs.Prelude.{ℕ, Option};
     ghost use Rattle.yp_version.specs.Versions.{MapVersion};
-    ghost use Rattle.yp_publish.specs.Rising.{Moment};
+    ghost use Rattle.yp_publisher.specs.Rising.{PublisherState};
 
     /// What it is that a version was built behind the last one of its map.
     ghost built: { ℕ → Option MapVersion → MapVersion → Type 0 };
 
     /// What was shown, and how each map stood.
-    ghost first: { Moment };
+    ghost first: { PublisherState };
 
     /// How often its disks had failed.
     ghost disk_faults: { ℕ };
@@ -92,11 +97,11 @@ impl Accounts for Brand {
 
 /// The ledger of the failed files of a site.
 #[derive(Drop)]
-pub struct Failures<S: Accounts> {
+pub struct FailedFiles<S: Accounts> {
     of: PhantomData<S>,
 }
 
-impl<S: Accounts> Ledger for Failures<S> {
+impl<S: Accounts> Ledger for FailedFiles<S> {
     ghost name = { S.failures };
 
     ghost parts = { S.shares };
@@ -104,11 +109,11 @@ impl<S: Accounts> Ledger for Failures<S> {
 
 /// The ledger of the built versions of a site that were shown.
 #[derive(Drop)]
-pub struct Made<S: Accounts> {
+pub struct BuiltVersions<S: Accounts> {
     of: PhantomData<S>,
 }
 
-impl<S: Accounts> Ledger for Made<S> {
+impl<S: Accounts> Ledger for BuiltVersions<S> {
     ghost name = { S.made };
 
     ghost parts = { S.shares };
@@ -117,11 +122,11 @@ impl<S: Accounts> Ledger for Made<S> {
 /// The ledger of the versions that were fetched for a site. Its book isn't here. One part more than of the others lies
 /// with the publisher.
 #[derive(Drop)]
-pub struct Versions<S: Accounts> {
+pub struct FetchedVersions<S: Accounts> {
     of: PhantomData<S>,
 }
 
-impl<S: Accounts> Ledger for Versions<S> {
+impl<S: Accounts> Ledger for FetchedVersions<S> {
     ghost use Rattle.std.specs.Prelude.{◌+◌};
 
     ghost name = { S.versions };
@@ -146,18 +151,18 @@ pub enum ShareFault {
 #[derive(Drop)]
 pub struct Locked<S: Site + Accounts, D: Disk, B: Show> {
     publisher: Publisher<D, B>,
-    failures: Book<Failures<S>>,
-    made: Book<Made<S>>,
-    versions: Share<Versions<S>>,
+    failures: Book<FailedFiles<S>>,
+    made: Book<BuiltVersions<S>>,
+    versions: Share<FetchedVersions<S>>,
 }
 
 impl<S: Site + Accounts, D: Disk, B: Show> Model for Locked<S, D, B> {
     ghost use Rattle.std.specs.Prelude.{◌≡◌, ◌<◌};
-    ghost use Rattle.yp_publish.specs.Standing.{Published};
-    ghost use Rattle.yp_publish.specs.Keeping.{keeping_of};
-    ghost use Rattle.yp_shared.specs.Failures.{Covers};
-    ghost use Rattle.yp_shared.specs.Moments.{IsLed};
-    ghost use Rattle.yp_shared.specs.Sources.{IsSourcedAt};
+    ghost use Rattle.yp_publisher.specs.Standing.{Published};
+    ghost use Rattle.yp_publisher.specs.Keeping.{keeping_of};
+    ghost use Rattle.yp_publisher.specs.inside.sharing.Failures.{Covers};
+    ghost use Rattle.yp_publisher.specs.inside.sharing.Moments.{IsLed};
+    ghost use Rattle.yp_publisher.specs.inside.sharing.Sources.{IsSourcedAt};
 
     ghost Value = { Published D B };
 
@@ -175,12 +180,12 @@ impl<S: Site + Accounts, D: Disk, B: Show> Locked<S, D, B> {
     /// of fetched versions.
     pub fn new(
         publisher: Publisher<D, B>,
-        failures: Book<Failures<S>>,
-        made: Book<Made<S>>,
-        versions: Share<Versions<S>>,
+        failures: Book<FailedFiles<S>>,
+        made: Book<BuiltVersions<S>>,
+        versions: Share<FetchedVersions<S>>,
     ) -> Locked<S, D, B>
         requires site { publisher.catalogue ≡ S.catalogue }
-        requires first { moment_of B.log publisher ≡ S.first }
+        requires first { publisher_state B.log publisher ≡ S.first }
         requires before { faults_over D.faults (disks_of publisher.maps) ≡ S.disk_faults }
         requires none { (failures.total ≡ 0) × (made.total ≡ 0) }
         requires part { 0 < versions.parts }
@@ -194,11 +199,12 @@ impl<S: Site + Accounts, D: Disk, B: Show> Locked<S, D, B> {
         }
     }
 
-    /// The publisher, once the lock is left, and what stands for the fetched versions that were installed. The files
-    /// that a caller was charged with are covered by the faults of its disks. From a start, over disks that tell what a
-    /// crash may leave of them, the orders of each map rise in the log; as many built versions were shown as the caller
-    /// was charged with, and no more others, with those that maps are behind, than were fetched.
-    pub fn close(self, charge: &mut Debits<S>) -> (Publisher<D, B>, Share<Versions<S>>)
+    /// The publisher, once the lock is left, and what stands for the fetched versions that were installed. The failed
+    /// files that a caller was charged with are at most as many as the faults of its disks. From a start, over disks
+    /// that tell what a crash may leave of them, the orders of each map rise in the log; at least as many built
+    /// versions were shown as the caller was charged with; and the other versions that were shown, with those that maps
+    /// are behind, are at most as many as were fetched.
+    pub fn close(self, charge: &mut Debits<S>) -> (Publisher<D, B>, Share<FetchedVersions<S>>)
         ensures publisher { result.0 ≡ self }
         ensures catalogue { result.0.catalogue ≡ S.catalogue }
         ensures covered { Covers D.history D.faults S.disk_faults result.0.maps charge.old.failures }
@@ -206,7 +212,7 @@ impl<S: Site + Accounts, D: Disk, B: Show> Locked<S, D, B> {
             → IsRisingLog (B.log result.0.board) }
         ensures sourced { (made : ℕ) → made ≤ charge.old.made → IsStart S.first
             → AreTold D.history (disks_of result.0.maps)
-            → IsSourced S.built S.first (moment_of B.log result.0) made result.1.amount }
+            → IsSourced S.built S.first (publisher_state B.log result.0) made result.1.amount }
     {
         log_rises();
         let Locked {
@@ -249,7 +255,7 @@ impl<S: Site + Accounts, D: Disk, B: Show> Locked<S, D, B> {
         ensures grown { IsFront (B.log self.old.board) (B.log self.new.board) }
 
         // What it is charged with.
-        ensures charged { IsCharged (failures_of result) (made_by origin result) (fetched_in origin)
+        ensures charged { DebitIsCharged (failures_of result) (made_by origin result) (fetched_in origin)
             charge.old charge.new }
     {
         let _catalog = self.publisher.catalog();
@@ -285,7 +291,7 @@ impl<S: Site + Accounts, D: Disk, B: Tell> Locked<S, D, B> {
     }
 
     /// Installs a version as [`Locked::install`] does, and lets a reader of the board know what was shown.
-    #[tactic(auto, using(crate::proofs::Learning::learned))]
+    #[tactic(auto, using(crate::proofs::sharing::Learning::learned))]
     pub fn install_for(
         &mut self,
         alloc: Global,
@@ -304,7 +310,7 @@ impl<S: Site + Accounts, D: Disk, B: Tell> Locked<S, D, B> {
         ensures reason { IfErr result (λ fault. IsReason S.catalogue.own map version origin fault
             (B.Reader.seen reader.new).known) }
         ensures learned { Learns (B.Reader.seen reader.old) (B.Reader.seen reader.new) }
-        ensures charged { IsCharged (failures_of result) (made_by origin result) (fetched_in origin)
+        ensures charged { DebitIsCharged (failures_of result) (made_by origin result) (fetched_in origin)
             charge.old charge.new }
     {
         // It needn't know what was shown before, but that this begins with all that it knows.
@@ -390,7 +396,7 @@ fn open_and_offer<D: Disk, B: Show>(
 }
 
 /// Offers a version of a level map, marked as the one that is shown.
-#[tactic(auto, using(crate::proofs::Installing::unshown))]
+#[tactic(auto, using(crate::proofs::sharing::Installing::unshown))]
 fn offer<D: Disk, B: Show>(
     alloc: Global,
     publisher: &mut Publisher<D, B>,
@@ -402,7 +408,7 @@ fn offer<D: Disk, B: Show>(
     requires level { OfMap map publisher.old.maps (λ kept. kept.standing ≡ Level) }
     ensures installed { OnOk result (Installs (keeping_of D.history D.faults B.log) map
         (offer_behind map version origin (B.log publisher.old.board)) publisher.old publisher.new) }
-    ensures refused { IfErr result (λ fault. IsRefused (keeping_of D.history D.faults B.log) map
+    ensures refused { IfErr result (λ fault. OfferIsRefused (keeping_of D.history D.faults B.log) map
         (offer_behind map version origin (B.log publisher.old.board)) fault publisher.old publisher.new) }
     ensures follows { OnOk result (not_following publisher.old.catalogue.own
         (offer_behind map version origin (B.log publisher.old.board)) (shown map (B.log publisher.old.board)) ≡ None) }

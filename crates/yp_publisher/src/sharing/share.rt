@@ -1,19 +1,20 @@
 //! The calls that take the lock.
 
 ghost use Rattle.std.specs.Prelude.{◌≡◌, ◌+◌, ◌<◌, ◌≤◌, length, OnOk, OnErr, IfErr};
-ghost use Rattle.yp_shared.specs.Shares.{IsShownBehind, IsReason, Learns};
-ghost use Rattle.yp_shared.specs.Failures.{failures_of, made_by};
-ghost use Rattle.yp_shared.specs.Debits.{IsCharged};
-ghost use Rattle.yp_shared.specs.Sources.{IsBuiltThere, fetched_in};
+ghost use Rattle.yp_publisher.specs.sharing.Shares.{IsShownBehind, Learns};
+ghost use Rattle.yp_publisher.specs.inside.sharing.Shares.{IsReason};
+ghost use Rattle.yp_publisher.specs.inside.sharing.Failures.{failures_of, made_by};
+ghost use Rattle.yp_publisher.specs.inside.sharing.Debits.{DebitIsCharged};
+ghost use Rattle.yp_publisher.specs.inside.sharing.Sources.{IsBuiltThere, fetched_in};
 
-use crate::debits::Debits;
-use crate::locked::{Accounts, Locked, ShareFault, Site};
+use crate::Origin;
+use crate::sharing::debits::Debits;
+use crate::sharing::locked::{Accounts, Locked, ShareFault, Site};
 use std::alloc::Global;
 use std::random::RandomSource;
 use std::sync::{Mutex, Wait};
 use yp_board::Tell;
 use yp_io::{Disk, NoMemory};
-use yp_publish::Origin;
 use yp_version::Version;
 
 /// Stores a version of a map and shows it, in any thread, and lets the caller's reader know it. It waits for the lock,
@@ -40,7 +41,7 @@ pub fn install_shared<S: Site + Accounts, D: Disk, B: Tell, R: RandomSource + Wa
     ensures reason { IfErr result (λ fault. IsReason S.catalogue.own map version origin fault
         (B.Reader.seen reader.new).known) }
     ensures learned { Learns (B.Reader.seen reader.old) (B.Reader.seen reader.new) }
-    ensures charged { IsCharged (failures_of result) (made_by origin result) (fetched_in origin)
+    ensures charged { DebitIsCharged (failures_of result) (made_by origin result) (fetched_in origin)
         charge.old charge.new }
 {
     let mut locked = shared.lock(rt);

@@ -6,8 +6,8 @@ use std::alloc::Global;
 use std::process::Abort;
 use std::random::RandomSource;
 use std::sync::{Arc, Wait};
+use yp_board::readers::{Naming, Opened, Reader, Writer, board};
 use yp_board::{Catalog, MapName, Show, View};
-use yp_readers::{Naming, Opened, Reader, Writer, board};
 use yp_version::{Version, VersionBuilder};
 
 /// A version of this order, without rows.

@@ -10,7 +10,7 @@ use std::process::Abort;
 use std::random::RandomSource;
 use std::sync::{Arc, Wait};
 use yp_board::View;
-use yp_readers::{Naming, Opened, Reader, Writer};
+use yp_board::readers::{Naming, Opened, Reader, Writer};
 use yp_version::Version;
 
 #[test]

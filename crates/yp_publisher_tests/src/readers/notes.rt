@@ -11,8 +11,8 @@ use std::marker::Brand;
 use std::process::Abort;
 use std::random::RandomSource;
 use std::sync::Wait;
+use yp_board::readers::{Naming, Note, Opened, Reader, Writer};
 use yp_board::{Tell, View};
-use yp_readers::{Naming, Note, Opened, Reader, Writer};
 
 #[test]
 fn notes_in_any_order(rt: HostRuntime) {

@@ -11,7 +11,7 @@ use std::random::RandomSource;
 use std::sync::{Mutex, Wait};
 use std::thread::Threads;
 use yp_board::View;
-use yp_readers::{Naming, Opened, Reader, Writer, show_beside};
+use yp_board::readers::{Naming, Opened, Reader, Writer, show_beside};
 
 #[test]
 fn read_beside_a_show(rt: HostRuntime) {

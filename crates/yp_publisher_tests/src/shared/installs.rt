@@ -1,12 +1,12 @@
 //! Installs and tellings under one lock, in one thread.
 
 ghost use Rattle.std.specs.Prelude.{◌≡◌, ℕ, ◌+◌, ◌<◌, ◌≤◌, length, Option};
-ghost use Rattle.yp_io.specs.MemDisk.{Platter};
+ghost use Rattle.yp_io.specs.inside.MemDisk.{Platter};
 ghost use Rattle.yp_version.specs.Versions.{MapVersion};
-ghost use Rattle.yp_publish.specs.Rising.{moment_of};
-ghost use Rattle.yp_readers.specs.Boards.{Written};
-ghost use Rattle.yp_shared.specs.Failures.{disks_of, faults_over};
-ghost use Rattle.yp_shared.specs.Sources.{fetched_in};
+ghost use Rattle.yp_publisher.specs.Rising.{publisher_state};
+ghost use Rattle.yp_board.specs.inside.readers.Boards.{Written};
+ghost use Rattle.yp_publisher.specs.sharing.Failures.{disks_of, faults_over};
+ghost use Rattle.yp_publisher.specs.inside.sharing.Sources.{fetched_in};
 
 use crate::given::assert_same;
 use crate::shared::maps::*;
@@ -17,13 +17,13 @@ use std::random::RandomSource;
 use std::sync::ledger::{Blank, Book};
 use std::sync::{Mutex, Wait};
 use yp_board::Tell;
+use yp_board::readers::{Naming, Opened, Reader, Writer};
 use yp_io::MemDisk;
-use yp_publish::{InstallFault, Origin};
-use yp_readers::{Naming, Opened, Reader, Writer};
-use yp_shared::{
-    Accounts, Debits, Failures, Locked, Made, ShareFault, Site, Versions, install_shared,
-    tell_shared,
+use yp_publisher::sharing::{
+    Accounts, BuiltVersions, Debits, FailedFiles, FetchedVersions, Locked, ShareFault, Site,
+    install_shared, tell_shared,
 };
+use yp_publisher::{InstallFault, Origin};
 
 // The maps, and where they are under their lock.
 type Kept<'r, S, J, R> = Locked<S, MemDisk, Writer<J, &'r R>>;
@@ -143,7 +143,7 @@ fn play_all<'r, J: Naming, S: Site + Accounts, R: Wait + RandomSource + Abort>(
     requires site { maps.catalogue ≡ S.catalogue }
     requires some { 0 < length S.catalogue.maps }
     requires any { (number : ℕ) → (last : Option MapVersion) → (version : MapVersion) → S.built number last version }
-    requires first { moment_of (λ (w : Written). w.log) maps ≡ S.first }
+    requires first { publisher_state (λ (w : Written). w.log) maps ≡ S.first }
     requires disks { faults_over (λ (p : Platter). p.faults) (disks_of maps.maps) ≡ S.disk_faults }
     requires names { (failures.name ≡ S.failures) × (made.name ≡ S.made) × (versions.name ≡ S.versions) }
     requires parts { (failures.parts ≡ S.shares) × (made.parts ≡ S.shares) × (versions.parts ≡ S.shares + 1) }
@@ -166,18 +166,18 @@ fn open_all<'r, J: Naming, S: Site + Accounts, R: Wait + RandomSource + Abort>(
     failures: Blank,
     made: Blank,
     versions: Blank,
-) -> (Kept<'r, S, J, R>, Debits<S>, Book<Versions<S>>)
+) -> (Kept<'r, S, J, R>, Debits<S>, Book<FetchedVersions<S>>)
     requires site { maps.catalogue ≡ S.catalogue }
-    requires first { moment_of (λ (w : Written). w.log) maps ≡ S.first }
+    requires first { publisher_state (λ (w : Written). w.log) maps ≡ S.first }
     requires disks { faults_over (λ (p : Platter). p.faults) (disks_of maps.maps) ≡ S.disk_faults }
     requires names { (failures.name ≡ S.failures) × (made.name ≡ S.made) × (versions.name ≡ S.versions) }
     requires parts { (failures.parts ≡ S.shares) × (made.parts ≡ S.shares) × (versions.parts ≡ S.shares + 1) }
     requires two { S.shares ≡ 2 }
     ensures { result.1.parts ≡ 2 }
 {
-    let (failed, failures) = failures.open::<Failures<S>>();
-    let (shown, made) = made.open::<Made<S>>();
-    let (fetches, mut versions) = versions.open::<Versions<S>>();
+    let (failed, failures) = failures.open::<FailedFiles<S>>();
+    let (shown, made) = made.open::<BuiltVersions<S>>();
+    let (fetches, mut versions) = versions.open::<FetchedVersions<S>>();
     // One part of the last stays under the lock.
     let kept = versions.split_off(1, 0);
     let locked = Locked::new(maps, failed, shown, kept);
@@ -190,7 +190,7 @@ fn play<'r, J: Naming, S: Site + Accounts, R: Wait + RandomSource + Abort>(
     shared: &Shared<'r, S, J, R>,
     reader: &mut Reader<J>,
     charge: &mut Debits<S>,
-    fetches: &mut Book<Versions<S>>,
+    fetches: &mut Book<FetchedVersions<S>>,
     rows: &[Row],
 )
     requires maps { 0 < length S.catalogue.maps }
@@ -204,7 +204,11 @@ fn play<'r, J: Naming, S: Site + Accounts, R: Wait + RandomSource + Abort>(
 }
 
 // Tells the book of a version that is fetched.
-fn fetch<S: Accounts>(origin: Origin, charge: &mut Debits<S>, fetches: &mut Book<Versions<S>>)
+fn fetch<S: Accounts>(
+    origin: Origin,
+    charge: &mut Debits<S>,
+    fetches: &mut Book<FetchedVersions<S>>,
+)
     ensures { fetched_in origin ≤ charge.new.versions }
 {
     match origin {
@@ -284,7 +288,7 @@ fn tell_second<'r, J: Naming, S: Site + Accounts, R: Wait + RandomSource + Abort
     requires site { maps.catalogue ≡ S.catalogue }
     requires some { 0 < length S.catalogue.maps }
     requires any { (number : ℕ) → (last : Option MapVersion) → (version : MapVersion) → S.built number last version }
-    requires first { moment_of (λ (w : Written). w.log) maps ≡ S.first }
+    requires first { publisher_state (λ (w : Written). w.log) maps ≡ S.first }
     requires disks { faults_over (λ (p : Platter). p.faults) (disks_of maps.maps) ≡ S.disk_faults }
     requires names { (failures.name ≡ S.failures) × (made.name ≡ S.made) × (versions.name ≡ S.versions) }
     requires parts { (failures.parts ≡ S.shares) × (made.parts ≡ S.shares) × (versions.parts ≡ S.shares + 1) }

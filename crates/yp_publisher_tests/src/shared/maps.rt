@@ -2,17 +2,17 @@
 
 ghost use Rattle.std.specs.Prelude.{◌≡◌, ◌≤◌, length, map, option_map};
 ghost use Rattle.std.specs.Arc.{arc_value};
-ghost use Rattle.yp_publish.specs.Standing.{versions};
+ghost use Rattle.yp_publisher.specs.Standing.{versions};
 
 use std::alloc::Global;
 use std::process::Abort;
 use std::random::RandomSource;
 use std::sync::{Arc, Wait};
+use yp_board::readers::{Naming, Opened, Reader, Writer, board};
 use yp_board::{Catalog, MapName, View};
 use yp_io::MemDisk;
-use yp_publish::laws::starts_are_shown;
-use yp_publish::{Loaded, Publisher, load_all};
-use yp_readers::{Naming, Opened, Reader, Writer, board};
+use yp_publisher::laws::starts_are_shown;
+use yp_publisher::{Loaded, Publisher, load_all};
 use yp_version::{Version, VersionBuilder};
 
 /// A publisher of one map.

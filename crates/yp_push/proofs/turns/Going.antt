@@ -8,24 +8,24 @@ use Rattle.std.proofs.lemmas.List.Elements.{filter_map-append}
 use Rattle.yp_io.specs.declared.stream.Peer.{Peer}
 use Rattle.yp_io.specs.Dials.{DialTells}
 use Rattle.yp_xdr.specs.Kind.{Value}
-use Rattle.yp_msgs.specs.Transfers.{req_xfr}
-use Rattle.yp_msgs.specs.declared.transfer.XfrStat.TheVariants.{Succ}
+use Rattle.yp_messages.specs.Transfers.{req_xfr}
+use Rattle.yp_messages.specs.declared.transfer.XfrStat.TheVariants.{Succ}
 use Rattle.yp_client.specs.declared.fault.ClientFault.TheVariants.{NoMemory}
 use Rattle.yp_push.specs.declared.event.Event.{Event}
 use Rattle.yp_push.specs.declared.event.Event.TheVariants.{Sent, Failed, Refused}
 use Rattle.yp_push.specs.declared.outcome.Missed.TheVariants.{Rpc, Maddr}
 use Rattle.yp_push.specs.declared.ledger.Sending.{Sending}
 use Rattle.yp_push.specs.Ledgers.{Ledger, with_event, asked, asked_by, outstanding, next_sending}
-use Rattle.yp_pushing.specs.Sendings.{Answer, IsNoted, Reaches}
-use Rattle.yp_pushing.specs.Pushers.{Pushing, sent_to, HasReached, SendsAll, sends_more}
+use Rattle.yp_push.specs.turns.Sendings.{SlaveAnswer, IsNoted, ReachesSlave}
+use Rattle.yp_push.specs.turns.Pushers.{Pushing, sent_to, HasAskedSlave, SendsAll, sends_more}
 
 pub sent_more : {A : Type 0} (tells : A → DialTells) (sending : Sending) (old middle between new : Pushing A)
     → SendsAll tells old middle → middle.starved ≡ false → Some sending ≡ next_sending middle.ledger
-    → between ≡ sent_to middle sending → HasReached tells sending between new → SendsAll tells old new
+    → between ≡ sent_to middle sending → HasAskedSlave tells sending between new → SendsAll tells old new
 sent_more {A} tells sending old middle between new all fed next is reached =
     sends_more sending old middle new all fed (record {
       next = sym next;
-      reached = subst (λ (p : Pushing A). HasReached tells sending p new) is reached;
+      reached = subst (λ (p : Pushing A). HasAskedSlave tells sending p new) is reached;
     })
 
 -- ---- how many were asked
@@ -52,14 +52,14 @@ behind old new event none e =
     ap (λ (o : Option ℕ). length (cons_option o [])) none in
     rw e (record { asked = omega (arith, more, nothing); slaves = refl })
 
-noted : (slave : ℕ) (answer : Answer) (old new : Ledger) → IsNoted slave answer old new → IsAsMany old new
+noted : (slave : ℕ) (answer : SlaveAnswer) (old new : Ledger) → IsNoted slave answer old new → IsAsMany old new
 noted slave (Ok Succ) old new h = stays_so old new h
-noted slave (Ok stat) old new h = behind old new (Refused slave h.0) refl h.2
+noted slave (Ok stat) old new h = behind old new (Refused slave stat) refl h
 noted slave (Err NoMemory) old new h = stays_so old new h
 noted slave (Err fault) old new h = behind old new (Failed slave Rpc) refl h
 
 reached : (to : Option Peer) (request : Value req_xfr) (slave : ℕ) (starved : Bool) (ledger ledger' : Ledger)
-    (old new : DialTells) → Reaches to request slave starved ledger ledger' old new → IsAsMany ledger ledger'
+    (old new : DialTells) → ReachesSlave to request slave starved ledger ledger' old new → IsAsMany ledger ledger'
 reached None request slave starved ledger ledger' old new h = behind ledger ledger' (Failed slave Maddr) refl h.1
 reached (Some peer) request slave starved ledger ledger' old new (inl missed) =
     behind ledger ledger' (Failed slave Rpc) refl missed.noted
@@ -80,7 +80,7 @@ room ledger sending next =
 -- fewer are left
 pub fewer : {A : Type 0} (tells : A → DialTells) (sending : Sending) (middle between new : Pushing A)
     → Some sending ≡ next_sending middle.ledger → between ≡ sent_to middle sending
-    → HasReached tells sending between new
+    → HasAskedSlave tells sending between new
     → new.ledger.slaves - length (asked new.ledger.events) < middle.ledger.slaves - length (asked middle.ledger.events)
 fewer {A} tells sending middle between new next is did =
     let under = room middle.ledger sending next in

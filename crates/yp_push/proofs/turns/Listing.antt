@@ -4,9 +4,9 @@ use Rattle.std.proofs.Common.{refl, sym, ap, ◌∙◌, arith}
 use Rattle.std.specs.Prelude.{slice_get, bytes_eq}
 use Rattle.std.proofs.Common.{append_assoc}
 use Rattle.yp_version.specs.Rows.{Row}
-use Rattle.yp_xfr.specs.HostTable.{HostList, find}
-use Rattle.yp_pushing.specs.Pushers.{Slave}
-use Rattle.yp_pushing.specs.Slaves.{slaves_of}
+use Rattle.yp_transfer.specs.HostTable.{HostList, find}
+use Rattle.yp_push.specs.turns.Pushers.{Slave}
+use Rattle.yp_push.specs.turns.Slaves.{slaves_of}
 
 drop_none : (rows : List Row) → drop 0 rows ≡ rows
 drop_none [] = refl

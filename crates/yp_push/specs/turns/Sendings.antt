@@ -1,14 +1,12 @@
--- One request of a push: a slave is asked to fetch a map (yppush).
+-- One request of a push: a slave is asked to fetch a map (yppush; ypreq_xfr of yp.x).
 use Rattle.std.specs.Prelude.{◌≡◌, ◌⊎◌, ℕ, ◌+◌, ◌≤◌, min, Bool, true, false, List, Option, Some, None, Result, Ok, Err}
 use Rattle.yp_io.specs.Counts.{HasRisen, last_count}
 use Rattle.yp_io.specs.declared.stream.Peer.{Peer}
-use Rattle.yp_io.specs.Dials.{Wires, DialTells, connected, Comes, GoesBack}
+use Rattle.yp_io.specs.Dials.{Wires, DialTells, connected, WireComes, GoesBack}
 use Rattle.yp_xdr.specs.Kind.{Value}
-use Rattle.yp_msgs.specs.declared.push.PushStat.{PushStat}
-use Rattle.yp_msgs.specs.declared.transfer.XfrStat.{XfrStat}
-use Rattle.yp_msgs.specs.declared.transfer.XfrStat.TheVariants.{Succ}
-use Rattle.yp_msgs.specs.Pushes.{push_number}
-use Rattle.yp_msgs.specs.Transfers.{req_xfr, xfr_number}
+use Rattle.yp_messages.specs.declared.transfer.XfrStat.{XfrStat}
+use Rattle.yp_messages.specs.declared.transfer.XfrStat.TheVariants.{Succ}
+use Rattle.yp_messages.specs.Transfers.{req_xfr}
 use Rattle.yp_board.specs.Catalogues.{Name}
 use Rattle.yp_client.specs.declared.fault.ClientFault.{ClientFault}
 use Rattle.yp_client.specs.declared.fault.ClientFault.TheVariants.{NoMemory}
@@ -21,7 +19,7 @@ use Rattle.yp_client.specs.States.{ClientState, IsFirst}
 use Rattle.yp_push.specs.declared.event.Event.TheVariants.{Failed, Refused}
 use Rattle.yp_push.specs.declared.outcome.Missed.TheVariants.{Rpc, Maddr}
 use Rattle.yp_push.specs.Ledgers.{Ledger, with_event}
-use Rattle.yp_pushing.specs.Callbacks.{program}
+use Rattle.yp_push.specs.turns.Callbacks.{program}
 
 -- what slaves are asked: the map, its order, the host that has it, and the port at which they tell how it went
 pub record Request : Type 0 where
@@ -36,11 +34,11 @@ xfr_of request transid =
     (request.store.0, (request.store.1, (request.order, (request.name, (transid, (program, request.port))))))
 
 -- what a slave answered at once, or why it didn't
-abbrev pub Answer : Type 0
-Answer = Result XfrStat ClientFault
+abbrev pub SlaveAnswer : Type 0
+SlaveAnswer = Result XfrStat ClientFault
 
 -- memory ran out
-abbrev pub starves : Answer → Bool
+abbrev pub starves : SlaveAnswer → Bool
 starves (Err NoMemory) = true
 starves answer = false
 
@@ -51,18 +49,18 @@ pub record IsNotDialed (old new : DialTells) : Type 0 where
   pub cause : HasRisen old.faults new.faults
 
 -- XFR was called on a wire, with the number 1; or memory ran out for a client, and the wire stays.
-abbrev pub IsCalled : Value req_xfr → Answer → ClientState → ClientState → Type 0
+abbrev pub IsCalled : Value req_xfr → SlaveAnswer → ClientState → ClientState → Type 0
 IsCalled request answer first last =
     Calls reply_max (xfr_call request) (SaysStat taken_of) answer first last
     ⊎ ((answer ≡ Err NoMemory) × (last ≡ first))
 
 -- One wire to this peer came, XFR was called on it, and it went back: its faults are counted as those of the dial. The
 -- dial tells what its input and its output were at first, and what they were when it went back.
-pub record IsAsked (peer : Peer) (request : Value req_xfr) (answer : Answer) (old new : DialTells) : Type 0 where
+pub record IsAsked (peer : Peer) (request : Value req_xfr) (answer : SlaveAnswer) (old new : DialTells) : Type 0 where
   pub first : ClientState
   pub last : ClientState
   pub middle : Option Wires
-  pub comes : Comes (connected peer first.wire.input first.wire.output) old.past middle
+  pub comes : WireComes (connected peer first.wire.input first.wire.output) old.past middle
   pub begins : IsFirst first
   pub calls : IsCalled request answer first last
   pub goes_back : GoesBack last.wire middle new.past
@@ -71,31 +69,32 @@ pub record IsAsked (peer : Peer) (request : Value req_xfr) (answer : Answer) (ol
 
 -- A ledger has an answer: where it is SUCC, or memory ran out, nothing, another status as the slave's own, and a fault
 -- as a failure.
-abbrev pub IsNoted : ℕ → Answer → Ledger → Ledger → Type 0
+abbrev pub IsNoted : ℕ → SlaveAnswer → Ledger → Ledger → Type 0
 IsNoted slave (Ok Succ) old new = new ≡ old
-IsNoted slave (Ok stat) old new =
-    (status : PushStat) × (push_number status ≡ xfr_number stat) × (new ≡ with_event old (Refused slave status))
+IsNoted slave (Ok stat) old new = new ≡ with_event old (Refused slave stat)
 IsNoted slave (Err NoMemory) old new = new ≡ old
 IsNoted slave (Err fault) old new = new ≡ with_event old (Failed slave Rpc)
 
 -- A slave that has an address was asked: no wire came, or one did and has an answer. The bytes of the wire fix the
 -- answer, unless the wire failed or memory ran out.
-pub record IsAnswered (peer : Peer) (request : Value req_xfr) (slave : ℕ) (starved : Bool) (ledger ledger' : Ledger)
+pub record SlaveIsAnswered (peer : Peer) (request : Value req_xfr) (slave : ℕ) (starved : Bool)
+    (ledger ledger' : Ledger)
     (old new : DialTells) : Type 0 where
-  pub answer : Answer
+  pub answer : SlaveAnswer
   pub asked : IsAsked peer request answer old new
   pub noted : IsNoted slave answer ledger ledger'
   pub memory : starved ≡ starves answer
 
+-- no wire came for a slave, and the ledger has that
 pub record IsMissed (slave : ℕ) (starved : Bool) (ledger ledger' : Ledger) (old new : DialTells) : Type 0 where
   pub not_dialed : IsNotDialed old new
   pub noted : ledger' ≡ with_event ledger (Failed slave Rpc)
   pub memory : starved ≡ false
 
 -- One without an address wasn't asked; the dial stays.
-abbrev pub Reaches : Option Peer → Value req_xfr → (slave : ℕ) → (starved : Bool) → (ledger ledger' : Ledger)
+abbrev pub ReachesSlave : Option Peer → Value req_xfr → (slave : ℕ) → (starved : Bool) → (ledger ledger' : Ledger)
     → (old new : DialTells) → Type 0
-Reaches None request slave starved ledger ledger' old new =
+ReachesSlave None request slave starved ledger ledger' old new =
     (new ≡ old) × (ledger' ≡ with_event ledger (Failed slave Maddr)) × (starved ≡ false)
-Reaches (Some peer) request slave starved ledger ledger' old new =
-    IsMissed slave starved ledger ledger' old new ⊎ IsAnswered peer request slave starved ledger ledger' old new
+ReachesSlave (Some peer) request slave starved ledger ledger' old new =
+    IsMissed slave starved ledger ledger' old new ⊎ SlaveIsAnswered peer request slave starved ledger ledger' old new

@@ -1,17 +1,51 @@
 //! What a datagram tells a push, and its reply.
 
 ghost use Rattle.std.specs.Prelude.{◌≡◌, ◌≤◌, length};
-ghost use Rattle.yp_rpc.specs.Turns.{mail_max, reply_of};
-ghost use Rattle.yp_pushing.specs.Callbacks.{program, asked_view, asked_by, procedure_asked, reply_to, IsTold};
+ghost use Rattle.yp_rpc.specs.Turns.{datagram_max};
+ghost use Rattle.yp_rpc.specs.inside.Turns.{reply_of};
+ghost use Rattle.yp_push.specs.turns.Callbacks.{programs, asked_by, procedure_asked, reply_to};
+ghost use Rattle.yp_push.specs.inside.turns.Callbacks.{asked_view};
+ghost use Rattle.yp_push.specs.turns.Callbacks.{LedgerIsTold};
 
-use yp_msgs::protocol::{PUSH_NULL, PUSHVERS, XFRRESP};
-use yp_msgs::{PushResp, ReadMessage};
-use yp_push::Push;
-use yp_rpc::{CallHead, Judged, MAIL_MAX, ReplyHead, judge, write_reply};
+use crate::Push;
+use yp_messages::protocol::{PUSH_NULL, PUSHVERS, XFRRESP};
+use yp_messages::{PushResp, ReadMessage};
+use yp_rpc::{DATAGRAM_MAX, Judged, Programs, ReplyHead, judge, write_reply};
 use yp_xdr::{Cursor, NoRoom};
 
 /// The program that slaves call, of those numbers that are used for a while (RFC 5531 section 8.3).
 pub const PROGRAM: u32 = 0x4000_0000;
+
+/// A procedure of the program that slaves call.
+#[derive(Clone, Copy, Debug)]
+enum Procedure {
+    Null,
+    Xfrresp,
+}
+
+/// The program that slaves call, alone.
+struct PushProgram;
+
+impl Programs for PushProgram {
+    type Procedure = Procedure;
+
+    ghost table = { λ _. programs };
+
+    fn version(&self, prog: u32) -> Option<u32> {
+        match prog {
+            PROGRAM => Some(PUSHVERS),
+            _ => None,
+        }
+    }
+
+    fn procedure(&self, _prog: u32, number: u32) -> Option<Procedure> {
+        match number {
+            PUSH_NULL => Some(Procedure::Null),
+            XFRRESP => Some(Procedure::Xfrresp),
+            _ => None,
+        }
+    }
+}
 
 /// What a datagram tells a push.
 #[derive(Clone, Copy, Debug)]
@@ -24,26 +58,21 @@ pub enum Callback {
     Told { xid: u32, told: PushResp },
 }
 
-/// What the arguments of a call tell its procedure.
-fn ask_procedure(call: &CallHead, arguments: &[u8]) -> Callback
-    ensures { asked_view result ≡ procedure_asked call.now arguments.now }
+/// What a call tells a procedure with its arguments.
+fn ask_procedure(xid: u32, procedure: Procedure, arguments: &[u8]) -> Callback
+    ensures { asked_view result ≡ procedure_asked xid procedure arguments.now }
 {
-    let xid = call.xid;
-    match call.procedure {
-        PUSH_NULL => Callback::Answer {
+    match procedure {
+        Procedure::Null => Callback::Answer {
             xid,
             head: ReplyHead::Success,
         },
-        XFRRESP => match PushResp::read(&mut Cursor::new(arguments)) {
+        Procedure::Xfrresp => match PushResp::read(&mut Cursor::new(arguments)) {
             Ok(told) => Callback::Told { xid, told },
             Err(_) => Callback::Answer {
                 xid,
                 head: ReplyHead::GarbageArgs,
             },
-        },
-        _ => Callback::Answer {
-            xid,
-            head: ReplyHead::ProcUnavail,
         },
     }
 }
@@ -52,16 +81,18 @@ fn ask_procedure(call: &CallHead, arguments: &[u8]) -> Callback
 pub fn read_callback(datagram: &[u8]) -> Callback
     ensures { asked_view result ≡ asked_by datagram.now }
 {
-    match judge(datagram, PROGRAM, PUSHVERS) {
+    match judge(&PushProgram, datagram) {
         Judged::Ignored => Callback::Nothing,
         Judged::Refused { xid, head } => Callback::Answer { xid, head },
-        Judged::Admitted(call) => ask_procedure(&call, &datagram[call.body..]),
+        Judged::Admitted { call, procedure } => {
+            ask_procedure(call.xid, procedure, &datagram[call.body..])
+        }
     }
 }
 
 /// Puts a reply of a head alone at the front of the buffer, and answers its length.
 fn put_head(buf: &mut [u8], xid: u32, head: &ReplyHead) -> usize
-    requires { MAIL_MAX ≤ length buf.old }
+    requires { DATAGRAM_MAX ≤ length buf.old }
     ensures reply { reply_of result buf.new ≡ reply_to (asked_view (Callback.Answer xid head.now)) }
     ensures within { result ≤ length buf.new }
 {
@@ -74,9 +105,9 @@ fn put_head(buf: &mut [u8], xid: u32, head: &ReplyHead) -> usize
 /// Hears a datagram: the ledger has what it tells, and the one reply is put at the front of the buffer. It answers the
 /// length of the reply, or 0 for none.
 pub fn hear_callback(push: &mut Push, datagram: &[u8], buf: &mut [u8]) -> usize
-    requires { MAIL_MAX ≤ length buf.old }
+    requires { DATAGRAM_MAX ≤ length buf.old }
     ensures reply { reply_of result buf.new ≡ reply_to (asked_by datagram.now) }
-    ensures told { IsTold (asked_by datagram.now) push.old push.new }
+    ensures told { LedgerIsTold (asked_by datagram.now) push.old push.new }
     ensures within { result ≤ length buf.new }
 {
     match read_callback(datagram) {

@@ -1,13 +1,13 @@
 //! What is told of a push.
 
 ghost use Rattle.std.specs.Prelude.{◌≡◌, ◌↔◌, ◌++◌, IsTrue, IfOk, OnOk};
-ghost use Rattle.yp_pushing.specs.Printed.{stat_of, stat_text, slave_line, push_text, has_map, AllHaveMap};
+ghost use Rattle.yp_push.specs.turns.Printed.{stat_of, stat_text, slave_line, push_text, has_map, AllHaveMap};
 
-use crate::pusher::Pusher;
+use crate::turns::pusher::Pusher;
+use crate::{Missed, Outcome};
 use std::alloc::{AllocError, Global};
 use yp_io::NoMemory;
-use yp_msgs::PushStat;
-use yp_push::{Missed, Outcome};
+use yp_messages::PushStat;
 
 /// The status of a slave, if it has one: that of its answer, or why it couldn't be asked.
 fn stat_of(outcome: Outcome) -> Option<PushStat>

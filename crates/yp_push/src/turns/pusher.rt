@@ -1,20 +1,21 @@
 //! A push in its turns.
 
 ghost use Rattle.std.specs.Prelude.{◌≡◌, ◌⊎◌, ◌<◌, ◌≤◌, true, false, length, map, IfSome};
-ghost use Rattle.yp_io.specs.Dials.{dial_tells};
-ghost use Rattle.yp_push.specs.Ledgers.{slaves_max, outcome_at, IsUnanswered, next_sending, after_sending};
-ghost use Rattle.yp_pushing.specs.Kept.{slave_view, request_view, IsWithin};
-ghost use Rattle.yp_pushing.specs.Pushers.{HasReached, SendsAll, IsSentOut, Goes, Hears, Rests};
+ghost use Rattle.yp_transfer.specs.inside.Dials.{dial_by};
+ghost use Rattle.yp_push.specs.Ledgers.{slaves_max, outcome_at, next_sending};
+ghost use Rattle.yp_push.specs.inside.Ledgers.{IsUnanswered, after_sending};
+ghost use Rattle.yp_push.specs.inside.turns.Kept.{slave_view, request_view, IsWithin};
+ghost use Rattle.yp_push.specs.turns.Pushers.{HasAskedSlave, SendsAll, IsSentOut, Goes, Hears, Rests};
 
-use crate::callback::{PROGRAM, hear_callback};
-use crate::sending::send;
+use crate::turns::callback::{PROGRAM, hear_callback};
+use crate::turns::sending::send;
+use crate::{Outcome, Push, Sending};
 use std::alloc::Global;
 use std::marker::Model;
 use yp_board::MapName;
 use yp_io::{Dial, Peer};
-use yp_msgs::ReqXfr;
-use yp_push::{Outcome, Push, Sending};
-use yp_rpc::{Errand, Wish};
+use yp_messages::ReqXfr;
+use yp_rpc::{Handler, Wish};
 
 /// A slave.
 #[derive(Debug, Drop)]
@@ -26,7 +27,7 @@ pub struct Slave {
 
 /// What slaves are asked.
 #[derive(Debug, Drop)]
-pub struct Order {
+pub struct PushRequest {
     /// The map that they are to fetch.
     pub store: MapName,
     /// The order of its version.
@@ -44,15 +45,15 @@ pub struct Pusher<A> {
     dial: A,
     push: Push,
     slaves: Vec<Slave>,
-    order: Order,
+    request: PushRequest,
     starved: bool,
 }
 
 impl<A> Model for Pusher<A> {
     ghost use Rattle.std.specs.Prelude.{◌≡◌, ◌≤◌, map, length};
-    ghost use Rattle.yp_pushing.specs.Kept.{slave_view, request_view, IsWithin};
+    ghost use Rattle.yp_push.specs.inside.turns.Kept.{slave_view, request_view, IsWithin};
     ghost use Rattle.yp_push.specs.Ledgers.{slaves_max};
-    ghost use Rattle.yp_pushing.specs.Pushers.{Pushing};
+    ghost use Rattle.yp_push.specs.turns.Pushers.{Pushing};
 
     ghost Value = { Pushing A };
 
@@ -60,25 +61,31 @@ impl<A> Model for Pusher<A> {
       dial = p.dial;
       ledger = p.push;
       slaves = map slave_view p.slaves.items;
-      request = request_view p.order;
+      request = request_view p.request;
       starved = p.starved;
     } };
 
     ghost invariant = { λ p. (p.push.slaves ≡ length p.slaves.items) × (length p.slaves.items ≤ slaves_max)
-        × IsWithin (request_view p.order) };
+        × IsWithin (request_view p.request) };
 }
 
 impl<A> Pusher<A> {
     /// A push of a ledger to as many slaves as it has, over a dial.
-    pub fn new(alloc: Global, dial: A, push: Push, slaves: Vec<Slave>, order: Order) -> Pusher<A>
+    pub fn new(
+        alloc: Global,
+        dial: A,
+        push: Push,
+        slaves: Vec<Slave>,
+        request: PushRequest,
+    ) -> Pusher<A>
         requires slaves { push.slaves ≡ length slaves.items }
         requires few { length slaves.items ≤ slaves_max }
-        requires within { IsWithin (request_view order) }
+        requires within { IsWithin (request_view request) }
         ensures { result ≡ record {
           dial = dial;
           ledger = push;
           slaves = map slave_view slaves.items;
-          request = request_view order;
+          request = request_view request;
           starved = false;
         } }
     {
@@ -87,7 +94,7 @@ impl<A> Pusher<A> {
             dial,
             push,
             slaves,
-            order,
+            request,
             starved: false,
         }
     }
@@ -137,16 +144,16 @@ impl<A: Dial> Pusher<A> {
     /// Asks a slave that the ledger has sent to.
     fn reach(&mut self, sending: Sending)
         requires { IsUnanswered self.old.ledger sending.slave }
-        ensures { HasReached (dial_tells A.past A.letters A.faults) sending self.old self.new }
+        ensures { HasAskedSlave (dial_by A.Dial) sending self.old self.new }
     {
         let request = ReqXfr {
-            domain: &self.order.store.domain,
-            map: &self.order.store.map,
-            ordernum: self.order.order,
-            peer: &self.order.name,
+            domain: &self.request.store.domain,
+            map: &self.request.store.map,
+            ordernum: self.request.order,
+            peer: &self.request.name,
             transid: sending.transid,
             prog: PROGRAM,
-            port: u32::from(self.order.port),
+            port: u32::from(self.request.port),
         };
         let to = self.slaves[sending.slave as usize].peer;
         self.starved = send(
@@ -161,7 +168,7 @@ impl<A: Dial> Pusher<A> {
 
     /// Asks all slaves that are to be asked now, up to one for which memory runs out.
     fn send_all(&mut self)
-        ensures all { SendsAll (dial_tells A.past A.letters A.faults) self.old self.new }
+        ensures all { SendsAll (dial_by A.Dial) self.old self.new }
         ensures end { (self.new.starved ≡ true) ⊎ IsSentOut self.new }
     {
         if self.starved {
@@ -176,8 +183,8 @@ impl<A: Dial> Pusher<A> {
     }
 }
 
-impl<A: Dial> Errand for Pusher<A> {
-    ghost goes = { Goes (dial_tells A.past A.letters A.faults) };
+impl<A: Dial> Handler for Pusher<A> {
+    ghost goes = { Goes (dial_by A.Dial) };
 
     ghost hears = { Hears };
 

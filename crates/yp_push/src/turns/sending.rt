@@ -1,17 +1,18 @@
 //! One request of a push.
 
 ghost use Rattle.std.specs.Prelude.{◌≡◌, MatchResult};
-ghost use Rattle.yp_io.specs.Dials.{dial_tells};
-ghost use Rattle.yp_msgs.specs.Transfers.{req_xfr_view, ReqXfrIsWithin};
-ghost use Rattle.yp_client.specs.States.{state_of, unspent, Held};
-ghost use Rattle.yp_push.specs.Ledgers.{IsUnanswered};
-ghost use Rattle.yp_pushing.specs.Sendings.{starves, IsNotDialed, IsCalled, IsAsked, IsNoted, Reaches};
+ghost use Rattle.yp_transfer.specs.inside.Dials.{dial_by};
+ghost use Rattle.yp_messages.specs.inside.Transfers.{req_xfr_view, ReqXfrIsWithin};
+ghost use Rattle.yp_client.specs.States.{ClientModel};
+ghost use Rattle.yp_client.specs.inside.States.{state_of, unspent};
+ghost use Rattle.yp_push.specs.inside.Ledgers.{IsUnanswered};
+ghost use Rattle.yp_push.specs.turns.Sendings.{starves, IsNotDialed, IsCalled, IsAsked, IsNoted, ReachesSlave};
 
+use crate::{Missed, Push};
 use std::alloc::Global;
 use yp_client::{Client, ClientFault};
 use yp_io::{Dial, Failed, Pair, Peer, Sink, Source};
-use yp_msgs::{PushStat, ReqXfr, XfrStat};
-use yp_push::{Missed, Push};
+use yp_messages::{ReqXfr, XfrStat};
 
 /// The number of the first call on a wire.
 const FIRST_XID: u32 = 1;
@@ -23,7 +24,7 @@ fn call_over<S: Source, K: Sink>(
     request: &ReqXfr<'_>,
 ) -> (Result<XfrStat, ClientFault>, Pair<S, K>)
     requires { ReqXfrIsWithin request.now }
-    ensures { (last : Held S K) × (last.wire ≡ result.1) × IsCalled (req_xfr_view request.now) result.0
+    ensures { (last : ClientModel S K) × (last.wire ≡ result.1) × IsCalled (req_xfr_view request.now) result.0
         (state_of S.Source K.Sink (unspent wire 1 0)) (state_of S.Source K.Sink last) }
 {
     let mut client = match Client::new(alloc, wire, FIRST_XID) {
@@ -43,10 +44,8 @@ fn call_dialed<A: Dial>(
 ) -> Result<Result<XfrStat, ClientFault>, Failed>
     requires { ReqXfrIsWithin request.now }
     ensures { MatchResult result
-        (λ answer. IsAsked to (req_xfr_view request.now) answer
-        (dial_tells A.past A.letters A.faults dial.old) (dial_tells A.past A.letters A.faults dial.new))
-        (λ _. IsNotDialed
-        (dial_tells A.past A.letters A.faults dial.old) (dial_tells A.past A.letters A.faults dial.new)) }
+        (λ answer. IsAsked to (req_xfr_view request.now) answer (dial_by A.Dial dial.old) (dial_by A.Dial dial.new))
+        (λ _. IsNotDialed (dial_by A.Dial dial.old) (dial_by A.Dial dial.new)) }
 {
     let wire = dial.dial(to)?;
     let (answer, wire) = call_over(alloc, wire, request);
@@ -62,7 +61,7 @@ fn note(push: &mut Push, slave: u32, answer: Result<XfrStat, ClientFault>) -> bo
 {
     match answer {
         Ok(XfrStat::Succ) => {}
-        Ok(stat) => push.on_refused(slave, PushStat::from(stat)),
+        Ok(stat) => push.on_refused(slave, stat),
         Err(ClientFault::NoMemory) => return true,
         Err(_) => push.on_failed(slave, Missed::Rpc),
     }
@@ -81,8 +80,8 @@ pub fn send<A: Dial>(
 ) -> bool
     requires within { ReqXfrIsWithin request.now }
     requires unanswered { IsUnanswered push.old slave }
-    ensures { Reaches to (req_xfr_view request.now) slave result push.old push.new
-        (dial_tells A.past A.letters A.faults dial.old) (dial_tells A.past A.letters A.faults dial.new) }
+    ensures { ReachesSlave to (req_xfr_view request.now) slave result push.old push.new
+        (dial_by A.Dial dial.old) (dial_by A.Dial dial.new) }
 {
     let Some(peer) = to else {
         push.on_failed(slave, Missed::Maddr);

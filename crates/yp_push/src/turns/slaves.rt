@@ -1,15 +1,15 @@
 //! The slaves of a push.
 
 ghost use Rattle.std.specs.Prelude.{◌≡◌, ◌++◌, [], ◌∷◌, map, IfOk, OnOk};
-ghost use Rattle.yp_xfr.specs.HostTable.{find};
-ghost use Rattle.yp_pushing.specs.Kept.{slave_view};
-ghost use Rattle.yp_pushing.specs.Slaves.{slaves_of};
+ghost use Rattle.yp_transfer.specs.HostTable.{find};
+ghost use Rattle.yp_push.specs.inside.turns.Kept.{slave_view};
+ghost use Rattle.yp_push.specs.turns.Slaves.{slaves_of};
 
-use crate::pusher::Slave;
+use crate::turns::pusher::Slave;
 use std::alloc::{AllocError, Global};
 use yp_io::NoMemory;
+use yp_transfer::Hosts;
 use yp_version::Version;
-use yp_xfr::Hosts;
 
 /// A slave of this name, with its address, where the table has it.
 fn slave_of(alloc: Global, name: &[u8], hosts: &Hosts) -> Result<Slave, AllocError>

@@ -1,14 +1,14 @@
 -- What a reader of a stream can rely on, whatever the limit of a record is, and what joins written and read heads.
 use Rattle.std.specs.Prelude.{◌≡◌, ◌≢◌, ℕ, ◌<◌, ◌^◌, List, [], ◌++◌, length, Ok}
-use Rattle.yp_xdr.specs.Reading.{IsBytes}
+use Rattle.yp_xdr.specs.inside.Reading.{IsBytes}
 use Rattle.yp_rpc.specs.declared.call.Heard.TheVariants.{Call}
 use Rattle.yp_rpc.specs.declared.reply.ReplyHead.{ReplyHead}
 use Rattle.yp_rpc.specs.declared.reply.ReplyHead.TheVariants.{Success, ProgUnavail, ProgMismatch, ProcUnavail}
 use Rattle.yp_rpc.specs.declared.reply.ReplyHead.TheVariants.{GarbageArgs, SystemErr, RpcMismatch, AuthError}
 use Rattle.yp_rpc.specs.Call.{heard}
-use Rattle.yp_rpc.specs.Called.{called}
+use Rattle.yp_rpc.specs.inside.Called.{called}
 use Rattle.yp_rpc.specs.Reply.{reply_head}
-use Rattle.yp_rpc.specs.Read.{reply_read}
+use Rattle.yp_rpc.specs.inside.Read.{reply_read}
 use Rattle.yp_rpc.specs.Records.{Fragments, Cut, IsRest, IsTorn, IsLong}
 
 -- the records of a stream and the rest behind them are determined by its bytes

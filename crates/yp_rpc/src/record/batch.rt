@@ -4,7 +4,8 @@ ghost use Rattle.std.specs.Prelude.{◌≡◌, ℕ, ◌+◌, ◌-◌, ◌≤◌,
 ghost use Rattle.std.specs.Io.KnownBytes.{Appends};
 ghost use Rattle.yp_io.specs.Counts.{CountsFaults};
 ghost use Rattle.yp_rpc.specs.Records.{fragment_max, fragment};
-ghost use Rattle.yp_rpc.specs.Waiting.{full_len, held_room, none};
+ghost use Rattle.yp_rpc.specs.Waiting.{full_len};
+ghost use Rattle.yp_rpc.specs.inside.Waiting.{held_room, none};
 
 use crate::record::head::{HEAD, Head};
 use crate::record::{FRAGMENT_MAX, HELD_MAX};
@@ -30,7 +31,8 @@ pub(super) struct Batch {
 impl Model for Batch {
     ghost use Rattle.std.specs.Prelude.{◌≡◌, ◌+◌, ◌-◌, ◌≤◌, length, take, drop};
     ghost use Rattle.yp_rpc.specs.Records.{fragment_max};
-    ghost use Rattle.yp_rpc.specs.Waiting.{Waiting, held_room};
+    ghost use Rattle.yp_rpc.specs.Waiting.{Waiting};
+    ghost use Rattle.yp_rpc.specs.inside.Waiting.{held_room};
 
     ghost Value = { Waiting };
 

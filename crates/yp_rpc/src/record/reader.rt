@@ -4,8 +4,10 @@ ghost use Rattle.std.specs.Prelude.{◌≡◌, ℕ, zero, ◌+◌, ◌-◌, ◌^
 ghost use Rattle.std.specs.Prelude.{Option, Some, None, IfOk, IfErr, IfSome, IfNone, OnErr};
 ghost use Rattle.std.specs.Io.KnownBytes.{Consumes, IsAtEnd};
 ghost use Rattle.yp_io.specs.Counts.{CountsFaults, last_count};
-ghost use Rattle.yp_rpc.specs.Records.{empty_max, head, fragment, IsEmpty, TakesRecord, HasCause, HasNoFragment};
-ghost use Rattle.yp_rpc.specs.Pieces.{not_begun, between, HasGiven, Gives, HasNoPiece};
+ghost use Rattle.yp_rpc.specs.Records.{empty_max, head, fragment, IsEmpty, TakesRecord, HasCause};
+ghost use Rattle.yp_rpc.specs.inside.Records.{HasNoFragment};
+ghost use Rattle.yp_rpc.specs.Pieces.{not_begun};
+ghost use Rattle.yp_rpc.specs.inside.Pieces.{between, HasGiven, GivesPiece, HasNoPiece};
 ghost use Rattle.yp_rpc.specs.Parts.{part_of};
 
 use crate::record::head::{HEAD, Head};
@@ -51,9 +53,9 @@ pub struct RecordReader {
 }
 
 impl Model for RecordReader {
-    ghost use Rattle.yp_rpc.specs.Pieces.{Reader};
+    ghost use Rattle.yp_rpc.specs.Pieces.{ReaderState};
 
-    ghost Value = { Reader };
+    ghost Value = { ReaderState };
 
     ghost use Rattle.yp_rpc.specs.Parts.{part_of};
 
@@ -126,7 +128,7 @@ impl RecordReader {
         // whatever was given of the record since its start
         ensures given { (front : List ℕ) (start : Option (List ℕ))
             → HasGiven limit front start (S.input source.old) self.old.part
-            → IfOk result (λ n. Gives limit front (take n buf.new) start (S.input source.new) self.old self.new) }
+            → IfOk result (λ n. GivesPiece limit front (take n buf.new) start (S.input source.new) self.old self.new) }
         ensures cause { (front : List ℕ) (start : Option (List ℕ))
             → HasGiven limit front start (S.input source.old) self.old.part
             → IfErr result (λ fault. HasNoPiece limit self.old.place start (S.input source.new)

@@ -5,7 +5,8 @@ ghost use Rattle.std.specs.Prelude.{OnErr};
 ghost use Rattle.std.specs.Io.KnownBytes.{Keeps, Appends};
 ghost use Rattle.yp_io.specs.Counts.{CountsFaults};
 ghost use Rattle.yp_rpc.specs.Records.{fragment_max, sent};
-ghost use Rattle.yp_rpc.specs.Waiting.{held_bytes, none, waiting, promised, Holds, Rests};
+ghost use Rattle.yp_rpc.specs.Waiting.{waiting, HoldsFragments, RestsBetweenCalls};
+ghost use Rattle.yp_rpc.specs.inside.Waiting.{held_bytes, none, promised};
 
 use crate::record::batch::Batch;
 use std::alloc::Global;
@@ -21,13 +22,13 @@ pub struct RecordWriter {
 
 impl Model for RecordWriter {
     ghost use Rattle.std.specs.Prelude.{ℕ, List};
-    ghost use Rattle.yp_rpc.specs.Waiting.{waiting, Rests};
+    ghost use Rattle.yp_rpc.specs.Waiting.{waiting, RestsBetweenCalls};
 
     ghost Value = { List ℕ };
 
     ghost view = { λ w. waiting w.batch };
 
-    ghost invariant = { λ w. Rests w.batch };
+    ghost invariant = { λ w. RestsBetweenCalls w.batch };
 }
 
 impl RecordWriter {
@@ -96,8 +97,8 @@ impl RecordWriter {
 
 // Puts a piece of a record behind what is held back.
 fn put_all<K: Sink>(batch: &mut Batch, sink: &mut K, piece: &[u8]) -> Result<(), Failed>
-    requires { Rests batch.old }
-    ensures rests { OnOk result (Rests batch.new) }
+    requires { RestsBetweenCalls batch.old }
+    ensures rests { OnOk result (RestsBetweenCalls batch.new) }
     ensures sent { OnOk result ((out : List ℕ)
         × Appends (K.output sink.old) (K.output sink.new) out
         × ((more : List ℕ) → promised batch.old (piece.now ++ more) ≡ out ++ promised batch.new more)) }
@@ -122,8 +123,8 @@ fn put_all<K: Sink>(batch: &mut Batch, sink: &mut K, piece: &[u8]) -> Result<(),
 
 // Makes room for a further byte of the record.
 fn make_room<K: Sink>(batch: &mut Batch, sink: &mut K) -> Result<(), Failed>
-    requires { Holds batch.old }
-    ensures holds { OnOk result (Holds batch.new) }
+    requires { HoldsFragments batch.old }
+    ensures holds { OnOk result (HoldsFragments batch.new) }
     ensures room { OnOk result (length batch.new.piece < fragment_max) }
     ensures sent { OnOk result ((out : List ℕ)
         × Appends (K.output sink.old) (K.output sink.new) out

@@ -3,59 +3,64 @@ use Rattle.std.specs.Prelude.{◌≡◌, ℕ, ◌+◌, ◌<◌, List, ◌∷◌,
 use Rattle.std.specs.List.{All}
 use Rattle.yp_io.specs.Counts.{HasRisen}
 use Rattle.yp_io.specs.declared.stream.Failed.{Failed}
-use Rattle.yp_session.specs.Hosts.{Conduct}
-use Rattle.yp_rpc.specs.Turns.{Box}
+use Rattle.yp_answer.specs.session.Hosts.{Conduct}
+use Rattle.yp_rpc.specs.Turns.{InboxTells}
 use Rattle.yp_rpc.specs.declared.turns.Ended.{Ended}
-use Rattle.yp_mailserve.specs.Serving.{ServesMail}
-use Rattle.yp_worker.specs.Receptions.{Passed}
-use Rattle.yp_workhost.specs.Workers.{Worker}
-use Rattle.yp_workhost.specs.declared.outcome.Totals.{Totals}
-use Rattle.yp_serve.specs.declared.mail.Mailbag.{Mailbag}
-use Rattle.yp_serve.specs.declared.mail.Mailman.{Mailman}
-use Rattle.yp_serve.specs.declared.crew.Post.{Post}
-use Rattle.yp_serve.specs.declared.crew.Post.TheVariants.{Connections, Datagrams}
-use Rattle.yp_serve.specs.Serving.{at_rest, fresh_worker}
+use Rattle.yp_worker.specs.datagrams.Serving.{ServesMail}
+use Rattle.yp_worker.specs.inside.Receptions.{Passed}
+use Rattle.yp_host.specs.workers.Workers.{WorkerState}
+use Rattle.yp_host.specs.declared.workers.outcome.Totals.{Totals}
+use Rattle.yp_server.specs.declared.datagrams.DatagramResources.{DatagramResources}
+use Rattle.yp_server.specs.declared.datagrams.DatagramWorker.{DatagramWorker}
+use Rattle.yp_server.specs.declared.workers.ServerWorker.{ServerWorker}
+use Rattle.yp_server.specs.declared.workers.ServerWorker.TheVariants.{Connections, Datagrams}
+use Rattle.yp_server.specs.Serving.{at_rest}
+use Rattle.yp_server.specs.inside.Serving.{fresh_worker}
 
--- a worker of datagrams with what is in this bag, before its first turn
-abbrev pub mailman_of : {I V : Type 0} → Mailbag I V → Mailman I (Worker V) Totals
-mailman_of bag = record {
-  inbox = bag.inbox;
-  server = at_rest (fresh_worker bag.reader);
-  room = bag.room;
-  turns = bag.turns;
+-- a worker of datagrams with what is in this datagram_resources, before its first turn
+abbrev pub datagram_worker_of : {I V : Type 0} → DatagramResources I V → DatagramWorker I (WorkerState V) Totals
+datagram_worker_of datagram_resources = record {
+  inbox = datagram_resources.inbox;
+  server = at_rest (fresh_worker datagram_resources.reader);
+  room = datagram_resources.room;
+  turns = datagram_resources.turns;
   fault = false;
 }
 
 -- what a worker of datagrams made of its turns
-pub record Mails {I H T : Type 0} (conduct : Conduct H) (counted : H → T) (box : I → Box) (faults : I → ℕ)
-    (old new : Mailman I H T) : Type 0 where
+pub record AnswersDatagrams {I H T : Type 0} (conduct : Conduct H) (counted : H → T) (box : I → InboxTells)
+    (faults : I → ℕ)
+    (old new : DatagramWorker I H T) : Type 0 where
   pub end : Result Ended Failed
   pub fault_is : new.fault ≡ is_err end
   pub serves : ServesMail conduct counted old.turns end old.server new.server (box old.inbox) (box new.inbox)
   pub cause : new.fault ≡ true → HasRisen (faults old.inbox) (faults new.inbox)
 
--- what work leaves of a post: a worker of connections has ended, and a worker of datagrams has made this of them
-abbrev pub Works : {J E H G I M N : Type 0} → (Mailman I H N → Mailman I H N → Type 0) → Post J E H G I M N
-    → Post J E H G I M N → Type 0
+-- what work leaves of a worker: a worker of connections has ended, and a worker of datagrams has made this of them
+abbrev pub Works : {J E H G I M N : Type 0} → (DatagramWorker I H N → DatagramWorker I H N → Type 0)
+    → ServerWorker J E H G I M N
+    → ServerWorker J E H G I M N → Type 0
 Works mails (Connections old) (Connections new) = new ≡ record old { ended = old.ended + 1 }
 Works mails (Datagrams old) (Datagrams new) = mails old new
 Works mails old new = ⊥
 
--- so they worked at each of these posts
-abbrev pub AllWork : {J E H G I M N : Type 0} → (Mailman I H N → Mailman I H N → Type 0) → List (Post J E H G I M N)
-    → List (Post J E H G I M N) → Type 0
-AllWork {J} {E} {H} {G} {I} {M} {N} mails old new = (i : ℕ) (d : Post J E H G I M N) → i < length old
+-- Work was done at each place of this list.
+abbrev pub AllWork : {J E H G I M N : Type 0} → (DatagramWorker I H N → DatagramWorker I H N → Type 0)
+    → List (ServerWorker J E H G I M N)
+    → List (ServerWorker J E H G I M N) → Type 0
+AllWork {J} {E} {H} {G} {I} {M} {N} mails old new = (i : ℕ) (d : ServerWorker J E H G I M N) → i < length old
     → Works mails (slice_index_or old i d) (slice_index_or new i d)
 
--- The first post is that of this worker of datagrams, and at all others workers of connections hold this.
-pub record IsManned {J E H G I M N : Type 0} (mailman : Mailman I H N) (held : Passed)
-    (posts : List (Post J E H G I M N)) : Type 0 where
-  pub others : List (Post J E H G I M N)
-  pub posts_are : posts ≡ Datagrams mailman ∷ others
-  pub all : All (λ post. post ≡ Connections held) others
+-- The first worker is that of this worker of datagrams, and at all others workers of connections hold this.
+pub record AreWorkers {J E H G I M N : Type 0} (datagram_worker : DatagramWorker I H N) (held : Passed)
+    (all_workers : List (ServerWorker J E H G I M N)) : Type 0 where
+  pub others : List (ServerWorker J E H G I M N)
+  pub posts_are : all_workers ≡ Datagrams datagram_worker ∷ others
+  pub all : All (λ server_worker. server_worker ≡ Connections held) others
 
--- Behind what was there came posts of workers of connections, who hold this.
-pub record IsSeated {J E H G I M N : Type 0} (held : Passed) (old new : List (Post J E H G I M N)) : Type 0 where
-  pub more : List (Post J E H G I M N)
+-- Behind what was there came workers of workers of connections, who hold this.
+pub record AddsWorkers {J E H G I M N : Type 0} (held : Passed)
+    (old new : List (ServerWorker J E H G I M N)) : Type 0 where
+  pub more : List (ServerWorker J E H G I M N)
   pub posts_are : new ≡ old ++ more
-  pub all : All (λ post. post ≡ Connections held) more
+  pub all : All (λ server_worker. server_worker ≡ Connections held) more

@@ -2,8 +2,8 @@
 
 ghost use Rattle.std.specs.Prelude.{◌≡◌, ℕ, ◌≤◌, length, IfOk, OnOk, OnErr};
 ghost use Rattle.yp_io.specs.Counts.{CountsFaults};
-ghost use Rattle.yp_io.specs.Dials.{Gains};
-ghost use Rattle.yp_io.specs.Inboxes.{Post, Sent, GainsTurn, MailIsWithin, turns_after, quiets_after};
+ghost use Rattle.yp_io.specs.Dials.{GainsItem};
+ghost use Rattle.yp_io.specs.Inboxes.{InboxEvent, Sent, GainsTurn, MailIsWithin, turns_after, quiets_after};
 
 use crate::serve::gate::{Holding, Mark};
 use std::marker::Model;

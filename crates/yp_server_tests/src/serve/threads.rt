@@ -2,7 +2,7 @@
 
 ghost use Rattle.std.specs.Prelude.{◌≡◌, ◌≤◌};
 
-use crate::given::{assert_same, bytes};
+use crate::given::{NEVER, assert_same};
 use crate::serve::gate::{Hold, Holding, Kind, Mark};
 use crate::serve::inbox::Behind;
 use crate::serve::sample::*;
@@ -12,45 +12,34 @@ use std::process::Abort;
 use std::random::RandomSource;
 use std::sync::Wait;
 use std::thread::Threads;
+use yp_board::readers::{Naming, Opened};
+use yp_host::workers::{Outcomes, Totals};
 use yp_io::{MemCloser, MemInbox, MemListen};
-use yp_readers::{Naming, Opened};
-use yp_serve::{ServeSpec, serve};
+use yp_server::{ServeSpec, serve};
 use yp_worker::Tally;
-use yp_workhost::{Outcomes, Totals};
 
-// What is served: the file of the map, the inputs of connections, how many workers there are, and how these are held.
-// These calls of the listener fail, and these reads of the text.
-#[derive(Clone, Copy)]
-struct Case<'c> {
-    file: &'c [&'c str],
-    inputs: &'c [&'c [&'c str]],
+// What is served: the file of the map, the inputs of connections, how many workers there are, 1 to 8, how these are
+// held, the call of the listener that fails, and the read of the text. Then the datagrams that come in turn, the most
+// turns, a mark before which no turn is taken, and the call of the inbox that fails. What is wanted: the tally, what
+// all workers count, the replies, and what comes of the inbox: how many turns there are, the replies, and whether it
+// fails.
+struct Case {
+    name: &'static str,
+    file: &'static str,
+    inputs: &'static [&'static str],
     workers: u32,
-    holds: &'c [Hold],
-    failing: &'c [u64],
-    unread: &'c [u64],
-    post: Post<'c>,
-}
-
-// The datagrams that come in turn, the most turns, and a mark before which no turn is taken. These calls of the inbox
-// fail.
-#[derive(Clone, Copy)]
-struct Post<'c> {
-    mail: &'c [&'c [&'c str]],
+    holds: &'static [Hold],
+    failing: u64,
+    unread: u64,
+    mail: &'static [&'static str],
     turns: u32,
     until: Option<Mark>,
-    failing: &'c [u64],
+    unmailed: u64,
+    tally: Tally,
+    totals: Totals,
+    output: &'static str,
+    mailed: (u64, &'static str, bool),
 }
-
-// A file that isn't there.
-const NO_FILE: &[&str] = &[];
-
-// No turn of an inbox.
-const NO_POST: Post<'static> = Post {
-    mail: &[],
-    turns: 0,
-    until: None,
-    failing: &[],
-};
 
 // What came of it: the tally, what all workers counted, what the connections had taken that went back, one after the
 // other, and what came of the inbox; or memory ran out. And how often a worker was held for too long.
@@ -103,24 +92,24 @@ fn served<J: Naming + Send + Sync, R: Threads + Wait + RandomSource + Abort + Sy
     rt: &R,
     alloc: Global,
     opened: Opened,
-    case: &Case<'_>,
+    case: &Case,
 ) -> Came
     requires opened { opened ≡ J.book }
-    requires workers { (1 ≤ case.now.workers) × (case.now.workers ≤ 8) }
 {
+    let workers = case.workers.max(1).min(8);
     let gate = Holding::new(rt, alloc, case.holds);
     let listen = listener(rt, alloc, case.inputs, case.failing);
-    let (publisher, readers) = publisher::<J, R>(rt, alloc, opened, case.file, case.workers + 1);
+    let (publisher, readers) = publisher::<J, R>(rt, alloc, opened, case.file, workers + 1);
     let spec = ServeSpec {
-        workers: case.workers,
+        workers,
         most: 9,
-        turns: case.post.turns,
+        turns: case.turns,
     };
     let desk = desk(rt, alloc, case.unread);
     let inbox = Behind::new(
-        inbox(rt, alloc, case.post.mail, case.post.failing),
+        inbox(rt, alloc, case.mail, case.unmailed),
         &gate,
-        case.post.until,
+        case.until,
     );
     let came = match serve(
         alloc, rt, publisher, readers, desk, listen, inbox, &spec, &gate,
@@ -136,348 +125,282 @@ fn served<J: Naming + Send + Sync, R: Threads + Wait + RandomSource + Abort + Sy
     (came, gate.gave_up())
 }
 
-// What is wanted: how many connections came, how many records were read, whether an accept failed, and the replies.
-type Wanted<'w> = (u64, u64, bool, &'w [&'w str]);
+// Serves a case, and compares what came. No worker is held for too long.
+fn try_case<R: Threads + Wait + RandomSource + Abort + Sync>(rt: &R, alloc: Global, case: &Case) {
+    let (turns, replies, fault) = case.mailed;
+    let mailed = (turns, words(rt, alloc, replies), fault);
+    let output = words(rt, alloc, case.output);
+    let wanted = (Some((case.tally, case.totals, output, mailed)), 0);
+    let came = served::<Brand, R>(rt, alloc, Opened::new(), case);
+    assert_same(rt, &came, &wanted, case.name);
+}
 
-// What is wanted of the inbox: how many turns, the replies, and whether it fails.
-type WantedMail<'w> = (u64, &'w [&'w str], bool);
+// Nothing is counted.
+const NO_OUTCOMES: Outcomes = Outcomes {
+    no_address: 0,
+    no_memory: 0,
+    file: 0,
+    source: 0,
+    reached: 0,
+};
 
-// Of an inbox without turns.
-const NO_MAIL: WantedMail<'static> = (0, &[], false);
-
-// Nothing was counted.
 const NONE: Totals = Totals {
     files: 0,
     made: 0,
     transfers: 0,
-    outcomes: Outcomes {
-        no_address: 0,
-        no_memory: 0,
-        file: 0,
-        source: 0,
-        reached: 0,
-    },
+    outcomes: NO_OUTCOMES,
 };
 
-// Serves a case, and compares what came, where nothing is counted but so many makes.
-fn assert_serves<R: Threads + Wait + RandomSource + Abort + Sync>(
-    rt: &R,
-    alloc: Global,
-    case: &Case<'_>,
-    wanted: Wanted<'_>,
-    mail: WantedMail<'_>,
-    made: u64,
-    row: &str,
-)
-    requires { (1 ≤ case.now.workers) × (case.now.workers ≤ 8) }
-{
-    let totals = Totals { made, ..NONE };
-    assert_counts(rt, alloc, case, wanted, mail, totals, row);
-}
+const ONE_MADE: Totals = Totals { made: 1, ..NONE };
 
-// Serves a case, and compares what came. No worker is held for too long.
-fn assert_counts<R: Threads + Wait + RandomSource + Abort + Sync>(
-    rt: &R,
-    alloc: Global,
-    case: &Case<'_>,
-    wanted: Wanted<'_>,
-    mail: WantedMail<'_>,
-    totals: Totals,
-    row: &str,
-)
-    requires { (1 ≤ case.now.workers) × (case.now.workers ≤ 8) }
-{
-    let (connections, calls, listen_fault, output) = wanted;
-    let tally = Tally {
-        connections,
-        calls,
-        listen_fault,
-    };
-    let (turns, replies, fault) = mail;
-    let mailed = (turns, bytes(rt, alloc, replies), fault);
-    let wanted = (Some((tally, totals, bytes(rt, alloc, output), mailed)), 0);
-    let came = served::<Brand, R>(rt, alloc, Opened::new(), case);
-    assert_same(rt, &came, &wanted, row);
-}
+const TWO_WORKERS: Case = Case {
+    name: "two workers",
+    file: "FILE",
+    inputs: &["MATCH MATCH", "MATCH"],
+    workers: 2,
+    holds: &[],
+    failing: NEVER,
+    unread: NEVER,
+    mail: &[],
+    turns: 0,
+    until: None,
+    unmailed: NEVER,
+    tally: Tally {
+        connections: 2,
+        calls: 3,
+        listen_fault: false,
+    },
+    totals: NONE,
+    output: "OLD OLD OLD",
+    mailed: (0, "", false),
+};
 
-#[test]
-fn totals_of_a_worker(rt: HostRuntime) {
-    // The text isn't read at the first MAKE.
-    let case = Case {
-        file: NO_FILE,
-        inputs: &[&[XFR, MAKE], &[MAKE]],
-        workers: 1,
-        holds: &[],
-        failing: &[],
-        unread: &[0],
-        post: NO_POST,
-    };
-    let wanted: Wanted<'_> = (2, 3, false, &[TAKEN, NOT_READ, MADE]);
-    let totals = Totals {
+// The text isn't read at the first MAKE.
+static TRANSFER_AND_MAKES: Case = Case {
+    name: "a transfer and two makes",
+    file: "",
+    inputs: &["XFR MAKE", "MAKE"],
+    workers: 1,
+    unread: 0,
+    totals: Totals {
         files: 1,
         made: 1,
         transfers: 1,
         outcomes: Outcomes {
             no_address: 1,
-            ..NONE.outcomes
+            ..NO_OUTCOMES
         },
-    };
-    assert_counts(
-        &rt,
-        rt.alloc(),
-        &case,
-        wanted,
-        NO_MAIL,
-        totals,
-        "a transfer and two makes",
-    );
+    },
+    output: "TAKEN NOT_READ MADE",
+    ..TWO_WORKERS
+};
+
+#[test]
+fn totals_of_a_worker(rt: HostRuntime) {
+    try_case(&rt, rt.alloc(), &TRANSFER_AND_MAKES);
 }
+
+static SERVED: Case = TWO_WORKERS;
 
 #[test]
 fn two_workers(rt: HostRuntime) {
-    let case = Case {
-        file: FILE,
-        inputs: &[&[MATCH, MATCH], &[MATCH]],
-        workers: 2,
-        holds: &[],
-        failing: &[],
-        unread: &[],
-        post: NO_POST,
-    };
-    let wanted: Wanted<'_> = (2, 3, false, &[OLD, OLD, OLD]);
-    assert_serves(&rt, rt.alloc(), &case, wanted, NO_MAIL, 0, "two workers");
+    try_case(&rt, rt.alloc(), &SERVED);
 }
 
 // The first worker is held until the other one has made the map. That is held in its turn until the first worker has
 // served the third connection.
-const BUILD_HOLDS: &[Hold] = &[
-    ((Kind::Accepted, 1, 1), (Kind::Replied, 2, 1)),
-    ((Kind::Replied, 2, 1), (Kind::Replied, 3, 1)),
-];
-
-const BUILD_INPUTS: &[&[&str]] = &[&[], &[MAKE], &[MATCH]];
+static LATER: Case = Case {
+    name: "a later connection",
+    file: "",
+    inputs: &["", "MAKE", "MATCH"],
+    holds: &[
+        ((Kind::Accepted, 1, 1), (Kind::Replied, 2, 1)),
+        ((Kind::Replied, 2, 1), (Kind::Replied, 3, 1)),
+    ],
+    tally: Tally {
+        connections: 3,
+        calls: 2,
+        listen_fault: false,
+    },
+    totals: ONE_MADE,
+    output: "MADE NEW",
+    ..TWO_WORKERS
+};
 
 #[test]
 fn later_connection_sees_build(rt: HostRuntime) {
-    let case = Case {
-        file: NO_FILE,
-        inputs: BUILD_INPUTS,
-        workers: 2,
-        holds: BUILD_HOLDS,
-        failing: &[],
-        unread: &[],
-        post: NO_POST,
-    };
-    let wanted: Wanted<'_> = (3, 2, false, &[MADE, NEW]);
-    assert_serves(
-        &rt,
-        rt.alloc(),
-        &case,
-        wanted,
-        NO_MAIL,
-        1,
-        "a later connection",
-    );
+    try_case(&rt, rt.alloc(), &LATER);
 }
+
+static IDLE: Case = Case {
+    name: "an idle connection",
+    inputs: &["MATCH MATCH", "MAKE"],
+    holds: &[
+        ((Kind::Accepted, 2, 1), (Kind::Replied, 1, 1)),
+        ((Kind::Replied, 1, 1), (Kind::Replied, 2, 1)),
+    ],
+    totals: ONE_MADE,
+    output: "OLD NEW MADE",
+    ..TWO_WORKERS
+};
 
 #[test]
 fn idle_connection_sees_newer(rt: HostRuntime) {
-    let case = Case {
-        file: FILE,
-        inputs: &[&[MATCH, MATCH], &[MAKE]],
-        workers: 2,
-        holds: &[
-            ((Kind::Accepted, 2, 1), (Kind::Replied, 1, 1)),
-            ((Kind::Replied, 1, 1), (Kind::Replied, 2, 1)),
-        ],
-        failing: &[],
-        unread: &[],
-        post: NO_POST,
-    };
-    let wanted: Wanted<'_> = (2, 3, false, &[OLD, NEW, MADE]);
-    assert_serves(
-        &rt,
-        rt.alloc(),
-        &case,
-        wanted,
-        NO_MAIL,
-        1,
-        "an idle connection",
-    );
+    try_case(&rt, rt.alloc(), &IDLE);
 }
+
+static FIRST_ACCEPT: Case = Case {
+    name: "the first accept fails",
+    file: "",
+    inputs: &["MATCH", "MATCH"],
+    workers: 1,
+    failing: 0,
+    tally: Tally {
+        connections: 0,
+        calls: 0,
+        listen_fault: true,
+    },
+    output: "",
+    ..TWO_WORKERS
+};
 
 #[test]
 fn listen_fault(rt: HostRuntime) {
-    let case = Case {
-        file: NO_FILE,
-        inputs: &[&[MATCH], &[MATCH]],
-        workers: 1,
-        holds: &[],
-        failing: &[0],
-        unread: &[],
-        post: NO_POST,
-    };
-    let wanted: Wanted<'_> = (0, 0, true, &[]);
-    assert_serves(
-        &rt,
-        rt.alloc(),
-        &case,
-        wanted,
-        NO_MAIL,
-        0,
-        "the first accept fails",
-    );
+    try_case(&rt, rt.alloc(), &FIRST_ACCEPT);
 }
+
+static SECOND_ACCEPT: Case = Case {
+    name: "the second accept fails",
+    file: "",
+    inputs: &["MATCH", "MATCH"],
+    failing: 1,
+    tally: Tally {
+        connections: 1,
+        calls: 1,
+        listen_fault: true,
+    },
+    output: "NO_MAP",
+    ..TWO_WORKERS
+};
 
 #[test]
 fn later_listen_fault(rt: HostRuntime) {
-    let case = Case {
-        file: NO_FILE,
-        inputs: &[&[MATCH], &[MATCH]],
-        workers: 2,
-        holds: &[],
-        failing: &[1],
-        unread: &[],
-        post: NO_POST,
-    };
-    let wanted: Wanted<'_> = (1, 1, true, &[NO_MAP]);
-    assert_serves(
-        &rt,
-        rt.alloc(),
-        &case,
-        wanted,
-        NO_MAIL,
-        0,
-        "the second accept fails",
-    );
+    try_case(&rt, rt.alloc(), &SECOND_ACCEPT);
 }
+
+// The first connection is held before the second write of ALL.
+static HELD: Case = Case {
+    name: "a held stream",
+    inputs: &["ALL MATCH", "MATCH MAKE"],
+    holds: &[
+        ((Kind::Accepted, 2, 1), (Kind::Piece, 1, 1)),
+        ((Kind::Piece, 1, 2), (Kind::Replied, 2, 2)),
+    ],
+    tally: Tally {
+        connections: 2,
+        calls: 4,
+        listen_fault: false,
+    },
+    totals: ONE_MADE,
+    output: "OLD_ALL NEW OLD MADE",
+    ..TWO_WORKERS
+};
 
 #[test]
 fn held_stream(rt: HostRuntime) {
-    // The first connection is held before the second write of ALL.
-    let case = Case {
-        file: FILE,
-        inputs: &[&[ALL, MATCH], &[MATCH, MAKE]],
-        workers: 2,
-        holds: &[
-            ((Kind::Accepted, 2, 1), (Kind::Piece, 1, 1)),
-            ((Kind::Piece, 1, 2), (Kind::Replied, 2, 2)),
-        ],
-        failing: &[],
-        unread: &[],
-        post: NO_POST,
-    };
-    let wanted: Wanted<'_> = (2, 4, false, &[OLD_ALL, NEW, OLD, MADE]);
-    assert_serves(&rt, rt.alloc(), &case, wanted, NO_MAIL, 1, "a held stream");
+    try_case(&rt, rt.alloc(), &HELD);
 }
 
 // Seven connections are held before the second write of ALL, until the eighth has been served, which begins once each
 // of them has come to its first write.
-const HELD: &[Hold] = &[
-    ((Kind::Accepted, 8, 1), (Kind::Piece, 1, 1)),
-    ((Kind::Accepted, 8, 1), (Kind::Piece, 2, 1)),
-    ((Kind::Accepted, 8, 1), (Kind::Piece, 3, 1)),
-    ((Kind::Accepted, 8, 1), (Kind::Piece, 4, 1)),
-    ((Kind::Accepted, 8, 1), (Kind::Piece, 5, 1)),
-    ((Kind::Accepted, 8, 1), (Kind::Piece, 6, 1)),
-    ((Kind::Accepted, 8, 1), (Kind::Piece, 7, 1)),
-    ((Kind::Piece, 1, 2), (Kind::Replied, 8, 2)),
-    ((Kind::Piece, 2, 2), (Kind::Replied, 8, 2)),
-    ((Kind::Piece, 3, 2), (Kind::Replied, 8, 2)),
-    ((Kind::Piece, 4, 2), (Kind::Replied, 8, 2)),
-    ((Kind::Piece, 5, 2), (Kind::Replied, 8, 2)),
-    ((Kind::Piece, 6, 2), (Kind::Replied, 8, 2)),
-    ((Kind::Piece, 7, 2), (Kind::Replied, 8, 2)),
-];
+static SEVEN_HELD: Case = Case {
+    name: "seven held streams",
+    inputs: &[
+        "ALL",
+        "ALL",
+        "ALL",
+        "ALL",
+        "ALL",
+        "ALL",
+        "ALL",
+        "MATCH MAKE",
+    ],
+    workers: 8,
+    holds: &[
+        ((Kind::Accepted, 8, 1), (Kind::Piece, 1, 1)),
+        ((Kind::Accepted, 8, 1), (Kind::Piece, 2, 1)),
+        ((Kind::Accepted, 8, 1), (Kind::Piece, 3, 1)),
+        ((Kind::Accepted, 8, 1), (Kind::Piece, 4, 1)),
+        ((Kind::Accepted, 8, 1), (Kind::Piece, 5, 1)),
+        ((Kind::Accepted, 8, 1), (Kind::Piece, 6, 1)),
+        ((Kind::Accepted, 8, 1), (Kind::Piece, 7, 1)),
+        ((Kind::Piece, 1, 2), (Kind::Replied, 8, 2)),
+        ((Kind::Piece, 2, 2), (Kind::Replied, 8, 2)),
+        ((Kind::Piece, 3, 2), (Kind::Replied, 8, 2)),
+        ((Kind::Piece, 4, 2), (Kind::Replied, 8, 2)),
+        ((Kind::Piece, 5, 2), (Kind::Replied, 8, 2)),
+        ((Kind::Piece, 6, 2), (Kind::Replied, 8, 2)),
+        ((Kind::Piece, 7, 2), (Kind::Replied, 8, 2)),
+    ],
+    tally: Tally {
+        connections: 8,
+        calls: 9,
+        listen_fault: false,
+    },
+    totals: ONE_MADE,
+    output: "OLD_ALL OLD_ALL OLD_ALL OLD_ALL OLD_ALL OLD_ALL OLD_ALL OLD MADE",
+    ..TWO_WORKERS
+};
 
 #[test]
 fn held_streams_of_seven(rt: HostRuntime) {
-    let case = Case {
-        file: FILE,
-        inputs: &[
-            &[ALL],
-            &[ALL],
-            &[ALL],
-            &[ALL],
-            &[ALL],
-            &[ALL],
-            &[ALL],
-            &[MATCH, MAKE],
-        ],
-        workers: 8,
-        holds: HELD,
-        failing: &[],
-        unread: &[],
-        post: NO_POST,
-    };
-    let wanted: Wanted<'_> = (
-        8,
-        9,
-        false,
-        &[
-            OLD_ALL, OLD_ALL, OLD_ALL, OLD_ALL, OLD_ALL, OLD_ALL, OLD_ALL, OLD, MADE,
-        ],
-    );
-    assert_serves(
-        &rt,
-        rt.alloc(),
-        &case,
-        wanted,
-        NO_MAIL,
-        1,
-        "seven held streams",
-    );
+    try_case(&rt, rt.alloc(), &SEVEN_HELD);
 }
+
+// The connection is held before its first write until the inbox was asked to send a reply, and the datagram comes once
+// the connection is held.
+static BESIDE: Case = Case {
+    name: "a datagram",
+    inputs: &["MATCH"],
+    workers: 1,
+    holds: &[((Kind::Piece, 1, 1), (Kind::Asked, 0, 1))],
+    mail: &["NULL"],
+    turns: 1,
+    until: Some((Kind::Piece, 1, 1)),
+    tally: Tally {
+        connections: 1,
+        calls: 1,
+        listen_fault: false,
+    },
+    output: "OLD",
+    mailed: (1, "NULL_DONE", false),
+    ..TWO_WORKERS
+};
 
 #[test]
 fn datagram_beside(rt: HostRuntime) {
-    // The connection is held before its first write until the inbox was asked to send a reply, and the datagram comes
-    // once the connection is held.
-    let case = Case {
-        file: FILE,
-        inputs: &[&[MATCH]],
-        workers: 1,
-        holds: &[((Kind::Piece, 1, 1), (Kind::Asked, 0, 1))],
-        failing: &[],
-        unread: &[],
-        post: Post {
-            mail: &[&[NULL]],
-            turns: 1,
-            until: Some((Kind::Piece, 1, 1)),
-            failing: &[],
-        },
-    };
-    let wanted: Wanted<'_> = (1, 1, false, &[OLD]);
-    let mail: WantedMail<'_> = (1, &[NULL_DONE], false);
-    assert_serves(&rt, rt.alloc(), &case, wanted, mail, 0, "a datagram");
+    try_case(&rt, rt.alloc(), &BESIDE);
 }
+
+// The second turn fails. The connection is served all the same.
+static UNMAILED: Case = Case {
+    name: "an inbox that fails",
+    inputs: &["MATCH"],
+    workers: 1,
+    mail: &["NULL", "NULL"],
+    turns: 3,
+    unmailed: 2,
+    tally: Tally {
+        connections: 1,
+        calls: 1,
+        listen_fault: false,
+    },
+    output: "OLD",
+    mailed: (1, "NULL_DONE", true),
+    ..TWO_WORKERS
+};
 
 #[test]
 fn inbox_fault(rt: HostRuntime) {
-    // The second turn fails. The connection is served all the same.
-    let case = Case {
-        file: FILE,
-        inputs: &[&[MATCH]],
-        workers: 1,
-        holds: &[],
-        failing: &[],
-        unread: &[],
-        post: Post {
-            mail: &[&[NULL], &[NULL]],
-            turns: 3,
-            until: None,
-            failing: &[2],
-        },
-    };
-    let wanted: Wanted<'_> = (1, 1, false, &[OLD]);
-    let mail: WantedMail<'_> = (1, &[NULL_DONE], true);
-    assert_serves(
-        &rt,
-        rt.alloc(),
-        &case,
-        wanted,
-        mail,
-        0,
-        "an inbox that fails",
-    );
+    try_case(&rt, rt.alloc(), &UNMAILED);
 }

@@ -9,11 +9,11 @@ use std::alloc::Global;
 use std::process::Abort;
 use std::random::RandomSource;
 use std::sync::Arc;
-use yp_answer::{Errand, Job};
+use yp_answer::session::Host;
+use yp_answer::{MakeJob, TransferJob};
 use yp_board::{Catalog, MapName, PlainBoard, Show, View};
 use yp_io::{NoMemory, Peer};
-use yp_msgs::XfrStat;
-use yp_session::Host;
+use yp_messages::XfrStat;
 use yp_version::{Version, VersionBuilder};
 use yp_worker::CatchUp;
 
@@ -51,13 +51,13 @@ impl Host for TestHost {
 
     ghost made = { λ job stat old new. Unit {0} };
 
-    fn make(&mut self, _job: Job) -> XfrStat {
+    fn make(&mut self, _job: MakeJob) -> XfrStat {
         XfrStat::Rsrc
     }
 
     ghost carried = { λ taken peer old new. Unit {0} };
 
-    fn transfer(&mut self, _errand: &Errand<'_>, _peer: Peer) {
+    fn transfer(&mut self, _job: &TransferJob<'_>, _peer: Peer) {
         self.transfers = self.transfers.saturating_add(1);
     }
 

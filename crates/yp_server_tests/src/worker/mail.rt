@@ -2,81 +2,60 @@
 
 ghost use Rattle.std.specs.Prelude.{◌≤◌, length};
 
-use crate::given::{assert_same, bytes};
+use crate::given::{NEVER, assert_same, named};
 use crate::worker::host::{TestHost, host_of};
 use std::alloc::Global;
 use std::process::Abort;
 use std::random::RandomSource;
 use yp_io::{Failed, Letter, MemInbox, Peer};
-use yp_mailserve::{MailServer, serve_mail};
-use yp_rpc::{Ended, Errand, MAIL_MAX, Room};
+use yp_rpc::{DATAGRAM_MAX, Ended, Handler, Room};
+use yp_worker::datagrams::{MailServer, serve_mail};
 
 const OWN_HOST: [u8; 4] = [127, 0, 0, 1];
 
 const OTHER_HOST: [u8; 4] = [10, 0, 0, 9];
 
-// NULL of YP (yp.x, RFC 5531 section 9), and its reply.
-const NULL: &str = "00000007 00000000 00000002 000186a4 00000002 00000000
-    00000000 00000000 00000000 00000000";
-
-const NULL_REPLY: &str = "00000007 00000001 00000000 00000000 00000000 00000000";
-
-// MATCH of `alpha` in passwd.byname of `d`, and the head of its replies with results.
-const MATCH: &str = "00000001 00000000 00000002 000186a4 00000002 00000003
-    00000000 00000000 00000000 00000000 00000001 64000000
-    0000000d 70617373 77642e62 796e616d 65000000 00000005 616c7068 61000000";
-
-const MATCHED: &str = "00000001 00000001 00000000 00000000 00000000 00000000";
-
-// The values `alpha:1` and `alpha:2`, behind the status TRUE.
-const ONE: &str = "00000001 00000007 616c7068 613a3100";
-
-const TWO: &str = "00000001 00000007 616c7068 613a3200";
-
-// YPERR without a value.
-const ERROR: &str = "fffffffa 00000000";
-
-// DOMAIN_NONACK of `d` with its reply, and of `e`, which isn't served.
-const NONACK: &str = "00000003 00000000 00000002 000186a4 00000002 00000002
-    00000000 00000000 00000000 00000000 00000001 64000000";
-
-const NONACK_REPLY: &str = "00000003 00000001 00000000 00000000 00000000 00000000 00000001";
-
-const NONACK_OTHER: &str = "00000003 00000000 00000002 000186a4 00000002 00000002
-    00000000 00000000 00000000 00000000 00000001 65000000";
-
-// ALL of passwd.byname of `d`, and the reply to an unknown procedure.
-const ALL: &str = "00000004 00000000 00000002 000186a4 00000002 00000008
-    00000000 00000000 00000000 00000000 00000001 64000000
-    0000000d 70617373 77642e62 796e616d 65000000";
-
-const UNKNOWN: &str = "00000004 00000001 00000000 00000000 00000000 00000003";
-
-// MAKE of passwd.byname of `d`, and its replies with RSRC, the status of a host that makes no map, and REFUSED.
-const MAKE: &str = "00000002 00000000 00000002 20004e49 00000001 00000001
-    00000000 00000000 00000000 00000000 00000001 64000000 00000001";
-
-const NOT_MADE: &str = "00000002 00000001 00000000 00000000 00000000 00000000 fffffffd";
-
-const REFUSED: &str = "00000002 00000001 00000000 00000000 00000000 00000000 fffffff2";
-
-// XFR of hosts.byname of `d` from the host `m2`, with the transaction 9, and its reply with SUCC.
-const XFR: &str = "00000005 00000000 00000002 000186a4 00000002 00000006
-    00000000 00000000 00000000 00000000 00000001 64000000
-    0000000c 686f7374 732e6279 6e616d65 00000000 00000002 6d320000
-    00000009 40000000 00000400";
-
-const TAKEN: &str = "00000005 00000001 00000000 00000000 00000000 00000000 00000009 00000001";
+// Names of words of datagrams (yp.x, RFC 5531 section 9), and of the places that letters go to: the ports 700 and 701,
+// and the port 700 of another host.
+//
+// MATCH is of `alpha` in passwd.byname of `d`, and MATCHED the head of its replies with results: the values `alpha:1`
+// and `alpha:2`, behind the status TRUE, or YPERR without a value. NONACK is DOMAIN_NONACK of `d`, and of `e`, which
+// isn't served. ALL and MAKE are of passwd.byname of `d`. MAKE has replies with RSRC, the status of a host that makes
+// no map, and with REFUSED. XFR is of hosts.byname of `d` from the host `m2`, with the transaction 9, and its reply has
+// SUCC.
+static NAMES: &str = "\
+NULL = 00000007 00000000 00000002 000186a4 00000002 00000000 00000000 00000000 00000000 00000000
+NULL_REPLY = 00000007 00000001 00000000 00000000 00000000 00000000
+MATCH = 00000001 00000000 00000002 000186a4 00000002 00000003 00000000 00000000 00000000 \
+    00000000 00000001 64000000 0000000d 70617373 77642e62 796e616d 65000000 00000005 616c7068 \
+    61000000
+MATCHED = 00000001 00000001 00000000 00000000 00000000 00000000
+ONE = 00000001 00000007 616c7068 613a3100
+TWO = 00000001 00000007 616c7068 613a3200
+ERROR = fffffffa 00000000
+NONACK = 00000003 00000000 00000002 000186a4 00000002 00000002 00000000 00000000 00000000 \
+    00000000 00000001 64000000
+NONACK_REPLY = 00000003 00000001 00000000 00000000 00000000 00000000 00000001
+NONACK_OTHER = 00000003 00000000 00000002 000186a4 00000002 00000002 00000000 00000000 00000000 \
+    00000000 00000001 65000000
+ALL = 00000004 00000000 00000002 000186a4 00000002 00000008 00000000 00000000 00000000 00000000 \
+    00000001 64000000 0000000d 70617373 77642e62 796e616d 65000000
+UNKNOWN = 00000004 00000001 00000000 00000000 00000000 00000003
+MAKE = 00000002 00000000 00000002 20004e49 00000001 00000001 00000000 00000000 00000000 00000000 \
+    00000001 64000000 00000001
+NOT_MADE = 00000002 00000001 00000000 00000000 00000000 00000000 fffffffd
+REFUSED = 00000002 00000001 00000000 00000000 00000000 00000000 fffffff2
+XFR = 00000005 00000000 00000002 000186a4 00000002 00000006 00000000 00000000 00000000 00000000 \
+    00000001 64000000 0000000c 686f7374 732e6279 6e616d65 00000000 00000002 6d320000 00000009 \
+    40000000 00000400
+TAKEN = 00000005 00000001 00000000 00000000 00000000 00000000 00000009 00000001
+TO_700 = 7f000001 000002bc
+TO_701 = 7f000001 000002bd
+TO_OTHER = 0a000009 000002bc
+";
 
 // A datagram: the address and port of its sender, its words, and its length with zeros behind them.
 type Mail = ([u8; 4], u16, &'static str, usize);
-
-// The places that letters go to: these ports, and the port 700 of another host.
-const TO_700: &str = "7f000001 000002bc";
-
-const TO_701: &str = "7f000001 000002bd";
-
-const TO_OTHER: &str = "0a000009 000002bc";
 
 // What others show, the datagrams, a turn each, the calls of the inbox that fail, and the most turns. Then what comes
 // of that: how it ends, the turns that are taken, the transfers that are carried out, and what is sent, each letter
@@ -85,17 +64,17 @@ struct Row {
     name: &'static str,
     shown: &'static [&'static [u8]],
     mail: &'static [Mail],
-    failing: &'static [u64],
+    failing: u64,
     most: u32,
     ended: Result<Ended, Failed>,
     turns: u64,
     transfers: u64,
-    sent: &'static [&'static str],
+    sent: &'static str,
 }
 
 fn letter_of(rt: &impl Abort, alloc: Global, mail: &Mail) -> Letter {
     let (addr, port, words, len) = *mail;
-    let mut bytes = bytes(rt, alloc, &[words]);
+    let mut bytes = named(rt, alloc, NAMES, words);
     let len = len.max(bytes.len());
     bytes.resize(len, 0).expect(rt, "memory for zeros");
     Letter {
@@ -142,10 +121,10 @@ fn served<R: RandomSource + Abort>(
     alloc: Global,
     host: TestHost,
     mail: Vec<Option<Letter>>,
-    failing: &[u64],
+    failing: u64,
     most: u32,
 ) -> Came {
-    let failing = failing.to_vec(alloc).expect(rt, "memory for numbers");
+    let failing = vec![in alloc; failing].expect(rt, "memory for a number");
     let mut room = room(rt, alloc);
     let mut inbox = MemInbox::new(alloc, mail, failing);
     let mut server = MailServer::new(host);
@@ -164,237 +143,248 @@ fn play<R: RandomSource + Abort>(rt: &R, alloc: Global, row: &Row) -> Came {
 fn replies_to<R: RandomSource + Abort>(rt: &R, alloc: Global, mail: &[Mail]) -> Vec<u8> {
     let host = host_of(rt, alloc, &[]);
     let letters = mail_of(rt, alloc, mail);
-    let (_, _, _, sent) = served(rt, alloc, host, letters, &[], 2);
+    let (_, _, _, sent) = served(rt, alloc, host, letters, NEVER, 2);
     sent
 }
 
-fn play_all<R: RandomSource + Abort>(rt: &R, alloc: Global, rows: &[Row]) {
-    for row in rows {
-        let came = play(rt, alloc, row);
-        let sent = bytes(rt, alloc, row.sent);
-        let wanted = (row.ended, row.turns, row.transfers, sent);
-        assert_same(rt, &came, &wanted, row.name);
-    }
+fn try_row<R: RandomSource + Abort>(rt: &R, alloc: Global, row: &Row) {
+    let came = play(rt, alloc, row);
+    let sent = named(rt, alloc, NAMES, row.sent);
+    let wanted = (row.ended, row.turns, row.transfers, sent);
+    assert_same(rt, &came, &wanted, row.name);
 }
 
 // Datagrams, and what is sent for them in two turns.
-type Replies = (&'static str, &'static [Mail], &'static [&'static str]);
+type Replies = (&'static str, &'static [Mail], &'static str);
 
-const REPLIES: [Replies; 10] = [
-    ("NULL", &[(OWN_HOST, 700, NULL, 0)], &[TO_700, NULL_REPLY]),
+static REPLIES: [Replies; 10] = [
+    ("NULL", &[(OWN_HOST, 700, "NULL", 0)], "TO_700 NULL_REPLY"),
     (
         "MATCH",
-        &[(OWN_HOST, 700, MATCH, 0)],
-        &[TO_700, MATCHED, ONE],
+        &[(OWN_HOST, 700, "MATCH", 0)],
+        "TO_700 MATCHED ONE",
     ),
-    ("MAKE", &[(OWN_HOST, 700, MAKE, 0)], &[TO_700, NOT_MADE]),
+    ("MAKE", &[(OWN_HOST, 700, "MAKE", 0)], "TO_700 NOT_MADE"),
     (
         "MAKE of another host",
-        &[(OTHER_HOST, 700, MAKE, 0)],
-        &[TO_OTHER, REFUSED],
+        &[(OTHER_HOST, 700, "MAKE", 0)],
+        "TO_OTHER REFUSED",
     ),
     (
         "ALL is unknown",
-        &[(OWN_HOST, 700, ALL, 0)],
-        &[TO_700, UNKNOWN],
+        &[(OWN_HOST, 700, "ALL", 0)],
+        "TO_700 UNKNOWN",
     ),
     (
         "silence for a domain that isn't served",
-        &[(OWN_HOST, 700, NONACK_OTHER, 0), (OWN_HOST, 701, NONACK, 0)],
-        &[TO_701, NONACK_REPLY],
+        &[
+            (OWN_HOST, 700, "NONACK_OTHER", 0),
+            (OWN_HOST, 701, "NONACK", 0),
+        ],
+        "TO_701 NONACK_REPLY",
     ),
     (
         "no call",
-        &[(OWN_HOST, 700, "00000007", 0), (OWN_HOST, 701, NULL, 0)],
-        &[TO_701, NULL_REPLY],
+        &[(OWN_HOST, 700, "00000007", 0), (OWN_HOST, 701, "NULL", 0)],
+        "TO_701 NULL_REPLY",
     ),
     (
         "each to its sender",
-        &[(OWN_HOST, 700, NULL, 0), (OWN_HOST, 701, NULL, 0)],
-        &[TO_700, NULL_REPLY, TO_701, NULL_REPLY],
+        &[(OWN_HOST, 700, "NULL", 0), (OWN_HOST, 701, "NULL", 0)],
+        "TO_700 NULL_REPLY TO_701 NULL_REPLY",
     ),
     (
         "a datagram at the limit",
-        &[(OWN_HOST, 700, NULL, 8_192)],
-        &[TO_700, NULL_REPLY],
+        &[(OWN_HOST, 700, "NULL", 8_192)],
+        "TO_700 NULL_REPLY",
     ),
-    ("one over it", &[(OWN_HOST, 700, NULL, 8_193)], &[]),
+    ("one over it", &[(OWN_HOST, 700, "NULL", 8_193)], ""),
 ];
+
+fn try_replies<R: RandomSource + Abort>(rt: &R, alloc: Global, row: &Replies) {
+    let (name, mail, sent) = row;
+    let came = replies_to(rt, alloc, mail);
+    assert_same(rt, &came, &named(rt, alloc, NAMES, sent), name);
+}
 
 #[test]
 fn replies_to_datagrams(rt: HostRuntime) {
-    let alloc = rt.alloc();
-    for &(name, mail, sent) in &REPLIES {
-        let came = replies_to(&rt, alloc, mail);
-        assert_same(&rt, &came, &bytes(&rt, alloc, sent), name);
+    for row in &REPLIES {
+        try_replies(&rt, rt.alloc(), row);
     }
 }
 
 // What others show between datagrams. Where none is shown, memory runs out, and the server goes on with what it knew.
-const NEWER: [Row; 2] = [
+static NEWER: [Row; 2] = [
     Row {
         name: "a newer value, and then no memory",
         shown: &[b"alpha:2"],
-        mail: &[(OWN_HOST, 700, MATCH, 0), (OWN_HOST, 701, MATCH, 0)],
-        failing: &[],
+        mail: &[(OWN_HOST, 700, "MATCH", 0), (OWN_HOST, 701, "MATCH", 0)],
+        failing: NEVER,
         most: 2,
         ended: Ok(Ended::Spent),
         turns: 2,
         transfers: 0,
-        sent: &[TO_700, MATCHED, TWO, TO_701, MATCHED, TWO],
+        sent: "TO_700 MATCHED TWO TO_701 MATCHED TWO",
     },
     Row {
         name: "a newer value at the second",
         shown: &[b"alpha:1", b"alpha:2"],
-        mail: &[(OWN_HOST, 700, MATCH, 0), (OWN_HOST, 701, MATCH, 0)],
-        failing: &[],
+        mail: &[(OWN_HOST, 700, "MATCH", 0), (OWN_HOST, 701, "MATCH", 0)],
+        failing: NEVER,
         most: 2,
         ended: Ok(Ended::Spent),
         turns: 2,
         transfers: 0,
-        sent: &[TO_700, MATCHED, ONE, TO_701, MATCHED, TWO],
+        sent: "TO_700 MATCHED ONE TO_701 MATCHED TWO",
     },
 ];
 
 #[test]
 fn newer_values(rt: HostRuntime) {
-    play_all(&rt, rt.alloc(), &NEWER);
+    for row in &NEWER {
+        try_row(&rt, rt.alloc(), row);
+    }
 }
 
-const TRANSFERS: [Row; 4] = [
+static TRANSFERS: [Row; 4] = [
     Row {
         name: "behind the last turn",
         shown: &[],
-        mail: &[(OWN_HOST, 700, XFR, 0)],
-        failing: &[],
+        mail: &[(OWN_HOST, 700, "XFR", 0)],
+        failing: NEVER,
         most: 1,
         ended: Ok(Ended::Spent),
         turns: 1,
         transfers: 1,
-        sent: &[TO_700, TAKEN],
+        sent: "TO_700 TAKEN",
     },
     Row {
         name: "one for each reply",
         shown: &[],
         mail: &[
-            (OWN_HOST, 700, XFR, 0),
-            (OWN_HOST, 701, XFR, 0),
-            (OWN_HOST, 700, NULL, 0),
+            (OWN_HOST, 700, "XFR", 0),
+            (OWN_HOST, 701, "XFR", 0),
+            (OWN_HOST, 700, "NULL", 0),
         ],
-        failing: &[],
+        failing: NEVER,
         most: 3,
         ended: Ok(Ended::Spent),
         turns: 3,
         transfers: 2,
-        sent: &[TO_700, TAKEN, TO_701, TAKEN, TO_700, NULL_REPLY],
+        sent: "TO_700 TAKEN TO_701 TAKEN TO_700 NULL_REPLY",
     },
     Row {
         name: "none for a reply that isn't sent",
         shown: &[],
-        mail: &[(OWN_HOST, 700, XFR, 0)],
-        failing: &[1],
+        mail: &[(OWN_HOST, 700, "XFR", 0)],
+        failing: 1,
         most: 1,
         ended: Err(Failed),
         turns: 1,
         transfers: 0,
-        sent: &[],
+        sent: "",
     },
     Row {
         name: "before the turn that fails",
         shown: &[],
-        mail: &[(OWN_HOST, 700, XFR, 0)],
-        failing: &[2],
+        mail: &[(OWN_HOST, 700, "XFR", 0)],
+        failing: 2,
         most: 2,
         ended: Err(Failed),
         turns: 1,
         transfers: 1,
-        sent: &[TO_700, TAKEN],
+        sent: "TO_700 TAKEN",
     },
 ];
 
 #[test]
 fn transfers_behind_replies(rt: HostRuntime) {
-    play_all(&rt, rt.alloc(), &TRANSFERS);
+    for row in &TRANSFERS {
+        try_row(&rt, rt.alloc(), row);
+    }
 }
 
-const TURNS: [Row; 5] = [
+static TURNS: [Row; 5] = [
     Row {
         name: "quiet turns",
         shown: &[],
-        mail: &[(OWN_HOST, 700, NULL, 0)],
-        failing: &[],
+        mail: &[(OWN_HOST, 700, "NULL", 0)],
+        failing: NEVER,
         most: 3,
         ended: Ok(Ended::Spent),
         turns: 3,
         transfers: 0,
-        sent: &[TO_700, NULL_REPLY],
+        sent: "TO_700 NULL_REPLY",
     },
     Row {
         name: "no turn is taken",
         shown: &[],
-        mail: &[(OWN_HOST, 700, NULL, 0)],
-        failing: &[],
+        mail: &[(OWN_HOST, 700, "NULL", 0)],
+        failing: NEVER,
         most: 0,
         ended: Ok(Ended::Spent),
         turns: 0,
         transfers: 0,
-        sent: &[],
+        sent: "",
     },
     Row {
         name: "the first turn fails",
         shown: &[],
-        mail: &[(OWN_HOST, 700, NULL, 0)],
-        failing: &[0],
+        mail: &[(OWN_HOST, 700, "NULL", 0)],
+        failing: 0,
         most: 2,
         ended: Err(Failed),
         turns: 0,
         transfers: 0,
-        sent: &[],
+        sent: "",
     },
     Row {
         name: "the reply fails",
         shown: &[],
-        mail: &[(OWN_HOST, 700, NULL, 0)],
-        failing: &[1],
+        mail: &[(OWN_HOST, 700, "NULL", 0)],
+        failing: 1,
         most: 2,
         ended: Err(Failed),
         turns: 1,
         transfers: 0,
-        sent: &[],
+        sent: "",
     },
     Row {
         name: "the second turn fails",
         shown: &[],
-        mail: &[(OWN_HOST, 700, NULL, 0)],
-        failing: &[2],
+        mail: &[(OWN_HOST, 700, "NULL", 0)],
+        failing: 2,
         most: 2,
         ended: Err(Failed),
         turns: 1,
         transfers: 0,
-        sent: &[TO_700, NULL_REPLY],
+        sent: "TO_700 NULL_REPLY",
     },
 ];
 
 #[test]
 fn turns_and_calls_that_fail(rt: HostRuntime) {
-    play_all(&rt, rt.alloc(), &TURNS);
+    for row in &TURNS {
+        try_row(&rt, rt.alloc(), row);
+    }
 }
 
 // The reply to a MATCH of a value of so many bytes.
 fn replied<R: RandomSource + Abort>(rt: &R, alloc: Global, len: usize) -> Came {
     let value = vec![in alloc; b'x'; len].expect(rt, "a value");
     let host = host_of(rt, alloc, &[&value]);
-    let mail = mail_of(rt, alloc, &[(OWN_HOST, 700, MATCH, 0)]);
-    served(rt, alloc, host, mail, &[], 1)
+    let mail = mail_of(rt, alloc, &[(OWN_HOST, 700, "MATCH", 0)]);
+    served(rt, alloc, host, mail, NEVER, 1)
 }
 
 #[test]
 fn the_longest_value(rt: HostRuntime) {
     let alloc = rt.alloc();
-    let mut longest = bytes(&rt, alloc, &[TO_700, MATCHED, "00000001 00001fe0"]);
+    let mut longest = named(&rt, alloc, NAMES, "TO_700 MATCHED 00000001 00001fe0");
     let len = longest.len() + 8_160;
     longest.resize(len, b'x').expect(&rt, "a reply");
-    let refused = bytes(&rt, alloc, &[TO_700, MATCHED, ERROR]);
+    let refused = named(&rt, alloc, NAMES, "TO_700 MATCHED ERROR");
     let came = (replied(&rt, alloc, 8_160), replied(&rt, alloc, 8_161));
     let wanted = (
         (Ok(Ended::Spent), 1, 0, longest),
@@ -405,13 +395,13 @@ fn the_longest_value(rt: HostRuntime) {
 
 // Lets a server hear a call, and go on behind the reply where that is sent.
 fn hear(server: &mut MailServer<TestHost>, call: &[u8], buf: &mut [u8], is_sent: bool)
-    requires { MAIL_MAX ≤ length buf.old }
+    requires { DATAGRAM_MAX ≤ length buf.old }
 {
     let peer = Peer {
         addr: OWN_HOST,
         port: 700,
     };
-    let len = call.len().min(MAIL_MAX);
+    let len = call.len().min(DATAGRAM_MAX);
     server.hear(peer, &call[..len], buf);
     if is_sent {
         let _ = server.next(buf);
@@ -420,8 +410,8 @@ fn hear(server: &mut MailServer<TestHost>, call: &[u8], buf: &mut [u8], is_sent:
 
 // How many transfers were carried out for an XFR, before its reply is sent or behind that.
 fn transfers<R: RandomSource + Abort>(rt: &R, alloc: Global, is_sent: bool) -> u64 {
-    let call = bytes(rt, alloc, &[XFR]);
-    let mut buf = vec![in alloc; 0; MAIL_MAX].expect(rt, "memory for a reply");
+    let call = named(rt, alloc, NAMES, "XFR");
+    let mut buf = vec![in alloc; 0; DATAGRAM_MAX].expect(rt, "memory for a reply");
     let mut server = MailServer::new(host_of(rt, alloc, &[]));
     hear(&mut server, &call, &mut buf, is_sent);
     server.into_host().transfers()

@@ -6,8 +6,8 @@ use crate::worker::host::{TestHost, host_of};
 use std::alloc::Global;
 use std::process::Abort;
 use std::random::RandomSource;
+use yp_answer::session::{End, Session};
 use yp_io::{MemSink, MemSource, MemWire, Pair, Peer};
-use yp_session::{End, Session};
 use yp_worker::{Gate, OpenGate, Point, Worker};
 
 const PEER: Peer = Peer {
@@ -61,20 +61,26 @@ fn served<R: RandomSource + Abort>(rt: &R, alloc: Global, values: &[&[u8]]) -> (
 
 // What others show, the reply on the first connection, and both on the second. Where none is shown, memory runs out
 // for the worker, which goes on with what it knew.
-const ROWS: &[(&[&[u8]], &str, &str)] = &[
+type Row = (&'static [&'static [u8]], &'static str, &'static str);
+
+static ROWS: [Row; 3] = [
     (&[], ONE, ONE),
     (&[b"alpha:2"], TWO, TWO),
     (&[b"alpha:1", b"alpha:2"], ONE, TWO),
 ];
 
+fn try_row<R: RandomSource + Abort>(rt: &R, alloc: Global, row: &Row) {
+    let (values, first, second) = row;
+    let one = (End::Clean, 1, bytes(rt, alloc, &[*first]));
+    let two = (End::Clean, 2, bytes(rt, alloc, &[*second, *second]));
+    let came = served(rt, alloc, values);
+    assert_same(rt, &came, &(one, two), "two connections");
+}
+
 #[test]
 fn two_connections(rt: HostRuntime) {
-    let alloc = rt.alloc();
-    for &(values, first, second) in ROWS {
-        let one = (End::Clean, 1, bytes(&rt, alloc, &[first]));
-        let two = (End::Clean, 2, bytes(&rt, alloc, &[second, second]));
-        let came = served(&rt, alloc, values);
-        assert_same(&rt, &came, &(one, two), "two connections");
+    for row in &ROWS {
+        try_row(&rt, rt.alloc(), row);
     }
 }
 

@@ -2,12 +2,13 @@
 
 ghost use Rattle.std.specs.Prelude.{◌≡◌, ◌<◌, []};
 ghost use Rattle.yp_board.specs.Views.{IsFront};
-ghost use Rattle.yp_io.specs.MemListen.{Door, calls_of};
-ghost use Rattle.yp_session.specs.Hosts.{conduct_of};
-ghost use Rattle.yp_worker.specs.Receptions.{opening_of, terms_of};
+ghost use Rattle.yp_io.specs.inside.MemListen.{MemListenModel, calls_of};
+ghost use Rattle.yp_answer.specs.inside.session.Hosts.{conduct_by};
+ghost use Rattle.yp_worker.specs.Receptions.{listen_tells, opening_by};
+ghost use Rattle.yp_worker.specs.inside.Receptions.{terms_by};
 ghost use Rattle.yp_worker.specs.Summing.{SumsUp, counting_of};
 
-use crate::given::{assert_same, bytes};
+use crate::given::{NEVER, assert_same, named};
 use crate::worker::listener::door;
 use crate::worker::reader::{Handed, ReaderHost, two_readers};
 use std::alloc::Global;
@@ -17,17 +18,23 @@ use std::random::RandomSource;
 use std::sync::ledger::{Blank, Ledger};
 use std::sync::{Mutex, Wait};
 use std::thread::Threads;
+use yp_answer::session::Session;
 use yp_board::Tell;
+use yp_board::readers::{Naming, Opened, Writer};
 use yp_io::{Listen, MemListen};
-use yp_readers::{Naming, Opened, Writer};
-use yp_session::Session;
 use yp_worker::{HandsOver, Listening, OpenGate, Pass, Reception, Tally, Worker, laws, run_beside};
 
-// NULL of YP (RFC 5531 section 9, yp.x), and its reply.
-const NULL: &str = "80000028 00000001 00000000 00000002 000186a4 00000002 00000000
-    00000000 00000000 00000000 00000000";
-
-const NULL_REPLY: &str = "80000018 00000001 00000001 00000000 00000000 00000000 00000000";
+// NULL of YP (RFC 5531 section 9, yp.x), and its reply; XFR of hosts.byname of `d` from the host `m2`, and its reply
+// with SUCC.
+static NAMES: &str = "\
+NULL = 80000028 00000001 00000000 00000002 000186a4 00000002 00000000 00000000 00000000 00000000 \
+    00000000
+NULL_REPLY = 80000018 00000001 00000001 00000000 00000000 00000000 00000000
+XFR = 80000058 00000005 00000000 00000002 000186a4 00000002 00000006 00000000 00000000 00000000 \
+    00000000 00000001 64000000 0000000c 686f7374 732e6279 6e616d65 00000000 00000002 6d320000 \
+    00000009 40000000 00000400
+TAKEN = 80000020 00000005 00000001 00000000 00000000 00000000 00000000 00000009 00000001
+";
 
 // What a run counted, what the lock kept, how many transfers its host carried out, how many connections were accepted,
 // and what each that went back had taken.
@@ -50,8 +57,8 @@ where
     B::Reader: Drop,
     requires out { (out.name ≡ J.name) × (out.parts ≡ J.parts) × (0 < out.parts) }
     requires ended { (ended.name ≡ E.name) × (ended.parts ≡ E.parts) × (0 < ended.parts) }
-    requires opening { opening_of calls_of (λ (l : Door). l.most) (λ (l : Door). l.accepted)
-        (λ (l : Door). l.returned) (λ (l : Door). l.faults) listen ≡ J.opening }
+    requires opening { listen_tells calls_of (λ (l : MemListenModel). l.most) (λ (l : MemListenModel). l.accepted)
+        (λ (l : MemListenModel). l.returned) (λ (l : MemListenModel). l.faults) listen ≡ J.opening }
     requires catalogue { (B.Reader.seen reader).catalogue ≡ J.catalogue }
     requires knows { IsFront J.starts (B.Reader.seen reader).known }
     requires most { 9 ≡ J.most }
@@ -94,8 +101,8 @@ where
     B::Front: Send,
     requires out { (out.name ≡ J.name) × (out.parts ≡ J.parts) × (out.parts ≡ 2) }
     requires ended { (ended.name ≡ E.name) × (ended.parts ≡ E.parts) × (ended.parts ≡ 2) }
-    requires opening { opening_of calls_of (λ (l : Door). l.most) (λ (l : Door). l.accepted)
-        (λ (l : Door). l.returned) (λ (l : Door). l.faults) listen ≡ J.opening }
+    requires opening { listen_tells calls_of (λ (l : MemListenModel). l.most) (λ (l : MemListenModel). l.accepted)
+        (λ (l : MemListenModel). l.returned) (λ (l : MemListenModel). l.faults) listen ≡ J.opening }
     requires first { (B.Reader.seen readers.0).catalogue ≡ J.catalogue }
     requires second { (B.Reader.seen readers.1).catalogue ≡ J.catalogue }
     requires starts { J.starts ≡ [] }
@@ -159,14 +166,10 @@ fn cover<J: Reception, H: HandsOver, L: Listen, B: Tell>(
     front: &B::Front,
 )
     requires reached { H.reached sum.now ≡ B.kept front.now }
-    requires summed { SumsUp (conduct_of H.seen H.told H.counts H.stepped H.made H.carried)
-        (counting_of H.counted H.none H.plus) (terms_of J.catalogue J.starts J.most) J.opening
-        (opening_of L.past L.most L.accepted L.returned L.faults listen.now) tally.now.calls
-        (H.summed sum.now) (H.reached sum.now) }
-    ensures { SumsUp (conduct_of H.seen H.told H.counts H.stepped H.made H.carried)
-        (counting_of H.counted H.none H.plus) (terms_of J.catalogue J.starts J.most) J.opening
-        (opening_of L.past L.most L.accepted L.returned L.faults listen.now) tally.now.calls
-        (H.summed sum.now) (B.log writer.new) }
+    requires summed { SumsUp (conduct_by H.Host) (counting_of H.counted H.none H.plus) (terms_by J.Reception) J.opening
+        (opening_by L.Listen listen.now) tally.now.calls (H.summed sum.now) (H.reached sum.now) }
+    ensures { SumsUp (conduct_by H.Host) (counting_of H.counted H.none H.plus) (terms_by J.Reception) J.opening
+        (opening_by L.Listen listen.now) tally.now.calls (H.summed sum.now) (B.log writer.new) }
 {
     writer.covers(front);
     laws::sums_reach_further::<H>();
@@ -184,15 +187,6 @@ fn taken(rt: &impl Abort, alloc: Global, listen: &MemListen) -> Vec<u8> {
     all
 }
 
-// XFR of hosts.byname of `d` from the host `m2` (yp.x), and its reply with SUCC.
-const XFR: &str = "80000058 00000005 00000000 00000002 000186a4 00000002 00000006
-    00000000 00000000 00000000 00000000 00000001 64000000
-    0000000c 686f7374 732e6279 6e616d65 00000000 00000002 6d320000
-    00000009 40000000 00000400";
-
-const TAKEN: &str =
-    "80000020 00000005 00000001 00000000 00000000 00000000 00000000 00000009 00000001";
-
 const SERVED: Tally = Tally {
     connections: 2,
     calls: 4,
@@ -201,47 +195,55 @@ const SERVED: Tally = Tally {
 
 // What both connections ask, the calls of the listener that fail, what was counted, how many transfers were carried
 // out, how many connections were accepted, and what was written.
-const ROWS: &[(&[&str], &[u64], Tally, u64, u32, &[&str])] = &[
-    (
-        &[NULL, NULL],
-        &[],
-        SERVED,
-        0,
-        2,
-        &[NULL_REPLY, NULL_REPLY, NULL_REPLY, NULL_REPLY],
-    ),
-    (
-        &[NULL, XFR],
-        &[],
-        SERVED,
-        2,
-        2,
-        &[NULL_REPLY, TAKEN, NULL_REPLY, TAKEN],
-    ),
-    (
-        &[NULL, NULL],
-        &[0],
-        Tally {
+#[derive(Clone, Copy)]
+struct Row {
+    input: &'static str,
+    failing: u64,
+    tally: Tally,
+    transfers: u64,
+    accepted: u32,
+    output: &'static str,
+}
+
+const BOTH: Row = Row {
+    input: "NULL NULL",
+    failing: NEVER,
+    tally: SERVED,
+    transfers: 0,
+    accepted: 2,
+    output: "NULL_REPLY NULL_REPLY NULL_REPLY NULL_REPLY",
+};
+
+static ROWS: [Row; 4] = [
+    BOTH,
+    Row {
+        input: "NULL XFR",
+        transfers: 2,
+        output: "NULL_REPLY TAKEN NULL_REPLY TAKEN",
+        ..BOTH
+    },
+    Row {
+        failing: 0,
+        tally: Tally {
             connections: 0,
             calls: 0,
             listen_fault: true,
         },
-        0,
-        0,
-        &[],
-    ),
-    (
-        &[NULL, NULL],
-        &[1],
-        Tally {
+        accepted: 0,
+        output: "",
+        ..BOTH
+    },
+    Row {
+        failing: 1,
+        tally: Tally {
             connections: 1,
             calls: 2,
             listen_fault: true,
         },
-        0,
-        1,
-        &[NULL_REPLY, NULL_REPLY],
-    ),
+        accepted: 1,
+        output: "NULL_REPLY NULL_REPLY",
+        ..BOTH
+    },
 ];
 
 // Runs a worker that reads a board over this listener.
@@ -258,14 +260,19 @@ fn one<N: Naming, R: Wait + RandomSource + Abort>(
     served::<Brand, Brand, Writer<N, &R>, R>(rt, alloc, out, ended, listen, &mut writer, reader)
 }
 
+fn try_row<R: Wait + RandomSource + Abort>(rt: &R, alloc: Global, row: &Row) {
+    let input = named(rt, alloc, NAMES, row.input);
+    let output = named(rt, alloc, NAMES, row.output);
+    let listen = door(rt, alloc, &input, 2, &[row.failing]);
+    let came = one::<Brand, R>(rt, alloc, Opened::new(), listen);
+    let wanted = (row.tally, row.tally, row.transfers, row.accepted, output);
+    assert_same(rt, &came, &wanted, "the connections of a listener");
+}
+
 #[test]
 fn all_connections_of_a_listener(rt: HostRuntime) {
-    let alloc = rt.alloc();
-    for &(input, failing, tally, transfers, accepted, output) in ROWS {
-        let listen = door(&rt, alloc, input, 2, failing);
-        let came = one::<Brand, _>(&rt, alloc, Opened::new(), listen);
-        let wanted = (tally, tally, transfers, accepted, bytes(&rt, alloc, output));
-        assert_same(&rt, &came, &wanted, "the connections of a listener");
+    for row in &ROWS {
+        try_row(&rt, rt.alloc(), row);
     }
 }
 
@@ -287,17 +294,10 @@ fn two<N: Naming + Send + Sync, R: Threads + Wait + Sync + RandomSource + Abort>
 #[test]
 fn two_workers_in_threads(rt: HostRuntime) {
     let alloc = rt.alloc();
-    let listen = door(&rt, alloc, &[NULL, NULL], 2, &[]);
+    let input = named(&rt, alloc, NAMES, "NULL NULL");
+    let output = named(&rt, alloc, NAMES, BOTH.output);
+    let listen = door(&rt, alloc, &input, 2, &[]);
     let came = two::<Brand, _>(&rt, alloc, Opened::new(), listen);
-    let output = bytes(
-        &rt,
-        alloc,
-        &[NULL_REPLY, NULL_REPLY, NULL_REPLY, NULL_REPLY],
-    );
-    assert_same(
-        &rt,
-        &came,
-        &(SERVED, 2, output),
-        "the connections of two workers",
-    );
+    let wanted = (SERVED, 2, output);
+    assert_same(&rt, &came, &wanted, "the connections of two workers");
 }

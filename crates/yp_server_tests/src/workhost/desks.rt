@@ -1,14 +1,14 @@
 //! What workers make maps of, and fetch them by.
 
 ghost use Rattle.std.specs.Prelude.{◌≡◌, length};
-ghost use Rattle.yp_io.specs.MemDial.{IsNew};
+ghost use Rattle.yp_io.specs.inside.MemDial.{WireIsNew};
 
 use std::alloc::Global;
 use std::process::Abort;
 use yp_board::{Catalog, MapName};
+use yp_host::Desk;
 use yp_io::{MemDial, MemSink, MemSource, MemTexts, MemWire, Pair, Peer, SetClock, TextFile};
-use yp_server::Desk;
-use yp_xfr::Hosts;
+use yp_transfer::Hosts;
 
 /// What a host makes maps of, and fetches them by.
 pub type MemDesk = Desk<MemDial, MemTexts, SetClock>;
@@ -30,7 +30,7 @@ pub const SOURCE: Peer = Peer {
 
 // A wire with this input.
 fn wire_of(alloc: Global, input: Vec<u8>) -> MemWire
-    ensures { IsNew result }
+    ensures { WireIsNew result }
 {
     Pair {
         source: MemSource::new(input, 1000, Vec::new(alloc)),
@@ -38,21 +38,21 @@ fn wire_of(alloc: Global, input: Vec<u8>) -> MemWire
     }
 }
 
-/// A desk with a text of hosts, at the moment 100, whose reads with these numbers fail. Its dial has one wire, with
-/// this input, and the calls of it with these numbers fail. It has the address of one host.
+/// A desk with a text of hosts, at the moment 100, whose read with this number fails. Its dial has one wire, with this
+/// input, and the call of it with this number fails. It has the address of one host.
 pub fn desk_of(
     rt: &impl Abort,
     alloc: Global,
     text: &[u8],
-    failing: &[u64],
+    failing: u64,
     host: &[u8],
     input: Vec<u8>,
-    refused: &[u64],
+    refused: u64,
 ) -> MemDesk {
     let text = Vec::from_slice(alloc, text).expect(rt, "a text");
     let texts = vec![in alloc; (TextFile::Hosts, text)].expect(rt, "a text");
-    let failing = Vec::from_slice(alloc, failing).expect(rt, "numbers");
-    let refused = Vec::from_slice(alloc, refused).expect(rt, "numbers");
+    let failing = vec![in alloc; failing].expect(rt, "a number");
+    let refused = vec![in alloc; refused].expect(rt, "a number");
     let name = Vec::from_slice(alloc, host).expect(rt, "a name");
     let mut wires = Vec::new(alloc);
     wires.push(wire_of(alloc, input)).expect(rt, "a wire");

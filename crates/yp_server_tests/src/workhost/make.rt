@@ -1,6 +1,6 @@
 //! Maps that workers make.
 
-use crate::given::{assert_same, bytes};
+use crate::given::{NEVER, assert_same, named};
 use crate::workhost::desks::*;
 use crate::workhost::stage::*;
 use std::alloc::Global;
@@ -8,37 +8,33 @@ use std::marker::Brand;
 use std::process::Abort;
 use std::random::RandomSource;
 use std::sync::Wait;
+use yp_board::readers::Opened;
 use yp_io::MemDisk;
-use yp_msgs::XfrStat;
-use yp_readers::Opened;
+use yp_messages::XfrStat;
 
 const TEXT: &[u8] = b"10.0.0.1 alpha\n";
 
-// A file of a version of master `m1`: its two cells, the first of generation 1, and its body, behind the format and the
-// order.
-const CELLS: &str = "01000000 00000000 00000000 00000001 00000000 00000040 00000000 00000034
-    00000000 00000000 00000000 00000000 00000000 00000000 00000000 00000000";
+// Files of a version of master `m1`: two cells, the first of generation 1 or of the last one, and a body of the order
+// 100 or of the last one.
+static NAMES: &str = "\
+ORDER_100 = 01000000 00000000 00000000 00000001 00000000 00000040 00000000 00000034 00000000 \
+    00000000 00000000 00000000 00000000 00000000 00000000 00000000 00000001 00000064 00000002 \
+    6d310000 00000001 00000005 616c7068 61000000 0000000e 31302e30 2e302e31 20616c70 68610000
+LAST_ORDER = 01000000 00000000 00000000 00000001 00000000 00000040 00000000 00000034 00000000 \
+    00000000 00000000 00000000 00000000 00000000 00000000 00000000 00000001 ffffffff 00000002 \
+    6d310000 00000001 00000005 616c7068 61000000 0000000e 31302e30 2e302e31 20616c70 68610000
+LAST_STORED = 01000000 00000000 ffffffff ffffffff 00000000 00000040 00000000 00000034 00000000 \
+    00000000 00000000 00000000 00000000 00000000 00000000 00000000 00000001 00000064 00000002 \
+    6d310000 00000001 00000005 616c7068 61000000 0000000e 31302e30 2e302e31 20616c70 68610000
+";
 
-const LAST_GENERATION: &str =
-    "01000000 00000000 ffffffff ffffffff 00000000 00000040 00000000 00000034
-    00000000 00000000 00000000 00000000 00000000 00000000 00000000 00000000";
-
-const REST: &str = "00000002 6d310000 00000001 00000005 616c7068 61000000
-    0000000e 31302e30 2e302e31 20616c70 68610000";
-
-const ORDER_100: &[&str] = &[CELLS, "00000001 00000064", REST];
-
-const LAST_ORDER: &[&str] = &[CELLS, "00000001 ffffffff", REST];
-
-const LAST_STORED: &[&str] = &[LAST_GENERATION, "00000001 00000064", REST];
-
-// A host's own name, a file, the reads of the text that fail, what is done, what comes of it, and how often that is
+// A host's own name, a file, the read of the text that fails, what is done, what comes of it, and how often that is
 // FILE and how often SUCC.
 struct Row {
     name: &'static str,
     own: &'static [u8],
-    file: &'static [&'static str],
-    failing: &'static [u64],
+    file: &'static str,
+    failing: u64,
     acts: &'static [(bool, Act)],
     came: &'static [Came],
     files: u64,
@@ -52,19 +48,19 @@ const SECOND: bool = false;
 const EMPTY: Row = Row {
     name: "a map that is made is known",
     own: b"m1",
-    file: &[],
-    failing: &[],
+    file: "",
+    failing: NEVER,
     acts: &[(FIRST, Act::Make)],
     came: &[(Some(XfrStat::Succ), Some(100))],
     files: 0,
     made: 1,
 };
 
-const ROWS: &[Row] = &[
+static ROWS: [Row; 9] = [
     EMPTY,
     Row {
         name: "the order rises where the clock does not",
-        file: ORDER_100,
+        file: "ORDER_100",
         came: &[(Some(XfrStat::Succ), Some(101))],
         ..EMPTY
     },
@@ -109,7 +105,7 @@ const ROWS: &[Row] = &[
     },
     Row {
         name: "the orders are spent",
-        file: LAST_ORDER,
+        file: "LAST_ORDER",
         came: &[(Some(XfrStat::Age), Some(u32::MAX))],
         made: 0,
         ..EMPTY
@@ -117,14 +113,14 @@ const ROWS: &[Row] = &[
     Row {
         name: "another master",
         own: b"m2",
-        file: ORDER_100,
+        file: "ORDER_100",
         came: &[(Some(XfrStat::Refused), Some(100))],
         made: 0,
         ..EMPTY
     },
     Row {
         name: "a text that is not read, and then is",
-        failing: &[0],
+        failing: 0,
         acts: &[(FIRST, Act::Make), (SECOND, Act::Make)],
         came: &[
             (Some(XfrStat::File), None),
@@ -135,7 +131,7 @@ const ROWS: &[Row] = &[
     },
     Row {
         name: "the generations are spent",
-        file: LAST_STORED,
+        file: "LAST_STORED",
         came: &[(Some(XfrStat::File), Some(100))],
         files: 1,
         made: 0,
@@ -145,9 +141,9 @@ const ROWS: &[Row] = &[
 
 // What comes of a row.
 fn came_of<R: RandomSource + Wait + Abort>(rt: &R, alloc: Global, row: &Row) -> Played {
-    let file = bytes(rt, alloc, row.file);
+    let file = named(rt, alloc, NAMES, row.file);
     let disk = MemDisk::new(alloc, file, None, Vec::new(alloc));
-    let desk = desk_of(rt, alloc, TEXT, row.failing, b"m1", Vec::new(alloc), &[]);
+    let desk = desk_of(rt, alloc, TEXT, row.failing, b"m1", Vec::new(alloc), NEVER);
     let catalog = catalog_of(rt, alloc, row.own);
     let script = Script {
         acts: row.acts,
@@ -156,11 +152,15 @@ fn came_of<R: RandomSource + Wait + Abort>(rt: &R, alloc: Global, row: &Row) -> 
     staged::<Brand, _, R>(rt, alloc, Opened::new(), catalog, disk, desk, script)
 }
 
+fn try_row<R: RandomSource + Wait + Abort>(rt: &R, alloc: Global, row: &Row) {
+    let (came, totals, _) = came_of(rt, alloc, row);
+    let found = (came.as_slice(), totals.files, totals.made, totals.transfers);
+    assert_same(rt, &found, &(row.came, row.files, row.made, 0), row.name);
+}
+
 #[test]
 fn made_maps(rt: HostRuntime) {
-    for row in ROWS {
-        let (came, totals, _) = came_of(&rt, rt.alloc(), row);
-        let found = (came.as_slice(), totals.files, totals.made, totals.transfers);
-        assert_same(&rt, &found, &(row.came, row.files, row.made, 0), row.name);
+    for row in &ROWS {
+        try_row(&rt, rt.alloc(), row);
     }
 }

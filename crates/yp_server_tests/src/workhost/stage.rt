@@ -1,13 +1,13 @@
 //! Two workers over one map.
 
 ghost use Rattle.std.specs.Prelude.{◌≡◌, All, Some};
-ghost use Rattle.yp_io.specs.MemDisk.{Platter};
-ghost use Rattle.yp_io.specs.MemDial.{wires_of};
-ghost use Rattle.yp_publish.specs.Rising.{moment_of};
-ghost use Rattle.yp_readers.specs.Boards.{Written};
-ghost use Rattle.yp_shared.specs.Failures.{disks_of, faults_over};
-ghost use Rattle.yp_workhost.specs.Desks.{IsSupplied};
-ghost use Rattle.yp_workhost.specs.Makings.{Builds};
+ghost use Rattle.yp_io.specs.inside.MemDisk.{Platter};
+ghost use Rattle.yp_io.specs.inside.MemDial.{wires_of};
+ghost use Rattle.yp_publisher.specs.Rising.{publisher_state};
+ghost use Rattle.yp_board.specs.inside.readers.Boards.{Written};
+ghost use Rattle.yp_publisher.specs.sharing.Failures.{disks_of, faults_over};
+ghost use Rattle.yp_host.specs.inside.workers.Desks.{IsSupplied};
+ghost use Rattle.yp_host.specs.inside.workers.Makings.{SiteBuilds};
 
 use crate::given::{assert_same, bytes};
 use crate::workhost::desks::*;
@@ -17,21 +17,24 @@ use std::process::Abort;
 use std::random::RandomSource;
 use std::sync::ledger::Blank;
 use std::sync::{Mutex, Wait};
-use yp_answer::{Errand, Job};
+use yp_answer::session::Host;
+use yp_answer::{MakeJob, TransferJob};
+use yp_board::readers::{Naming, Opened, Reader, Writer, board};
 use yp_board::{Catalog, Tell, View};
-use yp_build::Kind;
-use yp_io::{MemDial, MemDisk, Peer, SetClock, Texts};
-use yp_msgs::XfrStat;
-use yp_publish::laws::starts_are_shown;
-use yp_publish::{Publisher, load_all};
-use yp_readers::{Naming, Opened, Reader, Writer, board};
-use yp_server::Desk;
-use yp_session::Host;
-use yp_shared::{Accounts, Debits, Failures, Locked, Made, Site, Versions};
-use yp_worker::{CatchUp, HandsOver};
-use yp_workhost::{
-    Account, Charges, Orders, SharedDesk, Sources, Supplies, Totals, Unread, WorkerHost,
+use yp_host::Desk;
+use yp_host::workers::{
+    Account, Charges, FailedSources, ReachedOrders, SharedDesk, Supplies, Totals, UnreadTexts,
+    WorkerHost,
 };
+use yp_io::{MemDial, MemDisk, Peer, SetClock, Texts};
+use yp_messages::XfrStat;
+use yp_publisher::laws::starts_are_shown;
+use yp_publisher::sharing::{
+    Accounts, BuiltVersions, Debits, FailedFiles, FetchedVersions, Locked, Site,
+};
+use yp_publisher::{Publisher, load_all};
+use yp_texts::Kind;
+use yp_worker::{CatchUp, HandsOver};
 
 /// The locks of a map and its desk.
 type Maps<S, J, R> = Mutex<Locked<S, MemDisk, Writer<J, R>>>;
@@ -106,19 +109,19 @@ fn done_by<
         Act::Make => {
             let kind = Kind::HostsByname;
             match host.catalog().find(b"lab", kind.name()) {
-                Some(map) => Some(host.make(Job { map, kind })),
+                Some(map) => Some(host.make(MakeJob { map, kind })),
                 None => return (None, None),
             }
         }
         Act::Transfer => {
-            let errand = Errand {
+            let job = TransferJob {
                 map: 0,
                 source,
                 transid: 9,
                 prog: 0x4000_0000,
                 port: 7_002,
             };
-            host.transfer(&errand, CALLER);
+            host.transfer(&job, CALLER);
             None
         }
         Act::CatchUp => {
@@ -188,7 +191,7 @@ fn meet<
     charges: Charges<S>,
     script: Script<'_>,
 ) -> (Vec<Came>, Account<S, Writer<J, &'r R>>)
-    requires builds { Builds S.text S.catalogue S.built }
+    requires builds { SiteBuilds S.text S.catalogue S.built }
     requires first { readers.0.catalogue ≡ S.catalogue }
     requires second { readers.1.catalogue ≡ S.catalogue }
     requires charges { charges.parts ≡ 4 }
@@ -273,9 +276,9 @@ fn under_locks<
     script: Script<'_>,
 ) -> Played
     requires site { publisher.catalogue ≡ S.catalogue }
-    requires stood { moment_of (λ (w : Written). w.log) publisher ≡ S.first }
+    requires stood { publisher_state (λ (w : Written). w.log) publisher ≡ S.first }
     requires disks { faults_over (λ (p : Platter). p.faults) (disks_of publisher.maps) ≡ S.disk_faults }
-    requires builds { Builds S.text S.catalogue S.built }
+    requires builds { SiteBuilds S.text S.catalogue S.built }
     requires first { readers.0.catalogue ≡ S.catalogue }
     requires second { readers.1.catalogue ≡ S.catalogue }
     requires supplied { IsSupplied T.Texts S.text S.hosts desk }
@@ -297,12 +300,12 @@ fn under_locks<
         made,
         versions,
     } = blanks;
-    let (unread, own_unread) = unread.open::<Unread<S>>();
-    let (failures, own_failures) = failures.open::<Failures<S>>();
-    let (orders, own_orders) = orders.open::<Orders<S>>();
-    let (sources, own_sources) = sources.open::<Sources<S>>();
-    let (made, own_made) = made.open::<Made<S>>();
-    let (versions, mut own_versions) = versions.open::<Versions<S>>();
+    let (unread, own_unread) = unread.open::<UnreadTexts<S>>();
+    let (failures, own_failures) = failures.open::<FailedFiles<S>>();
+    let (orders, own_orders) = orders.open::<ReachedOrders<S>>();
+    let (sources, own_sources) = sources.open::<FailedSources<S>>();
+    let (made, own_made) = made.open::<BuiltVersions<S>>();
+    let (versions, mut own_versions) = versions.open::<FetchedVersions<S>>();
     let publishers = own_versions.split_off(1, 0);
     let debits = Debits::new(own_failures, own_made, own_versions);
     let charges = Charges::new(own_unread, own_orders, own_sources, debits);

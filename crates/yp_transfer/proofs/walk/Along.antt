@@ -9,25 +9,27 @@ use Rattle.std.proofs.lemmas.List.Sums.{sum_by-append, sum_by-cons}
 use Rattle.std.specs.Prelude.{is_some, nat_lt}
 use Rattle.std.specs.List.{AllByRecursion, IsDistinct}
 use Rattle.std.specs.Map.{keys_of}
-use Rattle.yp_rpc.specs.Turns.{mail_max}
+use Rattle.yp_rpc.specs.Turns.{datagram_max}
 use Rattle.yp_version.specs.declared.builder.VersionFault.{VersionFault}
 use Rattle.yp_version.specs.declared.builder.VersionFault.TheVariants.{KeyLong, ValueLong, TooManyRows, TooBig}
 use Rattle.yp_version.specs.Limits.{key_max, value_max, rows_max, body_max}
-use Rattle.yp_version.specs.Rows.{Row, HasDistinctKeys, value_of, first_of, following, row_len, rows_len}
+use Rattle.yp_version.specs.Rows.{Row, value_of, first_of, following, row_len, rows_len}
+use Rattle.yp_version.specs.inside.Rows.{HasDistinctKeys}
 use Rattle.yp_version.specs.Versions.{MapVersion, IsVersion}
 use Rattle.yp_version.specs.Drafts.{Draft, draft_len, refused, with_row, with_new}
-use Rattle.yp_version.specs.Laws.{RisingIsDistinct}
+use Rattle.yp_version.specs.inside.Laws.{RisingIsDistinct}
 use Rattle.yp_client.specs.declared.fault.ClientFault.{ClientFault}
 use Rattle.yp_client.specs.Results.{row_of}
-use Rattle.yp_xfr.specs.declared.fault.XfrFault.{XfrFault}
-use Rattle.yp_xfr.specs.declared.fault.XfrFault.TheVariants.{Xfrerr, Dbm, Skew}
-use Rattle.yp_xfr.specs.Fetching.{Wanted, against_order, against_master}
-use Rattle.yp_enum.specs.Standings.{Standing, AsksOrder, AsksMaster, AsksFirst, AsksNext, AsksAgain, HasEnded}
-use Rattle.yp_enum.specs.Standings.{refusal, unless, by_order, by_master, by_first, by_next, by_row, by_behind_key}
-use Rattle.yp_enum.specs.Standings.{by_again, behind, next_len}
-use Rattle.yp_enum.specs.Schedules.{Walking, gone_on, begun, came_of}
-use Rattle.yp_enum.specs.Told.{row_said, next_said, Tells, AllTell, draft_with, HasRowsTo, IsOwn, IsAlong}
-use Rattle.yp_enum.specs.Told.{ToldIsWalked, left, Suits, ToldIsWhole}
+use Rattle.yp_transfer.specs.declared.fault.XfrFault.{XfrFault}
+use Rattle.yp_transfer.specs.declared.fault.XfrFault.TheVariants.{Xfrerr, Dbm, Skew}
+use Rattle.yp_transfer.specs.Fetching.{Wanted, against_order, against_master}
+use Rattle.yp_transfer.specs.walk.Standings.{WalkState, AsksOrder, AsksMaster, AsksFirst, AsksNext, AsksAgain, HasEnded}
+use Rattle.yp_transfer.specs.walk.Standings.{refusal, unless, by_order, by_master, by_first, by_next, by_row, by_behind_key}
+use Rattle.yp_transfer.specs.walk.Standings.{by_again, state_after, next_len}
+use Rattle.yp_transfer.specs.walk.Schedules.{Walking, gone_on, begun, came_of}
+use Rattle.yp_transfer.specs.inside.walk.Told.{row_said, next_said, SaysOfVersion, AllTell, draft_with, HasRowsTo}
+use Rattle.yp_transfer.specs.inside.walk.Told.{IsOwn, IsAlong}
+use Rattle.yp_transfer.specs.inside.walk.Told.{ToldIsWalked, left, Suits, ToldIsWhole}
 
 -- ---- distinct keys
 
@@ -98,12 +100,12 @@ takes_row version front row rest is whole =
 -- ---- one reply
 
 -- a walk is on its way, and takes at most so many mails more
-pub record Along (wanted : Wanted) (version : MapVersion) (n : ℕ) (standing : Standing) : Type 0 where
+pub record Along (wanted : Wanted) (version : MapVersion) (n : ℕ) (standing : WalkState) : Type 0 where
   pub along : IsAlong wanted version standing
   pub count : left version standing ≤ n
 
 module _ (wanted : Wanted) (version : MapVersion) (is_version : IsVersion version) (distinct : HasDistinctKeys version.rows) where
-  Goes : ℕ → Standing → Type 0
+  Goes : ℕ → WalkState → Type 0
   Goes n standing = Along wanted version n standing
 
   refuses : (n : ℕ) (fault : XfrFault) → IsOwn wanted version fault → Goes n (refusal fault)
@@ -125,11 +127,11 @@ module _ (wanted : Wanted) (version : MapVersion) (is_version : IsVersion versio
   -- the row behind a front of the rows
   behind_row : (n : ℕ) (front : List Row) (row : Row) (rest : List Row) (draft : Draft) (long : Bool)
       → version.rows ≡ front ++ row ∷ rest → draft ≡ draft_with version (front ++ row ∷ [])
-      → nat_lt mail_max (next_len wanted row.0) ≡ long → length rest + 2 ≤ n
+      → nat_lt datagram_max (next_len wanted row.0) ≡ long → length rest + 2 ≤ n
       → Goes n (cond long (refusal Dbm) (AsksNext draft row.0))
   unfolding Goes
   behind_row n front row rest draft true is same long enough =
-      refuses n Dbm (inr (inr (refl, record { front = front; row = row; rest = rest; whole = is; long = ltb-true mail_max (next_len wanted row.0) long })))
+      refuses n Dbm (inr (inr (refl, record { front = front; row = row; rest = rest; whole = is; long = ltb-true datagram_max (next_len wanted row.0) long })))
   behind_row n front row rest draft false is same long enough = record {
     along = record { front = front; row = row; rest = rest; whole = is; last = refl; so_far = same };
     count = omega (
@@ -161,7 +163,7 @@ module _ (wanted : Wanted) (version : MapVersion) (is_version : IsVersion versio
   row_by n front row rest (Some fault) found is fits none grown enough = absurd cc
   row_by n front row rest None (Some value) is fits none grown enough = absurd cc
   row_by n front row rest None None is fits none grown enough =
-      behind_row n front row rest (with_row (draft_with version front) row) (nat_lt mail_max (next_len wanted row.0)) is
+      behind_row n front row rest (with_row (draft_with version front) row) (nat_lt datagram_max (next_len wanted row.0)) is
       grown refl enough
 
   next_row : (n : ℕ) (front : List Row) (row : Row) (rest : List Row) → version.rows ≡ front ++ row ∷ rest
@@ -197,8 +199,8 @@ module _ (wanted : Wanted) (version : MapVersion) (is_version : IsVersion versio
   second_by n order draft true is whole = record { along = whole; count = omega arith }
   second_by n order draft false is whole = absurd cc
 
-  step : (n xid : ℕ) (standing : Standing) (reply : List ℕ) → Goes (suc n) standing
-      → Tells version xid standing reply → Goes n (behind wanted xid standing reply)
+  step : (n xid : ℕ) (standing : WalkState) (reply : List ℕ) → Goes (suc n) standing
+      → SaysOfVersion version xid standing reply → Goes n (state_after wanted xid standing reply)
   unfolding Goes
   step n xid AsksOrder reply goes tells =
       subst (λ (said : Result ℕ ClientFault). Goes n (by_order wanted said)) (sym tells)
@@ -232,7 +234,7 @@ module _ (wanted : Wanted) (version : MapVersion) (is_version : IsVersion versio
         ap (λ (d : Draft). length d.rows) along.so_far,
       ) in
       subst (λ (s : Result (List ℕ × List ℕ) ClientFault). Goes n (by_next wanted draft s)) (sym said)
-      (subst (λ (s : Standing). Goes n s) (sym (next_by draft (first_of along.rest)))
+      (subst (λ (s : WalkState). Goes n s) (sym (next_by draft (first_of along.rest)))
       (subst (λ (d : Draft). Goes n (by_first wanted d (row_said (first_of along.rest)))) (sym along.so_far)
       (rows_by n here along.rest whole count)))
   step n xid (AsksAgain draft why) reply goes tells =
@@ -243,7 +245,7 @@ module _ (wanted : Wanted) (version : MapVersion) (is_version : IsVersion versio
       (eq-eqb version.order version.order refl) refl)))
   step n xid (HasEnded outcome) reply goes tells = absurd tells
 
-  weaken : (m n : ℕ) (standing : Standing) → m ≤ n → Goes m standing → Goes n standing
+  weaken : (m n : ℕ) (standing : WalkState) → m ≤ n → Goes m standing → Goes n standing
   unfolding Goes
   weaken m n standing within goes = record { along = goes.along; count = omega (arith, goes.count, within) }
 
@@ -257,11 +259,11 @@ module _ (wanted : Wanted) (version : MapVersion) (is_version : IsVersion versio
       let more : Goes (suc (length replies + n)) walking.standing =
       weaken (length (reply ∷ replies) + n) (suc (length replies + n)) walking.standing (omega arith) goes in
       walks n (gone_on walking reply) replies same
-      (subst (λ (w : Wanted). Goes (length replies + n) (behind w walking.xid walking.standing reply)) (sym same)
+      (subst (λ (w : Wanted). Goes (length replies + n) (state_after w walking.xid walking.standing reply)) (sym same)
       (step (length replies + n) walking.xid walking.standing reply more tell.0)) tell.1
 
   -- where no mail more is taken and nothing stands against it, it is whole
-  whole_by : (standing : Standing) → Suits wanted version → Goes 0 standing
+  whole_by : (standing : WalkState) → Suits wanted version → Goes 0 standing
       → standing ≡ HasEnded (Ok (draft_with version version.rows))
   unfolding Goes
   whole_by AsksOrder suits goes = absurd (omega (arith, goes.count))

@@ -2,13 +2,13 @@
 use Rattle.std.proofs.Common.{◌≡◌, ℕ, Bool, true, false, cond, List, [], ◌∷◌, ◌++◌, Result, Ok, Err, refl, sym, ap}
 use Rattle.std.proofs.Common.{◌∙◌, subst, inl, inr}
 use Rattle.yp_io.specs.declared.stream.Peer.{Peer}
-use Rattle.yp_xfr.specs.declared.fault.XfrFault.TheVariants.{Maddr, Rpc, Nodom, Nomap, Yperr, Xfrerr, Age, Skew, Dbm}
-use Rattle.yp_xfr.specs.declared.fault.XfrFault.TheVariants.{Badargs, File, Refused, NoMemory}
-use Rattle.yp_xfr.specs.declared.fault.XfrFault.{XfrFault}
-use Rattle.yp_xfr.specs.Fetching.{Wanted}
-use Rattle.yp_enum.specs.declared.walked.Walked.{Walked}
-use Rattle.yp_enum.specs.Schedules.{Walking, Delivery, is_awaited, next_xid, gone_on, heard, begun, awaited, came_of}
-use Rattle.yp_enum.specs.Schedules.{walk_by, Hears, AddsDelivery}
+use Rattle.yp_transfer.specs.declared.fault.XfrFault.TheVariants.{Maddr, Rpc, Nodom, Nomap, Yperr, Xfrerr, Age, Skew, Dbm}
+use Rattle.yp_transfer.specs.declared.fault.XfrFault.TheVariants.{Badargs, File, Refused, NoMemory}
+use Rattle.yp_transfer.specs.declared.fault.XfrFault.{XfrFault}
+use Rattle.yp_transfer.specs.Fetching.{Wanted}
+use Rattle.yp_transfer.specs.declared.walk.walked.Walked.{Walked}
+use Rattle.yp_transfer.specs.walk.Schedules.{Walking, Delivery, is_awaited, next_xid, gone_on, heard, begun, awaited, came_of}
+use Rattle.yp_transfer.specs.walk.Schedules.{walk_by, Hears, AddsDelivery}
 
 last_mail : (walking : Walking) (delivered : Delivery) (b : Bool)
     → came_of walking (cond b (delivered.1 ∷ []) []) ≡ cond b (gone_on walking delivered.1) walking

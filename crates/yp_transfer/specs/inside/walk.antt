@@ -1,5 +1,4 @@
 pub mod Standings
-pub mod Schedules
 pub mod Kept
 pub mod Walks
 pub mod Inside

@@ -6,21 +6,21 @@ use Rattle.std.specs.Prelude.{bytes_eq, if◌then◌else◌, IsTrue}
 use Rattle.yp_io.specs.declared.stream.Peer.{Peer}
 use Rattle.yp_xdr.specs.declared.fault.XdrFault.{XdrFault}
 use Rattle.yp_xdr.specs.Kind.{U32, Sequence}
-use Rattle.yp_xdr.specs.Reading.{Unread, reading}
-use Rattle.yp_xfr.specs.declared.fault.XfrFault.{XfrFault}
-use Rattle.yp_xfr.specs.declared.fault.XfrFault.TheVariants.{NoMemory}
-use Rattle.yp_xfr.specs.Fetching.{Wanted}
-use Rattle.yp_enum.specs.declared.walked.Walked.{Walked}
-use Rattle.yp_enum.specs.declared.walked.Walked.TheVariants.{Ignored, Onward, Done}
-use Rattle.yp_enum.specs.Standings.{Standing, AsksOrder, HasEnded}
-use Rattle.yp_enum.specs.Standings.{behind, asked_by, refusal}
+use Rattle.yp_xdr.specs.Reading.{Remaining, reading}
+use Rattle.yp_transfer.specs.declared.fault.XfrFault.{XfrFault}
+use Rattle.yp_transfer.specs.declared.fault.XfrFault.TheVariants.{NoMemory}
+use Rattle.yp_transfer.specs.Fetching.{Wanted}
+use Rattle.yp_transfer.specs.declared.walk.walked.Walked.{Walked}
+use Rattle.yp_transfer.specs.declared.walk.walked.Walked.TheVariants.{Ignored, Onward, Done}
+use Rattle.yp_transfer.specs.walk.Standings.{WalkState, AsksOrder, HasEnded}
+use Rattle.yp_transfer.specs.walk.Standings.{state_after, asked_by, refusal}
 
 -- a walk: its source, what is wanted of it, the number of the outstanding call, and what that asks
 pub record Walking : Type 0 where
   pub source : Peer
   pub wanted : Wanted
   pub xid : ℕ
-  pub standing : Standing
+  pub standing : WalkState
 
 -- the bytes of its outstanding call
 abbrev pub outstanding : Walking → List ℕ
@@ -29,7 +29,7 @@ outstanding walking = asked_by walking.wanted walking.xid walking.standing
 -- ---- the awaited mail
 
 -- two words: the number of the call, and 1, REPLY (RFC 5531 section 9)
-abbrev pub is_reply : ℕ → Result ((ℕ × ℕ) × Unread) XdrFault → Bool
+abbrev pub is_reply : ℕ → Result ((ℕ × ℕ) × Remaining) XdrFault → Bool
 is_reply xid (Ok read) = (read.0.0 == xid) && (read.0.1 == 1)
 is_reply xid (Err fault) = false
 
@@ -55,15 +55,15 @@ next_xid xid = (xid + 1) % 2 ^ 32
 abbrev pub gone_on : Walking → List ℕ → Walking
 gone_on walking reply = record walking {
   xid = next_xid walking.xid;
-  standing = behind walking.wanted walking.xid walking.standing reply;
+  standing = state_after walking.wanted walking.xid walking.standing reply;
 }
 
 abbrev pub heard : Walking → Delivery → Walking
 heard walking delivered =
     if is_awaited walking.source walking.xid delivered then gone_on walking delivered.1 else walking
 
--- what is answered to the awaited mail, by what is then asked
-abbrev pub told : Standing → Result Walked XfrFault
+-- what the code answers for an awaited mail, by what the walk asks next
+abbrev pub told : WalkState → Result Walked XfrFault
 told (HasEnded (Ok draft)) = Ok Done
 told (HasEnded (Err fault)) = Err fault
 told standing = Ok Onward

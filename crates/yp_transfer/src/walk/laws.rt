@@ -1,6 +1,6 @@
 //! What holds of walks. Each law is the contract of a function that does nothing.
 
-ghost use Rattle.yp_enum.specs.Told.{ToldIsWalked, ToldIsWhole};
+ghost use Rattle.yp_transfer.specs.inside.walk.Told.{ToldIsWalked, ToldIsWhole};
 
 use yp_version::laws::rising_is_distinct;
 

@@ -1,17 +1,17 @@
 //! What a walk asks next.
 
 ghost use Rattle.std.specs.Prelude.{◌≡◌};
-ghost use Rattle.yp_enum.specs.Kept.{standing_of};
-ghost use Rattle.yp_enum.specs.Schedules.{told};
+ghost use Rattle.yp_transfer.specs.inside.walk.Kept.{standing_of};
+ghost use Rattle.yp_transfer.specs.walk.Schedules.{told};
 
-use crate::walked::Walked;
+use crate::XfrFault;
+use crate::walk::walked::Walked;
 use std::alloc::Global;
 use yp_version::VersionBuilder;
-use yp_xfr::XfrFault;
 
 /// What is wanted of the source.
 #[derive(Drop)]
-pub(crate) struct Asked {
+pub(crate) struct WalkRequest {
     pub(crate) alloc: Global,
     pub(crate) domain: Vec<u8>,
     pub(crate) map: Vec<u8>,
@@ -22,7 +22,7 @@ pub(crate) struct Asked {
 
 /// What a walk asks next, or how it ended.
 #[derive(Drop)]
-pub(crate) enum Stage {
+pub(crate) enum WalkStage {
     /// The order.
     Order,
     /// The master of the version with this order.
@@ -40,19 +40,19 @@ pub(crate) enum Stage {
     Ended(Result<VersionBuilder, XfrFault>),
 }
 
-impl Stage {
+impl WalkStage {
     /// What is answered to the mail that led here.
     pub(crate) fn told(&self) -> Result<Walked, XfrFault>
         ensures { result ≡ told (standing_of self.now) }
     {
         match self {
-            Stage::Ended(Ok(_)) => Ok(Walked::Done),
-            Stage::Ended(Err(fault)) => Err(*fault),
-            Stage::Order
-            | Stage::Master(_)
-            | Stage::First(_)
-            | Stage::Next { .. }
-            | Stage::Again(_, _) => Ok(Walked::Onward),
+            WalkStage::Ended(Ok(_)) => Ok(Walked::Done),
+            WalkStage::Ended(Err(fault)) => Err(*fault),
+            WalkStage::Order
+            | WalkStage::Master(_)
+            | WalkStage::First(_)
+            | WalkStage::Next { .. }
+            | WalkStage::Again(_, _) => Ok(Walked::Onward),
         }
     }
 }

@@ -1,46 +1,46 @@
 //! A walk over the rows of a map.
 
 ghost use Rattle.std.specs.Prelude.{◌≡◌, ◌≤◌, length, take};
-ghost use Rattle.yp_msgs.specs.Numbers.{name_max};
-ghost use Rattle.yp_rpc.specs.Turns.{mail_max};
-ghost use Rattle.yp_xfr.specs.Fetching.{wanted_of};
-ghost use Rattle.yp_enum.specs.Standings.{IsAsking};
-ghost use Rattle.yp_enum.specs.Schedules.{outstanding, Hears, AddsDelivery, answers, is_awaited, told};
-ghost use Rattle.yp_enum.specs.Walks.{IsBegun, map_call, IsDone, GoesOn, GivesVersion};
+ghost use Rattle.yp_messages.specs.Numbers.{name_max};
+ghost use Rattle.yp_rpc.specs.Turns.{datagram_max};
+ghost use Rattle.yp_transfer.specs.Fetching.{wanted_of};
+ghost use Rattle.yp_transfer.specs.walk.Standings.{IsAsking};
+ghost use Rattle.yp_transfer.specs.walk.Schedules.{outstanding, Hears, AddsDelivery, answers, is_awaited, told};
+ghost use Rattle.yp_transfer.specs.inside.walk.Walks.{WalkIsBegun, map_call, WalkIsDone, WalkGoesOn, WalkGivesVersion};
 
-use crate::behind::behind;
-use crate::stage::{Asked, Stage};
-use crate::walked::Walked;
+use crate::XfrFault;
+use crate::walk::stage::{WalkRequest, WalkStage};
+use crate::walk::state_after::state_after;
+use crate::walk::walked::Walked;
 use std::alloc::Global;
 use std::marker::Model;
 use std::mem;
 use std::random::RandomSource;
-use yp_client::{Called, set_call};
+use yp_client::{RemoteProcedure, set_call};
 use yp_io::{NoMemory, Peer};
-use yp_msgs::protocol::{FIRST, MASTER, NEXT, ORDER, YPPROG, YPVERS};
-use yp_msgs::{ReqKey, ReqNokey};
+use yp_messages::protocol::{FIRST, MASTER, NEXT, ORDER, YPPROG, YPVERS};
+use yp_messages::{ReqKey, ReqNokey};
 use yp_rpc::protocol::REPLY;
 use yp_version::Version;
 use yp_xdr::Cursor;
-use yp_xfr::XfrFault;
 
 /// A map of a domain that is fetched row by row from a source that serves datagrams. It has one builder and one
 /// outstanding call, whose number begins with 1.
 #[derive(Drop)]
 pub struct Walk {
     source: Peer,
-    asked: Asked,
+    asked: WalkRequest,
     /// The number of the outstanding call.
     xid: u32,
-    stage: Stage,
+    stage: WalkStage,
 }
 
 impl Model for Walk {
-    ghost use Rattle.yp_enum.specs.Schedules.{Walking};
+    ghost use Rattle.yp_transfer.specs.walk.Schedules.{Walking};
 
     ghost Value = { Walking };
 
-    ghost use Rattle.yp_enum.specs.Inside.{walking_of, IsKept};
+    ghost use Rattle.yp_transfer.specs.inside.walk.Inside.{walking_of, IsKept};
 
     ghost view = { walking_of };
 
@@ -48,10 +48,10 @@ impl Model for Walk {
 }
 
 /// A procedure of YP.
-fn procedure(number: u32) -> Called
+fn procedure(number: u32) -> RemoteProcedure
     ensures { result ≡ record { prog = 100004; vers = 2; procedure = number } }
 {
-    Called {
+    RemoteProcedure {
         prog: YPPROG,
         vers: YPVERS,
         procedure: number,
@@ -84,7 +84,7 @@ impl Walk {
     ) -> Result<Walk, XfrFault>
         requires domain { length domain.now ≤ name_max }
         requires map { length map.now ≤ name_max }
-        ensures { IsBegun source (wanted_of domain.now map.now shown force) result }
+        ensures { WalkIsBegun source (wanted_of domain.now map.now shown force) result }
     {
         if domain.is_empty() || map.is_empty() {
             return Err(XfrFault::Badargs);
@@ -95,7 +95,7 @@ impl Walk {
         };
         Ok(Walk {
             source,
-            asked: Asked {
+            asked: WalkRequest {
                 alloc,
                 domain,
                 map,
@@ -103,7 +103,7 @@ impl Walk {
                 force,
             },
             xid: 1,
-            stage: Stage::Order,
+            stage: WalkStage::Order,
         })
     }
 
@@ -117,7 +117,7 @@ impl Walk {
     /// How it stands: `Onward` while a call is outstanding, `Done` once the version is whole, or the refusal.
     pub fn told(&self) -> Result<Walked, XfrFault>
         ensures told { result ≡ told self.now.standing }
-        ensures goes_on { GoesOn result self.now.standing }
+        ensures goes_on { WalkGoesOn result self.now.standing }
     {
         self.stage.told()
     }
@@ -125,15 +125,15 @@ impl Walk {
     /// Puts the outstanding call at the front of the buffer, and answers its length, which is 0 where the walk has
     /// ended.
     pub fn ask(&self, buf: &mut [u8]) -> usize
-        requires { mail_max ≤ length buf.old }
+        requires { datagram_max ≤ length buf.old }
         ensures call { take result buf.new ≡ outstanding self.now }
         ensures within { result ≤ length buf.new }
     {
         match &self.stage {
-            Stage::Order | Stage::Again(_, _) => self.ask_of_map(ORDER, buf),
-            Stage::Master(_) => self.ask_of_map(MASTER, buf),
-            Stage::First(_) => self.ask_of_map(FIRST, buf),
-            Stage::Next { key, .. } => {
+            WalkStage::Order | WalkStage::Again(_, _) => self.ask_of_map(ORDER, buf),
+            WalkStage::Master(_) => self.ask_of_map(MASTER, buf),
+            WalkStage::First(_) => self.ask_of_map(FIRST, buf),
+            WalkStage::Next { key, .. } => {
                 let arguments = ReqKey {
                     domain: &self.asked.domain,
                     map: &self.asked.map,
@@ -141,13 +141,13 @@ impl Walk {
                 };
                 set_call(buf, self.xid, procedure(NEXT), &arguments)
             }
-            Stage::Ended(_) => 0,
+            WalkStage::Ended(_) => 0,
         }
     }
 
     /// Puts a call about the map at the front of the buffer.
     fn ask_of_map(&self, number: u32, buf: &mut [u8]) -> usize
-        requires { mail_max ≤ length buf.old }
+        requires { datagram_max ≤ length buf.old }
         ensures call { take result buf.new ≡ map_call number self.now }
         ensures within { result ≤ length buf.new }
     {
@@ -170,22 +170,22 @@ impl Walk {
         requires { IsAsking self.old.standing }
         ensures hears { Hears (from, mail.now) result self.old self.new }
         ensures adds { AddsDelivery (from, mail.now) result self.old self.new }
-        ensures goes_on { GoesOn result self.new.standing }
+        ensures goes_on { WalkGoesOn result self.new.standing }
     {
         self.hear(rt, from, mail)
     }
 
-    /// The same, by one mail alone.
+    /// Hears one mail, as a statement about this mail alone.
     fn hear(&mut self, rt: &impl RandomSource, from: Peer, mail: &[u8]) -> Result<Walked, XfrFault>
         requires { IsAsking self.old.standing }
         ensures hears { Hears (from, mail.now) result self.old self.new }
-        ensures goes_on { GoesOn result self.new.standing }
+        ensures goes_on { WalkGoesOn result self.new.standing }
     {
         if !self.awaits(from, mail) {
             return Ok(Walked::Ignored);
         }
-        let stage = mem::replace(&mut self.stage, Stage::Order);
-        self.stage = behind(rt, &self.asked, self.xid, stage, mail);
+        let stage = mem::replace(&mut self.stage, WalkStage::Order);
+        self.stage = state_after(rt, &self.asked, self.xid, stage, mail);
         self.xid = self.xid.wrapping_add(1);
         self.stage.told()
     }
@@ -199,11 +199,11 @@ impl Walk {
 
     /// The version, with the rows in rising order of their keys, not secure.
     pub fn finish(self) -> Result<Version, XfrFault>
-        requires { IsDone self.standing }
-        ensures { GivesVersion self.standing result }
+        requires { WalkIsDone self.standing }
+        ensures { WalkGivesVersion self.standing result }
     {
         let Walk { stage, .. } = self;
-        let Stage::Ended(Ok(builder)) = stage else {
+        let WalkStage::Ended(Ok(builder)) = stage else {
             unreachable!()
         };
         match builder.finish() {

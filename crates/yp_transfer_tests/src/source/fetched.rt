@@ -9,7 +9,7 @@ use std::process::Abort;
 use std::random::RandomSource;
 use yp_client::Client;
 use yp_io::{MemSink, MemSource, Pair};
-use yp_xfr::XfrFault;
+use yp_transfer::XfrFault;
 
 // What a server replies to ORDER, MASTER, ALL and ORDER, where it shows order 100 of the master `m1` and the row
 // `alpha`.

@@ -2,25 +2,26 @@
 
 ghost use Rattle.std.specs.Prelude.{◌≡◌, ◌≢◌, ◌⊎◌, ◌≤◌, ◌<◌, ℕ, List, [], length, false, Some, None, Ok, IfOk};
 ghost use Rattle.yp_io.specs.declared.stream.Peer.{Peer as Caller};
-ghost use Rattle.yp_rpc.specs.Laws.{IsWord};
-ghost use Rattle.yp_msgs.specs.Numbers.{name_max};
+ghost use Rattle.yp_rpc.specs.inside.Laws.{IsWord};
+ghost use Rattle.yp_messages.specs.Numbers.{name_max};
 ghost use Rattle.yp_version.specs.Versions.{MapVersion};
 ghost use Rattle.yp_board.specs.Catalogues.{Catalogue};
 ghost use Rattle.yp_answer.specs.Served.{AreServed, maps_on};
-ghost use Rattle.yp_client.specs.States.{state_of};
-ghost use Rattle.yp_xfr.specs.Fetching.{wanted_of, against_order};
-ghost use Rattle.yp_xfr.specs.Fetched.{FailsByWire};
-ghost use Rattle.yp_source.specs.Replies.{Moments, AtEach, GivesFetch, IsShown, unsecured};
-ghost use Rattle.yp_source.specs.Laws.{Fronts, moments_on};
+ghost use Rattle.yp_client.specs.inside.States.{state_of};
+ghost use Rattle.yp_transfer.specs.Fetching.{wanted_of, against_order};
+ghost use Rattle.yp_transfer.specs.Fetched.{FailsByWire};
+ghost use Rattle.yp_end_to_end.specs.transfer.Replies.{IsShown, unsecured};
+ghost use Rattle.yp_end_to_end.specs.inside.transfer.Replies.{Moments, AtEach, GivesFetch};
+ghost use Rattle.yp_end_to_end.specs.inside.transfer.Laws.{Fronts, moments_on};
 ghost use Rattle.yp_transfer_tests.specs.Outcomes.{IsUnlessFailed};
 
 use std::alloc::Global;
 use std::random::RandomSource;
 use yp_client::Client;
+use yp_end_to_end::transfer::laws;
 use yp_io::{Sink, Source};
-use yp_source::laws;
+use yp_transfer::{XfrFault, fetch};
 use yp_version::Version;
-use yp_xfr::{XfrFault, fetch};
 
 /// Fetches a map over a wire that gives the replies of a server.
 pub fn fetch_from_server<S: Source, K: Sink>(

@@ -1,6 +1,7 @@
 -- What `listed` does to rows.
 use Rattle.std.specs.Prelude.{◌≡◌, ℕ, List, IsPermutation}
-use Rattle.yp_version.specs.Rows.{Row, IsRising, HasDistinctKeys, value_of, listed}
+use Rattle.yp_version.specs.Rows.{Row, IsRising, value_of, listed}
+use Rattle.yp_version.specs.inside.Rows.{HasDistinctKeys}
 
 -- listed rows rise
 abbrev pub ListedIsRising : Type 0

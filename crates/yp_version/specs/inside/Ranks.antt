@@ -4,7 +4,7 @@ use Rattle.std.specs.Int.{w64, from_be_bytes}
 use Rattle.std.specs.Ordering.{nat_cmp, ordering_then}
 use Rattle.std.specs.declared.cmp.Ordering.{Ordering}
 use Rattle.yp_version.specs.Rows.{key_cmp}
-use Rattle.yp_version.specs.Slabs.{key_from}
+use Rattle.yp_version.specs.inside.Slabs.{key_from}
 use Rattle.yp_version.specs.declared.ranks.Ranked.{Ranked}
 
 -- the first eight bytes of a key as a number, with zeros behind a shorter one

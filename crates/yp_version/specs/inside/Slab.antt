@@ -1,6 +1,6 @@
 -- What the code keeps of a slab.
 use Rattle.std.specs.Prelude.{◌≡◌, length, take, map}
-use Rattle.yp_version.specs.Slabs.{Packed, Lies, row_from}
+use Rattle.yp_version.specs.inside.Slabs.{Packed, Lies, row_from}
 use Rattle.yp_version.specs.declared.slab.Slab.TheInside.{Inside}
 
 -- the bytes before the rows, and the rows at their places

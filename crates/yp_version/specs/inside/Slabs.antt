@@ -4,7 +4,7 @@ use Rattle.std.specs.List.{flat_map}
 use Rattle.std.specs.Int.{w32, from_be_bytes}
 use Rattle.yp_version.specs.Limits.{key_max, value_max, body_max}
 use Rattle.yp_version.specs.Rows.{Row, padded, row_len}
-use Rattle.yp_version.specs.Bodies.{row_bytes}
+use Rattle.yp_version.specs.inside.Bodies.{row_bytes}
 
 -- what a slab holds
 pub record Packed : Type 0 where

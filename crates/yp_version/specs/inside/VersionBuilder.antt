@@ -1,6 +1,7 @@
 -- What the code keeps of a draft.
 use Rattle.std.specs.Prelude.{◌≡◌, ◌+◌, true, length, IfSome}
-use Rattle.yp_version.specs.Drafts.{Draft, IsDraft}
+use Rattle.yp_version.specs.Drafts.{Draft}
+use Rattle.yp_version.specs.inside.Drafts.{IsDraft}
 use Rattle.yp_version.specs.Rows.{IsRising, padded}
 use Rattle.yp_version.specs.Table.{IsTable}
 use Rattle.yp_version.specs.declared.builder.VersionBuilder.TheInside.{Inside}

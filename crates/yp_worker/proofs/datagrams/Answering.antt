@@ -3,19 +3,19 @@ use Rattle.std.proofs.Common.{◌≡◌, ◌<◌, zero, suc, take, Bool, true, f
 use Rattle.std.specs.Prelude.{option_map}
 use Rattle.std.proofs.lemmas.List.{append-nil}
 use Rattle.yp_io.specs.declared.stream.Peer.{Peer}
-use Rattle.yp_msgs.specs.declared.transfer.XfrStat.{XfrStat}
+use Rattle.yp_messages.specs.declared.transfer.XfrStat.{XfrStat}
 use Rattle.yp_board.specs.Logs.{Log}
 use Rattle.yp_board.specs.Views.{Seen, IsFront}
-use Rattle.yp_shared.specs.Shares.{Learns}
-use Rattle.yp_answer.specs.declared.make.Job.{Job}
+use Rattle.yp_publisher.specs.sharing.Shares.{Learns}
+use Rattle.yp_answer.specs.declared.make.MakeJob.{MakeJob}
 use Rattle.yp_answer.specs.declared.procedure.Path.TheVariants.{Datagram}
 use Rattle.yp_answer.specs.Maps.{maps_of}
 use Rattle.yp_answer.specs.Transfer.{Taken}
 use Rattle.yp_answer.specs.Reply.{Response, Silence, Bytes, Takes, Open, reply, asks, make_reply}
 use Rattle.yp_answer.specs.Answers.{StepsWhere}
-use Rattle.yp_session.specs.Hosts.{Counts, Conduct, Fulfils, CarriesOut, Turn, CarriesWhere, Carries, Link, counts_where, counts_behind}
-use Rattle.yp_rpc.specs.Turns.{reply_of}
-use Rattle.yp_mailserve.specs.Mailing.{CarriesAwaited, AnswersMail}
+use Rattle.yp_answer.specs.session.Hosts.{Counts, Conduct, Fulfils, CarriesOut, Turn, CarriesWhere, Carries, Link, counts_where, counts_behind}
+use Rattle.yp_rpc.specs.inside.Turns.{reply_of}
+use Rattle.yp_worker.specs.datagrams.Mailing.{CarriesAwaited, AnswersMail}
 
 -- a reply of some bytes at the front of a buffer
 pub reply_is : (len : ℕ) (buf : List ℕ) → 0 < len → reply_of len buf ≡ Some (take len buf)
@@ -201,7 +201,7 @@ module _ {H : Type 0} (conduct : Conduct H) (peer : Peer) where
     link_takes bytes taken old mid step is =
         linked (Some bytes) None (Some taken) (Takes bytes taken) old mid mid step is (refl, refl, refl, refl)
 
-    pub link_open : (xid : ℕ) (job : Job) (stat : XfrStat) (old mid new : H) → StepsWhere (asks Datagram message) conduct.stepped conduct.seen old mid
+    pub link_open : (xid : ℕ) (job : MakeJob) (stat : XfrStat) (old mid new : H) → StepsWhere (asks Datagram message) conduct.stepped conduct.seen old mid
         → reply Datagram (maps_of (conduct.seen mid)) peer message ≡ Open xid job → Fulfils conduct job stat mid new
         → Link conduct Datagram peer (turn_of message (Some (make_reply xid stat)) (Some stat) None) old new
     link_open xid job stat old mid new step is made =

@@ -1,23 +1,23 @@
--- A run of an errand, as turns that a server made.
+-- A run of a handler, as turns that a server made.
 use Rattle.std.proofs.Common.{◌⊎◌, ◌≡◌, ◌≤◌, ℕ, suc, List, [], ◌∷◌, ◌++◌, length, Option, Some, None, Result, Ok, Err, inl, inr, refl, sym, ap, subst, ◌∙◌, arith}
 use Rattle.std.specs.Prelude.{IsSome}
 use Rattle.yp_io.specs.declared.stream.Peer.{Peer}
 use Rattle.yp_io.specs.declared.stream.Failed.{Failed}
-use Rattle.yp_io.specs.Inboxes.{Post, Arrived, Silent, Sent}
-use Rattle.yp_session.specs.Hosts.{Counts, Conduct, counts_over}
-use Rattle.yp_rpc.specs.Turns.{Meets, drops, listens, replies, is_quiet, Runs, is_spent, is_done, sends, loses_letter, takes, loses_turn, loses_reply, Box, mail_max, TakesTurns}
+use Rattle.yp_io.specs.Inboxes.{InboxEvent, Arrived, Silent, Sent}
+use Rattle.yp_answer.specs.session.Hosts.{Counts, Conduct, counts_over}
+use Rattle.yp_rpc.specs.Turns.{Meets, drops, listens, replies, is_quiet, Runs, is_spent, is_done, sends, loses_letter, takes, loses_turn, loses_reply, InboxTells, datagram_max, TakesTurns}
 use Rattle.yp_rpc.specs.declared.turns.Ended.{Ended}
 use Rattle.yp_rpc.specs.declared.turns.Ended.TheVariants.{Done, Spent}
-use Rattle.yp_mailserve.specs.Mailing.{Awaited, Mailing, AnswersMail, CarriesAwaited, Clears, Hears, Closes, mail_ways}
-use Rattle.yp_mailserve.specs.Serving.{MailTurn, Dropped, Rested, Answered, reply_posts, posts_in, posts_over, answered_turns, DoesTurn, DoesTurns, LosesAnswer, EndsTurns, ServesPosts, ServesMail}
-use Rattle.yp_mailserve.proofs.Answering.{Later, later_then, same, sent, answers_sent}
+use Rattle.yp_worker.specs.datagrams.Mailing.{Awaited, Mailing, AnswersMail, CarriesAwaited, Clears, Hears, Closes, mail_ways}
+use Rattle.yp_worker.specs.datagrams.Serving.{MailTurn, Dropped, Rested, Answered, reply_posts, posts_in, posts_over, answered_turns, DoesTurn, DoesTurns, LosesAnswer, EndsTurns, ServesPosts, ServesMail}
+use Rattle.yp_worker.proofs.datagrams.Answering.{Later, later_then, same, sent, answers_sent}
 
 module _ {H T : Type 0} (conduct : Conduct H) (counted : H → T) where
-  ends_later : (most count : ℕ) (end : Result Ended Failed) (posts : List Post) (old new : H)
-      → EndsTurns conduct counted most count end posts old new → EndsTurns conduct counted (suc most) (suc count) end posts old new
-  ends_later most count (Ok Spent) posts old new ends = (ap suc ends.0, ends.1, ends.2)
-  ends_later most count (Ok Done) posts old new ends = absurd ends
-  ends_later most count (Err why) posts old new ends = let less = ends.0 in (omega (arith, less), ends.1)
+  ends_later : (most count : ℕ) (end : Result Ended Failed) (events : List InboxEvent) (old new : H)
+      → EndsTurns conduct counted most count end events old new → EndsTurns conduct counted (suc most) (suc count) end events old new
+  ends_later most count (Ok Spent) events old new ends = (ap suc ends.0, ends.1, ends.2)
+  ends_later most count (Ok Done) events old new ends = absurd ends
+  ends_later most count (Err why) events old new ends = let less = ends.0 in (omega (arith, less), ends.1)
 
   -- where none waits the host is ready as it is
   ready_is : (waiting : Option _) (old ready : H) → waiting ≡ None → CarriesAwaited conduct waiting old ready → ready ≡ old
@@ -25,11 +25,11 @@ module _ {H T : Type 0} (conduct : Conduct H) (counted : H → T) where
   ready_is (Some awaited) old ready is carried = absurd cc
 
   -- one turn before others
-  before : (most : ℕ) (posts : List Post) (end : Result Ended Failed) (waiting old : Mailing H) (next : Mailing H) (new : H) (one : MailTurn)
-      → Clears conduct old waiting → (later : ServesPosts conduct counted most end posts next new) → DoesTurn conduct counted one waiting.host later.ready
+  before : (most : ℕ) (events : List InboxEvent) (end : Result Ended Failed) (waiting old : Mailing H) (next : Mailing H) (new : H) (one : MailTurn)
+      → Clears conduct old waiting → (later : ServesPosts conduct counted most end events next new) → DoesTurn conduct counted one waiting.host later.ready
       → conduct.counts later.ready ≡ counts_over (conduct.counts waiting.host) (answered_turns (one ∷ []))
-      → ServesPosts conduct counted (suc most) end (posts_in one ++ posts) old new
-  before most posts end waiting old next new (Dropped from bytes) clears later does counts = record {
+      → ServesPosts conduct counted (suc most) end (posts_in one ++ events) old new
+  before most events end waiting old next new (Dropped from bytes) clears later does counts = record {
     ready = waiting.host;
     carried = clears.carried;
     served = Dropped from bytes ∷ later.served;
@@ -38,9 +38,9 @@ module _ {H T : Type 0} (conduct : Conduct H) (counted : H → T) where
     counts = later.counts ∙ ap (λ (c : Counts). counts_over c (answered_turns later.served)) counts;
     rest = later.rest;
     ends = ends_later most (length later.served) end later.rest later.last new later.ends;
-    all = ap (λ (l : List Post). Arrived from bytes ∷ l) later.all;
+    all = ap (λ (l : List InboxEvent). Arrived from bytes ∷ l) later.all;
   }
-  before most posts end waiting old next new Rested clears later does counts = record {
+  before most events end waiting old next new Rested clears later does counts = record {
     ready = waiting.host;
     carried = clears.carried;
     served = Rested ∷ later.served;
@@ -49,9 +49,9 @@ module _ {H T : Type 0} (conduct : Conduct H) (counted : H → T) where
     counts = later.counts ∙ ap (λ (c : Counts). counts_over c (answered_turns later.served)) counts;
     rest = later.rest;
     ends = ends_later most (length later.served) end later.rest later.last new later.ends;
-    all = ap (λ (l : List Post). Silent ∷ l) later.all;
+    all = ap (λ (l : List InboxEvent). Silent ∷ l) later.all;
   }
-  before most posts end waiting old next new (Answered from turn) clears later does counts = record {
+  before most events end waiting old next new (Answered from turn) clears later does counts = record {
     ready = waiting.host;
     carried = clears.carried;
     served = Answered from turn ∷ later.served;
@@ -63,41 +63,41 @@ module _ {H T : Type 0} (conduct : Conduct H) (counted : H → T) where
     all = joined turn.answer;
   }
     where
-      joined : (answer : Option (List ℕ)) → (Arrived from turn.message ∷ reply_posts from answer) ++ posts
+      joined : (answer : Option (List ℕ)) → (Arrived from turn.message ∷ reply_posts from answer) ++ events
           ≡ (Arrived from turn.message ∷ reply_posts from answer ++ posts_over later.served) ++ later.rest
-      joined None = ap (λ (l : List Post). Arrived from turn.message ∷ l) later.all
-      joined (Some reply) = ap (λ (l : List Post). Arrived from turn.message ∷ Sent from reply ∷ l) later.all
+      joined None = ap (λ (l : List InboxEvent). Arrived from turn.message ∷ l) later.all
+      joined (Some reply) = ap (λ (l : List InboxEvent). Arrived from turn.message ∷ Sent from reply ∷ l) later.all
 
   -- a datagram that was heard, before others
-  heard_before : (most : ℕ) (posts : List Post) (end : Result Ended Failed) (old waiting next : Mailing H) (new : H)
+  heard_before : (most : ℕ) (events : List InboxEvent) (end : Result Ended Failed) (old waiting next : Mailing H) (new : H)
       (from : Peer) (bytes : List ℕ) (answer : Option (List ℕ))
-      → Clears conduct old waiting → length bytes ≤ mail_max → Hears conduct counted from bytes answer waiting next
-      → ServesPosts conduct counted most end posts next new
-      → ServesPosts conduct counted (suc most) end (Arrived from bytes ∷ reply_posts from answer ++ posts) old new
-  heard_before most posts end old waiting next new from bytes answer clears short heard later =
+      → Clears conduct old waiting → length bytes ≤ datagram_max → Hears conduct counted from bytes answer waiting next
+      → ServesPosts conduct counted most end events next new
+      → ServesPosts conduct counted (suc most) end (Arrived from bytes ∷ reply_posts from answer ++ events) old new
+  heard_before most events end old waiting next new from bytes answer clears short heard later =
       let turn = heard.turn in
       let answers = answers_sent conduct from counted turn waiting.host next.host later.ready heard.unsent heard.answers
       (subst (λ w. CarriesAwaited conduct w next.host later.ready) heard.waits later.carried) in
-      let whole = before most posts end waiting old next new (Answered from (sent conduct from turn)) clears later
-      (subst (λ (l : List ℕ). length l ≤ mail_max) (sym heard.message_is) short, refl, answers) answers.counts in
-      subst (λ (l : List ℕ). ServesPosts conduct counted (suc most) end (Arrived from l ∷ reply_posts from answer ++ posts) old new) heard.message_is
-      (subst (λ (a : Option (List ℕ)). ServesPosts conduct counted (suc most) end (Arrived from turn.message ∷ reply_posts from a ++ posts) old new)
+      let whole = before most events end waiting old next new (Answered from (sent conduct from turn)) clears later
+      (subst (λ (l : List ℕ). length l ≤ datagram_max) (sym heard.message_is) short, refl, answers) answers.counts in
+      subst (λ (l : List ℕ). ServesPosts conduct counted (suc most) end (Arrived from l ∷ reply_posts from answer ++ events) old new) heard.message_is
+      (subst (λ (a : Option (List ℕ)). ServesPosts conduct counted (suc most) end (Arrived from turn.message ∷ reply_posts from a ++ events) old new)
       heard.answer_is whole)
 
-  met_before : (most : ℕ) (turn : Post) (answers posts : List Post) (end : Result Ended Failed) (old waiting next : Mailing H) (new : H)
+  met_before : (most : ℕ) (turn : InboxEvent) (answers events : List InboxEvent) (end : Result Ended Failed) (old waiting next : Mailing H) (new : H)
       → Clears conduct old waiting → Meets (mail_ways conduct counted) turn answers waiting next
-      → ServesPosts conduct counted most end posts next new → ServesPosts conduct counted (suc most) end (turn ∷ answers ++ posts) old new
-  met_before most turn answers posts end old waiting next new clears (drops from bytes errand long) later =
+      → ServesPosts conduct counted most end events next new → ServesPosts conduct counted (suc most) end (turn ∷ answers ++ events) old new
+  met_before most turn answers events end old waiting next new clears (drops from bytes handler long) later =
       let ready = ready_is waiting.waiting waiting.host later.ready clears.cleared later.carried in
-      before most posts end waiting old waiting new (Dropped from bytes) clears later (long, ready) (ap conduct.counts ready)
-  met_before most turn answers posts end old waiting next new clears (listens from bytes a b short heard) later =
-      heard_before most posts end old waiting next new from bytes None clears short heard later
-  met_before most turn answers posts end old waiting next new clears (replies from bytes reply a b short heard) later =
-      heard_before most posts end old waiting next new from bytes (Some reply) clears short heard later
-  met_before most turn answers posts end old waiting next new clears (is_quiet a b rests) later =
+      before most events end waiting old waiting new (Dropped from bytes) clears later (long, ready) (ap conduct.counts ready)
+  met_before most turn answers events end old waiting next new clears (listens from bytes a b short heard) later =
+      heard_before most events end old waiting next new from bytes None clears short heard later
+  met_before most turn answers events end old waiting next new clears (replies from bytes reply a b short heard) later =
+      heard_before most events end old waiting next new from bytes (Some reply) clears short heard later
+  met_before most turn answers events end old waiting next new clears (is_quiet a b rests) later =
       let carried = subst (λ (m : Mailing H). CarriesAwaited conduct m.waiting m.host later.ready) rests later.carried in
       let ready = ready_is waiting.waiting waiting.host later.ready clears.cleared carried in
-      before most posts end waiting old next new Rested clears later ready (ap conduct.counts ready)
+      before most events end waiting old next new Rested clears later ready (ap conduct.counts ready)
 
   -- ---- the ends
 
@@ -115,7 +115,7 @@ module _ {H T : Type 0} (conduct : Conduct H) (counted : H → T) where
     all = refl;
   }
 
-  reply_lost : (left : ℕ) (turn reply : Post) (why : Failed) (old waiting last new : Mailing H) → Clears conduct old waiting
+  reply_lost : (left : ℕ) (turn reply : InboxEvent) (why : Failed) (old waiting last new : Mailing H) → Clears conduct old waiting
       → Meets (mail_ways conduct counted) turn (reply ∷ []) waiting last → Closes conduct (Err why) last new
       → ServesPosts conduct counted (suc left) (Err why) (turn ∷ []) old new.host
   reply_lost left turn reply why old waiting last new clears (replies from bytes answer a b short heard) closes = record {
@@ -132,7 +132,7 @@ module _ {H T : Type 0} (conduct : Conduct H) (counted : H → T) where
         from = from;
         turn = heard.turn;
         came = ap (λ (l : List ℕ). Arrived from l ∷ []) (sym heard.message_is);
-        short = subst (λ (l : List ℕ). length l ≤ mail_max) (sym heard.message_is) short;
+        short = subst (λ (l : List ℕ). length l ≤ datagram_max) (sym heard.message_is) short;
         reply = subst IsSome (sym heard.answer_is) refl;
         unsent = heard.unsent;
         answers = subst (λ (h : H). AnswersMail conduct counted from heard.turn waiting.host h) (sym (ap (λ (m : Mailing H). m.host) closes)) heard.answers;
@@ -141,9 +141,9 @@ module _ {H T : Type 0} (conduct : Conduct H) (counted : H → T) where
     all = refl;
   }
 
-  pub served_in : (most : ℕ) (posts : List Post) (end : Result Ended Failed) (old last new : Mailing H)
-      → Runs (mail_ways conduct counted) most posts end old last → Closes conduct end last new → ServesPosts conduct counted most end posts old new.host
-  served_in most posts end old last new (is_spent errand) closes = record {
+  pub served_in : (most : ℕ) (events : List InboxEvent) (end : Result Ended Failed) (old last new : Mailing H)
+      → Runs (mail_ways conduct counted) most events end old last → Closes conduct end last new → ServesPosts conduct counted most end events old new.host
+  served_in most events end old last new (is_spent handler) closes = record {
     ready = new.host;
     carried = closes.carried;
     served = [];
@@ -154,13 +154,13 @@ module _ {H T : Type 0} (conduct : Conduct H) (counted : H → T) where
     ends = (refl, refl, refl);
     all = refl;
   }
-  served_in most posts end old last new (is_done left a b goes) closes = absurd goes
-  served_in most posts end old last new (sends left to bytes more w a b c goes runs) closes = absurd goes
-  served_in most posts end old last new (loses_letter left to bytes why a b goes) closes = absurd goes
-  served_in most posts end old last new (takes left turn answers more w a waiting b c goes meets runs) closes =
+  served_in most events end old last new (is_done left a b goes) closes = absurd goes
+  served_in most events end old last new (sends left to bytes more w a b c goes runs) closes = absurd goes
+  served_in most events end old last new (loses_letter left to bytes why a b goes) closes = absurd goes
+  served_in most events end old last new (takes left turn answers more w a waiting b c goes meets runs) closes =
       met_before left turn answers more end old waiting b new.host goes meets (served_in left more end b last new runs closes)
-  served_in most posts end old last new (loses_turn left why a b goes) closes = none_lost left why old last new goes closes
-  served_in most posts end old last new (loses_reply left turn reply why a waiting c goes meets) closes =
+  served_in most events end old last new (loses_turn left why a b goes) closes = none_lost left why old last new goes closes
+  served_in most events end old last new (loses_reply left turn reply why a waiting c goes meets) closes =
       reply_lost left turn reply why old waiting last new goes meets closes
 
   none_waits : (end : Result Ended Failed) (last new : Mailing H) → Closes conduct end last new → new.waiting ≡ None
@@ -186,33 +186,33 @@ module _ {H T : Type 0} (conduct : Conduct H) (counted : H → T) where
       later_then (conduct.seen old) (conduct.seen does.0) (conduct.seen new) (turn_later one old does.0 does.1)
       (turns_later more does.0 new does.2)
 
-  lost_later : (posts : List Post) (old new : H) → ((posts ≡ []) × (new ≡ old)) ⊎ LosesAnswer conduct counted posts old new
+  lost_later : (events : List InboxEvent) (old new : H) → ((events ≡ []) × (new ≡ old)) ⊎ LosesAnswer conduct counted events old new
       → Later (conduct.seen old) (conduct.seen new)
-  lost_later posts old new (inl none) = same conduct old new none.1
-  lost_later posts old new (inr lost) = record { grown = lost.answers.grown; catalogue = lost.answers.catalogue }
+  lost_later events old new (inl none) = same conduct old new none.1
+  lost_later events old new (inr lost) = record { grown = lost.answers.grown; catalogue = lost.answers.catalogue }
 
-  end_later : (most count : ℕ) (end : Result Ended Failed) (posts : List Post) (old new : H)
-      → EndsTurns conduct counted most count end posts old new → Later (conduct.seen old) (conduct.seen new)
-  end_later most count (Ok Spent) posts old new ends = same conduct old new ends.2
-  end_later most count (Ok Done) posts old new ends = absurd ends
-  end_later most count (Err why) posts old new ends = lost_later posts old new ends.1
+  end_later : (most count : ℕ) (end : Result Ended Failed) (events : List InboxEvent) (old new : H)
+      → EndsTurns conduct counted most count end events old new → Later (conduct.seen old) (conduct.seen new)
+  end_later most count (Ok Spent) events old new ends = same conduct old new ends.2
+  end_later most count (Ok Done) events old new ends = absurd ends
+  end_later most count (Err why) events old new ends = lost_later events old new ends.1
 
-  whole_later : (most : ℕ) (end : Result Ended Failed) (posts : List Post) (old : Mailing H) (new : H)
-      → ServesPosts conduct counted most end posts old new → Later (conduct.seen old.host) (conduct.seen new)
-  whole_later most end posts old new serves =
+  whole_later : (most : ℕ) (end : Result Ended Failed) (events : List InboxEvent) (old : Mailing H) (new : H)
+      → ServesPosts conduct counted most end events old new → Later (conduct.seen old.host) (conduct.seen new)
+  whole_later most end events old new serves =
       later_then (conduct.seen old.host) (conduct.seen serves.ready) (conduct.seen new)
       (awaited_later old.waiting old.host serves.ready serves.carried)
       (later_then (conduct.seen serves.ready) (conduct.seen serves.last) (conduct.seen new)
       (turns_later serves.served serves.ready serves.last serves.does)
       (end_later most (length serves.served) end serves.rest serves.last new serves.ends))
 
-  pub serves_mail : (most : ℕ) (end : Result Ended Failed) (old last new : Mailing H) (a b : Box)
+  pub serves_mail : (most : ℕ) (end : Result Ended Failed) (old last new : Mailing H) (a b : InboxTells)
       → TakesTurns (mail_ways conduct counted) most end old last a b → Closes conduct end last new → ServesMail conduct counted most end old new a b
   serves_mail most end old last new a b took closes =
-      let serves = served_in most took.posts end old last new took.runs closes in
-      let went = whole_later most end took.posts old new.host serves in
+      let serves = served_in most took.events end old last new took.runs closes in
+      let went = whole_later most end took.events old new.host serves in
       record {
-        posts = took.posts;
+        events = took.events;
         last = last;
         runs = took.runs;
         closes = closes;

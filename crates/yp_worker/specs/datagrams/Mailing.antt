@@ -1,43 +1,23 @@
 -- A server of datagrams: what it does at each moment of its turns.
-use Rattle.std.specs.Prelude.{◌≡◌, ◌≤◌, ◌<◌, ℕ, false, List, length, Option, None, Some, Result, Ok, Err, option_map}
+use Rattle.std.specs.Prelude.{◌≡◌, ℕ, false, List, Option, None, Some, Result, Ok, Err, option_map}
 use Rattle.yp_io.specs.declared.stream.Peer.{Peer}
 use Rattle.yp_io.specs.declared.stream.Failed.{Failed}
-use Rattle.yp_msgs.specs.Numbers.{name_max}
 use Rattle.yp_board.specs.Views.{IsFront}
 use Rattle.yp_answer.specs.declared.procedure.Path.TheVariants.{Datagram}
 use Rattle.yp_answer.specs.Transfer.{Taken}
-use Rattle.yp_shared.specs.Shares.{Learns}
-use Rattle.yp_session.specs.Hosts.{Conduct, Turn, Link, CarriesOut, counts_behind}
+use Rattle.yp_publisher.specs.sharing.Shares.{Learns}
+use Rattle.yp_answer.specs.session.Hosts.{Conduct, Turn, Link, CarriesOut, counts_behind}
 use Rattle.yp_rpc.specs.Turns.{Want, Turn as Taking, Ways, ways_of}
 use Rattle.yp_rpc.specs.declared.turns.Ended.{Ended}
-use Rattle.yp_mailserve.specs.declared.server.Waiting.{Waiting}
 
 -- a transfer that was taken and isn't yet carried out, and its caller
 abbrev pub Awaited : Type 0
 Awaited = Taken × Peer
 
-abbrev pub awaited_of : Waiting → Awaited
-awaited_of waiting = (
-  record {
-    map = waiting.map;
-    source = waiting.source.items;
-    transid = waiting.transid;
-    prog = waiting.prog;
-    port = waiting.port;
-  },
-  waiting.peer,
-)
-
 -- a server: its host, and the transfer that waits until its reply is out
 pub record Mailing (H : Type 0) : Type 0 where
   pub host : H
   pub waiting : Option Awaited
-
--- A transfer that waits is of one of so many maps, and its source has a name that can be asked.
-pub record IsDue (maps : ℕ) (awaited : Awaited) : Type 0 where
-  pub inside : awaited.0.map < maps
-  pub named : 0 < length awaited.0.source
-  pub source_len : length awaited.0.source ≤ name_max
 
 module _ {H : Type 0} (conduct : Conduct H) where
   -- The transfer that waits is carried out for its caller, where there is one.
@@ -45,7 +25,7 @@ module _ {H : Type 0} (conduct : Conduct H) where
   CarriesAwaited None old new = new ≡ old
   CarriesAwaited (Some awaited) old new = CarriesOut conduct awaited.0 awaited.1 old new
 
-  -- It is, and none waits any more.
+  -- The transfer that waited, if one did, was carried out, and none waits any more.
   pub record Clears (old new : Mailing H) : Type 0 where
     pub carried : CarriesAwaited old.waiting old.host new.host
     pub cleared : new.waiting ≡ None

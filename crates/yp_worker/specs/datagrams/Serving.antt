@@ -3,13 +3,13 @@ use Rattle.std.specs.Prelude.{◌≡◌, ◌⊎◌, ◌<◌, ◌≤◌, ℕ, tru
 use Rattle.std.specs.Prelude.{IsSome, Result, Ok, Err}
 use Rattle.yp_io.specs.declared.stream.Peer.{Peer}
 use Rattle.yp_io.specs.declared.stream.Failed.{Failed}
-use Rattle.yp_io.specs.Inboxes.{Post, Arrived, Silent, Sent}
+use Rattle.yp_io.specs.Inboxes.{InboxEvent, Arrived, Silent, Sent}
 use Rattle.yp_board.specs.Views.{IsFront}
-use Rattle.yp_session.specs.Hosts.{Conduct, Turn, counts_over}
-use Rattle.yp_rpc.specs.Turns.{Box, Runs, Sees, mail_max}
+use Rattle.yp_answer.specs.session.Hosts.{Conduct, Turn, counts_over}
+use Rattle.yp_rpc.specs.Turns.{InboxTells, Runs, Sees, datagram_max}
 use Rattle.yp_rpc.specs.declared.turns.Ended.{Ended}
 use Rattle.yp_rpc.specs.declared.turns.Ended.TheVariants.{Done, Spent}
-use Rattle.yp_mailserve.specs.Mailing.{Mailing, AnswersMail, CarriesAwaited, Closes, mail_ways}
+use Rattle.yp_worker.specs.datagrams.Mailing.{Mailing, AnswersMail, CarriesAwaited, Closes, mail_ways}
 
 -- what a server makes of a turn: a datagram that is too long is dropped, any other is answered, and a quiet turn is
 -- nothing
@@ -19,18 +19,18 @@ pub data MailTurn : Type 0 where
   Answered : Peer → Turn → MailTurn
 
 -- a reply that goes out to a peer, and nothing for silence
-abbrev pub reply_posts : Peer → Option (List ℕ) → List Post
+abbrev pub reply_posts : Peer → Option (List ℕ) → List InboxEvent
 reply_posts peer None = []
 reply_posts peer (Some reply) = Sent peer reply ∷ []
 
 -- what happens at the inbox in a turn: what comes, and behind it the reply to its sender
-abbrev pub posts_in : MailTurn → List Post
+abbrev pub posts_in : MailTurn → List InboxEvent
 posts_in (Dropped from bytes) = Arrived from bytes ∷ []
 posts_in Rested = Silent ∷ []
 posts_in (Answered from turn) = Arrived from turn.message ∷ reply_posts from turn.answer
 
--- the same in turns, one after the other
-abbrev pub posts_over : List MailTurn → List Post
+-- what happens at an inbox in some turns, one after the other
+abbrev pub posts_over : List MailTurn → List InboxEvent
 posts_over [] = []
 posts_over (one ∷ more) = posts_in one ++ posts_over more
 
@@ -44,10 +44,10 @@ answered_turns (Answered from turn ∷ more) = turn ∷ answered_turns more
 module _ {H T : Type 0} (conduct : Conduct H) (counted : H → T) where
   -- what a turn does to the host, where its reply goes out
   abbrev pub DoesTurn : MailTurn → H → H → Type 0
-  DoesTurn (Dropped from bytes) old new = (mail_max < length bytes) × (new ≡ old)
+  DoesTurn (Dropped from bytes) old new = (datagram_max < length bytes) × (new ≡ old)
   DoesTurn Rested old new = new ≡ old
   DoesTurn (Answered from turn) old new =
-      (length turn.message ≤ mail_max) × (turn.flushed ≡ true) × AnswersMail conduct counted from turn old new
+      (length turn.message ≤ datagram_max) × (turn.flushed ≡ true) × AnswersMail conduct counted from turn old new
 
   -- turns, one after the other
   abbrev pub DoesTurns : List MailTurn → H → H → Type 0
@@ -55,26 +55,26 @@ module _ {H T : Type 0} (conduct : Conduct H) (counted : H → T) where
   DoesTurns (one ∷ more) old new = (next : H) × DoesTurn one old next × DoesTurns more next new
 
   -- A datagram came, and its reply didn't go out.
-  pub record LosesAnswer (posts : List Post) (old new : H) : Type 0 where
+  pub record LosesAnswer (events : List InboxEvent) (old new : H) : Type 0 where
     pub from : Peer
     pub turn : Turn
-    pub came : posts ≡ Arrived from turn.message ∷ []
-    pub short : length turn.message ≤ mail_max
+    pub came : events ≡ Arrived from turn.message ∷ []
+    pub short : length turn.message ≤ datagram_max
     pub reply : IsSome turn.answer
     pub unsent : turn.flushed ≡ false
     pub answers : AnswersMail conduct counted from turn old new
 
   -- What ends a run of at most so many turns behind so many: nothing behind the most, or the inbox fails, at a turn or
   -- at a reply.
-  abbrev pub EndsTurns : ℕ → ℕ → Result Ended Failed → List Post → H → H → Type 0
-  EndsTurns most count (Ok Spent) posts old new = (count ≡ most) × (posts ≡ []) × (new ≡ old)
-  EndsTurns most count (Ok Done) posts old new = ⊥
-  EndsTurns most count (Err why) posts old new =
-      (count < most) × (((posts ≡ []) × (new ≡ old)) ⊎ LosesAnswer posts old new)
+  abbrev pub EndsTurns : ℕ → ℕ → Result Ended Failed → List InboxEvent → H → H → Type 0
+  EndsTurns most count (Ok Spent) events old new = (count ≡ most) × (events ≡ []) × (new ≡ old)
+  EndsTurns most count (Ok Done) events old new = ⊥
+  EndsTurns most count (Err why) events old new =
+      (count < most) × (((events ≡ []) × (new ≡ old)) ⊎ LosesAnswer events old new)
 
-  -- These posts are turns that a server made, each with its reply to its sender before the next turn, and the end. The
-  -- posts fix the turns.
-  pub record ServesPosts (most : ℕ) (end : Result Ended Failed) (posts : List Post) (old : Mailing H) (new : H)
+  -- These events are turns that a server made, each with its reply to its sender before the next turn, and the end. The
+  -- events fix the turns.
+  pub record ServesPosts (most : ℕ) (end : Result Ended Failed) (events : List InboxEvent) (old : Mailing H) (new : H)
       : Type 0 where
     pub ready : H
     pub carried : CarriesAwaited conduct old.waiting old.host ready
@@ -82,20 +82,21 @@ module _ {H T : Type 0} (conduct : Conduct H) (counted : H → T) where
     pub last : H
     pub does : DoesTurns served ready last
     pub counts : conduct.counts last ≡ counts_over (conduct.counts ready) (answered_turns served)
-    pub rest : List Post
+    pub rest : List InboxEvent
     pub ends : EndsTurns most (length served) end rest last new
-    pub all : posts ≡ posts_over served ++ rest
+    pub all : events ≡ posts_over served ++ rest
 
-  -- A server had so many turns of an inbox at most, with this end: such posts happened there. In them a transfer was
+  -- A server had so many turns of an inbox at most, with this end: such events happened there. In them a transfer was
   -- carried out behind its reply, before the next turn, and none waits any more. What the host knew before is a front
   -- of what it knows, and its catalogue stays.
-  pub record ServesMail (most : ℕ) (end : Result Ended Failed) (old new : Mailing H) (before after : Box) : Type 0 where
-    pub posts : List Post
+  pub record ServesMail (most : ℕ) (end : Result Ended Failed) (old new : Mailing H)
+      (before after : InboxTells) : Type 0 where
+    pub events : List InboxEvent
     pub last : Mailing H
-    pub runs : Runs (mail_ways conduct counted) most posts end old last
+    pub runs : Runs (mail_ways conduct counted) most events end old last
     pub closes : Closes conduct end last new
-    pub sees : Sees posts before after
-    pub serves : ServesPosts most end posts old new.host
+    pub sees : Sees events before after
+    pub serves : ServesPosts most end events old new.host
     pub cleared : new.waiting ≡ None
     pub grown : IsFront (conduct.seen old.host).known (conduct.seen new.host).known
     pub catalogue : (conduct.seen new.host).catalogue ≡ (conduct.seen old.host).catalogue

@@ -1,14 +1,14 @@
 //! Datagrams that are answered, a turn each.
 
 ghost use Rattle.yp_io.specs.Counts.{CountsFaults};
-ghost use Rattle.yp_session.specs.Hosts.{conduct_of};
-ghost use Rattle.yp_rpc.specs.Turns.{box_of};
-ghost use Rattle.yp_mailserve.specs.Serving.{ServesMail};
+ghost use Rattle.yp_answer.specs.inside.session.Hosts.{conduct_by};
+ghost use Rattle.yp_rpc.specs.inside.Turns.{box_by};
+ghost use Rattle.yp_worker.specs.datagrams.Serving.{ServesMail};
 
-use crate::server::MailServer;
+use crate::CatchUp;
+use crate::datagrams::server::MailServer;
 use yp_io::{Failed, Inbox};
 use yp_rpc::{Ended, Room, take_turns};
-use yp_worker::CatchUp;
 
 /// Takes turns of an inbox, at most so many, and answers each datagram to its sender before the next turn. It ends
 /// where all turns are taken, or where the inbox fails. A datagram of more than 8,192 bytes is dropped.
@@ -18,9 +18,8 @@ pub fn serve_mail<I: Inbox, H: CatchUp>(
     room: &mut Room,
     turns: u32,
 ) -> Result<Ended, Failed>
-    ensures serves { ServesMail (conduct_of H.seen H.told H.counts H.stepped H.made H.carried) H.counted
-        turns result server.old server.new
-        (box_of I.past I.turns I.quiets inbox.old) (box_of I.past I.turns I.quiets inbox.new) }
+    ensures serves { ServesMail (conduct_by H.Host) H.counted turns result server.old server.new
+        (box_by I.Inbox inbox.old) (box_by I.Inbox inbox.new) }
     ensures cause { CountsFaults (I.faults inbox.old) (I.faults inbox.new) result }
 {
     let ended = take_turns(inbox, server, room, turns);

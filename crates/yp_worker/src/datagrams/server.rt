@@ -1,45 +1,44 @@
 //! A server of datagrams, as what its turns change.
 
 ghost use Rattle.std.specs.Prelude.{◌≡◌, ℕ, ◌≤◌, false, None, length, option_map, IfSome};
-ghost use Rattle.yp_answer.specs.Numbers.{datagram_max};
 ghost use Rattle.yp_answer.specs.declared.procedure.Path.TheVariants as paths;
-ghost use Rattle.yp_answer.specs.Transfer.{taken_view};
-ghost use Rattle.yp_session.specs.Hosts.{Turn, Link, conduct_of};
-ghost use Rattle.yp_rpc.specs.Turns.{reply_of};
-ghost use Rattle.yp_mailserve.specs.Mailing.{awaited_of, IsDue, Clears, Goes, Hears, Rests};
+ghost use Rattle.yp_answer.specs.inside.Transfer.{taken_view};
+ghost use Rattle.yp_answer.specs.session.Hosts.{Turn, Link};
+ghost use Rattle.yp_answer.specs.inside.session.Hosts.{conduct_by};
+ghost use Rattle.yp_rpc.specs.Turns.{datagram_max};
+ghost use Rattle.yp_rpc.specs.inside.Turns.{reply_of};
+ghost use Rattle.yp_worker.specs.datagrams.Mailing.{Clears, Goes, Hears, Rests};
+ghost use Rattle.yp_worker.specs.inside.datagrams.Mailing.{awaited_of, IsDue};
 
+use crate::CatchUp;
 use arrayvec::ArrayVec;
 use std::marker::Model;
-use yp_answer::{Answered, Errand as Transfer, answer_datagram, make_reply};
+use yp_answer::session::Host;
+use yp_answer::{Answered, TransferJob, answer_datagram, make_reply};
+use yp_board::NAME_MAX;
 use yp_io::Peer;
-use yp_msgs::protocol::NAME_MAX;
-use yp_rpc::{Errand, Wish};
-use yp_session::Host;
-use yp_worker::CatchUp;
-
-/// The most bytes of the name of a host that a map is fetched from.
-const SOURCE_MAX: usize = NAME_MAX as usize;
+use yp_rpc::{Handler, Wish};
 
 /// A transfer that waits until its reply is out, and its caller.
 #[derive(Drop)]
-pub(crate) struct Waiting {
+pub(crate) struct WaitingTransfer {
     map: u32,
-    source: ArrayVec<u8, SOURCE_MAX>,
+    source: ArrayVec<u8, NAME_MAX>,
     transid: u32,
     prog: u32,
     port: u32,
     peer: Peer,
 }
 
-impl Waiting {
+impl WaitingTransfer {
     /// Takes no memory.
-    fn new(transfer: &Transfer<'_>, peer: Peer) -> Waiting
-        requires { length transfer.now.source.now ≤ SOURCE_MAX }
+    fn new(transfer: &TransferJob<'_>, peer: Peer) -> WaitingTransfer
+        requires { length transfer.now.source.now ≤ NAME_MAX }
         ensures { awaited_of result ≡ (taken_view transfer.now, peer) }
     {
         let mut source = ArrayVec::new();
         let _ = source.try_extend_from_slice(transfer.source);
-        Waiting {
+        WaitingTransfer {
             map: transfer.map,
             source,
             transid: transfer.transid,
@@ -57,12 +56,13 @@ impl Waiting {
 #[derive(Drop)]
 pub struct MailServer<H: CatchUp> {
     host: H,
-    waiting: Option<Waiting>,
+    waiting: Option<WaitingTransfer>,
 }
 
 impl<H: CatchUp> Model for MailServer<H> {
     ghost use Rattle.std.specs.Prelude.{length, option_map, IfSome};
-    ghost use Rattle.yp_mailserve.specs.Mailing.{Mailing, awaited_of, IsDue};
+    ghost use Rattle.yp_worker.specs.datagrams.Mailing.{Mailing};
+    ghost use Rattle.yp_worker.specs.inside.datagrams.Mailing.{awaited_of, IsDue};
 
     ghost Value = { Mailing H };
 
@@ -93,10 +93,10 @@ impl<H: CatchUp> MailServer<H> {
 
     /// Carries out the transfer that waits.
     pub(crate) fn carry_out(&mut self)
-        ensures { Clears (conduct_of H.seen H.told H.counts H.stepped H.made H.carried) self.old self.new }
+        ensures { Clears (conduct_by H.Host) self.old self.new }
     {
         if let Some(waiting) = self.waiting.take() {
-            let transfer = Transfer {
+            let transfer = TransferJob {
                 map: waiting.map,
                 source: &waiting.source,
                 transid: waiting.transid,
@@ -122,20 +122,18 @@ fn reply_to<H: Host>(
     mail: &[u8],
     peer: Peer,
     buf: &mut [u8],
-) -> (usize, Option<Waiting>)
+) -> (usize, Option<WaitingTransfer>)
     requires { datagram_max ≤ length buf.old }
     ensures replied { (turn : Turn) × (turn.message ≡ mail.now) × (turn.answer ≡ reply_of result.0 buf.new)
-        × (turn.flushed ≡ false)
-        × (option_map awaited_of result.1 ≡ option_map (λ taken. (taken, peer)) turn.taken)
-        × Link (conduct_of H.seen H.told H.counts H.stepped H.made H.carried) paths.Datagram peer turn
-        host.old host.new }
+        × (turn.flushed ≡ false) × (option_map awaited_of result.1 ≡ option_map (λ taken. (taken, peer)) turn.taken)
+        × Link (conduct_by H.Host) paths.Datagram peer turn host.old host.new }
     ensures within { result.0 ≤ length buf.new }
     ensures due { IfSome result.1 (λ waiting. IsDue (length (H.seen host.new).catalogue.maps) (awaited_of waiting)) }
 {
     match answer_datagram(host, mail, peer, buf) {
         Answered::Silent => (0, None),
         Answered::Reply { len } => (len, None),
-        Answered::Transfer { len, errand } => (len, Some(Waiting::new(&errand, peer))),
+        Answered::Transfer { len, job } => (len, Some(WaitingTransfer::new(&job, peer))),
         Answered::Make { xid, job } => {
             let stat = host.make(job);
             (make_reply(buf, xid, stat), None)
@@ -144,12 +142,12 @@ fn reply_to<H: Host>(
     }
 }
 
-impl<H: CatchUp> Errand for MailServer<H> {
-    ghost goes = { Goes (conduct_of H.seen H.told H.counts H.stepped H.made H.carried) };
+impl<H: CatchUp> Handler for MailServer<H> {
+    ghost goes = { Goes (conduct_by H.Host) };
 
-    ghost hears = { Hears (conduct_of H.seen H.told H.counts H.stepped H.made H.carried) H.counted };
+    ghost hears = { Hears (conduct_by H.Host) H.counted };
 
-    ghost rests = { Rests (conduct_of H.seen H.told H.counts H.stepped H.made H.carried) };
+    ghost rests = { Rests (conduct_by H.Host) };
 
     ghost letters = { λ _. 0 };
 

@@ -3,9 +3,10 @@ use Rattle.std.specs.Prelude.{◌≡◌, ℕ, ◌+◌, ◌≤◌, List, [], ◌+
 use Rattle.yp_xdr.specs.declared.fault.XdrFault.{XdrFault}
 use Rattle.yp_xdr.specs.declared.fault.NoRoom.{NoRoom}
 use Rattle.yp_xdr.specs.Kind.{Kind, ListOf, Value}
-use Rattle.yp_xdr.specs.Spelling.{Spells}
-use Rattle.yp_xdr.specs.Reading.{Unread, elements_at, reading, BeginsWith, BeginsWithNone, IsBytes}
-use Rattle.yp_xdr.specs.Writing.{written, Writes, Sets}
+use Rattle.yp_xdr.specs.inside.Spelling.{Spells}
+use Rattle.yp_xdr.specs.Reading.{Remaining, elements_at, reading}
+use Rattle.yp_xdr.specs.inside.Reading.{BeginsWith, BeginsWithNone, IsBytes}
+use Rattle.yp_xdr.specs.inside.Writing.{written, Writes, Sets}
 
 -- a value has one spelling
 abbrev pub OneSpelling : Type 0
@@ -25,17 +26,17 @@ WrittenIsReadAgain = (kind : Kind) (value : Value kind) (bytes rest : List ℕ) 
 
 -- a value that is read is spelled by the bytes that the reader passed
 abbrev pub ReadIsSpelled : Type 0
-ReadIsSpelled = (kind : Kind) (old new : Unread) (value : Value kind) → IsBytes old.bytes
+ReadIsSpelled = (kind : Kind) (old new : Remaining) (value : Value kind) → IsBytes old.bytes
     → reading kind old ≡ Ok (value, new) → BeginsWith kind value old new
 
 -- bytes that are refused begin with no spelling
 abbrev pub RefusedIsNotSpelled : Type 0
-RefusedIsNotSpelled = (kind : Kind) (old : Unread) (fault : XdrFault) → reading kind old ≡ Err fault
+RefusedIsNotSpelled = (kind : Kind) (old : Remaining) (fault : XdrFault) → reading kind old ≡ Err fault
     → BeginsWithNone kind old.bytes
 
 -- a list is read element by element
 abbrev pub ListIsReadInTurn : Type 0
-ListIsReadInTurn = (kind : Kind) (left : Unread) → IsBytes left.bytes
+ListIsReadInTurn = (kind : Kind) (left : Remaining) → IsBytes left.bytes
     → reading (ListOf kind) left ≡ elements_at (reading kind) (reading (ListOf kind)) left
 
 -- bytes that are written behind others stand there as if both were written at once
@@ -49,7 +50,7 @@ WritersJoin = (one other : List ℕ) (at mid : ℕ) (result : Result ℕ NoRoom)
     → at + length (one ++ other) ≤ length old
     → Writes one at (Ok mid) old half → Writes other mid result half new → Writes (one ++ other) at result old new
 
--- the same of two writers that need the room
+-- What two writers that need the room set, one behind the other, is the joined bytes.
 abbrev pub SetsJoin : Type 0
 SetsJoin = (one other : List ℕ) (at mid end : ℕ) (old half new : List ℕ) → Sets one at mid old half
     → Sets other mid end half new → Sets (one ++ other) at end old new

@@ -1,6 +1,6 @@
 use Rattle.std.proofs.Common.{◌≡◌, ◌+◌, length, refl, ap, ◌∙◌, arith}
 use Rattle.std.proofs.lemmas.Grind.{common_steps}
-use Rattle.yp_xdr.specs.Writing.{written}
+use Rattle.yp_xdr.specs.inside.Writing.{written}
 use Rattle.yp_answer.proofs.caller.copy.Goals as goal
 
 pub returns : goal.returns

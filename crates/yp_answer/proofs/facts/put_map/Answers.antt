@@ -2,10 +2,11 @@ use Rattle.std.proofs.Common.{◌≡◌, ◌++◌, Bool, true, false, not, List,
 use Rattle.std.specs.Prelude.{bytes_eq, is_some}
 use Rattle.std.proofs.lemmas.List.{append-nil}
 use Rattle.yp_xdr.specs.Spelling.{spelling}
-use Rattle.yp_msgs.specs.MapLists.{map_item}
+use Rattle.yp_messages.specs.inside.MapLists.{map_item}
 use Rattle.yp_board.specs.Catalogues.{name_view}
 use Rattle.yp_answer.specs.Maps.{Maps, maps_of}
-use Rattle.yp_answer.specs.Results.{map_part, is_listed}
+use Rattle.yp_answer.specs.Results.{is_listed}
+use Rattle.yp_answer.specs.inside.Results.{map_part}
 use Rattle.yp_answer.proofs.Fronts.{front_set}
 use Rattle.yp_answer.proofs.Rooms.{opaque_short}
 use Rattle.yp_answer.proofs.Listing.{listed_as, is_some-option_map, part_listed, part_left_out, named_by}

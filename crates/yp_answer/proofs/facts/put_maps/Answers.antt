@@ -2,10 +2,10 @@ use Rattle.std.proofs.Common.{◌≡◌, ◌≤◌, ◌++◌, List, ℕ, [], len
 use Rattle.std.specs.Prelude.{slice_index_or, flat_map}
 use Rattle.std.proofs.lemmas.List.{length-map, take_all}
 use Rattle.yp_xdr.specs.Spelling.{spelling}
-use Rattle.yp_msgs.specs.MapLists.{map_item}
+use Rattle.yp_messages.specs.inside.MapLists.{map_item}
 use Rattle.yp_board.specs.Catalogues.{Name, listed}
 use Rattle.yp_answer.specs.Maps.{Maps, maps_of}
-use Rattle.yp_answer.specs.Results.{map_part}
+use Rattle.yp_answer.specs.inside.Results.{map_part}
 use Rattle.yp_answer.proofs.Fronts.{front_set}
 use Rattle.yp_answer.proofs.Listing.{list_parts, listed_few}
 use Rattle.yp_answer.proofs.facts.put_maps.Goals as goal

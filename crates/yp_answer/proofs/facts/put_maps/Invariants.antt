@@ -1,7 +1,7 @@
 use Rattle.std.proofs.Common.{◌≡◌, ◌+◌, ◌*◌, ◌≤◌, ◌++◌, [], take, map}
 use Rattle.std.specs.Prelude.{slice_index_or, flat_map}
 use Rattle.yp_answer.specs.Maps.{maps_of}
-use Rattle.yp_answer.specs.Results.{map_part}
+use Rattle.yp_answer.specs.inside.Results.{map_part}
 use Rattle.yp_answer.proofs.facts.put_maps.Given as goal
 
 abbrev pub invariant-loop-map : goal.invariant-loop-map

@@ -2,7 +2,7 @@ use Rattle.std.proofs.Common.{◌≡◌, ◌+◌, length, sym, ap, ◌∙◌, ar
 use Rattle.std.proofs.lemmas.List.{length-append}
 use Rattle.yp_xdr.specs.Kind.{Value}
 use Rattle.yp_xdr.specs.Spelling.{opaque}
-use Rattle.yp_msgs.specs.Messages.{key_val}
+use Rattle.yp_messages.specs.Messages.{key_val}
 use Rattle.yp_answer.proofs.Rooms.{opaque_short, fits_on, least_room}
 use Rattle.yp_answer.proofs.look_up.put_row.Goals as goal
 

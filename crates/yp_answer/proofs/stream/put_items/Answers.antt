@@ -2,8 +2,8 @@ use Rattle.std.proofs.Common.{◌≡◌, ◌++◌, List, ℕ, take, slice_get, s
 use Rattle.std.proofs.lemmas.Bool.{cases_lt}
 use Rattle.std.proofs.lemmas.Option.{slice_get_within}
 use Rattle.yp_rpc.specs.Records.{joined}
-use Rattle.yp_answer.specs.Streams.{item_parts, between}
-use Rattle.yp_answer.specs.Items.{items_view, item_bytes}
+use Rattle.yp_answer.specs.inside.Streams.{item_parts, between}
+use Rattle.yp_answer.specs.inside.Items.{items_view, item_bytes}
 use Rattle.yp_answer.proofs.Fronts.{front_set}
 use Rattle.yp_answer.proofs.Rooms.{item_short, item_some}
 use Rattle.yp_answer.proofs.Parts.{between_more}

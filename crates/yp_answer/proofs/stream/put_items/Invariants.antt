@@ -1,8 +1,8 @@
 use Rattle.std.proofs.Common.{◌≡◌, ◌+◌, ◌-◌, ◌<◌, ◌≤◌, ◌++◌, length, take}
 use Rattle.yp_rpc.specs.Records.{joined}
-use Rattle.yp_answer.specs.Streams.{item_parts, between}
+use Rattle.yp_answer.specs.inside.Streams.{item_parts, between}
 use Rattle.yp_version.specs.Limits.{rows_max}
-use Rattle.yp_answer.specs.Items.{items_view}
+use Rattle.yp_answer.specs.inside.Items.{items_view}
 use Rattle.yp_answer.proofs.stream.put_items.Given as goal
 
 abbrev pub invariant-loop-item : goal.invariant-loop-item

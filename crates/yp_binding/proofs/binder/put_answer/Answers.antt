@@ -1,10 +1,11 @@
 use Rattle.std.proofs.Common.{◌≡◌, ℕ, ◌+◌, ◌≤◌, List, ◌++◌, length, arith}
 use Rattle.std.proofs.lemmas.List.{length-append, length-replicate}
 use Rattle.yp_xdr.specs.Spelling.{padding_len, padding, fixed, spelling, word}
-use Rattle.yp_msgs.specs.declared.binding.BindResp.{BindResp}
-use Rattle.yp_msgs.specs.declared.binding.BindResp.TheVariants.{Bound, Unbound}
-use Rattle.yp_msgs.specs.Bindings.{bind_resp, bind_resp_view, BindRespIsWithin}
-use Rattle.yp_bind.proofs.binder.put_answer.Goals as goal
+use Rattle.yp_messages.specs.declared.binding.BindResp.{BindResp}
+use Rattle.yp_messages.specs.declared.binding.BindResp.TheVariants.{Bound, Unbound}
+use Rattle.yp_messages.specs.Bindings.{bind_resp}
+use Rattle.yp_messages.specs.inside.Bindings.{bind_resp_view, BindRespIsWithin}
+use Rattle.yp_binding.proofs.binder.put_answer.Goals as goal
 
 -- bytes and their padding
 fixed_short : (content : List ℕ) → length (fixed content) ≤ length content + 3

@@ -1,6 +1,6 @@
 use Rattle.std.proofs.Common.{◌≡◌, ◌++◌, map, take, drop}
-use Rattle.yp_bind.specs.Standings.{rested}
-use Rattle.yp_bind.proofs.standing.rest_all.Given as goal
+use Rattle.yp_binding.specs.inside.Standings.{rested}
+use Rattle.yp_binding.proofs.standing.rest_all.Given as goal
 
 abbrev pub invariant-loop-standing : goal.invariant-loop-standing
 invariant-loop-standing l =

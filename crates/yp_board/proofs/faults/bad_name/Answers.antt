@@ -2,7 +2,8 @@ use Rattle.std.proofs.Common.{◌≡◌, not, sym, ap, ◌∙◌, rules, tests, 
 use Rattle.std.specs.List.{position}
 use Rattle.std.proofs.lemmas.Iterator.{YieldsList-from_slice}
 use Rattle.std.proofs.lemmas.Iterator.Search.{position_from_yields_List}
-use Rattle.yp_board.specs.Catalogues.{name_view, is_map_name, bad_name}
+use Rattle.yp_board.specs.Catalogues.{name_view}
+use Rattle.yp_board.specs.inside.Catalogues.{is_map_name, bad_name}
 use Rattle.yp_board.proofs.Mapped.{position-map}
 use Rattle.yp_board.proofs.faults.bad_name.Goals as goal
 use Rattle.yp_board.proofs.faults.bad_name.Goals.{After-position}

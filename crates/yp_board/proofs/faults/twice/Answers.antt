@@ -1,7 +1,8 @@
 use Rattle.std.proofs.Common.{◌≡◌, ◌+◌, ◌<◌, cond, [], Some, map, length, take, drop, get_or, sym, ap, ◌∙◌}
 use Rattle.std.specs.List.{list_any}
 use Rattle.std.proofs.lemmas.List.{get_or-map, take-map, length-map}
-use Rattle.yp_board.specs.Catalogues.{name_view, is_same, again_from}
+use Rattle.yp_board.specs.Catalogues.{name_view, is_same}
+use Rattle.yp_board.specs.inside.Catalogues.{again_from}
 use Rattle.yp_board.proofs.Again.{again_from-drop, again_from-end}
 use Rattle.yp_board.proofs.faults.twice.Goals as goal
 use Rattle.yp_board.proofs.faults.twice.Goals.{After-is_among}

@@ -1,5 +1,6 @@
 use Rattle.std.proofs.Common.{◌≡◌, [], map, take, drop}
-use Rattle.yp_board.specs.Catalogues.{name_view, again_from}
+use Rattle.yp_board.specs.Catalogues.{name_view}
+use Rattle.yp_board.specs.inside.Catalogues.{again_from}
 use Rattle.yp_board.proofs.faults.twice.Given as goal
 
 abbrev pub invariant-loop-index : goal.invariant-loop-index

@@ -1,4 +1,4 @@
--- What the writer of a board tells.
+-- Words beside those of specs/readers/Boards.antt, which the contract of the program doesn't reach.
 use Rattle.std.specs.Prelude.{ℕ}
 use Rattle.yp_board.specs.Logs.{Log}
 

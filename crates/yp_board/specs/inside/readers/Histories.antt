@@ -30,8 +30,8 @@ pub record IsNext (log : Log) (pen : Nib) : Type 0 where
   pub key : pen.key ≡ length log + 2
 
 -- where there were as many words as expected, there is one more, and the right to make it
-abbrev pub Opens : Step Shown → View Shown ℕ → ℕ → View Shown ℕ → Type 0
-Opens step before found after = found ≡ step.old → after.1.0 ≡ nib may_make step.old 0
+abbrev pub OpensHistory : Step Shown → View Shown ℕ → ℕ → View Shown ℕ → Type 0
+OpensHistory step before found after = found ≡ step.old → after.1.0 ≡ nib may_make step.old 0
 
 -- the pair stands behind all that had been seen
 abbrev pub Adds : Step Shown → View Shown ℕ → ℕ → View Shown ℕ → Type 0

@@ -1,7 +1,8 @@
 use Rattle.std.proofs.Common.{◌∙◌, arith, append_assoc}
 use Rattle.yp_xdr.specs.Spelling.{spelling, opaque, fixed}
 use Rattle.yp_rpc.specs.Call.{front_kind, procedure_kind}
-use Rattle.yp_rpc.specs.Called.{front, heading, called}
+use Rattle.yp_rpc.specs.Called.{front, heading}
+use Rattle.yp_rpc.specs.inside.Called.{called}
 use Rattle.yp_client.proofs.Calling.{call_set}
 use Rattle.yp_client.proofs.exchange.set_call.Goals as goal
 

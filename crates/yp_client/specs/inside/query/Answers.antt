@@ -1,12 +1,12 @@
 -- What the calls of a query came to.
 use Rattle.std.specs.Prelude.{ℕ, List, Result, Ok, Err}
-use Rattle.yp_query.specs.declared.fault.QueryFault.{QueryFault}
-use Rattle.yp_query.specs.declared.answer.Answer.{Answer}
-use Rattle.yp_query.specs.declared.answer.Answer.TheVariants.{Rows, Line, Standing, Maps, Membership}
+use Rattle.yp_client.specs.declared.query.fault.QueryFault.{QueryFault}
+use Rattle.yp_client.specs.declared.query.answer.Answer.{Answer}
+use Rattle.yp_client.specs.declared.query.answer.Answer.TheVariants.{Rows, Line, Standing, Maps, Membership}
 use Rattle.yp_version.specs.Rows.{Row}
 use Rattle.yp_version.specs.Versions.{MapVersion}
-use Rattle.yp_query.specs.Lines.{line, lines, rows_text, standing_text, membership_text}
-use Rattle.yp_query.specs.Asked.{Outcome, membership_outcome}
+use Rattle.yp_client.specs.query.Lines.{line, lines, rows_text, standing_text, membership_text}
+use Rattle.yp_client.specs.query.Asked.{QueryOutcome, membership_outcome}
 
 -- the text of an answer
 abbrev pub answer_text : Answer → List ℕ
@@ -17,20 +17,20 @@ answer_text (Maps names) = lines names
 answer_text (Membership is_member) = membership_text is_member
 
 -- what an answer comes to: its text, and a no is told apart
-abbrev pub answer_outcome : Answer → Outcome
+abbrev pub answer_outcome : Answer → QueryOutcome
 answer_outcome (Membership is_member) = membership_outcome is_member
 answer_outcome answer = Ok (answer_text answer)
 
-abbrev pub outcome_of : Result Answer QueryFault → Outcome
+abbrev pub outcome_of : Result Answer QueryFault → QueryOutcome
 outcome_of (Ok answer) = answer_outcome answer
 outcome_of (Err fault) = Err fault
 
 -- what is meant by the rows of a version, or why there is none
-abbrev pub version_outcome : (List Row → Outcome) → Result MapVersion QueryFault → Outcome
+abbrev pub version_outcome : (List Row → QueryOutcome) → Result MapVersion QueryFault → QueryOutcome
 version_outcome means (Ok version) = means version.rows
 version_outcome means (Err fault) = Err fault
 
 -- what is told of an outcome that was printed
-abbrev pub said : Outcome → Result (Unit {0}) QueryFault
+abbrev pub said : QueryOutcome → Result (Unit {0}) QueryFault
 said (Ok text) = Ok tt
 said (Err fault) = Err fault

@@ -1,7 +1,7 @@
 use Rattle.std.proofs.Common.{◌≡◌, ◌+◌, drop}
-use Rattle.yp_words.specs.Forms.{form_view}
-use Rattle.yp_words.specs.Words.{each_fitting, texts}
-use Rattle.yp_words.proofs.sentence.each_fitting.Given as goal
+use Rattle.yp_command.specs.inside.Forms.{form_view}
+use Rattle.yp_command.specs.Words.{each_fitting, texts}
+use Rattle.yp_command.proofs.sentence.each_fitting.Given as goal
 
 abbrev pub invariant-loop-i : goal.invariant-loop-i
 invariant-loop-i l =

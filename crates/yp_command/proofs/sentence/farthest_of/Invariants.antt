@@ -1,6 +1,7 @@
 use Rattle.std.proofs.Common.{◌≡◌, map, take}
-use Rattle.yp_words.specs.Words.{wrong_word, sentence_view, texts}
-use Rattle.yp_words.proofs.sentence.farthest_of.Given as goal
+use Rattle.yp_command.specs.Words.{wrong_word, texts}
+use Rattle.yp_command.specs.inside.Words.{sentence_view}
+use Rattle.yp_command.proofs.sentence.farthest_of.Given as goal
 
 abbrev pub invariant-loop-sentence : goal.invariant-loop-sentence
 invariant-loop-sentence l =

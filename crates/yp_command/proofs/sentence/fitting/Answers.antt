@@ -1,12 +1,13 @@
 use Rattle.std.proofs.Common.{◌≡◌, ◌<◌, List, [], ◌∷◌, drop, map, length, refl, arith, length-drop}
 use Rattle.std.proofs.lemmas.Grind.{common_steps}
 use Rattle.std.proofs.lemmas.List.{nil_from_length}
-use Rattle.yp_words.specs.declared.form.Form.{Form as CodeForm}
-use Rattle.yp_words.specs.Forms.{form_view}
-use Rattle.yp_words.specs.Words.{Further, fitting, further_view}
-use Rattle.yp_words.proofs.sentence.fitting.Goals as goal
-use Rattle.yp_words.proofs.sentence.fitting.Goals.{then-i-words-via-then-i-words}
-use Rattle.yp_words.proofs.sentence.fitting.Goals.{then-i-words-via-else-i-words+then-not-fits}
+use Rattle.yp_command.specs.declared.form.Form.{Form as CodeForm}
+use Rattle.yp_command.specs.inside.Forms.{form_view}
+use Rattle.yp_command.specs.Words.{Further, fitting}
+use Rattle.yp_command.specs.inside.Words.{further_view}
+use Rattle.yp_command.proofs.sentence.fitting.Goals as goal
+use Rattle.yp_command.proofs.sentence.fitting.Goals.{then-i-words-via-then-i-words}
+use Rattle.yp_command.proofs.sentence.fitting.Goals.{then-i-words-via-else-i-words+then-not-fits}
 
 -- where a word is missing, none fits
 none_fits : (forms : List CodeForm) (further : Further) → 0 < length forms

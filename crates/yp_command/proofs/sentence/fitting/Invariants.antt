@@ -1,7 +1,8 @@
 use Rattle.std.proofs.Common.{◌≡◌, ◌+◌, ◌≤◌, drop, map, length}
-use Rattle.yp_words.specs.Forms.{form_view}
-use Rattle.yp_words.specs.Words.{fitting, further_view, texts}
-use Rattle.yp_words.proofs.sentence.fitting.Given as goal
+use Rattle.yp_command.specs.inside.Forms.{form_view}
+use Rattle.yp_command.specs.Words.{fitting, texts}
+use Rattle.yp_command.specs.inside.Words.{further_view}
+use Rattle.yp_command.proofs.sentence.fitting.Given as goal
 
 abbrev pub invariant-loop-i : goal.invariant-loop-i
 invariant-loop-i l = record {

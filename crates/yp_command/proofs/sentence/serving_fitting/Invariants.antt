@@ -1,6 +1,6 @@
 use Rattle.std.proofs.Common.{◌≡◌, ◌+◌, [], take, drop}
-use Rattle.yp_words.specs.Words.{serving_fitting, texts}
-use Rattle.yp_words.proofs.sentence.serving_fitting.Given as goal
+use Rattle.yp_command.specs.Words.{serving_fitting, texts}
+use Rattle.yp_command.proofs.sentence.serving_fitting.Given as goal
 
 abbrev pub invariant-loop-i : goal.invariant-loop-i
 invariant-loop-i l =

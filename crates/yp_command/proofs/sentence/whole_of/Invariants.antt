@@ -1,6 +1,7 @@
 use Rattle.std.proofs.Common.{◌≡◌, map, drop}
-use Rattle.yp_words.specs.Words.{asked, sentence_view, texts}
-use Rattle.yp_words.proofs.sentence.whole_of.Given as goal
+use Rattle.yp_command.specs.Words.{asked, texts}
+use Rattle.yp_command.specs.inside.Words.{sentence_view}
+use Rattle.yp_command.proofs.sentence.whole_of.Given as goal
 
 abbrev pub invariant-loop-sentence : goal.invariant-loop-sentence
 invariant-loop-sentence l =

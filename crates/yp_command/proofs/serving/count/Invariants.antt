@@ -1,6 +1,6 @@
 use Rattle.std.proofs.Common.{◌≡◌, ◌+◌, ◌≤◌, drop, length}
-use Rattle.yp_words.specs.Words.{served, texts}
-use Rattle.yp_words.proofs.serving.count.Given as goal
+use Rattle.yp_command.specs.Words.{served, texts}
+use Rattle.yp_command.proofs.serving.count.Given as goal
 
 abbrev pub invariant-loop-word : goal.invariant-loop-word
 invariant-loop-word l = record {

@@ -1,8 +1,8 @@
 use Rattle.std.proofs.Common.{◌≡◌, drop}
 use Rattle.std.specs.List.{list_any}
 use Rattle.yp_board.specs.Catalogues.{is_same}
-use Rattle.yp_words.specs.Words.{served, name_of, texts}
-use Rattle.yp_words.proofs.serving.names.Given as goal
+use Rattle.yp_command.specs.Words.{served, name_of, texts}
+use Rattle.yp_command.proofs.serving.names.Given as goal
 
 abbrev pub invariant-loop-word : goal.invariant-loop-word
 invariant-loop-word l =

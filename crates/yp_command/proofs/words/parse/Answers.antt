@@ -1,9 +1,10 @@
 use Rattle.std.proofs.Common.{◌≡◌, ℕ, List, Some, None, Result, Ok, Err, sym, ap, subst, ◌∙◌}
 use Rattle.std.specs.Option.{ok_or}
-use Rattle.yp_words.specs.Words.{Meaning, command_of, asked, sentences, wrong_word, texts, asks_of, IsSentenceOfWords}
-use Rattle.yp_words.specs.Words.{HasNames}
-use Rattle.yp_words.proofs.Named.{asked_named}
-use Rattle.yp_words.proofs.words.parse.Goals as goal
+use Rattle.yp_command.specs.Words.{Meaning, command_of, asked, sentences, wrong_word, texts}
+use Rattle.yp_command.specs.inside.Words.{asks_of, IsSentenceOfWords}
+use Rattle.yp_command.specs.inside.Words.{HasNames}
+use Rattle.yp_command.proofs.Named.{asked_named}
+use Rattle.yp_command.proofs.words.parse.Goals as goal
 
 -- words that ask for something are a command
 is_command : (words : List (List ℕ)) (meaning : Meaning) → Some meaning ≡ asked sentences words

@@ -1,10 +1,11 @@
 use Rattle.std.proofs.Common.{◌∙◌, arith, append_assoc}
 use Rattle.yp_xdr.specs.Spelling.{spelling, opaque, fixed}
 use Rattle.yp_rpc.specs.Call.{front_kind, procedure_kind}
-use Rattle.yp_rpc.specs.Called.{front, heading, called}
-use Rattle.yp_msgs.specs.Messages.{req_domain}
-use Rattle.yp_mailing.proofs.Calling.{opaque_short, call_set}
-use Rattle.yp_mailing.proofs.binding.put_ping.Goals as goal
+use Rattle.yp_rpc.specs.Called.{front, heading}
+use Rattle.yp_rpc.specs.inside.Called.{called}
+use Rattle.yp_messages.specs.Messages.{req_domain}
+use Rattle.yp_command_mail.proofs.Calling.{opaque_short, call_set}
+use Rattle.yp_command_mail.proofs.binding.put_ping.Goals as goal
 
 pub unreachable-requires : goal.unreachable-requires
 unfolding opaque fixed

@@ -1,7 +1,7 @@
 use Rattle.std.proofs.Common.{◌≡◌, map, take}
-use Rattle.yp_words.specs.Words.{host_view}
-use Rattle.yp_mailing.specs.Bind.{servers_of}
-use Rattle.yp_mailing.proofs.binding.servers_of.Given as goal
+use Rattle.yp_command.specs.Words.{host_view}
+use Rattle.yp_command_mail.specs.Bind.{servers_of}
+use Rattle.yp_command_mail.proofs.binding.servers_of.Given as goal
 
 abbrev pub invariant-loop-host : goal.invariant-loop-host
 invariant-loop-host l = l.servers.items ≡ servers_of (map host_view (take l.host-index l.hosts))

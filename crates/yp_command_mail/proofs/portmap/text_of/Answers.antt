@@ -1,7 +1,7 @@
 use Rattle.std.proofs.Common.{◌≡◌, ℕ, suc, ◌+◌, List, ◌++◌, take, sym, ap, ◌∙◌, arith}
-use Rattle.yp_mailing.specs.Portmap.{mappings_text}
-use Rattle.yp_mailing.proofs.Lines.{lines_more}
-use Rattle.yp_mailing.proofs.portmap.text_of.Goals as goal
+use Rattle.yp_command_mail.specs.Portmap.{mappings_text}
+use Rattle.yp_command_mail.proofs.Lines.{lines_more}
+use Rattle.yp_command_mail.proofs.portmap.text_of.Goals as goal
 
 pub loop-i-preserved : goal.loop-i-preserved
 loop-i-preserved c =

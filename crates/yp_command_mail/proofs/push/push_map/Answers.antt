@@ -1,10 +1,10 @@
 use Rattle.std.proofs.Common.{◌≡◌, rules, refl, subst, Option, Some, Ok}
-use Rattle.yp_office.specs.Seeing.{Seeing, seeing}
-use Rattle.yp_mailing.specs.Finding.{judged}
-use Rattle.yp_mailing.specs.Push.{job_view, PlansFrom}
-use Rattle.yp_mailing.specs.declared.push.Plan.{Plan}
-use Rattle.yp_mailing.proofs.Pushed.{push_does, planned, unplanned}
-use Rattle.yp_mailing.proofs.push.push_map.Goals as goal
+use Rattle.yp_command.specs.office.Seeing.{Seeing, seeing}
+use Rattle.yp_command_mail.specs.Finding.{judged}
+use Rattle.yp_command_mail.specs.inside.Push.{job_view, PlansFrom}
+use Rattle.yp_command_mail.specs.declared.push.PushPlan.{PushPlan}
+use Rattle.yp_command_mail.proofs.Pushed.{push_does, planned, unplanned}
+use Rattle.yp_command_mail.proofs.push.push_map.Goals as goal
 
 pub returns-in-Ok-Some-clause-does : goal.returns-in-Ok-Some-clause-does
 returns-in-Ok-Some-clause-does g c =
@@ -17,7 +17,7 @@ returns-in-Ok-Some-clause-does g c =
     let disks : new.disks ≡ c.ready.new.disks = search rules in
     let clock : new.clock ≡ c.ready.new.clock = search rules in
     let some : c.in-Ok-Some.field-0 ≡ Some c.in-Ok-Some.plan = search rules in
-    let plans = subst (λ (o : Option Plan). PlansFrom job made.now (judged made.loaded.file made.loaded.servers) (Ok o)) some made.plans in
+    let plans = subst (λ (o : Option PushPlan). PlansFrom job made.now (judged made.loaded.file made.loaded.servers) (Ok o)) some made.plans in
     push_does seen job made.now c.push_plan.result.0 old new made.loaded (rw disks made.loads) made.is_now
     (planned seen job made.now old new (judged made.loaded.file made.loaded.servers) c.in-Ok-Some.plan c.push_plan.result.0 mid refl plans c.push_plan.ensures.sent)
     c.push_plan.ensures.write_fault c.push_plan.ensures.inbox_fault (rw clock c.in-Ok-Some.ensures.told) (search rules)

@@ -1,16 +1,16 @@
 use Rattle.std.proofs.Common.{◌≡◌, ◌∙◌, ℕ, List, Some, ap, refl, sym, subst}
 use Rattle.std.specs.Prelude.{IfSome, bytes_eq}
 use Rattle.std.specs.List.{find}
-use Rattle.yp_build.specs.Kinds.{kinds, name_of as kind_name}
+use Rattle.yp_texts.specs.Kinds.{kinds, name_of as kind_name}
 use Rattle.yp_board.specs.Catalogues.{name_view}
-use Rattle.yp_words.specs.Words.{kind_of}
-use Rattle.yp_office.specs.Seeing.{Seeing, seeing, input}
-use Rattle.yp_office.specs.declared.status.Status.{Status}
-use Rattle.yp_storing.specs.Build.{job_of, JobDoes}
-use Rattle.yp_storing.proofs.Telling.{whole_text}
-use Rattle.yp_storing.proofs.Checking.{one_name}
-use Rattle.yp_storing.proofs.Ending.{build_does, unread_does}
-use Rattle.yp_storing.proofs.build.build_map.Goals as goal
+use Rattle.yp_command.specs.Words.{kind_of}
+use Rattle.yp_command.specs.office.Seeing.{Seeing, seeing, input}
+use Rattle.yp_command.specs.declared.office.status.Status.{Status}
+use Rattle.yp_command_maps.specs.Build.{job_of, JobDoes}
+use Rattle.yp_command_maps.proofs.Telling.{whole_text}
+use Rattle.yp_command_maps.proofs.Checking.{one_name}
+use Rattle.yp_command_maps.proofs.Ending.{build_does, unread_does}
+use Rattle.yp_command_maps.proofs.build.build_map.Goals as goal
 
 pub build_on-built-requires-clause-only : goal.build_on-built-requires-clause-only
 build_on-built-requires-clause-only g c = one_name c.args.office.now.disks.items (name_view c.args.store) c.requires.only

@@ -1,10 +1,10 @@
 use Rattle.std.proofs.Common.{◌≡◌, ◌∙◌, sym, Err, rules}
-use Rattle.yp_storing.specs.Build.{job_view}
-use Rattle.yp_storing.specs.declared.build.Stop.TheVariants.{NoMemory}
-use Rattle.yp_storing.proofs.Checking.{named_one}
-use Rattle.yp_storing.proofs.OnDisk.{same_disks, forgone}
-use Rattle.yp_office.specs.Disks.{history_of, faults_of}
-use Rattle.yp_storing.proofs.build.build_on.Goals as goal
+use Rattle.yp_command_maps.specs.inside.Build.{job_view}
+use Rattle.yp_command_maps.specs.declared.build.BuildStop.TheVariants.{NoMemory}
+use Rattle.yp_command_maps.proofs.Checking.{named_one}
+use Rattle.yp_command_maps.proofs.OnDisk.{same_disks, forgone}
+use Rattle.yp_command.specs.office.Disks.{history_of, faults_of}
+use Rattle.yp_command_maps.proofs.build.build_on.Goals as goal
 
 pub returns-clause-builds : goal.returns-clause-builds
 returns-clause-builds g c =

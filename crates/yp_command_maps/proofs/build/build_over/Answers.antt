@@ -1,10 +1,10 @@
 use Rattle.std.proofs.Common.{rules, subst, sym, Err}
-use Rattle.yp_office.specs.Disks.{only_history, total_faults}
-use Rattle.yp_storing.specs.declared.build.Stop.{Stop}
-use Rattle.yp_storing.specs.Build.{job_view, BuildsOn}
-use Rattle.yp_publish.specs.Begins.{IsUnwritten}
-use Rattle.yp_storing.proofs.OnDisk.{over_only, refused_only, level_only, zip_one}
-use Rattle.yp_storing.proofs.build.build_over.Goals as goal
+use Rattle.yp_command.specs.office.Disks.{only_history, total_faults}
+use Rattle.yp_command_maps.specs.declared.build.BuildStop.{BuildStop}
+use Rattle.yp_command_maps.specs.inside.Build.{job_view, BuildsOn}
+use Rattle.yp_publisher.specs.Begins.{IsUnwritten}
+use Rattle.yp_command_maps.proofs.OnDisk.{over_only, refused_only, level_only, zip_one}
+use Rattle.yp_command_maps.proofs.build.build_over.Goals as goal
 
 pub renew-built-requires-clause-level : goal.renew-built-requires-clause-level
 renew-built-requires-clause-level g c = level_only g.D.Disk.history g.D.Disk.faults (job_view c.args.job.now) c.args.text.items c.args.now c.requires.text c.args.disks.items c.in-Ok.publisher.maps c.in-Ok.ensures.begun.opened
@@ -15,7 +15,7 @@ returns-in-Err-clause-builds g c =
     let faults = g.D.Disk.faults in
     let old = c.args.disks.items in
     let new = c.in-Err.refused.disks.items in
-    subst (λ (why : Stop). BuildsOn (job_view c.args.job.now) c.args.text.items c.args.now (Err why) (only_history history old) (only_history history new) (total_faults faults old) (total_faults faults new))
+    subst (λ (why : BuildStop). BuildsOn (job_view c.args.job.now) c.args.text.items c.args.now (Err why) (only_history history old) (only_history history new) (total_faults faults old) (total_faults faults new))
     (sym c.into.ensures)
     (refused_only history faults (job_view c.args.job.now) c.args.text.items c.args.now c.requires.text c.in-Err.refused.fault old new c.requires.only c.in-Err.ensures.unwritten c.in-Err.ensures.refused)
 

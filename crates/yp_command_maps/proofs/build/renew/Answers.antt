@@ -1,7 +1,7 @@
 use Rattle.std.proofs.Common.{◌∙◌, sym}
-use Rattle.yp_storing.specs.Build.{last_view}
-use Rattle.yp_storing.proofs.Accepted.{accepted_only}
-use Rattle.yp_storing.proofs.build.renew.Goals as goal
+use Rattle.yp_command_maps.specs.inside.Build.{last_view}
+use Rattle.yp_command_maps.proofs.Accepted.{accepted_only}
+use Rattle.yp_command_maps.proofs.build.renew.Goals as goal
 
 pub store_version-requires-clause-accepted : goal.store_version-requires-clause-accepted
 store_version-requires-clause-accepted g c =

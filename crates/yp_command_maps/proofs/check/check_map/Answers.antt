@@ -1,9 +1,9 @@
 use Rattle.std.proofs.Common.{◌≡◌, [], ◌∷◌, ◌++◌, List, length, refl, rules, ap, ◌∙◌}
 use Rattle.yp_board.specs.Catalogues.{name_view}
-use Rattle.yp_office.specs.declared.disks.NamedDisk.{NamedDisk}
-use Rattle.yp_office.specs.Seeing.{seeing}
-use Rattle.yp_storing.proofs.Checking.{checked_only, not_read, popped, one_name}
-use Rattle.yp_storing.proofs.check.check_map.Goals as goal
+use Rattle.yp_command.specs.declared.office.disks.NamedDisk.{NamedDisk}
+use Rattle.yp_command.specs.office.Seeing.{seeing}
+use Rattle.yp_command_maps.proofs.Checking.{checked_only, not_read, popped, one_name}
+use Rattle.yp_command_maps.proofs.check.check_map.Goals as goal
 
 pub returns-clause-does : goal.returns-clause-does
 returns-clause-does g c =

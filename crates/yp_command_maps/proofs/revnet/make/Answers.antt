@@ -1,7 +1,7 @@
-use Rattle.yp_storing.specs.Build.{last_view}
-use Rattle.yp_storing.specs.Revnet.{IsUnmade}
-use Rattle.yp_storing.proofs.Reversing.{err_same}
-use Rattle.yp_storing.proofs.revnet.make.Goals as goal
+use Rattle.yp_command_maps.specs.inside.Build.{last_view}
+use Rattle.yp_command_maps.specs.Revnet.{IsUnmade}
+use Rattle.yp_command_maps.proofs.Reversing.{err_same}
+use Rattle.yp_command_maps.proofs.revnet.make.Goals as goal
 
 pub returns-in_err-order-clause-unmade : goal.returns-in_err-order-clause-unmade
 returns-in_err-order-clause-unmade g c =

@@ -1,20 +1,20 @@
 use Rattle.std.proofs.Common.{◌≡◌, ◌∙◌, ◌+◌, length, Some, None, Ok, refl, ap, rules, inl, inr}
 use Rattle.yp_board.specs.declared.catalog.MapName.{MapName}
-use Rattle.yp_office.specs.declared.status.Status.{Status}
-use Rattle.yp_office.specs.declared.status.Status.TheVariants.{DiskFault}
+use Rattle.yp_command.specs.declared.office.status.Status.{Status}
+use Rattle.yp_command.specs.declared.office.status.Status.TheVariants.{DiskFault}
 use Rattle.std.specs.Prelude.{IfSome}
 use Rattle.yp_version.specs.Versions.{MapVersion}
-use Rattle.yp_slot.specs.Loads.{Loads}
-use Rattle.yp_slot.specs.Stands.{stands}
-use Rattle.yp_slot.specs.Slots.{Held}
+use Rattle.yp_map_file.specs.Loads.{Loads}
+use Rattle.yp_map_file.specs.Stands.{stands}
+use Rattle.yp_map_file.specs.inside.Slots.{SlotModel}
 use Rattle.yp_board.specs.Catalogues.{name_view}
-use Rattle.yp_storing.specs.Build.{last_view}
-use Rattle.yp_office.specs.Disks.{IsOnlyRead}
-use Rattle.yp_storing.specs.Revnet.{job_of, field_of, OwnDiskFails}
-use Rattle.yp_storing.proofs.Reversing.{renews_err, fails, built_is, risen_first, risen_second, risen_later, made_as, unmade_as}
-use Rattle.yp_storing.proofs.Reversing.{store_unloaded, netgroup_unloaded, none_stands, unmade, unstored, renewed}
-use Rattle.yp_storing.proofs.Reversing.{err_same, disk_fault_names, made_no_disk, stops_names}
-use Rattle.yp_storing.proofs.revnet.renew.Goals as goal
+use Rattle.yp_command_maps.specs.inside.Build.{last_view}
+use Rattle.yp_command.specs.office.Disks.{IsOnlyRead}
+use Rattle.yp_command_maps.specs.Revnet.{job_of, field_of, OwnDiskFails}
+use Rattle.yp_command_maps.proofs.Reversing.{renews_err, fails, built_is, risen_first, risen_second, risen_later, made_as, unmade_as}
+use Rattle.yp_command_maps.proofs.Reversing.{store_unloaded, netgroup_unloaded, none_stands, unmade, unstored, renewed}
+use Rattle.yp_command_maps.proofs.Reversing.{err_same, disk_fault_names, made_no_disk, stops_names}
+use Rattle.yp_command_maps.proofs.revnet.renew.Goals as goal
 
 pub returns-in-Err-clause-renews : goal.returns-in-Err-clause-renews
 returns-in-Err-clause-renews g c =
@@ -120,7 +120,7 @@ returns-in_err-generation-clause-renews g c =
     (unstored job c.args.now old netgroup (a + b) mid c.in-Ok.last c.in-Ok.ensures.stands c.in-Ok.ensures.any_moment netgroup' only
     groups stored version is_made c.in-Ok.ensures.nothing_written c.load.new.self.generation c.in-Ok.ensures.generation new
     c.commit.ensures.any_moment c.commit.ensures.few store status (a'' + b') refl c.in_err-generation.ensures.stops
-    (λ mild. ap (λ (slot : Held g.row.D.Denot). history slot.disk) (c.in_err-generation.ensures.early mild))
+    (λ mild. ap (λ (slot : SlotModel g.row.D.Denot). history slot.disk) (c.in_err-generation.ensures.early mild))
     (λ map e. risen_first a a'' b b'
     (risen_later a a' a'' c.load.ensures.never_falls (c.in_err-generation.ensures.cause map e)) c.load-2.ensures.never_falls))
 

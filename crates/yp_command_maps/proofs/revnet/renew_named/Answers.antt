@@ -1,9 +1,9 @@
 use Rattle.std.proofs.Common.{◌≡◌, ◌∙◌, [], ◌∷◌, ◌++◌, List, sym, ap}
 use Rattle.yp_board.specs.Catalogues.{name_view}
-use Rattle.yp_office.specs.declared.disks.NamedDisk.{NamedDisk}
-use Rattle.yp_office.specs.Disks.{names_of}
-use Rattle.yp_storing.proofs.Reversing.{no_rest, two_faults, own_disk_as}
-use Rattle.yp_storing.proofs.revnet.renew_named.Goals as goal
+use Rattle.yp_command.specs.declared.office.disks.NamedDisk.{NamedDisk}
+use Rattle.yp_command.specs.office.Disks.{names_of}
+use Rattle.yp_command_maps.proofs.Reversing.{no_rest, two_faults, own_disk_as}
+use Rattle.yp_command_maps.proofs.revnet.renew_named.Goals as goal
 
 pub returns-clause-own_disk : goal.returns-clause-own_disk
 returns-clause-own_disk g c =

@@ -2,13 +2,13 @@ use Rattle.std.proofs.Common.{◌≡◌, ◌∙◌, ℕ, List, refl, ap, subst, 
 use Rattle.std.specs.Prelude.{IfErr}
 use Rattle.yp_board.specs.declared.catalog.MapName.{MapName}
 use Rattle.yp_board.specs.Catalogues.{Name, name_view}
-use Rattle.yp_office.specs.Disks.{faults_of, faults_at}
-use Rattle.yp_office.specs.Seeing.{seeing}
-use Rattle.yp_office.specs.declared.status.Status.TheVariants.{DiskFault}
-use Rattle.yp_storing.specs.Revnet.{job_of, store_history, netgroup_history, OwnDiskFails}
-use Rattle.yp_storing.proofs.Reversing.{renews_as}
-use Rattle.yp_storing.proofs.Reversed.{revnet_does}
-use Rattle.yp_storing.proofs.revnet.reverse_map.Goals as goal
+use Rattle.yp_command.specs.office.Disks.{faults_of, faults_at}
+use Rattle.yp_command.specs.office.Seeing.{seeing}
+use Rattle.yp_command.specs.declared.office.status.Status.TheVariants.{DiskFault}
+use Rattle.yp_command_maps.specs.Revnet.{job_of, store_history, netgroup_history, OwnDiskFails}
+use Rattle.yp_command_maps.proofs.Reversing.{renews_as}
+use Rattle.yp_command_maps.proofs.Reversed.{revnet_does}
+use Rattle.yp_command_maps.proofs.revnet.reverse_map.Goals as goal
 
 pub returns-clause-does : goal.returns-clause-does
 returns-clause-does g c =

@@ -1,7 +1,7 @@
 use Rattle.std.proofs.Common.{None, Ok, Err, ◌∙◌}
 use Rattle.yp_board.specs.Catalogues.{name_view}
-use Rattle.yp_storing.proofs.Transferred.{stopped_no_write, end_disk}
-use Rattle.yp_storing.proofs.xfr.tell_transfer.Goals as goal
+use Rattle.yp_command_maps.proofs.Transferred.{stopped_no_write, end_disk}
+use Rattle.yp_command_maps.proofs.xfr.tell_transfer.Goals as goal
 
 pub returns-in-Err-clause-write_fault : goal.returns-in-Err-clause-write_fault
 returns-in-Err-clause-write_fault g c = λ e.

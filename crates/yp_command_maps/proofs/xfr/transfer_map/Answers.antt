@@ -1,10 +1,10 @@
 use Rattle.std.proofs.Common.{refl}
 use Rattle.yp_board.specs.Catalogues.{name_view}
-use Rattle.yp_office.specs.Seeing.{seeing}
-use Rattle.yp_storing.specs.Xfr.{order_view}
-use Rattle.yp_storing.proofs.Checking.{one_name}
-use Rattle.yp_storing.proofs.Transferred.{xfr_does}
-use Rattle.yp_storing.proofs.xfr.transfer_map.Goals as goal
+use Rattle.yp_command.specs.office.Seeing.{seeing}
+use Rattle.yp_command_maps.specs.inside.Xfr.{xfr_job_view}
+use Rattle.yp_command_maps.proofs.Checking.{one_name}
+use Rattle.yp_command_maps.proofs.Transferred.{xfr_does}
+use Rattle.yp_command_maps.proofs.xfr.transfer_map.Goals as goal
 
 pub transfer_on-done-requires-clause-only : goal.transfer_on-done-requires-clause-only
 transfer_on-done-requires-clause-only g c =
@@ -13,14 +13,14 @@ transfer_on-done-requires-clause-only g c =
 pub returns-clause-does : goal.returns-clause-does
 returns-clause-does g c =
     let seen = seeing g.S.Source g.K.Sink g.D.Disk g.C.Clock g.A.Dial g.I.Inbox g.T.Texts in
-    let order = order_view c.args.job in
+    let job = xfr_job_view c.args.job in
     let old = c.args.office.now in
     let new = record old {
       wire = record old.wire { sink = c.tell_transfer.new.sink };
       disks = c.transfer_on-done.new.disks;
       dial = c.transfer_on-done.new.dial;
     } in
-    xfr_does seen order old new c.transfer_on-done.result c.tell_transfer.result (record {
+    xfr_does seen job old new c.transfer_on-done.result c.tell_transfer.result (record {
       moves = c.transfer_on-done.ensures.moves;
       few = c.transfer_on-done.ensures.few;
       undialed = c.transfer_on-done.ensures.undialed;

@@ -1,6 +1,6 @@
 use Rattle.std.proofs.Common.{◌∙◌, sym, arith}
-use Rattle.yp_storing.proofs.Checking.{named_one}
-use Rattle.yp_storing.proofs.xfr.transfer_on.Goals as goal
+use Rattle.yp_command_maps.proofs.Checking.{named_one}
+use Rattle.yp_command_maps.proofs.xfr.transfer_on.Goals as goal
 
 pub put_together-requires-clause-room : goal.put_together-requires-clause-room
 put_together-requires-clause-room g c =

@@ -1,12 +1,12 @@
 use Rattle.std.proofs.Common.{Ok, Err}
 use Rattle.yp_io.specs.Dials.{dialing_of}
-use Rattle.yp_storing.specs.Xfr.{order_view}
-use Rattle.yp_storing.proofs.Transferring.{did_named}
-use Rattle.yp_storing.proofs.xfr.transfer_over.Goals as goal
+use Rattle.yp_command_maps.specs.inside.Xfr.{xfr_job_view}
+use Rattle.yp_command_maps.proofs.Transferring.{did_named}
+use Rattle.yp_command_maps.proofs.xfr.transfer_over.Goals as goal
 
 pub returns-in-Ok-done-clause-moves : goal.returns-in-Ok-done-clause-moves
 returns-in-Ok-done-clause-moves g c =
-    (did_named g.D.Disk.history g.D.Disk.faults (order_view c.args.job.now) c.args.disks.items
+    (did_named g.D.Disk.history g.D.Disk.faults (xfr_job_view c.args.job.now) c.args.disks.items
     c.into_parts-disks.result.0.items c.in-Ok.publisher c.transfer-done.new.publisher c.args.catalog
     (Ok c.in-Ok-done.installed) (dialing_of g.A.Dial.past g.A.Dial.faults c.args.dial.now)
     (dialing_of g.A.Dial.past g.A.Dial.faults c.transfer-done.new.dial) c.args.hosts.now c.deref.result.now
@@ -15,7 +15,7 @@ returns-in-Ok-done-clause-moves g c =
 
 pub returns-in-Ok-done-clause-few : goal.returns-in-Ok-done-clause-few
 returns-in-Ok-done-clause-few g c =
-    (did_named g.D.Disk.history g.D.Disk.faults (order_view c.args.job.now) c.args.disks.items
+    (did_named g.D.Disk.history g.D.Disk.faults (xfr_job_view c.args.job.now) c.args.disks.items
     c.into_parts-disks.result.0.items c.in-Ok.publisher c.transfer-done.new.publisher c.args.catalog
     (Ok c.in-Ok-done.installed) (dialing_of g.A.Dial.past g.A.Dial.faults c.args.dial.now)
     (dialing_of g.A.Dial.past g.A.Dial.faults c.transfer-done.new.dial) c.args.hosts.now c.deref.result.now
@@ -24,7 +24,7 @@ returns-in-Ok-done-clause-few g c =
 
 pub returns-in-Ok-done-clause-only : goal.returns-in-Ok-done-clause-only
 returns-in-Ok-done-clause-only g c =
-    (did_named g.D.Disk.history g.D.Disk.faults (order_view c.args.job.now) c.args.disks.items
+    (did_named g.D.Disk.history g.D.Disk.faults (xfr_job_view c.args.job.now) c.args.disks.items
     c.into_parts-disks.result.0.items c.in-Ok.publisher c.transfer-done.new.publisher c.args.catalog
     (Ok c.in-Ok-done.installed) (dialing_of g.A.Dial.past g.A.Dial.faults c.args.dial.now)
     (dialing_of g.A.Dial.past g.A.Dial.faults c.transfer-done.new.dial) c.args.hosts.now c.deref.result.now
@@ -33,7 +33,7 @@ returns-in-Ok-done-clause-only g c =
 
 pub returns-clause-moves : goal.returns-clause-moves
 returns-clause-moves g c =
-    (did_named g.D.Disk.history g.D.Disk.faults (order_view c.args.job.now) c.args.disks.items
+    (did_named g.D.Disk.history g.D.Disk.faults (xfr_job_view c.args.job.now) c.args.disks.items
     c.into_parts-disks.result.0.items c.in-Ok.publisher c.transfer-done.new.publisher c.args.catalog
     (Err c.in-Err-done.fault) (dialing_of g.A.Dial.past g.A.Dial.faults c.args.dial.now)
     (dialing_of g.A.Dial.past g.A.Dial.faults c.transfer-done.new.dial) c.args.hosts.now c.deref.result.now
@@ -42,7 +42,7 @@ returns-clause-moves g c =
 
 pub returns-clause-few : goal.returns-clause-few
 returns-clause-few g c =
-    (did_named g.D.Disk.history g.D.Disk.faults (order_view c.args.job.now) c.args.disks.items
+    (did_named g.D.Disk.history g.D.Disk.faults (xfr_job_view c.args.job.now) c.args.disks.items
     c.into_parts-disks.result.0.items c.in-Ok.publisher c.transfer-done.new.publisher c.args.catalog
     (Err c.in-Err-done.fault) (dialing_of g.A.Dial.past g.A.Dial.faults c.args.dial.now)
     (dialing_of g.A.Dial.past g.A.Dial.faults c.transfer-done.new.dial) c.args.hosts.now c.deref.result.now
@@ -51,7 +51,7 @@ returns-clause-few g c =
 
 pub returns-clause-only : goal.returns-clause-only
 returns-clause-only g c =
-    (did_named g.D.Disk.history g.D.Disk.faults (order_view c.args.job.now) c.args.disks.items
+    (did_named g.D.Disk.history g.D.Disk.faults (xfr_job_view c.args.job.now) c.args.disks.items
     c.into_parts-disks.result.0.items c.in-Ok.publisher c.transfer-done.new.publisher c.args.catalog
     (Err c.in-Err-done.fault) (dialing_of g.A.Dial.past g.A.Dial.faults c.args.dial.now)
     (dialing_of g.A.Dial.past g.A.Dial.faults c.transfer-done.new.dial) c.args.hosts.now c.deref.result.now

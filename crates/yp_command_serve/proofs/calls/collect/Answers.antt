@@ -1,9 +1,9 @@
 use Rattle.std.proofs.Common.{◌≡◌, ℕ, List, ◌++◌, take, sym, ap, ◌∙◌, append_assoc, arith}
 use Rattle.std.proofs.lemmas.List.{length-take}
 use Rattle.yp_rpc.specs.Records.{joined}
-use Rattle.yp_answer.specs.Streams.{Streamed, parts_left}
-use Rattle.yp_serving.proofs.Gathered.{gives_joined, gives_none, smaller}
-use Rattle.yp_serving.proofs.calls.collect.Goals as goal
+use Rattle.yp_answer.specs.inside.Streams.{Streamed, parts_left}
+use Rattle.yp_command_serve.proofs.Gathered.{gives_joined, gives_none, smaller}
+use Rattle.yp_command_serve.proofs.calls.collect.Goals as goal
 
 pub loop-len-init : goal.loop-len-init
 loop-len-init c =

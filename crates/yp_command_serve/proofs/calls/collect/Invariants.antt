@@ -1,7 +1,7 @@
 use Rattle.std.proofs.Common.{◌≡◌, ◌+◌, ◌≤◌, ◌++◌, [], length, take, min}
 use Rattle.yp_rpc.specs.Records.{joined}
-use Rattle.yp_answer.specs.Streams.{parts_left}
-use Rattle.yp_serving.proofs.calls.collect.Given as goal
+use Rattle.yp_answer.specs.inside.Streams.{parts_left}
+use Rattle.yp_command_serve.proofs.calls.collect.Given as goal
 
 abbrev pub invariant-loop-len : goal.invariant-loop-len
 invariant-loop-len l =

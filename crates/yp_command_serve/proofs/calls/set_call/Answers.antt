@@ -1,9 +1,10 @@
 use Rattle.std.proofs.Common.{◌∙◌, arith, append_assoc}
 use Rattle.yp_xdr.specs.Spelling.{spelling, opaque, fixed}
 use Rattle.yp_rpc.specs.Call.{front_kind, procedure_kind}
-use Rattle.yp_rpc.specs.Called.{front, heading, called}
-use Rattle.yp_serving.proofs.Calling.{call_set}
-use Rattle.yp_serving.proofs.calls.set_call.Goals as goal
+use Rattle.yp_rpc.specs.Called.{front, heading}
+use Rattle.yp_rpc.specs.inside.Called.{called}
+use Rattle.yp_command_serve.proofs.Calling.{call_set}
+use Rattle.yp_command_serve.proofs.calls.set_call.Goals as goal
 
 pub unreachable-requires : goal.unreachable-requires
 unfolding opaque fixed

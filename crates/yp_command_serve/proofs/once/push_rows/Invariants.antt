@@ -1,7 +1,7 @@
 use Rattle.std.proofs.Common.{◌≡◌, drop, map}
 use Rattle.yp_version.specs.Drafts.{with_rows, refused_from, first_refused}
-use Rattle.yp_words.specs.Words.{row_view}
-use Rattle.yp_serving.proofs.once.push_rows.Given as goal
+use Rattle.yp_command.specs.Words.{row_view}
+use Rattle.yp_command_serve.proofs.once.push_rows.Given as goal
 
 abbrev pub invariant-loop-row : goal.invariant-loop-row
 invariant-loop-row l = record {

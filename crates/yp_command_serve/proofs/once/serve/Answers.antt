@@ -1,16 +1,16 @@
 use Rattle.std.proofs.Common.{refl, sym, ap, ◌∙◌, subst, inl}
 use Rattle.yp_answer.specs.Maps.{Maps, maps_of}
-use Rattle.yp_session.specs.Progress.{begun}
-use Rattle.yp_session.specs.Wires.{wire_of}
-use Rattle.yp_session.specs.declared.session.TheConstants.{CALLS_MAX}
-use Rattle.yp_session.specs.Runs.{dialogue_at, Runs}
-use Rattle.yp_office.specs.declared.status.Status.{Status}
-use Rattle.yp_words.specs.Words.{nobody}
-use Rattle.yp_serving.specs.Served.{Traffic, ServesInput, IsStatusOf, Fixed, fixed, fixed_conduct, status_of}
-use Rattle.yp_serving.proofs.Told.{serves_told, none_is_open, if_told}
-use Rattle.yp_serving.proofs.Ended.{status_of_end}
-use Rattle.yp_serving.proofs.Watching.{watched}
-use Rattle.yp_serving.proofs.once.serve.Goals as goal
+use Rattle.yp_answer.specs.session.Progress.{begun}
+use Rattle.yp_answer.specs.session.Wires.{wire_of}
+use Rattle.yp_answer.specs.declared.session.session.TheConstants.{CALLS_MAX}
+use Rattle.yp_answer.specs.session.Runs.{dialogue_at, Runs}
+use Rattle.yp_command.specs.declared.office.status.Status.{Status}
+use Rattle.yp_command.specs.Words.{nobody}
+use Rattle.yp_command_serve.specs.Served.{Traffic, ServesInput, IsStatusOf, Fixed, fixed, fixed_conduct, status_of}
+use Rattle.yp_command_serve.proofs.Told.{serves_told, none_is_open, if_told}
+use Rattle.yp_command_serve.proofs.Ended.{status_of_end}
+use Rattle.yp_command_serve.proofs.Watching.{watched}
+use Rattle.yp_command_serve.proofs.once.serve.Goals as goal
 
 pub returns-clause-served : goal.returns-clause-served
 returns-clause-served g c =

@@ -4,12 +4,12 @@ use Rattle.yp_version.specs.Versions.{MapVersion}
 use Rattle.yp_answer.specs.Maps.{maps_of}
 use Rattle.yp_board.specs.Catalogues.{name_view}
 use Rattle.yp_board.specs.Views.{Seen}
-use Rattle.yp_serving.specs.Served.{ServesInput, traffic_of}
-use Rattle.yp_words.specs.Words.{row_view}
-use Rattle.yp_office.specs.Seeing.{Seeing, seeing, input}
-use Rattle.yp_serving.specs.Once.{once_board}
-use Rattle.yp_serving.proofs.Foregone.{nothing_served}
-use Rattle.yp_serving.proofs.once.serve_once.Goals as goal
+use Rattle.yp_command_serve.specs.Served.{ServesInput, traffic_of}
+use Rattle.yp_command.specs.Words.{row_view}
+use Rattle.yp_command.specs.office.Seeing.{Seeing, seeing, input}
+use Rattle.yp_command_serve.specs.Once.{once_board}
+use Rattle.yp_command_serve.proofs.Foregone.{nothing_served}
+use Rattle.yp_command_serve.proofs.once.serve_once.Goals as goal
 
 pub returns-in-Err-clause-does : goal.returns-in-Err-clause-does
 returns-in-Err-clause-does g c =

@@ -1,7 +1,7 @@
 use Rattle.std.proofs.Common.{map}
-use Rattle.yp_words.specs.Words.{row_view}
-use Rattle.yp_serving.proofs.Pushed.{once_finished}
-use Rattle.yp_serving.proofs.once.version_of.Goals as goal
+use Rattle.yp_command.specs.Words.{row_view}
+use Rattle.yp_command_serve.proofs.Pushed.{once_finished}
+use Rattle.yp_command_serve.proofs.once.version_of.Goals as goal
 
 pub returns-in-Ok-finish-clause-ok : goal.returns-in-Ok-finish-clause-ok
 returns-in-Ok-finish-clause-ok g c =

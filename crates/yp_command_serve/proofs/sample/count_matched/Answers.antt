@@ -1,10 +1,10 @@
 use Rattle.std.proofs.Common.{◌≡◌, true, false, sym, ap, ◌∙◌, arith}
 use Rattle.yp_version.specs.Rows.{Row}
 use Rattle.yp_answer.specs.Maps.{Maps, maps_of}
-use Rattle.yp_serving.specs.Sample.{is_matched}
-use Rattle.yp_serving.proofs.Counted.{row_yes, row_no, row_there}
-use Rattle.yp_serving.proofs.sample.count_matched.Goals.{in-Some+in_ok-is_matched+then-branch, in-Some+in_ok-is_matched+else-branch, in_default}
-use Rattle.yp_serving.proofs.sample.count_matched.Goals as goal
+use Rattle.yp_command_serve.specs.Sample.{is_matched}
+use Rattle.yp_command_serve.proofs.Counted.{row_yes, row_no, row_there}
+use Rattle.yp_command_serve.proofs.sample.count_matched.Goals.{in-Some+in_ok-is_matched+then-branch, in-Some+in_ok-is_matched+else-branch, in_default}
+use Rattle.yp_command_serve.proofs.sample.count_matched.Goals as goal
 
 pub loop-i-preserved : goal.loop-i-preserved
 loop-i-preserved c =

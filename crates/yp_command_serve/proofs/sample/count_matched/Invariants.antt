@@ -1,7 +1,7 @@
 use Rattle.std.proofs.Common.{◌≡◌, ◌≤◌, take, count_by}
 use Rattle.yp_answer.specs.Maps.{maps_of}
-use Rattle.yp_serving.specs.Sample.{is_matched}
-use Rattle.yp_serving.proofs.sample.count_matched.Given as goal
+use Rattle.yp_command_serve.specs.Sample.{is_matched}
+use Rattle.yp_command_serve.proofs.sample.count_matched.Given as goal
 
 abbrev pub invariant-loop-i : goal.invariant-loop-i
 invariant-loop-i l = record {

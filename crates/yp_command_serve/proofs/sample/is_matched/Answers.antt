@@ -1,8 +1,8 @@
 use Rattle.std.proofs.Common.{ℕ, List, ap, ◌∙◌, take}
 use Rattle.std.specs.Prelude.{bytes_eq}
 use Rattle.yp_answer.specs.Maps.{maps_of}
-use Rattle.yp_serving.proofs.Counted.{unmatched, matched_is}
-use Rattle.yp_serving.proofs.sample.is_matched.Goals as goal
+use Rattle.yp_command_serve.proofs.Counted.{unmatched, matched_is}
+use Rattle.yp_command_serve.proofs.sample.is_matched.Goals as goal
 
 pub returns-then-not-branch-clause-matched : goal.returns-then-not-branch-clause-matched
 returns-then-not-branch-clause-matched c =

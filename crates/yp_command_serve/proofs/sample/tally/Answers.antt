@@ -1,9 +1,9 @@
 use Rattle.std.proofs.Common.{ap, ◌∙◌}
 use Rattle.yp_answer.specs.Maps.{Maps, maps_of}
-use Rattle.yp_serving.specs.Callers.{reply_to}
-use Rattle.yp_serving.specs.Sample.{reply_len, sample_all}
-use Rattle.yp_serving.proofs.Counted.{tally_is}
-use Rattle.yp_serving.proofs.sample.tally.Goals as goal
+use Rattle.yp_command_serve.specs.Callers.{reply_to}
+use Rattle.yp_command_serve.specs.Sample.{reply_len, sample_all}
+use Rattle.yp_command_serve.proofs.Counted.{tally_is}
+use Rattle.yp_command_serve.proofs.sample.tally.Goals as goal
 
 pub returns : goal.returns
 returns c =

@@ -1,5 +1,5 @@
 use Rattle.std.proofs.Common.{◌≡◌, ◌∙◌}
-use Rattle.yp_serving.proofs.sample.tally_of.Goals as goal
+use Rattle.yp_command_serve.proofs.sample.tally_of.Goals as goal
 
 pub returns : goal.returns
 returns c =

@@ -1,12 +1,12 @@
 use Rattle.std.proofs.Common.{rules, ◌≤◌, map, length, inr, refl}
-use Rattle.yp_slot.specs.Stands.{file_max}
+use Rattle.yp_map_file.specs.Stands.{file_max}
 use Rattle.yp_board.specs.Catalogues.{name_view}
-use Rattle.yp_words.specs.Words.{host_view}
-use Rattle.yp_office.specs.Disks.{disks_of}
-use Rattle.yp_office.specs.Seeing.{Seeing, seeing}
-use Rattle.yp_serving.specs.Session.{service, connection}
-use Rattle.yp_serving.proofs.Sessioned.{nothing_served, nothing_more}
-use Rattle.yp_serving.proofs.session.serve_session.Goals as goal
+use Rattle.yp_command.specs.Words.{host_view}
+use Rattle.yp_command.specs.office.Disks.{disks_of}
+use Rattle.yp_command.specs.office.Seeing.{Seeing, seeing}
+use Rattle.yp_command_serve.specs.Session.{service, connection}
+use Rattle.yp_command_serve.proofs.Sessioned.{nothing_served, nothing_more}
+use Rattle.yp_command_serve.proofs.session.serve_session.Goals as goal
 
 pub returns-in-Err-clause-does : goal.returns-in-Err-clause-does
 returns-in-Err-clause-does g c =

@@ -1,21 +1,21 @@
 use Rattle.std.proofs.Common.{List, map, length, ap, sym, ◌∙◌}
 use Rattle.yp_board.specs.Catalogues.{Catalogue, name_view}
 use Rattle.yp_board.specs.declared.catalog.MapName.{MapName}
-use Rattle.yp_session.specs.Wires.{wire_of}
-use Rattle.yp_publish.specs.Keeping.{keeping_of}
-use Rattle.yp_server.specs.Locals.{telling_of}
-use Rattle.yp_publish.specs.Begins.{plain_log}
-use Rattle.yp_serving.proofs.Sessioned.{session_served, wires_same, write_told, fault_risen, cause_named, nothing_served, same_count, number_within}
-use Rattle.yp_server.specs.Connections.{service_of}
-use Rattle.yp_serving.specs.Session.{connection_at}
-use Rattle.yp_serving.proofs.session.session_on.Goals as goal
+use Rattle.yp_answer.specs.session.Wires.{wire_of}
+use Rattle.yp_publisher.specs.Keeping.{keeping_of}
+use Rattle.yp_host.specs.inside.Locals.{telling_by}
+use Rattle.yp_publisher.specs.Begins.{plain_log}
+use Rattle.yp_command_serve.proofs.Sessioned.{session_served, wires_same, write_told, fault_risen, cause_named, nothing_served, same_count, number_within}
+use Rattle.yp_host.specs.Connections.{service_of}
+use Rattle.yp_command_serve.specs.Session.{connection_at}
+use Rattle.yp_command_serve.proofs.session.session_on.Goals as goal
 
 pub returns-clause-sessions : goal.returns-clause-sessions
 returns-clause-sessions g c =
     let did = c.serve_wire-served in
     let apart = c.in-Ok-take_apart.apart in
     let given : Catalogue = record { own = c.args.own.items; maps = map name_view c.args.stores.items } in
-    session_served (keeping_of g.D.Disk.history g.D.Disk.faults plain_log) (telling_of g.T.Texts g.C.Clock g.A.Dial.past g.A.Dial.letters g.A.Dial.faults) c.in-Ok.catalog given c.args.peer did.result.0 (map name_view c.deref.result.now) c.status_of-status.result
+    session_served (keeping_of g.D.Disk.history g.D.Disk.faults plain_log) (telling_by g.T.Texts g.C.Clock g.A.Dial) c.in-Ok.catalog given c.args.peer did.result.0 (map name_view c.deref.result.now) c.status_of-status.result
     (record { wire = wire_of g.S.Source g.K.Sink c.args.wire.now; disks = apart.disks.items; desk = c.args.desk })
     (record { wire = wire_of g.S.Source g.K.Sink did.new.wire; disks = did.result.1.disks.items; desk = did.result.1.desk })
     (g.W.Witness.wires c.args.witness.now) (g.W.Witness.wires did.new.witness) c.args.disks.now.items c.put_together.new.named.items
@@ -45,13 +45,13 @@ returns-clause-disk_fault g c = λ store e.
 -- nothing was done
 pub returns-in-Err-NoMemory-clause-sessions : goal.returns-in-Err-NoMemory-clause-sessions
 returns-in-Err-NoMemory-clause-sessions g c =
-    nothing_served (service_of (keeping_of g.D.Disk.history g.D.Disk.faults plain_log) (telling_of g.T.Texts g.C.Clock g.A.Dial.past g.A.Dial.letters g.A.Dial.faults) (record { own = c.args.own.items; maps = map name_view c.args.stores.items }) c.args.peer)
+    nothing_served (service_of (keeping_of g.D.Disk.history g.D.Disk.faults plain_log) (telling_by g.T.Texts g.C.Clock g.A.Dial) (record { own = c.args.own.items; maps = map name_view c.args.stores.items }) c.args.peer)
     (connection_at (wire_of g.S.Source g.K.Sink c.args.wire.now) c.args.disks.now.items c.args.desk) (g.W.Witness.wires c.args.witness.now)
 
 pub returns-in-Err-take_apart-clause-sessions : goal.returns-in-Err-take_apart-clause-sessions
 returns-in-Err-take_apart-clause-sessions g c =
     rw c.in-Err-take_apart.ensures.err
-    (nothing_served (service_of (keeping_of g.D.Disk.history g.D.Disk.faults plain_log) (telling_of g.T.Texts g.C.Clock g.A.Dial.past g.A.Dial.letters g.A.Dial.faults) (record { own = c.args.own.items; maps = map name_view c.args.stores.items }) c.args.peer)
+    (nothing_served (service_of (keeping_of g.D.Disk.history g.D.Disk.faults plain_log) (telling_by g.T.Texts g.C.Clock g.A.Dial) (record { own = c.args.own.items; maps = map name_view c.args.stores.items }) c.args.peer)
     (connection_at (wire_of g.S.Source g.K.Sink c.args.wire.now) c.args.disks.now.items c.args.desk) (g.W.Witness.wires c.args.witness.now))
 
 -- the map whose file wasn't loaded is one of them

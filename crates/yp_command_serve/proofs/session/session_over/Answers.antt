@@ -1,14 +1,14 @@
 use Rattle.std.proofs.Common.{map, refl, subst}
-use Rattle.yp_session.specs.Wires.{SeesMore}
-use Rattle.yp_xfr.specs.HostTable.{HostList}
-use Rattle.yp_server.specs.declared.desk.Desk.{Desk}
-use Rattle.yp_server.specs.Connections.{Connection}
-use Rattle.yp_office.specs.declared.office.Office.{Office}
+use Rattle.yp_answer.specs.session.Wires.{SeesMore}
+use Rattle.yp_transfer.specs.HostTable.{HostList}
+use Rattle.yp_host.specs.declared.desk.Desk.{Desk}
+use Rattle.yp_host.specs.Connections.{Connection}
+use Rattle.yp_command.specs.declared.office.office.Office.{Office}
 use Rattle.yp_board.specs.Catalogues.{name_view}
-use Rattle.yp_office.specs.Seeing.{Seeing, seeing}
-use Rattle.yp_serving.specs.Session.{service, connection, Sessions}
-use Rattle.yp_serving.proofs.Completed.{session_completes}
-use Rattle.yp_serving.proofs.session.session_over.Goals as goal
+use Rattle.yp_command.specs.office.Seeing.{Seeing, seeing}
+use Rattle.yp_command_serve.specs.Session.{service, connection, Sessions}
+use Rattle.yp_command_serve.proofs.Completed.{session_completes}
+use Rattle.yp_command_serve.proofs.session.session_over.Goals as goal
 
 pub returns-clause-does : goal.returns-clause-does
 returns-clause-does g c =

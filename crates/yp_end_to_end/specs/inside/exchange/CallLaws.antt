@@ -1,7 +1,7 @@
 -- What a call of a client answers, where its wire gives the reply of a server.
 use Rattle.std.specs.Prelude.{◌≡◌, ℕ, Bool, false, List, Some, Result, Ok, Err, ⊤}
 use Rattle.std.specs.Borrow.{Bor}
-use Rattle.yp_msgs.specs.declared.maplist.MapList.{MapList}
+use Rattle.yp_messages.specs.declared.maplist.MapList.{MapList}
 use Rattle.yp_client.specs.declared.answers.Row.{Row}
 use Rattle.yp_io.specs.declared.stream.Peer.{Peer}
 use Rattle.yp_version.specs.Drafts.{Draft}
@@ -14,34 +14,35 @@ use Rattle.yp_client.specs.States.{ClientState}
 use Rattle.yp_client.specs.Results.{Says, SaysInMemory}
 use Rattle.yp_client.specs.Calls.{Calls}
 use Rattle.yp_client.specs.All.{AllSaid, all_said, SaysAll}
-use Rattle.yp_exchange.specs.Served.{ReplyTells}
-use Rattle.yp_exchange.specs.Answered.{GivesReply}
+use Rattle.yp_end_to_end.specs.inside.exchange.Served.{ReplyTells}
+use Rattle.yp_end_to_end.specs.inside.exchange.Answered.{GivesReply}
 
--- What is behind the reply is left.
-abbrev pub Leaves : List ℕ → ClientState → Type 0
-Leaves rest new = new.wire.input ≡ Some rest
+-- The client has read the reply, and the input goes on with these bytes.
+abbrev pub LeavesInput : List ℕ → ClientState → Type 0
+LeavesInput rest new = new.wire.input ≡ Some rest
 
--- It is what is told, seen by view, unless the wire failed. Where it didn't, what is behind the reply is left.
+-- The result is what the server told, seen by `view`, unless the wire failed. Where it didn't, the bytes behind the
+-- reply are left in the input.
 abbrev pub AnswersAsTold : {X V : Type 0} → (X → V) → Result V ClientFault → List ℕ → Result X ClientFault
     → ClientState → Type 0
 AnswersAsTold view expected rest (Err ReadFault) new = ⊤
 AnswersAsTold view expected rest (Err WriteFault) new = ⊤
-AnswersAsTold view expected rest (Ok x) new = (expected ≡ Ok (view x)) × Leaves rest new
-AnswersAsTold view expected rest (Err fault) new = (expected ≡ Err fault) × Leaves rest new
+AnswersAsTold view expected rest (Ok x) new = (expected ≡ Ok (view x)) × LeavesInput rest new
+AnswersAsTold view expected rest (Err fault) new = (expected ≡ Err fault) × LeavesInput rest new
 
--- The same, unless memory ran out for what is told.
+-- The result is what the server told, seen by `view`, unless the wire failed or there was no memory for it.
 abbrev pub AnswersInMemory : {X V : Type 0} → (X → V) → Result V ClientFault → List ℕ → Result X ClientFault
     → ClientState → Type 0
-AnswersInMemory view expected rest (Err NoMemory) new = Leaves rest new
+AnswersInMemory view expected rest (Err NoMemory) new = LeavesInput rest new
 AnswersInMemory view expected rest answer new = AnswersAsTold view expected rest answer new
 
--- the same of ALL, which leaves a builder
+-- The result of ALL, and the rows in the builder, are what the server told, unless the wire failed or memory ran out.
 abbrev pub AllAnswersAsTold : AllSaid → List ℕ → Draft → Result (Unit {0}) ClientFault → ClientState → Type 0
 AllAnswersAsTold expected rest draft (Err ReadFault) new = ⊤
 AllAnswersAsTold expected rest draft (Err WriteFault) new = ⊤
-AllAnswersAsTold expected rest draft (Err NoMemory) new = Leaves rest new
+AllAnswersAsTold expected rest draft (Err NoMemory) new = LeavesInput rest new
 AllAnswersAsTold expected rest draft answer new =
-    (expected.draft ≡ draft) × (expected.end ≡ answer) × Leaves rest new
+    (expected.draft ≡ draft) × (expected.end ≡ answer) × LeavesInput rest new
 
 -- The wire of a client that isn't spent gives the reply to its next call, on these maps.
 pub record GivesNextReply (maps : Maps) (peer : Peer) (limit : ℕ) (call : ℕ → List ℕ) (rest : List ℕ)

@@ -1,20 +1,24 @@
 -- What a client is told is what the maps of the server have, for each procedure.
 use Rattle.std.specs.Prelude.{ℕ, ◌≤◌, List, [], length, Ok, IfOk}
 use Rattle.yp_io.specs.declared.stream.Peer.{Peer}
-use Rattle.yp_rpc.specs.Laws.{IsWord}
-use Rattle.yp_msgs.specs.Numbers.{name_max, key_max}
+use Rattle.yp_rpc.specs.inside.Laws.{IsWord}
+use Rattle.yp_messages.specs.Numbers.{name_max, key_max}
 use Rattle.yp_version.specs.Drafts.{Draft}
 use Rattle.yp_board.specs.Catalogues.{serves}
 use Rattle.yp_answer.specs.Maps.{Maps, row_check}
 use Rattle.yp_answer.specs.Served.{AreServed}
 use Rattle.yp_client.specs.Limits.{reply_max, all_max}
-use Rattle.yp_client.specs.Results.{served_of, value_of, row_of, master_of, order_of, maps_of}
+use Rattle.yp_client.specs.Results.{value_of, row_of, master_of, order_of, maps_of}
+use Rattle.yp_client.specs.inside.Results.{served_of}
 use Rattle.yp_client.specs.All.{all_said}
-use Rattle.yp_client.specs.Asked.{domain_call, match_call, first_call, next_call, all_call, master_call, order_call}
+use Rattle.yp_client.specs.Asked.{match_call, first_call, next_call, all_call, master_call, order_call}
+use Rattle.yp_client.specs.inside.Asked.{domain_call}
 use Rattle.yp_client.specs.Asked.{maplist_call}
-use Rattle.yp_exchange.specs.Told.{told, rows_tell, map_tells, value_in, first_in, next_in}
-use Rattle.yp_exchange.specs.Told.{master_in, order_in, all_told, names_in}
-use Rattle.yp_exchange.specs.Served.{ReplyTells, HasRoom}
+use Rattle.yp_end_to_end.specs.exchange.Told.{told, rows_tell, map_tells, value_in}
+use Rattle.yp_end_to_end.specs.inside.exchange.Told.{first_in, next_in}
+use Rattle.yp_end_to_end.specs.exchange.Told.{master_in, order_in, names_in}
+use Rattle.yp_end_to_end.specs.inside.exchange.Told.{all_told}
+use Rattle.yp_end_to_end.specs.inside.exchange.Served.{ReplyTells, DraftHasRoom}
 
 -- a call about a domain, about a map, and about a key, whose parts are within their limits
 abbrev pub ForDomain : (Maps → Peer → ℕ → List ℕ → Type 0) → Type 0
@@ -54,7 +58,8 @@ NextTells = ForKey (λ maps peer xid domain map key.
 
 -- ALL: all its rows, onto a builder that has room for them
 abbrev pub AllTells : Type 0
-AllTells = ForMap (λ maps peer xid domain map. (draft : Draft) → HasRoom draft (row_check maps peer.port domain map) →
+AllTells = ForMap (λ maps peer xid domain map. (draft : Draft)
+    → DraftHasRoom draft (row_check maps peer.port domain map) →
     ReplyTells maps peer all_max (all_call domain map xid) (all_said draft xid)
     (all_told draft (row_check maps peer.port domain map)))
 
@@ -78,4 +83,4 @@ abbrev pub RoomForVersion : Type 0
 RoomForVersion = (maps : Maps) (port : ℕ) (domain map : List ℕ) (order : ℕ) (master : List ℕ)
     → AreServed maps
     → IfOk (row_check maps port domain map) (λ version. length master ≤ length version.master)
-    → HasRoom (record { order = order; master = master; rows = [] }) (row_check maps port domain map)
+    → DraftHasRoom (record { order = order; master = master; rows = [] }) (row_check maps port domain map)

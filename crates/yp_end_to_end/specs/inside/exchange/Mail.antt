@@ -3,28 +3,29 @@ use Rattle.std.specs.Prelude.{◌≡◌, ℕ, ◌+◌, ◌≤◌, nat_lt, List, 
 use Rattle.std.specs.Prelude.{if◌then◌else◌}
 use Rattle.yp_io.specs.declared.stream.Peer.{Peer}
 use Rattle.yp_xdr.specs.Kind.{U32, Sequence}
-use Rattle.yp_xdr.specs.Reading.{Unread, reading}
-use Rattle.yp_msgs.specs.declared.stat.YpStat.{YpStat}
-use Rattle.yp_msgs.specs.declared.stat.YpStat.TheVariants.{Nomore, Nokey, Yperr}
+use Rattle.yp_xdr.specs.Reading.{Remaining, reading}
+use Rattle.yp_messages.specs.declared.stat.YpStat.{YpStat}
+use Rattle.yp_messages.specs.declared.stat.YpStat.TheVariants.{Nomore, Nokey, Yperr}
 use Rattle.yp_version.specs.Rows.{Row, row_len, first_of, following}
 use Rattle.yp_version.specs.Versions.{MapVersion}
 use Rattle.yp_answer.specs.declared.procedure.Path.TheVariants.{Datagram}
-use Rattle.yp_answer.specs.Numbers.{datagram_max}
+use Rattle.yp_rpc.specs.Turns.{datagram_max}
 use Rattle.yp_answer.specs.Maps.{Maps}
 use Rattle.yp_answer.specs.Reply.{Bytes, reply}
 use Rattle.yp_client.specs.Results.{row_of, master_of, order_of}
 use Rattle.yp_client.specs.Asked.{first_call, next_call, master_call, order_call}
-use Rattle.yp_exchange.specs.Told.{turned, rows_tell, map_tells, master_in, order_in}
-use Rattle.yp_exchange.specs.Laws.{ForMap, ForKey}
+use Rattle.yp_end_to_end.specs.exchange.Told.{rows_tell, map_tells, master_in, order_in}
+use Rattle.yp_end_to_end.specs.inside.exchange.Told.{turned}
+use Rattle.yp_end_to_end.specs.inside.exchange.Laws.{ForMap, ForKey}
 
 -- A server that knows these maps has one reply to a call with this number in a datagram. It fits into one, begins with
--- the number and 1, REPLY, and says what is expected.
+-- the number and 1, REPLY (RFC 5531 section 9), and says what is expected.
 pub record MailTells {V : Type 0} (maps : Maps) (peer : Peer) (xid : ℕ) (call : List ℕ) (said : List ℕ → V)
     (expected : V) : Type 0 where
   pub bytes : List ℕ
   pub replied : reply Datagram maps peer call ≡ Bytes bytes
   pub within : length bytes ≤ datagram_max
-  pub rest : Unread
+  pub rest : Remaining
   pub begins : reading (Sequence U32 U32) (record { at = 0; bytes = bytes }) ≡ Ok ((xid, 1), rest)
   pub says : said bytes ≡ expected
 

@@ -6,18 +6,21 @@ use Rattle.yp_board.specs.Logs.{Log}
 use Rattle.yp_answer.specs.Maps.{Maps}
 use Rattle.yp_answer.specs.Served.{AreServed, maps_on}
 use Rattle.yp_client.specs.States.{ClientState, IsFirst}
-use Rattle.yp_query.specs.declared.fault.QueryFault.{QueryFault}
-use Rattle.yp_client.specs.Questions.{ByteQuestion, QuestionIsWithin}
-use Rattle.yp_query.specs.Asked.{Outcome, Converses}
-use Rattle.yp_query.specs.Complete.{HasCome, HasAnswer}
-use Rattle.yp_query.specs.Scenes.{Scene, Asks}
-use Rattle.yp_exchange.specs.Runs.{RepliesInTurn, sent_all, calls_made, PrintsOnLogs}
-use Rattle.yp_exchange.specs.Answered.{GivesReplies, text_told, HasText, ComesTo, PrintsTold}
+use Rattle.yp_client.specs.declared.query.fault.QueryFault.{QueryFault}
+use Rattle.yp_client.specs.Questions.{ByteQuestion}
+use Rattle.yp_client.specs.inside.Questions.{QuestionIsWithin}
+use Rattle.yp_client.specs.query.Asked.{QueryOutcome, Converses}
+use Rattle.yp_client.specs.query.Complete.{HasCome, HasAnswer}
+use Rattle.yp_client.specs.query.Scenes.{QueryTells, Asks}
+use Rattle.yp_end_to_end.specs.exchange.Runs.{sent_all, calls_made, PrintsOnLogs}
+use Rattle.yp_end_to_end.specs.inside.exchange.Runs.{RepliesInTurn}
+use Rattle.yp_end_to_end.specs.exchange.Answered.{text_told, IsOutcomeOf, PrintsTold}
+use Rattle.yp_end_to_end.specs.inside.exchange.Answered.{GivesReplies, HasText}
 
 -- the calls of a question over such a wire come to the text of what the maps tell
 abbrev pub CallsAreTold : Type 0
 CallsAreTold =
-    (first second : Maps) (caller : Peer) (question : ByteQuestion) (stream : List ℕ) (outcome : Outcome)
+    (first second : Maps) (caller : Peer) (question : ByteQuestion) (stream : List ℕ) (outcome : QueryOutcome)
     (old new : ClientState)
     → AreServed first
     → AreServed second
@@ -26,13 +29,14 @@ CallsAreTold =
     → IsFirst old
     → old.wire.input ≡ Some stream
     → Converses question outcome old new
-    → ComesTo (text_told first second caller question) outcome
+    → IsOutcomeOf (text_told first second caller question) outcome
 
--- so this is what a question prints, where the server that was dialed gave such a wire
+-- A question prints what the maps of a server tell, where the wire to that server gives its replies to the calls of the
+-- question, on two states of its maps.
 abbrev pub QueryPrintsTold : Type 0
 QueryPrintsTold =
     (first second : Maps) (server caller : Peer) (question : ByteQuestion) (stream : List ℕ)
-    (result : Result (Unit {0}) QueryFault) (old new : Scene)
+    (result : Result (Unit {0}) QueryFault) (old new : QueryTells)
     → AreServed first
     → AreServed second
     → QuestionIsWithin question
@@ -41,12 +45,13 @@ QueryPrintsTold =
     → Asks server question result old new
     → PrintsTold (text_told first second caller question) result old.output new.output
 
--- and where the wire gives the replies of a server to the calls of the question in turn, on a log that grows: on two
--- logs of that server
+-- A question prints what the maps of a server tell, where the wire gives the replies of that server to the calls of the
+-- question in turn, while its log grows: the two states of the maps are those of two logs between the first and the
+-- last.
 abbrev pub RunIsPrinted : Type 0
 RunIsPrinted =
     (catalogue : Catalogue) (server caller : Peer) (question : ByteQuestion) (replies : List (List ℕ))
-    (rest : List ℕ) (before after : Log) (result : Result (Unit {0}) QueryFault) (old new : Scene)
+    (rest : List ℕ) (before after : Log) (result : Result (Unit {0}) QueryFault) (old new : QueryTells)
     → AreServed (maps_on catalogue after)
     → QuestionIsWithin question
     → RepliesInTurn catalogue caller (calls_made question replies) replies before after

@@ -1,7 +1,7 @@
 -- What a call of a client comes to at a server.
 use Rattle.std.specs.Prelude.{◌≡◌, ℕ, ◌+◌, ◌≤◌, List, [], length, Result, IfOk}
 use Rattle.yp_io.specs.declared.stream.Peer.{Peer}
-use Rattle.yp_msgs.specs.declared.stat.YpStat.{YpStat}
+use Rattle.yp_messages.specs.declared.stat.YpStat.{YpStat}
 use Rattle.yp_version.specs.Limits.{body_max}
 use Rattle.yp_version.specs.Rows.{rows_len}
 use Rattle.yp_version.specs.Versions.{MapVersion}
@@ -19,6 +19,6 @@ pub record ReplyTells {V : Type 0} (maps : Maps) (peer : Peer) (limit : ℕ) (ca
   pub says : said bytes ≡ expected
 
 -- A builder has no rows, and room for those of a version, where one is held.
-pub record HasRoom (draft : Draft) (held : Result MapVersion YpStat) : Type 0 where
+pub record DraftHasRoom (draft : Draft) (held : Result MapVersion YpStat) : Type 0 where
   pub empty : draft.rows ≡ []
   pub room : IfOk held (λ version. draft_len draft + rows_len version.rows ≤ body_max)

@@ -1,16 +1,17 @@
 -- What is fetched from a server, and what that shows.
 use Rattle.std.specs.Prelude.{◌≡◌, ◌≢◌, ◌⊎◌, ℕ, ◌<◌, ◌≤◌, false, List, [], ◌∷◌, length, None, Ok}
 use Rattle.yp_io.specs.declared.stream.Peer.{Peer}
-use Rattle.yp_rpc.specs.Laws.{IsWord}
-use Rattle.yp_msgs.specs.Numbers.{name_max}
+use Rattle.yp_rpc.specs.inside.Laws.{IsWord}
+use Rattle.yp_messages.specs.Numbers.{name_max}
 use Rattle.yp_version.specs.Versions.{MapVersion}
 use Rattle.yp_board.specs.Catalogues.{Catalogue}
 use Rattle.yp_board.specs.Logs.{Log}
 use Rattle.yp_board.specs.Views.{IsFront}
-use Rattle.yp_publish.specs.Rising.{IsRisingLog}
-use Rattle.yp_xfr.specs.Fetching.{Wanted, Outcome, against_order}
-use Rattle.yp_xfr.specs.Fetched.{place_of, Fetched}
-use Rattle.yp_source.specs.Replies.{Moments, AtEach, GivesFetch, unsecured, IsShown}
+use Rattle.yp_publisher.specs.Rising.{IsRisingLog}
+use Rattle.yp_transfer.specs.Fetching.{Wanted, FetchOutcome, against_order}
+use Rattle.yp_transfer.specs.Fetched.{place_of, Fetched}
+use Rattle.yp_end_to_end.specs.transfer.Replies.{unsecured, IsShown}
+use Rattle.yp_end_to_end.specs.inside.transfer.Replies.{Moments, AtEach, GivesFetch}
 use Rattle.yp_answer.specs.Served.{AreServed, maps_on}
 
 -- four fronts of one log that rises, each of which begins the next
@@ -58,7 +59,7 @@ FetchedIsShown =
 abbrev pub ShownIsFetched : Type 0
 ShownIsFetched =
     (moments : Moments) (peer : Peer) (wanted : Wanted) (xid at : ℕ) (stream : List ℕ) (source : MapVersion)
-    (outcome : Outcome)
+    (outcome : FetchOutcome)
     → AtEach AreServed moments
     → IsWord xid
     → length wanted.domain ≤ name_max

@@ -1,16 +1,11 @@
--- The replies of a server to a fetch, and what it showed meanwhile.
-use Rattle.std.specs.Prelude.{◌≡◌, ℕ, ◌+◌, ◌%◌, ◌^◌, false, List, Ok, IsOk, ⊤}
+-- A server's replies to the calls of a fetch, and the moments at which it gives them.
+use Rattle.std.specs.Prelude.{ℕ, List, IsOk, ⊤}
 use Rattle.yp_io.specs.declared.stream.Peer.{Peer}
-use Rattle.yp_version.specs.Versions.{MapVersion}
 use Rattle.yp_answer.specs.Maps.{Maps, map_check, row_check}
 use Rattle.yp_client.specs.Limits.{reply_max, all_max}
 use Rattle.yp_client.specs.Asked.{order_call, master_call, all_call}
-use Rattle.yp_exchange.specs.Answered.{GivesReply}
-use Rattle.yp_xfr.specs.Fetching.{Wanted}
-
--- the number of the call behind one with a number
-abbrev pub next_xid : ℕ → ℕ
-next_xid xid = (xid + 1) % 2 ^ 32
+use Rattle.yp_end_to_end.specs.inside.exchange.Answered.{GivesReply}
+use Rattle.yp_end_to_end.specs.transfer.Replies.{next_xid}
 
 -- what a server knew at its replies to ORDER, MASTER, ALL and the second ORDER
 pub record Moments : Type 0 where
@@ -38,7 +33,7 @@ module _ (peer : Peer) (domain map : List ℕ) where
       GivesReply moments.third peer all_max (all_call domain map xid) stream (λ rest.
       IsOk (row_check moments.third peer.port domain map) → GivesSecond moments (next_xid xid) rest)
 
-  -- the same from MASTER on
+  -- The stream gives the replies to MASTER and to the calls behind it.
   abbrev pub GivesMaster : Moments → ℕ → List ℕ → Type 0
   GivesMaster moments xid stream =
       GivesReply moments.second peer reply_max (master_call domain map xid) stream (λ rest.
@@ -50,11 +45,3 @@ module _ (peer : Peer) (domain map : List ℕ) where
   GivesFetch moments xid stream =
       GivesReply moments.first peer reply_max (order_call domain map xid) stream (λ rest.
       IsOk (map_check moments.first domain map) → GivesMaster moments (next_xid xid) rest)
-
--- what is fetched of a version: the mark is each site's own
-abbrev pub unsecured : MapVersion → MapVersion
-unsecured version = record version { secure = false }
-
--- The server shows this version of a map.
-abbrev pub IsShown : Wanted → MapVersion → Maps → Type 0
-IsShown wanted version maps = map_check maps wanted.domain wanted.map ≡ Ok version

@@ -1,10 +1,11 @@
 use Rattle.std.proofs.Common.{Err, None, ap, ◌∙◌, rules}
-use Rattle.yp_build.specs.After.{material_of, basis_of}
-use Rattle.yp_build.specs.declared.after.AfterFault.TheVariants.{Build}
-use Rattle.yp_answer.specs.Causes.{IsTold}
-use Rattle.yp_server.specs.Locals.{told_by, telling_of}
-use Rattle.yp_server.proofs.Building.{unbuilt}
-use Rattle.yp_server.proofs.anew.build_anew.Goals as goal
+use Rattle.yp_texts.specs.After.{material_of, basis_of}
+use Rattle.yp_texts.specs.declared.after.AfterFault.TheVariants.{Build}
+use Rattle.yp_answer.specs.Causes.{BasisIsTold}
+use Rattle.yp_host.specs.Locals.{told_by}
+use Rattle.yp_host.specs.inside.Locals.{telling_by}
+use Rattle.yp_host.proofs.Building.{unbuilt}
+use Rattle.yp_host.proofs.anew.build_anew.Goals as goal
 
 pub returns-in-Ok-clause-anew : goal.returns-in-Ok-clause-anew
 returns-in-Ok-clause-anew g c = record {
@@ -16,7 +17,7 @@ returns-in-Ok-clause-anew g c = record {
 pub returns-in-Err-Build-clause-unbuilt : goal.returns-in-Err-Build-clause-unbuilt
 returns-in-Err-Build-clause-unbuilt g c =
     let material = material_of c.in_ok-text.text.items c.now-now.result in
-    let told : IsTold (told_by g.T.Texts g.C.Clock c.args.desk.now) (basis_of c.args.kind c.args.own.now None _) material
+    let told : BasisIsTold (told_by g.T.Texts g.C.Clock c.args.desk.now) (basis_of c.args.kind c.args.own.now None _) material
     = record { text = c.in_ok-text.ensures.text; moment = c.now-now.ensures.told } in
-    rw c.build_stat.ensures (unbuilt (telling_of g.T.Texts g.C.Clock g.A.Dial.past g.A.Dial.letters g.A.Dial.faults) _ material c.in-Err-Build.fault _ _ (search rules) told (search rules)
+    rw c.build_stat.ensures (unbuilt (telling_by g.T.Texts g.C.Clock g.A.Dial) _ material c.in-Err-Build.fault _ _ (search rules) told (search rules)
     (λ e. c.in-Err-Build.ensures.spent (ap Err (c.in-Err-Build.field-0-is ∙ ap Build e))))

@@ -1,35 +1,36 @@
 use Rattle.std.proofs.Common.{Ok, ap, rules}
-use Rattle.yp_publish.specs.Keeping.{keeping_of}
-use Rattle.yp_publish.specs.Begins.{plain_log}
+use Rattle.yp_publisher.specs.Keeping.{keeping_of}
+use Rattle.yp_publisher.specs.Begins.{plain_log}
 use Rattle.yp_board.specs.Views.{Seen}
-use Rattle.yp_session.specs.Wires.{wire_of}
-use Rattle.yp_session.specs.declared.session.End.{End}
-use Rattle.yp_server.specs.Locals.{telling_of}
-use Rattle.yp_server.specs.Connections.{service_of, connection_of, IsLastHost}
-use Rattle.yp_server.proofs.Serving.{uncalled, bound_at, falls_at, count_of, first_from, went_on, served, served_bound, served_falls, served_count, served_desk}
-use Rattle.yp_server.proofs.connection.serve_wire.Goals as goal
+use Rattle.yp_answer.specs.session.Wires.{wire_of}
+use Rattle.yp_answer.specs.declared.session.session.End.{End}
+use Rattle.yp_host.specs.inside.Locals.{telling_by}
+use Rattle.yp_host.specs.Connections.{service_of, IsLastHost}
+use Rattle.yp_host.specs.inside.Connections.{connection_of}
+use Rattle.yp_host.proofs.Serving.{uncalled, bound_at, falls_at, count_of, first_from, went_on, served, served_bound, served_falls, served_count, served_desk}
+use Rattle.yp_host.proofs.connection.serve_wire.Goals as goal
 
 -- no disk was called
 pub returns-in_default-clause-unserved : goal.returns-in_default-clause-unserved
-returns-in_default-clause-unserved g c = uncalled g.D.Disk.history g.D.Disk.faults c.args.stock.disks.items
+returns-in_default-clause-unserved g c = uncalled g.D.Disk.history g.D.Disk.faults c.args.resources.disks.items
 
 pub returns-in_default-clause-unwritten : goal.returns-in_default-clause-unwritten
-returns-in_default-clause-unwritten g c = uncalled g.D.Disk.history g.D.Disk.faults c.args.stock.disks.items
+returns-in_default-clause-unwritten g c = uncalled g.D.Disk.history g.D.Disk.faults c.args.resources.disks.items
 
 pub returns-clause-bound : goal.returns-clause-bound
-returns-clause-bound g c = bound_at g.D.Disk.history g.D.Disk.faults c.args.stock.disks.items _ c.in-Err.ensures.unwritten
+returns-clause-bound g c = bound_at g.D.Disk.history g.D.Disk.faults c.args.resources.disks.items _ c.in-Err.ensures.unwritten
 
 pub returns-clause-never_falls : goal.returns-clause-never_falls
-returns-clause-never_falls g c = falls_at g.D.Disk.history g.D.Disk.faults c.args.stock.disks.items _ c.in-Err.ensures.unwritten
+returns-clause-never_falls g c = falls_at g.D.Disk.history g.D.Disk.faults c.args.resources.disks.items _ c.in-Err.ensures.unwritten
 
 pub returns-clause-count : goal.returns-clause-count
-returns-clause-count g c = count_of g.D.Disk.history g.D.Disk.faults c.args.stock.disks.items _ c.in-Err.ensures.unwritten
+returns-clause-count g c = count_of g.D.Disk.history g.D.Disk.faults c.args.resources.disks.items _ c.in-Err.ensures.unwritten
 
 pub returns-in-Ok-open_publisher : goal.returns-in-Ok-open_publisher
 returns-in-Ok-open_publisher g c =
     let wire = wire_of g.S.Source g.K.Sink in
-    let service = service_of (keeping_of g.D.Disk.history g.D.Disk.faults plain_log) (telling_of g.T.Texts g.C.Clock g.A.Dial.past g.A.Dial.letters g.A.Dial.faults) c.args.catalog c.args.peer in
-    let old = connection_of (wire c.args.wire.now) c.args.stock in
+    let service = service_of (keeping_of g.D.Disk.history g.D.Disk.faults plain_log) (telling_by g.T.Texts g.C.Clock g.A.Dial) c.args.catalog c.args.peer in
+    let old = connection_of (wire c.args.wire.now) c.args.resources in
     let new = connection_of (wire c.run-end.new.wire) c.stock_of.result in
     let start = c.new-host.result in
     let finish = c.run-end.new.host in

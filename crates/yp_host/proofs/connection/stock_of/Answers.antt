@@ -1,5 +1,5 @@
-use Rattle.yp_server.proofs.Taking.{shows_of, standing_of, versions_of}
-use Rattle.yp_server.proofs.connection.stock_of.Goals as goal
+use Rattle.yp_host.proofs.Taking.{shows_of, standing_of, versions_of}
+use Rattle.yp_host.proofs.connection.stock_of.Goals as goal
 
 pub returns-clause-shows : goal.returns-clause-shows
 returns-clause-shows g c =

@@ -1,7 +1,7 @@
 use Rattle.std.proofs.Common.{◌∙◌, ap}
 use Rattle.yp_board.specs.Catalogues.{Catalogue}
-use Rattle.yp_server.proofs.Building.{if_ok, follows_at}
-use Rattle.yp_server.proofs.local.build_for.Goals as goal
+use Rattle.yp_host.proofs.Building.{if_ok, follows_at}
+use Rattle.yp_host.proofs.local.build_for.Goals as goal
 
 pub returns-clause-follows : goal.returns-clause-follows
 returns-clause-follows g c =

@@ -1,5 +1,5 @@
-use Rattle.yp_server.proofs.Growing.{opened_front}
-use Rattle.yp_server.proofs.steps.reopen.Goals as goal
+use Rattle.yp_host.proofs.Growing.{opened_front}
+use Rattle.yp_host.proofs.steps.reopen.Goals as goal
 
 pub returns-in-Ok-clause-grown : goal.returns-in-Ok-clause-grown
 returns-in-Ok-clause-grown g c =

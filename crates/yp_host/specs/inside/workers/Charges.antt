@@ -1,52 +1,14 @@
--- What workers count, and what they are charged with for it.
-use Rattle.std.specs.Prelude.{◌≡◌, ℕ, ◌+◌, ◌<◌, ◌≤◌, min, Result, Ok, Err}
+-- What a worker is charged with, and how charges add up.
+use Rattle.std.specs.Prelude.{◌≡◌, ℕ, ◌+◌, ◌<◌, ◌≤◌, Result, Ok, Err}
 use Rattle.yp_io.specs.Counts.{last_count}
-use Rattle.yp_msgs.specs.declared.transfer.XfrStat.{XfrStat}
-use Rattle.yp_msgs.specs.declared.transfer.XfrStat.TheVariants as stats
+use Rattle.yp_messages.specs.declared.transfer.XfrStat.{XfrStat}
+use Rattle.yp_messages.specs.declared.transfer.XfrStat.TheVariants as stats
 use Rattle.yp_board.specs.Logs.{Log}
-use Rattle.yp_workhost.specs.declared.outcome.Group.{Group}
-use Rattle.yp_workhost.specs.declared.outcome.Group.TheVariants.{File, Source, Reached}
-use Rattle.yp_workhost.specs.declared.outcome.Outcomes.{Outcomes}
-use Rattle.yp_workhost.specs.declared.outcome.Totals.{Totals}
-use Rattle.yp_workhost.specs.Workers.{Worker}
+use Rattle.yp_host.specs.declared.workers.outcome.Group.{Group}
+use Rattle.yp_host.specs.declared.workers.outcome.Group.TheVariants.{File, Source, Reached}
+use Rattle.yp_host.specs.declared.workers.outcome.Totals.{Totals}
 
 -- ---- what was counted
-
--- a count and another, up to the last count
-abbrev pub capped_sum : ℕ → ℕ → ℕ
-capped_sum one other = min (one + other) last_count
-
-abbrev pub no_outcomes : Outcomes
-no_outcomes = record { no_address = 0; no_memory = 0; file = 0; source = 0; reached = 0 }
-
-abbrev pub outcomes_plus : Outcomes → Outcomes → Outcomes
-outcomes_plus one other = record {
-  no_address = capped_sum one.no_address other.no_address;
-  no_memory = capped_sum one.no_memory other.no_memory;
-  file = capped_sum one.file other.file;
-  source = capped_sum one.source other.source;
-  reached = capped_sum one.reached other.reached;
-}
-
-abbrev pub no_totals : Totals
-no_totals = record { files = 0; made = 0; transfers = 0; outcomes = no_outcomes }
-
-abbrev pub totals_plus : Totals → Totals → Totals
-totals_plus one other = record {
-  files = capped_sum one.files other.files;
-  made = capped_sum one.made other.made;
-  transfers = capped_sum one.transfers other.transfers;
-  outcomes = outcomes_plus one.outcomes other.outcomes;
-}
-
--- what a host has counted
-abbrev pub totals_of : {V : Type 0} → Worker V → Totals
-totals_of worker = record {
-  files = worker.files;
-  made = worker.made;
-  transfers = worker.transfers;
-  outcomes = worker.outcomes;
-}
 
 -- what hosts have counted, and all that they knew as they handed it over: a front of what was shown
 pub record Accounted : Type 0 where
@@ -84,7 +46,7 @@ charged_both one other = record {
 
 -- As many makes and transfers as ended in FILE are charged, as many transfers as reached an order or had a source that
 -- failed, and as many makes as were answered SUCC.
-pub record IsCharged (totals : Totals) (charged : Charged) : Type 0 where
+pub record TotalsAreCharged (totals : Totals) (charged : Charged) : Type 0 where
   pub files : totals.files + totals.outcomes.file ≤ charged.unread + charged.failures
   pub orders : totals.outcomes.reached ≤ charged.orders
   pub sources : totals.outcomes.source ≤ charged.sources
@@ -102,7 +64,7 @@ pub record Cost : Type 0 where
 abbrev pub no_cost : Cost
 no_cost = record { files = 0; orders = 0; sources = 0; made = 0 }
 
--- So much more is charged.
+-- At least this cost was added to the charges of a worker.
 pub record ChargesMore (cost : Cost) (old new : Charged) : Type 0 where
   pub parts : new.parts ≡ old.parts
   pub files_are : old.unread + old.failures + cost.files ≤ new.unread + new.failures
@@ -119,7 +81,7 @@ abbrev pub made_in : XfrStat → ℕ
 made_in stats.Succ = 1
 made_in _ = 0
 
--- how many failed files, reached orders and failed sources a transfer stands for, by what it came to
+-- what the ledgers are charged with for a transfer, by what it came to: failed files, reached orders, failed sources
 abbrev pub files_at : Group → ℕ
 files_at File = 1
 files_at _ = 0
@@ -132,7 +94,8 @@ abbrev pub sources_at : Group → ℕ
 sources_at Source = 1
 sources_at _ = 0
 
--- what a make costs, by its status, and the installing of a fetched version and a whole transfer, by what they came to
+-- what the ledgers are charged with: for a make, by its status; for the installing of a fetched version, and for a
+-- whole transfer, by what it came to
 abbrev pub cost_of_make : XfrStat → Cost
 cost_of_make stat = record { files = files_in stat; orders = 0; sources = 0; made = made_in stat }
 
@@ -148,7 +111,7 @@ abbrev pub unread_in : {T : Type 0} → Result T XfrStat → ℕ
 unread_in (Ok version) = 0
 unread_in (Err stat) = files_in stat
 
--- Where the count of texts that weren't read doesn't stand at its last value, so many are covered by what it rose by
--- since it was so high.
+-- The count of failed texts rose at least by the number of texts that workers couldn't read, unless the count stands at
+-- its last value.
 abbrev pub CoversUnread : (before now unread : ℕ) → Type 0
 CoversUnread before now unread = now < last_count → before + unread ≤ now

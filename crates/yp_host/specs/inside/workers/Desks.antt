@@ -1,15 +1,11 @@
--- What a desk has that workers share.
-use Rattle.std.specs.Prelude.{◌≡◌, ℕ, List, Option, None}
+-- The texts and the hosts of a desk.
+use Rattle.std.specs.Prelude.{◌≡◌, ℕ, List, Option}
 use Rattle.yp_io.specs.declared.texts.Texts as texts
 use Rattle.yp_io.specs.declared.texts.TextFile.{TextFile}
-use Rattle.yp_answer.specs.Causes.{Told}
-use Rattle.yp_xfr.specs.HostTable.{HostList}
-use Rattle.yp_server.specs.declared.desk.Desk.{Desk}
-use Rattle.yp_server.specs.Locals.{Telling}
-
--- texts are told, and no moment is: between two looks at the clock of another thread's desk it may have gone on
-abbrev pub texts_alone : (TextFile → Option (List ℕ)) → Told
-texts_alone text = record { text = text; moment = None }
+use Rattle.yp_transfer.specs.HostTable.{HostList}
+use Rattle.yp_host.specs.declared.desk.Desk.{Desk}
+use Rattle.yp_host.specs.Locals.{Telling}
+use Rattle.yp_host.specs.workers.Desks.{texts_alone}
 
 -- what a desk tells, with these texts and without its clock
 abbrev pub telling_texts : {E : Type 0} → (TextFile → Option (List ℕ)) → Telling E → Telling E

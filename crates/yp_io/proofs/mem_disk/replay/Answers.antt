@@ -1,7 +1,7 @@
 use Rattle.std.proofs.Common.{◌≤◌, length, sym, ◌∙◌, ap, arith}
 use Rattle.std.proofs.lemmas.List.{drop_all}
 use Rattle.std.specs.List.{fold}
-use Rattle.yp_io.specs.MemSteps.{Replayed, crash_of, after_crash_step, steps_of}
+use Rattle.yp_io.specs.inside.MemSteps.{Replayed, crash_of, after_crash_step, steps_of}
 use Rattle.yp_io.proofs.Crashes.{replay_all}
 use Rattle.yp_io.proofs.mem_disk.replay.Goals as goal
 

@@ -1,6 +1,6 @@
 use Rattle.std.proofs.Common.{◌≡◌, drop}
 use Rattle.std.specs.List.{fold}
-use Rattle.yp_io.specs.MemSteps.{crash_of, after_crash_step, steps_of}
+use Rattle.yp_io.specs.inside.MemSteps.{crash_of, after_crash_step, steps_of}
 use Rattle.yp_io.proofs.mem_disk.replay.Given as goal
 
 abbrev pub invariant-loop-step : goal.invariant-loop-step

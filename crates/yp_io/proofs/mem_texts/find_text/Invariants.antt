@@ -1,5 +1,5 @@
 use Rattle.std.proofs.Common.{◌≡◌, map, drop}
-use Rattle.yp_io.specs.Texts.{text_of}
+use Rattle.yp_io.specs.inside.Texts.{text_of}
 use Rattle.yp_io.proofs.mem_texts.find_text.Given as goal
 
 abbrev pub invariant-loop-name : goal.invariant-loop-name

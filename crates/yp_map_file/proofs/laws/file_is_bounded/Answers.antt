@@ -1,9 +1,9 @@
 use Rattle.std.proofs.Common.{List, [], ◌∷◌, ℕ, inl, inr, sym, subst}
-use Rattle.yp_slot.specs.Stands.{stands}
-use Rattle.yp_slot.specs.Slots.{IsSound}
-use Rattle.yp_slot.specs.Laws.{IsLeft, FileIsBounded}
-use Rattle.yp_slot.proofs.Sits.{sound_small}
-use Rattle.yp_slot.proofs.laws.file_is_bounded.Goals as goal
+use Rattle.yp_map_file.specs.Stands.{stands}
+use Rattle.yp_map_file.specs.Slots.{IsSound}
+use Rattle.yp_map_file.specs.inside.Laws.{IsLeft, FileIsBounded}
+use Rattle.yp_map_file.proofs.Sits.{sound_small}
+use Rattle.yp_map_file.proofs.laws.file_is_bounded.Goals as goal
 
 left_sound : (before after : List ℕ) → IsSound (stands before) → IsLeft before after → IsSound (stands after)
 left_sound before after sound (inl same) = subst IsSound (sym same) sound

@@ -1,9 +1,9 @@
 use Rattle.std.proofs.Common.{sym, ◌∙◌, ◌≤◌, length, arith}
-use Rattle.yp_slot.specs.Stands.{file_max}
-use Rattle.yp_slot.proofs.Judging.{judge_nobody, judge_both, judged_only, judged, judged_wrong}
+use Rattle.yp_map_file.specs.Stands.{file_max}
+use Rattle.yp_map_file.proofs.Judging.{judge_nobody, judge_both, judged_only, judged, judged_wrong}
 use Rattle.std.proofs.lemmas.Result.{err_from_is_err_and}
-use Rattle.yp_slot.proofs.load.judge.Goals as goal
-use Rattle.yp_slot.proofs.load.judge.Goals.{in-Nobody, in-Only+in_ok-judge_winner-in-Only}
+use Rattle.yp_map_file.proofs.load.judge.Goals as goal
+use Rattle.yp_map_file.proofs.load.judge.Goals.{in-Nobody, in-Only+in_ok-judge_winner-in-Only}
 
 pub returns-in-Both-clause-judges : goal.returns-in-Both-clause-judges
 returns-in-Both-clause-judges c = λ file front len.

@@ -1,7 +1,7 @@
 use Rattle.yp_io.specs.Disk.{ReadsAt}
 use Rattle.std.proofs.Common.{subst}
-use Rattle.yp_slot.proofs.Loading.{judge_big, judge_short, judge_told, judge_body}
-use Rattle.yp_slot.proofs.load.judge_file.Goals as goal
+use Rattle.yp_map_file.proofs.Loading.{judge_big, judge_short, judge_told, judge_body}
+use Rattle.yp_map_file.proofs.load.judge_file.Goals as goal
 
 pub returns-then-len-gt-FILE_MAX-clause-judges : goal.returns-then-len-gt-FILE_MAX-clause-judges
 returns-then-len-gt-FILE_MAX-clause-judges g c =

@@ -1,9 +1,10 @@
 use Rattle.std.proofs.Common.{ap, sym, ◌∙◌, ◌≡◌, ◌+◌, ◌≤◌, ℕ, length, Some, arith}
-use Rattle.yp_slot.specs.declared.cells.Entry.{Entry}
-use Rattle.yp_slot.specs.Cells.{entry}
-use Rattle.yp_slot.specs.Stands.{has_room, Damaged, standing}
-use Rattle.yp_slot.proofs.Judging.{judge_filler, judge_room, judge_entry}
-use Rattle.yp_slot.proofs.load.judge_winner.Goals as goal
+use Rattle.yp_map_file.specs.declared.cells.Entry.{Entry}
+use Rattle.yp_map_file.specs.Cells.{entry}
+use Rattle.yp_map_file.specs.Stands.{has_room, Damaged}
+use Rattle.yp_map_file.specs.inside.Stands.{standing}
+use Rattle.yp_map_file.proofs.Judging.{judge_filler, judge_room, judge_entry}
+use Rattle.yp_map_file.proofs.load.judge_winner.Goals as goal
 
 pub returns-in-Some-clause-judges : goal.returns-in-Some-clause-judges
 returns-in-Some-clause-judges c = λ file front len long.

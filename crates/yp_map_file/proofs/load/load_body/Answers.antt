@@ -1,8 +1,8 @@
 use Rattle.std.proofs.Common.{◌≡◌, ◌++◌, ℕ, length, rules, arith, ap, sym, ◌∙◌, subst, List, drop, take}
 use Rattle.std.proofs.lemmas.List.{take_at}
 use Rattle.yp_io.specs.Disk.{ReadsAt}
-use Rattle.yp_slot.proofs.Loading.{wrong_fits, load_version, load_wrong}
-use Rattle.yp_slot.proofs.load.load_body.Goals as goal
+use Rattle.yp_map_file.proofs.Loading.{wrong_fits, load_version, load_wrong}
+use Rattle.yp_map_file.proofs.load.load_body.Goals as goal
 
 pub returns-in-Ok-clause-stands : goal.returns-in-Ok-clause-stands
 returns-in-Ok-clause-stands g c =

@@ -1,10 +1,10 @@
 use Rattle.std.proofs.lemmas.Result.{on_ok_weaker}
 use Rattle.std.proofs.Common.{subst, ℕ}
 use Rattle.yp_io.specs.Disk.{MayLeaveTorn}
-use Rattle.yp_slot.specs.Slots.{IsAsBefore}
-use Rattle.yp_slot.proofs.Moments.{weaker, nothing}
-use Rattle.yp_slot.proofs.Steps.{at_rest, close_torn, close_done, closed_closed}
-use Rattle.yp_slot.proofs.parts.close.Goals as goal
+use Rattle.yp_map_file.specs.Slots.{IsAsBefore}
+use Rattle.yp_map_file.proofs.Moments.{weaker, nothing}
+use Rattle.yp_map_file.proofs.Steps.{at_rest, close_torn, close_done, closed_closed}
+use Rattle.yp_map_file.proofs.parts.close.Goals as goal
 
 pub returns-then-not-known-clause-closed : goal.returns-then-not-known-clause-closed
 returns-then-not-known-clause-closed g c =

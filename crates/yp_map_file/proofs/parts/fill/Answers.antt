@@ -1,11 +1,12 @@
 use Rattle.std.proofs.Common.{subst, sym, ap, ◌+◌, ℕ, length, arith}
 use Rattle.yp_io.specs.Disk.{IsWithin, MayLeaveTorn}
-use Rattle.yp_slot.specs.declared.cells.Entry.{Entry}
-use Rattle.yp_slot.specs.Slots.{IsAsBefore, LiesWithin}
-use Rattle.yp_slot.proofs.Moments.{weaker, then}
-use Rattle.yp_slot.proofs.Again.{body_bounds}
-use Rattle.yp_slot.proofs.Filling.{fill_body_left, fill_entry_left, fill_result, next_lies, next_within}
-use Rattle.yp_slot.proofs.parts.fill.Goals as goal
+use Rattle.yp_map_file.specs.declared.cells.Entry.{Entry}
+use Rattle.yp_map_file.specs.Slots.{IsAsBefore}
+use Rattle.yp_map_file.specs.inside.Slots.{LiesWithin}
+use Rattle.yp_map_file.proofs.Moments.{weaker, then}
+use Rattle.yp_map_file.proofs.Again.{body_bounds}
+use Rattle.yp_map_file.proofs.Filling.{fill_body_left, fill_entry_left, fill_result, next_lies, next_within}
+use Rattle.yp_map_file.proofs.parts.fill.Goals as goal
 
 pub write_at-requires-clause-place : goal.write_at-requires-clause-place
 write_at-requires-clause-place g c =

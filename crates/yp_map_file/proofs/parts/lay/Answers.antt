@@ -1,9 +1,9 @@
 use Rattle.std.proofs.lemmas.Result.{on_ok_weaker}
 use Rattle.yp_io.specs.Disk.{MayLeaveTorn}
-use Rattle.yp_slot.specs.Slots.{IsAsBefore}
-use Rattle.yp_slot.proofs.Moments.{weaker, nothing, then}
-use Rattle.yp_slot.proofs.Steps.{at_rest, lay_torn, lay_torn_gate, lay_done, laid_laid}
-use Rattle.yp_slot.proofs.parts.lay.Goals as goal
+use Rattle.yp_map_file.specs.Slots.{IsAsBefore}
+use Rattle.yp_map_file.proofs.Moments.{weaker, nothing, then}
+use Rattle.yp_map_file.proofs.Steps.{at_rest, lay_torn, lay_torn_gate, lay_done, laid_laid}
+use Rattle.yp_map_file.proofs.parts.lay.Goals as goal
 
 pub returns-then-known-clause-laid : goal.returns-then-known-clause-laid
 returns-then-known-clause-laid g c =

@@ -1,9 +1,9 @@
 use Rattle.std.proofs.Common.{subst, ℕ}
 use Rattle.yp_io.specs.Disk.{MayLeaveTorn}
-use Rattle.yp_slot.specs.Slots.{IsAsBeforeOrOpened}
-use Rattle.yp_slot.proofs.Moments.{weaker}
-use Rattle.yp_slot.proofs.Filling.{open_torn, open_done}
-use Rattle.yp_slot.proofs.parts.open.Goals as goal
+use Rattle.yp_map_file.specs.inside.Slots.{IsAsBeforeOrOpened}
+use Rattle.yp_map_file.proofs.Moments.{weaker}
+use Rattle.yp_map_file.proofs.Filling.{open_torn, open_done}
+use Rattle.yp_map_file.proofs.parts.open.Goals as goal
 
 pub returns-in_err-write_and_sync-clause-crash : goal.returns-in_err-write_and_sync-clause-crash
 returns-in_err-write_and_sync-clause-crash g c =

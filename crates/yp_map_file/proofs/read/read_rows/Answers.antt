@@ -1,9 +1,9 @@
 use Rattle.std.proofs.Common.{◌≡◌, ◌++◌, ◌∷◌, [], None, Err, option_map, arith, rules}
-use Rattle.yp_xdr.specs.Cursor.{unread}
-use Rattle.yp_slot.specs.Bodies.{rows_at}
-use Rattle.yp_slot.specs.declared.wrong.BodyFault.TheVariants.{Wrong}
-use Rattle.yp_slot.proofs.Rows.{has_read_stop, has_read_more}
-use Rattle.yp_slot.proofs.read.read_rows.Goals as goal
+use Rattle.yp_xdr.specs.inside.Cursor.{unread}
+use Rattle.yp_map_file.specs.Bodies.{rows_at}
+use Rattle.yp_map_file.specs.declared.wrong.BodyFault.TheVariants.{Wrong}
+use Rattle.yp_map_file.proofs.Rows.{has_read_stop, has_read_more}
+use Rattle.yp_map_file.proofs.read.read_rows.Goals as goal
 
 pub returns-in_err-key-clause-read : goal.returns-in_err-key-clause-read
 returns-in_err-key-clause-read c =

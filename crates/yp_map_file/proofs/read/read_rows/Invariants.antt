@@ -1,9 +1,9 @@
 -- How far the rows have been read.
 use Rattle.std.proofs.Common.{option_map}
-use Rattle.yp_xdr.specs.Cursor.{unread}
-use Rattle.yp_slot.specs.Bodies.{Passes}
-use Rattle.yp_slot.proofs.Rows.{HasRead}
-use Rattle.yp_slot.proofs.read.read_rows.Given as goal
+use Rattle.yp_xdr.specs.inside.Cursor.{unread}
+use Rattle.yp_map_file.specs.inside.Bodies.{Passes}
+use Rattle.yp_map_file.proofs.Rows.{HasRead}
+use Rattle.yp_map_file.proofs.read.read_rows.Given as goal
 
 abbrev pub invariant-loop-number : goal.invariant-loop-number
 invariant-loop-number l = record {

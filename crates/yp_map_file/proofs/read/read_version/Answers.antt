@@ -1,16 +1,16 @@
 use Rattle.std.proofs.Common.{◌≡◌, ap, sym, subst, ◌∙◌, Ok, List, ℕ, ◌≤◌, length}
-use Rattle.yp_xdr.specs.Reading.{IsBytes}
+use Rattle.yp_xdr.specs.inside.Reading.{IsBytes}
 use Rattle.yp_version.specs.Limits.{body_max}
 use Rattle.yp_version.specs.Versions.{MapVersion}
-use Rattle.yp_version.specs.Stored.{IsStored, row_places}
-use Rattle.yp_slot.specs.Bodies.{body_at}
-use Rattle.yp_slot.specs.Heads.{found_of}
-use Rattle.yp_slot.specs.Laws.{ReadIsBody}
-use Rattle.yp_slot.proofs.read.read_version.Goals as goal
+use Rattle.yp_version.specs.inside.Stored.{IsStoredBody, row_places}
+use Rattle.yp_map_file.specs.Bodies.{body_at}
+use Rattle.yp_map_file.specs.inside.Heads.{found_of}
+use Rattle.yp_map_file.specs.inside.Laws.{ReadIsBody}
+use Rattle.yp_map_file.proofs.read.read_version.Goals as goal
 
 -- the parts that were found are those of the stored body
 stored : (bytes found : List ℕ) (starts : List ℕ) (version : MapVersion) → ReadIsBody → found ≡ bytes → IsBytes found
-    → length bytes ≤ body_max → body_at found ≡ Ok version → starts ≡ row_places version → IsStored bytes starts version
+    → length bytes ≤ body_max → body_at found ≡ Ok version → starts ≡ row_places version → IsStoredBody bytes starts version
 stored bytes found starts version law same are_bytes few is places = record {
   body = law bytes version (subst IsBytes same are_bytes) few (ap body_at (sym same) ∙ is);
   places = places;

@@ -1,7 +1,7 @@
 use Rattle.std.proofs.Common.{ℕ, List, refl, sym, subst}
-use Rattle.yp_xdr.specs.Cursor.{unread}
-use Rattle.yp_msgs.proofs.InTurn.{SoFar, goes_on, fails}
-use Rattle.yp_msgs.proofs.maplist.read_names.Goals as goal
+use Rattle.yp_xdr.specs.inside.Cursor.{unread}
+use Rattle.yp_messages.proofs.InTurn.{SoFar, goes_on, fails}
+use Rattle.yp_messages.proofs.maplist.read_names.Goals as goal
 
 pub returns-in-Err : goal.returns-in-Err
 returns-in-Err c = (

@@ -1,7 +1,7 @@
 use Rattle.std.proofs.Common.{◌≡◌, ℕ, List, ◌<◌, ◌++◌, ◌∷◌, [], ◌∙◌, length, get_or, map, ap, arith, rules}
 use Rattle.std.specs.Borrow.{Bor}
 use Rattle.std.proofs.lemmas.List.{length-map}
-use Rattle.yp_netgroup.specs.Seen.{names_of}
+use Rattle.yp_netgroup.specs.inside.Seen.{names_of}
 use Rattle.yp_netgroup.proofs.Ends.{copied-more}
 use Rattle.yp_netgroup.proofs.NameBytes.{bytes, name-at}
 use Rattle.yp_netgroup.proofs.search.copied.Goals as goal

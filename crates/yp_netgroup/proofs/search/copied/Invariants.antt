@@ -1,5 +1,5 @@
 use Rattle.std.proofs.Common.{◌≡◌, map, take}
-use Rattle.yp_netgroup.specs.Seen.{names_of}
+use Rattle.yp_netgroup.specs.inside.Seen.{names_of}
 use Rattle.yp_netgroup.proofs.search.copied.Given as goal
 
 abbrev pub invariant-loop-name : goal.invariant-loop-name

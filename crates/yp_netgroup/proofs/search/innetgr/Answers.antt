@@ -1,4 +1,4 @@
-use Rattle.yp_netgroup.specs.Who.{asked_of}
+use Rattle.yp_netgroup.specs.inside.Who.{asked_of}
 use Rattle.yp_netgroup.proofs.Ends.{member-exact}
 use Rattle.yp_netgroup.proofs.search.innetgr.Goals as goal
 

@@ -4,8 +4,8 @@ use Rattle.std.proofs.lemmas.List.Elements.{Contains-get_or}
 use Rattle.indexmap.specs.IndexSet.{insert_key, insert_all}
 use Rattle.yp_netgroup.specs.Parts.{names, parts}
 use Rattle.yp_netgroup.specs.Reach.{members_of, group_text}
-use Rattle.yp_netgroup.specs.Who.{sought_of}
-use Rattle.yp_netgroup.specs.Seen.{names_of, has_sought, IsMet}
+use Rattle.yp_netgroup.specs.inside.Who.{sought_of}
+use Rattle.yp_netgroup.specs.inside.Seen.{names_of, has_sought, IsMet}
 use Rattle.yp_netgroup.proofs.NamesMet.{met-first, met-next}
 use Rattle.yp_netgroup.proofs.NameBytes.{bytes, same, name-at, distinct-bytes}
 use Rattle.yp_netgroup.proofs.search.reach.Goals as goal

@@ -1,6 +1,6 @@
 use Rattle.std.proofs.Common.{◌-◌, ◌^◌}
-use Rattle.yp_netgroup.specs.Who.{sought_of}
-use Rattle.yp_netgroup.specs.Seen.{names_of, IsMet}
+use Rattle.yp_netgroup.specs.inside.Who.{sought_of}
+use Rattle.yp_netgroup.specs.inside.Seen.{names_of, IsMet}
 use Rattle.yp_netgroup.proofs.search.reach.Given as goal
 
 abbrev pub invariant-loop-next : goal.invariant-loop-next

@@ -1,8 +1,8 @@
 use Rattle.std.proofs.Common.{◌≡◌, bytes_eq, length}
 use Rattle.indexmap.specs.IndexSet.{insert_all}
 use Rattle.yp_netgroup.specs.Parts.{names, parts}
-use Rattle.yp_netgroup.specs.Who.{sought_of}
-use Rattle.yp_netgroup.specs.Seen.{names_of, has_sought}
+use Rattle.yp_netgroup.specs.inside.Who.{sought_of}
+use Rattle.yp_netgroup.specs.inside.Seen.{names_of, has_sought}
 use Rattle.yp_netgroup.proofs.search.read.Given as goal
 
 abbrev pub invariant-loop-member : goal.invariant-loop-member

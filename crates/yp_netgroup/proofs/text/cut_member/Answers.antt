@@ -2,7 +2,7 @@ use Rattle.std.proofs.Common.{◌≡◌, ◌-◌, length, take, drop, sym, ap, �
 use Rattle.std.proofs.lemmas.List.{take_all}
 use Rattle.std.specs.Prelude.{option_map}
 use Rattle.yp_netgroup.specs.Parts.{cut_triple, cut_member}
-use Rattle.yp_netgroup.specs.Member.{cut_of}
+use Rattle.yp_netgroup.specs.inside.Member.{cut_of}
 use Rattle.yp_netgroup.proofs.Spelled.{none-cut, some-cut, shorter-cut, opened-cut, named-cut}
 use Rattle.yp_netgroup.proofs.text.cut_member.Goals as goal
 

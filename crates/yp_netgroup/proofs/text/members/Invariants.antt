@@ -1,6 +1,6 @@
 use Rattle.std.proofs.Common.{◌≡◌, ◌++◌, length, map}
 use Rattle.yp_netgroup.specs.Parts.{parts}
-use Rattle.yp_netgroup.specs.Member.{part_of}
+use Rattle.yp_netgroup.specs.inside.Member.{part_of}
 use Rattle.yp_netgroup.proofs.text.members.Given as goal
 
 abbrev pub invariant-loop-member : goal.invariant-loop-member

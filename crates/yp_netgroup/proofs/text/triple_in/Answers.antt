@@ -3,7 +3,7 @@ use Rattle.std.specs.Prelude.{option_map}
 use Rattle.std.specs.List.{list_any, before_first}
 use Rattle.yp_version.specs.Blanks.{bare}
 use Rattle.yp_netgroup.specs.Parts.{Lists, is_open, is_comma}
-use Rattle.yp_netgroup.specs.Member.{part_of}
+use Rattle.yp_netgroup.specs.inside.Member.{part_of}
 use Rattle.yp_netgroup.proofs.Cuts.{rest_of, triple-one, triple-two, triple-three, triple-more}
 use Rattle.yp_netgroup.proofs.text.triple_in.Goals as goal
 

@@ -2,9 +2,9 @@
 use Rattle.std.specs.Prelude.{◌≡◌, ℕ, List, Contains, ◌↔◌}
 use Rattle.std.specs.List.Sorted.{IsStrictlySortedBy}
 use Rattle.yp_version.specs.Rows.{Row, IsRising, key_cmp}
-use Rattle.yp_revnet.specs.declared.field.Field.{Field}
-use Rattle.yp_revnet.specs.Links.{Link, LinkTable, under, sources, naming, listing}
-use Rattle.yp_revnet.specs.Reverse.{IsListed}
+use Rattle.yp_netgroup.specs.declared.reverse.field.Field.{Field}
+use Rattle.yp_netgroup.specs.inside.reverse.Links.{Link, LinkTable, under, sources, naming, listing}
+use Rattle.yp_netgroup.specs.reverse.Reverse.{IsListed}
 
 -- What is read of a map, whose rows rise: under each name the groups that name it, and a link for each triple that
 -- counts, from its key to the group that lists it.

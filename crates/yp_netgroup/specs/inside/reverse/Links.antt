@@ -9,8 +9,8 @@ use Rattle.indexmap.specs.IndexMap.{IndexMap, get_by}
 use Rattle.yp_version.specs.Rows.{Row}
 use Rattle.yp_netgroup.specs.Parts.{Part, Includes, Lists, parts, names}
 use Rattle.std.specs.List.{filter_map}
-use Rattle.yp_revnet.specs.declared.field.Field.{Field}
-use Rattle.yp_revnet.specs.Keys.{counts, key_of}
+use Rattle.yp_netgroup.specs.declared.reverse.field.Field.{Field}
+use Rattle.yp_netgroup.specs.reverse.Keys.{counts, key_of}
 
 -- a group under a name or a key
 abbrev pub Link : Type 0

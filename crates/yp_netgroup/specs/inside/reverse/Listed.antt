@@ -5,11 +5,12 @@ use Rattle.std.specs.List.{list_any, slice_split}
 use Rattle.std.specs.Str.{str_to_ascii_lowercase}
 use Rattle.yp_version.specs.Rows.{Row, value_of}
 use Rattle.yp_netgroup.specs.Parts.{Triple, parts, triples, is_comma}
-use Rattle.yp_netgroup.specs.Reach.{Asked, IsMember}
-use Rattle.yp_revnet.specs.declared.field.Field.{Field}
-use Rattle.yp_revnet.specs.declared.field.Field.TheVariants.{User, Host}
-use Rattle.yp_revnet.specs.Keys.{part_of, is_dash, counts, folded, dotted}
-use Rattle.yp_revnet.specs.Reverse.{is_name, IsReverse}
+use Rattle.yp_netgroup.specs.Reach.{SoughtMember}
+use Rattle.yp_netgroup.specs.inside.Reach.{IsMember}
+use Rattle.yp_netgroup.specs.declared.reverse.field.Field.{Field}
+use Rattle.yp_netgroup.specs.declared.reverse.field.Field.TheVariants.{User, Host}
+use Rattle.yp_netgroup.specs.reverse.Keys.{part_of, is_dash, counts, folded, dotted}
+use Rattle.yp_netgroup.specs.reverse.Reverse.{is_name, IsReverse}
 
 -- ---- looking up
 
@@ -51,7 +52,7 @@ abbrev pub is_plain : List ℕ → Bool
 is_plain name = not (length name == 0 || bytes_eq name any || is_dash name)
 
 -- who is asked for: this user, or this host, in this domain
-abbrev pub asked_for : Field → List ℕ → List ℕ → Asked
+abbrev pub asked_for : Field → List ℕ → List ℕ → SoughtMember
 asked_for User name domain = record { host = None; user = Some name; domain = Some domain }
 asked_for Host name domain = record { host = Some name; user = None; domain = Some domain }
 

@@ -1,46 +1,23 @@
--- The rows of a reverse map while they are put one behind the other, and the first that a builder refuses.
-use Rattle.std.specs.Prelude.{◌≡◌, ◌⊎◌, ⊤, ℕ, ◌+◌, All, Contains, List, [], ◌∷◌, ◌++◌, length, Some, None}
+-- The rows of a reverse map that are put so far, and the refusal of one.
+use Rattle.std.specs.Prelude.{◌≡◌, ⊤, ℕ, ◌+◌, All, Contains, List, length, Some, None}
 use Rattle.std.specs.Map.{keys_of}
-use Rattle.std.specs.declared.cmp.Ordering.TheVariants.{Less}
-use Rattle.yp_version.specs.Rows.{Row, IsRising, key_cmp}
+use Rattle.yp_version.specs.Rows.{Row, IsRising}
 use Rattle.yp_version.specs.Drafts.{Draft, with_row, with_rows, refused, first_refused}
 use Rattle.yp_version.specs.declared.builder.VersionFault.{VersionFault}
 use Rattle.yp_version.specs.declared.builder.VersionFault.TheVariants.{KeyLong, ValueLong, TooManyRows, TooBig}
 use Rattle.yp_version.specs.declared.builder.VersionFault.TheVariants.{NoMemory}
-use Rattle.yp_revnet.specs.declared.field.Field.{Field}
-use Rattle.yp_revnet.specs.declared.fault.RevFault.{RevFault}
-use Rattle.yp_revnet.specs.declared.fault.RevFault.TheVariants.{Row as RowFault, NoMemory as WithoutMemory}
-use Rattle.yp_revnet.specs.Reverse.{IsReversed, IsListed}
+use Rattle.yp_netgroup.specs.declared.reverse.field.Field.{Field}
+use Rattle.yp_netgroup.specs.declared.reverse.fault.RevFault.{RevFault}
+use Rattle.yp_netgroup.specs.declared.reverse.fault.RevFault.TheVariants.{Row as RowFault, NoMemory as WithoutMemory}
+use Rattle.yp_netgroup.specs.reverse.Reverse.{IsReversed, IsListed}
+use Rattle.yp_netgroup.specs.reverse.Refused.{RefusesRow}
 
 -- ---- faults
 
--- the number of the limit that a row passes
-abbrev pub rule_of : VersionFault → ℕ
-rule_of (KeyLong len) = 1
-rule_of (ValueLong len) = 2
-rule_of TooManyRows = 3
-rule_of TooBig = 4
-rule_of NoMemory = 0
-
--- Of the rows of a reverse map, in rising order of their keys, those of a front were taken, and the one behind them is
--- refused. No key that a group has is left out up to it. So the groups fix these rows, and with the draft the refusal.
-pub record RefusesRow (rows : List Row) (field : Field) (draft : Draft) (number rule : ℕ) : Type 0 where
-  pub front : List Row
-  pub row : Row
-  pub fault : VersionFault
-  pub rising : IsRising (front ++ row ∷ [])
-  pub each : All (IsReversed rows field) (front ++ row ∷ [])
-  pub whole : (key group : List ℕ) → IsListed rows field key group
-      → (key_cmp row.0 key ≡ Less) ⊎ Contains (keys_of (front ++ row ∷ [])) key
-  pub taken : first_refused draft front ≡ None
-  pub refuses : refused (with_rows draft front) row ≡ Some fault
-  pub number_is : number ≡ length front + 1
-  pub rule_is : rule ≡ rule_of fault
-
 -- why a map isn't reversed: the first row that is refused, or want of memory
-abbrev pub IsCause : List Row → Field → Draft → RevFault → Type 0
-IsCause rows field draft (RowFault number rule) = RefusesRow rows field draft number rule
-IsCause rows field draft WithoutMemory = ⊤
+abbrev pub IsReverseCause : List Row → Field → Draft → RevFault → Type 0
+IsReverseCause rows field draft (RowFault number rule) = RefusesRow rows field draft number rule
+IsReverseCause rows field draft WithoutMemory = ⊤
 
 -- ---- one row
 
@@ -59,7 +36,8 @@ pub data IsPut (rows : List Row) (field : Field) (key : List ℕ) (draft : Draft
       → IsPut rows field key draft (with_row draft row)
 
 -- or it is refused
-pub record IsRefusal (rows : List Row) (field : Field) (key : List ℕ) (draft : Draft) (fault : RevFault) : Type 0 where
+pub record IsReverseRefusal (rows : List Row) (field : Field) (key : List ℕ) (draft : Draft)
+    (fault : RevFault) : Type 0 where
   pub row : Row
   pub at : row.0 ≡ key
   pub is : IsReversed rows field row

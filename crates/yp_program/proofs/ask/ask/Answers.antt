@@ -1,8 +1,8 @@
 use Rattle.std.proofs.Common.{rules, refl, Ok, Err}
 use Rattle.yp_client.specs.Questions.{bytes_of}
-use Rattle.yp_office.specs.Seeing.{seeing}
-use Rattle.yp_tools.specs.Asking.{scene}
-use Rattle.yp_tools.proofs.ask.ask.Goals as goal
+use Rattle.yp_command.specs.office.Seeing.{seeing}
+use Rattle.yp_program.specs.Asking.{scene}
+use Rattle.yp_program.proofs.ask.ask.Goals as goal
 
 pub returns-in-Ok-clause-does : goal.returns-in-Ok-clause-does
 returns-in-Ok-clause-does g c =

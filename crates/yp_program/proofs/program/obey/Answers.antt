@@ -1,15 +1,15 @@
 use Rattle.std.proofs.Common.{◌∙◌, List, map, ap, sym, refl}
 use Rattle.yp_board.specs.Catalogues.{name_view}
 use Rattle.yp_client.specs.Questions.{bytes_of}
-use Rattle.yp_words.specs.declared.command.KeyValue.{KeyValue}
-use Rattle.yp_words.specs.Words.{Once, Session, Check, Build, Xfr, Walk, Sample, Push, Bind}
-use Rattle.yp_words.specs.Words.{Portmap, Getport, Ask, meaning, row_view, host_view, Revnet}
-use Rattle.yp_office.specs.Seeing.{seeing}
-use Rattle.yp_tools.specs.Commands.{AloneDoes, may_end}
-use Rattle.yp_tools.proofs.Dispatch.{same_does, same_passed, same_end}
-use Rattle.yp_tools.proofs.program.obey.Goals.{in-Once, in-Sample, in-Check, in-Build, in-Xfr, in-Ask, in-Bind, in-Portmap, in-Getport}
-use Rattle.yp_tools.proofs.program.obey.Goals.{in-Revnet, in-Walk}
-use Rattle.yp_tools.proofs.program.obey.Goals as goal
+use Rattle.yp_command.specs.declared.command.KeyValue.{KeyValue}
+use Rattle.yp_command.specs.Words.{Once, Session, Check, Build, Xfr, Walk, Sample, Push, Bind}
+use Rattle.yp_command.specs.Words.{Portmap, Getport, Ask, meaning, row_view, host_view, Revnet}
+use Rattle.yp_command.specs.office.Seeing.{seeing}
+use Rattle.yp_program.specs.Commands.{AloneDoes, may_end}
+use Rattle.yp_program.proofs.Dispatch.{same_does, same_passed, same_end}
+use Rattle.yp_program.proofs.program.obey.Goals.{in-Once, in-Sample, in-Check, in-Build, in-Xfr, in-Ask, in-Bind, in-Portmap, in-Getport}
+use Rattle.yp_program.proofs.program.obey.Goals.{in-Revnet, in-Walk}
+use Rattle.yp_program.proofs.program.obey.Goals as goal
 
 pub returns-in-Session-clause-does : goal.returns-in-Session-clause-does
 unfolding AloneDoes

@@ -1,10 +1,10 @@
 use Rattle.std.proofs.Common.{ap, ◌∙◌}
-use Rattle.yp_words.specs.Words.{meaning}
-use Rattle.yp_office.specs.declared.office.Office.{Office}
-use Rattle.yp_office.specs.Disks.{names_of}
-use Rattle.yp_office.specs.Seeing.{seeing}
-use Rattle.yp_tools.proofs.Kept.{command_keeps}
-use Rattle.yp_tools.proofs.program.run_alone.Goals as goal
+use Rattle.yp_command.specs.Words.{meaning}
+use Rattle.yp_command.specs.declared.office.office.Office.{Office}
+use Rattle.yp_command.specs.office.Disks.{names_of}
+use Rattle.yp_command.specs.office.Seeing.{seeing}
+use Rattle.yp_program.proofs.Kept.{command_keeps}
+use Rattle.yp_program.proofs.program.run_alone.Goals as goal
 
 pub returns-clause-disks : goal.returns-clause-disks
 returns-clause-disks g c =

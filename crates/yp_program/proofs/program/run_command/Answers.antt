@@ -1,9 +1,9 @@
 use Rattle.std.proofs.Common.{map, ap, refl}
 use Rattle.yp_board.specs.Catalogues.{name_view}
-use Rattle.yp_words.specs.Words.{Serve, meaning, host_view}
-use Rattle.yp_tools.specs.Commands.{may_end}
-use Rattle.yp_tools.proofs.Dispatch.{same_end}
-use Rattle.yp_tools.proofs.program.run_command.Goals as goal
+use Rattle.yp_command.specs.Words.{Serve, meaning, host_view}
+use Rattle.yp_program.specs.Commands.{may_end}
+use Rattle.yp_program.proofs.Dispatch.{same_end}
+use Rattle.yp_program.proofs.program.run_command.Goals as goal
 
 pub returns-in-Serve-clause-may_end : goal.returns-in-Serve-clause-may_end
 unfolding may_end

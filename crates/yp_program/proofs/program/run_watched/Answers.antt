@@ -1,17 +1,17 @@
 use Rattle.std.proofs.Common.{sym, subst}
-use Rattle.yp_words.specs.Words.{command_of, texts}
-use Rattle.yp_office.specs.declared.status.Status.{Status}
-use Rattle.yp_worker.specs.Receptions.{opening_of}
-use Rattle.yp_office.specs.Seeing.{Seeing, seeing}
-use Rattle.yp_tools.specs.Commands.{Does, MayEnd, office_of}
-use Rattle.yp_tools.proofs.Unparsed.{unparsed_may, unparsed_does}
-use Rattle.yp_tools.proofs.program.run_watched.Goals as goal
+use Rattle.yp_command.specs.Words.{command_of, texts}
+use Rattle.yp_command.specs.declared.office.status.Status.{Status}
+use Rattle.yp_worker.specs.Receptions.{opening_by}
+use Rattle.yp_command.specs.office.Seeing.{Seeing, seeing}
+use Rattle.yp_program.specs.Commands.{Does, MayEnd, office_of}
+use Rattle.yp_program.proofs.Unparsed.{unparsed_may, unparsed_does}
+use Rattle.yp_program.proofs.program.run_watched.Goals as goal
 
 pub returns-in-Err-clause-does : goal.returns-in-Err-clause-does
 returns-in-Err-clause-does g c =
     let seen : Seeing g.row.S.Denot g.row.K.Denot g.row.D.Denot g.row.C.Denot g.row.A.Denot g.row.I.Denot g.row.T.Denot = seeing g.S.Source g.K.Sink g.D.Disk g.C.Clock g.A.Dial g.I.Inbox g.T.Texts in
     let office = office_of c.args.outside in
-    let door = opening_of g.L.Listen.past g.L.Listen.most g.L.Listen.accepted g.L.Listen.returned g.L.Listen.faults c.args.outside.listen in
+    let door = opening_by g.L.Listen c.args.outside.listen in
     let wires = g.W.Witness.wires c.args.witness.now in
     subst (λ (status : Status). Does seen (command_of (texts c.args.words.now)) status office office door door wires wires) (sym c.status_of-status.ensures.status)
     (unparsed_does seen office door wires (command_of (texts c.args.words.now)) c.in-Err.fault c.in-Err.ensures.usage)

@@ -1,14 +1,15 @@
-use Rattle.yp_office.specs.Seeing.{seeing}
-use Rattle.yp_enum.specs.Told.{draft_with}
-use Rattle.yp_storing.specs.Xfr.{order_view, wanted}
-use Rattle.yp_walking.specs.Turns.{heard_of}
-use Rattle.yp_tools.proofs.Walked.{of_walk, of_skew, whole}
-use Rattle.yp_tools.proofs.walking.walk.Goals as goal
+use Rattle.yp_command.specs.office.Seeing.{seeing}
+use Rattle.yp_transfer.specs.inside.walk.Told.{draft_with}
+use Rattle.yp_command_maps.specs.Xfr.{wanted}
+use Rattle.yp_command_maps.specs.inside.Xfr.{xfr_job_view}
+use Rattle.yp_command_maps.specs.walk.Turns.{heard_of}
+use Rattle.yp_program.proofs.Walked.{of_walk, of_skew, whole}
+use Rattle.yp_program.proofs.walking.walk.Goals as goal
 
 pub returns-clause-does : goal.returns-clause-does
 returns-clause-does g c =
     let seen = seeing g.S.Source g.K.Sink g.D.Disk g.C.Clock g.A.Dial g.I.Inbox g.T.Texts in
-    let order = order_view c.args.job.xfr in
+    let job = xfr_job_view c.args.job.xfr in
     let turns = c.args.job.turns in
     let old = c.args.office.now in
     let new = c.walk_map.new.office in
@@ -16,17 +17,17 @@ returns-clause-does g c =
     let does = c.walk_map.ensures.does in
     record {
       does = does;
-      of_source = λ catalogue caller posts held told happened answers tells.
-          of_walk seen order turns status old new posts held told happened catalogue caller
+      of_source = λ catalogue caller events held told happened answers tells.
+          of_walk seen job turns status old new events held told happened catalogue caller
           c.delivered_is_of_source.ensures does answers tells;
-      skews = λ catalogue caller posts held first second told happened answers is.
-          of_skew seen order turns status old new posts held told happened catalogue caller first second
+      skews = λ catalogue caller events held first second told happened answers is.
+          of_skew seen job turns status old new events held told happened catalogue caller first second
           c.delivered_skews.ensures does answers is;
-      complete = λ posts held draft told happened is unopposed inboxes disks writes.
-          whole seen order turns status old new posts held told happened draft does is unopposed inboxes disks writes;
-      complete_of_source = λ catalogue caller posts held version told happened answers walkable shown count unopposed
+      complete = λ events held draft told happened is unopposed inboxes disks writes.
+          whole seen job turns status old new events held told happened draft does is unopposed inboxes disks writes;
+      complete_of_source = λ catalogue caller events held version told happened answers walkable shown count unopposed
           inboxes disks writes.
-          whole seen order turns status old new posts held told happened (draft_with version version.rows) does
-          (c.delivered_is_whole.ensures catalogue caller order.host.1 (wanted order held) (heard_of posts) version
+          whole seen job turns status old new events held told happened (draft_with version version.rows) does
+          (c.delivered_is_whole.ensures catalogue caller job.host.1 (wanted job held) (heard_of events) version
           answers walkable shown count) unopposed inboxes disks writes;
     }

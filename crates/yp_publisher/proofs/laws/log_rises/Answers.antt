@@ -1,5 +1,5 @@
-use Rattle.yp_publish.proofs.Rises.{log_rises}
-use Rattle.yp_publish.proofs.laws.log_rises.Goals as goal
+use Rattle.yp_publisher.proofs.Rises.{log_rises}
+use Rattle.yp_publisher.proofs.laws.log_rises.Goals as goal
 
 pub returns : goal.returns
 returns c = log_rises

@@ -1,7 +1,7 @@
 use Rattle.std.proofs.Common.{◌≡◌, ◌+◌, [], ◌∷◌, length, ap, ◌∙◌, rules, arith}
 use Rattle.std.proofs.lemmas.List.{length-append}
-use Rattle.yp_publish.proofs.Loading.{loading_none, loading_more, loading_stopped, stopped_first}
-use Rattle.yp_publish.proofs.loaded.load_all.Goals as goal
+use Rattle.yp_publisher.proofs.Loading.{loading_none, loading_more, loading_stopped, stopped_first}
+use Rattle.yp_publisher.proofs.loaded.load_all.Goals as goal
 
 pub returns-in_default-clause-refused : goal.returns-in_default-clause-refused
 returns-in_default-clause-refused g c =

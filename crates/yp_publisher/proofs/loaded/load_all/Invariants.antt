@@ -1,6 +1,6 @@
 use Rattle.std.proofs.Common.{◌≤◌, ◌+◌, length, vec_len, vec_capacity}
-use Rattle.yp_publish.proofs.Loading.{IsLoading}
-use Rattle.yp_publish.proofs.loaded.load_all.Given as goal
+use Rattle.yp_publisher.proofs.Loading.{IsLoading}
+use Rattle.yp_publisher.proofs.loaded.load_all.Given as goal
 
 abbrev pub invariant-loop-disk : goal.invariant-loop-disk
 invariant-loop-disk g l = record {

@@ -1,9 +1,9 @@
 use Rattle.std.proofs.Common.{◌∙◌, map}
 use Rattle.std.proofs.lemmas.Slice.Zip.{AllZip-long}
-use Rattle.yp_publish.specs.Opens.{IsOpened}
-use Rattle.yp_publish.specs.Standing.{Kept, versions}
-use Rattle.yp_publish.proofs.Opening.{opened_zip, stopped_zip, unopened, level}
-use Rattle.yp_publish.proofs.open.open_publisher.Goals as goal
+use Rattle.yp_publisher.specs.Opens.{IsOpened}
+use Rattle.yp_publisher.specs.Standing.{StoredMap, versions}
+use Rattle.yp_publisher.proofs.Opening.{opened_zip, stopped_zip, unopened, level}
+use Rattle.yp_publisher.proofs.open.open_publisher.Goals as goal
 
 pub returns-in-Err-clause-refused : goal.returns-in-Err-clause-refused
 returns-in-Err-clause-refused g c =
@@ -28,7 +28,7 @@ new-requires-clause-maps g c =
 pub returns-in-Ok-board_of-clause-start : goal.returns-in-Ok-board_of-clause-start
 returns-in-Ok-board_of-clause-start g c =
     let maps = c.in-Ok.loaded in
-    let start = c.beginning_is_start.ensures (versions maps) (map (λ (kept : Kept g.row.D.Denot). kept.standing) maps)
+    let start = c.beginning_is_start.ensures (versions maps) (map (λ (kept : StoredMap g.row.D.Denot). kept.standing) maps)
     (level g.D.Disk.history g.D.Disk.faults c.args.disks.items maps c.in-Ok.ensures.loaded) in
     rw (c.new.ensures, c.in-Ok-board_of.ensures) start
 

@@ -1,6 +1,6 @@
 use Rattle.std.proofs.Common.{◌≡◌, length, arith, refl}
-use Rattle.yp_publish.proofs.Lists.{same_by_get}
-use Rattle.yp_publish.proofs.same.has_same_rows.Goals as goal
+use Rattle.yp_publisher.proofs.Lists.{same_by_get}
+use Rattle.yp_publisher.proofs.same.has_same_rows.Goals as goal
 
 pub returns : goal.returns
 returns c =

@@ -20,8 +20,9 @@ debit_both one other = record {
   versions = one.versions + other.versions;
 }
 
--- So many more files and built versions at least are charged, and so many fetched ones were given away.
-pub record IsCharged (failures made versions : ℕ) (old new : Debit) : Type 0 where
+-- At least this many failed files and built versions were added to a debit, and exactly this many fetched versions were
+-- taken from it.
+pub record DebitIsCharged (failures made versions : ℕ) (old new : Debit) : Type 0 where
   pub parts : new.parts ≡ old.parts
   pub failures_are : old.failures + failures ≤ new.failures
   pub made_are : old.made + made ≤ new.made

@@ -1,6 +1,6 @@
 -- How far `put_words` has come.
 use Rattle.std.proofs.Common.{take}
-use Rattle.yp_xdr.specs.Writing.{Sets}
+use Rattle.yp_xdr.specs.inside.Writing.{Sets}
 use Rattle.yp_rpc.specs.Reply.{words}
 use Rattle.yp_rpc.proofs.put.put_words.Given as goal
 

@@ -1,6 +1,6 @@
 use Rattle.std.proofs.Common.{arith, subst}
 use Rattle.yp_board.specs.Views.{IsFront}
-use Rattle.yp_serve.proofs.locks.unlock.Goals as goal
+use Rattle.yp_server.proofs.locks.unlock.Goals as goal
 
 pub returns-clause-grown : goal.returns-clause-grown
 returns-clause-grown g c =

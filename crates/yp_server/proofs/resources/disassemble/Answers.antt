@@ -1,6 +1,6 @@
 use Rattle.std.proofs.Common.{refl, sym, ap, ◌∙◌}
 use Rattle.yp_board.specs.Logs.{shown}
-use Rattle.yp_serve.proofs.lent.disassemble.Goals as goal
+use Rattle.yp_server.proofs.resources.disassemble.Goals as goal
 
 pub returns-clause-stand : goal.returns-clause-stand
 returns-clause-stand g c = (

@@ -1,9 +1,9 @@
 use Rattle.std.proofs.Common.{sym, subst}
-use Rattle.yp_publish.specs.Rising.{IsRisingLog}
-use Rattle.yp_publish.specs.Grown.{AreTold}
-use Rattle.yp_serve.proofs.Covering.{covered}
-use Rattle.yp_serve.proofs.Stemming.{stems}
-use Rattle.yp_serve.proofs.lent.take_apart.Goals as goal
+use Rattle.yp_publisher.specs.Rising.{IsRisingLog}
+use Rattle.yp_publisher.specs.Grown.{AreTold}
+use Rattle.yp_server.proofs.Covering.{covered}
+use Rattle.yp_server.proofs.Stemming.{stems}
+use Rattle.yp_server.proofs.resources.take_apart.Goals as goal
 
 pub returns-clause-covered : goal.returns-clause-covered
 returns-clause-covered g c =

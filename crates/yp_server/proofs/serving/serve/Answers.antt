@@ -1,8 +1,8 @@
-use Rattle.yp_serve.specs.Serving.{IsAtStart}
-use Rattle.yp_serve.proofs.Rows.{all_before, all_last}
-use Rattle.yp_worker.specs.Receptions.{opening_of}
-use Rattle.yp_serve.proofs.Closing.{all_accepted}
-use Rattle.yp_serve.proofs.serving.serve.Goals as goal
+use Rattle.yp_server.specs.Serving.{IsAtStart}
+use Rattle.yp_server.proofs.Rows.{all_before, all_last}
+use Rattle.yp_worker.specs.Receptions.{opening_by}
+use Rattle.yp_server.proofs.Closing.{all_accepted}
+use Rattle.yp_server.proofs.serving.serve.Goals as goal
 
 pub under_locks-requires-clause-know : goal.under_locks-requires-clause-know
 under_locks-requires-clause-know g c κs within =
@@ -16,6 +16,6 @@ under_locks-requires-clause-spare g c κs within =
 
 pub returns-clause-all : goal.returns-clause-all
 returns-clause-all g c =
-    let tells = opening_of g.L.Listen.past g.L.Listen.most g.L.Listen.accepted g.L.Listen.returned g.L.Listen.faults in
+    let tells = opening_by g.L.Listen in
     all_accepted c.under_locks.result (tells c.args.listen) (λ s. tells s.listen) (λ s. s.tally.connections)
     (λ s. s.tally.listen_fault) c.under_locks.ensures.gone

@@ -1,28 +1,28 @@
-use Rattle.yp_worker.specs.Receptions.{opening_of}
-use Rattle.yp_publish.specs.Rising.{moment_of}
-use Rattle.yp_shared.specs.Failures.{disks_of, faults_over}
-use Rattle.yp_workhost.specs.Makings.{IsBuilt}
-use Rattle.yp_serve.proofs.serving.serve.Given as goal
+use Rattle.yp_worker.specs.Receptions.{opening_by}
+use Rattle.yp_publisher.specs.Rising.{publisher_state}
+use Rattle.yp_publisher.specs.sharing.Failures.{disks_of, faults_over}
+use Rattle.yp_host.specs.workers.Makings.{IsBuiltOfText}
+use Rattle.yp_server.proofs.serving.serve.Given as goal
 
 -- what is lent, as it is before the first connection
 abbrev pub ghosts-under_locks-J-Reception : goal.ghosts-under_locks-J-Reception
 ghosts-under_locks-J-Reception g a = record {
-  starts = g.B.Show.log a.lent.publisher.board;
+  starts = g.B.Show.log a.resources.publisher.board;
   most = a.spec.now.most;
-  opening = opening_of g.L.Listen.past g.L.Listen.most g.L.Listen.accepted g.L.Listen.returned g.L.Listen.faults a.lent.listen;
+  opening = opening_by g.L.Listen a.resources.listen;
 }
 
 abbrev pub ghosts-under_locks-J-Site : goal.ghosts-under_locks-J-Site
-ghosts-under_locks-J-Site g a = record { catalogue = a.lent.publisher.catalogue }
+ghosts-under_locks-J-Site g a = record { catalogue = a.resources.publisher.catalogue }
 
 abbrev pub ghosts-under_locks-J-Supplies : goal.ghosts-under_locks-J-Supplies
 ghosts-under_locks-J-Supplies g a = record {
-  text = g.T.Texts.text a.lent.desk.texts;
-  hosts = a.lent.desk.hosts;
-  text_faults = g.T.Texts.faults a.lent.desk.texts;
-  wires = g.A.Dial.past a.lent.desk.dial;
-  letters = g.A.Dial.letters a.lent.desk.dial;
-  dial_faults = g.A.Dial.faults a.lent.desk.dial;
+  text = g.T.Texts.text a.resources.desk.texts;
+  hosts = a.resources.desk.hosts;
+  text_faults = g.T.Texts.faults a.resources.desk.texts;
+  wires = g.A.Dial.past a.resources.desk.dial;
+  letters = g.A.Dial.letters a.resources.desk.dial;
+  dial_faults = g.A.Dial.faults a.resources.desk.dial;
   unread = a.blanks.unread.name;
   orders = a.blanks.orders.name;
   sources = a.blanks.sources.name;
@@ -36,9 +36,9 @@ ghosts-under_locks-E-Ledger g a = record { name = a.ended.name; parts = a.ended.
 
 abbrev pub ghosts-under_locks-J-Accounts : goal.ghosts-under_locks-J-Accounts
 ghosts-under_locks-J-Accounts g a = record {
-  built = IsBuilt (g.T.Texts.text a.lent.desk.texts) a.lent.publisher.catalogue;
-  first = moment_of g.B.Show.log a.lent.publisher;
-  disk_faults = faults_over g.D.Disk.faults (disks_of a.lent.publisher.maps);
+  built = IsBuiltOfText (g.T.Texts.text a.resources.desk.texts) a.resources.publisher.catalogue;
+  first = publisher_state g.B.Show.log a.resources.publisher;
+  disk_faults = faults_over g.D.Disk.faults (disks_of a.resources.publisher.maps);
   failures = a.blanks.failures.name;
   made = a.blanks.made.name;
   versions = a.blanks.versions.name;

@@ -1,6 +1,6 @@
 use Rattle.std.proofs.Common.{arith}
-use Rattle.yp_serve.proofs.Fronts.{starts_in}
-use Rattle.yp_serve.proofs.serving.under_locks.Goals as goal
+use Rattle.yp_server.proofs.Fronts.{starts_in}
+use Rattle.yp_server.proofs.serving.under_locks.Goals as goal
 
 pub returns-clause-datagrams : goal.returns-clause-datagrams
 returns-clause-datagrams g c =

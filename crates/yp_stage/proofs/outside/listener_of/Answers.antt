@@ -2,16 +2,16 @@ use Rattle.std.proofs.Common.{Bool, true, false, List, [], ◌∷◌, ◌++◌, 
 use Rattle.std.specs.Prelude.{if◌then◌else◌, is_ok}
 use Rattle.std.specs.List.{All}
 use Rattle.std.proofs.lemmas.List.Elements.{All-push}
-use Rattle.yp_io.specs.MemListen.{MemConnection, IsNew}
+use Rattle.yp_io.specs.inside.MemListen.{MemConnection, ConnectionIsNew}
 use Rattle.yp_stage.proofs.outside.listener_of.Goals as goal
 
 -- one more connection that has met no fault and taken nothing, where there is memory for it
-added : (calls : List MemConnection) (call : MemConnection) (pushed : Bool) → All IsNew calls → IsNew call
-    → All IsNew (if pushed then calls ++ call ∷ [] else calls)
-added calls call true all fresh = All-push IsNew calls call all fresh
+added : (calls : List MemConnection) (call : MemConnection) (pushed : Bool) → All ConnectionIsNew calls → ConnectionIsNew call
+    → All ConnectionIsNew (if pushed then calls ++ call ∷ [] else calls)
+added calls call true all fresh = All-push ConnectionIsNew calls call all fresh
 added calls call false all fresh = all
 
 pub loop-words-preserved : goal.loop-words-preserved
 loop-words-preserved c =
-    subst (All IsNew) (sym c.push.ensures.items)
+    subst (All ConnectionIsNew) (sym c.push.ensures.items)
     (added c.loop-words.calls.items c.in_ok-call.call (is_ok c.push.result) c.loop-words.invariant c.in_ok-call.ensures)

@@ -1,11 +1,11 @@
 use Rattle.std.proofs.Common.{◌≡◌, option_map, rules, subst, sym}
-use Rattle.yp_build.specs.After.{secured, IsOver}
-use Rattle.yp_build.proofs.Orders.{built_over}
-use Rattle.yp_build.proofs.after.build_after.Goals as goal
+use Rattle.yp_texts.specs.After.{secured, HasLaterOrder}
+use Rattle.yp_texts.proofs.Orders.{built_over}
+use Rattle.yp_texts.proofs.after.build_after.Goals as goal
 
 pub returns-clause-over : goal.returns-clause-over
 returns-clause-over g c =
     let last = option_map (λ version. version.now) c.args.last in
     let is : c.marked.result ≡ secured c.args.flag last c.in_ok-version.version = search rules in
-    subst (IsOver last) (sym is) (built_over c.args.kind c.args.text.items last c.args.now c.args.own.now c.args.flag
+    subst (HasLaterOrder last) (sym is) (built_over c.args.kind c.args.text.items last c.args.now c.args.own.now c.args.flag
     c.in_ok-version.version (search rules))

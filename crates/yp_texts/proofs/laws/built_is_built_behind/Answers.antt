@@ -1,5 +1,5 @@
-use Rattle.yp_build.proofs.Behind.{built_is_built_behind}
-use Rattle.yp_build.proofs.laws.built_is_built_behind.Goals as goal
+use Rattle.yp_texts.proofs.Behind.{built_is_built_behind}
+use Rattle.yp_texts.proofs.laws.built_is_built_behind.Goals as goal
 
 pub returns : goal.returns
 returns c = built_is_built_behind

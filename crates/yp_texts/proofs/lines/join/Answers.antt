@@ -1,9 +1,9 @@
 use Rattle.std.proofs.Common.{◌≡◌, ℕ, ◌+◌, ◌-◌, true, false, not, ◌&&◌, ◌==◌, List, ◌∷◌, ◌++◌, [], length, take, sym}
 use Rattle.std.proofs.Common.{ap, ◌∙◌, arith}
-use Rattle.yp_build.specs.Lines.{goes_on, lines_from, joined}
-use Rattle.yp_build.proofs.LineLists.{joined-cut, append-joined, whole_lines-alone, some_if_continued}
-use Rattle.yp_build.proofs.LineLists.{goes_on_if_continued}
-use Rattle.yp_build.proofs.lines.join.Goals as goal
+use Rattle.yp_texts.specs.Lines.{goes_on, lines_from, joined}
+use Rattle.yp_texts.proofs.LineLists.{joined-cut, append-joined, whole_lines-alone, some_if_continued}
+use Rattle.yp_texts.proofs.LineLists.{goes_on_if_continued}
+use Rattle.yp_texts.proofs.lines.join.Goals as goal
 
 pub loop-buffer-preserved : goal.loop-buffer-preserved
 loop-buffer-preserved c =

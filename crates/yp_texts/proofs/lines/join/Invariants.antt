@@ -1,6 +1,6 @@
 use Rattle.std.proofs.Common.{◌≡◌, ◌+◌, ◌<◌, ◌≤◌, ℕ, List, ◌∷◌, ◌++◌, length}
-use Rattle.yp_build.specs.Lines.{Line, lines_from, joined}
-use Rattle.yp_build.proofs.lines.join.Given as goal
+use Rattle.yp_texts.specs.Lines.{Line, lines_from, joined}
+use Rattle.yp_texts.proofs.lines.join.Given as goal
 
 abbrev pub invariant-loop-buffer : goal.invariant-loop-buffer
 invariant-loop-buffer l = record {

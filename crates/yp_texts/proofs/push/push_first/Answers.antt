@@ -1,12 +1,12 @@
 use Rattle.std.proofs.Common.{◌≡◌, ℕ, ◌+◌, true, false, not, ◌&&◌, ◌==◌, List, ◌∷◌, ◌++◌, length, sym, ap, ◌∙◌, rules}
 use Rattle.std.proofs.Common.{tests}
 use Rattle.std.specs.List.{flat_map}
-use Rattle.yp_build.specs.declared.kind.Kind.{Kind}
-use Rattle.yp_build.specs.Lines.{goes_on, whole_lines}
-use Rattle.yp_build.specs.Rows.{joins, line_rows, rows_from}
-use Rattle.yp_build.proofs.LineLists.{whole_lines-alone, whole_lines-joined}
-use Rattle.yp_build.proofs.Pushing.{stopped-first}
-use Rattle.yp_build.proofs.push.push_first.Goals as goal
+use Rattle.yp_texts.specs.declared.kind.Kind.{Kind}
+use Rattle.yp_texts.specs.Lines.{goes_on, whole_lines}
+use Rattle.yp_texts.specs.Rows.{joins, line_rows, rows_from}
+use Rattle.yp_texts.proofs.LineLists.{whole_lines-alone, whole_lines-joined}
+use Rattle.yp_texts.proofs.Pushing.{stopped-first}
+use Rattle.yp_texts.proofs.push.push_first.Goals as goal
 
 rows_from-cut : (kind : Kind) (number next : ℕ) (text line rest : List ℕ)
     → whole_lines (joins kind) number text ≡ (number, line) ∷ whole_lines (joins kind) next rest

@@ -1,10 +1,10 @@
 use Rattle.std.proofs.Common.{◌≡◌, ℕ, List, [], ◌∷◌, ◌++◌, map, ap, rules}
 use Rattle.yp_version.specs.Drafts.{Draft}
-use Rattle.yp_build.specs.Words.{words}
-use Rattle.yp_build.specs.Rows.{LineRow, at_line, name_rows}
-use Rattle.yp_build.specs.Pushes.{Pushed}
-use Rattle.yp_build.proofs.Pushing.{pushed-left, pushed-more, pushed-stopped}
-use Rattle.yp_build.proofs.push.push_names.Goals as goal
+use Rattle.yp_texts.specs.Words.{words}
+use Rattle.yp_texts.specs.Rows.{LineRow, at_line, name_rows}
+use Rattle.yp_texts.specs.inside.Pushes.{Pushed}
+use Rattle.yp_texts.proofs.Pushing.{pushed-left, pushed-more, pushed-stopped}
+use Rattle.yp_texts.proofs.push.push_names.Goals as goal
 
 -- the rows of names that are left, with the first of them in front
 next_name : (number : ℕ) (line rest name more : List ℕ) (draft now : Draft) (rows : List LineRow)

@@ -1,8 +1,8 @@
 use Rattle.std.proofs.Common.{map, length}
-use Rattle.yp_build.specs.Words.{words}
-use Rattle.yp_build.specs.Rows.{at_line, name_rows}
-use Rattle.yp_build.specs.Pushes.{Pushed}
-use Rattle.yp_build.proofs.push.push_names.Given as goal
+use Rattle.yp_texts.specs.Words.{words}
+use Rattle.yp_texts.specs.Rows.{at_line, name_rows}
+use Rattle.yp_texts.specs.inside.Pushes.{Pushed}
+use Rattle.yp_texts.proofs.push.push_names.Given as goal
 
 abbrev pub invariant-loop-name : goal.invariant-loop-name
 invariant-loop-name l = Pushed l.initial.into (at_line l.number (name_rows l.line))

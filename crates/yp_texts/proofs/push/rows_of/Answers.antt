@@ -1,7 +1,7 @@
 use Rattle.std.proofs.Common.{arith, rules}
-use Rattle.yp_build.specs.Rows.{rows_from, rows}
-use Rattle.yp_build.proofs.Pushing.{pushed-then, stopped-then, stopped-cause}
-use Rattle.yp_build.proofs.push.rows_of.Goals as goal
+use Rattle.yp_texts.specs.Rows.{rows_from, rows}
+use Rattle.yp_texts.proofs.Pushing.{pushed-then, stopped-then, stopped-cause}
+use Rattle.yp_texts.proofs.push.rows_of.Goals as goal
 
 pub returns-in_err-more-clause-cause : goal.returns-in_err-more-clause-cause
 returns-in_err-more-clause-cause c =

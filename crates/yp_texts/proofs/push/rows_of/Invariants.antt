@@ -1,7 +1,7 @@
 use Rattle.std.proofs.Common.{◌+◌, ◌≤◌, length}
-use Rattle.yp_build.specs.Rows.{rows_from, rows}
-use Rattle.yp_build.specs.Pushes.{Pushed}
-use Rattle.yp_build.proofs.push.rows_of.Given as goal
+use Rattle.yp_texts.specs.Rows.{rows_from, rows}
+use Rattle.yp_texts.specs.inside.Pushes.{Pushed}
+use Rattle.yp_texts.proofs.push.rows_of.Given as goal
 
 abbrev pub invariant-loop-rest : goal.invariant-loop-rest
 invariant-loop-rest l = record {

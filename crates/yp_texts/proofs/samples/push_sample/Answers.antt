@@ -1,7 +1,7 @@
 use Rattle.std.proofs.Common.{◌≡◌, ◌+◌, ◌∙◌}
-use Rattle.yp_build.specs.Samples.{sample_value}
-use Rattle.yp_build.proofs.Sampling.{sample-ok, sample-err}
-use Rattle.yp_build.proofs.samples.push_sample.Goals as goal
+use Rattle.yp_texts.specs.Samples.{sample_value}
+use Rattle.yp_texts.proofs.Sampling.{sample-ok, sample-err}
+use Rattle.yp_texts.proofs.samples.push_sample.Goals as goal
 
 pub returns-clause-body : goal.returns-clause-body
 returns-clause-body c =

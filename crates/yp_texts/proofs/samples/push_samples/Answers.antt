@@ -1,8 +1,8 @@
 use Rattle.std.proofs.Common.{sym}
 use Rattle.yp_version.specs.Drafts.{with_rows}
-use Rattle.yp_build.specs.Samples.{samples}
-use Rattle.yp_build.proofs.Sampling.{samples-left, samples-none}
-use Rattle.yp_build.proofs.samples.push_samples.Goals as goal
+use Rattle.yp_texts.specs.Samples.{samples}
+use Rattle.yp_texts.proofs.Sampling.{samples-left, samples-none}
+use Rattle.yp_texts.proofs.samples.push_samples.Goals as goal
 
 pub loop-i-preserved : goal.loop-i-preserved
 loop-i-preserved c = record {

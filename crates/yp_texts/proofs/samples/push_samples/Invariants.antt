@@ -1,7 +1,8 @@
 use Rattle.std.proofs.Common.{◌≡◌, ◌-◌, ◌≤◌, length}
 use Rattle.yp_version.specs.Drafts.{draft_len, with_rows}
-use Rattle.yp_build.specs.Samples.{samples, samples_len}
-use Rattle.yp_build.proofs.samples.push_samples.Given as goal
+use Rattle.yp_texts.specs.Samples.{samples}
+use Rattle.yp_texts.specs.inside.Samples.{samples_len}
+use Rattle.yp_texts.proofs.samples.push_samples.Given as goal
 
 abbrev pub invariant-loop-i : goal.invariant-loop-i
 invariant-loop-i l = record {

@@ -1,8 +1,8 @@
 use Rattle.std.proofs.Common.{ap, ◌∙◌}
 use Rattle.yp_version.specs.Drafts.{Draft, with_rows}
-use Rattle.yp_build.specs.Builds.{finished}
-use Rattle.yp_build.specs.Samples.{samples}
-use Rattle.yp_build.proofs.samples.sample.Goals as goal
+use Rattle.yp_texts.specs.Builds.{finished}
+use Rattle.yp_texts.specs.Samples.{samples}
+use Rattle.yp_texts.proofs.samples.sample.Goals as goal
 
 pub returns-clause-version : goal.returns-clause-version
 returns-clause-version g c =

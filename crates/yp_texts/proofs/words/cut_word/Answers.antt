@@ -1,6 +1,6 @@
 use Rattle.std.proofs.Common.{◌≡◌, ◌<◌, length, sym, ap, ◌∙◌, rules, tests}
-use Rattle.yp_build.proofs.WordLists.{words-cut, words-none}
-use Rattle.yp_build.proofs.words.cut_word.Goals as goal
+use Rattle.yp_texts.proofs.WordLists.{words-cut, words-none}
+use Rattle.yp_texts.proofs.words.cut_word.Goals as goal
 
 pub returns-then-is_empty-clause-none : goal.returns-then-is_empty-clause-none
 returns-then-is_empty-clause-none c =

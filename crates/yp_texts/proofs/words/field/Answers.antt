@@ -1,7 +1,7 @@
 use Rattle.std.proofs.Common.{rules, tests}
 use Rattle.std.proofs.lemmas.Iterator.Consumers.{nth_from_yields_List}
 use Rattle.std.proofs.lemmas.Iterator.Splits.{YieldsList-from_slice_split}
-use Rattle.yp_build.proofs.words.field.Goals as goal
+use Rattle.yp_texts.proofs.words.field.Goals as goal
 
 pub returns : goal.returns
 returns c = nth_from_yields_List _ _ c.args.number c.nth.ensures.ran

@@ -1,10 +1,11 @@
 use Rattle.std.proofs.Common.{◌∙◌, arith, append_assoc}
 use Rattle.yp_xdr.specs.Spelling.{spelling, opaque, fixed}
 use Rattle.yp_rpc.specs.Call.{front_kind, procedure_kind}
-use Rattle.yp_rpc.specs.Called.{front, heading, called}
-use Rattle.yp_msgs.specs.Transfers.{resp_xfr, xfr_number}
-use Rattle.yp_xfr.proofs.Setting.{fills}
-use Rattle.yp_xfr.proofs.calling_back.set_call_back.Goals as goal
+use Rattle.yp_rpc.specs.Called.{front, heading}
+use Rattle.yp_rpc.specs.inside.Called.{called}
+use Rattle.yp_messages.specs.Transfers.{resp_xfr, xfr_number}
+use Rattle.yp_transfer.proofs.Setting.{fills}
+use Rattle.yp_transfer.proofs.calling_back.set_call_back.Goals as goal
 
 pub unreachable-requires : goal.unreachable-requires
 unfolding opaque fixed

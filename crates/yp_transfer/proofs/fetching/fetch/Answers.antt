@@ -1,7 +1,7 @@
-use Rattle.yp_client.specs.States.{state_of}
-use Rattle.yp_xfr.specs.Fetching.{wanted_of}
-use Rattle.yp_xfr.proofs.ByBytes.{is_fetched}
-use Rattle.yp_xfr.proofs.fetching.fetch.Goals as goal
+use Rattle.yp_client.specs.inside.States.{state_of}
+use Rattle.yp_transfer.specs.Fetching.{wanted_of}
+use Rattle.yp_transfer.proofs.ByBytes.{is_fetched}
+use Rattle.yp_transfer.proofs.fetching.fetch.Goals as goal
 
 pub returns-clause-fetched : goal.returns-clause-fetched
 returns-clause-fetched g c =

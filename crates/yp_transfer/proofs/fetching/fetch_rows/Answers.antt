@@ -1,6 +1,6 @@
-use Rattle.yp_client.specs.States.{state_of}
-use Rattle.yp_xfr.proofs.Going.{rows_refused, rows_taken}
-use Rattle.yp_xfr.proofs.fetching.fetch_rows.Goals as goal
+use Rattle.yp_client.specs.inside.States.{state_of}
+use Rattle.yp_transfer.proofs.Going.{rows_refused, rows_taken}
+use Rattle.yp_transfer.proofs.fetching.fetch_rows.Goals as goal
 
 pub returns-in-Err : goal.returns-in-Err
 returns-in-Err g c =

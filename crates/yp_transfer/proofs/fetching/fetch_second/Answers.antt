@@ -1,7 +1,7 @@
 use Rattle.std.proofs.Common.{sym, ◌∙◌}
-use Rattle.yp_client.specs.States.{state_of}
-use Rattle.yp_xfr.proofs.Going.{skewed, given, not_given}
-use Rattle.yp_xfr.proofs.fetching.fetch_second.Goals as goal
+use Rattle.yp_client.specs.inside.States.{state_of}
+use Rattle.yp_transfer.proofs.Going.{skewed, given, not_given}
+use Rattle.yp_transfer.proofs.fetching.fetch_second.Goals as goal
 
 pub returns-then-first-second : goal.returns-then-first-second
 returns-then-first-second g c =

@@ -1,9 +1,9 @@
 use Rattle.std.proofs.Common.{◌∙◌, ap, Bool, Option}
 use Rattle.yp_version.specs.Versions.{MapVersion}
-use Rattle.yp_publish.specs.Keeping.{keeping_of}
-use Rattle.yp_xfr.specs.Installing.{marking}
-use Rattle.yp_xfr.proofs.Offering.{is_taken, is_not_taken}
-use Rattle.yp_xfr.proofs.install.install_fetched.Goals as goal
+use Rattle.yp_publisher.specs.Keeping.{keeping_of}
+use Rattle.yp_transfer.specs.Installing.{marking}
+use Rattle.yp_transfer.proofs.Offering.{is_taken, is_not_taken}
+use Rattle.yp_transfer.proofs.install.install_fetched.Goals as goal
 
 pub returns-in-Ok-install : goal.returns-in-Ok-install
 returns-in-Ok-install g c =

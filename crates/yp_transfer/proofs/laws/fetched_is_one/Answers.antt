@@ -1,5 +1,5 @@
-use Rattle.yp_xfr.proofs.OneOutcome.{one_outcome}
-use Rattle.yp_xfr.proofs.laws.fetched_is_one.Goals as goal
+use Rattle.yp_transfer.proofs.OneOutcome.{one_outcome}
+use Rattle.yp_transfer.proofs.laws.fetched_is_one.Goals as goal
 
 pub returns : goal.returns
 returns c = one_outcome (record {

@@ -1,7 +1,7 @@
 -- What the code keeps of a whole walk.
-use Rattle.yp_enum.specs.declared.walk.Walk.TheInside.{Inside}
-use Rattle.yp_enum.specs.Schedules.{Walking}
-use Rattle.yp_enum.specs.Kept.{wanted_in, standing_of, HasNames, IsRoomy}
+use Rattle.yp_transfer.specs.declared.walk.walk.Walk.TheInside.{Inside}
+use Rattle.yp_transfer.specs.walk.Schedules.{Walking}
+use Rattle.yp_transfer.specs.inside.walk.Kept.{wanted_in, standing_of, HasShortNames, IsRoomy}
 
 -- what the fields tell
 abbrev pub walking_of : Inside → Walking
@@ -13,5 +13,5 @@ walking_of inside = record {
 }
 
 pub record IsKept (inside : Inside) : Type 0 where
-  pub names : HasNames inside.asked
+  pub names : HasShortNames inside.asked
   pub room : IsRoomy inside.asked inside.stage

@@ -2,20 +2,20 @@
 use Rattle.std.specs.Prelude.{◌≡◌, ℕ, ◌+◌, ◌-◌, ◌<◌, ◌⊎◌, List, [], ◌∷◌, ◌++◌, length, Option, Some, None, Result}
 use Rattle.std.specs.Prelude.{Ok, Err, ⊤}
 use Rattle.yp_io.specs.declared.stream.Peer.{Peer}
-use Rattle.yp_msgs.specs.declared.stat.YpStat.TheVariants.{Nomore, Nokey}
+use Rattle.yp_messages.specs.declared.stat.YpStat.TheVariants.{Nomore, Nokey}
 use Rattle.yp_version.specs.Rows.{Row, first_of, following}
 use Rattle.yp_version.specs.Versions.{MapVersion, IsVersion}
 use Rattle.yp_version.specs.Drafts.{Draft}
 use Rattle.yp_client.specs.declared.fault.ClientFault.{ClientFault}
 use Rattle.yp_client.specs.declared.fault.ClientFault.TheVariants.{Yp}
 use Rattle.yp_client.specs.Results.{order_of, master_of, row_of}
-use Rattle.yp_xfr.specs.declared.fault.XfrFault.{XfrFault}
-use Rattle.yp_xfr.specs.declared.fault.XfrFault.TheVariants.{Dbm}
-use Rattle.yp_rpc.specs.Turns.{mail_max}
-use Rattle.yp_xfr.specs.Fetching.{Wanted, against_order, against_master}
-use Rattle.yp_enum.specs.Standings.{Standing, AsksOrder, AsksMaster, AsksFirst, AsksNext, AsksAgain, HasEnded}
-use Rattle.yp_enum.specs.Standings.{next_len}
-use Rattle.yp_enum.specs.Schedules.{Walking, gone_on, begun, came_of}
+use Rattle.yp_transfer.specs.declared.fault.XfrFault.{XfrFault}
+use Rattle.yp_transfer.specs.declared.fault.XfrFault.TheVariants.{Dbm}
+use Rattle.yp_rpc.specs.Turns.{datagram_max}
+use Rattle.yp_transfer.specs.Fetching.{Wanted, against_order, against_master}
+use Rattle.yp_transfer.specs.walk.Standings.{WalkState, AsksOrder, AsksMaster, AsksFirst, AsksNext, AsksAgain, HasEnded}
+use Rattle.yp_transfer.specs.walk.Standings.{next_len}
+use Rattle.yp_transfer.specs.walk.Schedules.{Walking, gone_on, begun, came_of}
 
 -- ---- what the replies say
 
@@ -30,19 +30,19 @@ next_said (Some next) = row_said next
 next_said None = Err (Yp Nokey)
 
 -- The reply to the outstanding call, which has this number, says what a version has.
-abbrev pub Tells : MapVersion → ℕ → Standing → List ℕ → Type 0
-Tells version xid AsksOrder reply = order_of xid reply ≡ Ok version.order
-Tells version xid (AsksMaster order) reply = master_of xid reply ≡ Ok version.master
-Tells version xid (AsksFirst draft) reply = row_of xid reply ≡ row_said (first_of version.rows)
-Tells version xid (AsksNext draft key) reply = row_of xid reply ≡ next_said (following key version.rows)
-Tells version xid (AsksAgain draft why) reply = order_of xid reply ≡ Ok version.order
-Tells version xid (HasEnded outcome) reply = ⊥
+abbrev pub SaysOfVersion : MapVersion → ℕ → WalkState → List ℕ → Type 0
+SaysOfVersion version xid AsksOrder reply = order_of xid reply ≡ Ok version.order
+SaysOfVersion version xid (AsksMaster order) reply = master_of xid reply ≡ Ok version.master
+SaysOfVersion version xid (AsksFirst draft) reply = row_of xid reply ≡ row_said (first_of version.rows)
+SaysOfVersion version xid (AsksNext draft key) reply = row_of xid reply ≡ next_said (following key version.rows)
+SaysOfVersion version xid (AsksAgain draft why) reply = order_of xid reply ≡ Ok version.order
+SaysOfVersion version xid (HasEnded outcome) reply = ⊥
 
 -- Each reply of a list says so to the call that it meets.
 abbrev pub AllTell : MapVersion → Walking → List (List ℕ) → Type 0
 AllTell version walking [] = ⊤
 AllTell version walking (reply ∷ replies) =
-    Tells version walking.xid walking.standing reply × AllTell version (gone_on walking reply) replies
+    SaysOfVersion version walking.xid walking.standing reply × AllTell version (gone_on walking reply) replies
 
 -- ---- what comes of them
 
@@ -65,7 +65,7 @@ pub record HasLongCall (wanted : Wanted) (version : MapVersion) : Type 0 where
   pub row : Row
   pub rest : List Row
   pub whole : version.rows ≡ front ++ row ∷ rest
-  pub long : mail_max < next_len wanted row.0
+  pub long : datagram_max < next_len wanted row.0
 
 -- The refusal is the walk's own: the order isn't over the shown one, the master has no name, or a call would be too
 -- long.
@@ -76,7 +76,7 @@ IsOwn wanted version fault =
 
 -- A walk is on its way over a version: it has the order, the master and the rows so far, and at its end all of them. It
 -- never finds another order, a row twice, or a key that is gone.
-abbrev pub IsAlong : Wanted → MapVersion → Standing → Type 0
+abbrev pub IsAlong : Wanted → MapVersion → WalkState → Type 0
 IsAlong wanted version AsksOrder = ⊤
 IsAlong wanted version (AsksMaster order) = order ≡ version.order
 IsAlong wanted version (AsksFirst draft) = draft ≡ draft_with version []
@@ -96,7 +96,7 @@ ToldIsWalked =
 -- ---- how many of them it takes
 
 -- how many awaited mails a walk over a version still takes at most
-abbrev pub left : MapVersion → Standing → ℕ
+abbrev pub left : MapVersion → WalkState → ℕ
 left version AsksOrder = length version.rows + 4
 left version (AsksMaster order) = length version.rows + 3
 left version (AsksFirst draft) = length version.rows + 2

@@ -4,8 +4,8 @@ use Rattle.std.proofs.lemmas.Fn.{always_returns_same}
 use Rattle.std.proofs.lemmas.List.Sorted.{ranks_by}
 use Rattle.std.specs.List.Sorted.{IsSortedBy}
 use Rattle.yp_version.specs.Rows.{key_cmp}
-use Rattle.yp_version.specs.Slabs.{key_from}
-use Rattle.yp_version.specs.Ranks.{ranked_at, rank_cmp}
+use Rattle.yp_version.specs.inside.Slabs.{key_from}
+use Rattle.yp_version.specs.inside.Ranks.{ranked_at, rank_cmp}
 use Rattle.yp_version.specs.declared.ranks.Ranked.{Ranked}
 use Rattle.yp_version.proofs.Fronts.{ranked_moved, ranked_sorted, if_made}
 use Rattle.yp_version.proofs.ranks.sorted_places.Goals as goal

@@ -1,6 +1,6 @@
 -- How many rows have been looked at.
 use Rattle.std.proofs.Common.{◌≡◌, take, map}
-use Rattle.yp_version.specs.Ranks.{ranked_at}
+use Rattle.yp_version.specs.inside.Ranks.{ranked_at}
 use Rattle.yp_version.proofs.ranks.with_fronts.Given as goal
 
 abbrev pub invariant-loop-place : goal.invariant-loop-place

@@ -1,7 +1,7 @@
 use Rattle.std.proofs.Common.{◌≡◌, ◌++◌, length, replicate, ap, ◌∙◌, arith, rules}
 use Rattle.std.proofs.lemmas.List.{with_items_is}
-use Rattle.yp_xdr.specs.Writing.{written}
-use Rattle.yp_version.specs.Bodies.{row_bytes}
+use Rattle.yp_xdr.specs.inside.Writing.{written}
+use Rattle.yp_version.specs.inside.Bodies.{row_bytes}
 use Rattle.yp_version.specs.Rows.{row_len}
 use Rattle.yp_version.proofs.Packing.{row_there}
 use Rattle.yp_version.proofs.slab.add_row.Goals as goal

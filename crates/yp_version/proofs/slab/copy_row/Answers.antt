@@ -1,6 +1,6 @@
 use Rattle.std.proofs.Common.{◌≡◌, ap, ◌∙◌, arith}
 use Rattle.yp_version.specs.Rows.{row_len}
-use Rattle.yp_version.specs.Slabs.{row_from}
+use Rattle.yp_version.specs.inside.Slabs.{row_from}
 use Rattle.yp_version.proofs.Packing.{row_within}
 use Rattle.yp_version.proofs.slab.copy_row.Goals as goal
 

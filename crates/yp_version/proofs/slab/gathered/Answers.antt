@@ -1,7 +1,7 @@
 use Rattle.std.proofs.Common.{get_or, ap, arith, length}
 use Rattle.std.proofs.lemmas.List.{get_or_default}
 use Rattle.yp_version.specs.Rows.{rows_len}
-use Rattle.yp_version.specs.Slabs.{Packed, row_from}
+use Rattle.yp_version.specs.inside.Slabs.{Packed, row_from}
 use Rattle.yp_version.proofs.Search.{room_left}
 use Rattle.yp_version.proofs.slab.gathered.Goals as goal
 

@@ -1,6 +1,6 @@
 use Rattle.std.proofs.Common.{arith}
 use Rattle.yp_xdr.specs.Spelling.{opaque}
-use Rattle.yp_version.specs.Bodies.{row_bytes}
+use Rattle.yp_version.specs.inside.Bodies.{row_bytes}
 use Rattle.yp_version.specs.Limits.{key_max, value_max}
 use Rattle.yp_version.proofs.Lengths.{length_opaque}
 use Rattle.yp_version.proofs.slab.set_row.Goals as goal

@@ -1,6 +1,6 @@
 use Rattle.std.proofs.Common.{◌≡◌, ◌+◌, ◌-◌, length, take, drop, ap, ◌∙◌, arith}
 use Rattle.yp_version.specs.Rows.{padded}
-use Rattle.yp_version.specs.Slabs.{key_from, value_from}
+use Rattle.yp_version.specs.inside.Slabs.{key_from, value_from}
 use Rattle.yp_version.proofs.Packing.{row_within, spelled_at}
 use Rattle.yp_version.proofs.slab.spelled_from.Goals as goal
 

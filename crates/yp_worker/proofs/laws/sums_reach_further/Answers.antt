@@ -1,4 +1,4 @@
-use Rattle.yp_session.specs.Hosts.{conduct_of}
+use Rattle.yp_answer.specs.session.Hosts.{conduct_of}
 use Rattle.yp_worker.specs.Summing.{counting_of}
 use Rattle.yp_worker.proofs.Summing.{sums_further}
 use Rattle.yp_worker.proofs.laws.sums_reach_further.Goals as goal

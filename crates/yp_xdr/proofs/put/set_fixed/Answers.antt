@@ -1,7 +1,7 @@
 use Rattle.std.proofs.Common.{◌≡◌, List, ℕ, length, arith, ap, subst, ◌∙◌, take, replicate}
 use Rattle.std.proofs.lemmas.List.{take-replicate}
 use Rattle.yp_xdr.specs.Spelling.{padding, fixed}
-use Rattle.yp_xdr.specs.Writing.{Sets}
+use Rattle.yp_xdr.specs.inside.Writing.{Sets}
 use Rattle.yp_xdr.proofs.Parts.{sets_join}
 use Rattle.yp_xdr.proofs.put.set_fixed.Goals as goal
 

@@ -2,10 +2,10 @@ use Rattle.std.proofs.Common.{◌≡◌, ℕ, ◌+◌, ◌<◌, List, [], ◌++�
 use Rattle.std.proofs.lemmas.List.{length-append, length-take}
 use Rattle.std.proofs.lemmas.Result.{on_err_weaker}
 use Rattle.yp_rpc.specs.Records.{sent, joined}
-use Rattle.yp_answer.specs.Streams.{Streamed, parts_left}
-use Rattle.yp_session.proofs.Sending.{on_err, front_sent}
-use Rattle.yp_session.proofs.Streaming.{HasPut-none, HasPut-more, put_front, put_whole, all_put, smaller, gives_joined, gives_none}
-use Rattle.yp_session.proofs.send.send_stream.Goals as goal
+use Rattle.yp_answer.specs.inside.Streams.{Streamed, parts_left}
+use Rattle.yp_answer.proofs.session.Sending.{on_err, front_sent}
+use Rattle.yp_answer.proofs.session.Streaming.{HasPut-none, HasPut-more, put_front, put_whole, all_put, smaller, gives_joined, gives_none}
+use Rattle.yp_answer.proofs.session.send.send_stream.Goals as goal
 
 pub loop-len-init : goal.loop-len-init
 loop-len-init g c =

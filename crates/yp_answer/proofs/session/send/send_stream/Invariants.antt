@@ -1,8 +1,8 @@
 use Rattle.std.proofs.Common.{◌≡◌, ℕ, ◌+◌, ◌≤◌, ◌<◌, List, [], ◌++◌, length, take, min}
 use Rattle.yp_rpc.specs.Records.{joined}
-use Rattle.yp_answer.specs.Streams.{parts_left}
-use Rattle.yp_session.proofs.Streaming.{HasPut}
-use Rattle.yp_session.proofs.send.send_stream.Given as goal
+use Rattle.yp_answer.specs.inside.Streams.{parts_left}
+use Rattle.yp_answer.proofs.session.Streaming.{HasPut}
+use Rattle.yp_answer.proofs.session.send.send_stream.Given as goal
 
 abbrev pub invariant-loop-len : goal.invariant-loop-len
 invariant-loop-len g l =

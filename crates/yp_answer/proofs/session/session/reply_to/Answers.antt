@@ -1,12 +1,12 @@
 use Rattle.std.proofs.Common.{true, false, refl, take}
 use Rattle.yp_answer.specs.declared.procedure.Path.TheVariants.{Stream}
-use Rattle.yp_answer.specs.Transfer.{taken_view}
+use Rattle.yp_answer.specs.inside.Transfer.{taken_view}
 use Rattle.yp_rpc.specs.Records.{joined}
-use Rattle.yp_answer.specs.Streams.{parts_left}
-use Rattle.yp_session.specs.Hosts.{conduct_of}
-use Rattle.yp_session.proofs.Sending.{Appends-none, on_err, on_ok_two, on_err_two}
-use Rattle.yp_session.proofs.Links.{link_silent, link_bytes, link_takes, link_open}
-use Rattle.yp_session.proofs.session.reply_to.Goals as goal
+use Rattle.yp_answer.specs.inside.Streams.{parts_left}
+use Rattle.yp_answer.specs.session.Hosts.{conduct_of}
+use Rattle.yp_answer.proofs.session.Sending.{Appends-none, on_err, on_ok_two, on_err_two}
+use Rattle.yp_answer.proofs.session.Links.{link_silent, link_bytes, link_takes, link_open}
+use Rattle.yp_answer.proofs.session.session.reply_to.Goals as goal
 
 pub returns-in-Silent-clause-sent : goal.returns-in-Silent-clause-sent
 returns-in-Silent-clause-sent g c =
@@ -118,7 +118,7 @@ returns-in_ok-send-in-Transfer-clause-sent g c =
       _,
       refl,
       record {
-        link = link_takes conduct Stream c.args.peer c.args.message.now true g.met.H.Host.step_counts_nothing bytes (taken_view c.in-Transfer.errand) c.args.host.now
+        link = link_takes conduct Stream c.args.peer c.args.message.now true g.met.H.Host.step_counts_nothing bytes (taken_view c.in-Transfer.job) c.args.host.now
             c.answer.new.view c.transfer.new.self c.in-Transfer.ensures.step c.in-Transfer.ensures.reply.takes c.transfer.ensures;
         flush = refl;
         sends = (c.in_ok-send-in-Transfer.ensures.sent, c.in_ok-send-in-Transfer.ensures.flushed);
@@ -133,7 +133,7 @@ returns-in_err-send-in-Transfer-clause-unsent g c =
       _,
       refl,
       record {
-        link = link_takes conduct Stream c.args.peer c.args.message.now false g.met.H.Host.step_counts_nothing bytes (taken_view c.in-Transfer.errand) c.args.host.now
+        link = link_takes conduct Stream c.args.peer c.args.message.now false g.met.H.Host.step_counts_nothing bytes (taken_view c.in-Transfer.job) c.args.host.now
             c.answer.new.view c.answer.new.view c.in-Transfer.ensures.step c.in-Transfer.ensures.reply.takes refl;
         flush = refl;
         sends = (c.in_err-send-in-Transfer.ensures.prefix, c.in_err-send-in-Transfer.ensures.cause.risen);

@@ -4,10 +4,10 @@ use Rattle.std.proofs.lemmas.List.{nil_from_length}
 use Rattle.yp_rpc.specs.Reply.{reply_head}
 use Rattle.yp_rpc.specs.declared.reply.ReplyHead.TheVariants.{Success}
 use Rattle.yp_version.specs.Versions.{MapVersion}
-use Rattle.yp_msgs.specs.declared.stat.YpStat.{YpStat}
+use Rattle.yp_messages.specs.declared.stat.YpStat.{YpStat}
 use Rattle.yp_rpc.specs.Records.{joined}
-use Rattle.yp_answer.specs.Streams.{Streamed, Gives, source_of, item_parts, parts, parts_left, between}
-use Rattle.yp_answer.specs.Items.{items_view}
+use Rattle.yp_answer.specs.inside.Streams.{Streamed, GivesParts, source_of, item_parts, parts, parts_left, between}
+use Rattle.yp_answer.specs.inside.Items.{items_view}
 use Rattle.yp_answer.proofs.Parts.{gives_first, gives_later, left_len}
 use Rattle.yp_answer.proofs.stream.AllStream.piece.Goals as goal
 
@@ -29,9 +29,9 @@ returns-then-given-eq0-clause-gives g c =
     let is : bytes ≡ reply_head xid Success ++ joined (between 0 next (item_parts source)) =
     c.put_items-end.ensures.put ∙ ap (λ (head : List ℕ). head ++ joined (between 0 next (item_parts (items_view c.items_of-items.result)))) c.put_head-at.ensures.head
     ∙ ap (λ (s : Result MapVersion YpStat). reply_head xid Success ++ joined (between 0 next (item_parts s))) c.items_of-items.ensures in
-    let at_zero : Gives bytes (drop c.self.inside.given (parts xid source)) new =
-    subst (λ (n : ℕ). Gives bytes (drop n (parts xid source)) new) (sym c.if-given-eq0.true) (gives_first xid source next bytes is) in
-    subst (λ (s : Streamed). Gives bytes (parts_left known s) new) c.self.view_is at_zero
+    let at_zero : GivesParts bytes (drop c.self.inside.given (parts xid source)) new =
+    subst (λ (n : ℕ). GivesParts bytes (drop n (parts xid source)) new) (sym c.if-given-eq0.true) (gives_first xid source next bytes is) in
+    subst (λ (s : Streamed). GivesParts bytes (parts_left known s) new) c.self.view_is at_zero
 
 pub overflow_add-self-2 : goal.overflow_add-self-2
 overflow_add-self-2 g c =
@@ -52,7 +52,7 @@ returns-clause-gives g c =
     let is : bytes ≡ joined (between (given - 1) next (item_parts source)) =
     c.put_items-end-2.ensures.put ∙ ap (λ (s : Result MapVersion YpStat). joined (between (given - 1) next (item_parts s))) c.items_of-items.ensures in
     let some : 0 < given = omega (arith, c.if-given-eq0.false) in
-    subst (λ (s : Streamed). Gives bytes (parts_left known s) new) c.self.view_is (gives_later xid source given next bytes some c.put_items-end-2.ensures.forward is)
+    subst (λ (s : Streamed). GivesParts bytes (parts_left known s) new) c.self.view_is (gives_later xid source given next bytes some c.put_items-end-2.ensures.forward is)
 
 pub returns-clause-end : goal.returns-clause-end
 returns-clause-end g c =

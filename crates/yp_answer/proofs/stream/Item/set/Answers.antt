@@ -1,7 +1,7 @@
 use Rattle.std.proofs.Common.{◌++◌, sym, subst}
-use Rattle.yp_xdr.specs.Writing.{Sets}
+use Rattle.yp_xdr.specs.inside.Writing.{Sets}
 use Rattle.yp_answer.specs.declared.stream.Item.{Item}
-use Rattle.yp_answer.specs.Items.{item_bytes}
+use Rattle.yp_answer.specs.inside.Items.{item_bytes}
 use Rattle.yp_answer.proofs.stream.Item.set.Goals as goal
 
 pub returns-in-Row : goal.returns-in-Row

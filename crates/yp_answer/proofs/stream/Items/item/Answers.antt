@@ -1,9 +1,9 @@
 use Rattle.std.proofs.Common.{◌≡◌, ◌<◌, ◌∷◌, ◌++◌, length, slice_get, Some, None, sym, subst, ◌∙◌, arith}
 use Rattle.yp_xdr.specs.Spelling.{spelling}
-use Rattle.yp_msgs.specs.Messages.{all_item}
+use Rattle.yp_messages.specs.inside.Messages.{all_item}
 use Rattle.yp_answer.specs.declared.stream.Items.{Items}
-use Rattle.yp_answer.specs.Streams.{item_parts}
-use Rattle.yp_answer.specs.Items.{items_view}
+use Rattle.yp_answer.specs.inside.Streams.{item_parts}
+use Rattle.yp_answer.specs.inside.Items.{items_view}
 use Rattle.yp_answer.proofs.Itemized.{spelled_part, spelled_within, end_part, past_part, no_row_spelled}
 use Rattle.yp_answer.proofs.stream.Items.item.Goals as goal
 

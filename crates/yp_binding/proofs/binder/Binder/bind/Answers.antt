@@ -1,10 +1,10 @@
 use Rattle.std.proofs.Common.{◌<◌, length, sym, subst, Some, arith}
 use Rattle.std.proofs.lemmas.List.{get_or_read}
-use Rattle.yp_bind.specs.Rounds.{Bindings}
-use Rattle.yp_bind.specs.Standings.{fresh}
-use Rattle.yp_bind.specs.Kept.{bindings_of, Binds}
-use Rattle.yp_bind.proofs.Keeping.{binds_one}
-use Rattle.yp_bind.proofs.binder.Binder.bind.Goals as goal
+use Rattle.yp_binding.specs.Rounds.{Bindings}
+use Rattle.yp_binding.specs.inside.Standings.{fresh}
+use Rattle.yp_binding.specs.inside.Kept.{bindings_of, Binds}
+use Rattle.yp_binding.proofs.Keeping.{binds_one}
+use Rattle.yp_binding.proofs.binder.Binder.bind.Goals as goal
 
 pub invariant_of-self : goal.invariant_of-self
 invariant_of-self c =

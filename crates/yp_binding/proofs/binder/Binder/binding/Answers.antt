@@ -1,11 +1,11 @@
 use Rattle.std.proofs.Common.{◌<◌, length, sym, subst, ap, ◌∙◌, arith}
 use Rattle.std.proofs.lemmas.List.{get_or_read}
-use Rattle.yp_bind.specs.Events.{binding_of}
-use Rattle.yp_bind.specs.Rounds.{Bindings}
-use Rattle.yp_bind.specs.Standings.{fresh, bound_by}
-use Rattle.yp_bind.specs.Kept.{bindings_of}
-use Rattle.yp_bind.proofs.Steps.{bound_standing}
-use Rattle.yp_bind.proofs.binder.Binder.binding.Goals as goal
+use Rattle.yp_binding.specs.Events.{binding_of}
+use Rattle.yp_binding.specs.Rounds.{Bindings}
+use Rattle.yp_binding.specs.inside.Standings.{fresh, bound_by}
+use Rattle.yp_binding.specs.inside.Kept.{bindings_of}
+use Rattle.yp_binding.proofs.Steps.{bound_standing}
+use Rattle.yp_binding.proofs.binder.Binder.binding.Goals as goal
 
 pub returns : goal.returns
 returns c =

@@ -1,10 +1,10 @@
 use Rattle.std.proofs.Common.{◌≡◌, ℕ, List, length, map, ap, ◌∙◌, rules, arith}
 use Rattle.std.specs.Prelude.{replicate}
 use Rattle.std.proofs.lemmas.List.{length-map}
-use Rattle.yp_bind.specs.declared.standing.Standing.{Standing}
-use Rattle.yp_bind.specs.Standings.{fresh}
-use Rattle.yp_bind.proofs.Keeping.{begins}
-use Rattle.yp_bind.proofs.binder.Binder.new.Goals as goal
+use Rattle.yp_binding.specs.declared.standing.BindingState.{BindingState}
+use Rattle.yp_binding.specs.inside.Standings.{fresh}
+use Rattle.yp_binding.proofs.Keeping.{begins}
+use Rattle.yp_binding.proofs.binder.Binder.new.Goals as goal
 
 pub invariant_of-result : goal.invariant_of-result
 invariant_of-result c =
@@ -14,6 +14,6 @@ invariant_of-result c =
     let items : c.in-Ok.standings.items ≡ replicate (length names) fresh =
     c.in-Ok.ensures.items_if_clones_equal (λ y h. search rules)
     ∙ ap (λ (n : ℕ). replicate n c.new.result) count
-    ∙ ap (λ (s : Standing). replicate (length names) s) c.new.ensures in
+    ∙ ap (λ (s : BindingState). replicate (length names) s) c.new.ensures in
     rw (items, c.new-2.ensures)
     (begins names c.args.servers.items c.args.policy (omega (arith, len, c.requires.domains)) c.requires.servers)

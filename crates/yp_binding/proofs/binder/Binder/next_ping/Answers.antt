@@ -1,13 +1,13 @@
 use Rattle.std.proofs.Common.{ℕ, ◌+◌, Some, Option, sym, ap, ◌∙◌, arith}
 use Rattle.std.specs.Prelude.{option_map}
 use Rattle.std.specs.List.{slice_get}
-use Rattle.yp_bind.specs.declared.binder.Ping.{Ping}
-use Rattle.yp_bind.specs.declared.event.Binding.{Binding}
-use Rattle.yp_bind.specs.Rounds.{Bindings, targets, first_number, ping_at, next_ping_of}
-use Rattle.yp_bind.specs.Kept.{bindings_of}
-use Rattle.yp_bind.proofs.Pings.{next_by, targets_bound}
-use Rattle.yp_bind.proofs.Keeping.{pings, fewer}
-use Rattle.yp_bind.proofs.binder.Binder.next_ping.Goals as goal
+use Rattle.yp_binding.specs.declared.binder.Ping.{Ping}
+use Rattle.yp_binding.specs.declared.event.Binding.{Binding}
+use Rattle.yp_binding.specs.Rounds.{Bindings, targets, first_number, ping_at, next_ping_of}
+use Rattle.yp_binding.specs.inside.Kept.{bindings_of}
+use Rattle.yp_binding.proofs.Pings.{next_by, targets_bound}
+use Rattle.yp_binding.proofs.Keeping.{pings, fewer}
+use Rattle.yp_binding.proofs.binder.Binder.next_ping.Goals as goal
 
 pub returns-in_default-clause-ping : goal.returns-in_default-clause-ping
 returns-in_default-clause-ping c =

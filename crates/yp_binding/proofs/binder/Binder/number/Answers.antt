@@ -2,10 +2,10 @@ use Rattle.std.proofs.Common.{◌≡◌, ℕ, ◌<◌, true, false, List, [], le
 use Rattle.std.specs.Prelude.{bytes_eq}
 use Rattle.std.proofs.lemmas.List.{length-map, get_or-map}
 use borrow.Author.Count.{below_more}
-use Rattle.yp_bind.specs.Rounds.{Bindings}
-use Rattle.yp_bind.specs.Replies.{domain_number}
-use Rattle.yp_bind.proofs.Lists.{position_found, position_none}
-use Rattle.yp_bind.proofs.binder.Binder.number.Goals as goal
+use Rattle.yp_binding.specs.Rounds.{Bindings}
+use Rattle.yp_binding.specs.Replies.{domain_number}
+use Rattle.yp_binding.proofs.Lists.{position_found, position_none}
+use Rattle.yp_binding.proofs.binder.Binder.number.Goals as goal
 
 pub returns-then-eq-clause-number : goal.returns-then-eq-clause-number
 returns-then-eq-clause-number c =

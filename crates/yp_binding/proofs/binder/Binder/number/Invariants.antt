@@ -1,6 +1,6 @@
 use Rattle.std.proofs.Common.{◌≡◌, ℕ, ◌<◌, false, map, get_or, []}
 use Rattle.std.specs.Prelude.{bytes_eq}
-use Rattle.yp_bind.proofs.binder.Binder.number.Given as goal
+use Rattle.yp_binding.proofs.binder.Binder.number.Given as goal
 
 abbrev pub invariant-loop-number : goal.invariant-loop-number
 invariant-loop-number l =

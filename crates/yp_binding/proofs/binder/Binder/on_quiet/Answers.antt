@@ -1,9 +1,9 @@
 use Rattle.std.proofs.Common.{◌≡◌, length, map, drop, arith}
 use Rattle.std.proofs.lemmas.List.{take_at, length-map}
-use Rattle.yp_bind.specs.Standings.{rested}
-use Rattle.yp_bind.specs.Kept.{bindings_of}
-use Rattle.yp_bind.proofs.Keeping.{quiets}
-use Rattle.yp_bind.proofs.binder.Binder.on_quiet.Goals as goal
+use Rattle.yp_binding.specs.inside.Standings.{rested}
+use Rattle.yp_binding.specs.inside.Kept.{bindings_of}
+use Rattle.yp_binding.proofs.Keeping.{quiets}
+use Rattle.yp_binding.proofs.binder.Binder.on_quiet.Goals as goal
 
 pub invariant_of-self : goal.invariant_of-self
 invariant_of-self c =

@@ -1,8 +1,8 @@
 use Rattle.std.proofs.Common.{length, sym, subst, None}
-use Rattle.yp_bind.specs.Rounds.{Bindings}
-use Rattle.yp_bind.specs.Kept.{bindings_of, Binds}
-use Rattle.yp_bind.proofs.Keeping.{passes}
-use Rattle.yp_bind.proofs.binder.Binder.pass.Goals as goal
+use Rattle.yp_binding.specs.Rounds.{Bindings}
+use Rattle.yp_binding.specs.inside.Kept.{bindings_of, Binds}
+use Rattle.yp_binding.proofs.Keeping.{passes}
+use Rattle.yp_binding.proofs.binder.Binder.pass.Goals as goal
 
 pub invariant_of-self : goal.invariant_of-self
 invariant_of-self c =

@@ -1,10 +1,10 @@
 use Rattle.std.proofs.Common.{ℕ, ◌+◌, ◌-◌, ◌%◌, ◌^◌, sym, ap, ◌∙◌}
 use Rattle.std.specs.Prelude.{option_map}
 use Rattle.std.specs.List.{slice_get}
-use Rattle.yp_bind.specs.Rounds.{Bindings, targets, ping_with, target_of}
-use Rattle.yp_bind.specs.Kept.{bindings_of}
-use Rattle.yp_bind.proofs.Pings.{pinged_out, pinged_not}
-use Rattle.yp_bind.proofs.binder.Binder.pinged_with.Goals as goal
+use Rattle.yp_binding.specs.Rounds.{Bindings, targets, ping_with, target_of}
+use Rattle.yp_binding.specs.inside.Kept.{bindings_of}
+use Rattle.yp_binding.proofs.Pings.{pinged_out, pinged_not}
+use Rattle.yp_binding.proofs.binder.Binder.pinged_with.Goals as goal
 
 abbrev place_from : ℕ → ℕ → ℕ
 place_from xid first = (xid + (2 ^ 32 - first)) % 2 ^ 32

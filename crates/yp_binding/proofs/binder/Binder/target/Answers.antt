@@ -1,11 +1,11 @@
 use Rattle.std.proofs.Common.{◌<◌, List, length, Option, sym, ap, ◌∙◌, arith}
 use Rattle.std.specs.List.{slice_get}
 use Rattle.yp_io.specs.declared.stream.Peer.{Peer}
-use Rattle.yp_bind.specs.Rounds.{Bindings, targets, targets_of, round_begin}
-use Rattle.yp_bind.specs.Kept.{bindings_of}
-use Rattle.yp_bind.proofs.Keeping.{asked_at}
-use Rattle.yp_bind.proofs.Pings.{targets_all, target_front, target_behind}
-use Rattle.yp_bind.proofs.binder.Binder.target.Goals as goal
+use Rattle.yp_binding.specs.Rounds.{Bindings, targets, targets_of, round_begin}
+use Rattle.yp_binding.specs.inside.Kept.{bindings_of}
+use Rattle.yp_binding.proofs.Keeping.{asked_at}
+use Rattle.yp_binding.proofs.Pings.{targets_all, target_front, target_behind}
+use Rattle.yp_binding.proofs.binder.Binder.target.Goals as goal
 
 pub loop-domain-init : goal.loop-domain-init
 loop-domain-init c =

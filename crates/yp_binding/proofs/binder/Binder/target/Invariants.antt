@@ -1,8 +1,8 @@
 use Rattle.std.proofs.Common.{◌≡◌, ◌-◌, length}
 use Rattle.std.specs.List.{slice_get}
-use Rattle.yp_bind.specs.Rounds.{round_begin, targets_from, targets}
-use Rattle.yp_bind.specs.Kept.{bindings_of}
-use Rattle.yp_bind.proofs.binder.Binder.target.Given as goal
+use Rattle.yp_binding.specs.Rounds.{round_begin, targets_from, targets}
+use Rattle.yp_binding.specs.inside.Kept.{bindings_of}
+use Rattle.yp_binding.proofs.binder.Binder.target.Given as goal
 
 abbrev pub invariant-loop-domain : goal.invariant-loop-domain
 invariant-loop-domain l =

@@ -1,11 +1,12 @@
 use Rattle.std.proofs.Common.{ℕ, ◌+◌, ◌≤◌, List, ◌++◌, length, Ok, refl, subst, append_assoc, arith}
 use Rattle.yp_xdr.specs.Spelling.{spelling, opaque, fixed}
-use Rattle.yp_xdr.specs.Writing.{Writes}
+use Rattle.yp_xdr.specs.inside.Writing.{Writes}
 use Rattle.yp_rpc.specs.Call.{front_kind, procedure_kind}
-use Rattle.yp_rpc.specs.Called.{front, heading, called}
-use Rattle.yp_portmap.specs.Registry.{mapping_kind}
-use Rattle.yp_portmap.proofs.Putting.{writes_from_sets}
-use Rattle.yp_portmap.proofs.asking.ask_port.Goals as goal
+use Rattle.yp_rpc.specs.Called.{front, heading}
+use Rattle.yp_rpc.specs.inside.Called.{called}
+use Rattle.yp_binding.specs.portmap.Registry.{mapping_kind}
+use Rattle.yp_binding.proofs.portmap.Putting.{writes_from_sets}
+use Rattle.yp_binding.proofs.portmap.asking.ask_port.Goals as goal
 
 pub returns-then-buf-lt-CALL_LEN : goal.returns-then-buf-lt-CALL_LEN
 unfolding opaque fixed

@@ -1,5 +1,5 @@
-use Rattle.yp_portmap.proofs.Repeating.{repeats_nothing}
-use Rattle.yp_portmap.proofs.laws.repeated_call_changes_nothing.Goals as goal
+use Rattle.yp_binding.proofs.portmap.Repeating.{repeats_nothing}
+use Rattle.yp_binding.proofs.portmap.laws.repeated_call_changes_nothing.Goals as goal
 
 pub returns : goal.returns
 returns c = repeats_nothing

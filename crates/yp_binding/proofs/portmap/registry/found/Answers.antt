@@ -1,8 +1,8 @@
 use Rattle.std.proofs.Common.{rules, tests}
 use Rattle.std.proofs.lemmas.Iterator.{YieldsList-from_slice}
 use Rattle.std.proofs.lemmas.Iterator.Search.{find_from_yields_List}
-use Rattle.yp_portmap.specs.Registry.{is_same}
-use Rattle.yp_portmap.proofs.registry.found.Goals as goal
+use Rattle.yp_binding.specs.portmap.Registry.{is_same}
+use Rattle.yp_binding.proofs.portmap.registry.found.Goals as goal
 
 pub returns : goal.returns
 returns c =

@@ -1,6 +1,6 @@
 use Rattle.std.proofs.Common.{arith}
-use Rattle.yp_portmap.proofs.Putting.{joined, front_set}
-use Rattle.yp_portmap.proofs.registry.put_mapping.Goals as goal
+use Rattle.yp_binding.proofs.portmap.Putting.{joined, front_set}
+use Rattle.yp_binding.proofs.portmap.registry.put_mapping.Goals as goal
 
 pub returns-clause-put : goal.returns-clause-put
 returns-clause-put c =

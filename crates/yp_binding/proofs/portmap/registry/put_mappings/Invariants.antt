@@ -1,8 +1,8 @@
 use Rattle.std.proofs.Common.{◌≡◌, ◌+◌, ◌*◌, ◌++◌, take, map}
 use Rattle.std.specs.Prelude.{flat_map}
 use Rattle.yp_xdr.specs.Spelling.{present, spelling}
-use Rattle.yp_portmap.specs.Registry.{mapping_kind, mapping_view}
-use Rattle.yp_portmap.proofs.registry.put_mappings.Given as goal
+use Rattle.yp_binding.specs.portmap.Registry.{mapping_kind, mapping_view}
+use Rattle.yp_binding.proofs.portmap.registry.put_mappings.Given as goal
 
 abbrev pub invariant-loop-mapping : goal.invariant-loop-mapping
 invariant-loop-mapping l = record {

@@ -1,7 +1,7 @@
 use Rattle.std.proofs.Common.{sym, ◌∙◌, ap}
-use Rattle.yp_readers.specs.Histories.{no_pair}
-use Rattle.yp_readers.proofs.Adding.{opens_moves}
-use Rattle.yp_readers.proofs.history.next_word.Goals as goal
+use Rattle.yp_board.specs.inside.readers.Histories.{no_pair}
+use Rattle.yp_board.proofs.readers.Adding.{opens_moves}
+use Rattle.yp_board.proofs.readers.history.next_word.Goals as goal
 
 pub compare_exchange-found-requires : goal.compare_exchange-found-requires
 compare_exchange-found-requires c =

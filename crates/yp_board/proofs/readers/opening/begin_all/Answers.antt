@@ -2,8 +2,8 @@ use Rattle.std.proofs.Common.{◌≡◌, ◌<◌, map, length, get_or, option_ma
 use Rattle.std.specs.Arc.{arc_value}
 use Rattle.std.proofs.lemmas.List.{get_or-map, length-map}
 use Rattle.yp_board.specs.Logs.{starts}
-use Rattle.yp_readers.proofs.Starts.{begun_more}
-use Rattle.yp_readers.proofs.opening.begin_all.Goals as goal
+use Rattle.yp_board.proofs.readers.Starts.{begun_more}
+use Rattle.yp_board.proofs.readers.opening.begin_all.Goals as goal
 
 pub loop-map-preserved : goal.loop-map-preserved
 loop-map-preserved g c =

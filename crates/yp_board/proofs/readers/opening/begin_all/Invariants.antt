@@ -1,7 +1,7 @@
 use Rattle.std.proofs.Common.{◌≡◌, ◌++◌, map, drop, option_map}
 use Rattle.std.specs.Arc.{arc_value}
 use Rattle.yp_board.specs.Logs.{starts}
-use Rattle.yp_readers.proofs.opening.begin_all.Given as goal
+use Rattle.yp_board.proofs.readers.opening.begin_all.Given as goal
 
 abbrev pub invariant-loop-map : goal.invariant-loop-map
 invariant-loop-map g l =

@@ -1,6 +1,6 @@
 use Rattle.std.proofs.Common.{◌≡◌, map, take, option_map}
 use Rattle.std.specs.Arc.{arc_value}
-use Rattle.yp_readers.proofs.slots.shared.Given as goal
+use Rattle.yp_board.proofs.readers.slots.shared.Given as goal
 
 abbrev pub invariant-loop-version : goal.invariant-loop-version
 invariant-loop-version l =

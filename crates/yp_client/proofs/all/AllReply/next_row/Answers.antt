@@ -1,7 +1,7 @@
 use Rattle.std.proofs.Common.{◌+◌, ◌≤◌, length, ap, arith}
 use Rattle.yp_client.specs.declared.all.AllReply.{AllReply}
 use Rattle.yp_client.specs.Limits.{all_max}
-use Rattle.yp_client.specs.Windows.{waiting}
+use Rattle.yp_client.specs.inside.Windows.{waiting}
 use Rattle.yp_client.proofs.Passing.{pass_within, passed, cut_count, item_cut, item_in, item_ahead, item_refused}
 use Rattle.yp_client.proofs.all.AllReply.next_row.Goals as goal
 

@@ -1,8 +1,8 @@
 -- How far `push_rows` has come.
 use Rattle.std.proofs.Common.{◌+◌, ◌-◌, ◌≤◌, length}
 use Rattle.yp_client.specs.Limits.{all_max}
-use Rattle.yp_client.specs.All.{Grows}
-use Rattle.yp_client.specs.Windows.{waiting, progress, IsUnderway, StandsIn}
+use Rattle.yp_client.specs.inside.All.{Grows}
+use Rattle.yp_client.specs.inside.Windows.{waiting, progress, IsUnderway, StandsIn}
 use Rattle.yp_client.proofs.Filling.{PushedSoFar}
 use Rattle.yp_client.proofs.all.AllReply.push_rows.Given as goal
 

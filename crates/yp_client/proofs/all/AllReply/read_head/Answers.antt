@@ -1,7 +1,7 @@
 use Rattle.std.proofs.Common.{ap}
 use Rattle.std.proofs.lemmas.Result.{err_from_is_err_and}
 use Rattle.yp_client.specs.declared.all.AllReply.{AllReply}
-use Rattle.yp_client.specs.Windows.{waiting}
+use Rattle.yp_client.specs.inside.Windows.{waiting}
 use Rattle.yp_client.proofs.LocalItem.{results_cut}
 use Rattle.yp_client.proofs.Passing.{pass_within, passed, cut_count, head_ahead, head_refused}
 use Rattle.yp_client.proofs.all.AllReply.read_head.Goals as goal

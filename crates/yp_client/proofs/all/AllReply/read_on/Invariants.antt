@@ -1,6 +1,6 @@
 -- How far `read_on` has come.
 use Rattle.std.proofs.Common.{◌+◌, ◌-◌, ◌≤◌, cond, length}
-use Rattle.yp_client.specs.Windows.{progress}
+use Rattle.yp_client.specs.inside.Windows.{progress}
 use Rattle.yp_client.proofs.Waiting.{ReadsOn}
 use Rattle.yp_client.proofs.all.AllReply.read_on.Given as goal
 

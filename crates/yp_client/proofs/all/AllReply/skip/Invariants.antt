@@ -1,7 +1,7 @@
 -- How far `skip` has come.
 use Rattle.std.proofs.Common.{◌+◌, ◌-◌, ◌≤◌, cond}
 use Rattle.yp_client.specs.Limits.{all_max}
-use Rattle.yp_client.specs.Windows.{progress}
+use Rattle.yp_client.specs.inside.Windows.{progress}
 use Rattle.yp_client.proofs.Waiting.{Skips}
 use Rattle.yp_client.proofs.all.AllReply.skip.Given as goal
 

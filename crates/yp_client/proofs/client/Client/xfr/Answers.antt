@@ -1,4 +1,4 @@
-use Rattle.yp_msgs.specs.Transfers.{req_xfr_view}
+use Rattle.yp_messages.specs.inside.Transfers.{req_xfr_view}
 use Rattle.yp_client.proofs.Calling.{room_xfr}
 use Rattle.yp_client.proofs.client.Client.xfr.Goals as goal
 

@@ -2,11 +2,12 @@ use Rattle.std.proofs.Common.{◌≡◌, ◌∙◌, List, ℕ, Bool, true, false
 use Rattle.std.specs.Prelude.{IsTrue, ◌↔◌}
 use Rattle.yp_version.specs.Rows.{Row}
 use Rattle.yp_netgroup.specs.Decided.{is_member}
-use Rattle.yp_netgroup.specs.Who.{asked_of}
-use Rattle.yp_client.specs.States.{ClientState, state_of}
-use Rattle.yp_query.specs.declared.fault.QueryFault.TheVariants.{NoMemory}
-use Rattle.yp_query.specs.Asked.{Outcome, TakesRows, IsUnlessMemory, membership_outcome, membership_told, netgroup}
-use Rattle.yp_query.proofs.answer.ask_membership.Goals as goal
+use Rattle.yp_netgroup.specs.inside.Who.{asked_of}
+use Rattle.yp_client.specs.States.{ClientState}
+use Rattle.yp_client.specs.inside.States.{state_of}
+use Rattle.yp_client.specs.declared.query.fault.QueryFault.TheVariants.{NoMemory}
+use Rattle.yp_client.specs.query.Asked.{QueryOutcome, TakesRows, IsUnlessMemory, membership_outcome, membership_told, netgroup}
+use Rattle.yp_client.proofs.query.answer.ask_membership.Goals as goal
 
 -- two values that are true of one thing are the same
 same_truth : (a b : Bool) (is : Type 0) → IsTrue a ↔ is → IsTrue b ↔ is → a ≡ b
@@ -15,14 +16,14 @@ same_truth false true is one other = one.1 (other.0 refl)
 same_truth false false is one other = refl
 
 -- rows that were taken came to what their version means
-came_to : (member value : Bool) (domain : List ℕ) (means : List Row → Outcome) (old new : ClientState) → value ≡ member
+came_to : (member value : Bool) (domain : List ℕ) (means : List Row → QueryOutcome) (old new : ClientState) → value ≡ member
     → IsUnlessMemory (TakesRows means domain netgroup) (membership_outcome value) old new
     → IsUnlessMemory (TakesRows means domain netgroup) (membership_outcome member) old new
 came_to member value domain means old new e h =
     subst (λ (m : Bool). IsUnlessMemory (TakesRows means domain netgroup) (membership_outcome m) old new) e h
 
 -- or memory ran out for it
-forgone : (outcome : Outcome) (domain : List ℕ) (means : List Row → Outcome) (old new : ClientState)
+forgone : (outcome : QueryOutcome) (domain : List ℕ) (means : List Row → QueryOutcome) (old new : ClientState)
     → IsUnlessMemory (TakesRows means domain netgroup) outcome old new
     → IsUnlessMemory (TakesRows means domain netgroup) (Err NoMemory) old new
 forgone outcome domain means old new (inl takes) =

@@ -1,12 +1,12 @@
 use Rattle.std.proofs.Common.{◌≡◌, ◌++◌, ℕ, List, Bool, true, false, Option}
 use Rattle.std.specs.Prelude.{IsSomeAnd}
 use Rattle.yp_io.specs.Streams.{AppendsFront}
-use Rattle.yp_query.specs.declared.answer.Answer.{Answer}
-use Rattle.yp_query.specs.declared.answer.Answer.TheVariants.{Membership}
-use Rattle.yp_query.specs.Answers.{answer_text, answer_outcome}
-use Rattle.yp_query.specs.Scenes.{outcome_text}
-use Rattle.yp_query.proofs.Putting.{front_behind}
-use Rattle.yp_query.proofs.print.print.Goals as goal
+use Rattle.yp_client.specs.declared.query.answer.Answer.{Answer}
+use Rattle.yp_client.specs.declared.query.answer.Answer.TheVariants.{Membership}
+use Rattle.yp_client.specs.inside.query.Answers.{answer_text, answer_outcome}
+use Rattle.yp_client.specs.query.Scenes.{outcome_text}
+use Rattle.yp_client.proofs.query.Putting.{front_behind}
+use Rattle.yp_client.proofs.query.print.print.Goals as goal
 
 -- the text of an answer is that of what it comes to
 answer_front : (answer : Answer) (before after : Option (List ℕ)) → AppendsFront (answer_text answer) before after

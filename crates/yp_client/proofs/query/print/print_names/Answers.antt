@@ -1,10 +1,10 @@
 use Rattle.std.proofs.Common.{◌+◌, ◌++◌, sym, take, drop, Ok, arith}
 use Rattle.std.proofs.lemmas.Result.{err_from_is_err_and}
 use Rattle.yp_io.specs.declared.stream.Failed.{Failed}
-use Rattle.yp_query.specs.Lines.{line, lines}
-use Rattle.yp_query.proofs.Putting.{puts_more, puts_stopped}
-use Rattle.yp_query.proofs.Listing.{flat_map-next, flat_map-split}
-use Rattle.yp_query.proofs.print.print_names.Goals as goal
+use Rattle.yp_client.specs.query.Lines.{line, lines}
+use Rattle.yp_client.proofs.query.Putting.{puts_more, puts_stopped}
+use Rattle.yp_client.proofs.query.Listing.{flat_map-next, flat_map-split}
+use Rattle.yp_client.proofs.query.print.print_names.Goals as goal
 
 pub returns-in_err-put_line-clause-puts : goal.returns-in_err-put_line-clause-puts
 returns-in_err-put_line-clause-puts g c =

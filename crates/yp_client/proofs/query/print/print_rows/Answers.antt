@@ -2,10 +2,10 @@ use Rattle.std.proofs.Common.{◌≡◌, ◌+◌, ◌++◌, sym, take, drop, sli
 use Rattle.std.proofs.lemmas.Result.{err_from_is_err_and}
 use Rattle.yp_io.specs.declared.stream.Failed.{Failed}
 use Rattle.yp_version.specs.Rows.{Row}
-use Rattle.yp_query.specs.Lines.{row_line, rows_text}
-use Rattle.yp_query.proofs.Putting.{puts_more, puts_stopped}
-use Rattle.yp_query.proofs.Listing.{flat_map-next, flat_map-split}
-use Rattle.yp_query.proofs.print.print_rows.Goals as goal
+use Rattle.yp_client.specs.query.Lines.{row_line, rows_text}
+use Rattle.yp_client.proofs.query.Putting.{puts_more, puts_stopped}
+use Rattle.yp_client.proofs.query.Listing.{flat_map-next, flat_map-split}
+use Rattle.yp_client.proofs.query.print.print_rows.Goals as goal
 
 pub returns-in_err-print_row-clause-puts : goal.returns-in_err-print_row-clause-puts
 returns-in_err-print_row-clause-puts g c =

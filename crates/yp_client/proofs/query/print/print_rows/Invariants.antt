@@ -1,8 +1,8 @@
 use Rattle.std.proofs.Common.{◌≤◌, take, Ok}
 use Rattle.yp_io.specs.declared.stream.Failed.{Failed}
-use Rattle.yp_query.specs.Lines.{rows_text}
-use Rattle.yp_query.specs.Printed.{Puts}
-use Rattle.yp_query.proofs.print.print_rows.Given as goal
+use Rattle.yp_client.specs.query.Lines.{rows_text}
+use Rattle.yp_client.specs.inside.query.Printed.{Puts}
+use Rattle.yp_client.proofs.query.print.print_rows.Given as goal
 
 abbrev pub invariant-loop-i : goal.invariant-loop-i
 invariant-loop-i g l = record {

@@ -1,8 +1,8 @@
 use Rattle.std.proofs.Common.{◌++◌, codes, decimal}
 use Rattle.std.proofs.lemmas.Result.{err_from_is_err_and}
-use Rattle.yp_query.specs.Lines.{line}
-use Rattle.yp_query.proofs.Putting.{puts_more, puts_stopped}
-use Rattle.yp_query.proofs.print.print_standing.Goals as goal
+use Rattle.yp_client.specs.query.Lines.{line}
+use Rattle.yp_client.proofs.query.Putting.{puts_more, puts_stopped}
+use Rattle.yp_client.proofs.query.print.print_standing.Goals as goal
 
 pub returns-in_err-put_pair-clause-puts : goal.returns-in_err-put_pair-clause-puts
 returns-in_err-put_pair-clause-puts g c =

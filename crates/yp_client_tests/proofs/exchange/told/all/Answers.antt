@@ -1,6 +1,6 @@
 use Rattle.yp_answer.specs.Maps.{row_check}
-use Rattle.yp_client.specs.States.{state_of}
-use Rattle.yp_exchange.specs.Told.{all_told}
+use Rattle.yp_client.specs.inside.States.{state_of}
+use Rattle.yp_end_to_end.specs.inside.exchange.Told.{all_told}
 use Rattle.yp_client_tests.proofs.exchange.told.all.Goals as goal
 
 pub returns : goal.returns

@@ -1,9 +1,9 @@
 use Rattle.std.proofs.Common.{Ok}
 use Rattle.yp_board.specs.Catalogues.{serves}
 use Rattle.yp_client.specs.Limits.{reply_max}
-use Rattle.yp_client.specs.Asked.{domain_call}
-use Rattle.yp_client.specs.Results.{served_of}
-use Rattle.yp_client.specs.States.{state_of}
+use Rattle.yp_client.specs.inside.Asked.{domain_call}
+use Rattle.yp_client.specs.inside.Results.{served_of}
+use Rattle.yp_client.specs.inside.States.{state_of}
 use Rattle.yp_client_tests.proofs.exchange.told.domain.Goals as goal
 
 pub returns : goal.returns

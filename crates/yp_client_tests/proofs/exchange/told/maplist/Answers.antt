@@ -1,8 +1,8 @@
-use Rattle.yp_exchange.specs.Told.{told, names_in}
+use Rattle.yp_end_to_end.specs.exchange.Told.{told, names_in}
 use Rattle.yp_client.specs.Limits.{reply_max}
 use Rattle.yp_client.specs.Asked.{maplist_call}
 use Rattle.yp_client.specs.Results.{maps_of}
-use Rattle.yp_client.specs.States.{state_of}
+use Rattle.yp_client.specs.inside.States.{state_of}
 use Rattle.yp_client_tests.proofs.exchange.told.maplist.Goals as goal
 
 pub returns : goal.returns

@@ -1,10 +1,10 @@
 use Rattle.std.proofs.Common.{refl}
-use Rattle.yp_exchange.specs.Told.{told, of_version, value_in}
+use Rattle.yp_end_to_end.specs.exchange.Told.{told, of_version, value_in}
 use Rattle.yp_answer.specs.Maps.{row_check}
 use Rattle.yp_client.specs.Limits.{reply_max}
 use Rattle.yp_client.specs.Asked.{match_call}
 use Rattle.yp_client.specs.Results.{value_of}
-use Rattle.yp_client.specs.States.{state_of}
+use Rattle.yp_client.specs.inside.States.{state_of}
 use Rattle.yp_client_tests.proofs.exchange.told.match_key.Goals as goal
 
 pub returns : goal.returns

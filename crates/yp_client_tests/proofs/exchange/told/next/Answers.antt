@@ -1,10 +1,11 @@
 use Rattle.std.proofs.Common.{refl}
-use Rattle.yp_exchange.specs.Told.{told, of_version, next_in}
+use Rattle.yp_end_to_end.specs.exchange.Told.{told, of_version}
+use Rattle.yp_end_to_end.specs.inside.exchange.Told.{next_in}
 use Rattle.yp_answer.specs.Maps.{row_check}
 use Rattle.yp_client.specs.Limits.{reply_max}
 use Rattle.yp_client.specs.Asked.{next_call}
 use Rattle.yp_client.specs.Results.{row_of}
-use Rattle.yp_client.specs.States.{state_of}
+use Rattle.yp_client.specs.inside.States.{state_of}
 use Rattle.yp_client_tests.proofs.exchange.told.next.Goals as goal
 
 pub returns : goal.returns

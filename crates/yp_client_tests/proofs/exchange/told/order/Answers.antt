@@ -1,9 +1,9 @@
-use Rattle.yp_exchange.specs.Told.{told, of_version, order_in}
+use Rattle.yp_end_to_end.specs.exchange.Told.{told, of_version, order_in}
 use Rattle.yp_answer.specs.Maps.{map_check}
 use Rattle.yp_client.specs.Limits.{reply_max}
 use Rattle.yp_client.specs.Asked.{order_call}
 use Rattle.yp_client.specs.Results.{order_of}
-use Rattle.yp_client.specs.States.{state_of}
+use Rattle.yp_client.specs.inside.States.{state_of}
 use Rattle.yp_client_tests.proofs.exchange.told.order.Goals as goal
 
 pub returns : goal.returns

@@ -1,12 +1,12 @@
 use Rattle.yp_client.specs.Questions.{bytes_of}
-use Rattle.yp_query.specs.Scenes.{Scene, scene_of}
+use Rattle.yp_client.specs.query.Scenes.{QueryTells, query_tells}
 use Rattle.yp_client_tests.proofs.exchange.told.query_told.Goals as goal
 
 pub returns : goal.returns
 returns g c =
-    let scene = scene_of g.A.Dial.past g.A.Dial.faults g.K.Sink.output g.K.Sink.faults in
-    let old : Scene = scene c.args.dial.now c.args.sink.now in
-    let new : Scene = scene c.query.new.dial c.query.new.sink in
+    let scene = query_tells g.A.Dial.past g.A.Dial.faults g.K.Sink.output g.K.Sink.faults in
+    let old : QueryTells = scene c.args.dial.now c.args.sink.now in
+    let new : QueryTells = scene c.query.new.dial c.query.new.sink in
     let question = bytes_of c.args.question.now in
     record {
       told = λ first second caller stream one other answers came.

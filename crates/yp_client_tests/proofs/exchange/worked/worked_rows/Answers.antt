@@ -1,6 +1,6 @@
 use Rattle.std.proofs.Common.{refl, arith}
 use Rattle.std.specs.Prelude.{codes}
-use Rattle.yp_query.specs.Asked.{no_rows}
+use Rattle.yp_client.specs.query.Asked.{no_rows}
 use Rattle.yp_client_tests.specs.Hosts.{lab, hosts, alpha, hosts_maps, caller}
 use Rattle.yp_client_tests.proofs.Hosted.{hosts_are_served}
 use Rattle.yp_client_tests.proofs.exchange.worked.worked_rows.Goals as goal

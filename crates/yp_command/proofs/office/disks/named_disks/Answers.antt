@@ -1,10 +1,10 @@
 use Rattle.std.proofs.Common.{◌≡◌, List, [], ◌∷◌, ◌++◌, map, refl, sym, ap, ◌∙◌, rules}
 use Rattle.std.proofs.lemmas.List.{map-append}
 use Rattle.yp_board.specs.Catalogues.{Name, name_view}
-use Rattle.yp_office.specs.declared.disks.NamedDisk.{NamedDisk}
-use Rattle.yp_office.specs.Disks.{names_of}
+use Rattle.yp_command.specs.declared.office.disks.NamedDisk.{NamedDisk}
+use Rattle.yp_command.specs.office.Disks.{names_of}
 use borrow.Author.Rules.{of_calls}
-use Rattle.yp_office.proofs.disks.named_disks.Goals as goal
+use Rattle.yp_command.proofs.office.disks.named_disks.Goals as goal
 
 -- one more disk has one more name
 named_more : {D N : Type 0} (old new : List (NamedDisk D)) (disk : NamedDisk D) (view : N → Name) (front : List N) (name : N) → new ≡ old ++ disk ∷ [] → name_view disk.name ≡ view name

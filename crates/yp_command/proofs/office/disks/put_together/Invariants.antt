@@ -1,7 +1,7 @@
 use Rattle.std.proofs.Common.{◌≡◌, ◌+◌, ◌≤◌, ◌++◌, map, reverse, length, vec_len, vec_capacity}
 use Rattle.yp_board.specs.Catalogues.{name_view}
-use Rattle.yp_office.specs.Disks.{names_of, disks_of}
-use Rattle.yp_office.proofs.disks.put_together.Given as goal
+use Rattle.yp_command.specs.office.Disks.{names_of, disks_of}
+use Rattle.yp_command.proofs.office.disks.put_together.Given as goal
 
 abbrev pub invariant-loop-disk : goal.invariant-loop-disk
 invariant-loop-disk g l = record {

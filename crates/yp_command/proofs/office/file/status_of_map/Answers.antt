@@ -1,9 +1,9 @@
 use Rattle.std.proofs.Common.{◌≡◌, map, Some, ap, sym, ◌∙◌, subst, inr}
 use Rattle.std.specs.Prelude.{slice_get}
 use Rattle.yp_board.specs.Catalogues.{Name, name_view}
-use Rattle.yp_words.specs.Words.{IsNamed}
-use Rattle.yp_office.proofs.Named.{name_found, found_named}
-use Rattle.yp_office.proofs.file.status_of_map.Goals as goal
+use Rattle.yp_command.specs.inside.Words.{IsNamed}
+use Rattle.yp_command.proofs.office.Named.{name_found, found_named}
+use Rattle.yp_command.proofs.office.file.status_of_map.Goals as goal
 
 pub status_of_file-requires : goal.status_of_file-requires
 status_of_file-requires c =

@@ -1,9 +1,9 @@
 use Rattle.std.proofs.Common.{sym, ◌∙◌, arith}
 use Rattle.yp_xdr.specs.Spelling.{opaque, fixed}
-use Rattle.yp_mailing.specs.Getport.{call_of}
-use Rattle.yp_mailing.proofs.Calling.{front_set}
-use Rattle.yp_mailing.proofs.Going.{letter_goes}
-use Rattle.yp_mailing.proofs.getport.AskingErrand.next.Goals as goal
+use Rattle.yp_command_mail.specs.Getport.{call_of}
+use Rattle.yp_command_mail.proofs.Calling.{front_set}
+use Rattle.yp_command_mail.proofs.Going.{letter_goes}
+use Rattle.yp_command_mail.proofs.getport.AskingHandler.next.Goals as goal
 
 pub unreachable-requires : goal.unreachable-requires
 unfolding opaque fixed

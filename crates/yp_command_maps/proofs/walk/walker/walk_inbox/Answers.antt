@@ -1,18 +1,18 @@
 use Rattle.std.proofs.Common.{ℕ, List, ap, ◌∙◌}
-use Rattle.yp_rpc.specs.Turns.{box_of}
-use Rattle.yp_xfr.specs.Fetching.{wanted_of}
-use Rattle.yp_enum.specs.Schedules.{begun}
-use Rattle.yp_walking.proofs.Standing.{walks_begun, walks_lost}
-use Rattle.yp_walking.proofs.walker.walk_inbox.Goals as goal
+use Rattle.yp_rpc.specs.inside.Turns.{box_by}
+use Rattle.yp_transfer.specs.Fetching.{wanted_of}
+use Rattle.yp_transfer.specs.walk.Schedules.{begun}
+use Rattle.yp_command_maps.proofs.walk.Standing.{walks_begun, walks_lost}
+use Rattle.yp_command_maps.proofs.walk.walker.walk_inbox.Goals as goal
 
 pub returns-in-Ok-take_turns-clause-walks : goal.returns-in-Ok-take_turns-clause-walks
 returns-in-Ok-take_turns-clause-walks g c =
     let xfr = c.args.job.now.xfr in
     let peer = xfr.host.peer in
     let wanted = wanted_of xfr.store.domain.items xfr.store.map.items c.args.shown xfr.force in
-    let before = box_of g.I.Inbox.past g.I.Inbox.turns g.I.Inbox.quiets c.args.inbox.now in
-    let after = box_of g.I.Inbox.past g.I.Inbox.turns g.I.Inbox.quiets c.take_turns.new.inbox in
-    (walks_begun peer wanted c.args.job.now.turns c.in-Ok-take_turns.field-0 c.in-Ok.walk c.take_turns.new.errand before
+    let before = box_by g.I.Inbox c.args.inbox.now in
+    let after = box_by g.I.Inbox c.take_turns.new.inbox in
+    (walks_begun peer wanted c.args.job.now.turns c.in-Ok-take_turns.field-0 c.in-Ok.walk c.take_turns.new.handler before
     after c.came.result
     (c.in-Ok.ensures.0
     ∙ ap (λ (d : List ℕ). begun peer (wanted_of d c.deref-2.result.now c.args.shown xfr.force)) c.deref.ensures.value
@@ -24,9 +24,9 @@ returns-in-Ok-take_turns-clause-cause g c = λ e.
     let xfr = c.args.job.now.xfr in
     let peer = xfr.host.peer in
     let wanted = wanted_of xfr.store.domain.items xfr.store.map.items c.args.shown xfr.force in
-    let before = box_of g.I.Inbox.past g.I.Inbox.turns g.I.Inbox.quiets c.args.inbox.now in
-    let after = box_of g.I.Inbox.past g.I.Inbox.turns g.I.Inbox.quiets c.take_turns.new.inbox in
-    absurd ((walks_begun peer wanted c.args.job.now.turns c.in-Ok-take_turns.field-0 c.in-Ok.walk c.take_turns.new.errand
+    let before = box_by g.I.Inbox c.args.inbox.now in
+    let after = box_by g.I.Inbox c.take_turns.new.inbox in
+    absurd ((walks_begun peer wanted c.args.job.now.turns c.in-Ok-take_turns.field-0 c.in-Ok.walk c.take_turns.new.handler
     before after c.came.result
     (c.in-Ok.ensures.0
     ∙ ap (λ (d : List ℕ). begun peer (wanted_of d c.deref-2.result.now c.args.shown xfr.force)) c.deref.ensures.value
@@ -38,9 +38,9 @@ returns-in-Err-clause-walks g c =
     let xfr = c.args.job.now.xfr in
     let peer = xfr.host.peer in
     let wanted = wanted_of xfr.store.domain.items xfr.store.map.items c.args.shown xfr.force in
-    let before = box_of g.I.Inbox.past g.I.Inbox.turns g.I.Inbox.quiets c.args.inbox.now in
-    let after = box_of g.I.Inbox.past g.I.Inbox.turns g.I.Inbox.quiets c.take_turns.new.inbox in
-    walks_lost peer wanted c.args.job.now.turns c.in-Err.field-0 c.in-Ok.walk c.take_turns.new.errand before after
+    let before = box_by g.I.Inbox c.args.inbox.now in
+    let after = box_by g.I.Inbox c.take_turns.new.inbox in
+    walks_lost peer wanted c.args.job.now.turns c.in-Err.field-0 c.in-Ok.walk c.take_turns.new.handler before after
     (c.in-Ok.ensures.0
     ∙ ap (λ (d : List ℕ). begun peer (wanted_of d c.deref-2.result.now c.args.shown xfr.force)) c.deref.ensures.value
     ∙ ap (λ (m : List ℕ). begun peer (wanted_of xfr.store.domain.items m c.args.shown xfr.force)) c.deref-2.ensures.value)

@@ -1,29 +1,29 @@
 use Rattle.std.proofs.Common.{◌∙◌}
-use Rattle.yp_hosting.proofs.Disks.{all_opened, stopped_count}
-use Rattle.yp_hosting.proofs.Starts.{levels}
-use Rattle.yp_hosting.proofs.Told.{unhosted_of}
-use Rattle.yp_hosting.proofs.stock.host.Goals as goal
+use Rattle.yp_command_serve.proofs.serve.Disks.{all_opened, stopped_count}
+use Rattle.yp_command_serve.proofs.serve.Starts.{levels}
+use Rattle.yp_command_serve.proofs.serve.Told.{unhosted_of}
+use Rattle.yp_command_serve.proofs.serve.resources.host.Goals as goal
 
 pub host_loaded-requires-clause-count : goal.host_loaded-requires-clause-count
 host_loaded-requires-clause-count g c κs within =
-    all_opened g.D.Disk.history g.D.Disk.faults c.args.stock.disks.items c.in-Ok.loaded c.in-Ok.ensures.loaded
+    all_opened g.D.Disk.history g.D.Disk.faults c.args.resources.disks.items c.in-Ok.loaded c.in-Ok.ensures.loaded
     ∙ c.requires.count
 
 pub host_loaded-requires-clause-level : goal.host_loaded-requires-clause-level
 host_loaded-requires-clause-level g c κs within =
-    levels g.D.Disk.history g.D.Disk.faults c.args.stock.disks.items c.in-Ok.loaded c.in-Ok.ensures.loaded
+    levels g.D.Disk.history g.D.Disk.faults c.args.resources.disks.items c.in-Ok.loaded c.in-Ok.ensures.loaded
 
 pub returns-in-Ok-clause-count : goal.returns-in-Ok-clause-count
 returns-in-Ok-clause-count g c =
     c.host_loaded.ensures.count
-    ∙ all_opened g.D.Disk.history g.D.Disk.faults c.args.stock.disks.items c.in-Ok.loaded c.in-Ok.ensures.loaded
+    ∙ all_opened g.D.Disk.history g.D.Disk.faults c.args.resources.disks.items c.in-Ok.loaded c.in-Ok.ensures.loaded
 
 pub returns-in-Err-clause-count : goal.returns-in-Err-clause-count
 returns-in-Err-clause-count g c =
-    (stopped_count g.D.Disk.history g.D.Disk.faults c.args.stock.disks.items c.in-Err.field-0.disks.items
+    (stopped_count g.D.Disk.history g.D.Disk.faults c.args.resources.disks.items c.in-Err.field-0.disks.items
     c.in-Err.field-0.map c.in-Err.field-0.fault c.in-Err.ensures.refused).0
 
 pub returns-in-Ok-clause-unhosted : goal.returns-in-Ok-clause-unhosted
 returns-in-Ok-clause-unhosted g c =
-    unhosted_of g.D.Disk.history g.D.Disk.faults c.host_loaded.result.0 c.args.stock.disks.items c.in-Ok.loaded
+    unhosted_of g.D.Disk.history g.D.Disk.faults c.host_loaded.result.0 c.args.resources.disks.items c.in-Ok.loaded
     c.host_loaded.result.1.disks.items c.in-Ok.ensures.loaded c.host_loaded.ensures.unhosted c.host_loaded.ensures.disks

@@ -5,24 +5,24 @@ use Rattle.std.proofs.lemmas.List.{length-map}
 use Rattle.yp_version.specs.Versions.{MapVersion}
 use Rattle.yp_board.specs.Catalogues.{Catalogue}
 use Rattle.yp_board.specs.Logs.{starts}
-use Rattle.yp_publish.specs.Standing.{Kept, Published}
-use Rattle.yp_readers.specs.Boards.{Written}
-use Rattle.yp_server.specs.declared.desk.Desk.{Desk}
-use Rattle.yp_publish.specs.Rising.{moment_of}
-use Rattle.yp_shared.specs.Failures.{disks_of}
-use Rattle.yp_io.specs.Dials.{dial_tells}
-use Rattle.yp_rpc.specs.Turns.{box_of}
-use Rattle.yp_worker.specs.Receptions.{opening_of}
-use Rattle.yp_serve.specs.Counting.{FilesAreCovered}
-use Rattle.yp_hosting.specs.Hosting.{place_of, supply_of}
-use Rattle.yp_hosting.proofs.Served.{served_as, leaves_count}
-use Rattle.yp_hosting.proofs.Starts.{at_start, first_as}
-use Rattle.yp_hosting.proofs.stock.host_shown.Goals as goal
+use Rattle.yp_publisher.specs.Standing.{StoredMap, Published}
+use Rattle.yp_board.specs.inside.readers.Boards.{Written}
+use Rattle.yp_host.specs.declared.desk.Desk.{Desk}
+use Rattle.yp_publisher.specs.Rising.{publisher_state}
+use Rattle.yp_publisher.specs.sharing.Failures.{disks_of}
+use Rattle.yp_transfer.specs.inside.Dials.{dial_by}
+use Rattle.yp_rpc.specs.inside.Turns.{box_by}
+use Rattle.yp_worker.specs.Receptions.{opening_by}
+use Rattle.yp_server.specs.Counting.{FilesAreCovered}
+use Rattle.yp_command_serve.specs.serve.Hosting.{server_tells, supply_of}
+use Rattle.yp_command_serve.proofs.serve.Served.{served_as, leaves_count}
+use Rattle.yp_command_serve.proofs.serve.Starts.{at_start, first_as}
+use Rattle.yp_command_serve.proofs.serve.resources.host_shown.Goals as goal
 
 pub board-requires-clause-starts : goal.board-requires-clause-starts
 board-requires-clause-starts g c =
     sym (length-map c.args.start.items (option_map arc_value)) ∙ ap length c.requires.start
-    ∙ length-map c.args.loaded (λ (k : Kept g.row.D.Denot). k.version) ∙ c.requires.count
+    ∙ length-map c.args.loaded (λ (k : StoredMap g.row.D.Denot). k.version) ∙ c.requires.count
     ∙ sym (ap (λ (served : Catalogue). length served.maps) c.requires.copy)
 
 pub publisher_of-publisher-requires-clause-log : goal.publisher_of-publisher-requires-clause-log
@@ -48,20 +48,20 @@ pub returns-in-Ok-serve-clause-hosted : goal.returns-in-Ok-serve-clause-hosted
 returns-in-Ok-serve-clause-hosted g c =
     let did = c.in-Ok-serve.ensures in
     let made = c.publisher_of-publisher.ensures in
-    let here = opening_of g.L.Listen.past g.L.Listen.most g.L.Listen.accepted g.L.Listen.returned g.L.Listen.faults in
-    let letters = box_of g.I.Inbox.past g.I.Inbox.turns g.I.Inbox.quiets in
-    let tells = dial_tells g.A.Dial.past g.A.Dial.letters g.A.Dial.faults in
+    let here = opening_by g.L.Listen in
+    let letters = box_by g.I.Inbox in
+    let tells = dial_by g.A.Dial in
     let given = supply_of (g.T.Texts.faults c.shared-desk.result.texts) (tells c.shared-desk.result.dial) in
     let left = supply_of (g.T.Texts.faults c.in-Ok-serve.served.desk.texts) (tells c.in-Ok-serve.served.desk.dial) in
     served_as g.D.Disk.history g.D.Disk.faults c.args.loaded _ _ _
-    (place_of (here c.args.listen) (letters c.args.inbox) given)
-    (place_of (here c.in-Ok-serve.served.listen) (letters c.in-Ok-serve.served.inbox) left)
+    (server_tells (here c.args.listen) (letters c.args.inbox) given)
+    (server_tells (here c.in-Ok-serve.served.listen) (letters c.in-Ok-serve.served.inbox) left)
     c.in-Ok-serve.served.disks.items c.in-Ok-serve.served.writer.log
     c.args.spec.now.turns c.args.catalog c.publisher_of-publisher.result.catalogue _ _ _ _
-    (moment_of (λ (w : Written). w.log) c.publisher_of-publisher.result) c.args.spec.now.most
-    (ap (λ (d : Desk g.row.A.Denot g.row.T.Denot g.row.C.Denot). place_of (here c.args.listen) (letters c.args.inbox)
+    (publisher_state (λ (w : Written). w.log) c.publisher_of-publisher.result) c.args.spec.now.most
+    (ap (λ (d : Desk g.row.A.Denot g.row.T.Denot g.row.C.Denot). server_tells (here c.args.listen) (letters c.args.inbox)
     (supply_of (g.T.Texts.faults d.texts) (tells d.dial))) c.shared-desk.ensures)
-    (ap (λ (d : Desk g.row.A.Denot g.row.T.Denot g.row.C.Denot). place_of (here c.in-Ok-serve.served.listen)
+    (ap (λ (d : Desk g.row.A.Denot g.row.T.Denot g.row.C.Denot). server_tells (here c.in-Ok-serve.served.listen)
     (letters c.in-Ok-serve.served.inbox)
     (supply_of (g.T.Texts.faults d.texts) (tells d.dial))) (sym c.unshared.ensures.desk))
     (ap (λ (p : Published g.row.D.Denot Written). p.catalogue) made.publisher)
@@ -77,7 +77,7 @@ returns-in-Ok-serve-clause-hosted g c =
       did.maps,
       record {
         counted = did.counted;
-        files = subst (λ (m : List (Kept g.row.D.Denot)). FilesAreCovered g.D.Disk.history g.D.Disk.faults
+        files = subst (λ (m : List (StoredMap g.row.D.Denot)). FilesAreCovered g.D.Disk.history g.D.Disk.faults
             (g.T.Texts.faults c.shared-desk.result.texts) (g.T.Texts.faults c.in-Ok-serve.served.desk.texts) (disks_of m)
             c.in-Ok-serve.served.disks.items c.in-Ok-serve.served.totals)
             (ap (λ (p : Published g.row.D.Denot Written). p.maps) made.publisher) did.files;

@@ -1,8 +1,8 @@
 use Rattle.std.proofs.Common.{ap, ◌∙◌}
 use Rattle.yp_board.specs.Logs.{shown}
-use Rattle.yp_publish.specs.Standing.{Published, versions}
-use Rattle.yp_hosting.proofs.Starts.{start_of}
-use Rattle.yp_hosting.proofs.stock.publisher_of.Goals as goal
+use Rattle.yp_publisher.specs.Standing.{Published, versions}
+use Rattle.yp_command_serve.proofs.serve.Starts.{start_of}
+use Rattle.yp_command_serve.proofs.serve.resources.publisher_of.Goals as goal
 
 pub new-requires-clause-shown : goal.new-requires-clause-shown
 new-requires-clause-shown g c = λ number.

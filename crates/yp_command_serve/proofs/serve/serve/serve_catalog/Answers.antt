@@ -2,22 +2,23 @@ use Rattle.std.proofs.Common.{◌≡◌, List, map, length, refl, sym, ap, subst
 use Rattle.std.specs.Prelude.{All}
 use Rattle.yp_board.specs.Catalogues.{Name, name_view}
 use Rattle.yp_board.specs.declared.catalog.MapName.{MapName}
-use Rattle.yp_worker.specs.Receptions.{opening_of}
-use Rattle.yp_words.specs.Words.{IsNamed}
-use Rattle.yp_office.specs.declared.office.Office.{Office}
-use Rattle.yp_office.specs.Seeing.{Seeing, seeing, output}
-use Rattle.yp_hosting.specs.declared.stock.Stock.{Stock}
-use Rattle.yp_hosting.specs.Serve.{serve_order, TellsEnd}
-use Rattle.yp_hosting.proofs.Disks.{same_count}
-use Rattle.yp_hosting.proofs.Told.{nothing_done, number_within, shut_of, all_done}
-use Rattle.yp_hosting.proofs.serve.serve_catalog.Goals as goal
+use Rattle.yp_worker.specs.Receptions.{opening_by}
+use Rattle.yp_command.specs.inside.Words.{IsNamed}
+use Rattle.yp_command.specs.declared.office.office.Office.{Office}
+use Rattle.yp_command.specs.office.Seeing.{Seeing, seeing, output}
+use Rattle.yp_command_serve.specs.declared.serve.resources.ServerResources.{ServerResources}
+use Rattle.yp_command_serve.specs.serve.Serve.{serve_job_of}
+use Rattle.yp_command_serve.specs.inside.serve.Serve.{TellsServeEnd}
+use Rattle.yp_command_serve.proofs.serve.Disks.{same_count}
+use Rattle.yp_command_serve.proofs.serve.Told.{nothing_done, number_within, shut_of, all_done}
+use Rattle.yp_command_serve.proofs.serve.serve.serve_catalog.Goals as goal
 
 pub returns-in-Err-clause-does : goal.returns-in-Err-clause-does
 returns-in-Err-clause-does g c = λ connections.
     rw c.in-Err.ensures.err
     (nothing_done (seeing g.S.Source g.K.Sink g.D.Disk g.C.Clock g.A.Dial g.I.Inbox g.T.Texts)
-    (serve_order c.args.catalog.own connections c.args.spec.now.turns c.args.catalog.maps c.args.hosts) c.args.office
-    (opening_of g.L.Listen.past g.L.Listen.most g.L.Listen.accepted g.L.Listen.returned g.L.Listen.faults c.args.listen))
+    (serve_job_of c.args.catalog.own connections c.args.spec.now.turns c.args.catalog.maps c.args.hosts) c.args.office
+    (opening_by g.L.Listen c.args.listen))
 
 pub tell_end-status-requires-clause-number : goal.tell_end-status-requires-clause-number
 tell_end-status-requires-clause-number g c =
@@ -44,7 +45,7 @@ returns-clause-does g c = λ connections.
     let old = c.args.office in
     let back = did.result.1 in
     let apart = c.in-Ok.apart in
-    let order = serve_order c.args.catalog.own connections c.args.spec.now.turns c.args.catalog.maps c.args.hosts in
+    let job = serve_job_of c.args.catalog.own connections c.args.spec.now.turns c.args.catalog.maps c.args.hosts in
     let new : Office g.row.S.Denot g.row.K.Denot g.row.D.Denot g.row.C.Denot g.row.A.Denot g.row.I.Denot g.row.T.Denot =
     record {
       wire = record { source = old.wire.source; sink = told.new.sink };
@@ -54,20 +55,20 @@ returns-clause-does g c = λ connections.
       inbox = back.inbox;
       texts = back.desk.texts;
     } in
-    let stock : Stock g.row.D.Denot g.row.A.Denot g.row.T.Denot g.row.C.Denot g.row.L.Denot g.row.I.Denot = record {
+    let resources : ServerResources g.row.D.Denot g.row.A.Denot g.row.T.Denot g.row.C.Denot g.row.L.Denot g.row.I.Denot = record {
       disks = apart.disks;
       desk = record { dial = old.dial; texts = old.texts; clock = old.clock; hosts = c.args.hosts };
       listen = c.args.listen;
       inbox = old.inbox;
     } in
-    let tells = opening_of g.L.Listen.past g.L.Listen.most g.L.Listen.accepted g.L.Listen.returned g.L.Listen.faults in
+    let tells = opening_by g.L.Listen in
     let names : map name_view c.deref.result.now ≡ c.args.catalog.maps =
     ap (λ (l : List MapName). map name_view l) c.deref.ensures.value ∙ c.in-Ok.ensures.names ∙ c.requires.disks in
-    let shut = shut_of tells old new stock back did.result.0 refl refl refl refl refl did.ensures.untouched
+    let shut = shut_of tells old new resources back did.result.0 refl refl refl refl refl did.ensures.untouched
     told.ensures.untold in
-    all_done seen order told.result old new (tells c.args.listen) (tells back.listen) did.result.0 apart.disks.items
+    all_done seen job told.result old new (tells c.args.listen) (tells back.listen) did.result.0 apart.disks.items
     back.disks.items c.in-Ok.ensures.disks (sym c.put_together.ensures.disks) did.ensures.hosted did.ensures.unhosted shut
-    (subst (λ (l : List Name). TellsEnd did.result.0 l told.result (output seen old) (output seen new)) names
+    (subst (λ (l : List Name). TellsServeEnd did.result.0 l told.result (output seen old) (output seen new)) names
     told.ensures.tells)
     did.ensures.inbox_fault told.ensures.cause (c.put_together.ensures.names ∙ c.in-Ok.ensures.names) did.ensures.moment
     did.ensures.texts refl

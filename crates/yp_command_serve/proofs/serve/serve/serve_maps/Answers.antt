@@ -1,23 +1,24 @@
 use Rattle.std.proofs.Common.{◌≡◌, map, sym, ap, subst, ◌∙◌}
 use Rattle.std.specs.Prelude.{All}
 use Rattle.yp_board.specs.Catalogues.{Catalogue, name_view}
-use Rattle.yp_worker.specs.Receptions.{opening_of}
-use Rattle.yp_words.specs.Words.{IsNamed}
-use Rattle.yp_xfr.specs.HostTable.{HostList}
-use Rattle.yp_office.specs.Seeing.{Seeing, seeing}
-use Rattle.yp_hosting.specs.Serve.{ServeOrder, ServeDoes, serve_order, order_view}
-use Rattle.yp_hosting.proofs.Told.{nothing_done}
-use Rattle.yp_hosting.proofs.serve.serve_maps.Goals as goal
+use Rattle.yp_worker.specs.Receptions.{opening_by}
+use Rattle.yp_command.specs.inside.Words.{IsNamed}
+use Rattle.yp_transfer.specs.HostTable.{HostList}
+use Rattle.yp_command.specs.office.Seeing.{Seeing, seeing}
+use Rattle.yp_command_serve.specs.serve.Serve.{Job, ServeDoes, serve_job_of}
+use Rattle.yp_command_serve.specs.inside.serve.Serve.{serve_job_view}
+use Rattle.yp_command_serve.proofs.serve.Told.{nothing_done}
+use Rattle.yp_command_serve.proofs.serve.serve.serve_maps.Goals as goal
 
 pub returns-in_default-clause-does : goal.returns-in_default-clause-does
 returns-in_default-clause-does g c =
-    nothing_done (seeing g.S.Source g.K.Sink g.D.Disk g.C.Clock g.A.Dial g.I.Inbox g.T.Texts) (order_view c.args.job)
-    c.args.office (opening_of g.L.Listen.past g.L.Listen.most g.L.Listen.accepted g.L.Listen.returned g.L.Listen.faults c.args.listen)
+    nothing_done (seeing g.S.Source g.K.Sink g.D.Disk g.C.Clock g.A.Dial g.I.Inbox g.T.Texts) (serve_job_view c.args.job)
+    c.args.office (opening_by g.L.Listen c.args.listen)
 
 pub returns-in-Err-NoMemory-clause-does : goal.returns-in-Err-NoMemory-clause-does
 returns-in-Err-NoMemory-clause-does g c =
-    nothing_done (seeing g.S.Source g.K.Sink g.D.Disk g.C.Clock g.A.Dial g.I.Inbox g.T.Texts) (order_view c.args.job)
-    c.args.office (opening_of g.L.Listen.past g.L.Listen.most g.L.Listen.accepted g.L.Listen.returned g.L.Listen.faults c.args.listen)
+    nothing_done (seeing g.S.Source g.K.Sink g.D.Disk g.C.Clock g.A.Dial g.I.Inbox g.T.Texts) (serve_job_view c.args.job)
+    c.args.office (opening_by g.L.Listen c.args.listen)
 
 pub serve_catalog-requires-clause-named : goal.serve_catalog-requires-clause-named
 serve_catalog-requires-clause-named g c κs within =
@@ -29,11 +30,11 @@ returns-clause-does g c =
     seeing g.S.Source g.K.Sink g.D.Disk g.C.Clock g.A.Dial g.I.Inbox g.T.Texts in
     let job = c.args.job in
     let did = c.serve_catalog in
-    let tells = opening_of g.L.Listen.past g.L.Listen.most g.L.Listen.accepted g.L.Listen.returned g.L.Listen.faults in
-    let same : serve_order c.in-Ok-new.catalog.own job.connections job.turns c.in-Ok-new.catalog.maps c.in-Ok.hosts
-    ≡ order_view job =
-    ap (λ (k : Catalogue). serve_order k.own job.connections job.turns k.maps c.in-Ok.hosts) c.in-Ok-new.ensures.ok
-    ∙ ap (λ (h : HostList). serve_order job.name.items job.connections job.turns (map name_view job.stores.items) h)
+    let tells = opening_by g.L.Listen in
+    let same : serve_job_of c.in-Ok-new.catalog.own job.connections job.turns c.in-Ok-new.catalog.maps c.in-Ok.hosts
+    ≡ serve_job_view job =
+    ap (λ (k : Catalogue). serve_job_of k.own job.connections job.turns k.maps c.in-Ok.hosts) c.in-Ok-new.ensures.ok
+    ∙ ap (λ (h : HostList). serve_job_of job.name.items job.connections job.turns (map name_view job.stores.items) h)
     c.in-Ok.ensures in
-    subst (λ (o : ServeOrder). ServeDoes seen o did.result.0 c.args.office did.result.1 (tells c.args.listen)
+    subst (λ (o : Job). ServeDoes seen o did.result.0 c.args.office did.result.1 (tells c.args.listen)
     (tells did.result.2)) same (did.ensures.does job.connections)

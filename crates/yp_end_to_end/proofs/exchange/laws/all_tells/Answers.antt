@@ -1,5 +1,5 @@
-use Rattle.yp_exchange.proofs.Alls.{all_tells}
-use Rattle.yp_exchange.proofs.laws.all_tells.Goals as goal
+use Rattle.yp_end_to_end.proofs.exchange.Alls.{all_tells}
+use Rattle.yp_end_to_end.proofs.exchange.laws.all_tells.Goals as goal
 
 pub returns : goal.returns
 returns c = all_tells c.written_is_read_again.ensures c.call_is_heard_again.ensures c.rising_is_distinct.ensures

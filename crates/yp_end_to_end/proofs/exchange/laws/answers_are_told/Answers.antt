@@ -1,6 +1,6 @@
-use Rattle.yp_exchange.proofs.Hearing.{Records}
-use Rattle.yp_exchange.proofs.Answering.{answer_told, names_are_told, rows_are_told}
-use Rattle.yp_exchange.proofs.laws.answers_are_told.Goals as goal
+use Rattle.yp_end_to_end.proofs.exchange.Hearing.{Records}
+use Rattle.yp_end_to_end.proofs.exchange.Answering.{answer_told, names_are_told, rows_are_told}
+use Rattle.yp_end_to_end.proofs.exchange.laws.answers_are_told.Goals as goal
 
 pub returns : goal.returns
 returns c =

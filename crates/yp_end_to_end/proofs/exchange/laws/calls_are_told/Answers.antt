@@ -1,5 +1,5 @@
-use Rattle.yp_exchange.proofs.Asking.{calls_are_told}
-use Rattle.yp_exchange.proofs.laws.calls_are_told.Goals as goal
+use Rattle.yp_end_to_end.proofs.exchange.Asking.{calls_are_told}
+use Rattle.yp_end_to_end.proofs.exchange.laws.calls_are_told.Goals as goal
 
 pub returns : goal.returns
 returns c = calls_are_told (record {

@@ -1,6 +1,6 @@
-use Rattle.yp_query.specs.Asked.{no_rows}
-use Rattle.yp_exchange.proofs.Asking.{no_rows_room}
-use Rattle.yp_exchange.proofs.laws.calls_have_replies.Goals as goal
+use Rattle.yp_client.specs.query.Asked.{no_rows}
+use Rattle.yp_end_to_end.proofs.exchange.Asking.{no_rows_room}
+use Rattle.yp_end_to_end.proofs.exchange.laws.calls_have_replies.Goals as goal
 
 pub returns : goal.returns
 returns c = record {

@@ -1,5 +1,5 @@
-use Rattle.yp_exchange.proofs.OnLogs.{log_run_is_printed}
-use Rattle.yp_exchange.proofs.laws.log_run_is_printed.Goals as goal
+use Rattle.yp_end_to_end.proofs.exchange.OnLogs.{log_run_is_printed}
+use Rattle.yp_end_to_end.proofs.exchange.laws.log_run_is_printed.Goals as goal
 
 pub returns : goal.returns
 returns c =

@@ -1,5 +1,5 @@
-use Rattle.yp_exchange.proofs.Mailed.{order_mail_tells, master_mail_tells, first_mail_tells, next_mail_tells}
-use Rattle.yp_exchange.proofs.laws.mail_tells.Goals as goal
+use Rattle.yp_end_to_end.proofs.exchange.Mailed.{order_mail_tells, master_mail_tells, first_mail_tells, next_mail_tells}
+use Rattle.yp_end_to_end.proofs.exchange.laws.mail_tells.Goals as goal
 
 pub returns : goal.returns
 returns c =

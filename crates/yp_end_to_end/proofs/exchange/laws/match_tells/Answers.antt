@@ -1,5 +1,5 @@
-use Rattle.yp_exchange.proofs.LookUps.{match_tells}
-use Rattle.yp_exchange.proofs.laws.match_tells.Goals as goal
+use Rattle.yp_end_to_end.proofs.exchange.LookUps.{match_tells}
+use Rattle.yp_end_to_end.proofs.exchange.laws.match_tells.Goals as goal
 
 pub returns : goal.returns
 returns c = match_tells c.written_is_read_again.ensures c.call_is_heard_again.ensures

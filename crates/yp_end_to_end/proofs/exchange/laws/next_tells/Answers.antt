@@ -1,5 +1,5 @@
-use Rattle.yp_exchange.proofs.LookUps.{next_tells}
-use Rattle.yp_exchange.proofs.laws.next_tells.Goals as goal
+use Rattle.yp_end_to_end.proofs.exchange.LookUps.{next_tells}
+use Rattle.yp_end_to_end.proofs.exchange.laws.next_tells.Goals as goal
 
 pub returns : goal.returns
 returns c = next_tells c.written_is_read_again.ensures c.call_is_heard_again.ensures

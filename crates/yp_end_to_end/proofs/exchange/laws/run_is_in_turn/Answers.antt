@@ -1,5 +1,5 @@
-use Rattle.yp_exchange.proofs.OnLogs.{run_is_in_turn}
-use Rattle.yp_exchange.proofs.laws.run_is_in_turn.Goals as goal
+use Rattle.yp_end_to_end.proofs.exchange.OnLogs.{run_is_in_turn}
+use Rattle.yp_end_to_end.proofs.exchange.laws.run_is_in_turn.Goals as goal
 
 pub returns : goal.returns
 returns c = run_is_in_turn

@@ -1,5 +1,5 @@
-use Rattle.yp_exchange.proofs.Running.{run_is_printed}
-use Rattle.yp_exchange.proofs.laws.run_is_printed.Goals as goal
+use Rattle.yp_end_to_end.proofs.exchange.Running.{run_is_printed}
+use Rattle.yp_end_to_end.proofs.exchange.laws.run_is_printed.Goals as goal
 
 pub returns : goal.returns
 returns c = run_is_printed (record {

@@ -1,5 +1,5 @@
-use Rattle.yp_exchange.proofs.Completing.{told_is_answered}
-use Rattle.yp_exchange.proofs.laws.told_is_answered.Goals as goal
+use Rattle.yp_end_to_end.proofs.exchange.Completing.{told_is_answered}
+use Rattle.yp_end_to_end.proofs.exchange.laws.told_is_answered.Goals as goal
 
 pub returns : goal.returns
 returns c = told_is_answered (record {

@@ -1,5 +1,5 @@
-use Rattle.yp_source.proofs.Keeping.{is_kept}
-use Rattle.yp_source.proofs.laws.fetched_is_shown.Goals as goal
+use Rattle.yp_end_to_end.proofs.transfer.Keeping.{is_kept}
+use Rattle.yp_end_to_end.proofs.transfer.laws.fetched_is_shown.Goals as goal
 
 pub returns : goal.returns
 returns c = λ catalogue fronts peer wanted xid at stream version served word domain map gives fetched.

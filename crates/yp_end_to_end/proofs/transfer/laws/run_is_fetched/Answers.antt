@@ -1,5 +1,5 @@
-use Rattle.yp_source.proofs.Sourcing.{run_is_fetched}
-use Rattle.yp_source.proofs.laws.run_is_fetched.Goals as goal
+use Rattle.yp_end_to_end.proofs.transfer.Sourcing.{run_is_fetched}
+use Rattle.yp_end_to_end.proofs.transfer.laws.run_is_fetched.Goals as goal
 
 pub returns : goal.returns
 returns c =

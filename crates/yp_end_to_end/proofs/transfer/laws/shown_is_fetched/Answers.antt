@@ -1,5 +1,5 @@
-use Rattle.yp_source.proofs.Giving.{is_given}
-use Rattle.yp_source.proofs.laws.shown_is_fetched.Goals as goal
+use Rattle.yp_end_to_end.proofs.transfer.Giving.{is_given}
+use Rattle.yp_end_to_end.proofs.transfer.laws.shown_is_fetched.Goals as goal
 
 pub returns : goal.returns
 returns c = λ moments peer wanted xid at stream source outcome served word domain map shown may some newer gives fetched.

@@ -1,5 +1,5 @@
-use Rattle.yp_source.proofs.Turning.{turns_give}
-use Rattle.yp_source.proofs.laws.turns_give_fetch.Goals as goal
+use Rattle.yp_end_to_end.proofs.transfer.Turning.{turns_give}
+use Rattle.yp_end_to_end.proofs.transfer.laws.turns_give_fetch.Goals as goal
 
 pub returns : goal.returns
 returns c = turns_give (record {

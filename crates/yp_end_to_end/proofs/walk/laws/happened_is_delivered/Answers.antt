@@ -1,5 +1,5 @@
-use Rattle.yp_walked.proofs.Delivering.{happened_is_delivered}
-use Rattle.yp_walked.proofs.laws.happened_is_delivered.Goals as goal
+use Rattle.yp_end_to_end.proofs.walk.Delivering.{happened_is_delivered}
+use Rattle.yp_end_to_end.proofs.walk.laws.happened_is_delivered.Goals as goal
 
 pub returns : goal.returns
 returns c = happened_is_delivered

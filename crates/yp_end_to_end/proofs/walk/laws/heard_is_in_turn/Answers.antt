@@ -1,5 +1,5 @@
-use Rattle.yp_walked.proofs.Turning.{heard_is_in_turn}
-use Rattle.yp_walked.proofs.laws.heard_is_in_turn.Goals as goal
+use Rattle.yp_end_to_end.proofs.walk.Turning.{heard_is_in_turn}
+use Rattle.yp_end_to_end.proofs.walk.laws.heard_is_in_turn.Goals as goal
 
 pub returns : goal.returns
 returns c =

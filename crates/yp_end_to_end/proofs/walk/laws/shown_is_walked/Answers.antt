@@ -1,5 +1,5 @@
-use Rattle.yp_walked.proofs.Showing.{shown_is_walked}
-use Rattle.yp_walked.proofs.laws.shown_is_walked.Goals as goal
+use Rattle.yp_end_to_end.proofs.walk.Showing.{shown_is_walked}
+use Rattle.yp_end_to_end.proofs.walk.laws.shown_is_walked.Goals as goal
 
 pub returns : goal.returns
 returns c =

@@ -1,5 +1,5 @@
-use Rattle.yp_walked.proofs.Showing.{walked_is_shown}
-use Rattle.yp_walked.proofs.laws.walked_is_shown.Goals as goal
+use Rattle.yp_end_to_end.proofs.walk.Showing.{walked_is_shown}
+use Rattle.yp_end_to_end.proofs.walk.laws.walked_is_shown.Goals as goal
 
 pub returns : goal.returns
 returns c =

@@ -1,6 +1,6 @@
-use Rattle.yp_server.proofs.Building.{on_ok, if_err}
-use Rattle.yp_server.proofs.Making.{made_from}
-use Rattle.yp_server.proofs.local.LocalHost.make_anew.Goals as goal
+use Rattle.yp_host.proofs.Building.{on_ok, if_err}
+use Rattle.yp_host.proofs.Making.{made_from}
+use Rattle.yp_host.proofs.local.LocalHost.make_anew.Goals as goal
 
 pub returns-clause-made : goal.returns-clause-made
 returns-clause-made g c =

@@ -1,17 +1,17 @@
 use Rattle.std.proofs.Common.{◌≤◌, arith, ◌∙◌, ap}
 use Rattle.yp_board.specs.Catalogues.{Catalogue}
 use Rattle.yp_board.specs.Logs.{shown}
-use Rattle.yp_build.specs.Builds.{order_max}
-use Rattle.yp_workhost.specs.Desks.{texts_alone}
-use Rattle.yp_server.specs.Locals.{telling_of}
-use Rattle.yp_workhost.proofs.Causing.{unmade, built_there, shown_last, unfit}
-use Rattle.yp_workhost.proofs.Charging.{charged_so}
-use Rattle.yp_workhost.proofs.making.make_behind.Goals as goal
+use Rattle.yp_texts.specs.Builds.{order_max}
+use Rattle.yp_host.specs.workers.Desks.{texts_alone}
+use Rattle.yp_host.specs.inside.Locals.{telling_by}
+use Rattle.yp_host.proofs.workers.Causing.{unmade, built_there, shown_last, unfit}
+use Rattle.yp_host.proofs.workers.Charging.{charged_so}
+use Rattle.yp_host.proofs.workers.making.make_behind.Goals as goal
 
 pub returns-in-Err-clause-made : goal.returns-in-Err-clause-made
 returns-in-Err-clause-made g c =
     let own = c.own-own.ensures.own ∙ ap (λ (k : Catalogue). k.own) (c.catalog.ensures ∙ c.requires.catalogue) in
-    unmade g.S.Supplies.text (telling_of g.T.Texts g.C.Clock g.A.Dial.past g.A.Dial.letters g.A.Dial.faults) _ c.args.job _ c.in-Err.stat _ _
+    unmade g.S.Supplies.text (telling_by g.T.Texts g.C.Clock g.A.Dial) _ c.args.job _ c.in-Err.stat _ _
     (rw (own, c.held.ensures) at c.in-Err.ensures.unbuilt)
 
 pub install_shared-requires-clause-built : goal.install_shared-requires-clause-built

@@ -1,10 +1,10 @@
 -- What holds after each round, and that the rounds end.
 use Rattle.std.proofs.Common.{◌+◌, ◌-◌}
-use Rattle.yp_build.specs.Builds.{order_max}
-use Rattle.yp_shared.specs.Shares.{Learns}
-use Rattle.yp_workhost.specs.Makings.{height}
-use Rattle.yp_workhost.specs.Charges.{ChargesMore, no_cost}
-use Rattle.yp_workhost.proofs.making.make_shared.Given as goal
+use Rattle.yp_texts.specs.Builds.{order_max}
+use Rattle.yp_publisher.specs.sharing.Shares.{Learns}
+use Rattle.yp_host.specs.inside.workers.Makings.{height}
+use Rattle.yp_host.specs.inside.workers.Charges.{ChargesMore, no_cost}
+use Rattle.yp_host.proofs.workers.making.make_shared.Given as goal
 
 abbrev pub invariant-rounds : goal.invariant-rounds
 invariant-rounds g l = record {

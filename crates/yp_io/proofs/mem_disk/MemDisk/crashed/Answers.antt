@@ -1,8 +1,8 @@
 use Rattle.std.proofs.Common.{sym, ◌∙◌, subst}
 use Rattle.yp_io.specs.Disk.{IsImage}
-use Rattle.yp_io.specs.MemDisk.{Platter, history_of, played, crashed}
-use Rattle.yp_io.specs.MemDiskLaws.{crashed_image}
-use Rattle.yp_io.specs.MemSteps.{steps_of}
+use Rattle.yp_io.specs.inside.MemDisk.{Platter, history_of, played, crashed}
+use Rattle.yp_io.specs.inside.MemDiskLaws.{crashed_image}
+use Rattle.yp_io.specs.inside.MemSteps.{steps_of}
 use Rattle.yp_io.proofs.mem_disk.MemDisk.crashed.Goals as goal
 
 pub returns-in-Ok-clause-image : goal.returns-in-Ok-clause-image

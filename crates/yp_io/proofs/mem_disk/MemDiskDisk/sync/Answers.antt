@@ -1,7 +1,7 @@
 use Rattle.std.proofs.Common.{◌≡◌, [], ◌∷◌, ◌++◌, Some, subst, rules}
 use Rattle.yp_io.specs.Disk.{LeavesOnly, MayLeave}
-use Rattle.yp_io.specs.MemDisk.{Platter, Synced, history_of, played}
-use Rattle.yp_io.specs.MemSteps.{steps_of}
+use Rattle.yp_io.specs.inside.MemDisk.{Platter, Synced, history_of, played}
+use Rattle.yp_io.specs.inside.MemSteps.{steps_of}
 use Rattle.yp_io.proofs.DiskCalls.{sync_leaves, sync_durable}
 use Rattle.yp_io.proofs.mem_disk.MemDiskDisk.sync.Goals as goal
 

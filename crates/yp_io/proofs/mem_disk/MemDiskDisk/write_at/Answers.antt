@@ -1,7 +1,7 @@
 use Rattle.std.proofs.Common.{◌≡◌, [], ◌∷◌, ◌++◌, length, Some, subst, rules}
 use Rattle.yp_io.specs.Disk.{LeavesOnly, MayLeaveTorn}
-use Rattle.yp_io.specs.MemDisk.{Platter, Wrote, history_of, played}
-use Rattle.yp_io.specs.MemSteps.{steps_of}
+use Rattle.yp_io.specs.inside.MemDisk.{Platter, Wrote, history_of, played}
+use Rattle.yp_io.specs.inside.MemSteps.{steps_of}
 use Rattle.yp_io.proofs.DiskCalls.{write_leaves}
 use Rattle.yp_io.proofs.mem_disk.MemDiskDisk.write_at.Goals as goal
 

@@ -1,6 +1,6 @@
 use Rattle.std.proofs.Common.{inl, refl, subst, Contains}
 use Rattle.std.proofs.lemmas.Result.{err_from_is_err_and}
-use Rattle.yp_io.specs.Mem.{Shelf}
+use Rattle.yp_io.specs.inside.Mem.{Shelf}
 use Rattle.yp_io.proofs.mem_texts.MemTextsTexts.read.Goals as goal
 
 pub returns-in_err-start_call-clause-fails : goal.returns-in_err-start_call-clause-fails

@@ -1,6 +1,6 @@
-use Rattle.yp_slot.specs.Slots.{IsAsBeforeOr}
-use Rattle.yp_slot.proofs.Committing.{on_err, bounded, now, part_more, part_last, or_version, makes_all}
-use Rattle.yp_slot.proofs.slot.Slot.commit.Goals as goal
+use Rattle.yp_map_file.specs.inside.Slots.{IsAsBeforeOr}
+use Rattle.yp_map_file.proofs.Committing.{on_err, bounded, now, part_more, part_last, or_version, makes_all}
+use Rattle.yp_map_file.proofs.slot.Slot.commit.Goals as goal
 
 pub returns-in_err-close_cell-clause-any_moment : goal.returns-in_err-close_cell-clause-any_moment
 returns-in_err-close_cell-clause-any_moment g c = λ version is.

@@ -1,5 +1,5 @@
-use Rattle.yp_msgs.proofs.Joined.{joined}
-use Rattle.yp_msgs.proofs.binding.BindRespMessage.set.Goals as goal
+use Rattle.yp_messages.proofs.Joined.{joined}
+use Rattle.yp_messages.proofs.binding.BindRespMessage.set.Goals as goal
 
 pub returns-in-Bound : goal.returns-in-Bound
 returns-in-Bound c = rw c.in-Bound.is

@@ -1,5 +1,5 @@
-use Rattle.yp_msgs.proofs.Joined.{joined}
-use Rattle.yp_msgs.proofs.binding.SetDomMessage.set.Goals as goal
+use Rattle.yp_messages.proofs.Joined.{joined}
+use Rattle.yp_messages.proofs.binding.SetDomMessage.set.Goals as goal
 
 pub returns : goal.returns
 returns c = joined c.set_opaque-at.ensures

@@ -1,14 +1,15 @@
 use Rattle.std.proofs.Common.{Result, Ok, Err}
-use Rattle.yp_xdr.specs.Reading.{Unread}
-use Rattle.yp_xdr.specs.Cursor.{unread}
-use Rattle.yp_xdr.specs.Laws.{RefusedIsNotSpelled}
-use Rattle.yp_msgs.specs.declared.maplist.MapList.{MapList}
-use Rattle.yp_msgs.specs.declared.maplist.MapListFault.{MapListFault}
-use Rattle.yp_msgs.specs.declared.maplist.MapListFault.TheVariants.{Xdr, NoMemory}
-use Rattle.yp_msgs.specs.MapLists.{map_list, map_list_view, ReadsInMemory, RefusesInMemory}
-use Rattle.yp_msgs.proofs.maplist.MapList.read.Goals as goal
+use Rattle.yp_xdr.specs.Reading.{Remaining}
+use Rattle.yp_xdr.specs.inside.Cursor.{unread}
+use Rattle.yp_xdr.specs.inside.Laws.{RefusedIsNotSpelled}
+use Rattle.yp_messages.specs.declared.maplist.MapList.{MapList}
+use Rattle.yp_messages.specs.declared.maplist.MapListFault.{MapListFault}
+use Rattle.yp_messages.specs.declared.maplist.MapListFault.TheVariants.{Xdr, NoMemory}
+use Rattle.yp_messages.specs.MapLists.{map_list}
+use Rattle.yp_messages.specs.inside.MapLists.{map_list_view, ReadsInMemory, RefusesInMemory}
+use Rattle.yp_messages.proofs.maplist.MapList.read.Goals as goal
 
-refused : RefusedIsNotSpelled → (result : Result MapList MapListFault) (old new : Unread)
+refused : RefusedIsNotSpelled → (result : Result MapList MapListFault) (old new : Remaining)
     → ReadsInMemory map_list map_list_view result old new → RefusesInMemory map_list result old
 refused law (Ok answer) old new reads = tt
 refused law (Err (Xdr fault)) old new reads = law map_list old fault reads.0

@@ -1,5 +1,5 @@
-use Rattle.yp_msgs.proofs.Joined.{joined}
-use Rattle.yp_msgs.proofs.transfer.ReqXfrMessage.set.Goals as goal
+use Rattle.yp_messages.proofs.Joined.{joined}
+use Rattle.yp_messages.proofs.transfer.ReqXfrMessage.set.Goals as goal
 
 pub returns : goal.returns
 returns c = joined c.set_opaque-at.ensures

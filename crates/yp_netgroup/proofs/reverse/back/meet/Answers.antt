@@ -1,9 +1,9 @@
 use Rattle.std.proofs.Common.{◌≡◌, List, [], ℕ, get_or, rules}
 use Rattle.std.specs.Borrow.{Bor}
 use Rattle.indexmap.specs.IndexSet.{insert_key}
-use Rattle.yp_revnet.proofs.Linking.{alike}
-use Rattle.yp_revnet.proofs.Meeting.{meet-step}
-use Rattle.yp_revnet.proofs.back.meet.Goals as goal
+use Rattle.yp_netgroup.proofs.reverse.Linking.{alike}
+use Rattle.yp_netgroup.proofs.reverse.Meeting.{meet-step}
+use Rattle.yp_netgroup.proofs.reverse.back.meet.Goals as goal
 
 pub loop-group-preserved : goal.loop-group-preserved
 loop-group-preserved c =

@@ -1,7 +1,7 @@
 use Rattle.std.proofs.Common.{◌≡◌, bytes_eq, drop}
 use Rattle.indexmap.specs.IndexSet.{insert_all}
-use Rattle.yp_revnet.specs.Links.{bytes_in}
-use Rattle.yp_revnet.proofs.back.meet.Given as goal
+use Rattle.yp_netgroup.specs.inside.reverse.Links.{bytes_in}
+use Rattle.yp_netgroup.proofs.reverse.back.meet.Given as goal
 
 abbrev pub invariant-loop-group : goal.invariant-loop-group
 invariant-loop-group l =

@@ -1,10 +1,10 @@
 use Rattle.std.proofs.Common.{◌≡◌, ◌<◌, ◌≤◌, ◌+◌, ◌∙◌, refl, sym, ap, subst, bytes_eq, get_or, arith, length, []}
 use Rattle.std.proofs.lemmas.List.{length-map}
 use Rattle.indexmap.specs.IndexSet.{insert_all}
-use Rattle.yp_revnet.specs.Links.{bytes_in, under}
-use Rattle.yp_revnet.specs.Back.{IsMet}
-use Rattle.yp_revnet.proofs.Meeting.{bytes, name-at, met-first, met-next, met-whole}
-use Rattle.yp_revnet.proofs.back.meet_leading.Goals as goal
+use Rattle.yp_netgroup.specs.inside.reverse.Links.{bytes_in, under}
+use Rattle.yp_netgroup.specs.inside.reverse.Back.{IsMetBack}
+use Rattle.yp_netgroup.proofs.reverse.Meeting.{bytes, name-at, met-first, met-next, met-whole}
+use Rattle.yp_netgroup.proofs.reverse.back.meet_leading.Goals as goal
 
 pub loop-next-init : goal.loop-next-init
 loop-next-init c =
@@ -12,7 +12,7 @@ loop-next-init c =
     let starts = under c.args.listed.now c.args.key.now in
     let met : bytes_in c.meet_under.new.seen.keys ≡ insert_all bytes_eq [] starts =
     c.in_ok-meet_under.ensures ∙ ap (λ before. insert_all bytes_eq before starts) c.requires in
-    subst (λ names. IsMet led starts names 0) (sym met) (met-first led starts)
+    subst (λ names. IsMetBack led starts names 0) (sym met) (met-first led starts)
 
 pub loop-next-preserved : goal.loop-next-preserved
 loop-next-preserved c =
@@ -25,7 +25,7 @@ loop-next-preserved c =
     let new : bytes_in c.meet_under-in-loop-next.new.seen.keys ≡ insert_all bytes_eq met (led name) =
     c.in_ok-meet_under-2.ensures ∙ ap (λ name. insert_all bytes_eq met (led name))
     (name-at c.loop-next.seen.keys c.as_slice.result.now c.loop-next.next _ c.as_slice.ensures.keys within) in
-    subst (λ names. IsMet led starts names (c.loop-next.next + 1)) (sym new)
+    subst (λ names. IsMetBack led starts names (c.loop-next.next + 1)) (sym new)
     (met-next led starts met c.loop-next.next name c.loop-next.invariant there refl)
 
 pub returns : goal.returns

@@ -3,12 +3,12 @@ use Rattle.std.specs.Prelude.{◌↔◌, IfOk, filter}
 use Rattle.std.specs.Borrow.{Bor}
 use Rattle.std.specs.List.Sorted.{IsStrictlySortedBy}
 use Rattle.yp_version.specs.Rows.{Row, key_cmp}
-use Rattle.yp_revnet.specs.declared.field.Field.{Field}
-use Rattle.yp_revnet.specs.Groups.{IsGroups, IsKeptOf}
-use Rattle.yp_revnet.specs.Links.{bytes_in, under}
-use Rattle.yp_revnet.specs.Reverse.{is_name}
-use Rattle.yp_revnet.proofs.Leading.{leading_groups}
-use Rattle.yp_revnet.proofs.groups.groups_of.Goals as goal
+use Rattle.yp_netgroup.specs.declared.reverse.field.Field.{Field}
+use Rattle.yp_netgroup.specs.inside.reverse.Groups.{IsGroups, IsKeptOf}
+use Rattle.yp_netgroup.specs.inside.reverse.Links.{bytes_in, under}
+use Rattle.yp_netgroup.specs.reverse.Reverse.{is_name}
+use Rattle.yp_netgroup.proofs.reverse.Leading.{leading_groups}
+use Rattle.yp_netgroup.proofs.reverse.groups.groups_of.Goals as goal
 
 abbrev Names : Type 0
 Names = Vec (Bor (List ℕ)) Global

@@ -1,7 +1,7 @@
 use Rattle.std.proofs.Common.{ℕ, List, Contains, subst}
 use Rattle.std.specs.Prelude.{◌↔◌}
-use Rattle.yp_revnet.specs.Links.{bytes_in}
-use Rattle.yp_revnet.proofs.groups.names_of.Goals as goal
+use Rattle.yp_netgroup.specs.inside.reverse.Links.{bytes_in}
+use Rattle.yp_netgroup.proofs.reverse.groups.names_of.Goals as goal
 
 pub returns-clause-same : goal.returns-clause-same
 returns-clause-same c =

@@ -2,11 +2,11 @@ use Rattle.std.proofs.Common.{◌≡◌, ◌∙◌, ◌++◌, ◌∷◌, List, [
 use Rattle.std.specs.Borrow.{Bor}
 use Rattle.std.specs.Prelude.{flat_map}
 use Rattle.std.specs.List.{join_with_byte}
-use Rattle.yp_revnet.specs.Links.{bytes_in}
-use Rattle.yp_revnet.proofs.Joining.{comma, joined}
-use Rattle.yp_revnet.proofs.Linking.{drop_none, piece_more}
-use Rattle.yp_revnet.proofs.Meeting.{bytes}
-use Rattle.yp_revnet.proofs.groups.put_commas.Goals as goal
+use Rattle.yp_netgroup.specs.inside.reverse.Links.{bytes_in}
+use Rattle.yp_netgroup.proofs.reverse.Joining.{comma, joined}
+use Rattle.yp_netgroup.proofs.reverse.Linking.{drop_none, piece_more}
+use Rattle.yp_netgroup.proofs.reverse.Meeting.{bytes}
+use Rattle.yp_netgroup.proofs.reverse.groups.put_commas.Goals as goal
 
 pub loop-name-init : goal.loop-name-init
 loop-name-init c =

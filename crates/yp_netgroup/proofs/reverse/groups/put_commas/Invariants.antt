@@ -1,9 +1,9 @@
 use Rattle.std.proofs.Common.{◌≡◌, ◌++◌, drop}
 use Rattle.std.specs.Prelude.{flat_map}
 use Rattle.std.specs.List.{join_with_byte}
-use Rattle.yp_revnet.specs.Links.{bytes_in}
-use Rattle.yp_revnet.proofs.Joining.{comma}
-use Rattle.yp_revnet.proofs.groups.put_commas.Given as goal
+use Rattle.yp_netgroup.specs.inside.reverse.Links.{bytes_in}
+use Rattle.yp_netgroup.proofs.reverse.Joining.{comma}
+use Rattle.yp_netgroup.proofs.reverse.groups.put_commas.Given as goal
 
 abbrev pub invariant-loop-name : goal.invariant-loop-name
 invariant-loop-name l =

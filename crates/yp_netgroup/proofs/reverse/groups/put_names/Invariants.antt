@@ -1,8 +1,8 @@
 use Rattle.std.proofs.Common.{◌≡◌, ◌++◌, drop}
 use Rattle.std.specs.Prelude.{filter}
-use Rattle.yp_revnet.specs.Links.{bytes_in}
-use Rattle.yp_revnet.specs.Reverse.{is_name}
-use Rattle.yp_revnet.proofs.groups.put_names.Given as goal
+use Rattle.yp_netgroup.specs.inside.reverse.Links.{bytes_in}
+use Rattle.yp_netgroup.specs.reverse.Reverse.{is_name}
+use Rattle.yp_netgroup.proofs.reverse.groups.put_names.Given as goal
 
 abbrev pub invariant-loop-group : goal.invariant-loop-group
 invariant-loop-group l =

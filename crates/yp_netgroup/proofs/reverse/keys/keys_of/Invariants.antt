@@ -1,7 +1,7 @@
 use Rattle.std.proofs.Common.{◌≡◌, ◌++◌, map, drop}
-use Rattle.yp_revnet.specs.declared.keys.Listing.{Listing}
-use Rattle.yp_revnet.specs.Links.{bytes_in}
-use Rattle.yp_revnet.proofs.keys.keys_of.Given as goal
+use Rattle.yp_netgroup.specs.declared.reverse.keys.Listing.{Listing}
+use Rattle.yp_netgroup.specs.inside.reverse.Links.{bytes_in}
+use Rattle.yp_netgroup.proofs.reverse.keys.keys_of.Given as goal
 
 abbrev pub invariant-loop-listing : goal.invariant-loop-listing
 invariant-loop-listing l =

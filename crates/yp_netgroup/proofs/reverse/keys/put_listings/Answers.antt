@@ -1,9 +1,9 @@
 use Rattle.std.proofs.Common.{◌≡◌, ◌∙◌, ◌++◌, ◌∷◌, suc, ℕ, List, map, drop, drop-cons, ap, sym}
-use Rattle.yp_revnet.specs.declared.keys.Listing.{Listing}
-use Rattle.yp_revnet.specs.Links.{source, sources, under}
-use Rattle.yp_revnet.specs.Listings.{link_of}
-use Rattle.yp_revnet.proofs.Linking.{piece_more}
-use Rattle.yp_revnet.proofs.keys.put_listings.Goals as goal
+use Rattle.yp_netgroup.specs.declared.reverse.keys.Listing.{Listing}
+use Rattle.yp_netgroup.specs.inside.reverse.Links.{source, sources, under}
+use Rattle.yp_netgroup.specs.inside.reverse.Listings.{link_of}
+use Rattle.yp_netgroup.proofs.reverse.Linking.{piece_more}
+use Rattle.yp_netgroup.proofs.reverse.keys.put_listings.Goals as goal
 
 pub loop-listing-preserved : goal.loop-listing-preserved
 loop-listing-preserved c = λ key.

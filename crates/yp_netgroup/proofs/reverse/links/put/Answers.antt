@@ -2,8 +2,8 @@ use Rattle.std.proofs.Common.{◌≡◌, ◌++◌, ◌∷◌, [], rules}
 use Rattle.std.specs.Prelude.{unwrap_or}
 use Rattle.std.specs.Map.{lookup}
 use Rattle.indexmap.specs.IndexMap.{insert_entry}
-use Rattle.yp_revnet.proofs.Linking.{alike, is_at, put_under}
-use Rattle.yp_revnet.proofs.links.put.Goals as goal
+use Rattle.yp_netgroup.proofs.reverse.Linking.{alike, is_at, put_under}
+use Rattle.yp_netgroup.proofs.reverse.links.put.Goals as goal
 
 pub returns-in-Ok-insert : goal.returns-in-Ok-insert
 returns-in-Ok-insert c = λ other.

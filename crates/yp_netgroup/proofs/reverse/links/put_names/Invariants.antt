@@ -1,8 +1,8 @@
 use Rattle.std.proofs.Common.{◌≡◌, ◌++◌, ℕ, List, map, drop}
-use Rattle.yp_netgroup.specs.Member.{part_of}
+use Rattle.yp_netgroup.specs.inside.Member.{part_of}
 use Rattle.yp_netgroup.specs.Parts.{names}
-use Rattle.yp_revnet.specs.Links.{sources, under}
-use Rattle.yp_revnet.proofs.links.put_names.Given as goal
+use Rattle.yp_netgroup.specs.inside.reverse.Links.{sources, under}
+use Rattle.yp_netgroup.proofs.reverse.links.put_names.Given as goal
 
 abbrev pub invariant-loop-member : goal.invariant-loop-member
 invariant-loop-member l =

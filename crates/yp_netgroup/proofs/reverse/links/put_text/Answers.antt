@@ -1,9 +1,9 @@
 use Rattle.std.proofs.Common.{◌≡◌, ◌∙◌, ◌++◌, ℕ, List, map, ap, subst}
 use Rattle.std.specs.Prelude.{OnOk}
-use Rattle.yp_netgroup.specs.Member.{part_of}
+use Rattle.yp_netgroup.specs.inside.Member.{part_of}
 use Rattle.yp_netgroup.specs.Parts.{Part, names, parts}
-use Rattle.yp_revnet.specs.Links.{sources, under}
-use Rattle.yp_revnet.proofs.links.put_text.Goals as goal
+use Rattle.yp_netgroup.specs.inside.reverse.Links.{sources, under}
+use Rattle.yp_netgroup.proofs.reverse.links.put_text.Goals as goal
 
 pub returns : goal.returns
 returns c =

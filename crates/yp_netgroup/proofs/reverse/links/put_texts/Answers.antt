@@ -1,8 +1,8 @@
 use Rattle.std.proofs.Common.{sym}
 use Rattle.yp_version.specs.Rows.{Row}
-use Rattle.yp_revnet.specs.Links.{under, naming_text}
-use Rattle.yp_revnet.proofs.Linking.{row_more}
-use Rattle.yp_revnet.proofs.links.put_texts.Goals as goal
+use Rattle.yp_netgroup.specs.inside.reverse.Links.{under, naming_text}
+use Rattle.yp_netgroup.proofs.reverse.Linking.{row_more}
+use Rattle.yp_netgroup.proofs.reverse.links.put_texts.Goals as goal
 
 pub loop-i-preserved : goal.loop-i-preserved
 loop-i-preserved c = λ name.

@@ -1,6 +1,6 @@
 use Rattle.std.proofs.Common.{◌≡◌, ◌++◌, ℕ, List, drop}
-use Rattle.yp_revnet.specs.Links.{sources, under, naming}
-use Rattle.yp_revnet.proofs.links.put_texts.Given as goal
+use Rattle.yp_netgroup.specs.inside.reverse.Links.{sources, under, naming}
+use Rattle.yp_netgroup.proofs.reverse.links.put_texts.Given as goal
 
 abbrev pub invariant-loop-i : goal.invariant-loop-i
 invariant-loop-i l =

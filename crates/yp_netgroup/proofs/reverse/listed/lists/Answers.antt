@@ -2,7 +2,7 @@ use Rattle.std.proofs.Common.{bytes_eq, rules, tests}
 use Rattle.std.proofs.lemmas.Iterator.Search.{any_from_yields_List}
 use Rattle.std.proofs.lemmas.Iterator.Splits.{YieldsList-from_slice_split}
 use Rattle.yp_netgroup.specs.Parts.{is_comma}
-use Rattle.yp_revnet.proofs.listed.lists.Goals as goal
+use Rattle.yp_netgroup.proofs.reverse.listed.lists.Goals as goal
 
 pub returns : goal.returns
 returns c =

@@ -5,10 +5,10 @@ use Rattle.std.specs.List.{list_any}
 use Rattle.std.proofs.lemmas.Option.{slice_get_within}
 use Rattle.yp_version.specs.Rows.{Row}
 use Rattle.yp_netgroup.specs.Parts.{Part, parts, triples}
-use Rattle.yp_netgroup.specs.Member.{part_of}
-use Rattle.yp_revnet.specs.declared.field.Field.{Field}
-use Rattle.yp_revnet.specs.Listed.{is_mixed, is_split}
-use Rattle.yp_revnet.proofs.listed.split.Goals as goal
+use Rattle.yp_netgroup.specs.inside.Member.{part_of}
+use Rattle.yp_netgroup.specs.declared.reverse.field.Field.{Field}
+use Rattle.yp_netgroup.specs.inside.reverse.Listed.{is_mixed, is_split}
+use Rattle.yp_netgroup.proofs.reverse.listed.split.Goals as goal
 
 drop_none : {X : Type 0} (xs : List X) → drop 0 xs ≡ xs
 drop_none [] = refl

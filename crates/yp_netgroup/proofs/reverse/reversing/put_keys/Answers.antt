@@ -2,16 +2,16 @@ use Rattle.std.proofs.Common.{◌≡◌, [], List, ℕ, Result, Ok, Err, map}
 use Rattle.std.specs.Prelude.{OnOk, IfErr}
 use Rattle.yp_version.specs.Rows.{Row}
 use Rattle.yp_version.specs.Drafts.{Draft}
-use Rattle.yp_revnet.specs.declared.fault.RevFault.{RevFault}
-use Rattle.yp_revnet.specs.declared.field.Field.{Field}
-use Rattle.yp_revnet.specs.declared.keys.Listing.{Listing}
-use Rattle.yp_revnet.specs.Groups.{IsKeptOf, IsReadOf}
-use Rattle.yp_revnet.specs.Links.{LinkTable, bytes_in, sources, under}
-use Rattle.yp_revnet.specs.Listings.{link_of}
-use Rattle.yp_revnet.specs.Refused.{IsCause, IsSoFar, HasAllKeys, HasAllRows}
-use Rattle.yp_revnet.proofs.Drafting.{so_far-none}
-use Rattle.yp_revnet.proofs.Keyed.{kept_of, keys_whole, sorted_keys}
-use Rattle.yp_revnet.proofs.reversing.put_keys.Goals as goal
+use Rattle.yp_netgroup.specs.declared.reverse.fault.RevFault.{RevFault}
+use Rattle.yp_netgroup.specs.declared.reverse.field.Field.{Field}
+use Rattle.yp_netgroup.specs.declared.reverse.keys.Listing.{Listing}
+use Rattle.yp_netgroup.specs.inside.reverse.Groups.{IsKeptOf, IsReadOf}
+use Rattle.yp_netgroup.specs.inside.reverse.Links.{LinkTable, bytes_in, sources, under}
+use Rattle.yp_netgroup.specs.inside.reverse.Listings.{link_of}
+use Rattle.yp_netgroup.specs.inside.reverse.Refused.{IsReverseCause, IsSoFar, HasAllKeys, HasAllRows}
+use Rattle.yp_netgroup.proofs.reverse.Drafting.{so_far-none}
+use Rattle.yp_netgroup.proofs.reverse.Keyed.{kept_of, keys_whole, sorted_keys}
+use Rattle.yp_netgroup.proofs.reverse.reversing.put_keys.Goals as goal
 
 -- what is so of the keys of each map that is kept so is so of each of which the listings are read
 module _ (named by_key : LinkTable) (listings : List Listing) (keys : List (List ℕ)) (start : Draft)
@@ -34,9 +34,9 @@ module _ (named by_key : LinkTable) (listings : List Listing) (keys : List (List
 
   not_put : {T : Type 0} (result : Result T RevFault)
       → IfErr result (λ fault. (rows : List Row) (field : Field) (first : Draft) → IsKeptOf rows field named by_key
-      → IsSoFar rows field first start [] → HasAllKeys rows field keys → IsCause rows field first fault)
+      → IsSoFar rows field first start [] → HasAllKeys rows field keys → IsReverseCause rows field first fault)
       → IfErr result (λ fault. (rows : List Row) (field : Field) → IsReadOf rows field named (map link_of listings)
-      → IsCause rows field start fault)
+      → IsReverseCause rows field start fault)
   not_put (Ok x) h = tt
   not_put (Err fault) h = λ rows field read.
       h rows field start (kept_of rows field named listings read by_key of_keys) (so_far-none rows field start none)

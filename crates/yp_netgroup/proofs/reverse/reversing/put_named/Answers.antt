@@ -1,13 +1,13 @@
 use Rattle.std.proofs.Common.{◌∙◌, List, map, Result, Ok, Err, ap}
 use Rattle.std.specs.Prelude.{OnOk, IfErr}
 use Rattle.yp_version.specs.Rows.{Row}
-use Rattle.yp_revnet.specs.declared.fault.RevFault.{RevFault}
-use Rattle.yp_revnet.specs.declared.field.Field.{Field}
-use Rattle.yp_revnet.specs.Groups.{IsReadOf}
-use Rattle.yp_revnet.specs.Links.{LinkTable, Link}
-use Rattle.yp_revnet.specs.Listings.{link_of}
-use Rattle.yp_revnet.specs.Refused.{HasAllRows, IsCause}
-use Rattle.yp_revnet.proofs.reversing.put_named.Goals as goal
+use Rattle.yp_netgroup.specs.declared.reverse.fault.RevFault.{RevFault}
+use Rattle.yp_netgroup.specs.declared.reverse.field.Field.{Field}
+use Rattle.yp_netgroup.specs.inside.reverse.Groups.{IsReadOf}
+use Rattle.yp_netgroup.specs.inside.reverse.Links.{LinkTable, Link}
+use Rattle.yp_netgroup.specs.inside.reverse.Listings.{link_of}
+use Rattle.yp_netgroup.specs.inside.reverse.Refused.{HasAllRows, IsReverseCause}
+use Rattle.yp_netgroup.proofs.reverse.reversing.put_named.Goals as goal
 
 -- what is so of each map of which this is read is so of this one
 of_read : {T : Type 0} (rows : List Row) (field : Field) (named : LinkTable) (links : List Link)
@@ -44,4 +44,4 @@ returns-clause-cause g c =
       all = ap (map link_of) c.deref.ensures.value ∙ c.in_ok-listings.ensures.listings;
     } in
     fault_of_read rows c.args.field c.args.named.now (map link_of c.deref.result.now) c.put_listings.result
-    (λ rows field fault. IsCause rows field c.args.builder.now fault) read c.put_listings.ensures.cause
+    (λ rows field fault. IsReverseCause rows field c.args.builder.now fault) read c.put_listings.ensures.cause

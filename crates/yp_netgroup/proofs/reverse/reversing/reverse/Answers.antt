@@ -2,11 +2,11 @@ use Rattle.std.proofs.Common.{◌≡◌, ◌∙◌, List, ℕ, ap, subst, sym}
 use Rattle.yp_version.specs.Rows.{listed}
 use Rattle.yp_version.specs.Drafts.{Draft, first_refused, empty_draft}
 use Rattle.yp_version.specs.Versions.{MapVersion, unmarked}
-use Rattle.yp_revnet.specs.Reverse.{IsReverse}
-use Rattle.yp_revnet.specs.Refused.{IsCause, HasAllRows}
-use Rattle.yp_revnet.proofs.Drafting.{so_far-whole}
-use Rattle.yp_revnet.proofs.Handing.{err_same}
-use Rattle.yp_revnet.proofs.reversing.reverse.Goals as goal
+use Rattle.yp_netgroup.specs.reverse.Reverse.{IsReverse}
+use Rattle.yp_netgroup.specs.inside.reverse.Refused.{IsReverseCause, HasAllRows}
+use Rattle.yp_netgroup.proofs.reverse.Drafting.{so_far-whole}
+use Rattle.yp_netgroup.proofs.reverse.Handing.{err_same}
+use Rattle.yp_netgroup.proofs.reverse.reversing.reverse.Goals as goal
 
 pub put_all-requires : goal.put_all-requires
 put_all-requires g c = record { none = ap (λ (draft : Draft). draft.rows) c.in_ok-builder.ensures }
@@ -16,9 +16,9 @@ returns-in_err-put_all-clause-cause g c =
     let rows = c.args.netgroup.now.rows in
     let field = c.args.field in
     let fault = c.in_err-put_all.field-0.0 in
-    err_same c.from_residual-in_err-put_all.result fault (IsCause rows field (empty_draft c.args.order c.args.master.now))
+    err_same c.from_residual-in_err-put_all.result fault (IsReverseCause rows field (empty_draft c.args.order c.args.master.now))
     c.from_residual-in_err-put_all.ensures.1
-    (subst (λ (start : Draft). IsCause rows field start fault) c.in_ok-builder.ensures c.in_err-put_all.ensures.cause)
+    (subst (λ (start : Draft). IsReverseCause rows field start fault) c.in_ok-builder.ensures c.in_err-put_all.ensures.cause)
 
 pub returns-clause-reverse : goal.returns-clause-reverse
 returns-clause-reverse g c =

@@ -7,12 +7,12 @@ use Rattle.std.proofs.lemmas.List.Filters.{dedup_is}
 use Rattle.std.proofs.lemmas.List.Kept.{IsStrictlySortedBy-dedup, Any-dedup, Contains-from_dedup}
 use Rattle.std.proofs.lemmas.List.Sorted.{Contains-permutation, IsPermutation-sym}
 use Rattle.yp_version.specs.Rows.{key_cmp}
-use Rattle.yp_revnet.specs.Links.{bytes_in}
-use Rattle.yp_revnet.proofs.Dots.{same}
-use Rattle.yp_revnet.proofs.Meeting.{bytes}
-use Rattle.yp_revnet.proofs.Pieces.{Contains-map, Mapped, mapped}
-use Rattle.yp_revnet.proofs.Linking.{alike}
-use Rattle.yp_revnet.proofs.rising.rising.Goals as goal
+use Rattle.yp_netgroup.specs.inside.reverse.Links.{bytes_in}
+use Rattle.yp_netgroup.proofs.reverse.Dots.{same}
+use Rattle.yp_netgroup.proofs.reverse.Meeting.{bytes}
+use Rattle.yp_netgroup.proofs.reverse.Pieces.{Contains-map, Mapped, mapped}
+use Rattle.yp_netgroup.proofs.reverse.Linking.{alike}
+use Rattle.yp_netgroup.proofs.reverse.rising.rising.Goals as goal
 
 all-bytes : (name : Bor (List ℕ)) (names : List (Bor (List ℕ))) → AllByRecursion (λ other. key_cmp name.now other.now ≡ Less) names
     → AllByRecursion (λ other. key_cmp name.now other ≡ Less) (bytes_in names)

@@ -1,7 +1,7 @@
 use Rattle.std.proofs.Common.{◌≡◌, ◌∙◌, length, ap, refl, subst, sym, inl, inr}
 use Rattle.yp_version.specs.Drafts.{Draft}
-use Rattle.yp_revnet.specs.Refused.{IsPut, With, row_fault}
-use Rattle.yp_revnet.proofs.rows.push_row.Goals as goal
+use Rattle.yp_netgroup.specs.inside.reverse.Refused.{IsPut, With, row_fault}
+use Rattle.yp_netgroup.proofs.reverse.rows.push_row.Goals as goal
 
 pub returns-in-Ok-clause-ok : goal.returns-in-Ok-clause-ok
 returns-in-Ok-clause-ok c = λ rows field is.

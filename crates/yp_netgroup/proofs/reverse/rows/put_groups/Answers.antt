@@ -5,15 +5,15 @@ use Rattle.std.specs.List.{join_with_byte}
 use Rattle.std.proofs.lemmas.List.{length-map}
 use Rattle.yp_version.specs.Rows.{Row}
 use Rattle.yp_version.specs.Drafts.{Draft}
-use Rattle.yp_revnet.specs.declared.fault.RevFault.{RevFault}
-use Rattle.yp_revnet.specs.declared.fault.RevFault.TheVariants.{NoMemory}
-use Rattle.yp_revnet.specs.declared.field.Field.{Field}
-use Rattle.yp_revnet.specs.Links.{bytes_in}
-use Rattle.yp_revnet.specs.Reverse.{IsReversed}
-use Rattle.yp_revnet.specs.Groups.{IsGroups}
-use Rattle.yp_revnet.specs.Refused.{IsPut, Without, IsRefusal}
-use Rattle.yp_revnet.proofs.Meeting.{bytes, contains-none}
-use Rattle.yp_revnet.proofs.rows.put_groups.Goals as goal
+use Rattle.yp_netgroup.specs.declared.reverse.fault.RevFault.{RevFault}
+use Rattle.yp_netgroup.specs.declared.reverse.fault.RevFault.TheVariants.{NoMemory}
+use Rattle.yp_netgroup.specs.declared.reverse.field.Field.{Field}
+use Rattle.yp_netgroup.specs.inside.reverse.Links.{bytes_in}
+use Rattle.yp_netgroup.specs.reverse.Reverse.{IsReversed}
+use Rattle.yp_netgroup.specs.inside.reverse.Groups.{IsGroups}
+use Rattle.yp_netgroup.specs.inside.reverse.Refused.{IsPut, Without, IsReverseRefusal}
+use Rattle.yp_netgroup.proofs.reverse.Meeting.{bytes, contains-none}
+use Rattle.yp_netgroup.proofs.reverse.rows.put_groups.Goals as goal
 
 empty_is : {X : Type 0} (xs : List X) → length xs ≡ 0 → xs ≡ []
 empty_is [] e = refl
@@ -48,9 +48,9 @@ pushed (Err fault) key value names before after some is h = tt
 refused_by : {T : Type 0} (result : Result T RevFault) (key value : List ℕ) (names : List (Bor (List ℕ))) (before : Draft) → 0 < length names
     → value ≡ join_with_byte 44 (bytes_in names)
     → IfErr result (λ fault. (rows : List Row) (field : Field) → IsReversed rows field (key, value)
-    → (fault ≡ NoMemory) ⊎ IsRefusal rows field key before fault)
+    → (fault ≡ NoMemory) ⊎ IsReverseRefusal rows field key before fault)
     → IfErr result (λ fault. (rows : List Row) (field : Field) → IsGroups rows field key (bytes_in names)
-    → (fault ≡ NoMemory) ⊎ IsRefusal rows field key before fault)
+    → (fault ≡ NoMemory) ⊎ IsReverseRefusal rows field key before fault)
 refused_by (Ok x) key value names before some is h = tt
 refused_by (Err fault) key value names before some is h = λ rows field are. h rows field (row_is rows field key value names are some is)
 

@@ -3,13 +3,13 @@ use Rattle.std.specs.Prelude.{OnOk, IfErr}
 use Rattle.std.specs.Borrow.{Bor}
 use Rattle.yp_version.specs.Rows.{Row}
 use Rattle.yp_version.specs.Drafts.{Draft}
-use Rattle.yp_revnet.specs.declared.field.Field.{Field}
-use Rattle.yp_revnet.specs.declared.fault.RevFault.{RevFault}
-use Rattle.yp_revnet.specs.declared.fault.RevFault.TheVariants.{NoMemory}
-use Rattle.yp_revnet.specs.Links.{LinkTable, bytes_in}
-use Rattle.yp_revnet.specs.Groups.{IsGroups, IsKeptOf}
-use Rattle.yp_revnet.specs.Refused.{IsPut, IsRefusal}
-use Rattle.yp_revnet.proofs.rows.put_row.Goals as goal
+use Rattle.yp_netgroup.specs.declared.reverse.field.Field.{Field}
+use Rattle.yp_netgroup.specs.declared.reverse.fault.RevFault.{RevFault}
+use Rattle.yp_netgroup.specs.declared.reverse.fault.RevFault.TheVariants.{NoMemory}
+use Rattle.yp_netgroup.specs.inside.reverse.Links.{LinkTable, bytes_in}
+use Rattle.yp_netgroup.specs.inside.reverse.Groups.{IsGroups, IsKeptOf}
+use Rattle.yp_netgroup.specs.inside.reverse.Refused.{IsPut, IsReverseRefusal}
+use Rattle.yp_netgroup.proofs.reverse.rows.put_row.Goals as goal
 
 -- what is so of the groups of a key is so of what is kept of the map, for names that were read as they are
 module _ (named by_key : LinkTable) (key : List ℕ) (names read : List (Bor (List ℕ))) (same : read ≡ names)
@@ -25,9 +25,9 @@ module _ (named by_key : LinkTable) (key : List ℕ) (names read : List (Bor (Li
 
   refused_by : {T : Type 0} (result : Result T RevFault) (before : Draft)
       → IfErr result (λ fault. (rows : List Row) (field : Field) → IsGroups rows field key (bytes_in read)
-      → (fault ≡ NoMemory) ⊎ IsRefusal rows field key before fault)
+      → (fault ≡ NoMemory) ⊎ IsReverseRefusal rows field key before fault)
       → IfErr result (λ fault. (rows : List Row) (field : Field) → IsKeptOf rows field named by_key
-      → (fault ≡ NoMemory) ⊎ IsRefusal rows field key before fault)
+      → (fault ≡ NoMemory) ⊎ IsReverseRefusal rows field key before fault)
   refused_by (Ok x) before h = tt
   refused_by (Err fault) before h = λ rows field kept. h rows field (of_read rows field kept)
 

@@ -1,11 +1,11 @@
 use Rattle.std.proofs.Common.{◌<◌, ◌≤◌, [], List, ℕ, length, get_or, take, refl, sym, subst, arith, inl, inr}
 use Rattle.std.proofs.lemmas.List.{length-map}
-use Rattle.yp_revnet.specs.Links.{bytes_in}
-use Rattle.yp_revnet.specs.Refused.{IsCause, IsPut, IsRefusal, IsSoFar}
-use Rattle.yp_revnet.proofs.Meeting.{bytes, name-at}
-use Rattle.yp_revnet.proofs.Drafting.{so_far-put, so_far-refused, keys_below, keys_cases, keys_more, take_whole}
-use Rattle.yp_revnet.proofs.Handing.{err_same}
-use Rattle.yp_revnet.proofs.rows.put_rows.Goals as goal
+use Rattle.yp_netgroup.specs.inside.reverse.Links.{bytes_in}
+use Rattle.yp_netgroup.specs.inside.reverse.Refused.{IsReverseCause, IsPut, IsReverseRefusal, IsSoFar}
+use Rattle.yp_netgroup.proofs.reverse.Meeting.{bytes, name-at}
+use Rattle.yp_netgroup.proofs.reverse.Drafting.{so_far-put, so_far-refused, keys_below, keys_cases, keys_more, take_whole}
+use Rattle.yp_netgroup.proofs.reverse.Handing.{err_same}
+use Rattle.yp_netgroup.proofs.reverse.rows.put_rows.Goals as goal
 
 pub loop-key-init : goal.loop-key-init
 loop-key-init g c = λ rows field start kept begun. begun
@@ -32,11 +32,11 @@ returns-in_err-put_row-clause-err g c =
     let fault = c.in_err-put_row.field-0.0 in
     let within : i < length keys = omega (arith, c.loop-key-test.true, length-map lent bytes) in
     elim (c.in_err-put_row.ensures.err rows field kept) [
-      | inl e ↦ subst (IsCause rows field start) (sym e) tt
+      | inl e ↦ subst (IsReverseCause rows field start) (sym e) tt
       | inr refusal ↦
           so_far-refused rows field start c.loop-key.builder (take i keys) (get_or keys i [])
           (c.loop-key.invariant rows field start kept begun) (keys_below keys i within c.requires.rising) fault
-          (subst (λ (key : List ℕ). IsRefusal rows field key c.loop-key.builder fault) (name-at lent lent i _ refl c.loop-key-test.true) refusal)
+          (subst (λ (key : List ℕ). IsReverseRefusal rows field key c.loop-key.builder fault) (name-at lent lent i _ refl c.loop-key-test.true) refusal)
           (λ other group listed. keys_cases keys i within c.requires.rising other (all other group listed))
     ])
 

@@ -1,11 +1,11 @@
 use Rattle.std.proofs.Common.{[], List, take}
 use Rattle.yp_version.specs.Rows.{Row}
 use Rattle.yp_version.specs.Drafts.{Draft}
-use Rattle.yp_revnet.specs.declared.field.Field.{Field}
-use Rattle.yp_revnet.specs.Links.{bytes_in}
-use Rattle.yp_revnet.specs.Groups.{IsKeptOf}
-use Rattle.yp_revnet.specs.Refused.{IsSoFar}
-use Rattle.yp_revnet.proofs.rows.put_rows.Given as goal
+use Rattle.yp_netgroup.specs.declared.reverse.field.Field.{Field}
+use Rattle.yp_netgroup.specs.inside.reverse.Links.{bytes_in}
+use Rattle.yp_netgroup.specs.inside.reverse.Groups.{IsKeptOf}
+use Rattle.yp_netgroup.specs.inside.reverse.Refused.{IsSoFar}
+use Rattle.yp_netgroup.proofs.reverse.rows.put_rows.Given as goal
 
 abbrev pub invariant-loop-key : goal.invariant-loop-key
 invariant-loop-key g l =

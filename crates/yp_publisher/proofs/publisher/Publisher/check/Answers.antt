@@ -1,10 +1,10 @@
 use Rattle.std.proofs.Common.{◌≡◌, ap, rules}
-use Rattle.yp_publish.specs.Installs.{LeavesEither}
-use Rattle.yp_publish.specs.Keeping.{keeping_of}
-use Rattle.yp_publish.specs.Standing.{Published}
-use Rattle.yp_publish.proofs.Changing.{upheld_same}
-use Rattle.yp_publish.proofs.Maps.{read_map, at_same}
-use Rattle.yp_publish.proofs.publisher.Publisher.check.Goals as goal
+use Rattle.yp_publisher.specs.Installs.{LeavesEither}
+use Rattle.yp_publisher.specs.Keeping.{keeping_of}
+use Rattle.yp_publisher.specs.Standing.{Published}
+use Rattle.yp_publisher.proofs.Changing.{upheld_same}
+use Rattle.yp_publisher.proofs.Maps.{read_map, at_same}
+use Rattle.yp_publisher.proofs.publisher.Publisher.check.Goals as goal
 
 pub returns-clause-any_moment : goal.returns-clause-any_moment
 returns-clause-any_moment g c =

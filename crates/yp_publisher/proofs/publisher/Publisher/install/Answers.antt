@@ -1,13 +1,13 @@
 use Rattle.std.proofs.Common.{inr, Err, ap, subst, rules}
 use Rattle.std.proofs.lemmas.Result.{err_from_is_err_and}
 use Rattle.yp_version.specs.Versions.{MapVersion}
-use Rattle.yp_publish.specs.Installs.{offer, IsInstalled, IsUnsure, IsUnshown, LeavesEither, Refuses}
-use Rattle.yp_publish.specs.Keeping.{keeping_of}
-use Rattle.yp_publish.specs.Rising.{Stores, moment_of}
-use Rattle.yp_publish.specs.Standing.{At}
-use Rattle.yp_publish.proofs.Changing.{leaves_late, no_cause_late}
-use Rattle.yp_publish.proofs.Refusals.{newer_shown}
-use Rattle.yp_publish.proofs.publisher.Publisher.install.Goals as goal
+use Rattle.yp_publisher.specs.Installs.{offer, IsInstalled, IsUnsure, IsUnshown, LeavesEither, Refuses}
+use Rattle.yp_publisher.specs.Keeping.{keeping_of}
+use Rattle.yp_publisher.specs.Rising.{Stores, publisher_state}
+use Rattle.yp_publisher.specs.Standing.{At}
+use Rattle.yp_publisher.proofs.Changing.{leaves_late, no_cause_late}
+use Rattle.yp_publisher.proofs.Refusals.{newer_shown}
+use Rattle.yp_publisher.proofs.publisher.Publisher.install.Goals as goal
 
 pub returns-in_err-generation-clause-refused : goal.returns-in_err-generation-clause-refused
 returns-in_err-generation-clause-refused g c =
@@ -32,7 +32,7 @@ returns-in_err-generation-clause-refused g c =
           same c.store.ensures.any_moment;
       rising = λ free. inr (
         newer_shown old.catalogue.own o old.maps n (K.log old.board) none c.in_ok-check.ensures.upheld.shows free,
-        subst (λ (v : MapVersion). Stores n v (moment_of K.log old) (moment_of K.log new)) same c.store.ensures.stores,
+        subst (λ (v : MapVersion). Stores n v (publisher_state K.log old) (publisher_state K.log new)) same c.store.ensures.stores,
       );
     } in
     rw (p.1, p.2) refused
@@ -56,6 +56,6 @@ returns-clause-installed g c =
           same c.store.ensures.any_moment;
       rising = λ free. inr (
         newer_shown old.catalogue.own o old.maps n (K.log old.board) none c.in_ok-check.ensures.upheld.shows free,
-        subst (λ (v : MapVersion). Stores n v (moment_of K.log old) (moment_of K.log new)) same c.store.ensures.stores,
+        subst (λ (v : MapVersion). Stores n v (publisher_state K.log old) (publisher_state K.log new)) same c.store.ensures.stores,
       );
     }

@@ -1,12 +1,12 @@
 use Rattle.std.proofs.Common.{◌≡◌, ◌⊎◌, inl, inr, ◌<◌, List, length, slice_set, OnOk, IfErr, ap, subst, sym, refl}
 use Rattle.yp_version.specs.Versions.{MapVersion}
-use Rattle.yp_publish.specs.Keeping.{keeping_of}
-use Rattle.yp_publish.specs.Opens.{IsAnother, Opens, StaysBehind}
-use Rattle.yp_publish.specs.Standing.{Kept, Published, At}
-use Rattle.yp_publish.proofs.Changing.{all_ok, all_err, new, at, upheld, few_more, opened, stayed, Told, reshown}
-use Rattle.yp_publish.proofs.Changing.{shown_of, still_version, not_level}
-use Rattle.yp_publish.proofs.Maps.{on_ok, on_err, read_map, Reshown, shows_reopened, publisher_set}
-use Rattle.yp_publish.proofs.publisher.Publisher.reopen.Goals as goal
+use Rattle.yp_publisher.specs.Keeping.{keeping_of}
+use Rattle.yp_publisher.specs.Opens.{IsAnother, Opens, StaysBehind}
+use Rattle.yp_publisher.specs.Standing.{StoredMap, Published, At}
+use Rattle.yp_publisher.proofs.Changing.{all_ok, all_err, new, at, upheld, few_more, opened, stayed, Told, reshown}
+use Rattle.yp_publisher.proofs.Changing.{shown_of, still_version, not_level}
+use Rattle.yp_publisher.proofs.Maps.{on_ok, on_err, read_map, Reshown, shows_reopened, publisher_set}
+use Rattle.yp_publisher.proofs.publisher.Publisher.reopen.Goals as goal
 
 pub returns-clause-opened : goal.returns-clause-opened
 returns-clause-opened g c =
@@ -20,7 +20,7 @@ returns-clause-opened g c =
     let r = c.reopen.result in
     let K = keeping_of g.D.Disk.history g.D.Disk.faults g.B.Show.log in
     let same : maps ≡ now = ap (λ (p : Published g.row.D.Denot g.row.B.Denot). p.maps) c.self.view_is in
-    let within : n < length maps = subst (λ (l : List (Kept g.row.D.Denot)). n < length l) (sym same) c.requires in
+    let within : n < length maps = subst (λ (l : List (StoredMap g.row.D.Denot)). n < length l) (sym same) c.requires in
     let there = read_map maps maps n x refl within c.index_mut-stored.ensures.value in
     let told : Told g.D.Disk.history g.B.Show.log g.B.Show.showed n x y board after
     → Reshown n (K.log board) (K.log after) x y =
@@ -56,7 +56,7 @@ returns-clause-refused g c =
     let r = c.reopen.result in
     let K = keeping_of g.D.Disk.history g.D.Disk.faults g.B.Show.log in
     let same : maps ≡ now = ap (λ (p : Published g.row.D.Denot g.row.B.Denot). p.maps) c.self.view_is in
-    let within : n < length maps = subst (λ (l : List (Kept g.row.D.Denot)). n < length l) (sym same) c.requires in
+    let within : n < length maps = subst (λ (l : List (StoredMap g.row.D.Denot)). n < length l) (sym same) c.requires in
     let there = read_map maps maps n x refl within c.index_mut-stored.ensures.value in
     let told : Told g.D.Disk.history g.B.Show.log g.B.Show.showed n x y board after
     → Reshown n (K.log board) (K.log after) x y =
@@ -91,10 +91,10 @@ returns-clause-showed g c =
     let r = c.reopen.result in
     let K = keeping_of g.D.Disk.history g.D.Disk.faults g.B.Show.log in
     let same : maps ≡ now = ap (λ (p : Published g.row.D.Denot g.row.B.Denot). p.maps) c.self.view_is in
-    let within : n < length maps = subst (λ (l : List (Kept g.row.D.Denot)). n < length l) (sym same) c.requires in
+    let within : n < length maps = subst (λ (l : List (StoredMap g.row.D.Denot)). n < length l) (sym same) c.requires in
     let there = read_map maps maps n x refl within c.index_mut-stored.ensures.value in
     let S = g.B.Show.showed in
-    let P : Published g.row.D.Denot g.row.B.Denot → Kept g.row.D.Denot → Kept g.row.D.Denot
+    let P : Published g.row.D.Denot g.row.B.Denot → StoredMap g.row.D.Denot → StoredMap g.row.D.Denot
     → Type 0 = λ p before later. (after ≡ p.board)
     ⊎ ((version : MapVersion) × IsAnother version before later × S n version p.board after) in
     let inside : Published g.row.D.Denot g.row.B.Denot = record {
@@ -121,7 +121,7 @@ invariant_of-self g c =
     let r = c.reopen.result in
     let K = keeping_of g.D.Disk.history g.D.Disk.faults g.B.Show.log in
     let same : maps ≡ now = ap (λ (p : Published g.row.D.Denot g.row.B.Denot). p.maps) c.self.view_is in
-    let within : n < length maps = subst (λ (l : List (Kept g.row.D.Denot)). n < length l) (sym same) c.requires in
+    let within : n < length maps = subst (λ (l : List (StoredMap g.row.D.Denot)). n < length l) (sym same) c.requires in
     let there = read_map maps maps n x refl within c.index_mut-stored.ensures.value in
     let told : Told g.D.Disk.history g.B.Show.log g.B.Show.showed n x y board after
     → Reshown n (K.log board) (K.log after) x y =

@@ -1,14 +1,14 @@
 use Rattle.std.proofs.Common.{◌≡◌, ◌<◌, ◌+◌, List, length, map, slice_set, ap, subst, sym, refl}
 use Rattle.std.specs.Arc.{arc_value}
 use Rattle.yp_io.specs.Counts.{HasRisen}
-use Rattle.yp_publish.specs.Installs.{IsInstalled, IsUnsure, IsUnshown, LeavesEither}
-use Rattle.yp_publish.specs.Rising.{Moment, Stores, moment_of}
-use Rattle.yp_publish.specs.Standing.{Kept, Published, Level}
-use Rattle.yp_publish.proofs.Maps.{on_ok, if_ok, on_err, read_map, of_read, of_at, at_set, shows_after}
-use Rattle.yp_publish.proofs.Maps.{stores_after, publisher_set}
-use Rattle.yp_publish.specs.Keeping.{Upholds, keeping_of}
-use Rattle.yp_publish.proofs.Changing.{upheld, new}
-use Rattle.yp_publish.proofs.publisher.Publisher.store.Goals as goal
+use Rattle.yp_publisher.specs.Installs.{IsInstalled, IsUnsure, IsUnshown, LeavesEither}
+use Rattle.yp_publisher.specs.Rising.{PublisherState, Stores, publisher_state}
+use Rattle.yp_publisher.specs.Standing.{StoredMap, Published, Level}
+use Rattle.yp_publisher.proofs.Maps.{on_ok, if_ok, on_err, read_map, of_read, of_at, at_set, shows_after}
+use Rattle.yp_publisher.proofs.Maps.{stores_after, publisher_set}
+use Rattle.yp_publisher.specs.Keeping.{Upholds, keeping_of}
+use Rattle.yp_publisher.proofs.Changing.{upheld, new}
+use Rattle.yp_publisher.proofs.publisher.Publisher.store.Goals as goal
 
 pub returns-clause-cause : goal.returns-clause-cause
 returns-clause-cause g c =
@@ -94,7 +94,7 @@ returns-clause-stores g c =
     let w = arc_value c.args.spelled.stored in
     let same : maps ≡ now = ap (λ (p : Published g.row.D.Denot g.row.B.Denot). p.maps) c.self.view_is in
     let there = read_map now maps n x same c.requires.map c.index_mut-stored.ensures.value in
-    let within : n < length maps = subst (λ (l : List (Kept g.row.D.Denot)). n < length l) (sym same) c.requires.map in
+    let within : n < length maps = subst (λ (l : List (StoredMap g.row.D.Denot)). n < length l) (sym same) c.requires.map in
     let here = read_map maps maps n x refl within c.index_mut-stored.ensures.value in
     let L = g.B.Show.log in
     let log = L c.self.inside.board in
@@ -103,11 +103,11 @@ returns-clause-stores g c =
     let level = of_at (λ kept. kept.standing ≡ Level) now n x there c.requires.level in
     let step = stores_after c.install.result log after maps n x y w here level c.install.ensures.log kept
     c.install.ensures.level c.install.ensures.behind in
-    let new : Moment = record {
+    let new : PublisherState = record {
       log = after;
-      standings = map (λ (kept' : Kept g.row.D.Denot). kept'.standing) (slice_set maps n y);
+      standings = map (λ (kept' : StoredMap g.row.D.Denot). kept'.standing) (slice_set maps n y);
     } in
-    subst (λ (p : Published g.row.D.Denot g.row.B.Denot). Stores n w (moment_of L p) new) c.self.view_is step
+    subst (λ (p : Published g.row.D.Denot g.row.B.Denot). Stores n w (publisher_state L p) new) c.self.view_is step
 
 pub invariant_of-self : goal.invariant_of-self
 invariant_of-self g c =
@@ -119,7 +119,7 @@ invariant_of-self g c =
     let w = arc_value c.args.spelled.stored in
     let same : maps ≡ now = ap (λ (p : Published g.row.D.Denot g.row.B.Denot). p.maps) c.self.view_is in
     let there = read_map now maps n x same c.requires.map c.index_mut-stored.ensures.value in
-    let within : n < length maps = subst (λ (l : List (Kept g.row.D.Denot)). n < length l) (sym same) c.requires.map in
+    let within : n < length maps = subst (λ (l : List (StoredMap g.row.D.Denot)). n < length l) (sym same) c.requires.map in
     let here = read_map maps maps n x refl within c.index_mut-stored.ensures.value in
     let L = g.B.Show.log in
     let log = L c.self.inside.board in
@@ -139,7 +139,7 @@ returns-clause-upheld g c =
     let w = arc_value c.args.spelled.stored in
     let same : maps ≡ now = ap (λ (p : Published g.row.D.Denot g.row.B.Denot). p.maps) c.self.view_is in
     let there = read_map now maps n x same c.requires.map c.index_mut-stored.ensures.value in
-    let within : n < length maps = subst (λ (l : List (Kept g.row.D.Denot)). n < length l) (sym same) c.requires.map in
+    let within : n < length maps = subst (λ (l : List (StoredMap g.row.D.Denot)). n < length l) (sym same) c.requires.map in
     let here = read_map maps maps n x refl within c.index_mut-stored.ensures.value in
     let L = g.B.Show.log in
     let log = L c.self.inside.board in

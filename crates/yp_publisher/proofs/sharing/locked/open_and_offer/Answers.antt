@@ -1,6 +1,6 @@
-use Rattle.yp_publish.specs.Keeping.{keeping_of}
-use Rattle.yp_shared.proofs.Installing.{on_ok, if_err, installed, refused, shown_both, grown}
-use Rattle.yp_shared.proofs.locked.open_and_offer.Goals as goal
+use Rattle.yp_publisher.specs.Keeping.{keeping_of}
+use Rattle.yp_publisher.proofs.sharing.Installing.{on_ok, if_err, installed, refused, shown_both, grown}
+use Rattle.yp_publisher.proofs.sharing.locked.open_and_offer.Goals as goal
 
 pub returns-in-Ok-clause-installed : goal.returns-in-Ok-clause-installed
 returns-in-Ok-clause-installed g c =

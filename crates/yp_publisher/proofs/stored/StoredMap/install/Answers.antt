@@ -1,9 +1,9 @@
 use Rattle.std.proofs.Common.{◌≡◌, option_map}
 use Rattle.std.specs.Arc.{arc_value}
-use Rattle.yp_publish.specs.Shared.{standing_of}
-use Rattle.yp_publish.specs.Standing.{Level, Behind}
-use Rattle.yp_publish.proofs.Moments.{level_either, install_moments, at_end}
-use Rattle.yp_publish.proofs.stored.StoredMap.install.Goals as goal
+use Rattle.yp_publisher.specs.inside.Shared.{standing_of}
+use Rattle.yp_publisher.specs.Standing.{Level, Behind}
+use Rattle.yp_publisher.proofs.Moments.{level_either, install_moments, at_end}
+use Rattle.yp_publisher.proofs.stored.StoredMap.install.Goals as goal
 
 pub returns-in_default-clause-any_moment : goal.returns-in_default-clause-any_moment
 returns-in_default-clause-any_moment g c =

@@ -1,7 +1,7 @@
-use Rattle.yp_io.specs.MemDisk.{Platter}
-use Rattle.yp_publish.specs.Rising.{moment_of}
-use Rattle.yp_readers.specs.Boards.{Written}
-use Rattle.yp_shared.specs.Failures.{disks_of, faults_over}
+use Rattle.yp_io.specs.inside.MemDisk.{Platter}
+use Rattle.yp_publisher.specs.Rising.{publisher_state}
+use Rattle.yp_board.specs.inside.readers.Boards.{Written}
+use Rattle.yp_publisher.specs.sharing.Failures.{disks_of, faults_over}
 use Rattle.yp_publisher_tests.proofs.shared.installs.played.Given as goal
 
 -- the maps of this publisher, how they stand, and its disks; whatever is offered as built is
@@ -11,7 +11,7 @@ ghosts-play_all-S-Site g a = record { catalogue = a.maps.catalogue }
 abbrev pub ghosts-play_all-S-Accounts : goal.ghosts-play_all-S-Accounts
 ghosts-play_all-S-Accounts g a = record {
   built = λ number last version. Unit {0};
-  first = moment_of (λ (w : Written). w.log) a.maps;
+  first = publisher_state (λ (w : Written). w.log) a.maps;
   disk_faults = faults_over (λ (p : Platter). p.faults) (disks_of a.maps.maps);
   failures = a.failures.name;
   made = a.made.name;

@@ -19,7 +19,7 @@ returns-then-self-len-clause-sending c =
     sends_none _ _ _ _ _ _ _ c.self.invariant why ∙ ap next_sending c.self.view_is
 
 pub invariant_of-self : goal.invariant_of-self
-invariant_of-self c = rw c.add.ensures (sends _ _ _ _ _ _ c.self.invariant (omega arith))
+invariant_of-self c = rw c.push.ensures (sends _ _ _ _ _ _ c.self.invariant (omega arith))
 
 pub returns-clause-sending : goal.returns-clause-sending
 returns-clause-sending c =
@@ -28,4 +28,4 @@ returns-clause-sending c =
 pub returns-clause-unanswered : goal.returns-clause-unanswered
 returns-clause-unanswered c =
     let same = length-set c.self.inside.outcomes.items c.self.inside.sent Unanswered in
-    rw c.add.ensures (record { within = omega (arith, same); unanswered = sends_to _ _ _ _ _ _ c.self.invariant })
+    rw c.push.ensures (record { within = omega (arith, same); unanswered = sends_to _ _ _ _ _ _ c.self.invariant })

@@ -1,10 +1,10 @@
 use Rattle.std.proofs.Common.{◌≡◌, ◌<◌, refl, sym, subst, true}
 use Rattle.yp_push.specs.declared.outcome.Outcome.TheVariants.{Answered}
 use Rattle.yp_push.specs.declared.event.Event.TheVariants.{Called}
-use Rattle.yp_push.specs.Results.{awaits_call}
+use Rattle.yp_push.specs.inside.Results.{awaits_call}
 use Rattle.yp_push.specs.Ledgers.{Ledger, outcome_at}
-use Rattle.yp_push.specs.Settling.{Settles, ChangesNone}
-use Rattle.yp_push.specs.Kept.{ledger_of}
+use Rattle.yp_push.specs.inside.Settling.{SettlesSlave, ChangesNone}
+use Rattle.yp_push.specs.inside.Kept.{ledger_of}
 use Rattle.yp_push.proofs.Settling.{slave_of, heard, unheard}
 use Rattle.yp_push.proofs.ledger.Push.on_callback.Goals as goal
 
@@ -15,7 +15,7 @@ settle-requires c =
     let slave = slave_of c.self.inside.first transid in
     let W : Ledger → Type 0 =
     λ ledger. (slave < ledger.slaves) × (awaits_call (outcome_at ledger slave) ≡ true) in
-    let S : Ledger → Type 0 = λ ledger. Settles ledger slave (Answered c.args.stat) (Called transid c.args.stat) in
+    let S : Ledger → Type 0 = λ ledger. SettlesSlave ledger slave (Answered c.args.stat) (Called transid c.args.stat) in
     let awaits = subst W (sym c.self.view_is) (c.if-is_awaited.ensures.0 refl) in
     subst S c.self.view_is
     (heard (ledger_of c.self.inside) transid c.args.stat kept.few kept.in_range c.ranges.transid.fits awaits)

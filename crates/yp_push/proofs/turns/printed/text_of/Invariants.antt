@@ -1,7 +1,7 @@
 use Rattle.std.proofs.Common.{◌≡◌, ◌++◌, drop, map}
-use Rattle.yp_pushing.specs.Kept.{slave_view}
-use Rattle.yp_pushing.specs.Printed.{lines_from, push_text}
-use Rattle.yp_pushing.proofs.printed.text_of.Given as goal
+use Rattle.yp_push.specs.inside.turns.Kept.{slave_view}
+use Rattle.yp_push.specs.turns.Printed.{lines_from, push_text}
+use Rattle.yp_push.proofs.turns.printed.text_of.Given as goal
 
 abbrev pub invariant-loop-i : goal.invariant-loop-i
 invariant-loop-i g l =

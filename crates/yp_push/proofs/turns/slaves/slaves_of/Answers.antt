@@ -1,8 +1,8 @@
 use Rattle.std.proofs.Common.{◌++◌, List, map, sym, ap, ◌∙◌}
-use Rattle.yp_pushing.specs.Kept.{slave_view}
-use Rattle.yp_pushing.specs.Pushers.{Slave}
-use Rattle.yp_pushing.proofs.Listing.{passes_own, one_more}
-use Rattle.yp_pushing.proofs.slaves.slaves_of.Goals as goal
+use Rattle.yp_push.specs.inside.turns.Kept.{slave_view}
+use Rattle.yp_push.specs.turns.Pushers.{Slave}
+use Rattle.yp_push.proofs.turns.Listing.{passes_own, one_more}
+use Rattle.yp_push.proofs.turns.slaves.slaves_of.Goals as goal
 
 pub loop-i-preserved-then-eq : goal.loop-i-preserved-then-eq
 loop-i-preserved-then-eq c =

@@ -1,7 +1,7 @@
 use Rattle.std.proofs.Common.{◌≡◌, ◌++◌, drop, map}
-use Rattle.yp_pushing.specs.Kept.{slave_view}
-use Rattle.yp_pushing.specs.Slaves.{slaves_of}
-use Rattle.yp_pushing.proofs.slaves.slaves_of.Given as goal
+use Rattle.yp_push.specs.inside.turns.Kept.{slave_view}
+use Rattle.yp_push.specs.turns.Slaves.{slaves_of}
+use Rattle.yp_push.proofs.turns.slaves.slaves_of.Given as goal
 
 abbrev pub invariant-loop-i : goal.invariant-loop-i
 invariant-loop-i l =

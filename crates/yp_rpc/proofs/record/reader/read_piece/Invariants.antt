@@ -1,7 +1,7 @@
 -- How far `read_piece` has come.
 use Rattle.std.proofs.Common.{ℕ, ◌+◌, ◌-◌, ◌≤◌, List, Option}
 use Rattle.yp_rpc.specs.Records.{empty_max}
-use Rattle.yp_rpc.specs.Pieces.{HasGiven}
+use Rattle.yp_rpc.specs.inside.Pieces.{HasGiven}
 use Rattle.yp_rpc.specs.Parts.{part_of}
 use Rattle.yp_rpc.proofs.record.reader.read_piece.Given as goal
 

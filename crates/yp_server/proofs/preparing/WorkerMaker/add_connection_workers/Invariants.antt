@@ -1,14 +1,15 @@
 use Rattle.std.proofs.Common.{◌≡◌, ◌≤◌, ◌+◌, length, vec_capacity}
 use Rattle.std.specs.List.{All}
-use Rattle.yp_serve.specs.Serving.{at_work, IsAtStart}
-use Rattle.yp_serve.specs.Posts.{IsSeated}
-use Rattle.yp_serve.proofs.seats.Workplace.seat_all.Given as goal
+use Rattle.yp_server.specs.Serving.{IsAtStart}
+use Rattle.yp_server.specs.inside.Serving.{before_work}
+use Rattle.yp_server.specs.inside.Workers.{AddsWorkers}
+use Rattle.yp_server.proofs.preparing.WorkerMaker.add_connection_workers.Given as goal
 
 abbrev pub invariant-loop-session : goal.invariant-loop-session
 invariant-loop-session g l = record {
-  posts : IsSeated at_work l.initial.posts.items l.posts.items;
-  count : length l.posts.items + length l.sessions.items ≡ length l.initial.sessions.items + 1;
-  room : length l.posts.items + length l.sessions.items ≤ vec_capacity l.posts;
+  all_workers : AddsWorkers before_work l.initial.all_workers.items l.all_workers.items;
+  count : length l.all_workers.items + length l.sessions.items ≡ length l.initial.sessions.items + 1;
+  room : length l.all_workers.items + length l.sessions.items ≤ vec_capacity l.all_workers;
   readers : length l.readers.items ≡ length l.sessions.items;
   knows : All (λ reader. IsAtStart g.J.Site.catalogue g.J.Reception.starts (g.B.Reader.View.seen reader)) l.readers.items;
   out : (l.out.parts ≡ length l.sessions.items + 1) × (l.out.amount ≡ 0);

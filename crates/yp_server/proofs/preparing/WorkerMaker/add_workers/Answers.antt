@@ -1,21 +1,22 @@
 use Rattle.std.proofs.Common.{false, [], ◌∷◌, ◌++◌, ap, ◌∙◌, subst}
-use Rattle.yp_serve.specs.declared.crew.Post.TheVariants.{Datagrams}
-use Rattle.yp_serve.specs.Posts.{IsManned}
-use Rattle.yp_serve.specs.Serving.{at_rest, at_work}
-use Rattle.yp_serve.proofs.Posted.{manned}
-use Rattle.yp_serve.proofs.seats.Workplace.post_all.Goals as goal
+use Rattle.yp_server.specs.declared.workers.ServerWorker.TheVariants.{Datagrams}
+use Rattle.yp_server.specs.inside.Workers.{AreWorkers}
+use Rattle.yp_server.specs.Serving.{at_rest}
+use Rattle.yp_server.specs.inside.Serving.{before_work}
+use Rattle.yp_server.proofs.Posted.{manned}
+use Rattle.yp_server.proofs.preparing.WorkerMaker.add_workers.Goals as goal
 
 pub returns-clause-manned : goal.returns-clause-manned
 returns-clause-manned g c =
-    let mailman = c.new-mailman.result in
-    let posts = c.seat_all.new.posts.items in
-    let is = c.new-mailman.ensures ∙ ap (λ host. record {
-      inbox = c.args.bag.inbox;
+    let datagram_worker = c.new-datagram_worker.result in
+    let all_workers = c.add_connection_workers.new.all_workers.items in
+    let is = c.new-datagram_worker.ensures ∙ ap (λ host. record {
+      inbox = c.args.datagram_resources.inbox;
       server = at_rest host;
-      room = c.args.bag.room;
-      turns = c.args.bag.turns;
+      room = c.args.datagram_resources.room;
+      turns = c.args.datagram_resources.turns;
       fault = false;
     }) c.new-host.ensures in
-    subst (λ m. IsManned m at_work posts) is
-    (manned mailman at_work c.push_reserved.new.self.items posts
-    (c.push_reserved.ensures.items ∙ ap (λ l. l ++ Datagrams mailman ∷ []) c.requires.none) c.seat_all.ensures.posts)
+    subst (λ m. AreWorkers m before_work all_workers) is
+    (manned datagram_worker before_work c.push_reserved.new.self.items all_workers
+    (c.push_reserved.ensures.items ∙ ap (λ l. l ++ Datagrams datagram_worker ∷ []) c.requires.none) c.add_connection_workers.ensures.all_workers)

@@ -1,19 +1,19 @@
 use Rattle.std.proofs.Common.{refl}
-use Rattle.yp_serve.specs.Posts.{mailman_of}
-use Rattle.yp_serve.specs.Serving.{fresh_worker}
-use Rattle.yp_serve.proofs.seats.Workplace.serve.Goals as goal
+use Rattle.yp_server.specs.inside.Workers.{datagram_worker_of}
+use Rattle.yp_server.specs.inside.Serving.{fresh_worker}
+use Rattle.yp_server.proofs.preparing.WorkerMaker.serve.Goals as goal
 
-pub serve_posts-requires-clause-manned : goal.serve_posts-requires-clause-manned
-serve_posts-requires-clause-manned g c κs within = (mailman_of c.args.bag, c.post_all.ensures.manned)
+pub run_workers-requires-clause-manned : goal.run_workers-requires-clause-manned
+run_workers-requires-clause-manned g c κs within = (datagram_worker_of c.args.datagram_resources, c.add_workers.ensures.manned)
 
 pub returns-clause-counted : goal.returns-clause-counted
-returns-clause-counted g c = c.serve_posts.ensures.counted (mailman_of c.args.bag) c.post_all.ensures.manned record {
-  host = fresh_worker c.args.bag.reader;
+returns-clause-counted g c = c.run_workers.ensures.counted (datagram_worker_of c.args.datagram_resources) c.add_workers.ensures.manned record {
+  host = fresh_worker c.args.datagram_resources.reader;
   server_is = refl;
-  start = c.requires.bag;
+  start = c.requires.datagram_resources;
   fresh = refl;
   from_none = refl;
 }
 
 pub returns-clause-cause : goal.returns-clause-cause
-returns-clause-cause g c = c.serve_posts.ensures.cause (mailman_of c.args.bag) c.post_all.ensures.manned
+returns-clause-cause g c = c.run_workers.ensures.cause (datagram_worker_of c.args.datagram_resources) c.add_workers.ensures.manned

@@ -1,4 +1,4 @@
-use Rattle.yp_server_tests.proofs.serve.threads.assert_counts.Given as goal
+use Rattle.yp_server_tests.proofs.serve.threads.try_case.Given as goal
 
 -- the book that was just opened
 abbrev pub ghosts-served : goal.ghosts-served

@@ -1,4 +1,4 @@
-use Rattle.yp_server_tests.proofs.worker.run.all_connections_of_a_listener.Given as goal
+use Rattle.yp_server_tests.proofs.worker.run.try_row.Given as goal
 
 -- the book that was just opened
 abbrev pub ghosts-one : goal.ghosts-one

@@ -1,8 +1,8 @@
 use Rattle.std.proofs.Common.{◌∙◌, sym, ap, refl, List, map, arith}
-use Rattle.yp_xfr.specs.declared.hosts.Host.{Host}
-use Rattle.yp_xfr.specs.HostTable.{host_view, find}
-use Rattle.yp_xfr.proofs.Finding.{is_found, is_not_found, found_at_start, found_at_end, same_test}
-use Rattle.yp_xfr.proofs.hosts.Hosts.find.Goals as goal
+use Rattle.yp_transfer.specs.declared.hosts.Host.{Host}
+use Rattle.yp_transfer.specs.HostTable.{host_view, find}
+use Rattle.yp_transfer.proofs.Finding.{is_found, is_not_found, found_at_start, found_at_end, same_test}
+use Rattle.yp_transfer.proofs.hosts.Hosts.find.Goals as goal
 
 pub loop-host-init : goal.loop-host-init
 loop-host-init c = refl

@@ -1,4 +1,4 @@
-use Rattle.yp_enum.proofs.behind.behind.Goals as goal
+use Rattle.yp_transfer.proofs.walk.state_after.state_after.Goals as goal
 
 pub returns-in-Again-clause-room : goal.returns-in-Again-clause-room
-returns-in-Again-clause-room g c = c.behind_again.ensures.room c.args.asked.now
+returns-in-Again-clause-room g c = c.after_again.ensures.room c.args.asked.now

@@ -1,7 +1,7 @@
 use Rattle.yp_version.specs.Versions.{MapVersion}
-use Rattle.yp_client.specs.States.{state_of}
-use Rattle.yp_xfr.specs.Fetching.{wanted_of}
-use Rattle.yp_xfr.specs.Fetched.{place_of}
+use Rattle.yp_client.specs.inside.States.{state_of}
+use Rattle.yp_transfer.specs.Fetching.{wanted_of}
+use Rattle.yp_transfer.specs.Fetched.{place_of}
 use Rattle.yp_transfer_tests.proofs.Composing.{where_ok, unless_failed}
 use Rattle.yp_transfer_tests.proofs.source.told.fetch_from_server.Goals as goal
 

@@ -1,9 +1,9 @@
 use Rattle.std.proofs.Common.{◌≡◌, length, ap, ◌∙◌, arith}
 use Rattle.std.specs.List.{flat_map}
 use Rattle.std.proofs.lemmas.List.{length-append}
-use Rattle.yp_version.specs.Bodies.{row_bytes}
+use Rattle.yp_version.specs.inside.Bodies.{row_bytes}
 use Rattle.yp_version.specs.Drafts.{draft_len}
-use Rattle.yp_version.specs.VersionBuilder.{draft_of}
+use Rattle.yp_version.specs.inside.VersionBuilder.{draft_of}
 use Rattle.yp_version.proofs.Lengths.{length_rows}
 use Rattle.yp_version.proofs.builder.VersionBuilder.body_len.Goals as goal
 

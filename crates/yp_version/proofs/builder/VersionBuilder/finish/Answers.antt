@@ -2,7 +2,7 @@ use Rattle.std.proofs.Common.{◌≡◌, List, false, length, ap, ◌∙◌, sym
 use Rattle.yp_version.specs.Bodies.{front_bytes}
 use Rattle.yp_version.specs.Drafts.{Draft}
 use Rattle.yp_version.specs.Rows.{Row, listed}
-use Rattle.yp_version.specs.VersionBuilder.{draft_of}
+use Rattle.yp_version.specs.inside.VersionBuilder.{draft_of}
 use Rattle.std.proofs.lemmas.List.Sorted.{length_permutation}
 use Rattle.yp_version.proofs.Lengths.{length_front}
 use Rattle.yp_version.proofs.Finished.{finished}

@@ -1,7 +1,7 @@
 use Rattle.std.proofs.Common.{◌≡◌, true, None, is_some, length, ap, ◌∙◌, sym, arith, rules}
 use Rattle.yp_version.specs.Drafts.{Draft}
 use Rattle.yp_version.specs.Rows.{value_of}
-use Rattle.yp_version.specs.Tables.{has_key}
+use Rattle.yp_version.specs.inside.Tables.{has_key}
 use Rattle.yp_version.proofs.Chains.{all_fail}
 use Rattle.yp_version.proofs.Search.{holds_by, found_some}
 use Rattle.yp_version.proofs.builder.VersionBuilder.holds.Goals as goal

@@ -1,7 +1,7 @@
 use Rattle.std.proofs.Common.{◌≡◌, ◌+◌, ◌≤◌, List, ℕ, length, ap, ◌∙◌, sym, subst, arith, rules}
 use Rattle.yp_version.specs.Limits.{master_max}
 use Rattle.yp_version.specs.Rows.{padded}
-use Rattle.yp_version.specs.Slabs.{Packed}
+use Rattle.yp_version.specs.inside.Slabs.{Packed}
 use Rattle.yp_version.proofs.Drafted.{new_kept, padded_within}
 use Rattle.yp_version.proofs.Lengths.{length_front}
 use Rattle.yp_version.proofs.builder.VersionBuilder.new.Goals as goal

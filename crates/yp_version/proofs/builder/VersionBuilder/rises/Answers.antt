@@ -1,6 +1,7 @@
 use Rattle.std.proofs.Common.{◌≡◌, ◌++◌, ◌∷◌, [], true, None, ◌∙◌, sym, subst}
 use Rattle.yp_version.specs.Drafts.{Draft}
-use Rattle.yp_version.specs.Rows.{IsRising, is_over_last, value_of}
+use Rattle.yp_version.specs.Rows.{IsRising, value_of}
+use Rattle.yp_version.specs.inside.Rows.{is_over_last}
 use Rattle.yp_version.proofs.Rising.{over_rises, over_is_new}
 use Rattle.yp_version.proofs.builder.VersionBuilder.rises.Goals as goal
 

@@ -1,9 +1,9 @@
 use Rattle.std.proofs.Common.{ℕ, List, subst, sym, MatchOption, length, map, rules}
 use Rattle.std.proofs.lemmas.Fn.{always_returns_same}
 use Rattle.std.specs.List.Sorted.{IsSearchInRange, IsBinarySearchResult}
-use Rattle.yp_version.specs.Places.{StandsAt, IsAbsent}
+use Rattle.yp_version.specs.inside.Places.{StandsAt, IsAbsent}
 use Rattle.yp_version.specs.Rows.{key_cmp, IsRising}
-use Rattle.yp_version.specs.Slabs.{Packed, key_from, row_from}
+use Rattle.yp_version.specs.inside.Slabs.{Packed, key_from, row_from}
 use Rattle.yp_version.proofs.Search.{searched}
 use Rattle.yp_version.proofs.slab.Slab.find.Goals as goal
 

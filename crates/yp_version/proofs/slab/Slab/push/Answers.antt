@@ -1,7 +1,7 @@
 use Rattle.std.proofs.Common.{◌≡◌, ◌+◌, ◌++◌, ◌≤◌, ◌∷◌, [], length, ap, ◌∙◌, sym, subst, arith, rules}
 use Rattle.yp_version.specs.Limits.{body_max}
 use Rattle.yp_version.specs.Rows.{row_len, rows_len}
-use Rattle.yp_version.specs.Slabs.{Packed}
+use Rattle.yp_version.specs.inside.Slabs.{Packed}
 use Rattle.yp_version.proofs.Packing.{bytes_len, pushed_kept, pushed_view}
 use Rattle.yp_version.proofs.slab.Slab.push.Goals as goal
 

@@ -1,7 +1,7 @@
 use Rattle.std.proofs.Common.{◌≡◌, ◌+◌, ◌++◌, ◌≤◌, ◌∷◌, [], length, ap, ◌∙◌, sym, subst, rules}
 use Rattle.yp_version.specs.Limits.{body_max}
 use Rattle.yp_version.specs.Rows.{row_len, rows_len}
-use Rattle.yp_version.specs.Slabs.{Packed, row_from}
+use Rattle.yp_version.specs.inside.Slabs.{Packed, row_from}
 use Rattle.yp_version.proofs.Packing.{pushed_kept, pushed_view}
 use Rattle.yp_version.proofs.slab.Slab.push_copy.Goals as goal
 

@@ -3,8 +3,8 @@ use Rattle.std.specs.Vec.{with_items}
 use Rattle.std.proofs.lemmas.List.{with_items_is}
 use Rattle.yp_xdr.specs.Kind.{U32}
 use Rattle.yp_xdr.specs.Spelling.{spelling}
-use Rattle.yp_xdr.specs.Writing.{written}
-use Rattle.yp_version.specs.Slabs.{Packed}
+use Rattle.yp_xdr.specs.inside.Writing.{written}
+use Rattle.yp_version.specs.inside.Slabs.{Packed}
 use Rattle.yp_version.proofs.Packing.{worded_kept, worded_view}
 use Rattle.yp_version.proofs.slab.Slab.set_first_word.Goals as goal
 

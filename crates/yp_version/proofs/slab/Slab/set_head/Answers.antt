@@ -1,8 +1,8 @@
 use Rattle.std.proofs.Common.{◌≡◌, length, ap, ◌∙◌, sym, arith}
 use Rattle.std.specs.Vec.{with_items}
 use Rattle.std.proofs.lemmas.List.{with_items_is}
-use Rattle.yp_xdr.specs.Writing.{written}
-use Rattle.yp_version.specs.Slabs.{Packed}
+use Rattle.yp_xdr.specs.inside.Writing.{written}
+use Rattle.yp_version.specs.inside.Slabs.{Packed}
 use Rattle.yp_version.proofs.Packing.{headed_kept, headed_view}
 use Rattle.yp_version.proofs.slab.Slab.set_head.Goals as goal
 

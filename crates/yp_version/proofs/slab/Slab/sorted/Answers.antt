@@ -1,8 +1,9 @@
 use Rattle.std.proofs.Common.{◌≡◌, ℕ, List, length, map, ap, ◌∙◌, sym, subst, arith, All, IsPermutation}
 use Rattle.std.proofs.lemmas.List.Sorted.{All-permutation, IsPermutation-map, sum_by-IsPermutation}
-use Rattle.yp_version.specs.Rows.{Row, IsRising, HasDistinctKeys, row_len, rows_len}
-use Rattle.yp_version.specs.Slabs.{Packed, IsRowAt, row_from}
-use Rattle.yp_version.specs.Slab.{packed_of}
+use Rattle.yp_version.specs.Rows.{Row, IsRising, row_len, rows_len}
+use Rattle.yp_version.specs.inside.Rows.{HasDistinctKeys}
+use Rattle.yp_version.specs.inside.Slabs.{Packed, IsRowAt, row_from}
+use Rattle.yp_version.specs.inside.Slab.{packed_of}
 use Rattle.yp_version.proofs.Packing.{slab_rows_at, bytes_len, if_gathered}
 use Rattle.yp_version.proofs.Sorted.{sorted_rises}
 use Rattle.yp_version.proofs.slab.Slab.sorted.Goals as goal

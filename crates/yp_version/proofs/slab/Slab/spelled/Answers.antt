@@ -1,5 +1,5 @@
 use Rattle.std.proofs.Common.{◌≡◌, ℕ, ◌<◌, List, length, get_or, sym, subst}
-use Rattle.yp_version.specs.Slabs.{IsRowAt}
+use Rattle.yp_version.specs.inside.Slabs.{IsRowAt}
 use Rattle.yp_version.proofs.Packing.{slab_row_at}
 use Rattle.yp_version.proofs.slab.Slab.spelled.Goals as goal
 

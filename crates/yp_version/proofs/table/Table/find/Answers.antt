@@ -1,5 +1,6 @@
 use Rattle.std.proofs.Common.{◌≡◌, ◌<◌, true, false, Some, None, length, bytes_eq, ap, ◌∙◌, sym, subst, arith, rules}
-use Rattle.yp_version.specs.Tables.{bucket_of, bucket_at, mark_by, linked, is_in, has_key, last_below, IsMarked}
+use Rattle.yp_version.specs.Tables.{bucket_of, bucket_at, mark_by, linked, is_in, last_below, IsMarked}
+use Rattle.yp_version.specs.inside.Tables.{has_key}
 use Rattle.yp_version.proofs.Chains.{Walks, walk_within, walk_finds, walk_ends, walk_goes, walk_shrinks, key_in_bucket, key_tells, mark_tells, bucket_is}
 use Rattle.yp_version.proofs.table.Table.find.Goals.{else-mark-via-then-mark+else-eq, else-mark-via-else-mark}
 use Rattle.yp_version.proofs.table.Table.find.Goals as goal

@@ -1,6 +1,7 @@
 -- How far the walk along the chain of a bucket has come.
 use Rattle.std.proofs.Common.{length}
-use Rattle.yp_version.specs.Tables.{bucket_of, is_in, has_key, linked, number_in, IsMarked}
+use Rattle.yp_version.specs.Tables.{bucket_of, is_in, linked, number_in, IsMarked}
+use Rattle.yp_version.specs.inside.Tables.{has_key}
 use Rattle.yp_version.proofs.Chains.{Walks}
 use Rattle.yp_version.proofs.table.Table.find.Given as goal
 

@@ -1,6 +1,6 @@
 use Rattle.std.proofs.Common.{◌++◌, ap, ◌∙◌, length}
 use Rattle.std.specs.List.{flat_map}
-use Rattle.yp_version.specs.Bodies.{row_bytes}
+use Rattle.yp_version.specs.inside.Bodies.{row_bytes}
 use Rattle.yp_version.specs.Versions.{body_len}
 use Rattle.yp_version.specs.Version.{version_of}
 use Rattle.yp_version.proofs.Lengths.{length_body}

@@ -1,6 +1,7 @@
 use Rattle.std.proofs.Common.{subst, ap, ◌∙◌, MatchOption, arith}
-use Rattle.yp_version.specs.Places.{StandsAt, IsAbsent}
-use Rattle.yp_version.specs.Tables.{last_below, has_key}
+use Rattle.yp_version.specs.inside.Places.{StandsAt, IsAbsent}
+use Rattle.yp_version.specs.Tables.{last_below}
+use Rattle.yp_version.specs.inside.Tables.{has_key}
 use Rattle.yp_version.specs.Versions.{MapVersion}
 use Rattle.yp_version.proofs.Search.{found_at}
 use Rattle.yp_version.proofs.version.Version.find.Goals as goal

@@ -1,7 +1,7 @@
 use Rattle.std.proofs.Common.{rules, inl, inr, true, refl, ap, arith}
-use Rattle.yp_session.specs.Hosts.{conduct_of}
+use Rattle.yp_answer.specs.session.Hosts.{conduct_of}
 use Rattle.yp_io.specs.Calls.{Accepting}
-use Rattle.yp_worker.specs.Receptions.{opening_of, terms_of}
+use Rattle.yp_worker.specs.Receptions.{opening_by, terms_of}
 use Rattle.yp_worker.specs.Summing.{counting_of}
 use Rattle.yp_worker.proofs.Receiving.{came_one, came_expected, kept_came, kept_none_more}
 use Rattle.yp_worker.proofs.Summing.{sums_came, sums_same}
@@ -12,7 +12,7 @@ invariant_of-self-in-Ok-Came g c =
     let conduct = conduct_of g.H.View.seen g.H.Host.told g.H.Host.counts g.H.View.stepped g.H.Host.made g.H.Host.carried in
     let counting = counting_of g.H.CatchUp.counted g.H.HandsOver.none g.H.HandsOver.plus in
     let terms = terms_of g.J.Site.catalogue g.J.Reception.starts g.J.Reception.most in
-    let seen = opening_of g.L.Listen.past g.L.Listen.most g.L.Listen.accepted g.L.Listen.returned g.L.Listen.faults in
+    let seen = opening_by g.L.Listen in
     let comes = came_one _ _ _ c.in-Ok-Came.field-0-is c.in-Ok-Came.ensures.came in (
       rw (c.audit.ensures.total, c.add-in-Ok-Came.ensures.total, c.saturating_add-self-inside.ensures) (kept_came
           g.J.Reception.opening (seen c.self.inside.listen) (seen c.accept.new.self) _ _ _ _ c.self.invariant.0 _ c.if-self.false
@@ -27,7 +27,7 @@ invariant_of-self-in-Err g c =
     let conduct = conduct_of g.H.View.seen g.H.Host.told g.H.Host.counts g.H.View.stepped g.H.Host.made g.H.Host.carried in
     let counting = counting_of g.H.CatchUp.counted g.H.HandsOver.none g.H.HandsOver.plus in
     let terms = terms_of g.J.Site.catalogue g.J.Reception.starts g.J.Reception.most in
-    let seen = opening_of g.L.Listen.past g.L.Listen.most g.L.Listen.accepted g.L.Listen.returned g.L.Listen.faults in (
+    let seen = opening_by g.L.Listen in (
       kept_none_more g.J.Reception.opening (seen c.self.inside.listen)
           (seen c.accept.new.self) _ _ _ _ c.self.invariant.0 true _ c.in-Err.ensures.none c.in-Err.ensures.returned
           c.in-Err.ensures.cause.never_falls

@@ -1,8 +1,8 @@
 use Rattle.std.proofs.Common.{arith}
 use Rattle.std.proofs.lemmas.List.{length-map}
-use Rattle.yp_session.specs.Hosts.{conduct_of}
-use Rattle.yp_worker.specs.Receptions.{opening_of, terms_of}
-use Rattle.yp_worker.specs.Summing.{Stay, counting_of, ends_of}
+use Rattle.yp_answer.specs.session.Hosts.{conduct_of}
+use Rattle.yp_worker.specs.Receptions.{opening_by, terms_of}
+use Rattle.yp_worker.specs.Summing.{ServedConnection, counting_of, ends_of}
 use Rattle.yp_worker.proofs.Receiving.{kept_closed}
 use Rattle.yp_worker.proofs.Summing.{sums_ended}
 use Rattle.yp_worker.proofs.listening.Listening.retire.Goals as goal
@@ -12,9 +12,9 @@ invariant_of-self g c =
     let conduct = conduct_of g.H.View.seen g.H.Host.told g.H.Host.counts g.H.View.stepped g.H.Host.made g.H.Host.carried in
     let counting = counting_of g.H.CatchUp.counted g.H.HandsOver.none g.H.HandsOver.plus in
     let terms = terms_of g.J.Site.catalogue g.J.Reception.starts g.J.Reception.most in
-    let seen = opening_of g.L.Listen.past g.L.Listen.most g.L.Listen.accepted g.L.Listen.returned g.L.Listen.faults in
+    let seen = opening_by g.L.Listen in
     let has = c.requires.served in
-    let longer = length-map has.stays (λ (s : Stay). s.ended) in (
+    let longer = length-map has.stays (λ (s : ServedConnection). s.ended) in (
       kept_closed g.J.Reception.opening (seen c.self.inside.listen) (seen c.take_in.new.self) _ _ _ _ c.self.invariant.0
           (ends_of has.stays) (g.L.Listen.closed c.args.closer) (g.L.Listen.closed_count c.args.closer) _
           (omega (arith, c.sub.ensures.total, has.connections_are, longer)) has.told (omega (arith, has.closed_are, longer)) c.take_in.ensures.past c.take_in.ensures.most

@@ -1,5 +1,5 @@
-use Rattle.yp_session.specs.Hosts.{conduct_of}
-use Rattle.yp_session.specs.Wires.{wire_of}
+use Rattle.yp_answer.specs.session.Hosts.{conduct_of}
+use Rattle.yp_answer.specs.session.Wires.{wire_of}
 use Rattle.yp_worker.proofs.Serving.{attended}
 use Rattle.yp_worker.proofs.worker.Worker.one_watched.Goals as goal
 

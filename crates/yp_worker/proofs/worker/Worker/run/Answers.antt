@@ -1,5 +1,5 @@
 use Rattle.std.proofs.Common.{◌≡◌, ◌+◌, ℕ, ap, arith}
-use Rattle.yp_worker.specs.Receptions.{Passed}
+use Rattle.yp_worker.specs.inside.Receptions.{Passed}
 use Rattle.yp_worker.proofs.Growing.{front_same}
 use Rattle.yp_worker.proofs.worker.Worker.run.Goals as goal
 

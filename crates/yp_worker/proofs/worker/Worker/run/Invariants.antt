@@ -1,8 +1,9 @@
 use Rattle.std.specs.Prelude.{◌≡◌, ◌+◌}
 use Rattle.yp_board.specs.Views.{IsFront}
-use Rattle.yp_session.specs.Hosts.{conduct_of}
+use Rattle.yp_answer.specs.session.Hosts.{conduct_of}
 use Rattle.yp_worker.specs.Receptions.{IsUnder, terms_of}
-use Rattle.yp_worker.specs.Summing.{HasEnded, counting_of}
+use Rattle.yp_worker.specs.Summing.{counting_of}
+use Rattle.yp_worker.specs.inside.Summing.{HasEnded}
 use Rattle.yp_worker.proofs.worker.Worker.run.Given as goal
 
 abbrev pub invariant-loop : goal.invariant-loop

@@ -1,6 +1,6 @@
 use Rattle.std.proofs.Common.{rules}
 use Rattle.yp_xdr.specs.Kind.{Fixed}
-use Rattle.yp_xdr.specs.Cursor.{unread}
+use Rattle.yp_xdr.specs.inside.Cursor.{unread}
 use Rattle.yp_xdr.proofs.KindLaws.{read_is_spelled}
 use Rattle.yp_xdr.proofs.Readers.{refused}
 use Rattle.yp_xdr.proofs.cursor.Cursor.fixed.Goals as goal

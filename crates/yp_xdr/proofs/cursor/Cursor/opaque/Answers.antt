@@ -2,7 +2,7 @@ use Rattle.std.proofs.Common.{rules}
 use Rattle.yp_xdr.specs.declared.fault.XdrFault.TheVariants.{TooLong}
 use Rattle.yp_xdr.specs.Kind.{Opaque}
 use Rattle.yp_xdr.specs.Reading.{opaque_at}
-use Rattle.yp_xdr.specs.Cursor.{unread}
+use Rattle.yp_xdr.specs.inside.Cursor.{unread}
 use Rattle.yp_xdr.proofs.KindLaws.{read_is_spelled, refused_is_not_spelled}
 use Rattle.yp_xdr.proofs.Readers.{refused}
 use Rattle.yp_xdr.proofs.cursor.Cursor.opaque.Goals as goal

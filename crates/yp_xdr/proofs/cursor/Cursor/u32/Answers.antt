@@ -1,7 +1,7 @@
 use Rattle.std.proofs.Common.{rules}
 use Rattle.yp_xdr.specs.Kind.{U32}
 use Rattle.yp_xdr.specs.Reading.{word_at}
-use Rattle.yp_xdr.specs.Cursor.{unread}
+use Rattle.yp_xdr.specs.inside.Cursor.{unread}
 use Rattle.yp_xdr.proofs.Words.{IsBytes-from_drop}
 use Rattle.yp_xdr.proofs.KindLaws.{read_is_spelled}
 use Rattle.yp_xdr.proofs.cursor.Cursor.u32.Goals as goal

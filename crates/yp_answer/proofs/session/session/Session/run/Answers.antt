@@ -1,11 +1,11 @@
 use Rattle.std.proofs.Common.{arith, refl}
-use Rattle.yp_session.specs.Wires.{wire_of}
-use Rattle.yp_session.specs.Progress.{begun}
-use Rattle.yp_session.specs.Hosts.{conduct_of}
-use Rattle.yp_session.specs.Runs.{dialogue_at}
-use Rattle.yp_session.specs.declared.session.End.TheVariants.{Enough}
-use Rattle.yp_session.proofs.Sessions.{SoFar-none, SoFar-more, Runs-of, ends_by, falls_then, answered_flushed, answered_falls, ended_flushed, ended_falls, read_fault, write_fault}
-use Rattle.yp_session.proofs.session.Session.run.Goals as goal
+use Rattle.yp_answer.specs.session.Wires.{wire_of}
+use Rattle.yp_answer.specs.session.Progress.{begun}
+use Rattle.yp_answer.specs.session.Hosts.{conduct_of}
+use Rattle.yp_answer.specs.session.Runs.{dialogue_at}
+use Rattle.yp_answer.specs.declared.session.session.End.TheVariants.{Enough}
+use Rattle.yp_answer.proofs.session.Sessions.{SoFar-none, SoFar-more, Runs-of, ends_by, falls_then, answered_flushed, answered_falls, ended_flushed, ended_falls, read_fault, write_fault}
+use Rattle.yp_answer.proofs.session.session.Session.run.Goals as goal
 
 pub loop-init : goal.loop-init
 loop-init g c =

@@ -1,10 +1,10 @@
 use Rattle.std.specs.Prelude.{IsTrue}
-use Rattle.yp_session.specs.Wires.{NeverFalls, wire_of}
-use Rattle.yp_session.specs.Progress.{begun}
-use Rattle.yp_session.specs.Hosts.{conduct_of}
-use Rattle.yp_session.specs.Runs.{dialogue_at}
-use Rattle.yp_session.proofs.Sessions.{SoFar}
-use Rattle.yp_session.proofs.session.Session.run.Given as goal
+use Rattle.yp_answer.specs.session.Wires.{NeverFalls, wire_of}
+use Rattle.yp_answer.specs.session.Progress.{begun}
+use Rattle.yp_answer.specs.session.Hosts.{conduct_of}
+use Rattle.yp_answer.specs.session.Runs.{dialogue_at}
+use Rattle.yp_answer.proofs.session.Sessions.{SoFar}
+use Rattle.yp_answer.proofs.session.session.Session.run.Given as goal
 
 abbrev pub invariant-loop : goal.invariant-loop
 invariant-loop g l =

@@ -1,6 +1,6 @@
 use Rattle.std.proofs.Common.{arith}
-use Rattle.yp_portmap.proofs.Differing.{none_differ, none_few}
-use Rattle.yp_portmap.proofs.registry.Registry.new.Goals as goal
+use Rattle.yp_binding.proofs.portmap.Differing.{none_differ, none_few}
+use Rattle.yp_binding.proofs.portmap.registry.Registry.new.Goals as goal
 
 pub invariant_of-result : goal.invariant_of-result
 invariant_of-result c =

@@ -1,9 +1,9 @@
 use Rattle.std.proofs.Common.{◌≡◌, ◌∙◌, ◌∷◌, [], true, List, length, ap, sym, subst, arith}
 use Rattle.std.proofs.lemmas.List.{length-append}
-use Rattle.yp_portmap.specs.declared.mapping.Mapping.{Mapping}
-use Rattle.yp_portmap.specs.Registry.{is_set, Differ}
-use Rattle.yp_portmap.proofs.Differing.{set_fits, with_set_differs}
-use Rattle.yp_portmap.proofs.registry.Registry.set.Goals as goal
+use Rattle.yp_binding.specs.declared.portmap.mapping.Mapping.{Mapping}
+use Rattle.yp_binding.specs.portmap.Registry.{is_set, Differ}
+use Rattle.yp_binding.proofs.portmap.Differing.{set_fits, with_set_differs}
+use Rattle.yp_binding.proofs.portmap.registry.Registry.set.Goals as goal
 
 pub invariant_of-self : goal.invariant_of-self
 invariant_of-self c =

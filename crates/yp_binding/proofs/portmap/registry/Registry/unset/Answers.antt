@@ -1,10 +1,10 @@
 use Rattle.std.proofs.Common.{◌≡◌, ◌∙◌, not, List, ap, sym, subst, rules, tests, arith}
 use Rattle.std.specs.List.{filter}
 use Rattle.std.proofs.lemmas.Fn.{filter_same}
-use Rattle.yp_portmap.specs.declared.mapping.Mapping.{Mapping}
-use Rattle.yp_portmap.specs.Registry.{is_of, Differ}
-use Rattle.yp_portmap.proofs.Differing.{with_fewer, with_unset_is, fewer_few}
-use Rattle.yp_portmap.proofs.registry.Registry.unset.Goals as goal
+use Rattle.yp_binding.specs.declared.portmap.mapping.Mapping.{Mapping}
+use Rattle.yp_binding.specs.portmap.Registry.{is_of, Differ}
+use Rattle.yp_binding.proofs.portmap.Differing.{with_fewer, with_unset_is, fewer_few}
+use Rattle.yp_binding.proofs.portmap.registry.Registry.unset.Goals as goal
 
 pub invariant_of-self : goal.invariant_of-self
 invariant_of-self c =

@@ -1,8 +1,8 @@
 use Rattle.std.proofs.Common.{ap, subst}
 use mathlib.Core.List.{IsPrefix}
 use Rattle.yp_board.specs.Logs.{Log}
-use Rattle.yp_readers.proofs.Fronts.{behind_or}
-use Rattle.yp_readers.proofs.history.Front.is_behind.Goals as goal
+use Rattle.yp_board.proofs.readers.Fronts.{behind_or}
+use Rattle.yp_board.proofs.readers.history.Front.is_behind.Goals as goal
 
 pub returns : goal.returns
 returns g c =

@@ -1,7 +1,7 @@
 use Rattle.std.proofs.Common.{sym, ◌∙◌, ap}
-use Rattle.yp_readers.specs.Histories.{IsNext}
-use Rattle.yp_readers.proofs.Adding.{adds_moves}
-use Rattle.yp_readers.proofs.history.Front.with.Goals as goal
+use Rattle.yp_board.specs.inside.readers.Histories.{IsNext}
+use Rattle.yp_board.proofs.readers.Adding.{adds_moves}
+use Rattle.yp_board.proofs.readers.history.Front.with.Goals as goal
 
 pub compare_exchange-requires : goal.compare_exchange-requires
 compare_exchange-requires g c =
@@ -16,5 +16,5 @@ compare_exchange-requires g c =
       pen.0 ∙ sym (ap (λ w. w.book) head),
       offer.0,
       rw (ap (λ w. w.key) head, ap (λ s. s.log) again, offer.1, offer.3)
-          (adds_moves log c.args.pen.now.nib (c.args.map, c.of-version.result.value) next),
+          (adds_moves log c.args.pen.now.nib c.new-entry.result next),
     )

@@ -1,7 +1,7 @@
 use Rattle.std.proofs.Common.{◌≡◌, map, option_map, set, Some, ap, ◌∙◌}
 use Rattle.std.specs.Arc.{arc_value}
 use Rattle.std.proofs.lemmas.List.{map-set}
-use Rattle.yp_readers.proofs.slots.Slots.with.Goals as goal
+use Rattle.yp_board.proofs.readers.slots.Slots.with.Goals as goal
 
 pub returns : goal.returns
 returns c =

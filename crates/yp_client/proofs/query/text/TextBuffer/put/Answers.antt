@@ -1,5 +1,5 @@
-use Rattle.yp_query.proofs.Putting.{puts_written}
-use Rattle.yp_query.proofs.text.TextBuffer.put.Goals as goal
+use Rattle.yp_client.proofs.query.Putting.{puts_written}
+use Rattle.yp_client.proofs.query.text.TextBuffer.put.Goals as goal
 
 pub returns-then-piece-gt-BUFFER_LEN-clause-puts : goal.returns-then-piece-gt-BUFFER_LEN-clause-puts
 returns-then-piece-gt-BUFFER_LEN-clause-puts g c =

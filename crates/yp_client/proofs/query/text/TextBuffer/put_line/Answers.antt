@@ -1,7 +1,7 @@
 use Rattle.std.proofs.Common.{[], ◌∷◌}
 use Rattle.std.proofs.lemmas.Result.{err_from_is_err_and}
-use Rattle.yp_query.proofs.Putting.{puts_more, puts_stopped}
-use Rattle.yp_query.proofs.text.TextBuffer.put_line.Goals as goal
+use Rattle.yp_client.proofs.query.Putting.{puts_more, puts_stopped}
+use Rattle.yp_client.proofs.query.text.TextBuffer.put_line.Goals as goal
 
 pub returns-in_err-put-clause-puts : goal.returns-in_err-put-clause-puts
 returns-in_err-put-clause-puts g c =

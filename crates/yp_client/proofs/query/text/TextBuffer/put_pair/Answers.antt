@@ -1,8 +1,8 @@
 use Rattle.std.proofs.Common.{[], ◌∷◌, append_assoc}
 use Rattle.std.proofs.lemmas.Result.{err_from_is_err_and}
-use Rattle.yp_query.specs.Lines.{line}
-use Rattle.yp_query.proofs.Putting.{puts_more, puts_stopped}
-use Rattle.yp_query.proofs.text.TextBuffer.put_pair.Goals as goal
+use Rattle.yp_client.specs.query.Lines.{line}
+use Rattle.yp_client.proofs.query.Putting.{puts_more, puts_stopped}
+use Rattle.yp_client.proofs.query.text.TextBuffer.put_pair.Goals as goal
 
 pub returns-in_err-put-clause-puts : goal.returns-in_err-put-clause-puts
 returns-in_err-put-clause-puts g c =

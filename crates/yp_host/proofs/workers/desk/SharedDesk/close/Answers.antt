@@ -1,8 +1,8 @@
 use Rattle.std.proofs.Common.{arith}
-use Rattle.yp_workhost.specs.Wires.{BeginsWithOrder, IsGood}
-use Rattle.yp_workhost.proofs.Dialing.{covers_fewer}
-use Rattle.yp_workhost.proofs.Sourcing.{sources_fewer}
-use Rattle.yp_workhost.proofs.desk.SharedDesk.close.Goals as goal
+use Rattle.yp_host.specs.workers.Wires.{BeginsWithOrder, IsGood}
+use Rattle.yp_host.proofs.workers.Dialing.{covers_fewer}
+use Rattle.yp_host.proofs.workers.Sourcing.{sources_fewer}
+use Rattle.yp_host.proofs.workers.desk.SharedDesk.close.Goals as goal
 
 pub returns-clause-orders : goal.returns-clause-orders
 returns-clause-orders g c = λ n le.

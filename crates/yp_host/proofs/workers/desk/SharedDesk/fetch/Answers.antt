@@ -1,20 +1,22 @@
 use Rattle.std.proofs.Common.{false, subst}
-use Rattle.yp_io.specs.Dials.{dialing_of, dial_tells}
+use Rattle.yp_io.specs.Dials.{dialing_of}
+use Rattle.yp_transfer.specs.inside.Dials.{dial_by}
 use Rattle.yp_board.specs.Catalogues.{name_view}
-use Rattle.yp_xfr.specs.HostTable.{HostList}
-use Rattle.yp_xfr.specs.Fetching.{wanted_of}
-use Rattle.yp_xfr.specs.Dialing.{FetchesFrom}
-use Rattle.yp_workhost.specs.Uses.{Fetching, dial_told}
-use Rattle.yp_workhost.proofs.Using.{used_more}
-use Rattle.yp_workhost.proofs.Reaching.{fetched_orders}
-use Rattle.yp_workhost.proofs.Sourcing.{fetched_sources, fetched_versions}
-use Rattle.yp_workhost.proofs.Aging.{fetched_aged}
-use Rattle.yp_workhost.proofs.desk.SharedDesk.fetch.Goals as goal
+use Rattle.yp_transfer.specs.HostTable.{HostList}
+use Rattle.yp_transfer.specs.Fetching.{wanted_of}
+use Rattle.yp_transfer.specs.Dialing.{FetchesFrom}
+use Rattle.yp_host.specs.workers.Uses.{Fetching}
+use Rattle.yp_host.specs.inside.workers.Uses.{dial_told}
+use Rattle.yp_host.proofs.workers.Using.{used_more}
+use Rattle.yp_host.proofs.workers.Reaching.{fetched_orders}
+use Rattle.yp_host.proofs.workers.Sourcing.{fetched_sources, fetched_versions}
+use Rattle.yp_host.proofs.workers.Aging.{fetched_aged}
+use Rattle.yp_host.proofs.workers.desk.SharedDesk.fetch.Goals as goal
 
 pub invariant_of-self : goal.invariant_of-self
 invariant_of-self g c =
     let dialing = dialing_of g.A.Dial.past g.A.Dial.faults in
-    let tells = dial_tells g.A.Dial.past g.A.Dial.letters g.A.Dial.faults in
+    let tells = dial_by g.A.Dial in
     let wanted = wanted_of c.deref.result.now c.deref-2.result.now c.args.shown false in
     let fetched = c.fetch_from-fetched.result in
     let old = dialing c.self.inside.desk.dial in

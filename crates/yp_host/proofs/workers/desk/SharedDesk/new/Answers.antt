@@ -1,10 +1,10 @@
 use Rattle.std.proofs.Common.{arith}
-use Rattle.yp_workhost.specs.Wires.{BeginsWithOrder, IsGood}
-use Rattle.yp_workhost.proofs.Dialing.{covers_none}
-use Rattle.yp_workhost.proofs.Sourcing.{sources_none}
-use Rattle.yp_workhost.specs.Uses.{dial_told}
-use Rattle.yp_workhost.proofs.Using.{unused}
-use Rattle.yp_workhost.proofs.desk.SharedDesk.new.Goals as goal
+use Rattle.yp_host.specs.workers.Wires.{BeginsWithOrder, IsGood}
+use Rattle.yp_host.proofs.workers.Dialing.{covers_none}
+use Rattle.yp_host.proofs.workers.Sourcing.{sources_none}
+use Rattle.yp_host.specs.inside.workers.Uses.{dial_told}
+use Rattle.yp_host.proofs.workers.Using.{unused}
+use Rattle.yp_host.proofs.workers.desk.SharedDesk.new.Goals as goal
 
 pub invariant_of-result : goal.invariant_of-result
 invariant_of-result g c =

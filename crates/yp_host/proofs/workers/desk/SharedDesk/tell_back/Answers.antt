@@ -1,15 +1,16 @@
-use Rattle.yp_workhost.specs.Wires.{BeginsWithOrder, IsGood}
-use Rattle.yp_xfr.specs.CallBack.{wants_call}
-use Rattle.yp_workhost.proofs.Dialing.{calls_back_past, calls_back_faults, same_wires}
-use Rattle.yp_workhost.proofs.Sourcing.{same_sources}
-use Rattle.yp_io.specs.Dials.{dial_tells}
-use Rattle.yp_workhost.specs.Uses.{Telling, dial_told}
-use Rattle.yp_workhost.proofs.Using.{used_more}
-use Rattle.yp_workhost.proofs.desk.SharedDesk.tell_back.Goals as goal
+use Rattle.yp_host.specs.workers.Wires.{BeginsWithOrder, IsGood}
+use Rattle.yp_transfer.specs.CallBack.{wants_call}
+use Rattle.yp_host.proofs.workers.Dialing.{calls_back_past, calls_back_faults, same_wires}
+use Rattle.yp_host.proofs.workers.Sourcing.{same_sources}
+use Rattle.yp_transfer.specs.inside.Dials.{dial_by}
+use Rattle.yp_host.specs.workers.Uses.{Telling}
+use Rattle.yp_host.specs.inside.workers.Uses.{dial_told}
+use Rattle.yp_host.proofs.workers.Using.{used_more}
+use Rattle.yp_host.proofs.workers.desk.SharedDesk.tell_back.Goals as goal
 
 pub invariant_of-self : goal.invariant_of-self
 invariant_of-self g c =
-    let tells = dial_tells g.A.Dial.past g.A.Dial.letters g.A.Dial.faults in
+    let tells = dial_by g.A.Dial in
     let past = calls_back_past (wants_call c.args.asker.now) c.args.asker.now c.args.stat _ _ c.tell_back.ensures in
     let stays = calls_back_faults (wants_call c.args.asker.now) c.args.asker.now c.args.stat _ _ c.tell_back.ensures in (
       record { texts_are = c.self.invariant.0.texts_are; hosts_are = c.self.invariant.0.hosts_are },

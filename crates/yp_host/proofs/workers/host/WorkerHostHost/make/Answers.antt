@@ -1,5 +1,5 @@
-use Rattle.yp_workhost.proofs.Hosting.{made_from}
-use Rattle.yp_workhost.proofs.host.WorkerHostHost.make.Goals as goal
+use Rattle.yp_host.proofs.workers.Hosting.{made_from}
+use Rattle.yp_host.proofs.workers.host.WorkerHostHost.make.Goals as goal
 
 pub returns : goal.returns
 returns g c =

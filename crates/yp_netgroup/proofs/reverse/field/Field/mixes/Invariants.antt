@@ -1,9 +1,9 @@
 use Rattle.std.proofs.Common.{◌≡◌, map, drop}
 use Rattle.std.specs.List.{list_any}
 use Rattle.yp_netgroup.specs.Parts.{triples}
-use Rattle.yp_netgroup.specs.Member.{part_of}
-use Rattle.yp_revnet.specs.Listed.{is_mixed}
-use Rattle.yp_revnet.proofs.field.Field.mixes.Given as goal
+use Rattle.yp_netgroup.specs.inside.Member.{part_of}
+use Rattle.yp_netgroup.specs.inside.reverse.Listed.{is_mixed}
+use Rattle.yp_netgroup.proofs.reverse.field.Field.mixes.Given as goal
 
 abbrev pub invariant-loop-member : goal.invariant-loop-member
 invariant-loop-member l =

@@ -1,8 +1,8 @@
 use Rattle.std.proofs.Common.{◌≡◌, ◌++◌, map, drop}
-use Rattle.yp_netgroup.specs.Member.{part_of}
-use Rattle.yp_revnet.specs.Links.{listing_members}
-use Rattle.yp_revnet.specs.Listings.{link_of}
-use Rattle.yp_revnet.proofs.field.Field.put_keys.Given as goal
+use Rattle.yp_netgroup.specs.inside.Member.{part_of}
+use Rattle.yp_netgroup.specs.inside.reverse.Links.{listing_members}
+use Rattle.yp_netgroup.specs.inside.reverse.Listings.{link_of}
+use Rattle.yp_netgroup.proofs.reverse.field.Field.put_keys.Given as goal
 
 abbrev pub invariant-loop-member : goal.invariant-loop-member
 invariant-loop-member l =

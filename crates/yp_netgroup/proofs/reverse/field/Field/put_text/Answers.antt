@@ -1,10 +1,10 @@
 use Rattle.std.proofs.Common.{◌≡◌, ◌∙◌, ◌++◌, List, map, ap, subst}
 use Rattle.std.specs.Prelude.{OnOk}
-use Rattle.yp_netgroup.specs.Member.{part_of as member_of}
+use Rattle.yp_netgroup.specs.inside.Member.{part_of as member_of}
 use Rattle.yp_netgroup.specs.Parts.{Part, parts}
-use Rattle.yp_revnet.specs.Links.{listing_members}
-use Rattle.yp_revnet.specs.Listings.{link_of}
-use Rattle.yp_revnet.proofs.field.Field.put_text.Goals as goal
+use Rattle.yp_netgroup.specs.inside.reverse.Links.{listing_members}
+use Rattle.yp_netgroup.specs.inside.reverse.Listings.{link_of}
+use Rattle.yp_netgroup.proofs.reverse.field.Field.put_text.Goals as goal
 
 pub returns : goal.returns
 returns c =

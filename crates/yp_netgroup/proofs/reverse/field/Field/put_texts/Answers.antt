@@ -1,10 +1,10 @@
 use Rattle.std.proofs.Common.{◌∙◌, ◌++◌, ◌+◌, List, map, drop, ap, sym, append_assoc}
 use Rattle.yp_version.specs.Rows.{Row}
 use Rattle.yp_netgroup.specs.Parts.{parts}
-use Rattle.yp_revnet.specs.Links.{Link, listing, listing_members}
-use Rattle.yp_revnet.specs.Listings.{link_of}
-use Rattle.yp_revnet.proofs.Linking.{drop_at}
-use Rattle.yp_revnet.proofs.field.Field.put_texts.Goals as goal
+use Rattle.yp_netgroup.specs.inside.reverse.Links.{Link, listing, listing_members}
+use Rattle.yp_netgroup.specs.inside.reverse.Listings.{link_of}
+use Rattle.yp_netgroup.proofs.reverse.Linking.{drop_at}
+use Rattle.yp_netgroup.proofs.reverse.field.Field.put_texts.Goals as goal
 
 pub loop-i-preserved : goal.loop-i-preserved
 loop-i-preserved c =

@@ -1,7 +1,7 @@
 use Rattle.std.proofs.Common.{◌≡◌, ◌++◌, map, drop}
-use Rattle.yp_revnet.specs.Links.{listing}
-use Rattle.yp_revnet.specs.Listings.{link_of}
-use Rattle.yp_revnet.proofs.field.Field.put_texts.Given as goal
+use Rattle.yp_netgroup.specs.inside.reverse.Links.{listing}
+use Rattle.yp_netgroup.specs.inside.reverse.Listings.{link_of}
+use Rattle.yp_netgroup.proofs.reverse.field.Field.put_texts.Given as goal
 
 abbrev pub invariant-loop-i : goal.invariant-loop-i
 invariant-loop-i l =

@@ -1,10 +1,10 @@
 use Rattle.std.proofs.Common.{ℕ, ◌≤◌, ap, subst, arith}
-use Rattle.yp_publish.specs.Keeping.{keeping_of}
-use Rattle.yp_shared.specs.Debits.{Debit}
-use Rattle.yp_shared.proofs.Failing.{covers_fewer}
-use Rattle.yp_shared.proofs.Leading.{rises}
-use Rattle.yp_shared.proofs.Sourcing.{sourced_at_last}
-use Rattle.yp_shared.proofs.locked.Locked.close.Goals as goal
+use Rattle.yp_publisher.specs.Keeping.{keeping_of}
+use Rattle.yp_publisher.specs.inside.sharing.Debits.{Debit}
+use Rattle.yp_publisher.proofs.sharing.Failing.{covers_fewer}
+use Rattle.yp_publisher.proofs.sharing.Leading.{rises}
+use Rattle.yp_publisher.proofs.sharing.Sourcing.{sourced_at_last}
+use Rattle.yp_publisher.proofs.sharing.locked.Locked.close.Goals as goal
 
 pub returns-clause-covered : goal.returns-clause-covered
 returns-clause-covered g c =

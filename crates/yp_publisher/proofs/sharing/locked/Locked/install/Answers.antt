@@ -1,10 +1,10 @@
 use Rattle.std.proofs.Common.{◌<◌, length, ◌∙◌, ap}
 use Rattle.yp_board.specs.Catalogues.{Catalogue}
-use Rattle.yp_publish.specs.Keeping.{keeping_of}
-use Rattle.yp_shared.proofs.Failing.{covers_after}
-use Rattle.yp_shared.proofs.Leading.{led_after}
-use Rattle.yp_shared.proofs.Sourcing.{sourced_after}
-use Rattle.yp_shared.proofs.locked.Locked.install.Goals as goal
+use Rattle.yp_publisher.specs.Keeping.{keeping_of}
+use Rattle.yp_publisher.proofs.sharing.Failing.{covers_after}
+use Rattle.yp_publisher.proofs.sharing.Leading.{led_after}
+use Rattle.yp_publisher.proofs.sharing.Sourcing.{sourced_after}
+use Rattle.yp_publisher.proofs.sharing.locked.Locked.install.Goals as goal
 
 pub invariant_of-self : goal.invariant_of-self
 invariant_of-self g c =

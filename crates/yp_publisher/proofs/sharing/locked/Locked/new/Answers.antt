@@ -1,8 +1,8 @@
-use Rattle.yp_publish.specs.Keeping.{keeping_of}
-use Rattle.yp_shared.proofs.Failing.{covers_none}
-use Rattle.yp_shared.proofs.Leading.{led_at_first}
-use Rattle.yp_shared.proofs.Sourcing.{sourced_at_first}
-use Rattle.yp_shared.proofs.locked.Locked.new.Goals as goal
+use Rattle.yp_publisher.specs.Keeping.{keeping_of}
+use Rattle.yp_publisher.proofs.sharing.Failing.{covers_none}
+use Rattle.yp_publisher.proofs.sharing.Leading.{led_at_first}
+use Rattle.yp_publisher.proofs.sharing.Sourcing.{sourced_at_first}
+use Rattle.yp_publisher.proofs.sharing.locked.Locked.new.Goals as goal
 
 pub invariant_of-result : goal.invariant_of-result
 invariant_of-result g c = (

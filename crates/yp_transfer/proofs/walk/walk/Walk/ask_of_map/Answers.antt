@@ -1,6 +1,6 @@
 use Rattle.std.proofs.Common.{arith}
-use Rattle.yp_enum.proofs.Rooms.{map_room}
-use Rattle.yp_enum.proofs.walk.Walk.ask_of_map.Goals as goal
+use Rattle.yp_transfer.proofs.walk.Rooms.{map_room}
+use Rattle.yp_transfer.proofs.walk.walk.Walk.ask_of_map.Goals as goal
 
 pub set_call-requires-clause-room : goal.set_call-requires-clause-room
 set_call-requires-clause-room c =

@@ -1,5 +1,5 @@
-use Rattle.yp_enum.proofs.Delivering.{adds}
-use Rattle.yp_enum.proofs.walk.Walk.on_mail.Goals as goal
+use Rattle.yp_transfer.proofs.walk.Delivering.{adds}
+use Rattle.yp_transfer.proofs.walk.walk.Walk.on_mail.Goals as goal
 
 pub returns-clause-adds : goal.returns-clause-adds
 returns-clause-adds g c = adds (c.args.from, c.args.mail.now) _ _ _ c.hear.ensures.hears

@@ -1,6 +1,6 @@
-use Rattle.yp_session.specs.Hosts.{conduct_of}
-use Rattle.yp_mailserve.proofs.Answering.{answered}
-use Rattle.yp_mailserve.proofs.server.MailServerErrand.hear.Goals as goal
+use Rattle.yp_answer.specs.session.Hosts.{conduct_of}
+use Rattle.yp_worker.proofs.datagrams.Answering.{answered}
+use Rattle.yp_worker.proofs.datagrams.server.MailServerHandler.hear.Goals as goal
 
 pub returns-clause-hears : goal.returns-clause-hears
 returns-clause-hears g c =

@@ -1,0 +1,11 @@
+pub mod Numbers
+pub mod ShownVersion
+pub mod Results
+pub mod Causes
+pub mod Transfer
+pub mod Reply
+pub mod Streams
+pub mod Items
+pub mod Answers
+pub mod Laws
+pub mod session

@@ -1,0 +1,4 @@
+pub mod Catalogues
+pub mod Catalog
+pub mod PlainBoard
+pub mod readers

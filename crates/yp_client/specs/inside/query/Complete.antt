@@ -1,0 +1,12 @@
+-- A question that has an answer.
+use Rattle.std.specs.Prelude.{Result, Ok, Err, ⊤}
+use Rattle.yp_client.specs.declared.query.fault.QueryFault.{QueryFault}
+use Rattle.yp_client.specs.declared.query.fault.QueryFault.TheVariants.{NoKey, NotMember, NoMemory}
+
+-- an answer, that there is no such key or no such member, or want of memory
+abbrev pub QueryIsAnswered : Result (Unit {0}) QueryFault → Type 0
+QueryIsAnswered (Ok done) = ⊤
+QueryIsAnswered (Err NoKey) = ⊤
+QueryIsAnswered (Err NotMember) = ⊤
+QueryIsAnswered (Err NoMemory) = ⊤
+QueryIsAnswered result = ⊥

@@ -1,0 +1,6 @@
+pub mod Build
+pub mod Check
+pub mod Revnet
+pub mod Xfr
+pub mod walk
+pub mod inside

@@ -1,0 +1,50 @@
+-- The parts of `revnet`: what stops a commit, and how a version is made anew.
+use Rattle.std.specs.Prelude.{◌≡◌, ℕ, ◌+◌, false, List, length, Option}
+use Rattle.std.specs.Prelude.{Result, Ok, Err, IfSome, IfErr, OnOk}
+use Rattle.yp_io.specs.Counts.{HasRisen}
+use Rattle.yp_io.specs.Disk.{History, LeavesOnly, MayLeave}
+use Rattle.yp_version.specs.Versions.{MapVersion}
+use Rattle.yp_map_file.specs.Commits.{generation_of, winning, generation_max}
+use Rattle.yp_board.specs.Catalogues.{Name, name_view}
+use Rattle.yp_board.specs.declared.catalog.MapName.{MapName}
+use Rattle.yp_command.specs.declared.office.status.Status.{Status}
+use Rattle.yp_command.specs.declared.office.status.Status.TheVariants.{DiskFault, GenerationsSpent}
+use Rattle.yp_command.specs.office.Disks.{IsOnlyRead}
+use Rattle.yp_command_maps.specs.declared.build.Built.{Built}
+use Rattle.yp_command_maps.specs.Build.{build_line, TellsLine, LeavesFew, may_have_written}
+use Rattle.yp_command_maps.specs.Revnet.{Job, RevnetInputs, ReverseIsPlanned, StopsRevnet, OfMade, StandsForVersion}
+use Rattle.yp_command_maps.specs.Revnet.{AtFiles, IsBeforeOrMade}
+
+-- a version isn't stored behind this generation
+abbrev pub StopsCommit : Name → ℕ → Status → Type 0
+StopsCommit store generation (GenerationsSpent map) = (name_view map ≡ store) × (generation ≡ generation_max)
+StopsCommit store generation (DiskFault map) = name_view map ≡ store
+StopsCommit store generation _ = ⊥
+
+-- what came of it
+abbrev pub Ends : Job → RevnetInputs → Option MapVersion → Result Built Status → Type 0
+Ends job inputs made (Ok built) = OfMade made (λ version. built ≡ record {
+  order = version.order;
+  rows = length version.rows;
+  generation = generation_of (winning inputs.file) + 1;
+})
+Ends job inputs made (Err status) = StopsRevnet job inputs status
+
+-- What is done to the disks of the map and of the netgroups, and how often they have failed, before and after.
+pub record Renews (job : Job) (now : ℕ) (result : Result Built Status) (old new netgroup netgroup' : Option History)
+    (faults faults' : ℕ) : Type 0 where
+  pub made : Option MapVersion
+  pub planned : IfSome made (λ version. AtFiles old netgroup now (λ inputs. ReverseIsPlanned job inputs version))
+  pub ends : AtFiles old netgroup now (λ inputs. Ends job inputs made result)
+  pub stored : OnOk result ((image : List ℕ) → MayLeave new image → StandsForVersion made image)
+  pub any_moment : LeavesOnly old new (IsBeforeOrMade old made)
+  pub few : LeavesFew old new
+  pub early : IfErr result (λ status. may_have_written status ≡ false → LeavesOnly old new (MayLeave old))
+  pub only_read : IsOnlyRead netgroup netgroup'
+  pub cause : IfErr result (λ status. (map : MapName) → status ≡ DiskFault map → HasRisen faults faults')
+
+-- what is told of it: a line, or nothing
+abbrev pub IsToldEnd : Name → Result Built Status → Status → Option (List ℕ) → Option (List ℕ) → Type 0
+IsToldEnd store (Ok built) status before after =
+    TellsLine (build_line store built.order built.rows built.generation) status before after
+IsToldEnd store (Err why) status before after = (status ≡ why) × (after ≡ before)

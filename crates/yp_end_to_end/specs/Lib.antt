@@ -1,0 +1,4 @@
+pub mod exchange
+pub mod transfer
+pub mod walk
+pub mod inside

@@ -1,0 +1,4 @@
+pub mod Told
+pub mod Answered
+pub mod Runs
+pub mod LogRuns

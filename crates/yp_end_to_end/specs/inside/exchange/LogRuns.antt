@@ -1,0 +1,15 @@
+-- Records that have a reply at once.
+use Rattle.std.specs.Prelude.{◌≡◌, ℕ, List}
+use Rattle.yp_io.specs.declared.stream.Peer.{Peer}
+use Rattle.yp_answer.specs.declared.procedure.Path.TheVariants.{Stream}
+use Rattle.yp_answer.specs.Maps.{Maps}
+use Rattle.yp_answer.specs.Reply.{Bytes, reply}
+use Rattle.yp_answer.specs.Served.{AreServed}
+
+-- A server that knows these maps replies to a record at once: it isn't silent, and makes no map first.
+abbrev pub RepliesAtOnce : Maps → Peer → List ℕ → Type 0
+RepliesAtOnce maps peer message = (bytes : List ℕ) × (reply Stream maps peer message ≡ Bytes bytes)
+
+-- Every server replies to a record at once, whatever its maps are.
+abbrev pub IsRepliedTo : Peer → List ℕ → Type 0
+IsRepliedTo peer message = (maps : Maps) → AreServed maps → RepliesAtOnce maps peer message

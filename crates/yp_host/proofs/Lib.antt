@@ -1,0 +1,11 @@
+pub mod Leaving
+pub mod Taking
+pub mod Building
+pub mod Growing
+pub mod Transferring
+pub mod Making
+pub mod Leading
+pub mod Passing
+pub mod Hosting
+pub mod Serving
+pub mod Causing

@@ -1,0 +1,5 @@
+pub mod Messages
+pub mod MapLists
+pub mod Transfers
+pub mod Pushes
+pub mod Bindings

@@ -1,0 +1,5 @@
+pub mod Results
+pub mod Ledgers
+pub mod Settling
+pub mod Kept
+pub mod turns

@@ -1,0 +1,10 @@
+pub mod Records
+pub mod Pieces
+pub mod Waiting
+pub mod Laws
+pub mod Call
+pub mod Called
+pub mod Read
+pub mod Judging
+pub mod Turns
+pub mod Ways

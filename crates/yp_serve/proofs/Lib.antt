@@ -1,6 +1,0 @@
-mod Rows
-mod Fronts
-mod Posted
-mod Covering
-mod Stemming
-mod Closing

@@ -1,0 +1,5 @@
+pub mod Rows
+pub mod Pushes
+pub mod Samples
+pub mod After
+pub mod Laws

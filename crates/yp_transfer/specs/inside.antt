@@ -1,0 +1,4 @@
+pub mod Begun
+pub mod Dials
+pub mod Laws
+pub mod walk

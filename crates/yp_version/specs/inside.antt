@@ -1,0 +1,12 @@
+pub mod Rows
+pub mod Bodies
+pub mod Drafts
+pub mod Slabs
+pub mod Slab
+pub mod Ranks
+pub mod Tables
+pub mod VersionBuilder
+pub mod Next
+pub mod Places
+pub mod Stored
+pub mod Laws

@@ -1,0 +1,4 @@
+pub mod Receptions
+pub mod Summing
+pub mod Laws
+pub mod datagrams

@@ -1,0 +1,309 @@
+#!/usr/bin/env python3
+"""Compares the sentences of the program with those of the documents and of the manual pages: sentences.py
+
+README.md, docs/FORMATS.md and man/yp.8 list all sentences, the pages man/yp-*.8 those of their commands, and
+docs/COMMANDS.md has each command in a heading. These have to be the same, and so do the sentences in the table of the
+code. Then the program is asked. It is given words with which a sentence goes on, words with which it doesn't, and words
+of which the last ones are missing, and has to tell the number of the wrong word; nothing is done then. It is given each
+whole sentence, too, which has to be one: in the folder where this runs that finds or makes next to nothing. The
+statuses of docs/FORMATS.md are compared with those of man/yp.8 and of the code.
+
+The program has to be built. It prints what differs, and ends with status 1 where anything does.
+"""
+
+import glob
+import os
+import re
+import subprocess
+import sys
+from concurrent.futures import ThreadPoolExecutor
+
+sys.dont_write_bytecode = True
+import server
+
+NAME = r"(?!\.)[!-.0-?A-~]{1,64}"
+NO_TEXT = "\udcff"  # a byte that isn't UTF-8, which fits nowhere
+HOST_MOST = STORE_MOST = 64
+
+
+def number(least, most):
+    """Whether a word is a decimal number from `least` to `most`."""
+    return lambda word: re.fullmatch("0|[1-9][0-9]*", word) is not None and least <= int(word) <= most
+
+
+def text(least, most):
+    """Whether a word is a text of `least` to `most` bytes."""
+    return lambda word: NO_TEXT not in word and least <= len(word.encode()) <= most
+
+
+def one_of(*words):
+    return lambda word: word in words
+
+
+def shape(pattern):
+    return lambda word: re.fullmatch(pattern, word, re.DOTALL) is not None
+
+
+def is_address(word):
+    parts = re.split("[.:]", word)
+    shaped = re.fullmatch(r"[0-9]+(\.[0-9]+){3}:[0-9]+", word) is not None
+    return shaped and all(map(number(0, 255), parts[:4])) and number(1, 65535)(parts[4])
+
+
+def is_pair(word):
+    key, mark, value = word.partition("=")
+    return mark == "=" and text(1, 65536)(key) and text(0, 65536)(value)
+
+
+def is_host(word):
+    name, _, address = word.partition("@")
+    return shape(NAME)(name) and is_address(address)
+
+
+KINDS = r"passwd\.by(name|uid)|group\.by(name|gid)|hosts\.by(name|addr)|services\.byname|protocols\.bynumber"
+KINDS += "|netgroup|ypservers"
+
+# Each form of word: whether a word has it, one that has it and may be run, and others that are close to it.
+FORMS = {
+    "Name": (shape(NAME), "n1", [".n", "n/m", "n@m", "n" * 64, "n" * 65, "lab/netgroup", ""]),
+    "Store": (shape(f"{NAME}/{NAME}"), "lab/m", ["lab", "lab/", "lab/m/m"]),
+    "KindStore": (shape(f"{NAME}/({KINDS})"), "lab/hosts.byname", ["lab/m", "hosts.byname"]),
+    "ReverseStore": (shape(NAME + r"/netgroup\.by(user|host)"), "lab/netgroup.byuser", ["lab/netgroup"]),
+    "Pair": (is_pair, "k=v", ["k", "=v", "k=" + "v" * 65537]),
+    "Number": (number(0, 4294967295), "0", ["01", "+1", "4294967295", "4294967296"]),
+    "Port": (number(1, 65535), "1", ["0", "65535", "65536"]),
+    "Window": (number(1, 4096), "1", ["0", "4096", "4097"]),
+    "Workers": (number(1, 8), "1", ["0", "8", "9"]),
+    "Policy": (one_of("fixed", "ypsetme", "ypset"), "fixed", ["ypsetme", "ypset", "yp"]),
+    "Address": (is_address, "127.0.0.1:1", ["127.0.0.1", "127.0.0.1:0", "127.0.0.256:1", "127.0.0.01:1"]),
+    "Text": (text(1, 64), "t", ["", "t" * 64, "t" * 65]),
+    "Key": (text(0, 65536), "*", ["", "k" * 65536, "k" * 65537]),
+    "Flag": (one_of("secure", "plain"), "secure", ["plain", "open"]),
+    "Mode": (one_of("newer", "force"), "newer", ["force", "older"]),
+    "Host": (is_host, "h@127.0.0.1:1", ["h", "h@127.0.0.1", "@127.0.0.1:1"]),
+}
+
+# The form of each word of the documents, and of those that have another one behind some commands.
+WORDS = {"STORE": "Store", "NAME": "Name", "PORT": "Port", "WORKERS": "Workers", "WINDOW": "Window", "ADDR": "Address"}
+WORDS |= {"FLAG": "Flag", "MODE": "Mode", "POLICY": "Policy", "HOST": "Host", "DOMAIN": "Text", "MAP": "Text"}
+WORDS |= dict.fromkeys(["CONNECTIONS", "TURNS", "START", "N", "PROG", "VERS", "PROT"], "Number")
+WORDS |= dict.fromkeys(["KEY", "GROUP", "USER", "NISDOMAIN"], "Key")
+BEHIND = {("build", "STORE"): "KindStore", ("revnet", "STORE"): "ReverseStore", ("innetgr", "HOST"): "Key"}
+FURTHER = {"[KEY=VALUE]*": "Each(Pair)", "[HOST]*": "Each(Host)", "[STORE or HOST]*": "StoresAndHosts"}
+
+differences = []
+
+
+def tell(difference):
+    differences.append(difference)
+
+
+def read(path):
+    with open(os.path.join(server.TOP, path), encoding="utf-8") as file:
+        return file.read()
+
+
+def between(source, begin, end):
+    """What stands between two texts, of which the first is there."""
+    return source.partition(begin)[2].partition(end)[0]
+
+
+# The sentences, as the documents write them.
+
+
+def page_sentences(path):
+    """The sentences of a page's SYNOPSIS, as README.md writes them."""
+    for line in re.findall(r"^\.Nm yp Cm (.*)$", between(read(path), ".Sh SYNOPSIS", ".Sh "), re.MULTILINE):
+        line = re.sub(r" Op Ar (.*?)( \.\.\.)?$", lambda m: f" [{m[1]}]" + "*" * bool(m[2]), line)
+        yield line.replace(" | ", " or ").replace(" Ar ", " ")
+
+
+def listings():
+    """Where sentences are listed, with them."""
+    commands = glob.glob(os.path.join(server.TOP, "man/yp-*.8"))
+    yield "README.md", re.findall(r"^\| `yp (.*?)` \|", read("README.md"), re.MULTILINE)
+    block = between(read("docs/FORMATS.md"), "\n## Words\n", "\n| ")
+    yield "docs/FORMATS.md", re.findall(r"^    (.*)$", block, re.MULTILINE)
+    yield "man/yp.8", list(page_sentences("man/yp.8"))
+    yield "man/yp-*.8", [sentence for page in sorted(commands) for sentence in page_sentences(page)]
+
+
+def same_listings():
+    """The sentences that all listings have, where these have the same."""
+    listed = list(listings())
+    wanted = listed[0][1]
+    for place, sentences in listed:
+        for sentence in sorted(set(sentences) ^ set(wanted)):
+            there, lacking = (place, listed[0][0]) if sentence in sentences else (listed[0][0], place)
+            tell(f"`{sentence}` stands in {there}, and not in {lacking}")
+        for sentence in sorted({s for s in sentences if sentences.count(s) > 1}):
+            tell(f"`{sentence}` stands in {place} more than once")
+    every = list(dict.fromkeys(sentence for _, sentences in listed for sentence in sentences))
+    headings = re.findall(r"^## (`.*)$", read("docs/COMMANDS.md"), re.MULTILINE)
+    described = {command for heading in headings for command in re.findall("`(.*?)`", heading)}
+    for command in sorted(described ^ {sentence.split()[0] for sentence in every}):
+        tell(f"{command} is a command of docs/COMMANDS.md alone, or of the other documents alone")
+    return every
+
+
+# A sentence by its forms: its command, the forms of the words behind that, and what may stand behind these.
+
+
+def by_forms(sentence):
+    """The sentences by their forms that one stands for: two where it has a word that may be left out."""
+    command, *words = re.findall(r"\[.*?\]\*?|[^ ]+", sentence)
+    further = FURTHER.get(words[-1], "NoMore") if words else "NoMore"
+    if further != "NoMore":
+        words.pop()
+    if further == "Each(Host)" and words[-1:] == ["HOST"]:
+        words.pop()
+        further = "Servers"
+    last = [words.pop().strip("[]")] if words and words[-1].startswith("[") else []
+    for each in [words, words + last] if last else [words]:
+        yield command, tuple(BEHIND.get((command, word)) or WORDS.get(word, word) for word in each), further
+
+
+def of_code():
+    """The sentences of the code's table, by forms."""
+    table = between(read("crates/yp_command/src/sentence.rt"), "static SENTENCES", "\n];\n")
+    for forms, further in re.findall(r"forms: &\[(.*?)\],\s*further: Further::(.*?),\n", table, re.DOTALL):
+        command = re.search(r'Form::Exactly\("(\w+)"\)', forms)[1]
+        yield command, tuple(re.findall(r"Form::(\w+)(?!\w|\()", forms)), further.replace("Form::", "")
+
+
+def same_table(sentences):
+    """Tells where the sentences of the code aren't those of the documents."""
+    documents = {each for sentence in sentences for each in by_forms(sentence)}
+    code = set(of_code())
+    for command, forms, further in sorted(documents ^ code):
+        where = "the documents" if (command, forms, further) in documents else "the code"
+        tell(f"{command} with the forms {', '.join(forms)} and {further} is a sentence of {where} alone")
+    return sorted(each for each in documents if set(each[1]) <= set(FORMS))
+
+
+# What the documents' sentences say of words.
+
+
+def joins(further, earlier, word):
+    """Whether a word may stand as a further one behind others."""
+    if further in ("Each(Pair)", "Each(Host)"):
+        return FORMS[further[5:-1]][0](word)
+    addresses = [host.partition("@")[2] for host in earlier]
+    if further == "Servers":
+        return is_host(word) and len(earlier) < HOST_MOST and word.partition("@")[2] not in addresses
+    if further == "StoresAndHosts":
+        stores = [each for each in earlier if "/" in each]
+        return is_host(word) or FORMS["Store"][0](word) and word not in stores and len(stores) < STORE_MOST
+    return False
+
+
+def fitting(sentence, words):
+    """How many words at the front are as the sentence has them."""
+    command, forms, further = sentence
+    checks = [one_of(command)] + [FORMS[form][0] for form in forms]
+    for at, check in enumerate(checks):
+        if at == len(words) or not check(words[at]):
+            return at
+    at = len(checks)
+    while at < len(words) and joins(further, words[len(checks):at], words[at]):
+        at += 1
+    return at
+
+
+def is_whole(sentence, words):
+    """Whether words that fit are all that the sentence wants."""
+    behind = words[1 + len(sentence[1]):]
+    enough = {"StoresAndHosts": any("/" in word for word in behind), "Servers": bool(behind)}
+    return fitting(sentence, words) == len(words) > len(sentence[1]) and enough.get(sentence[2], True)
+
+
+def further_words(sentence):
+    """Words that may stand behind those of the sentence."""
+    hosts = ["h@127.0.0.1:1", "g@127.0.0.1:2"]
+    return {"NoMore": [], "Each(Pair)": ["k=v", "k=w"], "Each(Host)": hosts, "Servers": hosts}.get(
+        sentence[2], ["lab/m", "h@127.0.0.1:1", "lab/n"])
+
+
+# What the program says of them.
+
+
+def run(words):
+    """The status with which the program ends for words, without input, and its note."""
+    words = [os.fsencode(word) for word in words]
+    ended = subprocess.run([server.PROGRAM, *words], stdin=subprocess.DEVNULL, capture_output=True)
+    return ended.returncode, ended.stderr
+
+
+def shown(words):
+    words = [word if len(word) < 70 else f"{word[:4]}.. of {len(word)}" for word in words]
+    return " ".join(words).replace(NO_TEXT, "\\xff")
+
+
+def probes(sentences, commands):
+    """Words that are no sentence. The last one fits nowhere, unless words are missing."""
+    # What has one of the forms that are left out is a word of another form, too.
+    every = [good for form, (_, good, _) in FORMS.items() if form not in ("Store", "Number", "Text", "Key")]
+    for command in commands:
+        yield [command, NO_TEXT]
+    for sentence in sentences:
+        words = [sentence[0]] + [FORMS[form][1] for form in sentence[1]]
+        whole = words + further_words(sentence)
+        yield whole + [NO_TEXT]
+        for at, form in enumerate(sentence[1], 1):
+            for word in FORMS[form][2]:
+                yield words[:at] + [word, NO_TEXT]
+        for end in (words, whole) if whole != words else (words,):
+            for word in [*every, *end[len(words):]]:
+                yield end + [word, NO_TEXT]
+        for length in range(len(whole)):
+            if not any(is_whole(each, whole[:length]) for each in sentences):
+                yield whole[:length]
+
+
+def asks(sentences):
+    """Tells where the program says another thing of words than the sentences."""
+    commands = sorted({sentence[0] for sentence in sentences} | {sentence[0] for sentence in of_code()})
+
+    def refuse(words):
+        wrong = max(fitting(sentence, words) for sentence in sentences)
+        status, note = run(words)
+        if (status, note) != (2, b"yp: usage at word %d\n" % wrong):
+            return f"`yp {shown(words)}` has status {status} and {note}, and word {wrong} is wrong by the documents"
+
+    def accept(sentence):
+        forms = dict.fromkeys(FORMS, "") | {form: good for form, (_, good, _) in FORMS.items()}
+        forms["Port"] = str(server.free_port())
+        words = [sentence[0]] + [forms[form] for form in sentence[1]] + further_words(sentence)
+        status, note = run(words)
+        if status == 2:
+            return f"`yp {shown(words)}` is no sentence of the program: {note}"
+
+    with ThreadPoolExecutor(4) as pool:
+        found = [*pool.map(refuse, {tuple(words): words for words in probes(sentences, commands)}.values())]
+        found += pool.map(accept, sentences)
+    for difference in filter(None, found):
+        tell(difference)
+
+
+# The statuses.
+
+
+def same_statuses():
+    table = between(read("docs/FORMATS.md"), "\n## Statuses\n", "\n\nThe line ends")
+    rows = re.findall(r"^\| (\d+) \| (\w+) \| .* \| (.*) \|$", table, re.MULTILINE)
+    documents = {(code, line) for code, _, notes in rows for line in re.findall("`(.*?)`", notes) or [""]}
+    items = between(read("man/yp.8"), ".Sh EXIT STATUS", ".Sh ")
+    page = set(re.findall(r'^\.It (\d+)(?: Ql "(.*)")?$', items, re.MULTILINE))
+    for code, line in sorted(documents ^ page):
+        tell(f"status {code} {line} is one of {'docs/FORMATS.md' if (code, line) in documents else 'man/yp.8'} alone")
+    told = between(read("crates/yp_command/src/office/status.rt"), "pub fn code", "pub fn ")
+    code = set(re.findall(r"Status::(\w+).*? => (\d+),", told))
+    for name, number in sorted(code ^ {(name, number) for number, name, _ in rows}):
+        tell(f"status {number} {name} is one of the code alone, or of docs/FORMATS.md alone")
+
+
+sentences = same_table(same_listings())
+asks(sentences)
+same_statuses()
+print("\n".join(differences), end="\n" * bool(differences))
+sys.exit(bool(differences))
