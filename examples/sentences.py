@@ -2,11 +2,11 @@
 """Compares the sentences of the program with those of the documents and of the manual pages: sentences.py
 
 README.md, docs/FORMATS.md and man/yp.8 list all sentences, the pages man/yp-*.8 those of their commands, and
-docs/COMMANDS.md has each command in a heading. These have to be the same, and so do the sentences in the table of the
-code. Then the program is asked. It is given words with which a sentence goes on, words with which it doesn't, and words
-of which the last ones are missing, and has to tell the number of the wrong word; nothing is done then. It is given each
-whole sentence, too, which has to be one: in the folder where this runs that finds or makes next to nothing. The
-statuses of docs/FORMATS.md are compared with those of man/yp.8 and of the code.
+docs/COMMANDS.md has each command in a heading. These have to be the same, and so do the sentences of the code, whose
+words are known by the functions that read them. Then the program is asked. It is given words with which a sentence goes on, words with
+which it doesn't, and words of which the last ones are missing, and has to tell the number of the wrong word; nothing is
+done then. It is given each whole sentence, too, which has to be one: in the folder where this runs that finds or makes
+next to nothing. The statuses of docs/FORMATS.md are compared with those of man/yp.8 and of the code.
 
 The program has to be built. It prints what differs, and ends with status 1 where anything does.
 """
@@ -91,6 +91,13 @@ WORDS |= dict.fromkeys(["KEY", "GROUP", "USER", "NISDOMAIN"], "Key")
 BEHIND = {("build", "STORE"): "KindStore", ("revnet", "STORE"): "ReverseStore", ("innetgr", "HOST"): "Key"}
 FURTHER = {"[KEY=VALUE]*": "Each(Pair)", "[HOST]*": "Each(Host)", "[STORE or HOST]*": "StoresAndHosts"}
 
+# The form that a function of the code reads a word by, and the further words.
+READ = {"name": "Name", "store": "Store", "kind_store": "KindStore", "reverse_store": "ReverseStore", "number": "Number"}
+READ |= {"port": "Port", "window": "Window", "workers": "Workers", "policy": "Policy", "address": "Address"}
+READ |= {"host": "Host", "text": "Text", "key": "Key", "member": "Key", "mode": "Mode"}
+READ_FURTHER = {"each_pair": "Each(Pair)", "each_host": "Each(Host)", "stores_and_hosts": "StoresAndHosts"}
+READ_FURTHER |= {"servers": "Servers"}
+
 differences = []
 
 
@@ -164,11 +171,22 @@ def by_forms(sentence):
 
 
 def of_code():
-    """The sentences of the code's table, by forms."""
-    table = between(read("crates/yp_command/src/sentence.rt"), "static SENTENCES", "\n];\n")
-    for forms, further in re.findall(r"forms: &\[(.*?)\],\s*further: Further::(.*?),\n", table, re.DOTALL):
-        command = re.search(r'Form::Exactly\("(\w+)"\)', forms)[1]
-        yield command, tuple(re.findall(r"Form::(\w+)(?!\w|\()", forms)), further.replace("Form::", "")
+    """The sentences of the code, by forms, as the functions that read them do."""
+    source = read("crates/yp_command/src/words.rt")
+    readers = dict(re.findall(r'^        "(\w+)" => (\w+)\(', between(source, "\nfn read(", "\n}\n"), re.MULTILINE))
+    for command, reader in readers.items():
+        body = between(source, f"\nfn {reader}(", "\n}\n")
+        read_by = re.findall(r"words\.(\w+)\((\d+)\)", body)
+        forms = [READ[form] for form, _ in read_by if form not in ("end", "flag_if_any")]
+        if [int(at) for _, at in read_by] != list(range(1, len(read_by) + 1)):
+            tell(f"the code reads the words of {command} by other numbers than their own")
+        further = re.search("= (each_pair|each_host|stores_and_hosts|servers)\\(", body)
+        ends = READ_FURTHER[further[1]] if further else "NoMore"
+        if ends == "Servers":
+            forms.pop()
+        yield command, tuple(forms), ends
+        if any(form == "flag_if_any" for form, _ in read_by):
+            yield command, (*forms, "Flag"), ends
 
 
 def same_table(sentences):

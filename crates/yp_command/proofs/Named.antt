@@ -1,119 +1,165 @@
 -- The names of a command are within their limits, and the maps of a server make a catalogue.
 use Rattle.std.proofs.Common.{◌≡◌, ℕ, zero, suc, ◌+◌, ◌<◌, ◌≤◌, Bool, true, false, cond, not, ◌&&◌, List}
-use Rattle.std.proofs.Common.{[], ◌∷◌, ◌++◌, length, map, drop, Option, Some, None, refl, sym, ap, ◌∙◌, subst}
-use Rattle.std.proofs.Common.{arith, length-append, append_assoc}
-use Rattle.std.specs.Prelude.{nat_le, nat_lt, ◌==◌, is_some, IsSome, All, filter, unwrap_or}
-use Rattle.std.specs.List.{find, list_any, prefix_len}
-use Rattle.std.specs.Option.{option_map}
+use Rattle.std.proofs.Common.{[], ◌∷◌, ◌++◌, length, drop, Option, Some, None, Result, Ok, Err, refl, sym, ap, ◌∙◌}
+use Rattle.std.proofs.Common.{subst, arith, length-append, append_assoc}
+use Rattle.std.specs.Prelude.{nat_le, nat_lt, IfOk, IsSome, All, slice_get, bytes_eq, map, codes}
+use Rattle.std.specs.List.{list_any, prefix_len}
+use Rattle.std.specs.Option.{ok_or, option_map_or, option_and_then}
 use Rattle.std.proofs.lemmas.Bool.Decides.{nat_tests}
-use Rattle.std.proofs.lemmas.List.{append-nil, length-map, map-append, take_all}
-use Rattle.std.proofs.lemmas.List.Elements.{filter-append, All-append}
+use Rattle.std.proofs.lemmas.List.{append-nil, take_all}
+use Rattle.std.proofs.lemmas.List.Elements.{All-append}
 use Rattle.yp_version.specs.Limits.{key_max}
 use Rattle.yp_binding.specs.Kept.{servers_max}
-use Rattle.yp_binding.specs.Rounds.{is_same_peer}
-use Rattle.yp_board.specs.Catalogues.{Name, name_max, maps_max, is_same, is_name as is_short_name}
-use Rattle.yp_board.specs.inside.Catalogues.{again_from, with_numbers, bad_name, twice, is_map_name, catalog_fault}
-use Rattle.yp_command.specs.Forms.{Form, has_form, before, after, is_name, is_store, is_kind_store, is_text, is_key}
-use Rattle.yp_command.specs.Forms.{is_host, is_reverse, is_number, window_of, window_max, workers_of}
 use Rattle.yp_board.specs.readers.Boards.{workers_max}
-use Rattle.std.specs.Str.Parse.{digits_value}
-use Rattle.yp_command.specs.Words.{Meaning, Further, Sentence, once, session, serve, check, build, build_flagged, xfr}
-use Rattle.yp_command.specs.Words.{xfr_flagged, sample, push, bind, portmap, getport, cat, catk, which, poll}
-use Rattle.yp_command.specs.inside.Words.{IsOneMap}
-use Rattle.yp_command.specs.Words.{walk, walk_flagged, revnet}
-use Rattle.yp_command.specs.inside.Words.{AreMaps as MakeMaps}
-use Rattle.yp_command.specs.Words.{match_key, maps, innetgr, asking, sentences, further_fitting}
-use Rattle.yp_command.specs.Words.{serving_fitting, joins, is_new_store, served, fitting, is_whole, asked, name_of}
-use Rattle.yp_command.specs.Words.{kind_of, joins_servers, servers_fitting, peer_word, host_of}
-use Rattle.yp_command.specs.inside.Words.{IsNamed, HasNames}
-use Rattle.yp_client.specs.declared.question.Question.TheVariants.{Cat, Catk, Which, Poll}
+use Rattle.yp_board.specs.Catalogues.{Name, name_max, maps_max, is_same, is_name as is_short_name}
+use Rattle.yp_board.specs.inside.Catalogues.{is_map_name}
+use Rattle.yp_board.specs.inside.Catalogues.{again_from, with_numbers, bad_name, twice, catalog_fault}
+use Rattle.yp_command.specs.Forms.{Host, when, is_name, is_reverse, kind_of, window_max, before, after}
+use Rattle.yp_command.specs.Forms as form
+use Rattle.yp_command.specs.declared.command.Command.{Command}
+use Rattle.yp_command.specs.declared.words.ParseFault.{ParseFault}
+use Rattle.yp_command.specs.Words.{Meaning, meaning, ◌>>=◌, word, served, stores_and_hosts, servers}
+use Rattle.yp_command.specs.Words.{is_new_store, is_new_server, once, session, serve, check, build, xfr, walk, revnet}
+use Rattle.yp_command.specs.Words.{sample, push, bind, portmap, getport, asking, match_key, maps, innetgr, sentence}
+use Rattle.yp_command.specs.Words.{command_of, each, end, optional, Once, Session, Serve, Check, Build, Xfr, Walk}
+use Rattle.yp_command.specs.Words.{Revnet, Sample, Push, Bind, Portmap, Getport, Ask}
+use Rattle.yp_command.specs.inside.Words.{IsNamed, IsOneMap, AreMaps as MakeMaps, HasNames, Answers}
+use Rattle.yp_client.specs.declared.question.Question.TheVariants.{Cat, Catk, Match, Which, Poll, Maps, Innetgr}
 use Rattle.yp_client.specs.Questions.{ByteQuestion}
 use Rattle.yp_client.specs.inside.Questions.{QuestionIsWithin}
 
--- words have these forms, in turn
-HaveForms : List Form → List (List ℕ) → Type 0
-HaveForms [] words = Unit {0}
-HaveForms (form ∷ forms) [] = ⊥
-HaveForms (form ∷ forms) (word ∷ words) = (has_form form word ≡ true) × HaveForms forms words
+-- ---- what is read
 
--- all words behind those of the forms are further ones
-HaveFurther : Sentence → List (List ℕ) → Type 0
-HaveFurther sentence words =
-    further_fitting sentence.further (drop (length sentence.forms) words) ≡ length (drop (length sentence.forms) words)
+-- what is read behind a value was read with it
+bound : {A B : Type 0} (read : Result A ℕ) (next : A → Result B ℕ) (all : B) → (read >>= next) ≡ Ok all
+    → (value : A) × (read ≡ Ok value) × (next value ≡ Ok all)
+bound (Ok value) next all e = (value, refl, e)
+bound (Err at) next all e = absurd cc
+
+some_of : {A : Type 0} (said : Option A) (at : ℕ) (value : A) → ok_or said at ≡ Ok value → said ≡ Some value
+some_of None at value e = absurd cc
+some_of (Some other) at value e = let same : other ≡ value = cc in rw same refl
+
+-- a word that says a value is there
+said : {A : Type 0} (form : List ℕ → Option A) (at : ℕ) (found : Option (List ℕ)) (value : A)
+    → ok_or (option_and_then form found) at ≡ Ok value → (word : List ℕ) × (form word ≡ Some value)
+said form at None value e = absurd cc
+said form at (Some word) value e = (word, some_of (form word) at value e)
+
+-- so a fact of all that a form says is one of what is read by it
+of_word : {A : Type 0} (P : A → Type 0) (form : List ℕ → Option A) (at : ℕ) (words : List (List ℕ)) (value : A)
+    → ((word : List ℕ) (value : A) → form word ≡ Some value → P value) → word at form words ≡ Ok value → P value
+of_word P form at words value holds e =
+    let found = said form at (slice_get words at) value e in
+    holds found.0 value found.1
+
+passed : {A : Type 0} (test : Bool) (value other : A) → when test value ≡ Some other
+    → (test ≡ true) × (value ≡ other)
+passed true value other e = (refl, cc)
+passed false value other e = absurd cc
+
+then_some : {A B : Type 0} (said : Option A) (next : A → Option B) (all : B) → option_and_then next said ≡ Some all
+    → (value : A) × (said ≡ Some value) × (next value ≡ Some all)
+then_some (Some value) next all e = (value, refl, e)
+then_some None next all e = absurd cc
 
 both : (a b : Bool) → (a && b) ≡ true → (a ≡ true) × (b ≡ true)
 both true b h = (refl, h)
 both false b h = absurd cc
 
--- a word fits, and those behind it do
-fits_first : (fit : Bool) (more count : ℕ) → cond fit (more + 1) 0 ≡ count + 1 → (fit ≡ true) × (more ≡ count)
-fits_first true more count h = (refl, omega arith)
-fits_first false more count h = absurd (omega arith)
-
-forms_fit : (forms : List Form) (further : Further) (words : List (List ℕ)) → length forms ≤ length words
-    → fitting forms further words ≡ length words → HaveForms forms words
-unfolding HaveForms
-forms_fit [] further words few fit = tt
-forms_fit (form ∷ forms) further [] few fit = absurd (omega arith)
-forms_fit (form ∷ forms) further (word ∷ words) few fit =
-    let first = fits_first (has_form form word) (fitting forms further words) (length words) (omega (arith, fit)) in
-    (first.0, forms_fit forms further words (omega arith) first.1)
-
-further_fit : (forms : List Form) (further : Further) (words : List (List ℕ)) → length forms ≤ length words
-    → fitting forms further words ≡ length words
-    → further_fitting further (drop (length forms) words) ≡ length (drop (length forms) words)
-further_fit [] further words few fit = fit
-further_fit (form ∷ forms) further [] few fit = absurd (omega arith)
-further_fit (form ∷ forms) further (word ∷ words) few fit =
-    let first = fits_first (has_form form word) (fitting forms further words) (length words) (omega (arith, fit)) in
-    further_fit forms further words (omega arith) first.1
-
--- whole words have the forms of their sentence, and its further words
-record Fit (sentence : Sentence) (words : List (List ℕ)) : Type 0 where
-  forms : HaveForms sentence.forms words
-  further : HaveFurther sentence words
-
-whole_fit : (words : List (List ℕ)) (sentence : Sentence) → is_whole words sentence ≡ true → Fit sentence words
-unfolding HaveFurther
-whole_fit words sentence whole =
-    let few_and_all = both (nat_le (length sentence.forms) (length words)
-    && fitting sentence.forms sentence.further words == length words) _ whole in
-    let h = both (nat_le (length sentence.forms) (length words))
-    (fitting sentence.forms sentence.further words == length words) few_and_all.0 in
-    let few : length sentence.forms ≤ length words = grind (arith, nat_tests) in
-    let all : fitting sentence.forms sentence.further words ≡ length words = grind (arith, nat_tests) in
-    record {
-      forms = forms_fit sentence.forms sentence.further words few all;
-      further = further_fit sentence.forms sentence.further words few all;
-    }
-
 -- ---- names
 
--- a name is within its limit
 name_short : (word : List ℕ) → is_name word ≡ true → length word ≤ name_max
 name_short word h = grind (arith, nat_tests)
 
--- and has a byte
 name_some : (word : List ℕ) → is_name word ≡ true → is_short_name word ≡ true
 name_some word h = grind (arith, nat_tests)
 
-store_named : (word : List ℕ) → is_store word ≡ true → IsNamed (name_of word)
-store_named word h =
-    let parts = both (is_name (before 47 word)) (is_name (after 47 word)) h in
-    (name_short (before 47 word) parts.0, name_short (after 47 word) parts.1)
+-- what a word says as a name is one
+IsSaid : List ℕ → Type 0
+IsSaid name = is_name name ≡ true
 
-store_mapped : (word : List ℕ) → is_store word ≡ true → is_map_name (name_of word) ≡ true
-store_mapped word h =
-    let parts = both (is_name (before 47 word)) (is_name (after 47 word)) h in
-    let domain = name_some (before 47 word) parts.0 in
-    let map = name_some (after 47 word) parts.1 in
+name_said : (word value : List ℕ) → form.name word ≡ Some value → IsSaid value
+unfolding IsSaid
+name_said word value e =
+    let is = passed (is_name word) word value e in
+    subst (λ (w : List ℕ). is_name w ≡ true) is.1 is.0
+
+-- the names of a domain and of a map are names
+AreSaid : Name → Type 0
+AreSaid store = IsSaid store.0 × IsSaid store.1
+
+store_said : (word : List ℕ) (value : Name) → form.store word ≡ Some value → AreSaid value
+unfolding AreSaid
+store_said word value e =
+    let domain = then_some (form.name (before 47 word))
+    (λ (domain : List ℕ). option_and_then (λ map. Some (domain, map)) (form.name (after 47 word))) value e in
+    let map = then_some (form.name (after 47 word)) (λ (map : List ℕ). Some (domain.0, map)) value domain.2 in
+    let same : (domain.0, map.0) ≡ value = cc in
+    subst (λ (s : Name). IsSaid s.0 × IsSaid s.1) same
+    (name_said (before 47 word) domain.0 domain.1, name_said (after 47 word) map.0 map.1)
+
+IsOfKind : Name → Type 0
+IsOfKind store = AreSaid store × IsSome (kind_of store)
+
+kind_said : (word : List ℕ) (value : Name) → form.kind_store word ≡ Some value → IsOfKind value
+unfolding IsOfKind
+kind_said word value e =
+    let store = then_some (form.store word) _ value e in
+    let kind = then_some (kind_of store.0) (λ _. Some store.0) value store.2 in
+    let same : store.0 ≡ value = cc in
+    let known : IsSome (kind_of store.0) = subst (λ k. IsSome k) (sym kind.1) refl in
+    subst (λ (s : Name). AreSaid s × IsSome (kind_of s)) same (store_said word store.0 store.1, known)
+
+IsReverse : Name → Type 0
+IsReverse store = AreSaid store × (is_reverse store.1 ≡ true)
+
+reverse_said : (word : List ℕ) (value : Name) → form.reverse_store word ≡ Some value → IsReverse value
+unfolding IsReverse
+reverse_said word value e =
+    let store = then_some (form.store word) _ value e in
+    let is = passed (is_reverse store.0.1) store.0 value store.2 in
+    subst (λ (s : Name). AreSaid s × (is_reverse s.1 ≡ true)) is.1 (store_said word store.0 store.1, is.0)
+
+within_said : (least most : ℕ) (word : List ℕ) (value : ℕ) → form.within least most word ≡ Some value
+    → (least ≤ value) × (value ≤ most)
+within_said least most word value e =
+    let number = then_some (form.number word) _ value e in
+    let is = passed (nat_le least number.0 && nat_le number.0 most) number.0 value number.2 in
+    let parts = both (nat_le least number.0) (nat_le number.0 most) is.0 in
+    subst (λ (n : ℕ). (least ≤ n) × (n ≤ most)) is.1 (grind (arith, nat_tests), grind (arith, nat_tests))
+
+text_said : (word value : List ℕ) → form.text word ≡ Some value → length value ≤ name_max
+text_said word value e =
+    let is = passed (nat_le 1 (length word) && nat_le (length word) name_max) word value e in
+    let parts = both (nat_le 1 (length word)) (nat_le (length word) name_max) is.0 in
+    subst (λ (w : List ℕ). length w ≤ name_max) is.1 (grind (arith, nat_tests))
+
+key_said : (word value : List ℕ) → form.key word ≡ Some value → length value ≤ key_max
+key_said word value e =
+    let is = passed (nat_le (length word) key_max) word value e in
+    subst (λ (w : List ℕ). length w ≤ key_max) is.1 (grind (arith, nat_tests))
+
+name_read : (at : ℕ) (words : List (List ℕ)) (value : List ℕ) → word at form.name words ≡ Ok value → IsSaid value
+name_read at words value e = of_word IsSaid form.name at words value name_said e
+
+store_read : (at : ℕ) (words : List (List ℕ)) (value : Name) → word at form.store words ≡ Ok value → AreSaid value
+store_read at words value e = of_word AreSaid form.store at words value store_said e
+
+text_read : (at : ℕ) (words : List (List ℕ)) (value : List ℕ) → word at form.text words ≡ Ok value
+    → length value ≤ name_max
+text_read at words value e = of_word (λ t. length t ≤ name_max) form.text at words value text_said e
+
+store_named : (store : Name) → AreSaid store → IsNamed store
+unfolding AreSaid IsSaid
+store_named store are = (name_short store.0 are.0, name_short store.1 are.1)
+
+store_mapped : (store : Name) → AreSaid store → is_map_name store ≡ true
+unfolding AreSaid IsSaid
+store_mapped store are =
+    let domain = name_some store.0 are.0 in
+    let map = name_some store.1 are.1 in
     rw (domain, map) refl
-
-text_short : (word : List ℕ) → is_text word ≡ true → length word ≤ name_max
-text_short word h = grind (arith, nat_tests)
-
-key_short : (word : List ℕ) → is_key word ≡ true → length word ≤ key_max
-key_short word h = grind (arith, nat_tests)
 
 -- ---- the maps of a server
 
@@ -188,36 +234,6 @@ good_more stores store good named is new =
       few = omega (arith, length-append stores (store ∷ []));
     }
 
-served_behind : (earlier : List (List ℕ)) (word : List ℕ) (b : Bool) → is_store word ≡ b
-    → served (earlier ++ word ∷ []) ≡ served earlier ++ cond b (name_of word ∷ []) []
-served_behind earlier word true is =
-    ap (λ (l : List (List ℕ)). map name_of l) (filter-append is_store earlier (word ∷ []))
-    ∙ map-append name_of (filter is_store earlier) (filter is_store (word ∷ []))
-    ∙ ap (λ (b : Bool). served earlier ++ map name_of (cond b (word ∷ []) [])) is
-served_behind earlier word false is =
-    ap (λ (l : List (List ℕ)). map name_of l) (filter-append is_store earlier (word ∷ []))
-    ∙ map-append name_of (filter is_store earlier) (filter is_store (word ∷ []))
-    ∙ ap (λ (b : Bool). served earlier ++ map name_of (cond b (word ∷ []) [])) is
-
-joined_good : (earlier : List (List ℕ)) (word : List ℕ) (b : Bool) → is_store word ≡ b → AreGood (served earlier)
-    → cond b (is_new_store (served earlier) (name_of word)) (is_host word) ≡ true
-    → AreGood (served (earlier ++ word ∷ []))
-joined_good earlier word true is good joins =
-    subst AreGood (sym (served_behind earlier word true is))
-    (good_more (served earlier) (name_of word) good (store_named word is) (store_mapped word is) joins)
-joined_good earlier word false is good joins =
-    subst AreGood (sym (served_behind earlier word false is ∙ append-nil (served earlier))) good
-
-served_good : (earlier words : List (List ℕ)) → AreGood (served earlier)
-    → serving_fitting earlier words ≡ length words → AreGood (served (earlier ++ words))
-served_good earlier [] good fit = subst (λ (l : List (List ℕ)). AreGood (served l)) (sym (append-nil earlier)) good
-served_good earlier (word ∷ words) good fit =
-    let first = fits_first (joins earlier word) (serving_fitting (earlier ++ word ∷ []) words) (length words)
-    (omega (arith, fit)) in
-    let more = joined_good earlier word (is_store word) refl good first.0 in
-    subst (λ (l : List (List ℕ)). AreGood (served l)) (append_assoc earlier (word ∷ []) words)
-    (served_good (earlier ++ word ∷ []) words more first.1)
-
 none_at : (n len : ℕ) → n ≡ len → cond (nat_lt n len) (Some n) None ≡ None
 none_at n len e = grind (arith, nat_tests)
 
@@ -241,292 +257,316 @@ good_catalogue own stores short good =
     let few : nat_lt maps_max (length stores) ≡ false = grind (arith, nat_tests) in
     rw (short, bad, once, few) refl
 
+served_good : (at : ℕ) (stores : List Name) (hosts : List Host) (words : List (List ℕ)) (all : List Name × List Host)
+    → AreGood stores → served at stores hosts words ≡ Ok all → AreGood all.0
+served_good at stores hosts [] all good e =
+    let same : (stores, hosts) ≡ all = cc in
+    subst (λ (a : List Name × List Host). AreGood a.0) same good
+served_good at stores hosts (word ∷ words) all good e =
+    (elim (form.store word) as
+    (λ o. form.store word ≡ o
+    → option_map_or (λ store.
+    cond (is_new_store stores store) (served (at + 1) (stores ++ store ∷ []) hosts words) (Err at)) o
+    (ok_or (form.host word) at >>= λ host. served (at + 1) stores (hosts ++ host ∷ []) words) ≡ Ok all
+    → AreGood all.0) [
+      | Some store ↦ λ is e.
+          (elim (is_new_store stores store) as
+          (λ b. is_new_store stores store ≡ b
+          → cond b (served (at + 1) (stores ++ store ∷ []) hosts words) (Err at) ≡ Ok all → AreGood all.0) [
+            | true ↦ λ new e.
+                let said = store_said word store is in
+                served_good (at + 1) (stores ++ store ∷ []) hosts words all
+                (good_more stores store good (store_named store said) (store_mapped store said) new) e
+            | false ↦ λ new e. absurd cc
+          ]) refl e
+      | None ↦ λ is e.
+          let host = bound (ok_or (form.host word) at) _ all e in
+          served_good (at + 1) stores (hosts ++ host.0 ∷ []) words all good host.2
+    ]) refl e
+
+maps_made : (own : List ℕ) (at : ℕ) (words : List (List ℕ)) (all : List Name × List Host) → IsSaid own
+    → stores_and_hosts at words ≡ Ok all → MakeMaps own all.0
+unfolding IsSaid
+maps_made own at words all named e =
+    let found = bound (served at [] [] (drop at words)) _ all e in
+    (elim (nat_le 1 (length found.0.0)) as
+    (λ b. cond b (Ok found.0) (Err (length words)) ≡ Ok all → MakeMaps own all.0) [
+      | true ↦ λ e.
+          let same : found.0 ≡ all = cc in
+          let good = served_good at [] [] (drop at words) found.0 no_maps found.1 in
+          subst (λ (a : List Name × List Host). MakeMaps own a.0) same (
+            good_catalogue own found.0.0 (name_some own named) good,
+            all_named found.0.0 good.named,
+            name_short own named,
+            good.few,
+          )
+      | false ↦ λ e. absurd cc
+    ]) found.2
+
+servers_few : (at : ℕ) (hosts : List Host) (words : List (List ℕ)) (all : List Host) → length hosts ≤ servers_max
+    → servers at hosts words ≡ Ok all → length all ≤ servers_max
+servers_few at hosts [] all few e =
+    let same : hosts ≡ all = cc in
+    subst (λ (h : List Host). length h ≤ servers_max) same few
+servers_few at hosts (word ∷ words) all few e =
+    let host = bound (ok_or (form.host word) at) _ all e in
+    (elim (is_new_server hosts host.0) as
+    (λ b. is_new_server hosts host.0 ≡ b
+    → cond b (servers (at + 1) (hosts ++ host.0 ∷ []) words) (Err at) ≡ Ok all → length all ≤ servers_max) [
+      | true ↦ λ new e.
+          let parts = both _ (nat_lt (length hosts) servers_max) new in
+          let under : length hosts < servers_max = grind (arith, nat_tests) in
+          servers_few (at + 1) (hosts ++ host.0 ∷ []) words all
+          (omega (arith, under, length-append hosts (host.0 ∷ []))) e
+      | false ↦ λ new e. absurd cc
+    ]) refl host.2
+
 -- ---- one map
 
-one_map : (name store : List ℕ) → is_name name ≡ true → is_store store ≡ true → IsOneMap name (name_of store)
-one_map name store named is =
-    let stored = store_named store is in
-    let good = good_more [] (name_of store) no_maps stored (store_mapped store is) refl in
-    (good_catalogue name (name_of store ∷ []) (name_some name named) good, name_short name named, stored)
-
-kind_named : (name store : List ℕ) → is_name name ≡ true → is_kind_store store ≡ true
-    → IsOneMap name (name_of store) × IsSome (kind_of (name_of store))
-kind_named name store named h =
-    let parts = both (is_store store) (is_some (kind_of (name_of store))) h in
-    (one_map name store named parts.0, parts.1)
+one_map : (name : List ℕ) (store : Name) → IsSaid name → AreSaid store → IsOneMap name store
+unfolding IsSaid
+one_map name store named are =
+    let stored = store_named store are in
+    let good = good_more [] store no_maps stored (store_mapped store are) refl in
+    (good_catalogue name (store ∷ []) (name_some name named) good, name_short name named, stored)
 
 -- ---- sentences
 
-once_named : (words : List (List ℕ)) → Fit once words → HasNames (once.asks words)
-unfolding HaveForms
-once_named [] h = absurd h.forms
-once_named (first ∷ []) h = absurd h.forms.1
-once_named (first ∷ store ∷ more) h = store_named store h.forms.1.0
+-- what is read has names within their limits
+Named : Result Meaning ℕ → Type 0
+Named (Ok meaning) = HasNames meaning
+Named (Err at) = Unit {0}
 
-maps_made : (name : List ℕ) (words : List (List ℕ)) → is_name name ≡ true
-    → serving_fitting [] words ≡ length words → MakeMaps name (served words)
-maps_made name words named further =
-    let good : AreGood (served words) = served_good [] words no_maps further in (
-      good_catalogue name (served words) (name_some name named) good,
-      all_named (served words) good.named,
-      name_short name named,
-      good.few,
+-- and what is read behind a value has
+read : {A : Type 0} (said : Result A ℕ) (next : A → Result Meaning ℕ)
+    → ((value : A) → said ≡ Ok value → Named (next value)) → Named (said >>= next)
+unfolding Named
+read (Ok value) next named = named value refl
+read (Err at) next named = tt
+
+-- all of it is read
+whole : (meaning : Meaning) → HasNames meaning → Named (Ok meaning)
+unfolding Named
+whole meaning named = named
+
+once_named : (words : List (List ℕ)) → Named (once words)
+unfolding once
+once_named words =
+    read (word 1 form.store words) _ λ store store_is. read (each form.pair 2 [] (drop 2 words)) _ λ rows _.
+    whole (Once store rows) (store_named store (store_read 1 words store store_is))
+
+session_named : (words : List (List ℕ)) → Named (session words)
+unfolding session
+session_named words =
+    read (word 1 form.name words) _ λ own own_is.
+    read (word 2 form.address words) _ λ peer _.
+    read (stores_and_hosts 3 words) _ λ all all_is.
+    whole (Session own peer all.0 all.1) (maps_made own 3 words all (name_read 1 words own own_is) all_is)
+
+serve_named : (words : List (List ℕ)) → Named (serve words)
+unfolding serve
+serve_named words =
+    read (word 1 form.name words) _ λ own own_is.
+    read (word 2 form.port words) _ λ port _.
+    read (word 3 form.workers words) _ λ workers workers_is.
+    read (word 4 form.number words) _ λ connections _.
+    read (word 5 form.number words) _ λ turns _. read (stores_and_hosts 6 words) _ λ all all_is.
+    whole (Serve own port workers connections turns all.0 all.1) (
+    let some = of_word (λ n. (1 ≤ n) × (n ≤ workers_max)) form.workers 3 words workers (within_said 1 workers_max)
+    workers_is in
+    (some.0, some.1, maps_made own 6 words all (name_read 1 words own own_is) all_is))
+
+check_named : (words : List (List ℕ)) → Named (check words)
+unfolding check
+check_named words =
+    read (word 1 form.store words) _ λ store store_is. read (end 2 words) _ λ end _.
+    whole (Check store) (store_named store (store_read 1 words store store_is))
+
+build_named : (words : List (List ℕ)) → Named (build words)
+unfolding build IsOfKind
+build_named words =
+    read (word 1 form.name words) _ λ name name_is.
+    read (word 2 form.kind_store words) _ λ store store_is.
+    read (optional 3 form.flag words) _ λ flag _.
+    read (end 4 words) _ λ end _.
+    whole (Build name store flag) (
+    let kind = of_word IsOfKind form.kind_store 2 words store kind_said store_is in
+    (one_map name store (name_read 1 words name name_is) kind.0, kind.1))
+
+xfr_named : (words : List (List ℕ)) → Named (xfr words)
+unfolding xfr
+xfr_named words =
+    read (word 1 form.name words) _ λ name name_is.
+    read (word 2 form.mode words) _ λ force _.
+    read (word 3 form.store words) _ λ store store_is.
+    read (word 4 form.host words) _ λ host _.
+    read (optional 5 form.flag words) _ λ flag _.
+    read (end 6 words) _ λ end _.
+    whole (Xfr name force store host flag) (one_map name store (name_read 1 words name name_is) (store_read 3 words store store_is))
+
+walk_named : (words : List (List ℕ)) → Named (walk words)
+unfolding walk
+walk_named words =
+    read (word 1 form.name words) _ λ name name_is.
+    read (word 2 form.mode words) _ λ force _.
+    read (word 3 form.store words) _ λ store store_is.
+    read (word 4 form.host words) _ λ host _.
+    read (word 5 form.port words) _ λ port _.
+    read (word 6 form.number words) _ λ turns _.
+    read (optional 7 form.flag words) _ λ flag _.
+    read (end 8 words) _ λ end _.
+    whole (Walk name force store host port turns flag) (one_map name store (name_read 1 words name name_is) (store_read 3 words store store_is))
+
+revnet_named : (words : List (List ℕ)) → Named (revnet words)
+unfolding revnet IsReverse IsSaid
+revnet_named words =
+    read (word 1 form.name words) _ λ name name_is.
+    read (word 2 form.reverse_store words) _ λ store store_is.
+    read (end 3 words) _ λ end _.
+    whole (Revnet name store) (
+    let is = of_word IsReverse form.reverse_store 2 words store reverse_said store_is in
+    (name_short name (name_read 1 words name name_is), store_named store is.0, is.1))
+
+sample_named : (words : List (List ℕ)) → Named (sample words)
+unfolding sample
+sample_named words =
+    read (word 1 form.number words) _ λ start _.
+    read (word 2 form.number words) _ λ count _.
+    read (end 3 words) _ λ end _.
+    whole (Sample start count) tt
+
+push_named : (words : List (List ℕ)) → Named (push words)
+unfolding push IsSaid
+push_named words =
+    read (word 1 form.name words) _ λ name name_is.
+    read (word 2 form.port words) _ λ port _.
+    read (word 3 form.window words) _ λ window window_is.
+    read (word 4 form.number words) _ λ turns _.
+    read (word 5 form.store words) _ λ store store_is. read (each form.host 6 [] (drop 6 words)) _ λ hosts _.
+    whole (Push name port window turns store hosts) (
+    let some = of_word (λ n. (1 ≤ n) × (n ≤ window_max)) form.window 3 words window (within_said 1 window_max)
+    window_is in (
+      name_short name (name_read 1 words name name_is),
+      omega (arith, some.0),
+      store_named store (store_read 5 words store store_is),
+    ))
+
+bind_named : (words : List (List ℕ)) → Named (bind words)
+unfolding bind IsSaid
+bind_named words =
+    read (word 1 form.port words) _ λ port _.
+    read (word 2 form.policy words) _ λ policy _.
+    read (word 3 form.number words) _ λ turns _.
+    read (word 4 form.name words) _ λ domain domain_is.
+    read (word 5 form.host words) _ λ first _.
+    read (servers 6 (first ∷ []) (drop 6 words)) _ λ hosts hosts_is.
+    whole (Bind port policy turns domain hosts) (
+      name_short domain (name_read 4 words domain domain_is),
+      servers_few 6 (first ∷ []) (drop 6 words) hosts (omega arith) hosts_is,
     )
 
-session_named : (words : List (List ℕ)) → Fit session words → HasNames (session.asks words)
-unfolding HaveForms HaveFurther
-session_named [] h = absurd h.forms
-session_named (first ∷ []) h = absurd h.forms.1
-session_named (first ∷ name ∷ []) h = absurd h.forms.1.1
-session_named (first ∷ name ∷ address ∷ more) h = maps_made name more h.forms.1.0 h.further
+portmap_named : (words : List (List ℕ)) → Named (portmap words)
+unfolding portmap
+portmap_named words =
+    read (word 1 form.port words) _ λ port _.
+    read (word 2 form.number words) _ λ turns _.
+    read (end 3 words) _ λ end _.
+    whole (Portmap port turns) tt
 
--- a server has a worker, and at most 8
-workers_some : (word : List ℕ) → is_some (workers_of word) ≡ true
-    → (1 ≤ unwrap_or (workers_of word) 0) × (unwrap_or (workers_of word) 0 ≤ workers_max)
-workers_some word h =
-    at (is_number word && nat_le 1 (digits_value 10 word) && nat_le (digits_value 10 word) workers_max) refl
-  where
-    at : (b : Bool)
-        → (is_number word && nat_le 1 (digits_value 10 word) && nat_le (digits_value 10 word) workers_max) ≡ b
-        → (1 ≤ unwrap_or (workers_of word) 0) × (unwrap_or (workers_of word) 0 ≤ workers_max)
-    at true e =
-        let parts = both (is_number word && nat_le 1 (digits_value 10 word)) (nat_le (digits_value 10 word) workers_max)
-        e in
-        let one = (both (is_number word) (nat_le 1 (digits_value 10 word)) parts.0).1 in
-        let most = parts.1 in
-        rw e (grind (arith, nat_tests), grind (arith, nat_tests))
-    at false e = let none = rw e at h in absurd cc
+getport_named : (words : List (List ℕ)) → Named (getport words)
+unfolding getport
+getport_named words =
+    read (word 1 form.port words) _ λ port _.
+    read (word 2 form.number words) _ λ turns _.
+    read (word 3 form.address words) _ λ peer _.
+    read (word 4 form.number words) _ λ prog _.
+    read (word 5 form.number words) _ λ vers _.
+    read (word 6 form.number words) _ λ prot _. read (end 7 words) _ λ end _.
+    whole (Getport port turns peer prog vers prot) tt
 
-serve_named : (words : List (List ℕ)) → Fit serve words → HasNames (serve.asks words)
-unfolding HaveForms HaveFurther
-serve_named [] h = absurd h.forms
-serve_named (first ∷ []) h = absurd h.forms.1
-serve_named (first ∷ name ∷ []) h = absurd h.forms.1.1
-serve_named (first ∷ name ∷ port ∷ []) h = absurd h.forms.1.1.1
-serve_named (first ∷ name ∷ port ∷ workers ∷ []) h = absurd h.forms.1.1.1.1
-serve_named (first ∷ name ∷ port ∷ workers ∷ connections ∷ []) h = absurd h.forms.1.1.1.1.1
-serve_named (first ∷ name ∷ port ∷ workers ∷ connections ∷ turns ∷ more) h =
-    let some = workers_some workers h.forms.1.1.1.0 in
-    (some.0, some.1, maps_made name more h.forms.1.0 h.further)
-
-check_named : (words : List (List ℕ)) → Fit check words → HasNames (check.asks words)
-unfolding HaveForms
-check_named [] h = absurd h.forms
-check_named (first ∷ []) h = absurd h.forms.1
-check_named (first ∷ store ∷ more) h = store_named store h.forms.1.0
-
-build_named : (words : List (List ℕ)) → Fit build words → HasNames (build.asks words)
-unfolding HaveForms
-build_named [] h = absurd h.forms
-build_named (first ∷ []) h = absurd h.forms.1
-build_named (first ∷ name ∷ []) h = absurd h.forms.1.1
-build_named (first ∷ name ∷ store ∷ more) h = kind_named name store h.forms.1.0 h.forms.1.1.0
-
-flagged_named : (words : List (List ℕ)) → Fit build_flagged words → HasNames (build_flagged.asks words)
-unfolding HaveForms
-flagged_named [] h = absurd h.forms
-flagged_named (first ∷ []) h = absurd h.forms.1
-flagged_named (first ∷ name ∷ []) h = absurd h.forms.1.1
-flagged_named (first ∷ name ∷ store ∷ more) h = kind_named name store h.forms.1.0 h.forms.1.1.0
-
-xfr_named : (words : List (List ℕ)) → Fit xfr words → HasNames (xfr.asks words)
-unfolding HaveForms
-xfr_named [] h = absurd h.forms
-xfr_named (first ∷ []) h = absurd h.forms.1
-xfr_named (first ∷ name ∷ []) h = absurd h.forms.1.1
-xfr_named (first ∷ name ∷ mode ∷ []) h = absurd h.forms.1.1.1
-xfr_named (first ∷ name ∷ mode ∷ store ∷ more) h = one_map name store h.forms.1.0 h.forms.1.1.1.0
-
-xfr_flagged_named : (words : List (List ℕ)) → Fit xfr_flagged words → HasNames (xfr_flagged.asks words)
-unfolding HaveForms
-xfr_flagged_named [] h = absurd h.forms
-xfr_flagged_named (first ∷ []) h = absurd h.forms.1
-xfr_flagged_named (first ∷ name ∷ []) h = absurd h.forms.1.1
-xfr_flagged_named (first ∷ name ∷ mode ∷ []) h = absurd h.forms.1.1.1
-xfr_flagged_named (first ∷ name ∷ mode ∷ store ∷ more) h = one_map name store h.forms.1.0 h.forms.1.1.1.0
-
-walk_named : (words : List (List ℕ)) → Fit walk words → HasNames (walk.asks words)
-unfolding HaveForms
-walk_named [] h = absurd h.forms
-walk_named (first ∷ []) h = absurd h.forms.1
-walk_named (first ∷ name ∷ []) h = absurd h.forms.1.1
-walk_named (first ∷ name ∷ mode ∷ []) h = absurd h.forms.1.1.1
-walk_named (first ∷ name ∷ mode ∷ store ∷ more) h = one_map name store h.forms.1.0 h.forms.1.1.1.0
-
-walk_flagged_named : (words : List (List ℕ)) → Fit walk_flagged words → HasNames (walk_flagged.asks words)
-unfolding HaveForms
-walk_flagged_named [] h = absurd h.forms
-walk_flagged_named (first ∷ []) h = absurd h.forms.1
-walk_flagged_named (first ∷ name ∷ []) h = absurd h.forms.1.1
-walk_flagged_named (first ∷ name ∷ mode ∷ []) h = absurd h.forms.1.1.1
-walk_flagged_named (first ∷ name ∷ mode ∷ store ∷ more) h = one_map name store h.forms.1.0 h.forms.1.1.1.0
-
-revnet_named : (words : List (List ℕ)) → Fit revnet words → HasNames (revnet.asks words)
-unfolding HaveForms
-revnet_named [] h = absurd h.forms
-revnet_named (first ∷ []) h = absurd h.forms.1
-revnet_named (first ∷ name ∷ []) h = absurd h.forms.1.1
-revnet_named (first ∷ name ∷ store ∷ more) h =
-    let parts = both (is_store store) (is_reverse (after 47 store)) h.forms.1.1.0 in
-    (name_short name h.forms.1.0, store_named store parts.0, parts.1)
-
-sample_named : (words : List (List ℕ)) → Fit sample words → HasNames (sample.asks words)
-sample_named words h = tt
-
--- a window is one
-window_some : (word : List ℕ) → is_some (window_of word) ≡ true → 0 < unwrap_or (window_of word) 0
-window_some word h = at (is_number word && nat_le 1 (digits_value 10 word) && nat_le (digits_value 10 word) window_max)
-    refl
-  where
-    at : (b : Bool)
-        → (is_number word && nat_le 1 (digits_value 10 word) && nat_le (digits_value 10 word) window_max) ≡ b
-        → 0 < unwrap_or (window_of word) 0
-    at true e =
-        let parts = both (is_number word && nat_le 1 (digits_value 10 word)) (nat_le (digits_value 10 word) window_max) e in
-        let one = (both (is_number word) (nat_le 1 (digits_value 10 word)) parts.0).1 in
-        rw e (grind (arith, nat_tests))
-    at false e = let none = rw e at h in absurd cc
-
-push_named : (words : List (List ℕ)) → Fit push words → HasNames (push.asks words)
-unfolding HaveForms
-push_named [] h = absurd h.forms
-push_named (first ∷ []) h = absurd h.forms.1
-push_named (first ∷ name ∷ []) h = absurd h.forms.1.1
-push_named (first ∷ name ∷ port ∷ []) h = absurd h.forms.1.1.1
-push_named (first ∷ name ∷ port ∷ window ∷ []) h = absurd h.forms.1.1.1.1
-push_named (first ∷ name ∷ port ∷ window ∷ turns ∷ []) h = absurd h.forms.1.1.1.1.1
-push_named (first ∷ name ∷ port ∷ window ∷ turns ∷ store ∷ more) h = (
-  name_short name h.forms.1.0,
-  window_some window h.forms.1.1.1.0,
-  store_named store h.forms.1.1.1.1.1.0,
-)
-
--- as many servers as a binder may have
-servers_few : (earlier words : List (List ℕ)) → length earlier ≤ servers_max
-    → servers_fitting earlier words ≡ length words → length earlier + length words ≤ servers_max
-servers_few earlier [] few fit = omega (arith, few)
-servers_few earlier (word ∷ words) few fit =
-    let first = fits_first (joins_servers earlier word) (servers_fitting (earlier ++ word ∷ []) words) (length words)
-    (omega (arith, fit)) in
-    let parts = both (is_host word && nat_lt (length earlier) servers_max)
-    (not (list_any (is_same_peer (peer_word word)) (map peer_word earlier))) first.0 in
-    let room = (both (is_host word) (nat_lt (length earlier) servers_max) parts.0).1 in
-    let under : length earlier < servers_max = grind (arith, nat_tests) in
-    let more : length (earlier ++ word ∷ []) ≤ servers_max =
-    omega (arith, under, length-append earlier (word ∷ [])) in
-    omega (arith, servers_few (earlier ++ word ∷ []) words more first.1, length-append earlier (word ∷ []))
-
-bind_named : (words : List (List ℕ)) → Fit bind words → HasNames (bind.asks words)
-unfolding HaveForms HaveFurther
-bind_named [] h = absurd h.forms
-bind_named (first ∷ []) h = absurd h.forms.1
-bind_named (first ∷ port ∷ []) h = absurd h.forms.1.1
-bind_named (first ∷ port ∷ policy ∷ []) h = absurd h.forms.1.1.1
-bind_named (first ∷ port ∷ policy ∷ turns ∷ []) h = absurd h.forms.1.1.1.1
-bind_named (first ∷ port ∷ policy ∷ turns ∷ name ∷ more) h = (
-  name_short name h.forms.1.1.1.1.0,
-  omega (arith, servers_few [] more (omega arith) h.further, length-map more host_of),
-)
-
-portmap_named : (words : List (List ℕ)) → Fit portmap words → HasNames (portmap.asks words)
-portmap_named words h = tt
-
-getport_named : (words : List (List ℕ)) → Fit getport words → HasNames (getport.asks words)
-getport_named words h = tt
-
--- a domain and a map of a question
-asked_short : (word : List ℕ) (question : List ℕ → List ℕ → ByteQuestion) (words : List (List ℕ))
-    → Fit (asking word question) words
+asking_named : (question : List ℕ → List ℕ → ByteQuestion) (words : List (List ℕ))
     → ((domain map : List ℕ) → IsNamed (domain, map) → QuestionIsWithin (question domain map))
-    → HasNames ((asking word question).asks words)
-unfolding HaveForms
-asked_short word question [] h short = absurd h.forms
-asked_short word question (first ∷ []) h short = absurd h.forms.1
-asked_short word question (first ∷ address ∷ []) h short = absurd h.forms.1.1
-asked_short word question (first ∷ address ∷ domain ∷ []) h short = absurd h.forms.1.1.1
-asked_short word question (first ∷ address ∷ domain ∷ map ∷ more) h short =
-    short domain map (text_short domain h.forms.1.1.0, text_short map h.forms.1.1.1.0)
+    → Named (asking question words)
+asking_named question words short =
+    read (word 1 form.address words) _ λ peer _.
+    read (word 2 form.text words) _ λ domain domain_is.
+    read (word 3 form.text words) _ λ map map_is.
+    read (end 4 words) _ λ end _.
+    whole (Ask peer (question domain map)) (short domain map (text_read 2 words domain domain_is, text_read 3 words map map_is))
 
-match_named : (words : List (List ℕ)) → Fit match_key words → HasNames (match_key.asks words)
-unfolding HaveForms
-match_named [] h = absurd h.forms
-match_named (first ∷ []) h = absurd h.forms.1
-match_named (first ∷ address ∷ []) h = absurd h.forms.1.1
-match_named (first ∷ address ∷ domain ∷ []) h = absurd h.forms.1.1.1
-match_named (first ∷ address ∷ domain ∷ map ∷ []) h = absurd h.forms.1.1.1.1
-match_named (first ∷ address ∷ domain ∷ map ∷ key ∷ more) h =
-    (text_short domain h.forms.1.1.0, text_short map h.forms.1.1.1.0, key_short key h.forms.1.1.1.1.0)
+match_key_named : (words : List (List ℕ)) → Named (match_key words)
+unfolding match_key
+match_key_named words =
+    read (word 1 form.address words) _ λ peer _.
+    read (word 2 form.text words) _ λ domain domain_is.
+    read (word 3 form.text words) _ λ map map_is.
+    read (word 4 form.key words) _ λ key key_is.
+    read (end 5 words) _ λ end _.
+    whole (Ask peer (Match domain map key)) (
+      text_read 2 words domain domain_is,
+      text_read 3 words map map_is,
+      of_word (λ t. length t ≤ key_max) form.key 4 words key key_said key_is,
+    )
 
-maps_named : (words : List (List ℕ)) → Fit maps words → HasNames (maps.asks words)
-unfolding HaveForms
-maps_named [] h = absurd h.forms
-maps_named (first ∷ []) h = absurd h.forms.1
-maps_named (first ∷ address ∷ []) h = absurd h.forms.1.1
-maps_named (first ∷ address ∷ domain ∷ more) h = text_short domain h.forms.1.1.0
+maps_named : (words : List (List ℕ)) → Named (maps words)
+unfolding maps
+maps_named words =
+    read (word 1 form.address words) _ λ peer _.
+    read (word 2 form.text words) _ λ domain domain_is.
+    read (end 3 words) _ λ end _.
+    whole (Ask peer (Maps domain)) (text_read 2 words domain domain_is)
 
-innetgr_named : (words : List (List ℕ)) → Fit innetgr words → HasNames (innetgr.asks words)
-unfolding HaveForms
-innetgr_named [] h = absurd h.forms
-innetgr_named (first ∷ []) h = absurd h.forms.1
-innetgr_named (first ∷ address ∷ []) h = absurd h.forms.1.1
-innetgr_named (first ∷ address ∷ domain ∷ more) h = text_short domain h.forms.1.1.0
+innetgr_named : (words : List (List ℕ)) → Named (innetgr words)
+unfolding innetgr
+innetgr_named words =
+    read (word 1 form.address words) _ λ peer _.
+    read (word 2 form.text words) _ λ domain domain_is.
+    read (word 3 form.key words) _ λ group _.
+    read (word 4 form.member words) _ λ host _.
+    read (word 5 form.member words) _ λ user _.
+    read (word 6 form.member words) _ λ user_domain _. read (end 7 words) _ λ end _.
+    whole (Ask peer (Innetgr domain group host user user_domain)) (text_read 2 words domain domain_is)
 
--- each of these sentences asks for a command with such names
-AllNamed : List Sentence → Type 0
-AllNamed [] = Unit {0}
-AllNamed (sentence ∷ rows) =
-    ((words : List (List ℕ)) → Fit sentence words → HasNames (sentence.asks words)) × AllNamed rows
+named_if : (test : Bool) (here there : Result Meaning ℕ) → Named here → Named there → Named (cond test here there)
+named_if true here there named later = named
+named_if false here there named later = later
 
-found_named : (sentence : Sentence) (words : List (List ℕ)) (rest : Option Sentence) (meaning : Meaning) (b : Bool)
-    → is_whole words sentence ≡ b
-    → ((words : List (List ℕ)) → Fit sentence words → HasNames (sentence.asks words))
-    → (option_map (λ row. row.asks words) rest ≡ Some meaning → HasNames meaning)
-    → option_map (λ (row : Sentence). row.asks words) (cond b (Some sentence) rest) ≡ Some meaning → HasNames meaning
-found_named sentence words rest meaning true is here later e =
-    let same : sentence.asks words ≡ meaning = cc in
-    subst HasNames same (here words (whole_fit words sentence is))
-found_named sentence words rest meaning false is here later e = later e
+none_named : (at : ℕ) → Named (Err at)
+unfolding Named
+none_named at = tt
 
-rows_named : (rows : List Sentence) → AllNamed rows → (words : List (List ℕ)) (meaning : Meaning)
-    → asked rows words ≡ Some meaning → HasNames meaning
-unfolding AllNamed
-rows_named [] each words meaning e = absurd cc
-rows_named (sentence ∷ rows) each words meaning e =
-    found_named sentence words (find (is_whole words) rows) meaning (is_whole words sentence) refl each.0
-    (rows_named rows each.1 words meaning) e
+sentence_named : (first : List ℕ) (words : List (List ℕ)) → Named (sentence first words)
+sentence_named first words =
+    named_if (bytes_eq first (codes "once")) _ _ (once_named words) (
+    named_if (bytes_eq first (codes "session")) _ _ (session_named words) (
+    named_if (bytes_eq first (codes "serve")) _ _ (serve_named words) (
+    named_if (bytes_eq first (codes "check")) _ _ (check_named words) (
+    named_if (bytes_eq first (codes "build")) _ _ (build_named words) (
+    named_if (bytes_eq first (codes "xfr")) _ _ (xfr_named words) (
+    named_if (bytes_eq first (codes "walk")) _ _ (walk_named words) (
+    named_if (bytes_eq first (codes "revnet")) _ _ (revnet_named words) (
+    named_if (bytes_eq first (codes "sample")) _ _ (sample_named words) (
+    named_if (bytes_eq first (codes "push")) _ _ (push_named words) (
+    named_if (bytes_eq first (codes "bind")) _ _ (bind_named words) (
+    named_if (bytes_eq first (codes "portmap")) _ _ (portmap_named words) (
+    named_if (bytes_eq first (codes "getport")) _ _ (getport_named words) (
+    named_if (bytes_eq first (codes "cat")) _ _ (asking_named Cat words (λ domain map short. short)) (
+    named_if (bytes_eq first (codes "catk")) _ _ (asking_named Catk words (λ domain map short. short)) (
+    named_if (bytes_eq first (codes "which")) _ _ (asking_named Which words (λ domain map short. short)) (
+    named_if (bytes_eq first (codes "poll")) _ _ (asking_named Poll words (λ domain map short. short)) (
+    named_if (bytes_eq first (codes "match")) _ _ (match_key_named words) (
+    named_if (bytes_eq first (codes "maps")) _ _ (maps_named words) (
+    named_if (bytes_eq first (codes "innetgr")) _ _ (innetgr_named words) (none_named 0))))))))))))))))))))
 
 -- what the words ask for has such names
-pub asked_named : (words : List (List ℕ)) (meaning : Meaning) → asked sentences words ≡ Some meaning → HasNames meaning
-unfolding sentences AllNamed
+asked_named : (words : List (List ℕ)) (meaning : Meaning) → command_of words ≡ Ok meaning → HasNames meaning
+unfolding command_of Named
 asked_named words meaning e =
-    let questions : AllNamed (cat ∷ catk ∷ which ∷ poll ∷ match_key ∷ maps ∷ innetgr ∷ []) = (
-      λ given fit. asked_short _ Cat given fit (λ domain map short. short),
-      (
-        λ given fit. asked_short _ Catk given fit (λ domain map short. short),
-        (
-          λ given fit. asked_short _ Which given fit (λ domain map short. short),
-          (
-            λ given fit. asked_short _ Poll given fit (λ domain map short. short),
-            (match_named, (maps_named, (innetgr_named, tt))),
-          ),
-        ),
-      ),
-    ) in
-    let makers : AllNamed (xfr ∷ xfr_flagged ∷ walk ∷ walk_flagged ∷ revnet ∷ sample ∷ push ∷ bind ∷ portmap ∷ getport
-    ∷ cat ∷ catk ∷ which ∷ poll ∷ match_key ∷ maps ∷ innetgr ∷ []) = (
-      xfr_named,
-      (
-        xfr_flagged_named,
-        (
-          walk_named,
-          (
-            walk_flagged_named,
-            (revnet_named, (sample_named, (push_named, (bind_named, (portmap_named, (getport_named, questions)))))),
-          ),
-        ),
-      ),
-    ) in
-    rows_named sentences (
-      once_named,
-      (session_named, (serve_named, (check_named, (build_named, (flagged_named, makers))))),
-    ) words meaning e
+    let named : Named (command_of words) =
+    read (word 0 (λ first. Some first) words) _ λ first _. sentence_named first words in
+    subst Named e named
+
+pub names_read : (words : List (List ℕ)) (result : Result Command ParseFault) → Answers (command_of words) result
+    → IfOk result (λ command. HasNames (meaning command))
+names_read words (Ok command) e = asked_named words (meaning command) e
+names_read words (Err why) e = tt

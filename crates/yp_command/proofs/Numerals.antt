@@ -5,11 +5,11 @@ use Rattle.std.specs.Str.Parse.{ParsesUnsigned, digits_value}
 use Rattle.std.proofs.lemmas.Bool.{cases_Bool, lt-ltb, ltb-true, and_parts}
 use Rattle.std.proofs.lemmas.Fmt.{decimal_is_IsNumeral, parse-decimal}
 use Rattle.std.proofs.lemmas.Slice.Eq.{bytes_eq-Decides}
-use Rattle.yp_command.specs.Forms.{is_number, number_of}
+use Rattle.yp_command.specs.Forms.{is_number, number}
 
 -- a number's decimal
 pub number_yes : {E : Type 0} (word : List ℕ) (r : Result ℕ E) (n : ℕ) → ParsesUnsigned 32 10 word r → r ≡ Ok n
-    → decimal n ≡ word → number_of word ≡ Some n
+    → decimal n ≡ word → number word ≡ Some n
 number_yes {E} word r n parses is e =
     let P : Result ℕ E → Type 0 = λ r. ParsesUnsigned {E = E} 32 10 word r in
     let read : ParsesUnsigned {E = E} 32 10 word (Ok n) = subst P is parses in
@@ -20,7 +20,7 @@ number_yes {E} word r n parses is e =
 
 -- and nothing else
 pub number_no : {E : Type 0} (word : List ℕ) (r : Result ℕ E) → ParsesUnsigned 32 10 word r
-    → ((n : ℕ) → r ≡ Ok n → decimal n ≡ word → ⊥) → number_of word ≡ None
+    → ((n : ℕ) → r ≡ Ok n → decimal n ≡ word → ⊥) → number word ≡ None
 number_no word r parses never =
     elim (cases_Bool (is_number word)) [
       | inl all ↦

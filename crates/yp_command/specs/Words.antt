@@ -1,36 +1,27 @@
 -- The command line: sentences made of words.
-use Rattle.std.specs.Prelude.{ℕ, ◌+◌, Bool, true, not, nat_le, nat_lt, bytes_eq, ◌&&◌}
-use Rattle.std.specs.Prelude.{◌==◌, max}
-use Rattle.std.specs.Prelude.{if◌then◌else◌, List, [], ◌∷◌, ◌++◌, length, drop, map, filter, fold}
-use Rattle.std.specs.Prelude.{slice_index_or, Option, Some, None, unwrap_or, Result, Ok, Err, codes, string_bytes}
-use Rattle.std.specs.List.{find, list_any}
-use Rattle.std.specs.Option.{option_map, ok_or}
+use Rattle.std.specs.Prelude.{ℕ, ◌+◌, Bool, not, nat_le, nat_lt, bytes_eq, ⊤}
+use Rattle.std.specs.Prelude.{◌&&◌, if◌then◌else◌, List, [], ◌∷◌, ◌++◌, length, drop, map, slice_get}
+use Rattle.std.specs.Prelude.{Option, Some, None, Result, Ok, Err, codes, string_bytes}
+use Rattle.std.specs.List.{list_any}
+use Rattle.std.specs.Option.{option_and_then, option_map_or, ok_or}
 use Rattle.std.specs.declared.string.String.{String}
 use Rattle.std.specs.declared.alloc.Global.{Global}
 use Rattle.yp_version.specs.Rows.{Row}
 use Rattle.yp_io.specs.declared.stream.Peer.{Peer}
 use Rattle.yp_binding.specs.declared.binder.Policy.{Policy}
-use Rattle.yp_binding.specs.declared.binder.Policy.TheVariants.{Fixed, Ypsetme, Ypset}
 use Rattle.yp_binding.specs.Kept.{servers_max}
 use Rattle.yp_binding.specs.Rounds.{is_same_peer}
 use Rattle.yp_board.specs.Catalogues.{Name, maps_max, name_view, is_same}
-use Rattle.yp_texts.specs.declared.kind.Kind.{Kind}
-use Rattle.yp_texts.specs.Kinds.{kinds, name_of as kind_name}
 use Rattle.yp_client.specs.declared.question.Question.TheVariants.{Cat, Catk, Match, Which, Poll, Maps, Innetgr}
 use Rattle.yp_client.specs.Questions.{ByteQuestion, bytes_of}
 use Rattle.yp_command.specs.declared.command.KeyValue.{KeyValue}
 use Rattle.yp_command.specs.declared.command.HostWord.{HostWord}
 use Rattle.yp_command.specs.declared.command.Command.{Command}
 use Rattle.yp_command.specs.declared.command.Command.TheVariants as command
-use Rattle.yp_command.specs.Forms.{Form, has_form, before, after, number_of, is_store, is_host, address_of}
-use Rattle.yp_command.specs.Forms.{is_secure, is_force, is_ypsetme, is_ypset, is_any}
+use Rattle.yp_command.specs.Forms.{Host}
 use Rattle.yp_command.specs.Forms as form
 
 -- ---- what words mean
-
--- a host: its name and its address
-abbrev pub Host : Type 0
-Host = List ℕ × Peer
 
 -- a command, with bytes in place of vectors
 pub data Meaning : Type 0 where
@@ -62,331 +53,250 @@ pub data Meaning : Type 0 where
   -- a server, and what it is asked
   Ask : (peer : Peer) (question : ByteQuestion) → Meaning
 
--- the name of a map, of a word
-abbrev pub name_of : List ℕ → Name
-name_of word = (before 47 word, after 47 word)
-
--- the kind of a map, by its name
-abbrev pub kind_of : Name → Option Kind
-kind_of store = find (λ kind. bytes_eq (kind_name kind) store.1) kinds
-
--- a row, of a word
-abbrev pub row_of : List ℕ → Row
-row_of word = (before 61 word, after 61 word)
-
--- the number that a word says, and 0 where it says none
-abbrev pub value_of : List ℕ → ℕ
-value_of word = unwrap_or (number_of word) 0
-
--- the port that a word says, and 0 where it says none
-abbrev pub port_value : List ℕ → ℕ
-port_value word = unwrap_or (form.port_of word) 0
-
--- how many slaves may be outstanding, as a word says it, and 0 where it says nothing
-abbrev pub window_value : List ℕ → ℕ
-window_value word = unwrap_or (form.window_of word) 0
-
--- how many workers a server has, as a word says it, and 0 where it says nothing
-abbrev pub workers_value : List ℕ → ℕ
-workers_value word = unwrap_or (form.workers_of word) 0
-
--- the address that a word says, and that of nobody where it says none
+-- the caller where there is none
 abbrev pub nobody : Peer
 nobody = record { addr = 0 ∷ 0 ∷ 0 ∷ 0 ∷ []; port = 0 }
 
-abbrev pub peer_of : List ℕ → Peer
-peer_of word = unwrap_or (address_of word) nobody
-
--- a host, of a word
-abbrev pub host_of : List ℕ → Host
-host_of word = (before 64 word, peer_of (after 64 word))
-
--- the word with this number, and an empty one where there is none
-abbrev pub word_at : ℕ → List (List ℕ) → List ℕ
-word_at at words = slice_index_or words at []
-
 -- ---- sentences
 
--- the further words of a sentence: none, any number of one form, the maps and hosts of a server, or servers
-pub data Further : Type 0 where
-  NoMore : Further
-  Each : (form : Form) → Further
-  StoresAndHosts : Further
-  Servers : Further
+-- What is read of words is a value, or the number of the first word that no sentence with the words before it has. It
+-- is the number of words where they end too early.
+infixl 10 ◌>>=◌
+abbrev pub ◌>>=◌ : {A B : Type 0} → Result A ℕ → (A → Result B ℕ) → Result B ℕ
+Ok value >>= next = next value
+Err at >>= next = Err at
 
--- the forms of a sentence's words in order, its further words, and what such words ask for
-pub record Sentence : Type 0 where
-  pub forms : List Form
-  pub further : Further
-  pub asks : List (List ℕ) → Meaning
+-- the word with this number, by a form
+abbrev pub word : {A : Type 0} → ℕ → (List ℕ → Option A) → List (List ℕ) → Result A ℕ
+word at form words = ok_or (option_and_then form (slice_get words at)) at
 
-abbrev pub once : Sentence
-once = record {
-  forms = form.Exactly (codes "once") ∷ form.Store ∷ [];
-  further = Each form.Pair;
-  asks = λ words. Once (name_of (word_at 1 words)) (map row_of (drop 2 words));
-}
+-- the same of a word that may be left out
+abbrev pub optional : {A : Type 0} → ℕ → (List ℕ → Option A) → List (List ℕ) → Result (Option A) ℕ
+optional at form words =
+    if nat_le (length words) at then Ok None
+    else (do value ← word at form words; Ok (Some value))
 
--- the maps that further words name, and the hosts
-abbrev pub served : List (List ℕ) → List Name
-served words = map name_of (filter is_store words)
+-- no word has this number
+abbrev pub end : ℕ → List (List ℕ) → Result ⊤ ℕ
+end at words = if nat_le (length words) at then Ok tt else Err at
 
-abbrev pub known : List (List ℕ) → List Host
-known words = map host_of (filter is_host words)
+-- all further words, behind those of these values, by a form; the first of them has this number
+abbrev pub each : {A : Type 0} → (List ℕ → Option A) → ℕ → List A → List (List ℕ) → Result (List A) ℕ
+each form at values [] = Ok values
+each form at values (word ∷ words) = do
+  value ← ok_or (form word) at
+  each form (at + 1) (values ++ value ∷ []) words
 
-abbrev pub session : Sentence
-session = record {
-  forms = form.Exactly (codes "session") ∷ form.Name ∷ form.Address ∷ [];
-  further = StoresAndHosts;
-  asks = λ words. Session (word_at 1 words) (peer_of (word_at 2 words)) (served (drop 3 words)) (known (drop 3 words));
-}
-
-abbrev pub serve : Sentence
-serve = record {
-  forms =
-      form.Exactly (codes "serve") ∷ form.Name ∷ form.Port ∷ form.Workers ∷ form.Number ∷ form.Number ∷ [];
-  further = StoresAndHosts;
-  asks = λ words. Serve (word_at 1 words) (port_value (word_at 2 words)) (workers_value (word_at 3 words))
-      (value_of (word_at 4 words)) (value_of (word_at 5 words)) (served (drop 6 words)) (known (drop 6 words));
-}
-
-abbrev pub check : Sentence
-check = record {
-  forms = form.Exactly (codes "check") ∷ form.Store ∷ [];
-  further = NoMore;
-  asks = λ words. Check (name_of (word_at 1 words));
-}
-
-abbrev pub build : Sentence
-build = record {
-  forms = form.Exactly (codes "build") ∷ form.Name ∷ form.KindStore ∷ [];
-  further = NoMore;
-  asks = λ words. Build (word_at 1 words) (name_of (word_at 2 words)) None;
-}
-
-abbrev pub build_flagged : Sentence
-build_flagged = record {
-  forms = form.Exactly (codes "build") ∷ form.Name ∷ form.KindStore ∷ form.Flag ∷ [];
-  further = NoMore;
-  asks = λ words. Build (word_at 1 words) (name_of (word_at 2 words)) (Some (is_secure (word_at 3 words)));
-}
-
-abbrev pub xfr : Sentence
-xfr = record {
-  forms = form.Exactly (codes "xfr") ∷ form.Name ∷ form.Mode ∷ form.Store ∷ form.Host ∷ [];
-  further = NoMore;
-  asks = λ words. Xfr (word_at 1 words) (is_force (word_at 2 words)) (name_of (word_at 3 words))
-      (host_of (word_at 4 words)) None;
-}
-
-abbrev pub xfr_flagged : Sentence
-xfr_flagged = record {
-  forms = form.Exactly (codes "xfr") ∷ form.Name ∷ form.Mode ∷ form.Store ∷ form.Host ∷ form.Flag ∷ [];
-  further = NoMore;
-  asks = λ words. Xfr (word_at 1 words) (is_force (word_at 2 words)) (name_of (word_at 3 words))
-      (host_of (word_at 4 words)) (Some (is_secure (word_at 5 words)));
-}
-
-abbrev pub walk : Sentence
-walk = record {
-  forms =
-      form.Exactly (codes "walk") ∷ form.Name ∷ form.Mode ∷ form.Store ∷ form.Host ∷ form.Port ∷ form.Number ∷ [];
-  further = NoMore;
-  asks = λ words. Walk (word_at 1 words) (is_force (word_at 2 words)) (name_of (word_at 3 words))
-      (host_of (word_at 4 words)) (port_value (word_at 5 words)) (value_of (word_at 6 words)) None;
-}
-
-abbrev pub walk_flagged : Sentence
-walk_flagged = record {
-  forms =
-      form.Exactly (codes "walk") ∷ form.Name ∷ form.Mode ∷ form.Store ∷ form.Host ∷ form.Port ∷ form.Number
-      ∷ form.Flag ∷ [];
-  further = NoMore;
-  asks = λ words. Walk (word_at 1 words) (is_force (word_at 2 words)) (name_of (word_at 3 words))
-      (host_of (word_at 4 words)) (port_value (word_at 5 words)) (value_of (word_at 6 words))
-      (Some (is_secure (word_at 7 words)));
-}
-
-abbrev pub revnet : Sentence
-revnet = record {
-  forms = form.Exactly (codes "revnet") ∷ form.Name ∷ form.ReverseStore ∷ [];
-  further = NoMore;
-  asks = λ words. Revnet (word_at 1 words) (name_of (word_at 2 words));
-}
-
-abbrev pub sample : Sentence
-sample = record {
-  forms = form.Exactly (codes "sample") ∷ form.Number ∷ form.Number ∷ [];
-  further = NoMore;
-  asks = λ words. Sample (value_of (word_at 1 words)) (value_of (word_at 2 words));
-}
-
-abbrev pub push : Sentence
-push = record {
-  forms =
-      form.Exactly (codes "push") ∷ form.Name ∷ form.Port ∷ form.Window ∷ form.Number ∷ form.Store ∷ [];
-  further = Each form.Host;
-  asks = λ words. Push (word_at 1 words) (port_value (word_at 2 words)) (window_value (word_at 3 words))
-      (value_of (word_at 4 words)) (name_of (word_at 5 words)) (map host_of (drop 6 words));
-}
-
--- the policy that a word says, and `fixed` where it says none
-abbrev pub policy_of : List ℕ → Policy
-policy_of word = if is_ypset word then Ypset else (if is_ypsetme word then Ypsetme else Fixed)
-
-abbrev pub bind : Sentence
-bind = record {
-  forms = form.Exactly (codes "bind") ∷ form.Port ∷ form.Policy ∷ form.Number ∷ form.Name ∷ [];
-  further = Servers;
-  asks = λ words. Bind (port_value (word_at 1 words)) (policy_of (word_at 2 words)) (value_of (word_at 3 words))
-      (word_at 4 words) (map host_of (drop 5 words));
-}
-
-abbrev pub portmap : Sentence
-portmap = record {
-  forms = form.Exactly (codes "portmap") ∷ form.Port ∷ form.Number ∷ [];
-  further = NoMore;
-  asks = λ words. Portmap (port_value (word_at 1 words)) (value_of (word_at 2 words));
-}
-
-abbrev pub getport : Sentence
-getport = record {
-  forms =
-      form.Exactly (codes "getport") ∷ form.Port ∷ form.Number ∷ form.Address ∷ form.Number ∷ form.Number
-      ∷ form.Number ∷ [];
-  further = NoMore;
-  asks = λ words. Getport (port_value (word_at 1 words)) (value_of (word_at 2 words)) (peer_of (word_at 3 words))
-      (value_of (word_at 4 words)) (value_of (word_at 5 words)) (value_of (word_at 6 words));
-}
-
--- a question to a server, of a map
-abbrev pub asking : List ℕ → (List ℕ → List ℕ → ByteQuestion) → Sentence
-asking word question = record {
-  forms = form.Exactly word ∷ form.Address ∷ form.Text ∷ form.Text ∷ [];
-  further = NoMore;
-  asks = λ words. Ask (peer_of (word_at 1 words)) (question (word_at 2 words) (word_at 3 words));
-}
-
-abbrev pub cat : Sentence
-cat = asking (codes "cat") Cat
-
-abbrev pub catk : Sentence
-catk = asking (codes "catk") Catk
-
-abbrev pub which : Sentence
-which = asking (codes "which") Which
-
-abbrev pub poll : Sentence
-poll = asking (codes "poll") Poll
-
-abbrev pub match_key : Sentence
-match_key = record {
-  forms = form.Exactly (codes "match") ∷ form.Address ∷ form.Text ∷ form.Text ∷ form.Key ∷ [];
-  further = NoMore;
-  asks = λ words. Ask (peer_of (word_at 1 words)) (Match (word_at 2 words) (word_at 3 words) (word_at 4 words));
-}
-
-abbrev pub maps : Sentence
-maps = record {
-  forms = form.Exactly (codes "maps") ∷ form.Address ∷ form.Text ∷ [];
-  further = NoMore;
-  asks = λ words. Ask (peer_of (word_at 1 words)) (Maps (word_at 2 words));
-}
-
--- who may be in a group: none is given where the word is an asterisk
-abbrev pub given_of : List ℕ → Option (List ℕ)
-given_of word = if is_any word then None else Some word
-
-abbrev pub innetgr : Sentence
-innetgr = record {
-  forms =
-      form.Exactly (codes "innetgr") ∷ form.Address ∷ form.Text ∷ form.Key ∷ form.Key ∷ form.Key ∷ form.Key ∷ [];
-  further = NoMore;
-  asks = λ words. Ask (peer_of (word_at 1 words))
-      (Innetgr (word_at 2 words) (word_at 3 words) (given_of (word_at 4 words)) (given_of (word_at 5 words))
-      (given_of (word_at 6 words)));
-}
-
-unfoldable pub sentences : List Sentence
-sentences =
-    once ∷ session ∷ serve ∷ check ∷ build ∷ build_flagged ∷ xfr ∷ xfr_flagged ∷ walk ∷ walk_flagged ∷ revnet
-    ∷ sample ∷ push ∷ bind ∷ portmap ∷ getport ∷ cat ∷ catk ∷ which ∷ poll ∷ match_key ∷ maps ∷ innetgr ∷ []
-
--- how many words at the front are of a form
-abbrev pub each_fitting : Form → List (List ℕ) → ℕ
-each_fitting form [] = 0
-each_fitting form (word ∷ words) = if has_form form word then each_fitting form words + 1 else 0
-
--- A word may stand behind these as a map or a host of a server: no map is named twice, and there are at most 64.
+-- a map may stand behind these: none is named twice, and there are at most 64
 abbrev pub is_new_store : List Name → Name → Bool
 is_new_store stores store = not (list_any (is_same store) stores) && nat_lt (length stores) maps_max
 
-abbrev pub joins : List (List ℕ) → List ℕ → Bool
-joins earlier word = if is_store word then is_new_store (served earlier) (name_of word) else is_host word
+-- the maps and hosts of a server, behind these
+abbrev pub served : ℕ → List Name → List Host → List (List ℕ) → Result (List Name × List Host) ℕ
+served at stores hosts [] = Ok (stores, hosts)
+served at stores hosts (word ∷ words) =
+    option_map_or (λ store.
+    if is_new_store stores store then served (at + 1) (stores ++ store ∷ []) hosts words else Err at) (form.store word)
+    (do host ← ok_or (form.host word) at; served (at + 1) stores (hosts ++ host ∷ []) words)
 
--- how many words at the front may stand behind these as maps and hosts
-abbrev pub serving_fitting : List (List ℕ) → List (List ℕ) → ℕ
-serving_fitting earlier [] = 0
-serving_fitting earlier (word ∷ words) =
-    if joins earlier word then serving_fitting (earlier ++ word ∷ []) words + 1 else 0
+-- the same, of all words from this number on, one of which is a map
+abbrev pub stores_and_hosts : ℕ → List (List ℕ) → Result (List Name × List Host) ℕ
+stores_and_hosts at words = do
+  all ← served at [] [] (drop at words)
+  if nat_le 1 (length all.0) then Ok all else Err (length words)
 
--- the address of a host, of a word
-abbrev pub peer_word : List ℕ → Peer
-peer_word word = peer_of (after 64 word)
+-- a server may stand behind these: each has an address of its own, and there are at most 64
+abbrev pub is_new_server : List Host → Host → Bool
+is_new_server hosts host =
+    not (list_any (is_same_peer host.1) (map (λ host. host.1) hosts)) && nat_lt (length hosts) servers_max
 
--- A word may stand behind these as a server: a host at an address of its own, of at most 64.
-abbrev pub joins_servers : List (List ℕ) → List ℕ → Bool
-joins_servers earlier word =
-    is_host word && nat_lt (length earlier) servers_max
-    && not (list_any (is_same_peer (peer_word word)) (map peer_word earlier))
+-- servers, behind these
+abbrev pub servers : ℕ → List Host → List (List ℕ) → Result (List Host) ℕ
+servers at hosts [] = Ok hosts
+servers at hosts (word ∷ words) = do
+  host ← ok_or (form.host word) at
+  if is_new_server hosts host then servers (at + 1) (hosts ++ host ∷ []) words else Err at
 
--- how many words at the front may stand behind these as servers
-abbrev pub servers_fitting : List (List ℕ) → List (List ℕ) → ℕ
-servers_fitting earlier [] = 0
-servers_fitting earlier (word ∷ words) =
-    if joins_servers earlier word then servers_fitting (earlier ++ word ∷ []) words + 1 else 0
+abbrev pub Sentence : Type 0
+Sentence = List (List ℕ) → Result Meaning ℕ
 
--- how many words at the front are further ones
-abbrev pub further_fitting : Further → List (List ℕ) → ℕ
-further_fitting NoMore words = 0
-further_fitting (Each form) words = each_fitting form words
-further_fitting StoresAndHosts words = serving_fitting [] words
-further_fitting Servers words = servers_fitting [] words
+unfoldable pub once : Sentence
+once words = do
+  store ← word 1 form.store words
+  rows ← each form.pair 2 [] (drop 2 words)
+  Ok (Once store rows)
 
--- how many words at the front are as the sentence has them
-abbrev pub fitting : List Form → Further → List (List ℕ) → ℕ
-fitting [] further words = further_fitting further words
-fitting (form ∷ forms) further [] = 0
-fitting (form ∷ forms) further (word ∷ words) = if has_form form word then fitting forms further words + 1 else 0
+unfoldable pub session : Sentence
+session words = do
+  own ← word 1 form.name words
+  peer ← word 2 form.address words
+  (stores, hosts) ← stores_and_hosts 3 words
+  Ok (Session own peer stores hosts)
 
-abbrev pub fits_to : List (List ℕ) → Sentence → ℕ
-fits_to words sentence = fitting sentence.forms sentence.further words
+unfoldable pub serve : Sentence
+serve words = do
+  own ← word 1 form.name words
+  port ← word 2 form.port words
+  workers ← word 3 form.workers words
+  connections ← word 4 form.number words
+  turns ← word 5 form.number words
+  (stores, hosts) ← stores_and_hosts 6 words
+  Ok (Serve own port workers connections turns stores hosts)
 
--- a server has a map, and a binder has a server
-abbrev pub has_enough : Further → List (List ℕ) → Bool
-has_enough NoMore words = true
-has_enough (Each form) words = true
-has_enough StoresAndHosts words = list_any is_store words
-has_enough Servers words = nat_le 1 (length words)
+unfoldable pub check : Sentence
+check words = do
+  store ← word 1 form.store words
+  _ ← end 2 words
+  Ok (Check store)
 
--- the words are the whole sentence
-abbrev pub is_whole : List (List ℕ) → Sentence → Bool
-is_whole words sentence =
-    nat_le (length sentence.forms) (length words) && fits_to words sentence == length words
-    && has_enough sentence.further (drop (length sentence.forms) words)
+unfoldable pub build : Sentence
+build words = do
+  name ← word 1 form.name words
+  store ← word 2 form.kind_store words
+  flag ← optional 3 form.flag words
+  _ ← end 4 words
+  Ok (Build name store flag)
 
--- what the words ask for, where they are one of these sentences
-abbrev pub asked : List Sentence → List (List ℕ) → Option Meaning
-asked rows words = option_map (λ sentence. sentence.asks words) (find (is_whole words) rows)
+unfoldable pub xfr : Sentence
+xfr words = do
+  name ← word 1 form.name words
+  force ← word 2 form.mode words
+  store ← word 3 form.store words
+  host ← word 4 form.host words
+  flag ← optional 5 form.flag words
+  _ ← end 6 words
+  Ok (Xfr name force store host flag)
 
--- the first word that none of these sentences with the words before it has, or the number of words where they end too
--- early
-abbrev pub wrong_word : List Sentence → List (List ℕ) → ℕ
-wrong_word rows words = fold max 0 (map (fits_to words) rows)
+unfoldable pub walk : Sentence
+walk words = do
+  name ← word 1 form.name words
+  force ← word 2 form.mode words
+  store ← word 3 form.store words
+  host ← word 4 form.host words
+  port ← word 5 form.port words
+  turns ← word 6 form.number words
+  flag ← optional 7 form.flag words
+  _ ← end 8 words
+  Ok (Walk name force store host port turns flag)
+
+unfoldable pub revnet : Sentence
+revnet words = do
+  name ← word 1 form.name words
+  store ← word 2 form.reverse_store words
+  _ ← end 3 words
+  Ok (Revnet name store)
+
+unfoldable pub sample : Sentence
+sample words = do
+  start ← word 1 form.number words
+  count ← word 2 form.number words
+  _ ← end 3 words
+  Ok (Sample start count)
+
+unfoldable pub push : Sentence
+push words = do
+  name ← word 1 form.name words
+  port ← word 2 form.port words
+  window ← word 3 form.window words
+  turns ← word 4 form.number words
+  store ← word 5 form.store words
+  hosts ← each form.host 6 [] (drop 6 words)
+  Ok (Push name port window turns store hosts)
+
+unfoldable pub bind : Sentence
+bind words = do
+  port ← word 1 form.port words
+  policy ← word 2 form.policy words
+  turns ← word 3 form.number words
+  domain ← word 4 form.name words
+  first ← word 5 form.host words
+  hosts ← servers 6 (first ∷ []) (drop 6 words)
+  Ok (Bind port policy turns domain hosts)
+
+unfoldable pub portmap : Sentence
+portmap words = do
+  port ← word 1 form.port words
+  turns ← word 2 form.number words
+  _ ← end 3 words
+  Ok (Portmap port turns)
+
+unfoldable pub getport : Sentence
+getport words = do
+  port ← word 1 form.port words
+  turns ← word 2 form.number words
+  peer ← word 3 form.address words
+  prog ← word 4 form.number words
+  vers ← word 5 form.number words
+  prot ← word 6 form.number words
+  _ ← end 7 words
+  Ok (Getport port turns peer prog vers prot)
+
+-- a question of a map
+abbrev pub asking : (List ℕ → List ℕ → ByteQuestion) → Sentence
+asking question words = do
+  peer ← word 1 form.address words
+  domain ← word 2 form.text words
+  map ← word 3 form.text words
+  _ ← end 4 words
+  Ok (Ask peer (question domain map))
+
+unfoldable pub match_key : Sentence
+match_key words = do
+  peer ← word 1 form.address words
+  domain ← word 2 form.text words
+  map ← word 3 form.text words
+  key ← word 4 form.key words
+  _ ← end 5 words
+  Ok (Ask peer (Match domain map key))
+
+unfoldable pub maps : Sentence
+maps words = do
+  peer ← word 1 form.address words
+  domain ← word 2 form.text words
+  _ ← end 3 words
+  Ok (Ask peer (Maps domain))
+
+unfoldable pub innetgr : Sentence
+innetgr words = do
+  peer ← word 1 form.address words
+  domain ← word 2 form.text words
+  group ← word 3 form.key words
+  host ← word 4 form.member words
+  user ← word 5 form.member words
+  user_domain ← word 6 form.member words
+  _ ← end 7 words
+  Ok (Ask peer (Innetgr domain group host user user_domain))
+
+-- the sentence that begins with this word; where none does, that word is wrong
+abbrev pub sentence : List ℕ → Sentence
+sentence first words =
+    if bytes_eq first (codes "once") then once words
+    else if bytes_eq first (codes "session") then session words
+    else if bytes_eq first (codes "serve") then serve words
+    else if bytes_eq first (codes "check") then check words
+    else if bytes_eq first (codes "build") then build words
+    else if bytes_eq first (codes "xfr") then xfr words
+    else if bytes_eq first (codes "walk") then walk words
+    else if bytes_eq first (codes "revnet") then revnet words
+    else if bytes_eq first (codes "sample") then sample words
+    else if bytes_eq first (codes "push") then push words
+    else if bytes_eq first (codes "bind") then bind words
+    else if bytes_eq first (codes "portmap") then portmap words
+    else if bytes_eq first (codes "getport") then getport words
+    else if bytes_eq first (codes "cat") then asking Cat words
+    else if bytes_eq first (codes "catk") then asking Catk words
+    else if bytes_eq first (codes "which") then asking Which words
+    else if bytes_eq first (codes "poll") then asking Poll words
+    else if bytes_eq first (codes "match") then match_key words
+    else if bytes_eq first (codes "maps") then maps words
+    else if bytes_eq first (codes "innetgr") then innetgr words
+    else Err 0
 
 -- the command that the words are, or the number of the word that is wrong
 unfoldable pub command_of : List (List ℕ) → Result Meaning ℕ
-command_of words = ok_or (asked sentences words) (wrong_word sentences words)
+command_of words = do
+  first ← word 0 (λ first. Some first) words
+  sentence first words
 
 -- ---- the maps that words name
 
@@ -422,7 +332,7 @@ stores_of (Portmap port turns) = []
 stores_of (Getport port turns peer prog vers prot) = []
 stores_of (Ask peer question) = []
 
--- those of the command that the words are, and none where they are no sentence
+-- the maps whose disks a command line needs; none where its words are no sentence
 abbrev pub stores_in : Result Meaning ℕ → List Name
 stores_in (Ok meaning) = stores_of meaning
 stores_in (Err word) = []

@@ -1,6 +1,6 @@
 //! The words of the command line: what they ask for, or the first that is wrong.
 //!
-//! The sentences are a table, and one reader judges the words by it. The promise stands on [`parse`]; which maps' files
+//! Each word is read once, by its form, which gives its value. The promise stands on [`parse`]; which maps' files
 //! a command reads or writes, on [`disk_names`].
 //!
 //! [`office`] is what every command has before it and behind it.
@@ -8,9 +8,9 @@
 
 mod command;
 mod form;
+mod further;
 pub mod office;
 mod sentence;
-mod serving;
 mod words;
 
 pub use command::{Command, HostWord, KeyValue, PushJob, ServeJob, WalkJob, XfrJob};

@@ -1,30 +1,22 @@
 //! The words of the command line.
 
-ghost use Rattle.std.specs.Prelude.{◌≡◌, [], ◌∷◌, drop, map, option_map, Ok, IfOk, IfErr, OnErr};
+ghost use Rattle.std.specs.Prelude.{◌≡◌, ◌∷◌, [], map, option_map, Ok, IfOk, IfErr, OnErr};
 ghost use Rattle.yp_board.specs.Catalogues.{name_view};
-ghost use Rattle.yp_client.specs.Questions.{bytes_of};
-ghost use Rattle.yp_command.specs.Words.{name_of, row_of, value_of, peer_of, host_of, served, known, word_at};
-ghost use Rattle.yp_command.specs.inside.Words.{given_at, question_of};
+ghost use Rattle.yp_client.specs.declared.question.Question.TheVariants.{Cat, Catk, Which, Poll};
 ghost use Rattle.yp_command.specs.Words.{command_of, disk_names, stores_of};
 ghost use Rattle.yp_command.specs.inside.Words.{connections_of, port_of};
 ghost use Rattle.yp_command.specs.Words.{row_view, host_view, meaning, texts};
-ghost use Rattle.yp_command.specs.Words.{once, session, serve, check, sample, portmap, getport, Build};
-ghost use Rattle.yp_command.specs.inside.Words.{asks_of};
-ghost use Rattle.yp_command.specs.Words.{Xfr, bind, port_value, policy_of, TakesMemory, revnet};
-ghost use Rattle.yp_command.specs.inside.Words.{IsSentenceOfWords};
-ghost use Rattle.yp_command.specs.Words.{netgroup_of, push, window_value, workers_value, ypservers_of, is_ypservers};
-ghost use Rattle.yp_command.specs.Words.{with_ypservers, Walk};
-ghost use Rattle.yp_command.specs.Forms.{is_force};
-ghost use Rattle.yp_command.specs.inside.Words.{IsUsage, HasNames};
+ghost use Rattle.yp_command.specs.inside.Words.{Answers};
+ghost use Rattle.yp_command.specs.Words.{once, session, serve, check, build, xfr, walk, revnet, sample, push, bind};
+ghost use Rattle.yp_command.specs.Words.{portmap, getport, asking, match_key, maps, innetgr, TakesMemory};
+ghost use Rattle.yp_command.specs.Words.{netgroup_of, ypservers_of};
+ghost use Rattle.yp_command.specs.inside.Words.{IsSentenceOfWords, IsUsage, HasNames};
+ghost use Rattle.yp_command.specs.Words.{is_ypservers, with_ypservers};
 
 use crate::command::{Command, HostWord, KeyValue, PushJob, ServeJob, WalkJob, XfrJob};
-use crate::form::{
-    ANY, FORCE, SECURE, YPSET, YPSETME, address_of, cut_at, is_host, is_store, number_of,
-    port_of as port_in, window_of, workers_of,
-};
-use crate::sentence::{Task, task_of, wrong_word};
+use crate::further::{each_host, each_pair, servers, stores_and_hosts};
+use crate::sentence::Words;
 use std::alloc::{AllocError, Global};
-use yp_binding::Policy;
 use yp_board::{MapName, copy_names};
 use yp_client::Question;
 use yp_io::{NoMemory, Peer};
@@ -44,429 +36,421 @@ pub enum ParseFault {
     NoMemory,
 }
 
-/// The word with this number, and an empty one where there is none.
-fn word_at(words: &[String], at: usize) -> &str
-    ensures { result.now ≡ word_at at (texts words.now) }
-{
-    match words.get(at) {
-        Some(word) => word.as_str(),
-        None => "",
+impl From<usize> for ParseFault {
+    ghost use Rattle.std.specs.Prelude.{◌≡◌};
+    ghost use Rattle.yp_command.specs.declared.words.ParseFault.TheVariants.{Usage};
+
+    ghost from_gives = { λ word fault. fault ≡ Usage word };
+
+    fn from(word: usize) -> Self {
+        ParseFault::Usage { word }
     }
 }
 
-/// The words from this number on.
-fn words_from(words: &[String], at: usize) -> &[String]
-    ensures { texts result.now ≡ drop at (texts words.now) }
-{
-    if at <= words.len() { &words[at..] } else { &[] }
-}
+impl From<AllocError> for ParseFault {
+    ghost use Rattle.std.specs.Prelude.{◌≡◌};
+    ghost use Rattle.yp_command.specs.declared.words.ParseFault.TheVariants.{NoMemory};
 
-/// The number that a word says, and 0 where it says none.
-fn value_of(word: &str) -> u32
-    ensures { result ≡ value_of word.now }
-{
-    number_of(word).unwrap_or(0)
-}
+    ghost from_gives = { λ _ fault. fault ≡ NoMemory };
 
-/// The port that a word says, and 0 where it says none.
-fn port_value(word: &str) -> u16
-    ensures { result ≡ port_value word.now }
-{
-    port_in(word).unwrap_or(0)
-}
-
-/// How many slaves may be outstanding, as a word says it, and 0 where it says nothing.
-fn window_value(word: &str) -> u32
-    ensures { result ≡ window_value word.now }
-{
-    window_of(word).unwrap_or(0)
-}
-
-/// How many workers a server has, as a word says it, and 0 where it says nothing.
-fn workers_value(word: &str) -> u32
-    ensures { result ≡ workers_value word.now }
-{
-    workers_of(word).unwrap_or(0)
-}
-
-fn store_of(alloc: Global, word: &str) -> Result<MapName, AllocError>
-    ensures { IfOk result (λ store. name_view store ≡ name_of word.now) }
-{
-    let (domain, map) = cut_at(word, '/');
-    Ok(MapName {
-        domain: Vec::from_slice(alloc, domain.as_bytes())?,
-        map: Vec::from_slice(alloc, map.as_bytes())?,
-    })
-}
-
-fn row_of(alloc: Global, word: &str) -> Result<KeyValue, AllocError>
-    ensures { IfOk result (λ row. row_view row ≡ row_of word.now) }
-{
-    let (key, value) = cut_at(word, '=');
-    Ok(KeyValue {
-        key: Vec::from_slice(alloc, key.as_bytes())?,
-        value: Vec::from_slice(alloc, value.as_bytes())?,
-    })
-}
-
-fn rows_of(alloc: Global, words: &[String]) -> Result<Vec<KeyValue>, AllocError>
-    ensures { IfOk result (λ rows. map row_view rows.items ≡ map row_of (texts words.now)) }
-{
-    let mut rows = Vec::new(alloc);
-    for word in words {
-        rows.push(row_of(alloc, word.as_str())?)?;
-    }
-    Ok(rows)
-}
-
-fn once_of(alloc: Global, words: &[String]) -> Result<Command, AllocError>
-    ensures { IfOk result (λ command. meaning command ≡ once.asks (texts words.now)) }
-{
-    Ok(Command::Once {
-        store: store_of(alloc, word_at(words, 1))?,
-        rows: rows_of(alloc, words_from(words, 2))?,
-    })
-}
-
-/// The address that a word says, and that of nobody where it says none.
-pub fn peer_of(word: &str) -> Peer
-    ensures { result ≡ peer_of word.now }
-{
-    match address_of(word) {
-        Some(peer) => peer,
-        None => Peer {
-            addr: [0; 4],
-            port: 0,
-        },
-    }
-}
-
-/// The maps that the words name.
-fn served(alloc: Global, words: &[String]) -> Result<Vec<MapName>, AllocError>
-    ensures { IfOk result (λ stores. map name_view stores.items ≡ served (texts words.now)) }
-{
-    let mut stores = Vec::new(alloc);
-    for word in words {
-        if is_store(word.as_str()) {
-            stores.push(store_of(alloc, word.as_str())?)?;
-        }
-    }
-    Ok(stores)
-}
-
-fn host_of(alloc: Global, word: &str) -> Result<HostWord, AllocError>
-    ensures { IfOk result (λ host. host_view host ≡ host_of word.now) }
-{
-    let (name, address) = cut_at(word, '@');
-    Ok(HostWord {
-        name: Vec::from_slice(alloc, name.as_bytes())?,
-        peer: peer_of(address),
-    })
-}
-
-/// The hosts that the words name.
-fn known(alloc: Global, words: &[String]) -> Result<Vec<HostWord>, AllocError>
-    ensures { IfOk result (λ hosts. map host_view hosts.items ≡ known (texts words.now)) }
-{
-    let mut hosts = Vec::new(alloc);
-    for word in words {
-        if is_host(word.as_str()) {
-            hosts.push(host_of(alloc, word.as_str())?)?;
-        }
-    }
-    Ok(hosts)
-}
-
-fn session_of(alloc: Global, words: &[String]) -> Result<Command, AllocError>
-    ensures { IfOk result (λ command. meaning command ≡ session.asks (texts words.now)) }
-{
-    Ok(Command::Session {
-        name: Vec::from_slice(alloc, word_at(words, 1).as_bytes())?,
-        addr: peer_of(word_at(words, 2)),
-        stores: served(alloc, words_from(words, 3))?,
-        hosts: known(alloc, words_from(words, 3))?,
-    })
-}
-
-fn serve_of(alloc: Global, words: &[String]) -> Result<Command, AllocError>
-    ensures { IfOk result (λ command. meaning command ≡ serve.asks (texts words.now)) }
-{
-    Ok(Command::Serve(ServeJob {
-        name: text_at(alloc, words, 1)?,
-        port: port_value(word_at(words, 2)),
-        workers: workers_value(word_at(words, 3)),
-        connections: value_of(word_at(words, 4)),
-        turns: value_of(word_at(words, 5)),
-        stores: served(alloc, words_from(words, 6))?,
-        hosts: known(alloc, words_from(words, 6))?,
-    }))
-}
-
-fn check_of(alloc: Global, words: &[String]) -> Result<Command, AllocError>
-    ensures { IfOk result (λ command. meaning command ≡ check.asks (texts words.now)) }
-{
-    Ok(Command::Check {
-        store: store_of(alloc, word_at(words, 1))?,
-    })
-}
-
-fn build_of(alloc: Global, words: &[String], flag: Option<bool>) -> Result<Command, AllocError>
-    ensures { IfOk result (λ command. meaning command
-        ≡ Build (word_at 1 (texts words.now)) (name_of (word_at 2 (texts words.now))) flag) }
-{
-    Ok(Command::Build {
-        name: Vec::from_slice(alloc, word_at(words, 1).as_bytes())?,
-        store: store_of(alloc, word_at(words, 2))?,
-        flag,
-    })
-}
-
-/// The job of a transfer, of the words behind the first.
-fn job_of(alloc: Global, words: &[String], flag: Option<bool>) -> Result<XfrJob, AllocError>
-    ensures { IfOk result (λ job. meaning (Command.Xfr job)
-        ≡ Xfr (word_at 1 (texts words.now)) (is_force (word_at 2 (texts words.now)))
-        (name_of (word_at 3 (texts words.now))) (host_of (word_at 4 (texts words.now))) flag) }
-{
-    Ok(XfrJob {
-        name: Vec::from_slice(alloc, word_at(words, 1).as_bytes())?,
-        force: word_at(words, 2) == FORCE,
-        store: store_of(alloc, word_at(words, 3))?,
-        host: host_of(alloc, word_at(words, 4))?,
-        flag,
-    })
-}
-
-fn xfr_of(alloc: Global, words: &[String], flag: Option<bool>) -> Result<Command, AllocError>
-    ensures { IfOk result (λ command. meaning command
-        ≡ Xfr (word_at 1 (texts words.now)) (is_force (word_at 2 (texts words.now)))
-        (name_of (word_at 3 (texts words.now))) (host_of (word_at 4 (texts words.now))) flag) }
-{
-    Ok(Command::Xfr(job_of(alloc, words, flag)?))
-}
-
-fn walk_of(alloc: Global, words: &[String], flag: Option<bool>) -> Result<Command, AllocError>
-    ensures { IfOk result (λ command. meaning command
-        ≡ Walk (word_at 1 (texts words.now)) (is_force (word_at 2 (texts words.now)))
-        (name_of (word_at 3 (texts words.now))) (host_of (word_at 4 (texts words.now)))
-        (port_value (word_at 5 (texts words.now))) (value_of (word_at 6 (texts words.now))) flag) }
-{
-    Ok(Command::Walk(WalkJob {
-        xfr: job_of(alloc, words, flag)?,
-        port: port_value(word_at(words, 5)),
-        turns: value_of(word_at(words, 6)),
-    }))
-}
-
-fn revnet_of(alloc: Global, words: &[String]) -> Result<Command, AllocError>
-    ensures { IfOk result (λ command. meaning command ≡ revnet.asks (texts words.now)) }
-{
-    Ok(Command::Revnet {
-        name: Vec::from_slice(alloc, word_at(words, 1).as_bytes())?,
-        store: store_of(alloc, word_at(words, 2))?,
-    })
-}
-
-fn sample_of(words: &[String]) -> Command
-    ensures { meaning result ≡ sample.asks (texts words.now) }
-{
-    Command::Sample {
-        start: value_of(word_at(words, 1)),
-        count: value_of(word_at(words, 2)),
-    }
-}
-
-fn push_of(alloc: Global, words: &[String]) -> Result<Command, AllocError>
-    ensures { IfOk result (λ command. meaning command ≡ push.asks (texts words.now)) }
-{
-    Ok(Command::Push(PushJob {
-        name: text_at(alloc, words, 1)?,
-        port: port_value(word_at(words, 2)),
-        window: window_value(word_at(words, 3)),
-        turns: value_of(word_at(words, 4)),
-        store: store_of(alloc, word_at(words, 5))?,
-        hosts: hosts_of(alloc, words_from(words, 6))?,
-    }))
-}
-
-/// The policy that a word says, and `fixed` where it says none.
-fn policy_of(word: &str) -> Policy
-    ensures { result ≡ policy_of word.now }
-{
-    if word == YPSET {
-        return Policy::Ypset;
-    }
-    if word == YPSETME {
-        return Policy::Ypsetme;
-    }
-    Policy::Fixed
-}
-
-fn bind_of(alloc: Global, words: &[String]) -> Result<Command, AllocError>
-    ensures { IfOk result (λ command. meaning command ≡ bind.asks (texts words.now)) }
-{
-    Ok(Command::Bind {
-        port: port_value(word_at(words, 1)),
-        policy: policy_of(word_at(words, 2)),
-        turns: value_of(word_at(words, 3)),
-        domain: text_at(alloc, words, 4)?,
-        hosts: hosts_of(alloc, words_from(words, 5))?,
-    })
-}
-
-/// The hosts that these words are.
-fn hosts_of(alloc: Global, words: &[String]) -> Result<Vec<HostWord>, AllocError>
-    ensures { IfOk result (λ hosts. map host_view hosts.items ≡ map host_of (texts words.now)) }
-{
-    let mut hosts = Vec::new(alloc);
-    for word in words {
-        hosts.push(host_of(alloc, word.as_str())?)?;
-    }
-    Ok(hosts)
-}
-
-fn portmap_of(words: &[String]) -> Command
-    ensures { meaning result ≡ portmap.asks (texts words.now) }
-{
-    Command::Portmap {
-        port: port_value(word_at(words, 1)),
-        turns: value_of(word_at(words, 2)),
-    }
-}
-
-fn getport_of(words: &[String]) -> Command
-    ensures { meaning result ≡ getport.asks (texts words.now) }
-{
-    Command::Getport {
-        port: port_value(word_at(words, 1)),
-        turns: value_of(word_at(words, 2)),
-        addr: peer_of(word_at(words, 3)),
-        prog: value_of(word_at(words, 4)),
-        vers: value_of(word_at(words, 5)),
-        prot: value_of(word_at(words, 6)),
+    fn from(_: AllocError) -> Self {
+        ParseFault::NoMemory
     }
 }
 
 /// The bytes of a word.
-fn text_at(alloc: Global, words: &[String], at: usize) -> Result<Vec<u8>, AllocError>
-    ensures { IfOk result (λ text. text.items ≡ word_at at (texts words.now)) }
+pub fn bytes(alloc: Global, said: &str) -> Result<Vec<u8>, AllocError>
+    ensures { IfOk result (λ bytes. bytes.items ≡ said.now) }
 {
-    Vec::from_slice(alloc, word_at(words, at).as_bytes())
+    Vec::from_slice(alloc, said.as_bytes())
 }
 
-/// The bytes of a word, and none where it is an asterisk, which stands for any.
-fn given_at(
-    alloc: Global,
-    words: &[String],
-    at: Option<usize>,
-) -> Result<Option<Vec<u8>>, AllocError>
-    ensures { IfOk result (λ given.
-        option_map (λ bytes. bytes.items) given ≡ given_at at (texts words.now)) }
+/// The name of a map, of those of its domain and of itself.
+pub fn map_name(alloc: Global, store: (&str, &str)) -> Result<MapName, AllocError>
+    ensures { IfOk result (λ name. name_view name ≡ (store.entry.0.now, store.entry.1.now)) }
 {
-    match at {
-        Some(at) if word_at(words, at) != ANY => Ok(Some(text_at(alloc, words, at)?)),
-        _ => Ok(None),
-    }
-}
-
-/// The question that these words are made to.
-fn question_of(
-    alloc: Global,
-    question: Question<usize>,
-    words: &[String],
-) -> Result<Question<Vec<u8>>, AllocError>
-    ensures { IfOk result (λ asked.
-        bytes_of asked ≡ question_of question (texts words.now)) }
-{
-    Ok(match question {
-        Question::Cat { domain, map } => Question::Cat {
-            domain: text_at(alloc, words, domain)?,
-            map: text_at(alloc, words, map)?,
-        },
-        Question::Catk { domain, map } => Question::Catk {
-            domain: text_at(alloc, words, domain)?,
-            map: text_at(alloc, words, map)?,
-        },
-        Question::Match { domain, map, key } => Question::Match {
-            domain: text_at(alloc, words, domain)?,
-            map: text_at(alloc, words, map)?,
-            key: text_at(alloc, words, key)?,
-        },
-        Question::Which { domain, map } => Question::Which {
-            domain: text_at(alloc, words, domain)?,
-            map: text_at(alloc, words, map)?,
-        },
-        Question::Poll { domain, map } => Question::Poll {
-            domain: text_at(alloc, words, domain)?,
-            map: text_at(alloc, words, map)?,
-        },
-        Question::Maps { domain } => Question::Maps {
-            domain: text_at(alloc, words, domain)?,
-        },
-        Question::Innetgr {
-            domain,
-            group,
-            host,
-            user,
-            user_domain,
-        } => Question::Innetgr {
-            domain: text_at(alloc, words, domain)?,
-            group: text_at(alloc, words, group)?,
-            host: given_at(alloc, words, host)?,
-            user: given_at(alloc, words, user)?,
-            user_domain: given_at(alloc, words, user_domain)?,
-        },
+    Ok(MapName {
+        domain: bytes(alloc, store.0)?,
+        map: bytes(alloc, store.1)?,
     })
 }
 
-fn ask_of(alloc: Global, question: Question<usize>, words: &[String]) -> Result<Command, AllocError>
-    ensures { IfOk result (λ command. meaning command ≡ asks_of (Task.Ask question) (texts words.now)) }
+/// A host, of its name and its address.
+pub fn host_word(alloc: Global, host: (&str, Peer)) -> Result<HostWord, AllocError>
+    ensures { IfOk result (λ word. host_view word ≡ (host.entry.0.now, host.entry.1)) }
 {
-    Ok(Command::Ask {
-        addr: peer_of(word_at(words, 1)),
-        question: question_of(alloc, question, words)?,
+    Ok(HostWord {
+        name: bytes(alloc, host.0)?,
+        peer: host.1,
     })
 }
 
-/// The command that the words of a sentence with this task are.
-fn command_for(alloc: Global, task: Task, words: &[String]) -> Result<Command, AllocError>
-    ensures command { IfOk result (λ command. meaning command ≡ asks_of task (texts words.now)) }
-    ensures memory { OnErr result (TakesMemory (asks_of task (texts words.now))) }
+/// The bytes of who may be in a group.
+fn member(alloc: Global, given: Option<&str>) -> Result<Option<Vec<u8>>, AllocError>
+    ensures { IfOk result (λ member.
+        option_map (λ bytes. bytes.items) member ≡ option_map (λ said. said.now) given.entry) }
 {
-    match task {
-        Task::Once => once_of(alloc, words),
-        Task::Session => session_of(alloc, words),
-        Task::Serve => serve_of(alloc, words),
-        Task::Check => check_of(alloc, words),
-        Task::Build => build_of(alloc, words, None),
-        Task::BuildFlagged => build_of(alloc, words, Some(word_at(words, 3) == SECURE)),
-        Task::Xfr => xfr_of(alloc, words, None),
-        Task::XfrFlagged => xfr_of(alloc, words, Some(word_at(words, 5) == SECURE)),
-        Task::Walk => walk_of(alloc, words, None),
-        Task::WalkFlagged => walk_of(alloc, words, Some(word_at(words, 7) == SECURE)),
-        Task::Revnet => revnet_of(alloc, words),
-        Task::Sample => Ok(sample_of(words)),
-        Task::Push => push_of(alloc, words),
-        Task::Bind => bind_of(alloc, words),
-        Task::Portmap => Ok(portmap_of(words)),
-        Task::Getport => Ok(getport_of(words)),
-        Task::Ask(question) => ask_of(alloc, question, words),
+    match given {
+        Some(given) => Ok(Some(bytes(alloc, given)?)),
+        None => Ok(None),
     }
+}
+
+#[tactic(auto, unfolding(crate::specs::Words::once))]
+fn once(alloc: Global, words: Words) -> Result<Command, ParseFault>
+    ensures { Answers (once (texts words.entry.words.now)) result }
+{
+    let store = words.store(1)?;
+    let rows = each_pair(alloc, words, 2)?;
+    Ok(Command::Once {
+        store: map_name(alloc, store)?,
+        rows: rows?,
+    })
+}
+
+#[tactic(auto, unfolding(crate::specs::Words::session))]
+fn session(alloc: Global, words: Words) -> Result<Command, ParseFault>
+    ensures { Answers (session (texts words.entry.words.now)) result }
+{
+    let name = words.name(1)?;
+    let addr = words.address(2)?;
+    let (stores, hosts) = stores_and_hosts(alloc, words, 3)?;
+    Ok(Command::Session {
+        name: bytes(alloc, name)?,
+        addr,
+        stores: stores?,
+        hosts: hosts?,
+    })
+}
+
+#[tactic(auto, unfolding(crate::specs::Words::serve))]
+fn serve(alloc: Global, words: Words) -> Result<Command, ParseFault>
+    ensures { Answers (serve (texts words.entry.words.now)) result }
+{
+    let name = words.name(1)?;
+    let port = words.port(2)?;
+    let workers = words.workers(3)?;
+    let connections = words.number(4)?;
+    let turns = words.number(5)?;
+    let (stores, hosts) = stores_and_hosts(alloc, words, 6)?;
+    Ok(Command::Serve(ServeJob {
+        name: bytes(alloc, name)?,
+        port,
+        workers,
+        connections,
+        turns,
+        stores: stores?,
+        hosts: hosts?,
+    }))
+}
+
+#[tactic(auto, unfolding(crate::specs::Words::check))]
+fn check(alloc: Global, words: Words) -> Result<Command, ParseFault>
+    ensures { Answers (check (texts words.entry.words.now)) result }
+{
+    let store = words.store(1)?;
+    words.end(2)?;
+    Ok(Command::Check {
+        store: map_name(alloc, store)?,
+    })
+}
+
+#[tactic(auto, unfolding(crate::specs::Words::build))]
+fn build(alloc: Global, words: Words) -> Result<Command, ParseFault>
+    ensures { Answers (build (texts words.entry.words.now)) result }
+{
+    let name = words.name(1)?;
+    let store = words.kind_store(2)?;
+    let flag = words.flag_if_any(3)?;
+    words.end(4)?;
+    Ok(Command::Build {
+        name: bytes(alloc, name)?,
+        store: map_name(alloc, store)?,
+        flag,
+    })
+}
+
+#[tactic(auto, unfolding(crate::specs::Words::xfr))]
+fn xfr(alloc: Global, words: Words) -> Result<Command, ParseFault>
+    ensures { Answers (xfr (texts words.entry.words.now)) result }
+{
+    let name = words.name(1)?;
+    let force = words.mode(2)?;
+    let store = words.store(3)?;
+    let host = words.host(4)?;
+    let flag = words.flag_if_any(5)?;
+    words.end(6)?;
+    Ok(Command::Xfr(XfrJob {
+        name: bytes(alloc, name)?,
+        force,
+        store: map_name(alloc, store)?,
+        host: host_word(alloc, host)?,
+        flag,
+    }))
+}
+
+#[tactic(auto, unfolding(crate::specs::Words::walk))]
+fn walk(alloc: Global, words: Words) -> Result<Command, ParseFault>
+    ensures { Answers (walk (texts words.entry.words.now)) result }
+{
+    let name = words.name(1)?;
+    let force = words.mode(2)?;
+    let store = words.store(3)?;
+    let host = words.host(4)?;
+    let port = words.port(5)?;
+    let turns = words.number(6)?;
+    let flag = words.flag_if_any(7)?;
+    words.end(8)?;
+    Ok(Command::Walk(WalkJob {
+        xfr: XfrJob {
+            name: bytes(alloc, name)?,
+            force,
+            store: map_name(alloc, store)?,
+            host: host_word(alloc, host)?,
+            flag,
+        },
+        port,
+        turns,
+    }))
+}
+
+#[tactic(auto, unfolding(crate::specs::Words::revnet))]
+fn revnet(alloc: Global, words: Words) -> Result<Command, ParseFault>
+    ensures { Answers (revnet (texts words.entry.words.now)) result }
+{
+    let name = words.name(1)?;
+    let store = words.reverse_store(2)?;
+    words.end(3)?;
+    Ok(Command::Revnet {
+        name: bytes(alloc, name)?,
+        store: map_name(alloc, store)?,
+    })
+}
+
+#[tactic(auto, unfolding(crate::specs::Words::sample))]
+fn sample(words: Words) -> Result<Command, ParseFault>
+    ensures { Answers (sample (texts words.entry.words.now)) result }
+{
+    let start = words.number(1)?;
+    let count = words.number(2)?;
+    words.end(3)?;
+    Ok(Command::Sample { start, count })
+}
+
+#[tactic(auto, unfolding(crate::specs::Words::push))]
+fn push(alloc: Global, words: Words) -> Result<Command, ParseFault>
+    ensures { Answers (push (texts words.entry.words.now)) result }
+{
+    let name = words.name(1)?;
+    let port = words.port(2)?;
+    let window = words.window(3)?;
+    let turns = words.number(4)?;
+    let store = words.store(5)?;
+    let hosts = each_host(alloc, words, 6)?;
+    Ok(Command::Push(PushJob {
+        name: bytes(alloc, name)?,
+        port,
+        window,
+        turns,
+        store: map_name(alloc, store)?,
+        hosts: hosts?,
+    }))
+}
+
+#[tactic(auto, unfolding(crate::specs::Words::bind))]
+fn bind(alloc: Global, words: Words) -> Result<Command, ParseFault>
+    ensures { Answers (bind (texts words.entry.words.now)) result }
+{
+    let port = words.port(1)?;
+    let policy = words.policy(2)?;
+    let turns = words.number(3)?;
+    let domain = words.name(4)?;
+    let first = words.host(5)?;
+    let hosts = servers(alloc, words, 6, first)?;
+    Ok(Command::Bind {
+        port,
+        policy,
+        turns,
+        domain: bytes(alloc, domain)?,
+        hosts: hosts?,
+    })
+}
+
+#[tactic(auto, unfolding(crate::specs::Words::portmap))]
+fn portmap(words: Words) -> Result<Command, ParseFault>
+    ensures { Answers (portmap (texts words.entry.words.now)) result }
+{
+    let port = words.port(1)?;
+    let turns = words.number(2)?;
+    words.end(3)?;
+    Ok(Command::Portmap { port, turns })
+}
+
+#[tactic(auto, unfolding(crate::specs::Words::getport))]
+fn getport(words: Words) -> Result<Command, ParseFault>
+    ensures { Answers (getport (texts words.entry.words.now)) result }
+{
+    let port = words.port(1)?;
+    let turns = words.number(2)?;
+    let addr = words.address(3)?;
+    let prog = words.number(4)?;
+    let vers = words.number(5)?;
+    let prot = words.number(6)?;
+    words.end(7)?;
+    Ok(Command::Getport {
+        port,
+        turns,
+        addr,
+        prog,
+        vers,
+        prot,
+    })
+}
+
+fn cat(alloc: Global, words: Words) -> Result<Command, ParseFault>
+    ensures { Answers (asking Cat (texts words.entry.words.now)) result }
+{
+    let addr = words.address(1)?;
+    let domain = words.text(2)?;
+    let map = words.text(3)?;
+    words.end(4)?;
+    let question = Question::Cat {
+        domain: bytes(alloc, domain)?,
+        map: bytes(alloc, map)?,
+    };
+    Ok(Command::Ask { addr, question })
+}
+
+fn catk(alloc: Global, words: Words) -> Result<Command, ParseFault>
+    ensures { Answers (asking Catk (texts words.entry.words.now)) result }
+{
+    let addr = words.address(1)?;
+    let domain = words.text(2)?;
+    let map = words.text(3)?;
+    words.end(4)?;
+    let question = Question::Catk {
+        domain: bytes(alloc, domain)?,
+        map: bytes(alloc, map)?,
+    };
+    Ok(Command::Ask { addr, question })
+}
+
+fn which(alloc: Global, words: Words) -> Result<Command, ParseFault>
+    ensures { Answers (asking Which (texts words.entry.words.now)) result }
+{
+    let addr = words.address(1)?;
+    let domain = words.text(2)?;
+    let map = words.text(3)?;
+    words.end(4)?;
+    let question = Question::Which {
+        domain: bytes(alloc, domain)?,
+        map: bytes(alloc, map)?,
+    };
+    Ok(Command::Ask { addr, question })
+}
+
+fn poll(alloc: Global, words: Words) -> Result<Command, ParseFault>
+    ensures { Answers (asking Poll (texts words.entry.words.now)) result }
+{
+    let addr = words.address(1)?;
+    let domain = words.text(2)?;
+    let map = words.text(3)?;
+    words.end(4)?;
+    let question = Question::Poll {
+        domain: bytes(alloc, domain)?,
+        map: bytes(alloc, map)?,
+    };
+    Ok(Command::Ask { addr, question })
+}
+
+#[tactic(auto, unfolding(crate::specs::Words::match_key))]
+fn match_key(alloc: Global, words: Words) -> Result<Command, ParseFault>
+    ensures { Answers (match_key (texts words.entry.words.now)) result }
+{
+    let addr = words.address(1)?;
+    let domain = words.text(2)?;
+    let map = words.text(3)?;
+    let key = words.key(4)?;
+    words.end(5)?;
+    let question = Question::Match {
+        domain: bytes(alloc, domain)?,
+        map: bytes(alloc, map)?,
+        key: bytes(alloc, key)?,
+    };
+    Ok(Command::Ask { addr, question })
+}
+
+#[tactic(auto, unfolding(crate::specs::Words::maps))]
+fn maps(alloc: Global, words: Words) -> Result<Command, ParseFault>
+    ensures { Answers (maps (texts words.entry.words.now)) result }
+{
+    let addr = words.address(1)?;
+    let domain = words.text(2)?;
+    words.end(3)?;
+    let question = Question::Maps {
+        domain: bytes(alloc, domain)?,
+    };
+    Ok(Command::Ask { addr, question })
+}
+
+#[tactic(auto, unfolding(crate::specs::Words::innetgr))]
+fn innetgr(alloc: Global, words: Words) -> Result<Command, ParseFault>
+    ensures { Answers (innetgr (texts words.entry.words.now)) result }
+{
+    let addr = words.address(1)?;
+    let domain = words.text(2)?;
+    let group = words.key(3)?;
+    let host = words.member(4)?;
+    let user = words.member(5)?;
+    let user_domain = words.member(6)?;
+    words.end(7)?;
+    let question = Question::Innetgr {
+        domain: bytes(alloc, domain)?,
+        group: bytes(alloc, group)?,
+        host: member(alloc, host)?,
+        user: member(alloc, user)?,
+        user_domain: member(alloc, user_domain)?,
+    };
+    Ok(Command::Ask { addr, question })
 }
 
 /// The command that the words are.
+#[tactic(auto, using(crate::proofs::Named::names_read))]
 pub fn parse(alloc: Global, words: &[String]) -> Result<Command, ParseFault>
     ensures sentence { IfOk result (λ command. command_of (texts words.now) ≡ Ok (meaning command)) }
     ensures usage { IfErr result (IsUsage (command_of (texts words.now))) }
     ensures names { IfOk result (λ command. HasNames (meaning command)) }
 {
-    let Some(task) = task_of(words) else {
-        return Err(ParseFault::Usage {
-            word: wrong_word(words),
-        });
-    };
-    match command_for(alloc, task, words) {
-        Ok(command) => Ok(command),
-        Err(AllocError) => Err(ParseFault::NoMemory),
+    read(alloc, Words { words })
+}
+
+/// The command of the sentence that begins with the first word.
+#[tactic(auto, unfolding(crate::specs::Words::command_of))]
+fn read(alloc: Global, words: Words) -> Result<Command, ParseFault>
+    ensures { Answers (command_of (texts words.entry.words.now)) result }
+{
+    match words.word(0)? {
+        "once" => once(alloc, words),
+        "session" => session(alloc, words),
+        "serve" => serve(alloc, words),
+        "check" => check(alloc, words),
+        "build" => build(alloc, words),
+        "xfr" => xfr(alloc, words),
+        "walk" => walk(alloc, words),
+        "revnet" => revnet(alloc, words),
+        "sample" => sample(words),
+        "push" => push(alloc, words),
+        "bind" => bind(alloc, words),
+        "portmap" => portmap(words),
+        "getport" => getport(words),
+        "cat" => cat(alloc, words),
+        "catk" => catk(alloc, words),
+        "which" => which(alloc, words),
+        "poll" => poll(alloc, words),
+        "match" => match_key(alloc, words),
+        "maps" => maps(alloc, words),
+        "innetgr" => innetgr(alloc, words),
+        _ => Err(ParseFault::Usage { word: 0 }),
     }
 }
 

@@ -25,7 +25,7 @@ use Rattle.yp_binding.specs.Rounds.{Bindings, with_event, next_ping_of, after_pi
 use Rattle.yp_command.specs.declared.office.status.Status.{Status}
 use Rattle.yp_command.specs.declared.office.status.Status.TheVariants.{Done, WriteFault, NoMemory, InboxFault}
 use Rattle.yp_command.specs.declared.office.office.Office.{Office}
-use Rattle.yp_command.specs.Words.{Host}
+use Rattle.yp_command.specs.Forms.{Host}
 use Rattle.yp_command.specs.office.Seeing.{Seeing, output, WriteFails, InboxFails}
 use Rattle.yp_command_mail.specs.declared.binding.Offer.{Offer}
 use Rattle.yp_command_mail.specs.Telling.{TellsText, box, HasInboxCauses, IsMailing}

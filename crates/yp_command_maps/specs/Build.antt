@@ -15,7 +15,7 @@ use Rattle.yp_texts.specs.declared.kind.Kind.{Kind}
 use Rattle.yp_texts.specs.declared.fault.BuildFault.{BuildFault}
 use Rattle.yp_texts.specs.declared.fault.BuildFault.TheVariants as fault
 use Rattle.yp_texts.specs.After.{Hindrance, HasOther, HasFault, basis_of, material_of, built_after}
-use Rattle.yp_command.specs.Words.{kind_of}
+use Rattle.yp_command.specs.Forms.{kind_of}
 use Rattle.yp_command.specs.office.Lines.{map_text}
 use Rattle.yp_command.specs.declared.office.status.Status.{Status}
 use Rattle.yp_command.specs.declared.office.status.Status.TheVariants.{Done, ReadFault, WriteFault, TooLong, NoMemory, Damaged}

@@ -23,7 +23,7 @@ use Rattle.yp_transfer.specs.Fetching.{Wanted, wanted_of, FetchOutcome}
 use Rattle.yp_io.specs.Dials.{Dialing, dialing_of}
 use Rattle.yp_transfer.specs.Dialing.{FetchesFrom}
 use Rattle.yp_transfer.specs.Installing.{marking}
-use Rattle.yp_command.specs.Words.{Host}
+use Rattle.yp_command.specs.Forms.{Host}
 use Rattle.yp_command.specs.office.Lines.{map_text}
 use Rattle.yp_command.specs.office.Files.{Fails}
 use Rattle.yp_command.specs.office.Disks.{names_of, faults_of}

@@ -11,7 +11,7 @@ ghost use Rattle.yp_board.specs.Catalogues.{name_max, name_view};
 ghost use Rattle.yp_board.specs.inside.Catalogues.{catalog_fault};
 ghost use Rattle.yp_publisher.specs.Standing.{Level, OfMap, At};
 ghost use Rattle.yp_publisher.specs.Installs.{no_further, IsInstalled};
-ghost use Rattle.yp_command.specs.Words.{kind_of};
+ghost use Rattle.yp_command.specs.Forms.{kind_of};
 ghost use Rattle.yp_command.specs.inside.Words.{IsNamed};
 ghost use Rattle.yp_command.specs.office.Disks.{names_of, history_of, faults_of, only_history, total_faults};
 ghost use Rattle.yp_command.specs.office.Seeing.{seeing, IsPassedOn};

@@ -1,30 +1,29 @@
--- What the code tells of a command, and what its table has of the sentences.
+-- What the code tells of a command, and what it has read of the words.
 use Rattle.std.specs.Prelude.{◌≡◌, ℕ, ◌≤◌, ◌<◌, true, IsSome, ⊤}
 use Rattle.std.specs.Prelude.{List, [], ◌∷◌, All, length, map}
-use Rattle.std.specs.Prelude.{Option, Some, None, Result, Ok, Err}
-use Rattle.std.specs.Option.{option_and_then}
+use Rattle.std.specs.Prelude.{Option, Some, None, Vec, Result, Ok, Err}
+use Rattle.std.specs.declared.alloc.Global.{Global}
+use Rattle.std.specs.declared.alloc.AllocError.{AllocError}
 use Rattle.yp_binding.specs.Kept.{servers_max}
-use Rattle.yp_board.specs.Catalogues.{Name, name_max, maps_max}
+use Rattle.yp_board.specs.declared.catalog.MapName.{MapName}
+use Rattle.yp_board.specs.Catalogues.{Name, name_max, maps_max, name_view}
 use Rattle.yp_board.specs.inside.Catalogues.{catalog_fault}
 use Rattle.yp_board.specs.readers.Boards.{workers_max}
-use Rattle.yp_client.specs.declared.question.Question.{Question}
-use Rattle.yp_client.specs.declared.question.Question.TheVariants.{Innetgr}
-use Rattle.yp_client.specs.Questions.{ByteQuestion, question_map}
 use Rattle.yp_client.specs.inside.Questions.{QuestionIsWithin}
-use Rattle.yp_command.specs.declared.sentence.Sentence.{Sentence as CodeSentence}
-use Rattle.yp_command.specs.declared.sentence.Further.{Further as CodeFurther}
-use Rattle.yp_command.specs.declared.sentence.Further.TheVariants as further
-use Rattle.yp_command.specs.declared.sentence.Task.{Task}
-use Rattle.yp_command.specs.declared.sentence.Task.TheVariants as task
+use Rattle.yp_command.specs.declared.command.HostWord.{HostWord}
+use Rattle.yp_command.specs.declared.command.Command.{Command}
 use Rattle.yp_command.specs.declared.words.ParseFault.{ParseFault}
 use Rattle.yp_command.specs.declared.words.ParseFault.TheVariants.{Usage, NoMemory}
-use Rattle.yp_command.specs.Forms.{is_reverse}
-use Rattle.yp_command.specs.inside.Forms.{form_view}
-use Rattle.yp_command.specs.Words.{Meaning, Further, Sentence, NoMore, Each, StoresAndHosts, Servers, kind_of, word_at}
-use Rattle.yp_command.specs.Words.{peer_of, given_of, once, session, serve, check, build, build_flagged, xfr}
-use Rattle.yp_command.specs.Words.{xfr_flagged, walk, walk_flagged, revnet, sample, push, bind, portmap, getport}
-use Rattle.yp_command.specs.Words.{TakesMemory, Once, Session, Serve, Check, Build, Xfr, Walk, Revnet, Sample, Push}
-use Rattle.yp_command.specs.Words.{Bind, Portmap, Getport, Ask}
+use Rattle.yp_command.specs.Forms.{Host, kind_of, is_reverse}
+use Rattle.yp_command.specs.Words.{Meaning, word, host_view, meaning, TakesMemory, Once, Session, Serve, Check, Build}
+use Rattle.yp_command.specs.Words.{Xfr, Walk, Revnet, Sample, Push, Bind, Portmap, Getport, Ask}
+
+-- ---- what is read
+
+-- a value of the code that is read, as bytes
+abbrev pub shown : {A B : Type 0} → (A → B) → Result A ℕ → Result B ℕ
+shown view (Ok value) = Ok (view value)
+shown view (Err at) = Err at
 
 -- ---- the maps that words name
 
@@ -49,55 +48,6 @@ port_of (Ask peer question) = None
 abbrev pub connections_of : Meaning → ℕ
 connections_of (Serve own port workers connections turns stores hosts) = connections
 connections_of _ = 0
-
--- ---- what the code has
-
--- who may be in a group, of the word with this number
-abbrev pub given_at : Option ℕ → List (List ℕ) → Option (List ℕ)
-given_at at words = option_and_then (λ i. given_of (word_at i words)) at
-
--- the question that is made of words, of the numbers where they stand
-abbrev pub question_of : Question ℕ → List (List ℕ) → ByteQuestion
-question_of (Innetgr domain group host user user_domain) words =
-    Innetgr (word_at domain words) (word_at group words) (given_at host words) (given_at user words)
-    (given_at user_domain words)
-question_of question words = question_map (λ at. word_at at words) question
-
--- what the words of a sentence ask for, of its task
-abbrev pub asks_of : Task → List (List ℕ) → Meaning
-asks_of task.Once = once.asks
-asks_of task.Session = session.asks
-asks_of task.Serve = serve.asks
-asks_of task.Check = check.asks
-asks_of task.Build = build.asks
-asks_of task.BuildFlagged = build_flagged.asks
-asks_of task.Xfr = xfr.asks
-asks_of task.XfrFlagged = xfr_flagged.asks
-asks_of task.Walk = walk.asks
-asks_of task.WalkFlagged = walk_flagged.asks
-asks_of task.Revnet = revnet.asks
-asks_of task.Sample = sample.asks
-asks_of task.Push = push.asks
-asks_of task.Bind = bind.asks
-asks_of task.Portmap = portmap.asks
-asks_of task.Getport = getport.asks
-asks_of (task.Ask question) =
-    λ words. Ask (peer_of (word_at 1 words)) (question_of question words)
-
--- the further words that a `Further` of the code stands for
-abbrev pub further_view : CodeFurther → Further
-further_view further.NoMore = NoMore
-further_view (further.Each form) = Each (form_view form)
-further_view further.StoresAndHosts = StoresAndHosts
-further_view further.Servers = Servers
-
--- the sentence that a row of the code's table is
-abbrev pub sentence_view : CodeSentence → Sentence
-sentence_view row = record {
-  forms = map form_view row.forms.now;
-  further = further_view row.further;
-  asks = asks_of row.task;
-}
 
 -- ---- names
 
@@ -143,3 +93,25 @@ IsSentenceOfWords (Err word) = ⊥
 abbrev pub IsUsage : Result Meaning ℕ → ParseFault → Type 0
 IsUsage expected (Usage word) = expected ≡ Err word
 IsUsage expected NoMemory = IsSentenceOfWords expected
+
+-- the answer of a sentence: the command that its words ask for, or why there is none
+abbrev pub Answers : Result Meaning ℕ → Result Command ParseFault → Type 0
+Answers expected (Ok command) = expected ≡ Ok (meaning command)
+Answers expected (Err why) = IsUsage expected why
+
+-- A list that is made of values. Where memory ran out for it, that is told once all words are read.
+abbrev pub Holds : {A B : Type 0} → (A → B) → Result (Vec A Global) AllocError → List B → Type 0
+Holds view (Ok list) values = map view list.items ≡ values
+Holds view (Err why) values = ⊤
+
+-- what is read of further words: their values, or the number of the wrong one
+abbrev pub AreRead : {A B : Type 0} → (A → B) → Result (List B) ℕ → Result (Result (Vec A Global) AllocError) ℕ → Type 0
+AreRead {A} {B} view expected (Ok made) = (values : List B) × (expected ≡ Ok values) × Holds view made values
+AreRead view expected (Err at) = expected ≡ Err at
+
+-- the maps and hosts of a server, which make a catalogue
+abbrev pub AreServed : Result (List Name × List Host) ℕ
+    → Result (Result (Vec MapName Global) AllocError × Result (Vec HostWord Global) AllocError) ℕ → Type 0
+AreServed expected (Ok made) = (stores : List Name) × (hosts : List Host) × (expected ≡ Ok (stores, hosts))
+    × Holds name_view made.0 stores × Holds host_view made.1 hosts
+AreServed expected (Err at) = expected ≡ Err at

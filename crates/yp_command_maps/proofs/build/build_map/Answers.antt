@@ -3,7 +3,7 @@ use Rattle.std.specs.Prelude.{IfSome, bytes_eq}
 use Rattle.std.specs.List.{find}
 use Rattle.yp_texts.specs.Kinds.{kinds, name_of as kind_name}
 use Rattle.yp_board.specs.Catalogues.{name_view}
-use Rattle.yp_command.specs.Words.{kind_of}
+use Rattle.yp_command.specs.Forms.{kind_of}
 use Rattle.yp_command.specs.office.Seeing.{Seeing, seeing, input}
 use Rattle.yp_command.specs.declared.office.status.Status.{Status}
 use Rattle.yp_command_maps.specs.Build.{job_of, JobDoes}
