@@ -4,7 +4,7 @@ use crate::outside::{Memory, bytes_of};
 use crate::row::{Datagram, Row, Stands};
 use std::alloc::{AllocError, Global};
 use std::random::RandomSource;
-use yp_io::{MemDial, MemDisk, Peer};
+use yp_io::{Letter, MemCall, MemDial, MemDisk, MemListen, Peer};
 use yp_map_file::Slot;
 use yp_program::{NamedDisk, Status};
 
@@ -86,6 +86,32 @@ pub fn stands_of(alloc: Global, rt: &impl RandomSource, file: &[u8]) -> Result<S
     }
 }
 
+fn put_letters(
+    ended: &mut Ended,
+    alloc: Global,
+    name: &str,
+    letters: &[Letter],
+) -> Result<(), AllocError> {
+    for letter in letters {
+        ended.letter(alloc, name, letter.peer, &letter.bytes)?;
+    }
+    Ok(())
+}
+
+fn put_taken(ended: &mut Ended, alloc: Global, calls: &[MemCall]) -> Result<(), AllocError> {
+    for call in calls {
+        ended.bytes(alloc, "taken", call.wire.sink.taken())?;
+    }
+    Ok(())
+}
+
+fn put_closed(ended: &mut Ended, alloc: Global, listen: &MemListen) -> Result<(), AllocError> {
+    for closer in listen.closers() {
+        put_taken(ended, alloc, closer.calls())?;
+    }
+    Ok(())
+}
+
 fn put_came(
     ended: &mut Ended,
     alloc: Global,
@@ -95,20 +121,12 @@ fn put_came(
 ) -> Result<(), AllocError> {
     ended.bytes(alloc, "output", outside.output.taken())?;
     ended.bytes(alloc, "note", outside.notes.taken())?;
-    for letter in outside.inbox.letters() {
-        ended.letter(alloc, "sent", letter.peer, &letter.bytes)?;
-    }
+    put_letters(ended, alloc, "sent", outside.inbox.letters())?;
     ended.number(alloc, "turns", outside.inbox.turns())?;
-    for letter in outside.dial.letters() {
-        ended.letter(alloc, "posted", letter.peer, &letter.bytes)?;
-    }
+    put_letters(ended, alloc, "posted", outside.dial.letters())?;
     ended.number(alloc, "wires", outside.dial.came().len() as u64)?;
     ended.number(alloc, "asked", asked_of(&outside.dial, row) as u64)?;
-    for closer in outside.listen.closers() {
-        for call in closer.calls() {
-            ended.bytes(alloc, "taken", call.wire.sink.taken())?;
-        }
-    }
+    put_closed(ended, alloc, &outside.listen)?;
     let file = first_file(&outside.disks);
     ended.stands(alloc, &stands_of(alloc, rt, file)?)?;
     ended.bytes(alloc, "file", if row.torn { &[] } else { file })

@@ -179,6 +179,44 @@ fn listener_of(alloc: Global, row: &Row) -> Result<MemListen, AllocError> {
     Ok(MemListen::new(alloc, calls, row.most, failing))
 }
 
+/// The streams of a row.
+#[derive(Drop)]
+struct Streams {
+    input: MemSource,
+    output: MemSink,
+    notes: MemSink,
+}
+
+fn streams_of(alloc: Global, row: &Row, input: &[u8]) -> Result<Streams, AllocError> {
+    let input = source_of(alloc, input, row)?;
+    let output = sink_of(alloc, row.write, row.writes)?;
+    let notes = sink_of(alloc, 4_096, row.notes)?;
+    Ok(Streams {
+        input,
+        output,
+        notes,
+    })
+}
+
+/// What a row has of the network, with a first wire that gives these bytes.
+#[derive(Drop)]
+struct Network {
+    listen: MemListen,
+    dial: MemDial,
+    inbox: MemInbox,
+}
+
+fn network_of(alloc: Global, row: &Row, wire: &[u8]) -> Result<Network, AllocError> {
+    let inbox = inbox_of(alloc, row)?;
+    let dial = dial_of(alloc, row, wire)?;
+    let listen = listener_of(alloc, row)?;
+    Ok(Network {
+        listen,
+        dial,
+        inbox,
+    })
+}
+
 /// The outside of a row, with this input, this file of the map, and a first wire that gives these bytes.
 pub fn memory_of(
     alloc: Global,
@@ -190,23 +228,19 @@ pub fn memory_of(
 ) -> Result<Memory, AllocError>
     ensures disks { IfOk result (λ outside. names_of outside.disks.items ≡ disk_names (texts words.now)) }
 {
-    let input = source_of(alloc, input, row)?;
-    let output = sink_of(alloc, row.write, row.writes)?;
-    let notes = sink_of(alloc, 4_096, row.notes)?;
     let texts = texts_of(alloc, row)?;
-    let inbox = inbox_of(alloc, row)?;
-    let dial = dial_of(alloc, row, wire)?;
-    let listen = listener_of(alloc, row)?;
     let disks = disks_of(alloc, words, row, file)?;
+    let streams = streams_of(alloc, row, input)?;
+    let network = network_of(alloc, row, wire)?;
     Ok(Outside {
-        input,
-        output,
-        notes,
+        input: streams.input,
+        output: streams.output,
+        notes: streams.notes,
         disks,
         clock: SetClock { moment: row.moment },
-        listen,
-        dial,
-        inbox,
+        listen: network.listen,
+        dial: network.dial,
+        inbox: network.inbox,
         texts,
     })
 }

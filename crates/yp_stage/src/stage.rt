@@ -118,8 +118,19 @@ fn play<R: Threads + Wait + RandomSource + Sync>(
 ) -> Result<Played, AllocError> {
     let wire = wire_of(alloc, rt, row)?;
     let (status, outside) = run_over(alloc, rt, row, words, input, file, &wire)?;
+    what_came(alloc, rt, row, &status, &outside)
+}
+
+/// What came of a run, seen at its end.
+fn what_came(
+    alloc: Global,
+    rt: &impl RandomSource,
+    row: &Row,
+    status: &Status,
+    outside: &Memory,
+) -> Result<Played, AllocError> {
     let images = images_of(alloc, &outside.disks)?;
-    let ended = ended_of(alloc, rt, row, &status, &outside)?;
+    let ended = ended_of(alloc, rt, row, status, outside)?;
     Ok(Played { ended, images })
 }
 
